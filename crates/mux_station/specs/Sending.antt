@@ -1,0 +1,178 @@
+-- What a station's history has to keep: data leaves open connections that aren't stopped, each other frame is
+-- called for, and none that is called for is missing (27.010, 5.4).
+use Rattle.std.specs.Prelude.{ℕ, ◌≡◌, ◌+◌, ◌*◌, ◌==◌, ◌&&◌, ◌||◌, not, nat_le, Bool, true, false, IsTrue, List, [], ◌∷◌, ◌++◌, length, drop, Option, Some, None, if◌then◌else◌, is_none, is_some}
+use Rattle.std.specs.Str.{bytes_eq}
+use Rattle.std.specs.List.{list_all}
+use Rattle.mux_frame.specs.Frames.{Frame}
+use Rattle.mux_frame.specs.declared.frame.Kind.TheVariants.{Sabm, Disc, Uih}
+use Rattle.mux_station.specs.declared.role.Role.{Role}
+use Rattle.mux_station.specs.declared.error.StationError.{StationError}
+use Rattle.mux_station.specs.declared.error.StationError.TheVariants.{NotOpen, AlreadyOpen, Busy, ControlChannel, TooLong, NoRoom}
+use Rattle.mux_station.specs.Written.{written, is_data_frame}
+use Rattle.mux_station.specs.Messages.{Message, message_in, command_of, test, nsc, cld}
+use Rattle.mux_station.specs.Acts.{Call, Open, Close, Probe, Stop, Flow, Offer, Act, Called, Got, Sent, Tick, Lost, Given}
+use Rattle.mux_station.specs.Opening.{is_open}
+use Rattle.mux_station.specs.States.{State, is_opened, is_shut, state_of}
+use Rattle.mux_station.specs.Stopping.{is_stopped}
+use Rattle.mux_station.specs.Tables.{message_frame, msc_frame, ready, held_up, by_frame, by_tick, has_room, octets_of}
+
+-- whose history it is
+pub record Setting : Type 0 where
+  pub role : Role
+  pub n1 : ℕ
+
+-- a probe that waits, and how many ticks came since
+pub record Waiting : Type 0 where
+  pub data_octets : List ℕ
+  pub ticks : ℕ
+
+-- what a call sees of the past
+pub record Seen : Type 0 where
+  pub state : ℕ → State
+  -- the octets that wait in the control queue
+  pub queued : ℕ
+  pub probe : Option Waiting
+
+-- ## Calls
+
+-- the frame that a call asks to be sent
+abbrev pub asking : Role → Call → List Frame
+asking r (Open d) = written r Sabm d [] ∷ []
+asking r (Close d) = written r Disc d [] ∷ []
+asking r (Probe octets) = message_frame r test octets ∷ []
+asking r Stop = message_frame r cld [] ∷ []
+asking r (Flow d go) =
+    if d == 0 then message_frame r (if go then 0xa3 else 0x63) [] ∷ []
+    else msc_frame r d (if go then ready else held_up) ∷ []
+asking r (Offer d octets) = []
+
+abbrev pub all_have_room : Setting → Seen → List Frame → Bool
+all_have_room s v fs = list_all (has_room s.n1 v.queued) fs
+
+-- no place in the control queue is the last refusal
+abbrev pub if_no_room : Setting → Seen → Call → Option StationError
+if_no_room s v c = if all_have_room s v (asking s.role c) then None else Some NoRoom
+
+-- why a call is refused, each list in its order; how much is offered is not spoken of here
+abbrev pub refused : Setting → Seen → Call → Option StationError
+refused s v (Open d) =
+    if not (d == 0) && not (is_opened (v.state 0)) then Some NotOpen
+    else if is_opened (v.state d) then Some AlreadyOpen
+    else if not (is_shut (v.state d)) then Some Busy
+    else if_no_room s v (Open d)
+refused s v (Close d) =
+    if d == 0 then Some ControlChannel
+    else if is_shut (v.state d) then Some NotOpen
+    else if not (is_opened (v.state d)) then Some Busy
+    else if_no_room s v (Close d)
+refused s v (Probe octets) =
+    if not (nat_le (length octets) 16) then Some TooLong
+    else if not (is_opened (v.state 0)) then Some NotOpen
+    else if is_some v.probe then Some Busy
+    else if_no_room s v (Probe octets)
+refused s v Stop = if not (is_opened (v.state 0)) then Some NotOpen else if_no_room s v Stop
+refused s v (Flow d go) =
+    if not (is_opened (v.state d) && is_opened (v.state 0)) then Some NotOpen
+    else if_no_room s v (Flow d go)
+refused s v (Offer d octets) =
+    if d == 0 then Some ControlChannel
+    else if not (is_opened (v.state d)) then Some NotOpen
+    else None
+
+-- the frames that an act calls for
+abbrev pub calls_seeing : Setting → Seen → Act → List Frame
+calls_seeing s v (Called c) = if is_none (refused s v c) then asking s.role c else []
+calls_seeing s v (Got f) = by_frame s.role v.state f
+calls_seeing s v Tick = by_tick s.role s.n1 v.state v.queued
+calls_seeing s v _ = []
+
+-- ## What a call sees
+
+-- the control frames that were sent and not given on yet
+abbrev pub queue : List Act → List Frame
+queue [] = []
+queue (Sent f ∷ past) = queue past ++ (if is_data_frame f then [] else f ∷ [])
+queue (Given ∷ past) = drop 1 (queue past)
+queue (Lost ∷ past) = []
+queue (_ ∷ past) = queue past
+
+-- the message answers a probe with these octets: its response, or an NSC that names the type of a Test
+abbrev pub is_test_or_response : ℕ → Bool
+is_test_or_response octet = (octet == test) || (command_of octet == test)
+
+abbrev pub names_test : List ℕ → Bool
+names_test (octet ∷ []) = is_test_or_response octet
+names_test _ = false
+
+abbrev pub brings_probe_back : List ℕ → Option Message → Bool
+brings_probe_back octets None = false
+brings_probe_back octets (Some m) = (command_of m.octet == test) && bytes_eq m.value octets
+
+abbrev pub refuses_probe : Option Message → Bool
+refuses_probe None = false
+refuses_probe (Some m) = (command_of m.octet == nsc) && names_test m.value
+
+abbrev pub probe_after : Setting → (zero_stays : Bool) → Option Waiting → Act → Option Waiting
+probe_after s zero_stays None a = None
+probe_after s zero_stays (Some w) (Got f) =
+    if zero_stays && not (brings_probe_back w.data_octets (message_in f) || refuses_probe (message_in f)) then Some w else None
+probe_after s zero_stays (Some w) Tick = if w.ticks == 3 then None else Some (record w { ticks = w.ticks + 1 })
+probe_after s zero_stays (Some w) a = if zero_stays then Some w else None
+
+abbrev pub probe_begun : Option StationError → Act → Option Waiting → Option Waiting
+probe_begun None (Called (Probe octets)) o = Some (record { data_octets = octets; ticks = 0 })
+probe_begun refusal a o = o
+
+abbrev pub refused_act : Setting → Seen → Act → Option StationError
+refused_act s v (Called c) = refused s v c
+refused_act s v a = None
+
+-- the probe that waits
+abbrev pub probe_of : Setting → List Act → Option Waiting
+probe_of s [] = None
+probe_of s (a ∷ past) =
+    let before = probe_of s past in
+    let v : Seen = record { state = λ d. state_of s.role d past; queued = octets_of (queue past); probe = before } in
+    probe_begun (refused_act s v a) a (probe_after s (is_opened (state_of s.role 0 (a ∷ past))) before a)
+
+abbrev pub seen : Setting → List Act → Seen
+seen s past = record { state = λ d. state_of s.role d past; queued = octets_of (queue past); probe = probe_of s past }
+
+abbrev pub calls : Setting → List Act → Act → List Frame
+calls s past a = calls_seeing s (seen s past) a
+
+-- ## The laws
+
+-- what was called for and doesn't stand in the past yet, in order
+abbrev pub owed : Setting → List Act → List Frame
+owed s [] = []
+owed s (Sent f ∷ past) = if is_data_frame f then owed s past else drop 1 (owed s past)
+owed s (a ∷ past) = owed s past ++ calls s past a
+
+-- data leaves an open connection that isn't stopped, in a frame as this role writes it, behind all that is owed
+pub record Gated (s : Setting) (past : List Act) (f : Frame) : Type 0 where
+  pub is_open : IsTrue (is_open s.role f.dlci past)
+  pub goes : IsTrue (not (is_stopped s.role f.dlci past))
+  pub as_written : f ≡ written s.role Uih f.dlci f.info
+  pub some : IsTrue (nat_le 1 (length f.info))
+  pub fits : IsTrue (nat_le (length f.info) s.n1)
+  pub behind : owed s past ≡ []
+
+-- a frame that is no data is the next one owed
+pub record Controlled (s : Setting) (past : List Act) (f : Frame) : Type 0 where
+  pub later : List Frame
+  pub is_next : owed s past ≡ f ∷ later
+
+unfoldable pub Sends : Setting → List Act → Frame → Bool → Type 0
+Sends s past f true = Gated s past f
+Sends s past f false = Controlled s past f
+
+-- each frame might be sent after what went before it
+unfoldable pub Lawful : Setting → List Act → Type 0
+Lawful s [] = Unit {0}
+Lawful s (Sent f ∷ past) = Sends s past f (is_data_frame f) × Lawful s past
+Lawful s (a ∷ past) = Lawful s past
+
+-- nothing is owed
+unfoldable pub Complete : Setting → List Act → Type 0
+Complete s past = owed s past ≡ []

@@ -1,0 +1,23 @@
+//! Why a station refuses a call.
+use thiserror::Error;
+
+/// Why a station refuses a call, which then changed nothing.
+#[derive(Clone, Copy, PartialEq, Eq, Debug, Error)]
+pub enum StationError {
+    #[error("the connection is not open")]
+    NotOpen,
+    #[error("the connection is open already")]
+    AlreadyOpen,
+    #[error("the connection is being opened or closed, or a probe waits")]
+    Busy,
+    #[error("connection 0 is the control channel")]
+    ControlChannel,
+    #[error("out of memory")]
+    NoMemory,
+    #[error("a probe has at most 16 octets")]
+    TooLong,
+    #[error("no room in the queue")]
+    NoRoom,
+    #[error("N1 is 31 to 32767")]
+    BadN1,
+}

@@ -1,0 +1,9 @@
+//! One end of the basic option of 3GPP TS 27.010: connections, control messages, flow.
+#![tactic(auto)]
+
+mod error;
+pub mod laws;
+mod role;
+
+pub use error::StationError;
+pub use role::{ChannelState, Role};

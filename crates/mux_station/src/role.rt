@@ -1,0 +1,22 @@
+//! The two ends, and the states of a connection.
+
+/// The end of the line that this is (27.010, 5.2.1.2): the initiator set the multiplexer up, and the
+/// responder is the other one.
+#[derive(Clone, Copy, PartialEq, Eq, Debug)]
+pub enum Role {
+    Initiator,
+    Responder,
+}
+
+/// How a connection stands (27.010, 5.4.1, 5.4.2 and 5.4.6.3.3).
+#[derive(Clone, Copy, PartialEq, Eq, Debug)]
+pub enum ChannelState {
+    Shut,
+    /// A SABM was sent, and its answer hasn't come.
+    Opening,
+    Opened,
+    /// A DISC was sent, and its answer hasn't come.
+    Closing,
+    /// Of connection 0: a CLD command was sent, and its answer hasn't come.
+    Stopping,
+}

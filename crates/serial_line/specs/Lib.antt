@@ -1,0 +1,5 @@
+pub mod Counts
+pub mod Cuts
+pub mod Tape
+pub mod CutLine
+pub mod ThreadLine

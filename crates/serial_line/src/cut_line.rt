@@ -1,0 +1,155 @@
+//! A line in memory.
+ghost use Rattle.std.specs.Prelude.{◌≡◌, ◌+◌, ◌-◌, ◌^◌, ◌<◌, ◌≤◌, ◌++◌, [], take, drop, length, min, IfOk, OnErr, IsOkUnless};
+ghost use Rattle.serial_line.specs.Counts.{one_more};
+ghost use Rattle.serial_line.specs.Cuts.{outcome_of};
+ghost use Rattle.serial_line.specs.CutLine.{room_to_receive, room_to_send, unmoved, after_read, after_write, carried, after_carry};
+
+use crate::cuts::{Cut, Cuts};
+use crate::errors::LineError;
+use crate::line::{LineFault, SerialLine};
+use crate::tape::Tape;
+use std::alloc::Global;
+use std::marker::Model;
+
+/// A line in memory, for tests: what its reads give is put in beforehand, what its writes took can be looked at, and a list for each says
+/// how much each call lets through or that it fails. It keeps all octets, at most `room` in each direction.
+#[derive(Drop)]
+pub struct CutLine {
+    input: Tape,
+    output: Tape,
+    reads: Cuts,
+    writes: Cuts,
+    calls: u64,
+    failures: u64,
+}
+
+impl Model for CutLine {
+    ghost use Rattle.std.specs.Prelude.{◌≡◌, ◌++◌, length};
+    ghost use Rattle.serial_line.specs.CutLine.{CutState};
+
+    ghost Value = { CutState };
+
+    ghost view = { λ l. record { received = l.input.gone; waiting = l.input.ahead; sent = l.output.gone ++ l.output.ahead; moved = length l.output.gone; reads = l.reads; writes = l.writes; room = l.input.room; calls = l.calls; failures = l.failures } };
+
+    ghost invariant = { λ l. l.output.room ≡ l.input.room };
+}
+
+impl CutLine {
+    /// A line on which nothing has happened yet: input beyond `room` isn't kept, and an empty list of entries means no limit.
+    pub fn new(
+        alloc: Global,
+        input: &[u8],
+        reads: &[Cut],
+        writes: &[Cut],
+        room: usize,
+    ) -> Result<CutLine, LineError>
+        ensures memory { IsOkUnless result LineError.NoMemory }
+        ensures line { IfOk result (λ l. l ≡ record { received = []; waiting = take (min (length input.now) room) input.now; sent = []; moved = 0; reads = reads.now; writes = writes.now; room = room; calls = 0; failures = 0 }) }
+    {
+        let mut line = CutLine {
+            input: Tape::new(alloc, room)?,
+            output: Tape::new(alloc, room)?,
+            reads: Cuts::new(reads.to_vec(alloc)?),
+            writes: Cuts::new(writes.to_vec(alloc)?),
+            calls: 0,
+            failures: 0,
+        };
+        line.put(input);
+        Ok(line)
+    }
+
+    /// Adds octets to be received, as many as there is room for, and says how many.
+    pub fn put(&mut self, octets: &[u8]) -> usize
+        ensures value { result ≡ min (length octets.now) (room_to_receive self.old) }
+        ensures line { self.new ≡ record self.old { waiting = self.old.waiting ++ take result octets.now } }
+    {
+        let count = octets.len().min(self.input.free());
+        self.input.append(&octets[..count]);
+        count
+    }
+
+    /// Gives the next octets that were sent, and says how many.
+    pub fn take(&mut self, buffer: &mut [u8]) -> usize
+        ensures value { result ≡ min (length buffer.old) (length (unmoved self.old)) }
+        ensures octets { buffer.new ≡ take result (unmoved self.old) ++ drop result buffer.old }
+        ensures line { self.new ≡ record self.old { moved = self.old.moved + result } }
+    {
+        let next = self.output.ahead();
+        let count = next.len().min(buffer.len());
+        buffer[..count].copy_from_slice(&next[..count]);
+        self.output.pass(count);
+        count
+    }
+
+    /// All octets that were sent.
+    pub fn sent(&self) -> &[u8]
+        ensures { result.now ≡ self.now.sent }
+    {
+        self.output.all()
+    }
+
+    /// Moves what was sent on each line, at most `k` octets each way, to be received on the other, and says how many it moved. What `take` gave
+    /// doesn't move again.
+    pub fn carry(&mut self, other: &mut CutLine, k: usize) -> usize
+        ensures value { result ≡ carried k self.old other.old + carried k other.old self.old }
+        ensures here { self.new ≡ after_carry k self.old other.old }
+        ensures there { other.new ≡ after_carry k other.old self.old }
+    {
+        let there = self.give(other, k);
+        let here = other.give(self, k);
+        there + here
+    }
+
+    fn give(&mut self, other: &mut CutLine, k: usize) -> usize
+        ensures value { result ≡ carried k self.old other.old }
+        ensures small { result < 2 ^ 63 }
+        ensures from { self.new ≡ record self.old { moved = self.old.moved + result } }
+        ensures to { other.new ≡ record other.old { waiting = other.old.waiting ++ take result (unmoved self.old) } }
+    {
+        let unmoved = self.output.ahead();
+        let most = unmoved.len().min(k);
+        let moved = other.put(&unmoved[..most]);
+        self.output.pass(moved);
+        moved
+    }
+}
+
+impl SerialLine for CutLine {
+    ghost received = { λ l. l.received };
+
+    ghost sent = { λ l. l.sent };
+
+    ghost calls = { λ l. l.calls };
+
+    ghost failures = { λ l. l.failures };
+
+    /// Gives as many octets as its entry, the buffer and the octets there allow.
+    fn try_read(&mut self, buffer: &mut [u8]) -> Result<usize, LineFault>
+        ensures value { result ≡ outcome_of self.old.reads self.old.failures (min (length buffer.old) (length self.old.waiting)) }
+        ensures bound { IfOk result (λ n. n ≤ length buffer.old) }
+        ensures octets { IfOk result (λ n. buffer.new ≡ take n self.old.waiting ++ drop n buffer.old) }
+        ensures untouched { OnErr result (buffer.new ≡ buffer.old) }
+        ensures line { self.new ≡ after_read self.old result }
+    {
+        self.calls = self.calls.saturating_add(1);
+        let next = self.input.ahead();
+        let most = buffer.len().min(next.len());
+        let count = self.reads.pass(most, &mut self.failures)?;
+        buffer[..count].copy_from_slice(&next[..count]);
+        self.input.pass(count);
+        Ok(count)
+    }
+
+    /// Takes as many octets as its entry, the slice and the room allow.
+    fn try_write(&mut self, octets: &[u8]) -> Result<usize, LineFault>
+        ensures value { result ≡ outcome_of self.old.writes self.old.failures (min (length octets.now) (room_to_send self.old)) }
+        ensures bound { IfOk result (λ n. n ≤ length octets.now) }
+        ensures line { self.new ≡ after_write self.old octets.now result }
+    {
+        self.calls = self.calls.saturating_add(1);
+        let most = octets.len().min(self.output.free());
+        let count = self.writes.pass(most, &mut self.failures)?;
+        self.output.append(&octets[..count]);
+        Ok(count)
+    }
+}

@@ -1,0 +1,18 @@
+//! Lines of octets: what a serial line is to its callers, a line in memory whose cuts and faults are chosen beforehand, and a line between two threads.
+#![tactic(auto)]
+
+mod cut_line;
+mod cuts;
+mod errors;
+mod line;
+mod tape;
+mod thread_line;
+
+pub use cut_line::CutLine;
+pub use cuts::Cut;
+pub use errors::LineError;
+pub use line::{LineFault, SerialLine};
+pub use thread_line::ThreadLine;
+
+#[cfg(test)]
+mod tests;

@@ -1,0 +1,52 @@
+//! What a line is to its callers.
+ghost use Rattle.std.specs.Prelude.{◌≡◌, ℕ, ◌+◌, ◌<◌, ◌≤◌, ◌++◌, List, length, take, IfOk, OnErr};
+ghost use Rattle.serial_line.specs.Counts.{one_more};
+
+use thiserror::Error;
+
+/// The line failed in this call.
+#[derive(Clone, Copy, Debug, PartialEq, Eq, Error)]
+#[error("the line failed")]
+pub struct LineFault;
+
+/// A line of octets, which stands for a serial device. No call on it waits: 0 octets mean that nothing goes now.
+///
+/// Contracts see which octets it gave and took so far, and how many calls there were and how many of them failed. Both counts end at
+/// `u64::MAX`: that of calls stays there, and a line that failed so often gives no more faults.
+pub trait SerialLine {
+    /// All octets that it gave, in order.
+    ghost received: { Self → List ℕ };
+
+    /// All octets that it took, in order.
+    ghost sent: { Self → List ℕ };
+
+    /// The calls so far.
+    ghost calls: { Self → ℕ };
+
+    /// The calls so far that failed.
+    ghost failures: { Self → ℕ };
+
+    /// Writes the next octets to the front of the buffer, and says how many. What stands behind them there is left open.
+    fn try_read(&mut self, buffer: &mut [u8]) -> Result<usize, LineFault>
+        ensures bound { IfOk result (λ n. n ≤ length buffer.old) }
+        ensures came { IfOk result (λ n. received self.new ≡ received self.old ++ take n buffer.new) }
+        ensures none_came { OnErr result (received self.new ≡ received self.old) }
+        ensures none_went { sent self.new ≡ sent self.old }
+
+        // Every call counts, and it fails exactly where it raises the count of failures.
+        ensures counted { calls self.new ≡ one_more (calls self.old) }
+        ensures sound { IfOk result (λ _. failures self.new ≡ failures self.old) }
+        ensures failure { OnErr result ((failures self.old < u64.MAX) × (failures self.new ≡ failures self.old + 1)) };
+
+    /// Takes octets from the front of these, and says how many.
+    fn try_write(&mut self, octets: &[u8]) -> Result<usize, LineFault>
+        ensures bound { IfOk result (λ n. n ≤ length octets.now) }
+        ensures went { IfOk result (λ n. sent self.new ≡ sent self.old ++ take n octets.now) }
+        ensures none_went { OnErr result (sent self.new ≡ sent self.old) }
+        ensures none_came { received self.new ≡ received self.old }
+
+        // Every call counts, and it fails exactly where it raises the count of failures.
+        ensures counted { calls self.new ≡ one_more (calls self.old) }
+        ensures sound { IfOk result (λ _. failures self.new ≡ failures self.old) }
+        ensures failure { OnErr result ((failures self.old < u64.MAX) × (failures self.new ≡ failures self.old + 1)) };
+}

@@ -1,0 +1,107 @@
+//! A line between two threads.
+ghost use Rattle.std.specs.Prelude.{◌≡◌, ◌+◌, ◌-◌, ◌^◌, ◌<◌, ◌≤◌, ◌++◌, ◌↔◌, ◌⊎◌, [], take, drop, length, IsOk, IfOk, IsErrOf};
+ghost use mathlib.Core.List.{IsPrefix};
+ghost use Rattle.serial_line.specs.Counts.{one_more};
+ghost use Rattle.serial_line.specs.ThreadLine.{AreEnds, IsNew};
+
+use crate::errors::LineError;
+use crate::line::{LineFault, SerialLine};
+use rtrb::{Consumer, Producer, RingBuffer};
+use std::alloc::Global;
+use std::marker::Model;
+
+// The most octets that can be under way each way.
+const MOST_ROOM: usize = 65536;
+
+/// One end of a line between two threads. Octets that one end sent are received at the other, in order, and it never fails.
+#[derive(Drop)]
+pub struct ThreadLine {
+    incoming: Consumer<u8>,
+    outgoing: Producer<u8>,
+    calls: u64,
+}
+
+impl Model for ThreadLine {
+    ghost use Rattle.rtrb.specs.Ring.{sent, received, known_free, known_items};
+    ghost use Rattle.serial_line.specs.ThreadLine.{EndState, ring_of_producer, ring_of_consumer};
+
+    ghost Value = { EndState };
+
+    ghost view = { λ l. record { received = received l.incoming; seen = known_items l.incoming; sent = sent l.outgoing; free = known_free l.outgoing; calls = l.calls; incoming = ring_of_consumer l.incoming; outgoing = ring_of_producer l.outgoing } };
+}
+
+impl ThreadLine {
+    /// The two ends of a new line, with room for so many octets under way each way, 1 to 65536.
+    pub fn pair(alloc: Global, room: usize) -> Result<(ThreadLine, ThreadLine), LineError>
+        ensures bad_room { IsErrOf result LineError.BadRoom ↔ ((room ≡ 0) ⊎ (65536 < room)) }
+        ensures ends { IfOk result (λ r. AreEnds r.0 r.1) }
+        ensures fresh { IfOk result (λ r. IsNew room r.0 × IsNew room r.1) }
+    {
+        if !(1..=MOST_ROOM).contains(&room) {
+            return Err(LineError::BadRoom);
+        }
+        let (there, there_out) = RingBuffer::new(alloc, room)?;
+        let (back, back_out) = RingBuffer::new(alloc, room)?;
+        let near = ThreadLine {
+            incoming: back_out,
+            outgoing: there,
+            calls: 0,
+        };
+        let far = ThreadLine {
+            incoming: there_out,
+            outgoing: back,
+            calls: 0,
+        };
+        Ok((near, far))
+    }
+
+    /// How many octets that this end sent the other end has not yet received. So what that end received is a beginning of what this one sent.
+    pub fn under_way(&mut self, other: &mut ThreadLine) -> usize
+        requires { AreEnds self.old other.old }
+        ensures value { result ≡ length other.new.seen }
+        ensures fifo { self.new.sent ≡ other.new.received ++ other.new.seen }
+        ensures here { self.new ≡ record self.old { free = self.new.free } }
+        ensures free { self.old.free ≤ self.new.free }
+        ensures there { other.new ≡ record other.old { seen = other.new.seen } }
+    {
+        other.incoming.slots_beside(&mut self.outgoing)
+    }
+}
+
+impl SerialLine for ThreadLine {
+    ghost use Rattle.std.specs.Prelude.{ℕ};
+
+    ghost received = { λ l. l.received };
+
+    ghost sent = { λ l. l.sent };
+
+    ghost calls = { λ l. l.calls };
+
+    ghost failures = { λ _. 0 };
+
+    /// Gives what is there, as far as the buffer goes.
+    fn try_read(&mut self, buffer: &mut [u8]) -> Result<usize, LineFault>
+        ensures sound { IsOk result }
+        ensures bound { IfOk result (λ n. n ≤ length buffer.old) }
+        ensures line { IfOk result (λ n. self.new ≡ record self.old { received = self.old.received ++ take n buffer.new; seen = self.new.seen; calls = one_more self.old.calls }) }
+        ensures rest { IfOk result (λ n. drop n buffer.new ≡ drop n buffer.old) }
+        ensures seen { IfOk result (λ n. IsPrefix self.old.seen (take n buffer.new ++ self.new.seen)) }
+        ensures most { IfOk result (λ n. n < length buffer.old → self.new.seen ≡ []) }
+    {
+        self.calls = self.calls.saturating_add(1);
+        Ok(self.incoming.pop_partial_slice(buffer))
+    }
+
+    /// Takes as many octets as find room.
+    fn try_write(&mut self, octets: &[u8]) -> Result<usize, LineFault>
+        ensures sound { IsOk result }
+        ensures bound { IfOk result (λ n. n ≤ length octets.now) }
+        ensures line { IfOk result (λ n. self.new ≡ record self.old { sent = self.old.sent ++ take n octets.now; free = self.new.free; calls = one_more self.old.calls }) }
+        ensures free { IfOk result (λ n. self.old.free ≤ self.new.free + n) }
+        ensures most { IfOk result (λ n. n < length octets.now → self.new.free ≡ 0) }
+    {
+        self.calls = self.calls.saturating_add(1);
+        let (taken, _) = self.outgoing.push_partial_slice(octets);
+        Ok(taken.len())
+    }
+}
