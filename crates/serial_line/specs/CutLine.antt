@@ -1,5 +1,5 @@
 -- A line in memory.
-use Rattle.std.specs.Prelude.{ℕ, ◌+◌, ◌-◌, List, ◌++◌, length, take, drop, min, Result, Ok, Err}
+use Rattle.std.specs.Prelude.{ℕ, ◌+◌, ◌-◌, List, [], ◌++◌, length, take, drop, min, Result, Ok, Err}
 use Rattle.serial_line.specs.declared.cuts.Cut.{Cut}
 use Rattle.serial_line.specs.declared.line.LineFault.{LineFault}
 use Rattle.serial_line.specs.Counts.{one_more}
@@ -15,6 +15,20 @@ pub record CutState : Type 0 where
   pub calls : ℕ
   pub failures : ℕ
 
+-- a line on which nothing has happened yet, with this input as far as there is room
+abbrev pub new_line : List ℕ → List Cut → List Cut → ℕ → CutState
+new_line input reads writes room = record {
+  received = [];
+  waiting = take (min (length input) room) input;
+  sent = [];
+  moved = 0;
+  reads = reads;
+  writes = writes;
+  room = room;
+  calls = 0;
+  failures = 0;
+}
+
 -- how many octets more are kept to be received
 abbrev pub room_to_receive : CutState → ℕ
 room_to_receive s = s.room - (length s.received + length s.waiting)
@@ -29,12 +43,21 @@ unmoved s = drop s.moved s.sent
 
 -- after a read: it counts as a call, and its entry is used up
 abbrev pub after_read : CutState → Result ℕ LineFault → CutState
-after_read s (Ok n) = record s { received = s.received ++ take n s.waiting; waiting = drop n s.waiting; reads = drop 1 s.reads; calls = one_more s.calls }
+after_read s (Ok n) = record s {
+  received = s.received ++ take n s.waiting;
+  waiting = drop n s.waiting;
+  reads = drop 1 s.reads;
+  calls = one_more s.calls;
+}
 after_read s (Err fault) = record s { reads = drop 1 s.reads; calls = one_more s.calls; failures = s.failures + 1 }
 
 -- after a write of these octets
 abbrev pub after_write : CutState → List ℕ → Result ℕ LineFault → CutState
-after_write s octets (Ok n) = record s { sent = s.sent ++ take n octets; writes = drop 1 s.writes; calls = one_more s.calls }
+after_write s octets (Ok n) = record s {
+  sent = s.sent ++ take n octets;
+  writes = drop 1 s.writes;
+  calls = one_more s.calls;
+}
 after_write s octets (Err fault) = record s { writes = drop 1 s.writes; calls = one_more s.calls; failures = s.failures + 1 }
 
 -- how many octets go over where at most k do: as many as were not yet given on and find room
@@ -43,4 +66,7 @@ carried k from to = min k (min (length (unmoved from)) (room_to_receive to))
 
 -- a line after it carried with another: what it had goes over, and what the other had comes
 abbrev pub after_carry : ℕ → CutState → CutState → CutState
-after_carry k s other = record s { moved = s.moved + carried k s other; waiting = s.waiting ++ take (carried k other s) (unmoved other) }
+after_carry k s other = record s {
+  moved = s.moved + carried k s other;
+  waiting = s.waiting ++ take (carried k other s) (unmoved other);
+}

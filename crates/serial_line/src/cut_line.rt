@@ -1,8 +1,8 @@
 //! A line in memory.
-ghost use Rattle.std.specs.Prelude.{◌≡◌, ◌+◌, ◌-◌, ◌^◌, ◌<◌, ◌≤◌, ◌++◌, [], take, drop, length, min, IfOk, OnErr, IsOkUnless};
+ghost use Rattle.std.specs.Prelude.{◌≡◌, ◌+◌, ◌^◌, ◌<◌, ◌≤◌, ◌++◌, take, drop, length, min, IfOk, OnErr, IsOkUnless};
 ghost use Rattle.serial_line.specs.Counts.{one_more};
 ghost use Rattle.serial_line.specs.Cuts.{outcome_of};
-ghost use Rattle.serial_line.specs.CutLine.{room_to_receive, room_to_send, unmoved, after_read, after_write, carried, after_carry};
+ghost use Rattle.serial_line.specs.CutLine.{new_line, room_to_receive, room_to_send, unmoved, after_read, after_write, carried, after_carry};
 
 use crate::cuts::{Cut, Cuts};
 use crate::errors::LineError;
@@ -11,8 +11,9 @@ use crate::tape::Tape;
 use std::alloc::Global;
 use std::marker::Model;
 
-/// A line in memory, for tests: what its reads give is put in beforehand, what its writes took can be looked at, and a list for each says
-/// how much each call lets through or that it fails. It keeps all octets, at most `room` in each direction.
+/// A line in memory, for tests: what its reads give is put in, what its writes took can be looked
+/// at, and a list for each says how much a call lets through, or that it fails. It keeps all octets,
+/// at most `room` each way.
 #[derive(Drop)]
 pub struct CutLine {
     input: Tape,
@@ -29,13 +30,25 @@ impl Model for CutLine {
 
     ghost Value = { CutState };
 
-    ghost view = { λ l. record { received = l.input.gone; waiting = l.input.ahead; sent = l.output.gone ++ l.output.ahead; moved = length l.output.gone; reads = l.reads; writes = l.writes; room = l.input.room; calls = l.calls; failures = l.failures } };
+    ghost view = { λ l. record {
+      received = l.input.gone;
+      waiting = l.input.ahead;
+      sent = l.output.gone ++ l.output.ahead;
+      moved = length l.output.gone;
+      reads = l.reads;
+      writes = l.writes;
+      room = l.input.room;
+      calls = l.calls;
+      failures = l.failures;
+    } };
 
     ghost invariant = { λ l. l.output.room ≡ l.input.room };
 }
 
 impl CutLine {
-    /// A line on which nothing has happened yet: input beyond `room` isn't kept, and an empty list of entries means no limit.
+    /// A line on which nothing has happened yet. Each call uses up one entry of its list, and with
+    /// none left there is no limit. Input beyond `room` octets isn't kept. `NoMemory` where memory is
+    /// refused.
     pub fn new(
         alloc: Global,
         input: &[u8],
@@ -44,7 +57,7 @@ impl CutLine {
         room: usize,
     ) -> Result<CutLine, LineError>
         ensures memory { IsOkUnless result LineError.NoMemory }
-        ensures line { IfOk result (λ l. l ≡ record { received = []; waiting = take (min (length input.now) room) input.now; sent = []; moved = 0; reads = reads.now; writes = writes.now; room = room; calls = 0; failures = 0 }) }
+        ensures line { IfOk result (λ l. l ≡ new_line input.now reads.now writes.now room) }
     {
         let mut line = CutLine {
             input: Tape::new(alloc, room)?,
@@ -61,7 +74,8 @@ impl CutLine {
     /// Adds octets to be received, as many as there is room for, and says how many.
     pub fn put(&mut self, octets: &[u8]) -> usize
         ensures value { result ≡ min (length octets.now) (room_to_receive self.old) }
-        ensures line { self.new ≡ record self.old { waiting = self.old.waiting ++ take result octets.now } }
+        ensures line { let more = take result octets.now
+            in self.new ≡ record self.old { waiting = self.old.waiting ++ more } }
     {
         let count = octets.len().min(self.input.free());
         self.input.append(&octets[..count]);
@@ -88,8 +102,8 @@ impl CutLine {
         self.output.all()
     }
 
-    /// Moves what was sent on each line, at most `k` octets each way, to be received on the other, and says how many it moved. What `take` gave
-    /// doesn't move again.
+    /// Moves what was sent on each line, at most `k` octets each way, to be received on the other, and
+    /// says how many it moved in all. What `take` gave doesn't move again.
     pub fn carry(&mut self, other: &mut CutLine, k: usize) -> usize
         ensures value { result ≡ carried k self.old other.old + carried k other.old self.old }
         ensures here { self.new ≡ after_carry k self.old other.old }
@@ -100,11 +114,14 @@ impl CutLine {
         there + here
     }
 
+    // One way of `carry`.
     fn give(&mut self, other: &mut CutLine, k: usize) -> usize
         ensures value { result ≡ carried k self.old other.old }
+        // The numbers of both ways can be added.
         ensures small { result < 2 ^ 63 }
         ensures from { self.new ≡ record self.old { moved = self.old.moved + result } }
-        ensures to { other.new ≡ record other.old { waiting = other.old.waiting ++ take result (unmoved self.old) } }
+        ensures to { let more = take result (unmoved self.old)
+            in other.new ≡ record other.old { waiting = other.old.waiting ++ more } }
     {
         let unmoved = self.output.ahead();
         let most = unmoved.len().min(k);
@@ -125,7 +142,8 @@ impl SerialLine for CutLine {
 
     /// Gives as many octets as its entry, the buffer and the octets there allow.
     fn try_read(&mut self, buffer: &mut [u8]) -> Result<usize, LineFault>
-        ensures value { result ≡ outcome_of self.old.reads self.old.failures (min (length buffer.old) (length self.old.waiting)) }
+        ensures value { let most = min (length buffer.old) (length self.old.waiting)
+            in result ≡ outcome_of self.old.reads self.old.failures most }
         ensures bound { IfOk result (λ n. n ≤ length buffer.old) }
         ensures octets { IfOk result (λ n. buffer.new ≡ take n self.old.waiting ++ drop n buffer.old) }
         ensures untouched { OnErr result (buffer.new ≡ buffer.old) }
@@ -142,7 +160,8 @@ impl SerialLine for CutLine {
 
     /// Takes as many octets as its entry, the slice and the room allow.
     fn try_write(&mut self, octets: &[u8]) -> Result<usize, LineFault>
-        ensures value { result ≡ outcome_of self.old.writes self.old.failures (min (length octets.now) (room_to_send self.old)) }
+        ensures value { let most = min (length octets.now) (room_to_send self.old)
+            in result ≡ outcome_of self.old.writes self.old.failures most }
         ensures bound { IfOk result (λ n. n ≤ length octets.now) }
         ensures line { self.new ≡ after_write self.old octets.now result }
     {

@@ -5,7 +5,7 @@ use crate::line::LineFault;
 use std::marker::Model;
 use std::vec::IntoIter;
 
-/// What becomes of one call on a line in memory.
+/// What becomes of one call on a line in memory, whose entry it is.
 #[derive(Clone, Copy, Debug, PartialEq, Eq)]
 pub enum Cut {
     /// At most so many octets go through.
@@ -46,7 +46,7 @@ impl Cuts {
         ensures used { self.new ≡ drop 1 self.old }
         ensures value { result ≡ outcome_of self.old failures.old there }
         ensures bound { IfOk result (λ n. n ≤ there) }
-        ensures no_failure { OnOk result (failures.new ≡ failures.old) }
+        ensures sound { OnOk result (failures.new ≡ failures.old) }
         ensures failure { OnErr result (failures.new ≡ failures.old + 1) }
     {
         match self.entries.next() {

@@ -1,4 +1,5 @@
-//! Lines of octets: what a serial line is to its callers, a line in memory whose cuts and faults are chosen beforehand, and a line between two threads.
+//! Lines of octets: what a serial line is to its callers, a line in memory whose cuts and faults are
+//! chosen beforehand, and a line between two threads.
 #![tactic(auto)]
 
 mod cut_line;

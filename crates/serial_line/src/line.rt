@@ -9,10 +9,12 @@ use thiserror::Error;
 #[error("the line failed")]
 pub struct LineFault;
 
-/// A line of octets, which stands for a serial device. No call on it waits: 0 octets mean that nothing goes now.
+/// A line of octets, which stands for a serial device. No call on it waits: 0 octets mean that
+/// nothing goes now.
 ///
-/// Contracts see which octets it gave and took so far, and how many calls there were and how many of them failed. Both counts end at
-/// `u64::MAX`: that of calls stays there, and a line that failed so often gives no more faults.
+/// Contracts see which octets it gave and took so far, how many calls there were, and how many of
+/// them failed. Both counts end at `u64::MAX`: that of calls stays there, and a line that failed so
+/// often gives no more faults.
 pub trait SerialLine {
     /// All octets that it gave, in order.
     ghost received: { Self → List ℕ };
@@ -26,7 +28,8 @@ pub trait SerialLine {
     /// The calls so far that failed.
     ghost failures: { Self → ℕ };
 
-    /// Writes the next octets to the front of the buffer, and says how many. What stands behind them there is left open.
+    /// Writes the next octets to the front of the buffer, and says how many. What stands behind them
+    /// there is left open.
     fn try_read(&mut self, buffer: &mut [u8]) -> Result<usize, LineFault>
         ensures bound { IfOk result (λ n. n ≤ length buffer.old) }
         ensures came { IfOk result (λ n. received self.new ≡ received self.old ++ take n buffer.new) }
@@ -36,7 +39,8 @@ pub trait SerialLine {
         // Every call counts, and it fails exactly where it raises the count of failures.
         ensures counted { calls self.new ≡ one_more (calls self.old) }
         ensures sound { IfOk result (λ _. failures self.new ≡ failures self.old) }
-        ensures failure { OnErr result ((failures self.old < u64.MAX) × (failures self.new ≡ failures self.old + 1)) };
+        ensures last { OnErr result (failures self.old < u64.MAX) }
+        ensures failure { OnErr result (failures self.new ≡ failures self.old + 1) };
 
     /// Takes octets from the front of these, and says how many.
     fn try_write(&mut self, octets: &[u8]) -> Result<usize, LineFault>
@@ -48,5 +52,6 @@ pub trait SerialLine {
         // Every call counts, and it fails exactly where it raises the count of failures.
         ensures counted { calls self.new ≡ one_more (calls self.old) }
         ensures sound { IfOk result (λ _. failures self.new ≡ failures self.old) }
-        ensures failure { OnErr result ((failures self.old < u64.MAX) × (failures self.new ≡ failures self.old + 1)) };
+        ensures last { OnErr result (failures self.old < u64.MAX) }
+        ensures failure { OnErr result (failures self.new ≡ failures self.old + 1) };
 }

@@ -19,9 +19,14 @@ impl Model for Tape {
 
     ghost Value = { Track };
 
-    ghost view = { λ t. record { gone = take t.passed t.octets.items; ahead = drop t.passed t.octets.items; room = t.room } };
+    ghost view = { λ t. record {
+      gone = take t.passed t.octets.items;
+      ahead = drop t.passed t.octets.items;
+      room = t.room;
+    } };
 
-    ghost invariant = { λ t. (t.passed ≤ vec_len t.octets) × (vec_len t.octets ≤ t.room) × (t.room ≤ vec_capacity t.octets) };
+    ghost invariant = { λ t. (t.passed ≤ vec_len t.octets) × (vec_len t.octets ≤ t.room)
+        × (t.room ≤ vec_capacity t.octets) };
 }
 
 impl Tape {
@@ -36,12 +41,14 @@ impl Tape {
         })
     }
 
+    /// Those that have passed, and then those ahead.
     pub(crate) fn all(&self) -> &[u8]
         ensures { result.now ≡ self.now.gone ++ self.now.ahead }
     {
         &self.octets
     }
 
+    /// Those that have not passed.
     pub(crate) fn ahead(&self) -> &[u8]
         ensures octets { result.now ≡ self.now.ahead }
         ensures small { length result.now < 2 ^ 63 }
@@ -49,6 +56,7 @@ impl Tape {
         &self.octets[self.passed..]
     }
 
+    /// How many octets more it has room for.
     pub(crate) fn free(&self) -> usize
         ensures { result ≡ free self.now }
     {

@@ -1,13 +1,15 @@
-ghost use Rattle.std.specs.Prelude.{◌≡◌, ◌+◌, ◌*◌, ◌≤◌, ◌++◌, length, take, IfOk, MatchResult};
+ghost use Rattle.std.specs.Prelude.{◌≡◌, ◌+◌, ◌*◌, ◌≤◌, ◌++◌, [], length, take, vec_capacity, IfOk, MatchResult};
 
 use super::*;
 use std::alloc::{AllocError, Global};
+use std::process::Abort;
 use std::sync::Wait;
 use std::test::Fail;
 use std::thread;
 use std::thread::Threads;
 
-// Reads into the room and writes what came, so many times. Says how many octets came, and how many of them went.
+// Reads into the room and writes what came, so many times. Says how many octets came, and how many
+// of them went.
 fn echo<L: SerialLine>(
     line: &mut L,
     room: &mut [u8],
@@ -33,29 +35,78 @@ fn long_text(alloc: Global, count: u32) -> Result<Vec<u8>, AllocError> {
     (0..count).map(|place| (place % 251) as u8).collect(alloc)
 }
 
+// These say nothing of what they do, so that a test's proof needn't follow the octets, as its run
+// does.
+fn cut_line(
+    alloc: Global,
+    input: &[u8],
+    reads: &[Cut],
+    writes: &[Cut],
+    room: usize,
+) -> Result<CutLine, LineError> {
+    CutLine::new(alloc, input, reads, writes, room)
+}
+
+fn expect_put(rt: &impl Abort, line: &mut CutLine, octets: &[u8], want: usize) {
+    assert_eq!(rt; line.put(octets), want);
+}
+
+fn expect_sent(rt: &impl Abort, line: &CutLine, want: &[u8]) {
+    assert_eq!(rt; line.sent(), want);
+}
+
+// One read gives these octets, or fails.
+fn expect_read<L: SerialLine>(rt: &impl Abort, line: &mut L, want: Result<&[u8], LineFault>) {
+    let mut buffer = [0; 32];
+    match line.try_read(&mut buffer) {
+        Ok(count) => assert_eq!(rt; Ok(&buffer[..count]), want),
+        Err(fault) => assert_eq!(rt; Err(fault), want),
+    }
+}
+
+// One write takes so many of these octets, or fails.
+fn expect_write<L: SerialLine>(
+    rt: &impl Abort,
+    line: &mut L,
+    octets: &[u8],
+    want: Result<usize, LineFault>,
+) {
+    assert_eq!(rt; line.try_write(octets), want);
+}
+
+fn expect_taken(rt: &impl Abort, line: &mut CutLine, want: &[u8; 2]) {
+    let mut buffer = [0; 2];
+    assert_eq!(rt; line.take(&mut buffer), 2);
+    assert_eq!(rt; &buffer, want);
+}
+
+fn expect_carried(
+    rt: &impl Abort,
+    near: &mut CutLine,
+    far: &mut CutLine,
+    most: usize,
+    want: usize,
+) {
+    assert_eq!(rt; near.carry(far, most), want);
+}
+
 #[test]
 fn octets_come_and_go_by_one_by_seven_and_all_at_once(rt: HostRuntime) -> Result<(), Fail> {
     let alloc = rt.alloc();
-    let text = b"0123456789abcdefghij";
+    let text = b"0123456789abcdefghij".as_slice();
     let ones = vec![in alloc; Cut::Upto(1); 20]?;
     let sevens = vec![in alloc; Cut::Upto(7); 20]?;
-    let cases: [(&[Cut], &[usize]); 3] = [(&ones, &[1; 20]), (&sevens, &[7, 7, 6]), (&[], &[20])];
-    for (cuts, pieces) in cases {
-        let mut line = CutLine::new(alloc, text, cuts, cuts, 64)?;
-        let mut came = Vec::new(alloc);
-        let mut rest: &[u8] = text;
-        let mut buffer = [0; 32];
-        for piece in pieces {
-            let count = line.try_read(&mut buffer)?;
-            assert_eq!(rt; count, *piece);
-            came.extend_from_slice(&buffer[..count])?;
-            let count = line.try_write(rest)?;
-            assert_eq!(rt; count, *piece);
-            rest = &rest[count..];
+    let cases: [(&[Cut], usize); 3] = [(&ones, 1), (&sevens, 7), (&[], 20)];
+    for (cuts, size) in cases {
+        let mut line = cut_line(alloc, text, cuts, cuts, 64)?;
+        let mut rest = text;
+        for piece in text.chunks(size) {
+            expect_read(&rt, &mut line, Ok(piece));
+            expect_write(&rt, &mut line, rest, Ok(piece.len()));
+            (_, rest) = rest.split_at(piece.len().min(rest.len()));
         }
-        assert_eq!(rt; came.as_slice(), text.as_slice());
-        assert_eq!(rt; line.sent(), text.as_slice());
-        assert_eq!(rt; line.try_read(&mut buffer), Ok(0));
+        expect_read(&rt, &mut line, Ok(b""));
+        expect_sent(&rt, &line, text);
     }
     Ok(())
 }
@@ -64,63 +115,50 @@ fn octets_come_and_go_by_one_by_seven_and_all_at_once(rt: HostRuntime) -> Result
 fn a_fault_comes_at_its_call_and_moves_nothing(rt: HostRuntime) -> Result<(), Fail> {
     let reads = [Cut::Fault, Cut::Upto(2), Cut::Fault];
     let writes = [Cut::Upto(3), Cut::Fault];
-    let mut line = CutLine::new(rt.alloc(), b"abcdef", &reads, &writes, 64)?;
-    let mut buffer = [0; 8];
-    assert_eq!(rt; line.try_read(&mut buffer), Err(LineFault));
-    assert_eq!(rt; line.try_read(&mut buffer), Ok(2));
-    assert_eq!(rt; line.try_read(&mut buffer), Err(LineFault));
-    assert_eq!(rt; buffer, [b'a', b'b', 0, 0, 0, 0, 0, 0]);
-    assert_eq!(rt; line.try_read(&mut buffer), Ok(4));
-    assert_eq!(rt; buffer, [b'c', b'd', b'e', b'f', 0, 0, 0, 0]);
-    assert_eq!(rt; line.try_write(b"uvwxyz"), Ok(3));
-    assert_eq!(rt; line.try_write(b"xyz"), Err(LineFault));
-    assert_eq!(rt; line.sent(), b"uvw".as_slice());
-    assert_eq!(rt; line.try_write(b"xyz"), Ok(3));
-    assert_eq!(rt; line.sent(), b"uvwxyz".as_slice());
+    let mut line = cut_line(rt.alloc(), b"abcdef", &reads, &writes, 64)?;
+    expect_read(&rt, &mut line, Err(LineFault));
+    expect_read(&rt, &mut line, Ok(b"ab"));
+    expect_read(&rt, &mut line, Err(LineFault));
+    expect_read(&rt, &mut line, Ok(b"cdef"));
+    expect_write(&rt, &mut line, b"uvwxyz", Ok(3));
+    expect_write(&rt, &mut line, b"xyz", Err(LineFault));
+    expect_sent(&rt, &line, b"uvw");
+    expect_write(&rt, &mut line, b"xyz", Ok(3));
+    expect_sent(&rt, &line, b"uvwxyz");
     Ok(())
 }
 
 #[test]
 fn octets_past_the_room_are_left_out(rt: HostRuntime) -> Result<(), Fail> {
-    let mut line = CutLine::new(rt.alloc(), b"ab", &[], &[], 4)?;
-    assert_eq!(rt; line.put(b"cdef"), 2);
-    let mut buffer = [0; 8];
-    assert_eq!(rt; line.try_read(&mut buffer), Ok(4));
-    assert_eq!(rt; buffer, [b'a', b'b', b'c', b'd', 0, 0, 0, 0]);
-    assert_eq!(rt; line.put(b"g"), 0);
-    assert_eq!(rt; line.try_write(b"uvwxyz"), Ok(4));
-    assert_eq!(rt; line.try_write(b"yz"), Ok(0));
-    assert_eq!(rt; line.sent(), b"uvwx".as_slice());
-    let mut short = CutLine::new(rt.alloc(), b"abcdef", &[], &[], 4)?;
-    assert_eq!(rt; short.try_read(&mut buffer), Ok(4));
+    let mut line = cut_line(rt.alloc(), b"ab", &[], &[], 4)?;
+    expect_put(&rt, &mut line, b"cdef", 2);
+    expect_read(&rt, &mut line, Ok(b"abcd"));
+    expect_put(&rt, &mut line, b"g", 0);
+    expect_write(&rt, &mut line, b"uvwxyz", Ok(4));
+    expect_write(&rt, &mut line, b"yz", Ok(0));
+    expect_sent(&rt, &line, b"uvwx");
+    let mut short = cut_line(rt.alloc(), b"abcdef", &[], &[], 4)?;
+    expect_read(&rt, &mut short, Ok(b"abcd"));
     Ok(())
 }
 
 #[test]
 fn octets_are_carried_both_ways_once(rt: HostRuntime) -> Result<(), Fail> {
-    let mut near = CutLine::new(rt.alloc(), b"", &[], &[], 16)?;
-    let mut far = CutLine::new(rt.alloc(), b"", &[], &[], 4)?;
-    let mut buffer = [0; 8];
-    let mut front = [0; 2];
-    assert_eq!(rt; near.try_write(b"abcdefgh"), Ok(8));
-    assert_eq!(rt; far.try_write(b"xy"), Ok(2));
-    assert_eq!(rt; near.take(&mut front), 2);
-    assert_eq!(rt; front, [b'a', b'b']);
-    assert_eq!(rt; near.carry(&mut far, 3), 5);
-    assert_eq!(rt; far.try_read(&mut buffer), Ok(3));
-    assert_eq!(rt; buffer, [b'c', b'd', b'e', 0, 0, 0, 0, 0]);
-    assert_eq!(rt; near.try_read(&mut buffer), Ok(2));
-    assert_eq!(rt; buffer, [b'x', b'y', b'e', 0, 0, 0, 0, 0]);
-    assert_eq!(rt;
-        far.carry(&mut near, 3),
-        1,
-        "the other line has room for one more"
-    );
-    assert_eq!(rt; far.try_read(&mut buffer), Ok(1));
-    assert_eq!(rt; buffer[0], b'f');
-    assert_eq!(rt; near.carry(&mut far, 3), 0);
-    assert_eq!(rt; near.take(&mut buffer), 2);
-    assert_eq!(rt; near.sent(), b"abcdefgh".as_slice());
+    let mut near = cut_line(rt.alloc(), b"", &[], &[], 16)?;
+    let mut far = cut_line(rt.alloc(), b"", &[], &[], 4)?;
+    expect_write(&rt, &mut near, b"abcdefgh", Ok(8));
+    expect_write(&rt, &mut far, b"xy", Ok(2));
+    expect_taken(&rt, &mut near, b"ab");
+    expect_carried(&rt, &mut near, &mut far, 3, 5);
+    expect_read(&rt, &mut far, Ok(b"cde"));
+    expect_read(&rt, &mut near, Ok(b"xy"));
+
+    // There is room for one more.
+    expect_carried(&rt, &mut far, &mut near, 3, 1);
+    expect_read(&rt, &mut far, Ok(b"f"));
+    expect_carried(&rt, &mut near, &mut far, 3, 0);
+    expect_taken(&rt, &mut near, b"gh");
+    expect_sent(&rt, &near, b"abcdefgh");
     Ok(())
 }
 
@@ -129,9 +167,9 @@ fn a_line_between_threads_has_room_for_1_to_65536(rt: HostRuntime) -> Result<(),
     for room in [0, 65537] {
         assert!(rt; matches!(ThreadLine::pair(rt.alloc(), room), Err(LineError::BadRoom)));
     }
+    let text = long_text(rt.alloc(), 65537)?;
     for room in [1, 65536] {
         let (mut near, mut far) = ThreadLine::pair(rt.alloc(), room)?;
-        let text = long_text(rt.alloc(), 65537)?;
         assert_eq!(rt; near.try_write(&text), Ok(room));
         assert_eq!(rt; near.under_way(&mut far), room);
         assert_eq!(rt; far.under_way(&mut near), 0);
@@ -139,19 +177,22 @@ fn a_line_between_threads_has_room_for_1_to_65536(rt: HostRuntime) -> Result<(),
     Ok(())
 }
 
+// Of what was put in, so many octets come and go in two turns.
+fn expect_echo<L: SerialLine>(rt: &impl Abort, line: &mut L, want: usize) {
+    let mut room = [0; 16];
+    assert_eq!(rt; echo(line, &mut room, 2), Ok((want, want)));
+}
+
 #[test]
 fn any_line_echoes(rt: HostRuntime) -> Result<(), Fail> {
-    let mut buffer = [0; 16];
     let cuts = [Cut::Upto(2), Cut::Upto(1)];
-    let mut line = CutLine::new(rt.alloc(), b"abcdef", &cuts, &cuts, 64)?;
-    assert_eq!(rt; echo(&mut line, &mut buffer, 2), Ok((3, 3)));
-    assert_eq!(rt; line.sent(), b"abc".as_slice());
+    let mut line = cut_line(rt.alloc(), b"abcdef", &cuts, &cuts, 64)?;
+    expect_echo(&rt, &mut line, 3);
+    expect_sent(&rt, &line, b"abc");
     let (mut near, mut far) = ThreadLine::pair(rt.alloc(), 4)?;
-    assert_eq!(rt; near.try_write(b"abcdef"), Ok(4));
-    assert_eq!(rt; echo(&mut far, &mut buffer, 2), Ok((4, 4)));
-    let mut back = [0; 8];
-    assert_eq!(rt; near.try_read(&mut back), Ok(4));
-    assert_eq!(rt; back, [b'a', b'b', b'c', b'd', 0, 0, 0, 0]);
+    expect_write(&rt, &mut near, b"abcdef", Ok(4));
+    expect_echo(&rt, &mut far, 4);
+    expect_read(&rt, &mut near, Ok(b"abcd"));
     Ok(())
 }
 
@@ -172,29 +213,29 @@ fn send<R: Wait>(rt: &R, mut line: ThreadLine, text: &[u8]) -> ThreadLine
     line
 }
 
-// Waits until so many octets have come.
+// Waits until the text is full.
 fn receive<R: Wait>(
     rt: &R,
-    alloc: Global,
     mut line: ThreadLine,
+    mut text: Vec<u8>,
     total: usize,
-) -> Result<(ThreadLine, Vec<u8>), AllocError>
-    ensures same { IfOk result (λ r. (r.0.incoming ≡ line.incoming) × (r.0.outgoing ≡ line.outgoing)) }
-    ensures came { IfOk result (λ r. r.0.received ≡ line.received ++ r.1.items) }
-    ensures total { IfOk result (λ r. length r.1.items ≡ total) }
+) -> (ThreadLine, Vec<u8>)
+    requires { (text.items ≡ []) × (total ≤ vec_capacity text) }
+    ensures same { (result.0.incoming ≡ line.incoming) × (result.0.outgoing ≡ line.outgoing) }
+    ensures came { result.0.received ≡ line.received ++ result.1.items }
+    ensures total { length result.1.items ≡ total }
 {
-    let mut came = Vec::new(alloc);
     let mut buffer = [0; 40];
     for _ in rt.forever() {
-        let left = (total - came.len()).min(buffer.len());
+        let left = (total - text.len()).min(buffer.len());
         if left == 0 {
             break;
         }
         let count = line.try_read(&mut buffer[..left]).unwrap();
-        came.extend_from_slice(&buffer[..count])?;
+        text.extend_from_slice(&buffer[..count]).unwrap();
         thread::yield_now();
     }
-    Ok((line, came))
+    (line, text)
 }
 
 // Sends the text from one thread to another.
@@ -207,12 +248,12 @@ fn across<R: Threads + Wait + Sync>(
     ensures { IfOk result (λ came. came.items ≡ text.now) }
 {
     let (near, far) = ThreadLine::pair(alloc, room)?;
-    let (mut near, back) = thread::join(
+    let empty = Vec::with_capacity(alloc, text.len())?;
+    let (mut near, (mut far, came)) = thread::join(
         rt,
         move || send(rt, near, text),
-        move || receive(rt, alloc, far, text.len()),
+        move || receive(rt, far, empty, text.len()),
     );
-    let (mut far, came) = back?;
     near.under_way(&mut far);
     Ok(came)
 }

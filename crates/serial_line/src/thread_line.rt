@@ -1,5 +1,5 @@
 //! A line between two threads.
-ghost use Rattle.std.specs.Prelude.{◌≡◌, ◌+◌, ◌-◌, ◌^◌, ◌<◌, ◌≤◌, ◌++◌, ◌↔◌, ◌⊎◌, [], take, drop, length, IsOk, IfOk, IsErrOf};
+ghost use Rattle.std.specs.Prelude.{◌≡◌, ◌+◌, ◌<◌, ◌≤◌, ◌++◌, ◌↔◌, ◌⊎◌, [], take, drop, length, IsOk, IfOk, IsErrOf};
 ghost use mathlib.Core.List.{IsPrefix};
 ghost use Rattle.serial_line.specs.Counts.{one_more};
 ghost use Rattle.serial_line.specs.ThreadLine.{AreEnds, IsNew};
@@ -13,7 +13,8 @@ use std::marker::Model;
 // The most octets that can be under way each way.
 const MOST_ROOM: usize = 65536;
 
-/// One end of a line between two threads. Octets that one end sent are received at the other, in order, and it never fails.
+/// One end of a line between two threads. What one end sent is received at the other, in order, and
+/// no call fails.
 #[derive(Drop)]
 pub struct ThreadLine {
     incoming: Consumer<u8>,
@@ -27,11 +28,20 @@ impl Model for ThreadLine {
 
     ghost Value = { EndState };
 
-    ghost view = { λ l. record { received = received l.incoming; seen = known_items l.incoming; sent = sent l.outgoing; free = known_free l.outgoing; calls = l.calls; incoming = ring_of_consumer l.incoming; outgoing = ring_of_producer l.outgoing } };
+    ghost view = { λ l. record {
+      received = received l.incoming;
+      seen = known_items l.incoming;
+      sent = sent l.outgoing;
+      free = known_free l.outgoing;
+      calls = l.calls;
+      incoming = ring_of_consumer l.incoming;
+      outgoing = ring_of_producer l.outgoing;
+    } };
 }
 
 impl ThreadLine {
-    /// The two ends of a new line, with room for so many octets under way each way, 1 to 65536.
+    /// The two ends of a new line, with room for so many octets under way each way. `BadRoom` unless
+    /// that is 1 to 65536, and then `NoMemory` where memory is refused.
     pub fn pair(alloc: Global, room: usize) -> Result<(ThreadLine, ThreadLine), LineError>
         ensures bad_room { IsErrOf result LineError.BadRoom ↔ ((room ≡ 0) ⊎ (65536 < room)) }
         ensures ends { IfOk result (λ r. AreEnds r.0 r.1) }
@@ -55,7 +65,8 @@ impl ThreadLine {
         Ok((near, far))
     }
 
-    /// How many octets that this end sent the other end has not yet received. So what that end received is a beginning of what this one sent.
+    /// How many octets that this end sent are still to be received at the other end of the line, for a
+    /// thread that holds both. What the other end received is a beginning of what this end sent.
     pub fn under_way(&mut self, other: &mut ThreadLine) -> usize
         requires { AreEnds self.old other.old }
         ensures value { result ≡ length other.new.seen }
@@ -69,8 +80,6 @@ impl ThreadLine {
 }
 
 impl SerialLine for ThreadLine {
-    ghost use Rattle.std.specs.Prelude.{ℕ};
-
     ghost received = { λ l. l.received };
 
     ghost sent = { λ l. l.sent };
@@ -83,7 +92,11 @@ impl SerialLine for ThreadLine {
     fn try_read(&mut self, buffer: &mut [u8]) -> Result<usize, LineFault>
         ensures sound { IsOk result }
         ensures bound { IfOk result (λ n. n ≤ length buffer.old) }
-        ensures line { IfOk result (λ n. self.new ≡ record self.old { received = self.old.received ++ take n buffer.new; seen = self.new.seen; calls = one_more self.old.calls }) }
+        ensures line { IfOk result (λ n. self.new ≡ record self.old {
+          received = self.old.received ++ take n buffer.new;
+          seen = self.new.seen;
+          calls = one_more self.old.calls;
+        }) }
         ensures rest { IfOk result (λ n. drop n buffer.new ≡ drop n buffer.old) }
         ensures seen { IfOk result (λ n. IsPrefix self.old.seen (take n buffer.new ++ self.new.seen)) }
         ensures most { IfOk result (λ n. n < length buffer.old → self.new.seen ≡ []) }
@@ -96,7 +109,11 @@ impl SerialLine for ThreadLine {
     fn try_write(&mut self, octets: &[u8]) -> Result<usize, LineFault>
         ensures sound { IsOk result }
         ensures bound { IfOk result (λ n. n ≤ length octets.now) }
-        ensures line { IfOk result (λ n. self.new ≡ record self.old { sent = self.old.sent ++ take n octets.now; free = self.new.free; calls = one_more self.old.calls }) }
+        ensures line { IfOk result (λ n. self.new ≡ record self.old {
+          sent = self.old.sent ++ take n octets.now;
+          free = self.new.free;
+          calls = one_more self.old.calls;
+        }) }
         ensures free { IfOk result (λ n. self.old.free ≤ self.new.free + n) }
         ensures most { IfOk result (λ n. n < length octets.now → self.new.free ≡ 0) }
     {

@@ -1,0 +1,9 @@
+pub mod CommandLemmas
+pub mod Computed
+pub mod OctetLemmas
+pub mod CommaLemmas
+pub mod LineLemmas
+pub mod ReaderLemmas
+pub mod WindowLemmas
+pub mod WholeLemmas
+pub mod PlacingLemmas

@@ -1,0 +1,5 @@
+use Rattle.at_text.proofs.LineLemmas.{reads_on}
+use Rattle.at_text.proofs.laws.reading_on.Goals as goal
+
+pub returns : goal.returns
+returns c = reads_on

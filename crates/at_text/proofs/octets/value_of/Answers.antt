@@ -1,0 +1,13 @@
+use Rattle.std.proofs.Common.{◌<◌, arith, length}
+use Rattle.at_text.proofs.OctetLemmas.{below_nine}
+use Rattle.at_text.proofs.octets.value_of.Goals as goal
+
+pub overflow_mul-value : goal.overflow_mul-value
+overflow_mul-value c =
+    let room : c.loop-digit.value < 100000000 = below_nine c.loop-digit.digit-index (length c.args.digits.now) c.loop-digit.value c.loop-digit.invariant.1 (omega arith) (omega arith) in
+    omega arith
+
+pub overflow_add-value : goal.overflow_add-value
+overflow_add-value c =
+    let room : c.loop-digit.value < 100000000 = below_nine c.loop-digit.digit-index (length c.args.digits.now) c.loop-digit.value c.loop-digit.invariant.1 (omega arith) (omega arith) in
+    omega arith

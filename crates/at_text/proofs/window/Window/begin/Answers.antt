@@ -1,0 +1,8 @@
+use Rattle.std.specs.Prelude.{Some}
+use Rattle.std.proofs.Common.{ap}
+use Rattle.at_text.specs.OpenWindow.{OpenWindow}
+use Rattle.at_text.proofs.WindowLemmas.{begins}
+use Rattle.at_text.proofs.window.Window.begin.Goals as goal
+
+pub returns-clause-past : goal.returns-clause-past
+returns-clause-past c = λ past fits. begins c.args.self.now (Some c.begun.result) past c.args.line.now fits c.requires (ap (λ (o : OpenWindow). Some o) c.begun.ensures)

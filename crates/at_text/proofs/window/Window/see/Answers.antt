@@ -1,0 +1,5 @@
+use Rattle.at_text.proofs.WindowLemmas.{sees}
+use Rattle.at_text.proofs.window.Window.see.Goals as goal
+
+pub returns-clause-past : goal.returns-clause-past
+returns-clause-past c = λ past fits. sees c.args.self.now c.place.new.self past c.args.line.now c.in_ok-seen.seen fits c.in_ok-seen.ensures.seen c.in_ok-seen.ensures.after

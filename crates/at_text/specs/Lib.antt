@@ -1,0 +1,12 @@
+pub mod Octets
+pub mod Lines
+pub mod Reading
+pub mod Finals
+pub mod Unsolicited
+pub mod Commands
+pub mod Windows
+pub mod Seeing
+pub mod OpenWindow
+pub mod Whole
+pub mod Placing
+pub mod Rows

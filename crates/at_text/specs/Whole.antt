@@ -1,0 +1,59 @@
+-- What lines are over all that is placed on a connection.
+use Rattle.std.specs.Prelude.{◌≡◌, ℕ, Bool, true, false, List, ◌+◌, ◌≤◌, length, take, map, filter, filter_map, Option, Some, None, option_map, if◌then◌else◌}
+use Rattle.std.specs.List.{zip, flat_map}
+use Rattle.at_text.specs.declared.answer.AnswerLine.{AnswerLine}
+use Rattle.at_text.specs.declared.window.Seen.{Seen}
+use Rattle.at_text.specs.declared.window.Seen.TheVariants.{Echo, Kept, Done}
+use Rattle.at_text.specs.declared.unsolicited.UrcKind.{UrcKind}
+use Rattle.at_text.specs.declared.unsolicited.UrcKind.TheVariants.{Other as Uncalled}
+use Rattle.at_text.specs.Unsolicited.{unsolicited_of}
+use Rattle.at_text.specs.Windows.{Mark, lines_of, has_final, windows, answers, answered}
+use Rattle.at_text.specs.Seeing.{answer_lines, seen_in, kind_of}
+
+-- a line is part of an answer
+abbrev pub is_part : Seen → Bool
+is_part Kept = true
+is_part (Done lines) = true
+is_part _ = false
+
+-- the lines that are part of an answer, by what each is at its place
+abbrev pub parts : List (List ℕ) → List Seen → List (List ℕ)
+parts ls seen = filter_map (λ p. if is_part p.1 then Some p.0 else None) (zip ls seen)
+
+-- an answer that is given whole
+abbrev pub given : Seen → Option (List AnswerLine)
+given (Done lines) = Some lines
+given _ = None
+
+-- a line is an echo
+abbrev pub is_repeat : Seen → Bool
+is_repeat Echo = true
+is_repeat _ = false
+
+-- the lines that are announced, each as its kind
+abbrev pub announced : List (List ℕ) → List Seen → List (UrcKind × List ℕ)
+announced ls seen = filter_map (λ p. option_map (λ kind. (kind, p.0)) (kind_of p.1)) (zip ls seen)
+
+-- the lines that are unsolicited, each with its kind
+abbrev pub unsolicited_in : List (List ℕ) → List (UrcKind × List ℕ)
+unsolicited_in ls = filter_map (λ l. option_map (λ kind. (kind, l)) (unsolicited_of l)) ls
+
+-- it is of a kind other than Other
+abbrev pub is_of_kind : UrcKind × List ℕ → Bool
+is_of_kind (Uncalled, l) = false
+is_of_kind (kind, l) = true
+
+-- where each command begins with no window open, no line is lost or counted twice
+pub record NoneLost (ms : List Mark) : Type 0 where
+  -- each line is seen once, as part of an answer, as an echo, or announced
+  pub each : length (seen_in ms) ≡ length (lines_of ms)
+  pub once : length (lines_of ms) ≡ length (parts (lines_of ms) (seen_in ms)) + (length (filter is_repeat (seen_in ms)) + length (announced (lines_of ms) (seen_in ms)))
+  -- the parts are the lines of all answers, in order
+  pub joined : parts (lines_of ms) (seen_in ms) ≡ flat_map (λ ls. ls) (answers ms)
+  -- the answers given whole are those with their final code, in order: those of the first commands
+  pub whole : filter_map given (seen_in ms) ≡ map answer_lines (filter has_final (answers ms))
+  pub in_order : filter has_final (answers ms) ≡ take (answered ms) (answers ms)
+  -- each command has one echo at most
+  pub echoes : length (filter is_repeat (seen_in ms)) ≤ length (windows ms)
+  -- what is announced as a kind other than Other are the unsolicited lines, in order
+  pub of_kinds : filter is_of_kind (announced (lines_of ms) (seen_in ms)) ≡ unsolicited_in (lines_of ms)

@@ -1,0 +1,36 @@
+//! Laws of the definitions, as contracts of functions that do nothing.
+ghost use Rattle.std.specs.Prelude.{ℕ, List};
+ghost use Rattle.at_text.specs.Lines.{ReadsOn};
+ghost use Rattle.at_text.specs.Windows.{Mark, IsInTurn};
+ghost use Rattle.at_text.specs.Placing.{Part, PlacesLines};
+ghost use Rattle.at_text.specs.Whole.{NoneLost};
+ghost use Rattle.at_text.specs.Rows.{AreLines, AreFinals, AreReports, RingInside, CregBoth, CgregBoth, EarlyOk, EchoOnce, TwoCommands};
+
+/// Worked examples of lines, final codes, unsolicited kinds and windows, computed by the definitions.
+#[tactic(auto, using(crate::proofs::Computed::are_lines, crate::proofs::Computed::are_finals, crate::proofs::Computed::are_reports, crate::proofs::Computed::ring_inside, crate::proofs::Computed::creg_both, crate::proofs::Computed::cgreg_both, crate::proofs::Computed::early_ok, crate::proofs::Computed::echo_once, crate::proofs::Computed::two_commands))]
+pub fn worked_examples()
+    ensures lines { AreLines }
+    ensures finals { AreFinals }
+    ensures reports { AreReports }
+    ensures ring_inside { RingInside }
+    ensures creg_both { CregBoth }
+    ensures cgreg_both { CgregBoth }
+    ensures early_ok { EarlyOk }
+    ensures echo_once { EchoOnce }
+    ensures two_commands { TwoCommands }
+{}
+
+/// Lines are read on from what is kept of an unfinished line, however a text is cut.
+pub fn reading_on()
+    ensures { (x y : List ℕ) → ReadsOn x y }
+{}
+
+/// Where each command begins with no window open, no line is lost or counted twice.
+pub fn windows()
+    ensures { (marks : List Mark) → IsInTurn marks → NoneLost marks }
+{}
+
+/// The lines that are placed are those of all octets, and where octets are cut changes no line's place.
+pub fn placing()
+    ensures { (parts : List Part) → PlacesLines parts }
+{}

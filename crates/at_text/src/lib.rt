@@ -1,0 +1,24 @@
+//! AT commands as text: command lines, lines, final codes, unsolicited kinds and windows (ITU-T V.250, clause 5; 3GPP TS 27.007, clause 9).
+#![tactic(auto)]
+
+mod answer;
+mod command;
+mod error;
+mod finals;
+pub mod laws;
+mod octets;
+mod reader;
+#[cfg(test)]
+mod tests;
+mod text;
+mod unsolicited;
+mod window;
+
+pub use answer::{AnswerLine, AnswerLines};
+pub use command::CommandLine;
+pub use error::TextError;
+pub use finals::{Final, final_of};
+pub use reader::{Line, LineReader};
+pub use text::Text;
+pub use unsolicited::{UrcKind, unsolicited_of};
+pub use window::{Seen, Window};

@@ -1,0 +1,120 @@
+//! Lines of a connection, as their octets come.
+ghost use Rattle.std.specs.Prelude.{◌≡◌, ℕ, List, [], ◌∷◌, ◌++◌, if◌then◌else◌};
+ghost use Rattle.std.specs.Borrow.{sem};
+ghost use Rattle.std.specs.Io.BufRead.{Rests};
+ghost use Rattle.at_text.specs.Lines.{is_line_end, lines, cut};
+ghost use Rattle.at_text.specs.Reading.{HasRead, line_in, lines_in};
+
+use arrayvec::ArrayVec;
+use std::marker::Model;
+
+/// How many octets of a line are kept.
+const LINE_LEN: usize = 512;
+
+/// A line without its line end, cut to its first 512 octets (V.250, 5.7).
+#[derive(Clone, Copy, Debug, PartialEq, Eq)]
+pub struct Line<'a> {
+    pub text: &'a [u8],
+}
+
+/// Reads lines, octet by octet. Contracts see what it keeps of the line that hasn't ended yet.
+#[derive(Drop, Debug)]
+pub struct LineReader {
+    run: ArrayVec<u8, LINE_LEN>,
+    // the run is a line that ended: it goes with the next octet
+    has_ended: bool,
+}
+
+impl Model for LineReader {
+    ghost use Rattle.std.specs.Prelude.{◌≡◌, ℕ, List, [], false, if◌then◌else◌};
+    ghost use Rattle.std.specs.List.{list_any};
+    ghost use Rattle.at_text.specs.Lines.{is_line_end};
+
+    ghost Value = { List ℕ };
+
+    ghost view = { λ r. if r.has_ended then [] else r.run.items };
+
+    ghost invariant = { λ r. list_any is_line_end r.run.items ≡ false };
+}
+
+impl LineReader {
+    ghost use Rattle.at_text.specs.contracts.reader.LineReader.{the_row};
+
+    /// Nothing has been read.
+    pub fn new() -> LineReader
+        ensures { HasRead result [] }
+    {
+        LineReader {
+            run: ArrayVec::new(),
+            has_ended: false,
+        }
+    }
+
+    /// Reads an octet, and lends the line that it ends, until the next call.
+    pub fn push(&mut self, octet: u8) -> Option<Line<'_>>
+        ensures line { lines_in result ≡ lines (self.old ++ octet ∷ []) }
+        ensures past { (octets : List ℕ) → HasRead self.old octets → lines (octets ++ octet ∷ []) ≡ lines octets ++ lines_in result }
+        ensures* after { sem 𝓛 (Rests the_row self.entry (λ new. HasRead new (self.old ++ octet ∷ []))) }
+    {
+        drop_ended(&mut self.run, self.has_ended);
+        self.has_ended = read_octet(&mut self.run, octet);
+        ended_line(&self.run, self.has_ended)
+    }
+
+    /// Forgets the line that hasn't ended yet.
+    pub fn reset(&mut self)
+        ensures { HasRead self.new [] }
+    {
+        self.run.clear();
+        self.has_ended = false;
+    }
+
+    /// A reader that has read the same.
+    pub fn copy(&self) -> LineReader
+        ensures { result ≡ self.now }
+    {
+        let mut run = ArrayVec::new();
+        let _ = run.try_extend_from_slice(self.run.as_slice());
+        LineReader {
+            run,
+            has_ended: self.has_ended,
+        }
+    }
+}
+
+/// A line that ended makes room for the next one.
+fn drop_ended(run: &mut ArrayVec<u8, LINE_LEN>, has_ended: bool)
+    ensures { run.new.items ≡ (if has_ended then [] else run.old.items) }
+{
+    if has_ended {
+        run.clear();
+    }
+}
+
+#[tactic(auto, using(crate::proofs::ReaderLemmas::cut_room, crate::proofs::ReaderLemmas::cut_full))]
+/// Reads one more octet of a line, and says whether it ends the line. What doesn't fit is cut off.
+fn read_octet(run: &mut ArrayVec<u8, LINE_LEN>, octet: u8) -> bool
+    ensures ends { result ≡ is_line_end octet }
+    ensures run { run.new.items ≡ (if is_line_end octet then run.old.items else cut (run.old.items ++ octet ∷ [])) }
+{
+    if octet == b'\r' || octet == b'\n' {
+        return true;
+    }
+    if !run.is_full() {
+        run.push(octet);
+    }
+    false
+}
+
+#[tactic(auto, using(crate::proofs::ReaderLemmas::cut_fits))]
+fn ended_line(run: &ArrayVec<u8, LINE_LEN>, has_ended: bool) -> Option<Line<'_>>
+    ensures { lines_in result ≡ line_in run.now.items has_ended }
+{
+    if has_ended && !run.is_empty() {
+        Some(Line {
+            text: run.as_slice(),
+        })
+    } else {
+        None
+    }
+}

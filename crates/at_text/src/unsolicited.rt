@@ -1,0 +1,72 @@
+//! Unsolicited lines.
+ghost use Rattle.std.specs.Prelude.{◌≡◌, option_map};
+ghost use Rattle.at_text.specs.Octets.{after_comma};
+ghost use Rattle.at_text.specs.Unsolicited.{unsolicited_of, is_report, is_without_second};
+
+use crate::octets::skip_blanks;
+use memchr::memchr;
+
+/// The kinds of line that no command asked for, and Other for a line of no kind that belongs to no answer.
+#[derive(Clone, Copy, PartialEq, Eq, Debug)]
+pub enum UrcKind {
+    /// `RING` (V.250, 6.3).
+    Ring,
+    /// `+CRING:` (27.007, 6.11).
+    Cring,
+    /// `+CREG:` (27.007, 7.2).
+    Creg,
+    /// `+CGREG:` (27.007, 10.1.20).
+    Cgreg,
+    /// `+CGEV:` (27.007, 10.1.19).
+    Cgev,
+    /// `+CIEV:` (27.007, 8.10).
+    Ciev,
+    /// A line of none of these kinds, outside of every window.
+    Other,
+}
+
+/// The kind of a line that no command asked for, also inside a window. It is never Other.
+pub fn unsolicited_of(line: &[u8]) -> Option<UrcKind>
+    ensures { result ≡ unsolicited_of line.now }
+{
+    match line {
+        b"RING" => Some(UrcKind::Ring),
+        _ if line.starts_with(b"+CRING:") => Some(UrcKind::Cring),
+        _ if is_report(b"+CREG:", line) => Some(UrcKind::Creg),
+        _ if is_report(b"+CGREG:", line) => Some(UrcKind::Cgreg),
+        _ if line.starts_with(b"+CGEV:") => Some(UrcKind::Cgev),
+        _ if line.starts_with(b"+CIEV:") => Some(UrcKind::Ciev),
+        _ => None,
+    }
+}
+
+/// The line has this name, any blanks and a digit, and no second number, with which it would answer a query.
+fn is_report(name: &[u8], line: &[u8]) -> bool
+    ensures { result ≡ is_report name.now line.now }
+{
+    if !line.starts_with(name) {
+        return false;
+    }
+    match skip_blanks(&line[name.len()..]) {
+        [b'0'..=b'9', ..] => is_without_second(line),
+        _ => false,
+    }
+}
+
+fn is_without_second(line: &[u8]) -> bool
+    ensures { result ≡ is_without_second line.now }
+{
+    match behind_comma(line) {
+        Some(rest) => matches!(skip_blanks(rest), [b'"', ..]),
+        None => true,
+    }
+}
+
+#[tactic(auto, using(crate::proofs::CommaLemmas::behind_none, crate::proofs::CommaLemmas::behind_some))]
+/// What follows the first comma.
+fn behind_comma(line: &[u8]) -> Option<&[u8]>
+    ensures { option_map (λ rest. rest.now) result ≡ after_comma line.now }
+{
+    let comma = memchr(b',', line)?;
+    Some(&line[comma + 1..])
+}

@@ -1,0 +1,193 @@
+//! Windows: which lines answer a command, by their place (V.250, 5.2.3 and 5.7.1).
+ghost use Rattle.std.specs.Prelude.{◌≡◌, List, [], ◌∷◌, ◌++◌, ◌↔◌, IsTrue, IsNone, IfOk, IfErr, OnOk, OnErr};
+ghost use Rattle.at_text.specs.Windows.{Mark, Begun};
+ghost use Rattle.at_text.specs.OpenWindow.{opened, FitsMarks, Sees, is_echo, with_line, seen_by, after_line};
+
+use crate::answer::{AnswerLine, AnswerLines};
+use crate::command::{COMMAND_LEN, CommandLine};
+use crate::error::TextError;
+use crate::finals::final_of;
+use crate::text::Text;
+use crate::unsolicited::{UrcKind, unsolicited_of};
+use arrayvec::ArrayVec;
+use std::alloc::{AllocError, Global};
+use std::marker::Model;
+
+/// What a line is, where its end stands.
+#[derive(Drop, Debug, PartialEq, Eq)]
+pub enum Seen {
+    /// The echo of the command.
+    Echo,
+    /// A line of the answer, which goes on.
+    Kept,
+    /// The final code: the answer is whole, and this is all of it.
+    Done(AnswerLines),
+    /// A line that no command asked for, of this kind.
+    Unsolicited(UrcKind),
+    /// A line of no kind, outside of every window.
+    Other,
+}
+
+/// A command whose answer isn't whole.
+#[derive(Drop, Debug)]
+struct Open {
+    command: ArrayVec<u8, COMMAND_LEN>,
+    lines: AnswerLines,
+    fresh: bool,
+}
+
+impl Model for Open {
+    ghost use Rattle.at_text.specs.OpenWindow.{OpenWindow};
+
+    ghost Value = { OpenWindow };
+
+    ghost view = { λ o. record { command = o.command.items; lines = o.lines; fresh = o.fresh } };
+}
+
+impl Open {
+    fn begun(alloc: Global, line: &CommandLine) -> Open
+        ensures { result ≡ opened line.now }
+    {
+        let mut command = ArrayVec::new();
+        let _ = command.try_extend_from_slice(line.text());
+        Open {
+            command,
+            lines: AnswerLines::from(Vec::new(alloc)),
+            fresh: true,
+        }
+    }
+
+    fn is_echo(&self, line: &[u8]) -> bool
+        ensures { result ≡ is_echo self.now line.now }
+    {
+        self.fresh && line == self.command.as_slice()
+    }
+
+    fn keep(&mut self, alloc: Global, line: &[u8]) -> Result<(), AllocError>
+        ensures ok { OnOk result (self.new ≡ with_line self.old line.now) }
+        ensures err { OnErr result (self.new ≡ self.old) }
+    {
+        let octets = Vec::from_slice(alloc, line)?;
+        self.lines.push(AnswerLine {
+            text: Text::from(octets),
+        })?;
+        self.fresh = false;
+        Ok(())
+    }
+
+    fn copy(&self) -> Result<Open, AllocError>
+        ensures { IfOk result (λ copy. copy ≡ self.now) }
+    {
+        let lines = self.lines.copy()?;
+        let mut command = ArrayVec::new();
+        let _ = command.try_extend_from_slice(self.command.as_slice());
+        Ok(Open {
+            command,
+            lines,
+            fresh: self.fresh,
+        })
+    }
+}
+
+/// Tells which lines answer the command under way. Contracts see that command, if there is one.
+#[derive(Drop, Debug)]
+pub struct Window {
+    open: Option<Open>,
+    alloc: Global,
+}
+
+impl Model for Window {
+    ghost use Rattle.std.specs.Prelude.{Option};
+    ghost use Rattle.at_text.specs.OpenWindow.{OpenWindow};
+
+    ghost Value = { Option OpenWindow };
+
+    ghost view = { λ w. w.open };
+}
+
+#[tactic(auto, using(crate::proofs::WindowLemmas::fits_nothing))]
+impl Window {
+    /// No command is under way.
+    pub fn new(alloc: Global) -> Window
+        ensures none { result ≡ None }
+        ensures past { FitsMarks result [] }
+    {
+        Window { open: None, alloc }
+    }
+
+    /// Whether no command is under way.
+    pub fn idle(&self) -> bool
+        ensures { IsTrue result ↔ IsNone self.now }
+    {
+        self.open.is_none()
+    }
+
+    /// The command has wholly been sent: its window begins. Condition: `idle()`.
+    pub fn begin(&mut self, line: &CommandLine)
+        requires { IsNone self.old }
+        ensures opens { self.new ≡ Some (opened line.now) }
+        ensures past { (past : List Mark) → FitsMarks self.old past → FitsMarks self.new (past ++ Begun line.now ∷ []) }
+    {
+        self.open = Some(Open::begun(self.alloc, line));
+    }
+
+    /// Forgets the command and what came of its answer.
+    pub fn drop_command(&mut self)
+        ensures none { self.new ≡ None }
+        ensures past { FitsMarks self.new [] }
+    {
+        self.open = None;
+    }
+
+    /// Says what the next line is, where it ends. 4 NoMemory leaves the window as it was, so that the same line can be shown again.
+    pub fn see(&mut self, line: &[u8]) -> Result<Seen, TextError>
+        ensures seen { IfOk result (λ seen. seen ≡ seen_by self.old line.now) }
+        ensures after { OnOk result (self.new ≡ after_line self.old line.now) }
+        ensures past { IfOk result (λ seen. (past : List Mark) → FitsMarks self.old past → Sees past line.now seen self.new) }
+        ensures refused { IfErr result (λ why. why ≡ TextError.NoMemory) }
+        ensures err { OnErr result (self.new ≡ self.old) }
+    {
+        let seen = self.place(line)?;
+        Ok(seen)
+    }
+
+    /// A window that fits the same past. 4 NoMemory.
+    pub fn copy(&self) -> Result<Window, TextError>
+        ensures copy { IfOk result (λ copy. copy ≡ self.now) }
+        ensures refused { IfErr result (λ why. why ≡ TextError.NoMemory) }
+    {
+        let open = match &self.open {
+            Some(open) => Some(open.copy()?),
+            None => None,
+        };
+        Ok(Window {
+            open,
+            alloc: self.alloc,
+        })
+    }
+
+    fn place(&mut self, line: &[u8]) -> Result<Seen, AllocError>
+        ensures seen { IfOk result (λ seen. seen ≡ seen_by self.old line.now) }
+        ensures after { OnOk result (self.new ≡ after_line self.old line.now) }
+        ensures err { OnErr result (self.new ≡ self.old) }
+    {
+        if let Some(kind) = unsolicited_of(line) {
+            return Ok(Seen::Unsolicited(kind));
+        }
+        let Some(open) = &mut self.open else {
+            return Ok(Seen::Other);
+        };
+        if open.is_echo(line) {
+            open.fresh = false;
+            return Ok(Seen::Echo);
+        }
+        open.keep(self.alloc, line)?;
+        if final_of(line).is_none() {
+            return Ok(Seen::Kept);
+        }
+        match self.open.take() {
+            Some(open) => Ok(Seen::Done(open.lines)),
+            None => unreachable!(),
+        }
+    }
+}

@@ -1,0 +1,21 @@
+use Rattle.std.proofs.Common.{◌∙◌, ap, sym, ◌++◌, [], ◌∷◌, subst, List, length, ◌+◌}
+use Rattle.std.proofs.lemmas.List.{length_push, replicate_more}
+use Rattle.modem_desk.specs.Ends.{CallerView, DeskId, Dealt}
+use Rattle.modem_desk.proofs.Places.{dealt_more}
+use Rattle.modem_desk.proofs.desk.enrol_all.Goals as goal
+
+pub loop-preserved : goal.loop-preserved
+loop-preserved c =
+    let i = c.loop.invariant in
+    let e = c.in_ok-caller.ensures in
+    record {
+      callers = ap (λ (d : DeskId). length d.rings) e.desk ∙ length_push c.loop.driver.desk.rings c.in_ok-caller.caller.place.ring ∙ ap (λ n. n + 1) i.callers;
+      kinds = ap (λ (d : DeskId). d.kinds) e.desk ∙ i.kinds;
+      ears = ap (λ (d : DeskId). d.ears) e.desk ∙ i.ears;
+      taken = e.driver.0 ∙ i.taken;
+      told = e.driver.1 ∙ ap (λ l. l ++ [] ∷ []) i.told ∙ replicate_more _ _;
+      announced = e.driver.2 ∙ i.announced;
+      length = ap (length {A = CallerView}) c.in_ok-push.ensures.items ∙ length_push c.loop.all.items c.in_ok-caller.caller ∙ ap (λ n. n + 1) i.length;
+      dealt = subst (λ (l : List CallerView). Dealt c.enrol.new.self.desk c.args.first l) (sym c.in_ok-push.ensures.items)
+          (dealt_more c.loop.driver.desk _ _ _ _ i.dealt e.desk (i.callers ∙ sym i.length) e.caller.0 (e.caller.1 ∙ i.callers ∙ sym i.length) e.caller.2 e.caller.3);
+    }

@@ -1,0 +1,16 @@
+use Rattle.std.proofs.Common.{◌≡◌, [], length, take, replicate}
+use Rattle.modem_desk.specs.Ends.{Seated}
+use Rattle.modem_desk.proofs.desk.seat_all.Given as goal
+
+abbrev pub invariant-loop-kind : goal.invariant-loop-kind
+invariant-loop-kind l = record {
+  queue : l.driver.desk.queue ≡ l.initial.driver.desk.queue;
+  rings : l.driver.desk.rings ≡ l.initial.driver.desk.rings;
+  kinds : l.driver.desk.kinds ≡ take l.kind-index l.kinds;
+  ears : length l.driver.desk.ears ≡ l.kind-index;
+  taken : l.driver.taken ≡ l.initial.driver.taken;
+  told : l.driver.told ≡ l.initial.driver.told;
+  announced : l.driver.announced ≡ replicate l.kind-index [];
+  length : length l.all.items ≡ l.kind-index;
+  seated : Seated l.driver.desk l.all.items;
+}

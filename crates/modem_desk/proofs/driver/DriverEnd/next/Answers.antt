@@ -1,0 +1,6 @@
+use Rattle.std.proofs.Common.{rules}
+use Rattle.modem_desk.proofs.Rules.{takes}
+use Rattle.modem_desk.proofs.driver.DriverEnd.next.Goals as goal
+
+pub pop_as-requires-clause-rule : goal.pop_as-requires-clause-rule
+pop_as-requires-clause-rule g c = (takes _ _ (search rules) (search rules), λ items views h at. tt)

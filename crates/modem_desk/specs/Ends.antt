@@ -1,0 +1,145 @@
+-- What contracts see of a caller, of a listener and of the driver's end, and the desk books.
+use Rattle.std.specs.Prelude.{◌≡◌, ◌≢◌, ℕ, zero, suc, ◌+◌, ◌∷◌, map, ◌<◌, ◌≤◌, ◌++◌, List, [], length, slice_index_or, replicate, Contains}
+use mathlib.Core.Option.{some}
+use lib.ListN.{get_elem?}
+use denote.RawPtr.{Ptr}
+use Rattle.atomic_table.specs.Seated.{TableId}
+use Rattle.rtrb.specs.Shared.{Names}
+use Rattle.rtrb.specs.declared.producer.Producer.{Producer}
+use Rattle.rtrb.specs.declared.consumer.Consumer.{Consumer}
+use Rattle.std.specs.declared.alloc.Global.{Global}
+use Rattle.at_text.specs.declared.unsolicited.UrcKind.{UrcKind}
+use Rattle.modem_desk.specs.declared.request.Request.{Request}
+use Rattle.modem_desk.specs.declared.request.Outcome.{Outcome}
+use Rattle.modem_desk.specs.declared.request.Urc.{Urc}
+
+-- which ring an end is of
+pub record RingId : Type 0 where
+  pub words : Ptr
+  pub slots : Ptr
+  pub names : Names
+  pub heap : Global
+
+module _ {T P : Type 0} where
+  abbrev pub ring_of_producer : Producer T Global P → RingId
+  ring_of_producer p = record { words = p.end.words; slots = p.end.slots; names = p.end.names; heap = p.end.heap }
+
+  abbrev pub ring_of_consumer : Consumer T Global P → RingId
+  ring_of_consumer c = record { words = c.end.words; slots = c.end.slots; names = c.end.names; heap = c.end.heap }
+
+-- a caller's place at a desk: its number, the ring of its outcomes, the number of its first request
+pub record Place : Type 0 where
+  pub queue : TableId
+  pub number : ℕ
+  pub ring : RingId
+  pub first : ℕ
+
+-- a caller: what it submitted, the outcomes that it took, and its count of untaken ones
+pub record CallerView : Type 0 where
+  pub place : Place
+  pub submitted : List Request
+  pub got : List Outcome
+  pub untaken : ℕ
+
+-- a listener's place at a desk: which of its listeners it is, its kind, the ring of its lines
+pub record Ear : Type 0 where
+  pub place : ℕ
+  pub kind : UrcKind
+  pub ring : RingId
+
+-- a listener: the lines that it took
+pub record ListenerView : Type 0 where
+  pub ear : Ear
+  pub heard : List Urc
+
+-- which desk: its queue, a ring for each caller, and for each listener its kind and its ring
+pub record DeskId : Type 0 where
+  pub queue : TableId
+  pub rings : List RingId
+  pub kinds : List UrcKind
+  pub ears : List RingId
+
+-- the driver's end: what it took, what it told each caller, and what it announced to each listener
+pub record DriverView : Type 0 where
+  pub desk : DeskId
+  pub taken : List Request
+  pub told : List (List Outcome)
+  pub announced : List (List Urc)
+
+-- n numbers, one after the other
+abbrev pub count_from : ℕ → ℕ → List ℕ
+count_from first zero = []
+count_from first (suc n) = count_from first n ++ (first + n) ∷ []
+
+-- its requests are numbered one after the other from its first number
+abbrev pub IsNumbered : ℕ → List Request → Type 0
+IsNumbered first rs = map (λ r. r.number) rs ≡ count_from first (length rs)
+
+abbrev pub place_of : CallerView → Place
+place_of c = c.place
+
+abbrev pub ear_of : ListenerView → Ear
+ear_of l = l.ear
+
+-- a caller that has done nothing yet
+abbrev pub IsFresh : CallerView → Type 0
+IsFresh c = (c.submitted ≡ []) × (c.got ≡ []) × (c.untaken ≡ 0)
+
+-- no kind stands in the list twice
+abbrev pub EachOnce : List UrcKind → Type 0
+EachOnce [] = Unit {0}
+EachOnce (k ∷ ks) = (¬ Contains ks k) × EachOnce ks
+
+-- the place is one at the desk
+abbrev pub IsAt : DeskId → Place → Type 0
+IsAt d p = (p.queue ≡ d.queue) × (get_elem? d.rings p.number ≡ some p.ring)
+
+-- the listener's place is one at the desk
+abbrev pub IsEarAt : DeskId → Ear → Type 0
+IsEarAt d e = (get_elem? d.kinds e.place ≡ some e.kind) × (get_elem? d.ears e.place ≡ some e.ring)
+
+-- of lists by place, that at n has the element more, and every other is the same
+pub record Appends {A : Type 0} (n : ℕ) (x : A) (old new : List (List A)) : Type 0 where
+  pub here : slice_index_or new n [] ≡ slice_index_or old n [] ++ x ∷ []
+  pub others : (k : ℕ) → k ≢ n → slice_index_or new k [] ≡ slice_index_or old k []
+
+-- of what was announced to each listener, that of the line's kind has the line more, and every other is the same
+pub record Announces (kinds : List UrcKind) (line : Urc) (old new : List (List Urc)) : Type 0 where
+  pub here : (k : ℕ) → get_elem? kinds k ≡ some line.kind → slice_index_or new k [] ≡ slice_index_or old k [] ++ line ∷ []
+  pub others : (k : ℕ) → (get_elem? kinds k ≡ some line.kind → ⊥) → slice_index_or new k [] ≡ slice_index_or old k []
+
+-- P of each element and its index
+abbrev pub Each : {A : Type 0} → (ℕ → A → Type 0) → List A → Type 0
+Each {A} P xs = (i : ℕ) (a : A) → get_elem? xs i ≡ some a → P i a
+
+-- the i-th caller has the number i and its place at the desk, begins with this first number, and has done nothing yet
+abbrev pub Dealt : DeskId → ℕ → List CallerView → Type 0
+Dealt d first = Each (λ i c. IsAt d c.place × (c.place.number ≡ i) × (c.place.first ≡ first) × IsFresh c)
+
+-- the i-th listener has the i-th place of the desk, and has taken nothing yet
+abbrev pub Seated : DeskId → List ListenerView → Type 0
+Seated d = Each (λ i l. IsEarAt d l.ear × (l.ear.place ≡ i) × (l.heard ≡ []))
+
+-- a desk may be opened with so many callers, these kinds and this first number
+abbrev pub CanOpen : ℕ → List UrcKind → ℕ → Type 0
+CanOpen callers kinds first = (1 ≤ callers) × (callers ≤ 8) × (1 ≤ first) × EachOnce kinds
+
+-- the places are all at this desk, and each number that it gave out is that of one of them
+abbrev pub IsWhole : DeskId → List Place → Type 0
+IsWhole d ps = Each (λ _ p. IsAt d p) ps × ((k : ℕ) → k < length d.rings → (i : ℕ) × (p : Place) × (get_elem? ps i ≡ some p) × (p.number ≡ k))
+
+-- the listeners' places are all at this desk
+abbrev pub AreEars : DeskId → List Ear → Type 0
+AreEars d = Each (λ _ e. IsEarAt d e)
+
+-- a desk as it is opened: so many callers with this first number, a listener for each of these kinds, and nothing done yet
+pub record Opened (count : ℕ) (listened : List UrcKind) (first : ℕ) (d : DriverView) (cs : List CallerView) (ls : List ListenerView) : Type 0 where
+  pub rings : length d.desk.rings ≡ count
+  pub kinds : d.desk.kinds ≡ listened
+  pub taken : d.taken ≡ []
+  pub told : d.told ≡ replicate count []
+  pub announced : d.announced ≡ replicate (length listened) []
+  pub callers : (length cs ≡ count) × Dealt d.desk first cs
+  pub listeners : (length ls ≡ length listened) × Seated d.desk ls
+  pub whole : IsWhole d.desk (map place_of cs)
+  pub ears : AreEars d.desk (map ear_of ls)

@@ -1,0 +1,4 @@
+pub mod Rule
+pub mod Ends
+pub mod Books
+pub mod Settling

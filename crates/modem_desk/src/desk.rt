@@ -1,0 +1,131 @@
+//! How a desk is opened.
+ghost use Rattle.std.specs.Prelude.{◌≡◌, ◌↔◌, ◌+◌, ◌≤◌, ◌<◌, ◌^◌, [], ◌∷◌, ◌++◌, length, map, replicate, IfOk, IfErr, IsTrue, Contains};
+ghost use Rattle.modem_desk.specs.Ends.{Opened, Dealt, Seated, EachOnce, CanOpen};
+ghost use Rattle.modem_desk.specs.declared.error.DeskError.TheVariants.{BadCount};
+
+use crate::caller::{Caller, QUEUED, Queue};
+use crate::driver::DriverEnd;
+use crate::error::DeskError;
+use crate::listener::Listener;
+use at_text::UrcKind;
+use std::alloc::{AllocError, Global};
+use std::sync::Arc;
+
+// How many callers a desk may have.
+const CALLERS: u8 = 8;
+
+/// Where callers, listeners and the driver meet. It is open as long as its ends are.
+pub struct Desk;
+
+impl Desk {
+    /// A desk for so many callers, with a listener for each of these kinds, in their order. Each caller's first request has the number 1.
+    ///
+    /// Refused with BadCount where callers aren't 1 to 8 or a kind is given twice.
+    pub fn open(
+        alloc: Global,
+        callers: u8,
+        kinds: &[UrcKind],
+    ) -> Result<(DriverEnd, Vec<Caller>, Vec<Listener>), DeskError>
+        ensures allowed { IfOk result (λ r. CanOpen callers kinds.now 1) }
+        ensures bad_count { IfErr result (λ e. (e ≡ BadCount) ↔ ¬ CanOpen callers kinds.now 1) }
+        ensures opened { IfOk result (λ r. Opened callers kinds.now 1 r.0 r.1.items r.2.items) }
+    {
+        Desk::open_from(alloc, callers, kinds, 1)
+    }
+
+    /// The same, but that each caller's first request has the number `first`.
+    ///
+    /// Refused with BadCount for a `first` of 0 too.
+    pub fn open_from(
+        alloc: Global,
+        callers: u8,
+        kinds: &[UrcKind],
+        first: u64,
+    ) -> Result<(DriverEnd, Vec<Caller>, Vec<Listener>), DeskError>
+        ensures allowed { IfOk result (λ r. CanOpen callers kinds.now first) }
+        ensures bad_count { IfErr result (λ e. (e ≡ BadCount) ↔ ¬ CanOpen callers kinds.now first) }
+        ensures opened { IfOk result (λ r. Opened callers kinds.now first r.0 r.1.items r.2.items) }
+    {
+        if callers == 0 || callers > CALLERS || first == 0 || !are_each_once(kinds) {
+            return Err(DeskError::BadCount);
+        }
+        let mut driver = vacant(alloc)?;
+        let all = enrol_all(alloc, &mut driver, callers, first)?;
+        let listeners = seat_all(alloc, &mut driver, kinds)?;
+        Ok((driver, all, listeners))
+    }
+}
+
+// Whether no kind stands there twice.
+fn are_each_once(kinds: &[UrcKind]) -> bool
+    ensures { IsTrue result ↔ EachOnce kinds.now }
+{
+    match kinds {
+        [] => true,
+        [first, rest @ ..] => !rest.contains(first) && are_each_once(rest),
+    }
+}
+
+// A desk with nobody at it yet.
+fn vacant(alloc: Global) -> Result<DriverEnd, AllocError>
+    ensures { IfOk result (λ d. (d.desk.rings ≡ []) × (d.desk.kinds ≡ []) × (d.desk.ears ≡ [])
+        × (d.taken ≡ []) × (d.told ≡ []) × (d.announced ≡ [])) }
+{
+    let (queue, pass) = Queue::ruled(alloc, QUEUED)?;
+    let queue = Arc::new(alloc, queue)?;
+    Ok(DriverEnd::new(
+        queue,
+        pass,
+        Vec::new(alloc),
+        Vec::new(alloc),
+        Vec::new(alloc),
+    ))
+}
+
+// So many callers more, at a desk that has none.
+fn enrol_all(
+    alloc: Global,
+    driver: &mut DriverEnd,
+    callers: u8,
+    first: u64,
+) -> Result<Vec<Caller>, AllocError>
+    requires { (callers ≤ 8) × (1 ≤ first) × (driver.old.desk.rings ≡ []) × (driver.old.told ≡ []) }
+    ensures driver { IfOk result (λ all. (driver.new.taken ≡ driver.old.taken)
+        × (driver.new.told ≡ replicate callers [])
+        × (driver.new.announced ≡ driver.old.announced)) }
+    ensures desk { IfOk result (λ all. (length driver.new.desk.rings ≡ callers)
+        × (driver.new.desk.kinds ≡ driver.old.desk.kinds)
+        × (driver.new.desk.ears ≡ driver.old.desk.ears)) }
+    ensures callers { IfOk result (λ all. (length all.items ≡ callers) × Dealt driver.new.desk first all.items) }
+{
+    let mut all = Vec::new(alloc);
+    for _ in 0..callers {
+        let caller = driver.enrol(alloc, first)?;
+        all.push(caller)?;
+    }
+    Ok(all)
+}
+
+// A listener for each of these kinds, at a desk that has none.
+fn seat_all(
+    alloc: Global,
+    driver: &mut DriverEnd,
+    kinds: &[UrcKind],
+) -> Result<Vec<Listener>, AllocError>
+    requires { EachOnce kinds.now × (driver.old.desk.kinds ≡ []) × (driver.old.desk.ears ≡ [])
+        × (driver.old.announced ≡ []) }
+    ensures driver { IfOk result (λ all. (driver.new.taken ≡ driver.old.taken)
+        × (driver.new.told ≡ driver.old.told)
+        × (driver.new.announced ≡ replicate (length kinds.now) [])) }
+    ensures desk { IfOk result (λ all. (driver.new.desk.queue ≡ driver.old.desk.queue)
+        × (driver.new.desk.rings ≡ driver.old.desk.rings) × (driver.new.desk.kinds ≡ kinds.now)) }
+    ensures listeners { IfOk result (λ all. (length all.items ≡ length kinds.now)
+        × Seated driver.new.desk all.items) }
+{
+    let mut all = Vec::new(alloc);
+    for kind in kinds {
+        let listener = driver.seat(alloc, *kind)?;
+        all.push(listener)?;
+    }
+    Ok(all)
+}

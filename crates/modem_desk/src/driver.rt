@@ -1,0 +1,232 @@
+//! The driver's end of the desk.
+ghost use Rattle.std.specs.Prelude.{◌≡◌, ◌↔◌, ◌∷◌, [], ◌++◌, ◌<◌, ◌≤◌, map, IfOk, IfErr, IsTrue, Contains, length, MatchOption, MatchResult, slice_set, slice_index_or};
+ghost use mathlib.Core.Option.{some};
+ghost use lib.ListN.{get_elem?};
+
+use crate::caller::{Caller, Queue, WAITING};
+use crate::listener::{LINES, Listener};
+use crate::request::{Outcome, Request, Urc};
+use crate::rule::{Enrols, Takes, View};
+use at_text::UrcKind;
+use crossbeam_queue::Pass;
+use rtrb::{Producer, PushError, RingBuffer};
+use std::alloc::{AllocError, Global};
+use std::marker::Model;
+use std::sync::{Arc, Wait};
+
+/// The end at which the driver takes requests, and gives outcomes and lines.
+///
+/// Contracts see which desk it is of, the requests that it took, the outcomes that it told each caller, by the caller's number, and the lines that it announced to each listener, in the order of the desk's kinds.
+#[derive(Drop)]
+pub struct DriverEnd {
+    queue: Arc<Queue, Global>,
+    pass: Pass<Request, View>,
+    rings: Vec<Producer<Outcome>>,
+    kinds: Vec<UrcKind>,
+    lines: Vec<Producer<Urc>>,
+}
+
+impl Model for DriverEnd {
+    ghost use Rattle.std.specs.Prelude.{◌≡◌, ◌≤◌, map, length, []};
+    ghost use Rattle.std.specs.Arc.{arc_value};
+    ghost use Rattle.crossbeam_queue.specs.Passes.{view as knows, IsPassOf, ruled_capacity};
+    ghost use Rattle.rtrb.specs.Ring.{sent};
+    ghost use Rattle.modem_desk.specs.Rule.{driver};
+    ghost use Rattle.modem_desk.specs.Ends.{DriverView, ring_of_producer, EachOnce};
+
+    ghost Value = { DriverView };
+
+    ghost view = { λ d. record {
+      desk = record {
+        queue = d.pass.table_id;
+        rings = map ring_of_producer d.rings.items;
+        kinds = d.kinds.items;
+        ears = map ring_of_producer d.lines.items;
+      };
+      taken = (knows d.pass).taken;
+      told = map sent d.rings.items;
+      announced = map sent d.lines.items;
+    } };
+
+    ghost invariant = { λ d. IsPassOf (arc_value d.queue) d.pass × (ruled_capacity (arc_value d.queue) ≡ 64)
+        × (knows d.pass ≡ driver (length d.rings.items) (knows d.pass).taken [])
+        × (length d.rings.items ≤ 8) × (length d.lines.items ≡ length d.kinds.items)
+        × EachOnce d.kinds.items };
+}
+
+impl DriverEnd {
+    ghost use Rattle.std.specs.Arc.{arc_value};
+    ghost use Rattle.crossbeam_queue.specs.Passes.{view, IsPassOf, ruled_capacity};
+    ghost use Rattle.rtrb.specs.Ring.{sent};
+    ghost use Rattle.modem_desk.specs.Rule.{driver};
+    ghost use Rattle.modem_desk.specs.Ends.{ring_of_producer, IsFresh, Appends, Announces};
+
+    pub(crate) fn new(
+        queue: Arc<Queue, Global>,
+        pass: Pass<Request, View>,
+        rings: Vec<Producer<Outcome>>,
+        kinds: Vec<UrcKind>,
+        lines: Vec<Producer<Urc>>,
+    ) -> DriverEnd
+        requires seat { IsPassOf (arc_value queue) pass × (ruled_capacity (arc_value queue) ≡ 64)
+            × (view pass ≡ driver 0 [] []) }
+        requires none { (rings.items ≡ []) × (kinds.items ≡ []) × (lines.items ≡ []) }
+        ensures { result ≡ record {
+          desk = record {
+            queue = pass.table_id;
+            rings = [];
+            kinds = [];
+            ears = [];
+          };
+          taken = [];
+          told = [];
+          announced = [];
+        } }
+    {
+        DriverEnd {
+            queue,
+            pass,
+            rings,
+            kinds,
+            lines,
+        }
+    }
+
+    pub(crate) fn into_parts(
+        self,
+    ) -> (
+        Arc<Queue, Global>,
+        Pass<Request, View>,
+        Vec<Producer<Outcome>>,
+        Vec<Producer<Urc>>,
+    )
+        ensures pass { IsPassOf (arc_value result.0) result.1 × (result.1.table_id ≡ self.desk.queue)
+            × (view result.1 ≡ driver (length self.desk.rings) self.taken []) }
+        ensures rings { (map ring_of_producer result.2.items ≡ self.desk.rings)
+            × (map sent result.2.items ≡ self.told) }
+        ensures lines { (map ring_of_producer result.3.items ≡ self.desk.ears)
+            × (map sent result.3.items ≡ self.announced) }
+    {
+        let DriverEnd {
+            queue,
+            pass,
+            rings,
+            kinds: _,
+            lines,
+        } = self;
+        (queue, pass, rings, lines)
+    }
+
+    // One more caller.
+    pub(crate) fn enrol(&mut self, alloc: Global, first: u64) -> Result<Caller, AllocError>
+        requires { (length self.old.desk.rings < 8) × (1 ≤ first) }
+        ensures driver { IfOk result (λ c. (self.new.taken ≡ self.old.taken) × (self.new.told ≡ self.old.told
+            ++ [] ∷ []) × (self.new.announced ≡ self.old.announced)) }
+        ensures desk { IfOk result (λ c. self.new.desk ≡ record self.old.desk {
+          rings = self.old.desk.rings
+              ++ c.place.ring ∷ [];
+        }) }
+        ensures caller { IfOk result (λ c. (c.place.queue ≡ self.old.desk.queue)
+            × (c.place.number ≡ length self.old.desk.rings) × (c.place.first ≡ first)
+            × IsFresh c) }
+    {
+        let queue = Arc::try_clone(&self.queue)?;
+        let (producer, consumer) = RingBuffer::new(alloc, WAITING)?;
+        let number = self.rings.len() as u8;
+        self.rings.push(producer)?;
+        let pass = queue.another::<Enrols>(&mut self.pass);
+        Ok(Caller::new(queue, pass, consumer, number, first))
+    }
+
+    // One more listener, of a kind that no other has.
+    pub(crate) fn seat(&mut self, alloc: Global, kind: UrcKind) -> Result<Listener, AllocError>
+        requires { ¬ Contains self.old.desk.kinds kind }
+        ensures driver { IfOk result (λ l. (self.new.taken ≡ self.old.taken) × (self.new.told ≡ self.old.told)
+            × (self.new.announced ≡ self.old.announced ++ [] ∷ [])) }
+        ensures desk { IfOk result (λ l. self.new.desk ≡ record self.old.desk {
+          kinds = self.old.desk.kinds
+              ++ kind ∷ [];
+          ears = self.old.desk.ears ++ l.ear.ring ∷ [];
+        }) }
+        ensures listener { IfOk result (λ l. (l.ear.place ≡ length self.old.desk.kinds)
+            × (l.ear.place ≡ length self.old.desk.ears) × (l.ear.kind ≡ kind) × (l.heard ≡ [])) }
+    {
+        let (producer, consumer) = RingBuffer::new(alloc, LINES)?;
+        let place = self.kinds.len();
+        self.kinds.try_reserve(1)?;
+        self.lines.push(producer)?;
+        self.kinds.push(kind)?;
+        Ok(Listener::new(consumer, kind, place))
+    }
+
+    /// How many callers the desk has.
+    pub fn callers(&self) -> u8
+        ensures { result ≡ length self.now.desk.rings }
+    {
+        self.rings.len() as u8
+    }
+
+    /// Whether the desk has a listener for lines of this kind.
+    pub fn listens(&self, kind: UrcKind) -> bool
+        ensures { IsTrue result ↔ Contains self.now.desk.kinds kind }
+    {
+        self.kinds.contains(&kind)
+    }
+
+    /// The oldest request that waits, of whatever caller.
+    pub fn next<R: Wait>(&mut self, rt: &R) -> Option<Request>
+        ensures desk { (self.new.desk ≡ self.old.desk) × (self.new.told ≡ self.old.told)
+            × (self.new.announced ≡ self.old.announced) }
+        ensures taken { MatchOption result (self.new.taken ≡ self.old.taken) (λ request.
+            (self.new.taken ≡ self.old.taken ++ request ∷ [])
+            × (request.caller < length self.old.desk.rings)) }
+    {
+        self.queue.pop_as::<Takes, R>(rt, &mut self.pass)
+    }
+
+    /// Gives an outcome to its caller, or back where 8 wait for that caller.
+    pub fn tell(&mut self, outcome: Outcome) -> Result<(), Outcome>
+        requires { outcome.caller < length self.old.desk.rings }
+        ensures desk { (self.new.desk ≡ self.old.desk) × (self.new.taken ≡ self.old.taken)
+            × (self.new.announced ≡ self.old.announced) }
+        ensures told { IfOk result (λ _. Appends outcome.caller outcome self.old.told self.new.told) }
+        ensures back { IfErr result (λ back. (back ≡ outcome) × (self.new.told ≡ self.old.told)) }
+    {
+        let ring = &mut self.rings[outcome.caller as usize];
+        let Err(refused) = ring.push(outcome) else {
+            return Ok(());
+        };
+        let PushError::Full(back) = refused;
+        Err(back)
+    }
+
+    /// Gives a line to the listener of its kind, or back where 256 wait for that listener.
+    pub fn announce(&mut self, line: Urc) -> Result<(), Urc>
+        requires { Contains self.old.desk.kinds line.kind }
+        ensures desk { (self.new.desk ≡ self.old.desk) × (self.new.taken ≡ self.old.taken)
+            × (self.new.told ≡ self.old.told) }
+        ensures announced { IfOk result (λ _. Announces self.old.desk.kinds line self.old.announced self.new.announced) }
+        ensures back { IfErr result (λ back. (back ≡ line) × (self.new.announced ≡ self.old.announced)) }
+    {
+        let place = place_in(&self.kinds, line.kind);
+        let ring = &mut self.lines[place];
+        let Err(refused) = ring.push(line) else {
+            return Ok(());
+        };
+        let PushError::Full(back) = refused;
+        Err(back)
+    }
+}
+
+// Where the kind stands in the list.
+fn place_in(kinds: &[UrcKind], kind: UrcKind) -> usize
+    requires { Contains kinds.now kind }
+    ensures { get_elem? kinds.now result ≡ some kind }
+{
+    for (place, known) in kinds.iter().enumerate() {
+        if *known == kind {
+            return place;
+        }
+    }
+    unreachable!()
+}

@@ -1,0 +1,87 @@
+//! A listener's end of the desk.
+ghost use Rattle.std.specs.Prelude.{◌≡◌, ◌++◌, ◌∷◌, [], MatchOption};
+
+use crate::request::Urc;
+use at_text::UrcKind;
+use rtrb::Consumer;
+use std::marker::Model;
+
+// How many lines may wait in a listener's ring.
+pub(crate) const LINES: usize = 256;
+
+/// The one that hears the unsolicited lines of one kind.
+///
+/// Contracts see its seat at the desk and the lines that it took.
+#[derive(Drop)]
+pub struct Listener {
+    lines: Consumer<Urc>,
+    kind: UrcKind,
+    place: usize,
+}
+
+impl Model for Listener {
+    ghost use Rattle.std.specs.Prelude.{◌≡◌};
+    ghost use Rattle.rtrb.specs.Ring.{received, consumer_capacity};
+    ghost use Rattle.modem_desk.specs.Ends.{ListenerView, ring_of_consumer};
+
+    ghost Value = { ListenerView };
+
+    ghost view = { λ l. record {
+      ear = record {
+        place = l.place;
+        kind = l.kind;
+        ring = ring_of_consumer l.lines;
+      };
+      heard = received l.lines;
+    } };
+
+    ghost invariant = { λ l. consumer_capacity l.lines ≡ 256 };
+}
+
+impl Listener {
+    ghost use Rattle.rtrb.specs.Ring.{received, consumer_capacity};
+    ghost use Rattle.modem_desk.specs.Ends.{ring_of_consumer};
+
+    pub(crate) fn new(lines: Consumer<Urc>, kind: UrcKind, place: usize) -> Listener
+        requires { (received lines ≡ []) × (consumer_capacity lines ≡ 256) }
+        ensures { result ≡ record {
+          ear = record {
+            place = place;
+            kind = kind;
+            ring = ring_of_consumer lines;
+          };
+          heard = [];
+        } }
+    {
+        Listener { lines, kind, place }
+    }
+
+    pub(crate) fn into_parts(self) -> (Consumer<Urc>, usize)
+        ensures ring { (ring_of_consumer result.0 ≡ self.ear.ring) × (received result.0 ≡ self.heard)
+            × (consumer_capacity result.0 ≡ 256) }
+        ensures place { result.1 ≡ self.ear.place }
+    {
+        let Listener {
+            lines,
+            kind: _,
+            place,
+        } = self;
+        (lines, place)
+    }
+
+    /// The kind of line that it hears.
+    pub fn kind(&self) -> UrcKind
+        ensures { result ≡ self.now.ear.kind }
+    {
+        self.kind
+    }
+
+    /// The oldest line that waits for this listener.
+    pub fn take(&mut self) -> Option<Urc>
+        ensures ear { self.new.ear ≡ self.old.ear }
+        ensures heard { MatchOption result (self.new.heard ≡ self.old.heard) (λ line.
+            self.new.heard ≡ self.old.heard ++ line ∷ []) }
+    {
+        self.lines.pop().ok()
+    }
+}

@@ -1,0 +1,165 @@
+//! What callers ask for, and what they are told.
+ghost use Rattle.std.specs.Prelude.{◌≡◌, IfOk};
+
+use at_text::{AnswerLines, CommandLine, Text, UrcKind};
+use mux_frame::{Dlci, ProbeData};
+use std::alloc::AllocError;
+
+/// What a caller asks for.
+#[derive(Drop, Debug)]
+pub enum Ask {
+    /// Open the connection, by a SABM (27.010, 5.4.1).
+    OpenChannel(Dlci),
+    /// Close it, by a DISC (27.010, 5.4.2).
+    CloseChannel(Dlci),
+    /// Send a command line over the connection and read its answer (V.250, 5).
+    Command(Dlci, CommandLine),
+    /// Have the other end send these octets back, by a Test command (27.010, 5.4.6.3.4).
+    Probe(ProbeData),
+    /// End the multiplexer, by a CLD command (27.010, 5.4.6.3.3).
+    Stop,
+}
+
+impl Ask {
+    /// The same ask once more.
+    pub fn copy(&self) -> Result<Ask, AllocError>
+        ensures { IfOk result (λ copy. copy ≡ self.now) }
+    {
+        match self {
+            Ask::OpenChannel(dlci) => Ok(Ask::OpenChannel(*dlci)),
+            Ask::CloseChannel(dlci) => Ok(Ask::CloseChannel(*dlci)),
+            Ask::Command(dlci, line) => {
+                let line = line.copy()?;
+                Ok(Ask::Command(*dlci, line))
+            }
+            Ask::Probe(data) => {
+                let data = ProbeData::new(data.octets()).unwrap();
+                Ok(Ask::Probe(data))
+            }
+            Ask::Stop => Ok(Ask::Stop),
+        }
+    }
+}
+
+/// One request of one caller. A caller uses no number twice.
+#[derive(Drop, Debug)]
+pub struct Request {
+    pub caller: u8,
+    pub number: u64,
+    pub ask: Ask,
+}
+
+impl Request {
+    /// The same request once more.
+    pub fn copy(&self) -> Result<Request, AllocError>
+        ensures { IfOk result (λ copy. copy ≡ self.now) }
+    {
+        let ask = self.ask.copy()?;
+        Ok(Request {
+            caller: self.caller,
+            number: self.number,
+            ask,
+        })
+    }
+}
+
+/// How a request ended.
+#[derive(Drop, Debug)]
+pub enum Answer {
+    /// The command was answered: its lines, the final code last.
+    Done(AnswerLines),
+    /// The connection is open now.
+    Opened,
+    /// It is shut now.
+    Shut,
+    /// The probe came back.
+    ProbeBack,
+    /// The multiplexer has ended.
+    Stopped,
+    /// The connection, or connection 0, isn't open.
+    NotOpen,
+    /// The connection is open already.
+    AlreadyOpen,
+    /// The other end refused.
+    Refused,
+    /// The other end didn't answer.
+    NoAnswer,
+    /// The connection closed before the request was answered.
+    Closed,
+    /// Connection 0 is the control channel, and carries no commands.
+    ControlChannel,
+    /// The line was lost.
+    LineLost,
+    /// Too much is under way.
+    Busy,
+}
+
+impl Answer {
+    /// The same answer once more.
+    pub fn copy(&self) -> Result<Answer, AllocError>
+        ensures { IfOk result (λ copy. copy ≡ self.now) }
+    {
+        match self {
+            Answer::Done(lines) => {
+                let lines = lines.copy()?;
+                Ok(Answer::Done(lines))
+            }
+            Answer::Opened => Ok(Answer::Opened),
+            Answer::Shut => Ok(Answer::Shut),
+            Answer::ProbeBack => Ok(Answer::ProbeBack),
+            Answer::Stopped => Ok(Answer::Stopped),
+            Answer::NotOpen => Ok(Answer::NotOpen),
+            Answer::AlreadyOpen => Ok(Answer::AlreadyOpen),
+            Answer::Refused => Ok(Answer::Refused),
+            Answer::NoAnswer => Ok(Answer::NoAnswer),
+            Answer::Closed => Ok(Answer::Closed),
+            Answer::ControlChannel => Ok(Answer::ControlChannel),
+            Answer::LineLost => Ok(Answer::LineLost),
+            Answer::Busy => Ok(Answer::Busy),
+        }
+    }
+}
+
+/// What a caller is told of one request.
+#[derive(Drop, Debug)]
+pub struct Outcome {
+    pub caller: u8,
+    pub number: u64,
+    pub answer: Answer,
+}
+
+impl Outcome {
+    /// The same outcome once more.
+    pub fn copy(&self) -> Result<Outcome, AllocError>
+        ensures { IfOk result (λ copy. copy ≡ self.now) }
+    {
+        let answer = self.answer.copy()?;
+        Ok(Outcome {
+            caller: self.caller,
+            number: self.number,
+            answer,
+        })
+    }
+}
+
+/// An unsolicited line.
+#[derive(Drop, Debug)]
+pub struct Urc {
+    pub kind: UrcKind,
+    pub dlci: Dlci,
+    pub line: Text,
+}
+
+impl Urc {
+    /// The same line once more.
+    pub fn copy(&self) -> Result<Urc, AllocError>
+        ensures { IfOk result (λ copy. copy ≡ self.now) }
+    {
+        let line = self.line.copy()?;
+        Ok(Urc {
+            kind: self.kind,
+            dlci: self.dlci,
+            line,
+        })
+    }
+}

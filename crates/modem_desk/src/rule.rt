@@ -1,0 +1,108 @@
+//! What the request queue keeps whatever the threads do, and what each step on it tells.
+ghost use Rattle.std.specs.Prelude.{◌≡◌};
+
+use crate::request::Request;
+use crossbeam_queue::protocol::{Join, Lesson, Outcome, Protocol, Split};
+use std::collections::LinkedList;
+
+// What a caller that has left had submitted. Contracts alone have values of it.
+pub struct Known {
+    pub number: u8,
+    pub submitted: LinkedList<Request>,
+}
+
+// What the holder of a pass knows: the driver what it took, a caller what it submitted. Contracts alone have values of it.
+pub struct View {
+    pub drives: bool,
+    pub submits: bool,
+    pub number: u8,
+    pub submitted: LinkedList<Request>,
+    pub given: u8,
+    pub taken: LinkedList<Request>,
+    pub known: LinkedList<Known>,
+    pub counted: bool,
+    pub waiting: LinkedList<Request>,
+}
+
+/// The rule: of each caller, what the driver took and then what is queued is what the caller submitted.
+pub struct InOrder;
+
+impl Protocol<Request, View> for InOrder {
+    ghost use Rattle.std.specs.Prelude.{[]};
+    ghost use Rattle.modem_desk.specs.Rule.{driver, Kept};
+
+    ghost holds = { Kept };
+
+    ghost first = { driver 0 [] [] };
+}
+
+/// One more caller gets a pass, and the next number.
+pub struct Enrols;
+
+impl Split<View> for Enrols {
+    ghost use Rattle.std.specs.Prelude.{[], ◌+◌};
+    ghost use Rattle.modem_desk.specs.Rule.{driver, caller};
+
+    ghost left = { λ v. driver (v.given + 1) v.taken v.known };
+
+    ghost right = { λ v. caller v.given [] };
+}
+
+/// A caller's pass comes back, and the driver knows what that caller submitted.
+pub struct Leaves;
+
+impl Join<View> for Leaves {
+    ghost use Rattle.std.specs.Prelude.{[], ◌++◌, ◌∷◌};
+    ghost use Rattle.modem_desk.specs.Rule.{driver, known, spent_view};
+
+    ghost both = { λ v w. driver v.given v.taken (v.known ++ known w.number w.submitted ∷ []) };
+
+    ghost spent = { spent_view };
+}
+
+/// A caller's list grows by the request.
+pub struct Submits;
+
+impl Outcome<Request, View> for Submits {
+    ghost use Rattle.std.specs.Prelude.{◌≡◌, [], ◌++◌, ◌∷◌};
+    ghost use Rattle.modem_desk.specs.Rule.{caller};
+
+    ghost then = { λ v x w. w ≡ caller v.number (v.submitted ++ x ∷ []) };
+}
+
+impl Lesson<Request, View> for Submits {
+    ghost use Rattle.std.specs.Prelude.{⊤};
+
+    ghost fact = { λ v items. ⊤ };
+}
+
+/// The driver's list grows by the request, which is of a caller that has a number.
+pub struct Takes;
+
+impl Outcome<Request, View> for Takes {
+    ghost use Rattle.std.specs.Prelude.{◌≡◌, [], ◌++◌, ◌∷◌, ◌<◌};
+    ghost use Rattle.modem_desk.specs.Rule.{driver};
+
+    ghost then = { λ v x w. (w ≡ driver v.given (v.taken ++ x ∷ []) v.known) × (x.caller < v.given) };
+}
+
+impl Lesson<Request, View> for Takes {
+    ghost use Rattle.std.specs.Prelude.{⊤};
+
+    ghost fact = { λ v items. ⊤ };
+}
+
+/// The same once every caller has left; the driver then knows what waits, and at the end that nothing does.
+pub struct Drains;
+
+impl Outcome<Request, View> for Drains {
+    ghost use Rattle.modem_desk.specs.Rule.{Drained};
+
+    ghost then = { Drained };
+}
+
+impl Lesson<Request, View> for Drains {
+    ghost use Rattle.modem_desk.specs.Rule.{Ends};
+
+    ghost fact = { Ends };
+}

@@ -1,0 +1,10 @@
+pub mod Division
+pub mod Examples
+pub mod Flags
+pub mod Judgements
+pub mod Pasts
+pub mod ReadingOn
+pub mod Readings
+pub mod Rings
+pub mod Slow
+pub mod Spellings

@@ -1,0 +1,12 @@
+use Rattle.std.proofs.Common.{◌∙◌, ap, sym, subst}
+use Rattle.mux_frame.specs.Deframing.{Deframes}
+use Rattle.mux_frame.specs.Judged.{header_seen}
+use Rattle.mux_frame.proofs.Pasts.{past_taken}
+use Rattle.mux_frame.proofs.deframer.Deframer.advance.Goals as goal
+
+pub returns-in-Some-clause-past : goal.returns-in-Some-clause-past
+returns-in-Some-clause-past c = λ taken handed f some p.
+    let q = subst (Deframes taken handed) (sym c.self.view_is) p in
+    let s = rw c.remove_front.ensures at c.settle.ensures.reads in
+    past_taken c.self.inside.n1 c.check_place.result taken c.self.inside.octets.items c.settle.new.octets.items handed (header_seen c.in-Some.header) f
+    q c.in-Some.ensures.front c.in-Some.ensures.next (ap (λ d. d.next) c.self.view_is ∙ some) c.check_place.ensures.value s c.settle.ensures.octets c.settle.ensures.decided

@@ -1,0 +1,12 @@
+use Rattle.std.proofs.Common.{refl}
+use Rattle.mux_frame.specs.Deframing.{next_in}
+use Rattle.mux_frame.proofs.Pasts.{past_none}
+use Rattle.mux_frame.proofs.deframer.Deframer.new.Goals as goal
+
+pub returns-clause-ok : goal.returns-clause-ok
+unfolding next_in
+returns-clause-ok c = rw c.in_ok-octets.ensures refl
+
+pub returns-clause-past : goal.returns-clause-past
+unfolding next_in
+returns-clause-past c = rw c.in_ok-octets.ensures (past_none c.args.n1)

@@ -1,0 +1,5 @@
+use Rattle.mux_frame.proofs.Examples.{spelled_so}
+use Rattle.mux_frame.proofs.laws.example_frames.Goals as goal
+
+pub returns : goal.returns
+returns c = spelled_so

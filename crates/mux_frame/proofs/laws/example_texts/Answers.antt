@@ -1,0 +1,5 @@
+use Rattle.mux_frame.proofs.Examples.{read_so}
+use Rattle.mux_frame.proofs.laws.example_texts.Goals as goal
+
+pub returns : goal.returns
+returns c = read_so

@@ -1,0 +1,5 @@
+use Rattle.mux_frame.proofs.Slow.{total_reading}
+use Rattle.mux_frame.proofs.laws.total_reading.Goals as goal
+
+pub returns : goal.returns
+returns c = total_reading

@@ -1,0 +1,10 @@
+pub mod CheckOctet
+pub mod Deframing
+pub mod Frames
+pub mod Judged
+pub mod Judging
+pub mod Laws
+pub mod Places
+pub mod Reading
+pub mod Rows
+pub mod Spelling

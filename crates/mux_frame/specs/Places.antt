@@ -1,0 +1,20 @@
+-- Where flags stand, for the clauses of private functions.
+use Rattle.std.specs.Prelude.{◌≡◌, ℕ, ◌+◌, ◌<◌, ◌==◌, List, [], ◌∷◌, length, drop, Option, None, Some, if◌then◌else◌}
+use Rattle.mux_frame.specs.Spelling.{flag}
+use Rattle.mux_frame.specs.Reading.{after_flag}
+
+-- the first flag stands at this place
+pub record IsFirstFlag (s : List ℕ) (place : ℕ) : Type 0 where
+  pub within : place < length s
+  pub here : drop place s ≡ flag ∷ drop (place + 1) s
+  pub after : after_flag s ≡ Some (drop (place + 1) s)
+
+-- the first flag stands there, or there is none
+abbrev pub FirstFlag : List ℕ → Option ℕ → Type 0
+FirstFlag s None = after_flag s ≡ None
+FirstFlag s (Some place) = IsFirstFlag s place
+
+-- the text from its first flag on, or nothing
+abbrev pub from_flag : List ℕ → List ℕ
+from_flag [] = []
+from_flag (x ∷ xs) = if x == flag then x ∷ xs else from_flag xs

@@ -1,0 +1,113 @@
+//! Octets are read as frames, as they come (27.010, 5.2.3, 5.2.5 and 5.2.6.1).
+ghost use Rattle.std.specs.Prelude.{◌≡◌, ◌≢◌, ◌↔◌, ◌⊎◌, ◌+◌, ◌-◌, ◌<◌, ◌≤◌, ◌++◌, [], ◌∷◌, List, ℕ, None, Some, length, min, option_map, take, IfOk, IfSome, IsErrOf, IsSome, OnErr, OnOk};
+ghost use Rattle.std.specs.Borrow.{sem};
+ghost use Rattle.std.specs.Io.BufRead.{Rests};
+ghost use Rattle.mux_frame.specs.Deframing.{Deframes, HandsOver, TakesIn};
+ghost use Rattle.mux_frame.specs.Frames.{Frame, frame_of};
+ghost use Rattle.mux_frame.specs.Spelling.{most_info};
+
+use crate::error::FrameError;
+use crate::frame::FrameView;
+use crate::ring::{remove_front, settle, whole_header};
+use crate::slice::one_slice;
+use circular_buffer::HeapCircularBuffer;
+use std::alloc::Global;
+use std::marker::Model;
+
+/// Reads octets as frames, however they are cut. It keeps the octets that are not decided yet in a
+/// ring of N1 + 7 octets: two flags, address, control, two length octets, information and check
+/// octet. So a full ring is always decided.
+#[derive(Drop)]
+pub struct Deframer {
+    octets: HeapCircularBuffer<u8>,
+    n1: u16,
+}
+
+impl Model for Deframer {
+    ghost use Rattle.mux_frame.specs.Deframing.{Deframing, IsSettled, next_in};
+
+    ghost Value = { Deframing };
+
+    ghost view = { λ d. record {
+      n1 = d.n1;
+      undecided = d.octets.items;
+      next = next_in d.n1 d.octets.items;
+    } };
+
+    ghost invariant = { λ d. IsSettled d.n1 d.octets.items d.octets.capacity };
+}
+
+impl Deframer {
+    ghost use Rattle.mux_frame.specs.contracts.deframer.Deframer.{the_row};
+
+    /// A deframer that has taken nothing. N1 is how many octets of information a frame may have.
+    /// Refusals: 3 BadN1 where it isn't 31 to 32767, checked first; 2 NoMemory.
+    pub fn new(alloc: Global, n1: u16) -> Result<Deframer, FrameError>
+        ensures ok { IfOk result (λ d. d ≡ record { n1 = n1; undecided = []; next = None }) }
+        ensures past { IfOk result (λ d. Deframes [] [] d) }
+        ensures bad_n1 { IsErrOf result FrameError.BadN1 ↔ ((n1 < 31) ⊎ (32767 < n1)) }
+        ensures others { result ≢ Err FrameError.TooLong }
+    {
+        if n1 < 31 || n1 > 32767 {
+            return Err(FrameError::BadN1);
+        }
+        let octets = HeapCircularBuffer::with_capacity(alloc, usize::from(n1) + 7)?;
+        Ok(Deframer { octets, n1 })
+    }
+
+    /// Takes octets in from the front of these, as many as there is room for, and says how many.
+    pub fn feed(&mut self, octets: &[u8]) -> usize
+        ensures count { result ≡
+            min (length octets.now) (self.old.n1 + 7 - length self.old.undecided) }
+        ensures some { self.old.next ≡ None → 0 < length octets.now → 0 < result }
+        ensures n1 { self.new.n1 ≡ self.old.n1 }
+        ensures stays { (f : Frame) → self.old.next ≡ Some f → self.new.next ≡ Some f }
+        ensures past { TakesIn self.old (take result octets.now) self.new }
+    {
+        let count = self.octets.fill_from_slice(octets);
+        settle(&mut self.octets, self.n1);
+        count
+    }
+
+    /// The next frame, lent. It stays until `advance`.
+    pub fn peek(&mut self) -> Option<FrameView<'_>>
+        ensures frame { option_map frame_of result ≡ self.old.next }
+        ensures room { IfSome result (λ f. length f.info.now ≤ most_info self.old.n1 f.kind) }
+        ensures* after { sem 𝓛 (Rests the_row self.entry (λ new. new ≡ self.old)) }
+    {
+        let Some(header) = whole_header(&self.octets, self.n1) else {
+            return None;
+        };
+        Some(header.view_after_flag(one_slice(&mut self.octets)))
+    }
+
+    /// Goes on behind the frame at hand. The condition is that there is one: that the last call was
+    /// a `peek` that gave a frame.
+    pub fn advance(&mut self)
+        requires { IsSome self.old.next }
+        ensures n1 { self.new.n1 ≡ self.old.n1 }
+        ensures shorter { length self.new.undecided < length self.old.undecided }
+        ensures past { HandsOver self.old self.new }
+    {
+        if let Some(header) = whole_header(&self.octets, self.n1) {
+            remove_front(&mut self.octets, header.check_place() + 2);
+            settle(&mut self.octets, self.n1);
+        }
+    }
+
+    /// Appends the octets that are not decided yet, which are the rest of what was taken. The
+    /// condition is that no frame is at hand: that the last `peek` answered `None` and nothing was
+    /// fed since. A refusal leaves `out` as it was: 2 NoMemory.
+    pub fn rest(&self, out: &mut Vec<u8>) -> Result<(), FrameError>
+        requires { self.now.next ≡ None }
+        ensures ok { OnOk result (out.new.items ≡ out.old.items ++ self.now.undecided) }
+        ensures err { OnErr result (out.new.items ≡ out.old.items) }
+        ensures no_memory { OnErr result (result ≡ Err FrameError.NoMemory) }
+    {
+        out.reserve(self.octets.len())?;
+        let (front, back) = self.octets.as_slices();
+        out.extend_from_slice(front).unwrap();
+        out.extend_from_slice(back).unwrap();
+        Ok(())
+    }
+}

@@ -1,0 +1,213 @@
+//! Candidates are judged: what the octets after a flag can be (27.010, 5.2.1).
+ghost use Rattle.std.specs.Prelude.{◌≡◌, ◌+◌, ◌/◌, ◌^◌, ◌<◌, ◌≤◌, drop, length, slice_get};
+ghost use Rattle.mux_frame.specs.Frames.{frame_of};
+ghost use Rattle.mux_frame.specs.Judging.{Means, by_end, by_header, by_length, frame_at, kind_in, verdict_on};
+ghost use Rattle.mux_frame.specs.Judged.{header_seen, verdict_seen};
+
+use crate::check::check_octet;
+use crate::dlci::Dlci;
+use crate::frame::{FrameView, Kind};
+use crate::write::FLAG;
+
+/// What the first octets of a frame say.
+#[derive(Clone, Copy)]
+pub(crate) struct Header {
+    pub(crate) dlci: Dlci,
+    pub(crate) kind: Kind,
+    pub(crate) cr: bool,
+    pub(crate) pf: bool,
+    /// How many octets it has: address, control and length octets.
+    pub(crate) size: u8,
+    /// How many octets of information follow it.
+    pub(crate) info_len: u16,
+    /// The check octet that it calls for.
+    pub(crate) check: u8,
+}
+
+/// What a candidate is, by the octets that have come after a flag.
+#[derive(Clone, Copy)]
+pub(crate) enum Verdict {
+    /// They can become a frame.
+    Unfinished,
+    /// Whatever comes, they begin no frame.
+    Refused,
+    /// They are, as far as they were looked at, a frame of this header.
+    Fits(Header),
+}
+
+/// The octet at a place, where it has come.
+fn octet_at(octets: &[u8], place: usize) -> Option<u8>
+    ensures { result ≡ slice_get octets.now place }
+{
+    octets.get(place).copied()
+}
+
+/// The kind of a control octet, whatever its P/F bit (27.010, 5.2.1.3).
+fn kind_of(control: u8) -> Option<Kind>
+    ensures { result ≡ kind_in control }
+{
+    match control {
+        0x2F | 0x3F => Some(Kind::Sabm),
+        0x63 | 0x73 => Some(Kind::Ua),
+        0x0F | 0x1F => Some(Kind::Dm),
+        0x43 | 0x53 => Some(Kind::Disc),
+        0xEF | 0xFF => Some(Kind::Uih),
+        _ => None,
+    }
+}
+
+/// The verdict by the length octets, after a good address octet and a control octet of this kind.
+fn by_length(
+    most: u16,
+    dlci: Dlci,
+    kind: Kind,
+    address: u8,
+    control: u8,
+    lengths: (Option<u8>, Option<u8>),
+) -> Verdict
+    requires { dlci.number ≡ address / 4 }
+    ensures { verdict_seen result ≡ by_length most address control kind lengths.0 lengths.1 }
+{
+    let (Some(first), second) = lengths else {
+        return Verdict::Unfinished;
+    };
+    let low = u16::from(first / 2);
+    if low > most {
+        return Verdict::Refused;
+    }
+    let short = Header {
+        dlci,
+        kind,
+        cr: address / 2 % 2 == 1,
+        pf: control / 16 % 2 == 1,
+        size: 3,
+        info_len: low,
+        check: check_octet(&[address, control, first]),
+    };
+    if first % 2 == 1 {
+        return Verdict::Fits(short);
+    }
+    let Some(second) = second else {
+        return Verdict::Unfinished;
+    };
+    let info_len = low + 128 * u16::from(second);
+    if info_len > most {
+        return Verdict::Refused;
+    }
+    let check = check_octet(&[address, control, first, second]);
+    Verdict::Fits(Header {
+        size: 4,
+        info_len,
+        check,
+        ..short
+    })
+}
+
+impl Verdict {
+    #[tactic(auto, unfolding(crate::specs::Judging::by_header))]
+    /// The verdict by the first four octets after a flag, as far as they have come.
+    pub(crate) fn by_header(
+        n1: u16,
+        address: Option<u8>,
+        control: Option<u8>,
+        lengths: (Option<u8>, Option<u8>),
+    ) -> Verdict
+        ensures { verdict_seen result ≡ by_header n1 address control lengths.0 lengths.1 }
+    {
+        let Some(address) = address else {
+            return Verdict::Unfinished;
+        };
+        if address % 2 != 1 {
+            return Verdict::Refused;
+        }
+        let Some(dlci) = Dlci::new(address / 4) else {
+            return Verdict::Refused;
+        };
+        let Some(control) = control else {
+            return Verdict::Unfinished;
+        };
+        let Some(kind) = kind_of(control) else {
+            return Verdict::Refused;
+        };
+        by_length(kind.most_info(n1), dlci, kind, address, control, lengths)
+    }
+}
+
+impl Verdict {
+    #[tactic(auto, unfolding(crate::specs::Judging::verdict_on))]
+    /// The verdict on the octets after a flag.
+    pub(crate) fn on(n1: u16, text: &[u8]) -> Verdict
+        ensures value { verdict_seen result ≡ verdict_on n1 text.now }
+        ensures means { Means n1 text.now (verdict_seen result) }
+    {
+        let lengths = (octet_at(text, 2), octet_at(text, 3));
+        match Verdict::by_header(n1, octet_at(text, 0), octet_at(text, 1), lengths) {
+            Verdict::Fits(header) => {
+                let place = header.check_place();
+                header.by_end(octet_at(text, place), octet_at(text, place + 1))
+            }
+            Verdict::Unfinished => Verdict::Unfinished,
+            Verdict::Refused => Verdict::Refused,
+        }
+    }
+}
+
+impl Header {
+    /// Where its check octet stands, counted from its address octet.
+    pub(crate) fn check_place(self) -> usize
+        ensures value { result ≡ self.size + self.info_len }
+        ensures within { result < 2 ^ 17 }
+    {
+        usize::from(self.size) + usize::from(self.info_len)
+    }
+
+    #[tactic(auto, unfolding(crate::specs::Judging::by_end))]
+    /// The verdict by the octets where the check octet and the closing flag should stand.
+    pub(crate) fn by_end(self, check: Option<u8>, close: Option<u8>) -> Verdict
+        ensures { verdict_seen result ≡ by_end (header_seen self) check close }
+    {
+        let Some(check) = check else {
+            return Verdict::Unfinished;
+        };
+        if check != self.check {
+            return Verdict::Refused;
+        }
+        match close {
+            None => Verdict::Unfinished,
+            Some(FLAG) => Verdict::Fits(self),
+            Some(_) => Verdict::Refused,
+        }
+    }
+
+    /// The frame in the octets after a flag, lent.
+    pub(crate) fn view(self, text: &[u8]) -> FrameView<'_>
+        requires { self.size + self.info_len ≤ length text.now }
+        ensures { frame_of result ≡ frame_at (header_seen self) text.now }
+    {
+        FrameView {
+            dlci: self.dlci,
+            kind: self.kind,
+            cr: self.cr,
+            pf: self.pf,
+            info: &text[usize::from(self.size)..self.check_place()],
+        }
+    }
+
+    /// The frame in octets that begin with a flag, lent.
+    pub(crate) fn view_after_flag(self, octets: &[u8]) -> FrameView<'_>
+        requires { 1 + self.size + self.info_len ≤ length octets.now }
+        ensures { frame_of result ≡ frame_at (header_seen self) (drop 1 octets.now) }
+    {
+        let len = octets.len();
+        self.view(&octets[1..len])
+    }
+
+    /// The octets after a flag from the frame's closing flag on.
+    pub(crate) fn later(self, text: &[u8]) -> &[u8]
+        requires { self.size + self.info_len + 1 ≤ length text.now }
+        ensures { result.now ≡ drop (self.size + self.info_len + 1) text.now }
+    {
+        let len = text.len();
+        &text[self.check_place() + 1..len]
+    }
+}

@@ -1,0 +1,110 @@
+//! Laws of frames, and their reading computed plainly.
+ghost use Rattle.std.specs.Prelude.{◌≡◌, ◌+◌, ◌<◌, ◌≤◌, ◌++◌, ◌∷◌, List, ℕ, Some, None, drop, length, map, slice_index, IfOk, OnErr, MatchOption};
+ghost use Rattle.std.specs.Option.{option_copied};
+ghost use Rattle.mux_frame.specs.Deframing.{IsDeframed};
+ghost use Rattle.mux_frame.specs.Frames.{kept_frame};
+ghost use Rattle.mux_frame.specs.Laws.{IsFunction, IsTotal, OneSpelling, ReadsBeginning, ReadsOn, ReadsSpelled, ReadsWritten, SpellsShortest};
+ghost use Rattle.mux_frame.specs.Reading.{Reads, after_flag};
+ghost use Rattle.mux_frame.specs.Rows.{AreRead, AreSpelled};
+
+use crate::error::FrameError;
+use crate::frame::FrameBuf;
+use crate::judge::Verdict;
+use crate::write::FLAG;
+use memchr::memchr;
+use std::alloc::Global;
+
+/// The text after the first flag.
+fn text_after_flag(octets: &[u8]) -> Option<&[u8]>
+    ensures { option_copied result ≡ after_flag octets.now }
+{
+    let len = octets.len();
+    let place = memchr(FLAG, octets)?;
+    Some(&octets[place + 1..len])
+}
+
+/// The frames that octets are read as, and the octets of the rest, computed plainly over all of
+/// them (27.010, 5.2.3, 5.2.5 and 5.2.6.1). Refusal: 2 NoMemory.
+pub fn read_plain(
+    alloc: Global,
+    n1: u16,
+    octets: &[u8],
+) -> Result<(Vec<FrameBuf>, Vec<u8>), FrameError>
+    ensures ok { IfOk result
+        (λ read. Reads n1 octets.now (map kept_frame read.0.items) read.1.items) }
+    ensures err { OnErr result (result ≡ Err FrameError.NoMemory) }
+{
+    let mut frames = Vec::new(alloc);
+    let mut left = octets;
+    while let Some(text) = text_after_flag(left) {
+        match Verdict::on(n1, text) {
+            Verdict::Unfinished => {
+                let mut rest = Vec::new(alloc);
+                rest.push(FLAG)?;
+                rest.extend_from_slice(text)?;
+                return Ok((frames, rest));
+            }
+            Verdict::Refused => left = text,
+            Verdict::Fits(header) => {
+                frames.push(header.view(text).to_buf(alloc)?)?;
+                left = header.later(text);
+            }
+        }
+    }
+    Ok((frames, Vec::new(alloc)))
+}
+
+/// Octets spell one frame, and no spelling is the beginning of another.
+pub fn one_spelling()
+    ensures { OneSpelling }
+{}
+
+/// A frame that has a spelling has the one that is written, and no other is shorter.
+pub fn spells_shortest()
+    ensures { SpellsShortest }
+{}
+
+/// A text has one reading: the same frames and the same rest.
+pub fn one_reading()
+    ensures { IsFunction }
+{}
+
+/// Reading on from the rest and the octets after it gives what reading all octets anew gives.
+pub fn reads_on()
+    ensures { ReadsOn }
+{}
+
+/// A frame that was written is read, whatever follows its closing flag.
+pub fn reads_written()
+    ensures { ReadsWritten }
+{}
+
+/// Frames that are written one after the other are read as those frames.
+pub fn reads_spelled()
+    ensures { ReadsSpelled }
+{}
+
+/// What is read of the beginning of octets is the beginning of what is read of them all.
+pub fn reads_beginning()
+    ensures { ReadsBeginning }
+{}
+
+/// All octets have a reading.
+pub fn total_reading()
+    ensures { IsTotal }
+{}
+
+/// What a deframer hands out, and when.
+pub fn deframed()
+    ensures { IsDeframed }
+{}
+
+/// Worked examples of frames are spelled as they should be.
+pub fn example_frames()
+    ensures { AreSpelled }
+{}
+
+/// Worked examples of texts are read as they should be.
+pub fn example_texts()
+    ensures { AreRead }
+{}

@@ -1,0 +1,103 @@
+//! The octets of a deframer, in a ring.
+ghost use Rattle.std.specs.Prelude.{◌≡◌, ◌≢◌, ◌+◌, ◌<◌, ◌≤◌, ◌^◌, drop, length, option_map, slice_get, IfSome};
+ghost use Rattle.circular_buffer.specs.Buffer.{buffer};
+ghost use Rattle.mux_frame.specs.Deframing.{IsFront, SameReading, decision_on, next_in};
+ghost use Rattle.mux_frame.specs.Judged.{header_seen, verdict_seen};
+ghost use Rattle.mux_frame.specs.Judging.{frame_at, refused};
+ghost use Rattle.mux_frame.specs.Laws.{AreOctets};
+ghost use Rattle.mux_frame.specs.Places.{from_flag};
+
+use crate::judge::{Header, Verdict};
+use crate::write::FLAG;
+use circular_buffer::HeapCircularBuffer;
+use memchr::memchr;
+
+/// The octet at a place after the first one, where it has come.
+fn octet_after(octets: &HeapCircularBuffer<u8>, place: usize) -> Option<u8>
+    requires { place < 2 ^ 20 }
+    ensures { result ≡ slice_get (drop 1 octets.now.items) place }
+{
+    octets.get(place + 1).copied()
+}
+
+/// The place of the first flag, or their length where there is none.
+fn flag_place(octets: &HeapCircularBuffer<u8>) -> usize
+    ensures within { result ≤ length octets.now.items }
+    ensures rest { drop result octets.now.items ≡ from_flag octets.now.items }
+{
+    let (front, back) = octets.as_slices();
+    match memchr(FLAG, front) {
+        Some(place) => place,
+        None => front.len() + memchr(FLAG, back).unwrap_or(back.len()),
+    }
+}
+
+/// Takes this many octets off the front.
+pub(crate) fn remove_front(octets: &mut HeapCircularBuffer<u8>, count: usize)
+    ensures { octets.new ≡ buffer (drop count octets.old.items) octets.old.capacity }
+{
+    let rest = octets.len().saturating_sub(count);
+    octets.truncate_front(rest);
+}
+
+/// Takes all octets before the first flag off the front.
+fn skip_to_flag(octets: &mut HeapCircularBuffer<u8>)
+    ensures { octets.new ≡ buffer (from_flag octets.old.items) octets.old.capacity }
+{
+    let place = flag_place(octets);
+    remove_front(octets, place);
+}
+
+/// The verdict on the octets, by those that have come: nothing begins no frame yet, and what
+/// begins with another octet than a flag begins none.
+pub(crate) fn front_verdict(octets: &HeapCircularBuffer<u8>, n1: u16) -> Verdict
+    ensures { verdict_seen result ≡ decision_on n1 octets.now.items }
+{
+    let Some(first) = octets.front() else {
+        return Verdict::Unfinished;
+    };
+    if *first != FLAG {
+        return Verdict::Refused;
+    }
+    let lengths = (octet_after(octets, 2), octet_after(octets, 3));
+    match Verdict::by_header(n1, octet_after(octets, 0), octet_after(octets, 1), lengths) {
+        Verdict::Fits(header) => {
+            let place = header.check_place();
+            header.by_end(octet_after(octets, place), octet_after(octets, place + 1))
+        }
+        Verdict::Unfinished => Verdict::Unfinished,
+        Verdict::Refused => Verdict::Refused,
+    }
+}
+
+/// Drops what begins no frame: where a candidate fails, only its flag, and then what stands before
+/// the next flag.
+pub(crate) fn settle(octets: &mut HeapCircularBuffer<u8>, n1: u16)
+    requires { AreOctets octets.old.items }
+    ensures decided { decision_on n1 octets.new.items ≢ refused }
+    ensures reads { SameReading n1 octets.old.items octets.new.items }
+    ensures kept { decision_on n1 octets.old.items ≢ refused → octets.new ≡ octets.old }
+    ensures octets { AreOctets octets.new.items }
+    ensures shorter { length octets.new.items ≤ length octets.old.items }
+    ensures capacity { octets.new.capacity ≡ octets.old.capacity }
+{
+    while let Verdict::Refused = front_verdict(octets, n1) {
+        remove_front(octets, 1);
+        skip_to_flag(octets);
+    }
+}
+
+/// The header of the frame that is whole at the front, where there is one.
+pub(crate) fn whole_header(octets: &HeapCircularBuffer<u8>, n1: u16) -> Option<Header>
+    requires { AreOctets octets.now.items }
+    ensures next { option_map (λ h. frame_at (header_seen h) (drop 1 octets.now.items)) result
+        ≡ next_in n1 octets.now.items }
+    ensures front { IfSome result (λ h. IsFront n1 octets.now.items (header_seen h)) }
+    ensures long { IfSome result (λ h. h.size + h.info_len + 3 ≤ length octets.now.items) }
+{
+    match front_verdict(octets, n1) {
+        Verdict::Fits(header) => Some(header),
+        Verdict::Unfinished => None,
+        Verdict::Refused => None,
+    }
+}
