@@ -1,0 +1,3 @@
+pub mod Framings
+pub mod Inputs
+pub mod Scripts

@@ -1,0 +1,142 @@
+//! The subcommands, each over a reader and two writers.
+ghost use Rattle.std.specs.Prelude.{◌≡◌, ◌≤◌, ◌<◌, ◌↔◌, ◌⊎◌, map, Ok, IfOk, IsErr, IsErrOf, OnErr, MatchResult, true};
+ghost use Rattle.std.specs.Io.KnownBytes.{Appends};
+ghost use Rattle.std.specs.String.{string_bytes};
+ghost use Rattle.mux_frame.specs.Frames.{kept_frame};
+ghost use Rattle.mux_frame.specs.Reading.{Reads};
+ghost use Rattle.modemctl.specs.Statuses.{status_of};
+ghost use Rattle.modemctl.specs.declared.stop.Stop.TheVariants as Stop;
+
+use crate::dump::read_dump;
+use crate::framing::read_frames;
+use crate::input::read_whole;
+use crate::script::read_script;
+use crate::stop::Stop;
+use crate::texts::{push_act, push_frame, push_rest};
+use modem_driver::{Act, CoreError, Event, replay};
+use mux_frame::{FrameBuf, FrameError};
+use std::alloc::Global;
+use std::io::{Read, Write};
+
+/// Writes the output whole, and says whether the writer took it.
+fn put<W: Write>(output: &mut W, text: &str) -> bool
+    ensures { result ≡ true → Appends (W.contents output.old) (W.contents output.new) text.now }
+{
+    output.write_all(text.as_bytes()).is_ok() && output.flush().is_ok()
+}
+
+/// Says why a run ended, and gives the status. A writer that fails changes nothing.
+pub fn give_up<E: Write>(faults: &mut E, stop: Stop) -> u8
+    ensures { result ≡ status_of stop }
+{
+    let _ = writeln!(faults, "{stop}");
+    stop.status()
+}
+
+/// Writes what a run gave, or says why it gave nothing; and gives the status.
+fn finish<W: Write, E: Write>(output: &mut W, faults: &mut E, built: Result<String, Stop>) -> u8
+    ensures ended { MatchResult built (λ _. result ≤ 1) (λ stop. result ≡ status_of stop) }
+    ensures written { IfOk built (λ text. result ≡ 0 → Appends (W.contents output.old) (W.contents output.new) (string_bytes text)) }
+    ensures nothing { OnErr built (output.new ≡ output.old) }
+    ensures silent { result ≡ 0 → faults.new ≡ faults.old }
+{
+    let text = match built {
+        Ok(text) => text,
+        Err(stop) => return give_up(faults, stop),
+    };
+    if put(output, text.as_str()) {
+        0
+    } else {
+        give_up(faults, Stop::Output)
+    }
+}
+
+/// What events come to.
+fn acts_of(alloc: Global, n1: u16, events: &[Event]) -> Result<Vec<Act>, Stop>
+    ensures { IsErrOf result Stop.BadN1 ↔ ((n1 < 31) ⊎ (32767 < n1)) }
+{
+    match replay(alloc, n1, events) {
+        Ok(acts) => Ok(acts),
+        Err(CoreError::BadN1) => Err(Stop::BadN1),
+        Err(CoreError::NoMemory) => Err(Stop::NoMemory),
+        Err(CoreError::NoRoom) => unreachable!(),
+    }
+}
+
+/// What octets are read as: frames, and the octets of the rest.
+fn frames_of(alloc: Global, n1: u16, octets: &[u8]) -> Result<(Vec<FrameBuf>, Vec<u8>), Stop>
+    ensures ok { IfOk result (λ read. Reads n1 octets.now (map kept_frame read.0.items) read.1.items) }
+    ensures bad_n1 { IsErrOf result Stop.BadN1 ↔ ((n1 < 31) ⊎ (32767 < n1)) }
+{
+    match read_frames(alloc, n1, octets) {
+        Ok(read) => Ok(read),
+        Err(FrameError::BadN1) => Err(Stop::BadN1),
+        Err(FrameError::NoMemory) => Err(Stop::NoMemory),
+        Err(FrameError::TooLong) => unreachable!(),
+    }
+}
+
+/// The acts that a script comes to, as text.
+fn replayed<R: Read>(alloc: Global, input: &mut R, n1: u16) -> Result<String, Stop>
+    ensures { (n1 < 31) ⊎ (32767 < n1) → IsErr result }
+{
+    let script = read_whole(alloc, input)?;
+    let events = read_script(alloc, script.as_slice())?;
+    let acts = acts_of(alloc, n1, events.as_slice())?;
+    let mut text = String::new(alloc);
+    for act in &acts {
+        push_act(alloc, act, &mut text)?;
+    }
+    Ok(text)
+}
+
+/// The frames that octets are read as, and the rest, as text.
+fn framed<R: Read>(alloc: Global, input: &mut R, n1: u16) -> Result<String, Stop>
+    ensures { (n1 < 31) ⊎ (32767 < n1) → IsErr result }
+{
+    let dump = read_whole(alloc, input)?;
+    let octets = read_dump(alloc, dump.as_slice())?;
+    let (frames, rest) = frames_of(alloc, n1, octets.as_slice())?;
+    let mut text = String::new(alloc);
+    for frame in &frames {
+        push_frame(alloc, &frame.view(), &mut text)?;
+    }
+    push_rest(alloc, rest.as_slice(), &mut text)?;
+    Ok(text)
+}
+
+/// Replays the script of `input`, and writes the acts to `output`. The status is 0 where all of them are
+/// written, 1 at a fault, 2 at a bad line; only then it says on `faults` why.
+pub fn replay_run<R: Read, W: Write, E: Write>(
+    alloc: Global,
+    input: &mut R,
+    output: &mut W,
+    faults: &mut E,
+    n1: u16,
+) -> u8
+    ensures status { result ≤ 2 }
+    ensures bad { result ≡ 2 → output.new ≡ output.old }
+    ensures bad_n1 { (n1 < 31) ⊎ (32767 < n1) → 0 < result }
+    ensures silent { result ≡ 0 → faults.new ≡ faults.old }
+{
+    let built = replayed(alloc, input, n1);
+    finish(output, faults, built)
+}
+
+/// Reads the octets of `input` as frames, and writes these and the rest to `output`. The status is as that of
+/// `replay_run`.
+pub fn frames_run<R: Read, W: Write, E: Write>(
+    alloc: Global,
+    input: &mut R,
+    output: &mut W,
+    faults: &mut E,
+    n1: u16,
+) -> u8
+    ensures status { result ≤ 2 }
+    ensures bad { result ≡ 2 → output.new ≡ output.old }
+    ensures bad_n1 { (n1 < 31) ⊎ (32767 < n1) → 0 < result }
+    ensures silent { result ≡ 0 → faults.new ≡ faults.old }
+{
+    let built = framed(alloc, input, n1);
+    finish(output, faults, built)
+}

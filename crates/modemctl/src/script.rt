@@ -1,0 +1,115 @@
+//! The script that `replay` reads: a line for each event.
+ghost use Rattle.std.specs.Prelude.{◌≡◌, ◌≢◌, ◌<◌, ◌++◌, [], Ok, IfOk, IfErr, IfSome, codes};
+ghost use Rattle.hex.specs.Hex.{decode_of};
+ghost use Rattle.modemctl.specs.Script.{number_text, Says};
+ghost use Rattle.modemctl.specs.declared.stop.Refusal.TheVariants as Refusal;
+
+use crate::input::without_end;
+use crate::stop::{Refusal, Stop};
+use at_text::CommandLine;
+use modem_desk::{Ask, Request};
+use modem_driver::{Event, Octets};
+use mux_frame::Dlci;
+use std::alloc::Global;
+
+/// What a line says.
+#[derive(Drop, Debug)]
+enum Order {
+    Ask(Ask),
+    Octets(Octets),
+}
+
+/// The number of a connection in decimal without leading zeros: 0 to 61.
+fn dlci_of(word: &[u8]) -> Option<Dlci>
+    ensures { IfSome result (λ dlci. word.now ≡ number_text dlci.number) }
+{
+    let number = match word {
+        [ones] if ones.is_ascii_digit() => *ones - b'0',
+        [tens, ones] if *tens != b'0' && tens.is_ascii_digit() && ones.is_ascii_digit() => {
+            10 * (*tens - b'0') + (*ones - b'0')
+        }
+        _ => return None,
+    };
+    Dlci::new(number)
+}
+
+/// A connection that is served: 0 and 1 are.
+fn served(word: &[u8]) -> Result<Dlci, Refusal>
+    ensures ok { IfOk result (λ dlci. (word.now ≡ number_text dlci.number) × (dlci.number < 2)) }
+    ensures err { IfErr result (λ refusal. refusal ≡ Refusal.Bad) }
+{
+    match dlci_of(word) {
+        Some(dlci) if dlci.number() < 2 => Ok(dlci),
+        _ => Err(Refusal::Bad),
+    }
+}
+
+/// Pairs of hexadecimal digits, at least one.
+fn octets_of(alloc: Global, word: &[u8]) -> Result<Octets, Refusal>
+    ensures { IfOk result (λ octets. (decode_of word.now ≡ Ok octets) × (octets ≢ [])) }
+{
+    let octets = hex::decode(alloc, word)?;
+    if octets.is_empty() {
+        return Err(Refusal::Bad);
+    }
+    Ok(Octets::from_vec(octets))
+}
+
+/// The words after `cmd`: a connection, one blank and a command line.
+fn command_of(alloc: Global, words: &[u8]) -> Result<Order, Refusal>
+    ensures { IfOk result (Says (codes "cmd " ++ words.now)) }
+{
+    let blank = words.iter().position(|octet| *octet == b' ');
+    let (word, rest) = words.split_at(blank.unwrap_or(words.len()));
+    let Some(text) = rest.strip_prefix(b" ") else {
+        return Err(Refusal::Bad);
+    };
+    let dlci = served(word)?;
+    let line = CommandLine::new(alloc, text)?;
+    Ok(Order::Ask(Ask::Command(dlci, line)))
+}
+
+/// A line that isn't empty.
+fn order_of(alloc: Global, line: &[u8]) -> Result<Order, Refusal>
+    ensures { IfOk result (Says line.now) }
+{
+    if let Some(word) = line.strip_prefix(b"open ") {
+        return Ok(Order::Ask(Ask::OpenChannel(served(word)?)));
+    }
+    if let Some(words) = line.strip_prefix(b"cmd ") {
+        return command_of(alloc, words);
+    }
+    if let Some(word) = line.strip_prefix(b"in ") {
+        return Ok(Order::Octets(octets_of(alloc, word)?));
+    }
+    Err(Refusal::Bad)
+}
+
+/// The events of a script. Requests are caller 0's and have the numbers from 1 in order.
+pub fn read_script(alloc: Global, script: &[u8]) -> Result<Vec<Event>, Stop> {
+    let mut events = Vec::new(alloc);
+    let mut numbers = 1..=u64::MAX;
+    let pieces = script.split_inclusive(|octet| *octet == b'\n');
+    for (place, piece) in (1..=u64::MAX).zip(pieces) {
+        let line = without_end(piece);
+        if line.is_empty() {
+            continue;
+        }
+        match order_of(alloc, line) {
+            Ok(Order::Octets(octets)) => events.push(Event::Octets(octets))?,
+            Ok(Order::Ask(ask)) => {
+                let Some(number) = numbers.next() else {
+                    return Err(Stop::NoMemory);
+                };
+                let caller = 0;
+                events.push(Event::Ask(Request {
+                    caller,
+                    number,
+                    ask,
+                }))?;
+            }
+            Err(refusal) => return Err(refusal.at_line(place)),
+        }
+    }
+    Ok(events)
+}

@@ -1,0 +1,108 @@
+//! Why a run ends without its output.
+ghost use Rattle.std.specs.Prelude.{◌≡◌, ◌≤◌};
+ghost use Rattle.modemctl.specs.Statuses.{status_of, stop_at};
+ghost use Rattle.modemctl.specs.declared.stop.Stop.TheVariants.{NoMemory};
+
+use at_text::TextError;
+use hex::FromHexError;
+use std::alloc::{AllocError, AllocFailed};
+use thiserror::Error;
+
+/// Why a run ends without its whole output.
+#[derive(Clone, Copy, PartialEq, Eq, Debug, Error)]
+pub enum Stop {
+    /// A growth was refused.
+    #[error("fault: no memory")]
+    NoMemory,
+    /// The reader failed, or gave no end.
+    #[error("fault: input")]
+    Input,
+    /// The writer failed.
+    #[error("fault: output")]
+    Output,
+    /// N1 isn't 31 to 32767.
+    #[error("error: N1 is 31 to 32767")]
+    BadN1,
+    /// This line of the input is bad, counted from 1.
+    #[error("bad line {0}")]
+    BadLine(u64),
+}
+
+impl Stop {
+    /// The exit status: 1 for a fault, 2 for words or a line that are bad.
+    pub fn status(self) -> u8
+        ensures { result ≡ status_of self }
+    {
+        match self {
+            Stop::NoMemory | Stop::Input | Stop::Output => 1,
+            Stop::BadN1 | Stop::BadLine(_) => 2,
+        }
+    }
+}
+
+impl From<AllocError> for Stop {
+    ghost from_gives = { λ _ e. e ≡ NoMemory };
+
+    fn from(_error: AllocError) -> Stop {
+        Stop::NoMemory
+    }
+}
+
+impl<T: Drop> From<AllocFailed<T>> for Stop {
+    ghost from_gives = { λ _ e. e ≡ NoMemory };
+
+    fn from(_error: AllocFailed<T>) -> Stop {
+        Stop::NoMemory
+    }
+}
+
+/// Why a line of the input isn't read.
+#[derive(Clone, Copy, PartialEq, Eq, Debug)]
+pub enum Refusal {
+    /// It is bad.
+    Bad,
+    /// A growth was refused.
+    NoMemory,
+}
+
+impl Refusal {
+    /// The end of a run at this line, counted from 1.
+    pub fn at_line(self, place: u64) -> Stop
+        ensures { result ≡ stop_at place self }
+    {
+        match self {
+            Refusal::Bad => Stop::BadLine(place),
+            Refusal::NoMemory => Stop::NoMemory,
+        }
+    }
+}
+
+impl From<AllocError> for Refusal {
+    fn from(_error: AllocError) -> Refusal {
+        Refusal::NoMemory
+    }
+}
+
+impl From<FromHexError> for Refusal {
+    fn from(error: FromHexError) -> Refusal {
+        match error {
+            FromHexError::OutOfMemory => Refusal::NoMemory,
+            _ => Refusal::Bad,
+        }
+    }
+}
+
+impl From<TextError> for Refusal {
+    fn from(error: TextError) -> Refusal {
+        match error {
+            TextError::NoMemory => Refusal::NoMemory,
+            _ => Refusal::Bad,
+        }
+    }
+}
+
+impl<T: Drop> From<AllocFailed<T>> for Refusal {
+    fn from(_error: AllocFailed<T>) -> Refusal {
+        Refusal::NoMemory
+    }
+}
