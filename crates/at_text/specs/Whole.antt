@@ -53,7 +53,7 @@ pub record NoneLost (ms : List Mark) : Type 0 where
   -- the answers given whole are those with their final code, in order: those of the first commands
   pub whole : filter_map given (seen_in ms) ≡ map answer_lines (filter has_final (answers ms))
   pub in_order : filter has_final (answers ms) ≡ take (answered ms) (answers ms)
-  -- each command has one echo at most
+  -- there are at most as many echoes as commands
   pub echoes : length (filter is_repeat (seen_in ms)) ≤ length (windows ms)
   -- what is announced as a kind other than Other are the unsolicited lines, in order
   pub of_kinds : filter is_of_kind (announced (lines_of ms) (seen_in ms)) ≡ unsolicited_in (lines_of ms)

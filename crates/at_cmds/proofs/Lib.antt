@@ -1,0 +1,10 @@
+pub mod ValueLemmas
+pub mod ParamLemmas
+pub mod LineLemmas
+pub mod ReadingLemmas
+pub mod FormLemmas
+pub mod NameLemmas
+pub mod CommandLemmas
+pub mod ReadLemmas
+pub mod LawLemmas
+pub mod AnswerLemmas

@@ -1,0 +1,9 @@
+pub mod Cme
+pub mod Params
+pub mod Registrations
+pub mod Statuses
+pub mod Forms
+pub mod Commands
+pub mod Values
+pub mod Laws
+pub mod Replies

@@ -1,0 +1,25 @@
+//! Typed commands and replies of a modem (3GPP TS 27.007, clauses 5 to 10), in the line syntax of ITU-T V.250, clause 5.
+#![tactic(auto)]
+
+mod answers;
+mod cells;
+mod cme;
+mod command;
+mod error;
+pub mod laws;
+mod params;
+mod reading;
+mod registration;
+mod reply;
+#[cfg(test)]
+mod tests;
+mod texts;
+mod values;
+mod writing;
+
+pub use cme::cme_text;
+pub use command::{Command, OperChoice, Pdp};
+pub use error::{CmdError, ReplyFault};
+pub use registration::{Registration, RegistrationStatus};
+pub use reply::{Context, Contexts, NamedOper, PinState, Reply};
+pub use texts::{Apn, OperNumber, Pin, Quoted};
