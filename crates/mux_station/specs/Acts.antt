@@ -1,5 +1,5 @@
 -- What happens at an end of the line. A past is written with its newest act first.
-use Rattle.std.specs.Prelude.{ℕ, Bool, List, [], ◌∷◌}
+use Rattle.std.specs.Prelude.{ℕ, Bool, List}
 use Rattle.mux_frame.specs.Frames.{Frame}
 
 -- what its user asks of it

@@ -1,8 +1,8 @@
 -- What a station's history has to keep: data leaves open connections that aren't stopped, each other frame is
 -- called for, and none that is called for is missing (27.010, 5.4).
-use Rattle.std.specs.Prelude.{ℕ, ◌≡◌, ◌+◌, ◌*◌, ◌==◌, ◌&&◌, ◌||◌, not, nat_le, Bool, true, false, IsTrue, List, [], ◌∷◌, ◌++◌, length, drop, Option, Some, None, if◌then◌else◌, is_none, is_some}
+use Rattle.std.specs.Prelude.{ℕ, ◌≡◌, ◌+◌, ◌==◌, ◌&&◌, ◌||◌, not, nat_le, Bool, true, false, IsTrue, List, [], ◌∷◌, ◌++◌, length, drop, Option, Some, None, if◌then◌else◌, is_none, is_some}
 use Rattle.std.specs.Str.{bytes_eq}
-use Rattle.std.specs.List.{list_all}
+use Rattle.std.specs.List.{list_all, list_any}
 use Rattle.mux_frame.specs.Frames.{Frame}
 use Rattle.mux_frame.specs.declared.frame.Kind.TheVariants.{Sabm, Disc, Uih}
 use Rattle.mux_station.specs.declared.role.Role.{Role}
@@ -138,8 +138,13 @@ probe_of s (a ∷ past) =
 abbrev pub seen : Setting → List Act → Seen
 seen s past = record { state = λ d. state_of s.role d past; queued = octets_of (queue past); probe = probe_of s past }
 
+abbrev pub is_loss : Act → Bool
+is_loss Lost = true
+is_loss _ = false
+
+-- nothing is called for once the line is lost
 abbrev pub calls : Setting → List Act → Act → List Frame
-calls s past a = calls_seeing s (seen s past) a
+calls s past a = if list_any is_loss past then [] else calls_seeing s (seen s past) a
 
 -- ## The laws
 
