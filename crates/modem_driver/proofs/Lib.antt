@@ -1,5 +1,6 @@
 pub mod Said
 pub mod WholeLaws
+pub mod Leaving
 pub mod Standing
 pub mod Laning
 pub mod Counts

@@ -1,7 +1,9 @@
 -- What a whole history says: of all that it called for, what stands in it is the beginning.
-use Rattle.std.specs.Prelude.{◌≡◌, Bool, true, false, not, List, [], ◌∷◌, ◌++◌, if◌then◌else◌}
+use Rattle.std.specs.Prelude.{◌≡◌, ℕ, Bool, true, false, not, List, [], ◌∷◌, ◌++◌, if◌then◌else◌}
+use Rattle.std.specs.List.{concat}
 use Rattle.mux_station.specs.Written.{is_data_frame}
 use Rattle.modem_driver.specs.Acts.{Act, Sent, Told, Heard, Given, after}
+use Rattle.modem_driver.specs.Information.{information_out, accepted, texts}
 use Rattle.modem_driver.specs.Calls.{Setting, calls}
 use Rattle.modem_driver.specs.Lawful.{Lawful, Complete, owed}
 
@@ -48,3 +50,11 @@ pub record GoesOn (s : Setting) (past acts : List Act) : Type 0 where
 
 unfoldable pub CallGoesOn : Setting → List Act → Act → Type 0
 CallGoesOn s past a = is_first a ≡ true → Lawful s past → Complete s past → GoesOn s past (a ∷ calls s past a)
+
+pub record IsPrefixOf (xs ys : List ℕ) : Type 0 where
+  pub rest : List ℕ
+  pub joins : xs ++ rest ≡ ys
+
+-- what left since d opened is a prefix of the commands accepted since then, each as it goes out
+abbrev pub LeavesOnce : Setting → List Act → Type 0
+LeavesOnce s past = (d : ℕ) → IsPrefixOf (information_out s.role d past) (concat (texts (accepted s.role d past)))
