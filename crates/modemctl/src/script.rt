@@ -1,7 +1,7 @@
 //! The script that `replay` reads: a line for each event.
 ghost use Rattle.std.specs.Prelude.{◌≡◌, ◌≢◌, ◌<◌, ◌++◌, [], Ok, IfOk, IfErr, IfSome, codes};
 ghost use Rattle.hex.specs.Hex.{decode_of};
-ghost use Rattle.modemctl.specs.Script.{number_text, Says};
+ghost use Rattle.modemctl.specs.Script.{AreNumbered, number_text, Says};
 ghost use Rattle.modemctl.specs.declared.stop.Refusal.TheVariants as Refusal;
 
 use crate::input::without_end;
@@ -86,9 +86,12 @@ fn order_of(alloc: Global, line: &[u8]) -> Result<Order, Refusal>
 }
 
 /// The events of a script. Requests are caller 0's and have the numbers from 1 in order.
-pub fn read_script(alloc: Global, script: &[u8]) -> Result<Vec<Event>, Stop> {
+#[tactic(auto, using(crate::proofs::Scripts::none_numbered))]
+pub fn read_script(alloc: Global, script: &[u8]) -> Result<Vec<Event>, Stop>
+    ensures { IfOk result (λ events. AreNumbered 1 events.items) }
+{
     let mut events = Vec::new(alloc);
-    let mut numbers = 1..=u64::MAX;
+    let mut asked = 0;
     let pieces = script.split_inclusive(|octet| *octet == b'\n');
     for (place, piece) in (1..=u64::MAX).zip(pieces) {
         let line = without_end(piece);
@@ -98,13 +101,10 @@ pub fn read_script(alloc: Global, script: &[u8]) -> Result<Vec<Event>, Stop> {
         match order_of(alloc, line) {
             Ok(Order::Octets(octets)) => events.push(Event::Octets(octets))?,
             Ok(Order::Ask(ask)) => {
-                let Some(number) = numbers.next() else {
-                    return Err(Stop::NoMemory);
-                };
-                let caller = 0;
+                asked += 1;
                 events.push(Event::Ask(Request {
-                    caller,
-                    number,
+                    caller: 0,
+                    number: asked,
                     ask,
                 }))?;
             }
