@@ -106,7 +106,8 @@ impl Contexts {
     pub fn into_vec(self) -> Vec<Context>
         ensures { result.items ≡ self }
     {
-        self.contexts
+        let Contexts { contexts } = self;
+        contexts
     }
 }
 
