@@ -1,6 +1,8 @@
 pub mod Said
 pub mod WholeLaws
 pub mod Leaving
+pub mod Outcomes
+pub mod Tellings
 pub mod Standing
 pub mod Laning
 pub mod Counts

@@ -9,7 +9,7 @@ use Rattle.modem_desk.specs.declared.request.Answer.TheVariants.{Opened}
 use Rattle.modem_driver.specs.Acts.{after, told, wire}
 use Rattle.modem_driver.specs.Serving.{replaying}
 use Rattle.modem_driver.specs.Lawful.{Lawful, Complete, Quiet, is_quiet_on}
-use Rattle.modem_driver.specs.Rows.{asks, one, csq, told_early, told_twice, data_before_opening, IsGood, IsRefused}
+use Rattle.modem_driver.specs.Rows.{asks, one, csq, told_early, told_twice, told_another, data_before_opening, IsGood, IsRefused}
 
 csq_lawful : Lawful (replaying 31) (after [] csq)
 unfolding Lawful
@@ -69,6 +69,10 @@ told_early_refused l = let n = l.0.answered.is_next in cc
 pub told_twice_refused : IsRefused told_twice
 unfolding Lawful
 told_twice_refused l = let n = l.0.answered.is_next in cc
+
+pub told_another_refused : IsRefused told_another
+unfolding Lawful
+told_another_refused l = let n = l.0.answered.is_next in cc
 
 pub data_before_opening_refused : IsRefused data_before_opening
 unfolding Lawful

@@ -174,8 +174,8 @@ lines_each_said s d owner ms (line ∷ rest) =
 
 lines_all_said : (s : Setting) (v : Seen) (a : Act) → Saids (lines_said s v a)
 lines_all_said s v (Got f) =
-    saids_if (is_opened (v.state f.dlci) && is_data_frame f) (by_lines s f.dlci (first_on f.dlci v.hand) (v.marks f.dlci) (lines (v.run f.dlci ++ f.info))) []
-    (lines_each_said s f.dlci (first_on f.dlci v.hand) (v.marks f.dlci) (lines (v.run f.dlci ++ f.info))) refl
+    saids_if (is_opened (v.state f.dlci) && is_data_frame f) (by_lines s f.dlci (first_on f.dlci v.waiting) (v.marks f.dlci) (lines (v.run f.dlci ++ f.info))) []
+    (lines_each_said s f.dlci (first_on f.dlci v.waiting) (v.marks f.dlci) (lines (v.run f.dlci ++ f.info))) refl
 lines_all_said s v (Took r) = refl
 lines_all_said s v (Sent f) = refl
 lines_all_said s v (Told f) = refl
@@ -201,7 +201,7 @@ calls_said s v a =
     let now = states_now s v (a ∷ sent) in
     let controls : Controls (frames s v a) = controls_if v.lost [] (frames_by s v a) refl (framed s v a) in
     let first : Saids sent = list_all-map is_said Sent (frames s v a) ∙ controls in
-    let last : Saids (tolds v now a) = tolds_said v now a v.hand in
+    let last : Saids (tolds v now a) = tolds_said v now a v.waiting in
     saids_both sent (said_at_once s v a ++ (lines_said s v a ++ tolds v now a)) first
     (saids_both (said_at_once s v a) (lines_said s v a ++ tolds v now a) (once_said s v a)
     (saids_both (lines_said s v a) (tolds v now a) (lines_all_said s v a) last))

@@ -6,7 +6,7 @@ use Rattle.std.proofs.lemmas.Bool.{and_parts}
 use Rattle.mux_frame.specs.Frames.{Frame}
 use Rattle.mux_station.specs.Written.{is_data_frame}
 use Rattle.modem_driver.specs.Acts.{Act, Took, Got, Sent, Told, Heard, Tick, Lost, Held, Freed, Given, after}
-use Rattle.modem_driver.specs.Calls.{Setting, calls, seen}
+use Rattle.modem_driver.specs.Calls.{Setting, calls, calls_behind, seen}
 use Rattle.modem_driver.specs.Lawful.{Lawful, Complete, Allows, IsNext, When, owed}
 use Rattle.modem_driver.specs.Wholes.{called, stands, IsBeginning, is_said, GoesOn, CallGoesOn}
 use Rattle.modem_driver.proofs.Said.{calls_said}
@@ -33,12 +33,12 @@ sent_by false xs owing total f h n = moved xs owing total (Sent f) h n
 pub beginning : (s : Setting) (past : List Act) → Lawful s past → IsBeginning s past
 unfolding Lawful
 beginning s [] l = refl
-beginning s (Took r ∷ past) l = added (stands past) (owed s past) (called s past) (calls s past (Took r)) (beginning s past l.1)
-beginning s (Got f ∷ past) l = added (stands past) (owed s past) (called s past) (calls s past (Got f)) (beginning s past l.1)
-beginning s (Tick ∷ past) l = added (stands past) (owed s past) (called s past) (calls s past Tick) (beginning s past l.1)
-beginning s (Lost ∷ past) l = added (stands past) (owed s past) (called s past) (calls s past Lost) (beginning s past l.1)
-beginning s (Held d ∷ past) l = added (stands past) (owed s past) (called s past) (calls s past (Held d)) (beginning s past l.1)
-beginning s (Freed d ∷ past) l = added (stands past) (owed s past) (called s past) (calls s past (Freed d)) (beginning s past l.1)
+beginning s (Took r ∷ past) l = added (stands past) (owed s past) (called s past) (calls_behind s past (owed s past) (Took r)) (beginning s past l.1)
+beginning s (Got f ∷ past) l = added (stands past) (owed s past) (called s past) (calls_behind s past (owed s past) (Got f)) (beginning s past l.1)
+beginning s (Tick ∷ past) l = added (stands past) (owed s past) (called s past) (calls_behind s past (owed s past) Tick) (beginning s past l.1)
+beginning s (Lost ∷ past) l = added (stands past) (owed s past) (called s past) (calls_behind s past (owed s past) Lost) (beginning s past l.1)
+beginning s (Held d ∷ past) l = added (stands past) (owed s past) (called s past) (calls_behind s past (owed s past) (Held d)) (beginning s past l.1)
+beginning s (Freed d ∷ past) l = added (stands past) (owed s past) (called s past) (calls_behind s past (owed s past) (Freed d)) (beginning s past l.1)
 beginning s (Given ∷ past) l = beginning s past l.1
 beginning s (Sent f ∷ past) l = sent_by (is_data_frame f) (stands past) (owed s past) (called s past) f (beginning s past l.1) l.0.controlled
 beginning s (Told o ∷ past) l = moved (stands past) (owed s past) (called s past) (Told o) (beginning s past l.1) l.0.answered
@@ -111,11 +111,11 @@ pays s past (Held r ∷ acts) rest h p l = absurd (let e : false ≡ true = p in
 pays s past (Freed r ∷ acts) rest h p l = absurd (let e : false ≡ true = p in cc)
 pays s past (Given ∷ acts) rest h p l = absurd (let e : false ≡ true = p in cc)
 
-paid : (s : Setting) (past : List Act) (a : Act) → owed s (a ∷ past) ≡ owed s past ++ calls s past a → Allows s past (owed s past) a
+paid : (s : Setting) (past : List Act) (a : Act) → owed s (a ∷ past) ≡ owed s past ++ calls_behind s past (owed s past) a → Allows s past (owed s past) a
     → list_all is_said (calls s past a) ≡ true → Lawful s past → owed s past ≡ [] → GoesOn s past (a ∷ calls s past a)
 unfolding Lawful Complete
 paid s past a e allowed p l c =
-    let now : owed s (a ∷ past) ≡ calls s past a ++ [] = e ∙ (ap (λ (v : List Act). v ++ calls s past a) c ∙ sym (append-nil (calls s past a))) in
+    let now : owed s (a ∷ past) ≡ calls s past a ++ [] = e ∙ (ap (λ (v : List Act). v ++ calls_behind s past v a) c ∙ sym (append-nil (calls s past a))) in
     let done = pays s (a ∷ past) (calls s past a) [] now p (allowed, l) in
     record { lawful = done.0; complete = done.1 }
 

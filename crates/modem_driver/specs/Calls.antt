@@ -23,7 +23,7 @@ use Rattle.modem_desk.specs.declared.request.Ask.TheVariants.{OpenChannel, Close
 use Rattle.modem_desk.specs.declared.request.Request.{Request}
 use Rattle.modem_desk.specs.declared.request.Answer.{Answer}
 use Rattle.modem_desk.specs.declared.request.Answer.TheVariants.{Done, Opened, Shut, ProbeBack, Stopped, NotOpen, AlreadyOpen, Refused, NoAnswer, Closed, ControlChannel, LineLost, Busy}
-use Rattle.modem_driver.specs.Acts.{Act, Took, Got, Sent, Heard, Tick, Lost, Held, Freed, told, in_hand, wire}
+use Rattle.modem_driver.specs.Acts.{Act, Took, Got, Sent, Told, Heard, Tick, Lost, Held, Freed, told, in_hand, without, wire}
 use Rattle.modem_driver.specs.Information.{command_on}
 use Rattle.modem_driver.specs.Placing.{marks, run_on}
 
@@ -61,6 +61,8 @@ ticks_since r (_ ∷ past) = ticks_since r past
 pub record Seen : Type 0 where
   pub state : ℕ → State
   pub hand : List Request
+  -- of those in hand the ones to which no outcome is owed
+  pub waiting : List Request
   pub lost : Bool
   -- the octets that wait in the control queue
   pub queued : ℕ
@@ -71,16 +73,27 @@ pub record Seen : Type 0 where
   -- what is kept of its unfinished line
   pub run : ℕ → List ℕ
 
-abbrev pub seen : Setting → List Act → Seen
-seen s past = record {
+-- the requests without those to which an outcome is owed
+abbrev pub unanswered : List Act → List Request → List Request
+unanswered [] hand = hand
+unanswered (Told o ∷ owing) hand = without o (unanswered owing hand)
+unanswered (_ ∷ owing) hand = unanswered owing hand
+
+abbrev pub seen_behind : Setting → List Act → (owing : List Act) → Seen
+seen_behind s past owing = record {
   state = λ d. state_of s.role d (wire past);
   hand = in_hand past;
+  waiting = unanswered owing (in_hand past);
   lost = is_lost past;
   queued = octets_of (queue (wire past));
   ticks = λ r. ticks_since r past;
   marks = λ d. marks s.role d past;
   run = λ d. run_on s.role d past;
 }
+
+-- where nothing is owed
+abbrev pub seen : Setting → List Act → Seen
+seen s past = seen_behind s past []
 
 -- ## Answers at once
 
@@ -115,7 +128,7 @@ refused_ask s v (Command d line) =
     else None
 refused_ask s v (Probe octets) =
     if not (is_opened (v.state 0)) then Some NotOpen
-    else if probe_waits v.hand || not (all_have_room s v (asking s.role (Probe octets))) then Some Busy
+    else if probe_waits v.waiting || not (all_have_room s v (asking s.role (Probe octets))) then Some Busy
     else None
 refused_ask s v Stop =
     if not (is_opened (v.state 0)) then Some NotOpen
@@ -179,7 +192,7 @@ stop_ended Lost = LineLost
 stop_ended Tick = NoAnswer
 stop_ended _ = Stopped
 
--- what a request in hand is told, by the states before the call and now
+-- what a request that waits is told, by the states before the call and now
 abbrev pub later : Seen → (ℕ → State) → Act → Request → Ask → Option Answer
 later v now a r (OpenChannel d) = open_later (now d.number) (cause v now a Refused)
 later v now a r (CloseChannel d) = close_later (now d.number) (cause v now a Shut)
@@ -191,11 +204,11 @@ abbrev pub told_later : Seen → (ℕ → State) → Act → Request → Option 
 told_later v now a r = option_map (told r) (later v now a r r.ask)
 
 abbrev pub tolds : Seen → (ℕ → State) → Act → List Act
-tolds v now a = filter_map (told_later v now a) v.hand
+tolds v now a = filter_map (told_later v now a) v.waiting
 
 -- ## Lines
 
--- the request whose command is under way on d: the first in hand
+-- the request whose command is under way on d: the first that waits
 abbrev pub first_on : ℕ → List Request → Option Request
 first_on d [] = None
 first_on d (r ∷ rs) = if command_on d r.ask then Some r else first_on d rs
@@ -223,7 +236,7 @@ by_lines s d owner ms (line ∷ rest) = by_seen s d owner line (seen_after ms li
 abbrev pub lines_said : Setting → Seen → Act → List Act
 lines_said s v (Got f) =
     if is_opened (v.state f.dlci) && is_data_frame f
-    then by_lines s f.dlci (first_on f.dlci v.hand) (v.marks f.dlci) (lines (v.run f.dlci ++ f.info))
+    then by_lines s f.dlci (first_on f.dlci v.waiting) (v.marks f.dlci) (lines (v.run f.dlci ++ f.info))
     else []
 lines_said s v _ = []
 
@@ -249,3 +262,7 @@ calls_seeing s v a =
 
 abbrev pub calls : Setting → List Act → Act → List Act
 calls s past a = calls_seeing s (seen s past) a
+
+-- the same where so much is owed: a request to which an outcome is owed is told no other
+abbrev pub calls_behind : Setting → List Act → (owing : List Act) → Act → List Act
+calls_behind s past owing a = calls_seeing s (seen_behind s past owing) a

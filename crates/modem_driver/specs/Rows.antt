@@ -2,7 +2,7 @@
 use Rattle.std.proofs.Common.{lit<}
 use Rattle.std.specs.Prelude.{ℕ, List, [], ◌∷◌, ◌++◌, codes}
 use Rattle.mux_frame.specs.declared.frame.Kind.{Kind}
-use Rattle.mux_frame.specs.declared.frame.Kind.TheVariants.{Sabm, Ua, Uih}
+use Rattle.mux_frame.specs.declared.frame.Kind.TheVariants.{Sabm, Ua, Dm, Uih}
 use Rattle.mux_frame.specs.declared.dlci.Dlci.{Dlci}
 use Rattle.mux_station.specs.declared.role.Role.TheVariants.{Initiator, Responder}
 use Rattle.mux_station.specs.Written.{written}
@@ -10,7 +10,7 @@ use Rattle.at_text.specs.Seeing.{answer_lines}
 use Rattle.modem_desk.specs.declared.request.Ask.{Ask}
 use Rattle.modem_desk.specs.declared.request.Ask.TheVariants.{OpenChannel, Command}
 use Rattle.modem_desk.specs.declared.request.Request.{Request}
-use Rattle.modem_desk.specs.declared.request.Answer.TheVariants.{Opened, Done}
+use Rattle.modem_desk.specs.declared.request.Answer.TheVariants.{Opened, Refused, Done}
 use Rattle.modem_driver.specs.Acts.{Act, Took, Got, Sent, told, after}
 use Rattle.modem_driver.specs.Serving.{replaying}
 use Rattle.modem_driver.specs.Lawful.{Lawful}
@@ -62,6 +62,13 @@ told_early = opening ++ leaves ++ come Uih 1 (framed (codes "+CSQ: 18,99")) ∷ 
 
 abbrev pub told_twice : List Act
 told_twice = csq ++ its_answer ∷ []
+
+-- the opening and its end come before the opening is told, and both are told
+abbrev told_late : List Act
+told_late = Took (asks 1 (OpenChannel zero)) ∷ out Sabm 0 [] ∷ come Ua 0 [] ∷ come Dm 0 [] ∷ told (asks 1 (OpenChannel zero)) Opened ∷ []
+
+abbrev pub told_another : List Act
+told_another = told_late ++ told (asks 1 (OpenChannel zero)) Refused ∷ []
 
 -- data on a connection that isn't open
 abbrev pub data_before_opening : List Act

@@ -1,10 +1,20 @@
 -- What a whole history says: of all that it called for, what stands in it is the beginning.
-use Rattle.std.specs.Prelude.{◌≡◌, ℕ, Bool, true, false, not, List, [], ◌∷◌, ◌++◌, if◌then◌else◌}
-use Rattle.std.specs.List.{concat}
+use Rattle.std.specs.Prelude.{◌≡◌, ℕ, ◌≤◌, ◌==◌, ◌&&◌, Bool, true, false, not, List, [], ◌∷◌, ◌++◌, length, filter, map, take, Some, if◌then◌else◌}
+use Rattle.std.specs.List.{concat, list_any}
+use Rattle.mux_frame.specs.Frames.{Frame}
 use Rattle.mux_station.specs.Written.{is_data_frame}
-use Rattle.modem_driver.specs.Acts.{Act, Sent, Told, Heard, Given, after}
+use Rattle.mux_station.specs.Opening.{is_open}
+use Rattle.at_text.specs.declared.answer.AnswerLine.{AnswerLine}
+use Rattle.at_text.specs.Lines.{lines}
+use Rattle.at_text.specs.Windows.{Line, Window, answer_of, is_answered, last_window}
+use Rattle.at_text.specs.Seeing.{answer_lines}
+use Rattle.modem_desk.specs.declared.request.Request.{Request}
+use Rattle.modem_desk.specs.declared.request.Answer.TheVariants.{Done}
+use Rattle.modem_desk.specs.declared.request.Outcome.{Outcome}
+use Rattle.modem_driver.specs.Acts.{Act, Took, Got, Sent, Told, Heard, Given, is_for, after, wire}
 use Rattle.modem_driver.specs.Information.{information_out, accepted, texts}
-use Rattle.modem_driver.specs.Calls.{Setting, calls}
+use Rattle.modem_driver.specs.Placing.{marks, run_on}
+use Rattle.modem_driver.specs.Calls.{Setting, calls, calls_behind}
 use Rattle.modem_driver.specs.Lawful.{Lawful, Complete, owed}
 
 -- all that the acts of the past called for, in order
@@ -14,7 +24,7 @@ called s (Sent f ∷ past) = called s past
 called s (Told o ∷ past) = called s past
 called s (Heard kind d line ∷ past) = called s past
 called s (Given ∷ past) = called s past
-called s (a ∷ past) = called s past ++ calls s past a
+called s (a ∷ past) = called s past ++ calls_behind s past (owed s past) a
 
 -- what stands in it of that: frames that are no data, outcomes and lines
 abbrev pub stands : List Act → List Act
@@ -58,3 +68,50 @@ pub record IsPrefixOf (xs ys : List ℕ) : Type 0 where
 -- what left since d opened is a prefix of the commands accepted since then, each as it goes out
 abbrev pub LeavesOnce : Setting → List Act → Type 0
 LeavesOnce s past = (d : ℕ) → IsPrefixOf (information_out s.role d past) (concat (texts (accepted s.role d past)))
+
+-- ## Outcomes
+
+-- the requests that were taken, in order
+abbrev pub taken : List Act → List Request
+taken [] = []
+taken (Took r ∷ past) = taken past ++ r ∷ []
+taken (_ ∷ past) = taken past
+
+-- the outcomes that were told, in order
+abbrev pub outcomes : List Act → List Outcome
+outcomes [] = []
+outcomes (Told o ∷ past) = outcomes past ++ o ∷ []
+outcomes (_ ∷ past) = outcomes past
+
+-- by its caller and number it is this request
+abbrev pub is_same : Request → Request → Bool
+is_same r q = (r.caller == q.caller) && (r.number == q.number)
+
+-- no caller uses a number twice
+abbrev pub UsesOnce : List Request → Type 0
+UsesOnce qs = (r : Request) → length (filter (is_same r) qs) ≤ 1
+
+-- each outcome answers a request that was taken before it, and where no caller uses a number twice no request has two
+pub record AnswersOnce (past : List Act) : Type 0 where
+  pub earlier : (newer older : List Act) (o : Outcome) → past ≡ newer ++ Told o ∷ older → list_any (λ r. is_for r o) (taken older) ≡ true
+  pub once : UsesOnce (taken past) → (r : Request) → length (filter (λ o. is_for r o) (outcomes past)) ≤ 1
+
+-- one of the lines that end in a frame ends the window of the last command, and this is its answer
+pub record EndsWindow (s : Setting) (past : List Act) (f : Frame) (ls : List AnswerLine) : Type 0 where
+  pub count : ℕ
+  pub window : Window
+  pub is_last : last_window (marks s.role f.dlci past ++ map Line (take count (lines (run_on s.role f.dlci past ++ f.info)))) ≡ Some window
+  pub ended : is_answered window ≡ true
+  pub answer : ls ≡ answer_lines (answer_of window)
+
+-- a frame that came ended a window with this answer
+pub record HasAnswer (s : Setting) (past : List Act) (ls : List AnswerLine) : Type 0 where
+  pub newer : List Act
+  pub older : List Act
+  pub frame : Frame
+  pub joins : past ≡ newer ++ Got frame ∷ older
+  pub ends : EndsWindow s older frame ls
+
+-- each answer that was told is that of a window, at its place
+abbrev pub TellsAnswers : Setting → List Act → Type 0
+TellsAnswers s past = (newer older : List Act) (o : Outcome) (ls : List AnswerLine) → past ≡ newer ++ Told o ∷ older → o.answer ≡ Done ls → HasAnswer s older ls

@@ -3,14 +3,30 @@ ghost use Rattle.std.specs.Prelude.{List};
 ghost use Rattle.modem_driver.specs.Acts.{Act};
 ghost use Rattle.modem_driver.specs.Calls.{Setting};
 ghost use Rattle.modem_driver.specs.Lawful.{Lawful};
-ghost use Rattle.modem_driver.specs.Wholes.{IsBeginning, CallGoesOn, LeavesOnce};
+ghost use Rattle.modem_driver.specs.Rows.{csq, data_before_opening, told_another, told_early, told_twice, IsGood, IsRefused};
+ghost use Rattle.modem_driver.specs.Wholes.{AnswersOnce, CallGoesOn, IsBeginning, LeavesOnce, TellsAnswers};
 
 /// Of all that a lawful history called for, what stands in it is the beginning; and a call that does just what
 /// its first act calls for keeps a history lawful and complete. What left a connection since it opened is a
-/// prefix of the command lines accepted on it since then.
-#[tactic(auto, using(crate::proofs::WholeLaws::beginning, crate::proofs::WholeLaws::call_goes_on, crate::proofs::Leaving::leaves_once))]
+/// prefix of the command lines accepted on it since then. Each outcome answers a request that was taken before it,
+/// and where no caller uses a number twice no request has two. Each answer that was told is that of the window of the
+/// last command, at the line that ended it.
+#[tactic(auto, using(crate::proofs::WholeLaws::beginning, crate::proofs::WholeLaws::call_goes_on, crate::proofs::Leaving::leaves_once, crate::proofs::Outcomes::answers_once, crate::proofs::Tellings::tells_answers))]
 pub fn histories()
     ensures beginning { (s : Setting) (past : List Act) → Lawful s past → IsBeginning s past }
     ensures leaves { (s : Setting) (past : List Act) → Lawful s past → LeavesOnce s past }
+    ensures answers { (s : Setting) (past : List Act) → Lawful s past → AnswersOnce past }
+    ensures tells { (s : Setting) (past : List Act) → Lawful s past → TellsAnswers s past }
     ensures call { (s : Setting) (past : List Act) (a : Act) → CallGoesOn s past a }
+{}
+
+/// Worked histories, computed by the definitions: a command that is answered; and the same with its answer told
+/// before its final code, or twice, with a second outcome for a request, and with data before the opening.
+#[tactic(auto, using(crate::proofs::RowFacts::csq_good, crate::proofs::RowFacts::told_early_refused, crate::proofs::RowFacts::told_twice_refused, crate::proofs::RowFacts::told_another_refused, crate::proofs::RowFacts::data_before_opening_refused))]
+pub fn worked_examples()
+    ensures csq { IsGood csq }
+    ensures told_early { IsRefused told_early }
+    ensures told_twice { IsRefused told_twice }
+    ensures told_another { IsRefused told_another }
+    ensures data_before_opening { IsRefused data_before_opening }
 {}
