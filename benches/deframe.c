@@ -1,0 +1,258 @@
+/* Measures the deframer: it decodes buffers through the static library of mux_frame_c, and prints
+ * how long that takes for each octet, as a multiple of memchr over the same buffer and beside a
+ * plain decoder. ./run builds and runs it. */
+#include <stdint.h>
+#include <stdio.h>
+#include <stdlib.h>
+#include <string.h>
+#include <time.h>
+
+#include "plain.h"
+
+/* crates/mux_frame_c/src/lib.rt; a slice is a pointer and a length. */
+uint8_t mux_frame_c_count(uint16_t n1, const uint8_t *octets, size_t length, struct counts *counts);
+
+enum { FLAG = 0xF9, REPEATS = 9, SLICES = 8 };
+#define LEAST 0.004 /* seconds of processor time that a slice takes at least */
+#define OCTETS (4u << 20)
+
+/* Memory that is taken, counted: the linker has every malloc and realloc call these. */
+static long blocks;
+void *__real_malloc(size_t size);
+void *__real_realloc(void *block, size_t size);
+void *__wrap_malloc(size_t size)
+{
+	blocks++;
+	return __real_malloc(size);
+}
+void *__wrap_realloc(void *block, size_t size)
+{
+	blocks++;
+	return __real_realloc(block, size);
+}
+
+struct buffer {
+	const char *name;
+	uint16_t n1;
+	uint8_t *octets;
+	size_t length;
+	struct counts wanted;
+};
+
+/* Each pass goes over all of the buffer once, and answers what it counted. */
+static struct counts scan(const struct buffer *b)
+{
+	/* 256 isn't sought: no octet of the buffers is 0xFE (see octet_of). */
+	return (struct counts){ memchr(b->octets, 0xFE, b->length) != NULL, 0 };
+}
+
+static struct counts each_flag(const struct buffer *b)
+{
+	struct counts found = { 0, 0 };
+	const uint8_t *at = b->octets, *end = at + b->length;
+
+	while (at < end && (at = memchr(at, FLAG, end - at))) {
+		found.frames++;
+		at++;
+	}
+	return found;
+}
+
+static struct counts deframe(const struct buffer *b)
+{
+	struct counts read = { 0, 0 };
+
+	if (mux_frame_c_count(b->n1, b->octets, b->length, &read) != 0) {
+		fputs("no memory\n", stderr);
+		exit(1);
+	}
+	return read;
+}
+
+static struct counts plain(const struct buffer *b)
+{
+	return plain_decode(b->octets, b->length, b->n1);
+}
+
+enum { SCAN, FLAGS, DEFRAME, PLAIN, PASSES };
+static struct counts (*const passes[PASSES])(const struct buffer *) = { scan, each_flag, deframe, plain };
+
+/* Random octets, the same in each run (xorshift), but for 0xFE, which a scan seeks in vain. */
+static uint8_t octet_of(uint64_t *seed)
+{
+	*seed ^= *seed << 13;
+	*seed ^= *seed >> 7;
+	*seed ^= *seed << 17;
+	return (*seed >> 32 & 0xFF) == 0xFE ? 0 : *seed >> 32 & 0xFF;
+}
+
+static void fill_random(struct buffer *b)
+{
+	uint64_t seed = 27010;
+
+	for (size_t i = 0; i < b->length; i++)
+		b->octets[i] = octet_of(&seed);
+}
+
+static void fill_with(struct buffer *b, const char *text, size_t length)
+{
+	for (size_t i = 0; i < b->length; i++)
+		b->octets[i] = text[i % length];
+}
+
+/* UIH frames of `info` octets, each between two flags of its own, on connections 1 to 8. */
+static void fill_frames(struct buffer *b, size_t info)
+{
+	static const char text[] = "\r\n+CREG: 1,\"00A1\",\"01B2C3D4\",7\r\n";
+	size_t size = info + (info < 128 ? 6 : 7), frames = b->length / size;
+	uint8_t *at = b->octets;
+
+	b->length = frames * size;
+	for (size_t k = 0; k < frames; k++) {
+		uint8_t *head = at + 1;
+		size_t heads = 3;
+
+		*at++ = FLAG;
+		*at++ = (k % 8 + 1) << 2 | 1;
+		*at++ = 0xEF;
+		*at++ = info < 128 ? info << 1 | 1 : info % 128 << 1;
+		if (info >= 128) {
+			*at++ = info / 128;
+			heads = 4;
+		}
+		for (size_t i = 0; i < info; i++)
+			*at++ = text[i % (sizeof text - 1)];
+		*at++ = plain_check(head, heads);
+		*at++ = FLAG;
+	}
+}
+
+/* One octet in a hundred is another one. */
+static void damage(struct buffer *b)
+{
+	uint64_t seed = 5;
+
+	for (size_t i = 0; i < b->length; i += 1 + octet_of(&seed) % 200)
+		b->octets[i] = octet_of(&seed);
+}
+
+static double now(void)
+{
+	struct timespec t;
+
+	clock_gettime(CLOCK_PROCESS_CPUTIME_ID, &t);
+	return t.tv_sec + t.tv_nsec * 1e-9;
+}
+
+/* The seconds of one pass: the best of some slices, each of many passes. */
+static double seconds_of(const struct buffer *b, int pass, const struct counts *wanted)
+{
+	double best = 1e9;
+
+	for (int slice = 0; slice < SLICES; slice++) {
+		double start = now(), took;
+		long times = 0;
+
+		do {
+			struct counts got = passes[pass](b);
+
+			if (got.frames != wanted->frames || got.information != wanted->information) {
+				fprintf(stderr, "%s: a pass has counted otherwise\n", b->name);
+				exit(1);
+			}
+			times++;
+			took = now() - start;
+		} while (took < LEAST);
+		if (took / times < best)
+			best = took / times;
+	}
+	return best;
+}
+
+static int by_value(const void *a, const void *b)
+{
+	double x = *(const double *)a, y = *(const double *)b;
+
+	return (x > y) - (x < y);
+}
+
+struct middle {
+	double value, spread; /* the spread in per cent of the value */
+};
+
+static struct middle middle_of(double *x)
+{
+	qsort(x, REPEATS, sizeof *x, by_value);
+	return (struct middle){ x[REPEATS / 2], 100 * (x[REPEATS - 1] - x[0]) / x[REPEATS / 2] };
+}
+
+/* One row. The passes take turns within each repeat, so each repeat has its own ratios, all under
+ * the same noise. */
+static void measure(const struct buffer *b)
+{
+	double seconds[PASSES][REPEATS], to_scan[REPEATS], to_flags[REPEATS], to_plain[REPEATS];
+	struct counts wanted[PASSES];
+
+	for (int pass = 0; pass < PASSES; pass++)
+		wanted[pass] = passes[pass](b);
+	wanted[DEFRAME] = wanted[PLAIN]; /* the two decoders read the same */
+	blocks = 0;
+	deframe(b);
+	long taken = blocks;
+
+	for (int r = -1; r < REPEATS; r++) /* the first warms up */
+		for (int pass = 0; pass < PASSES; pass++) {
+			double took = seconds_of(b, pass, &wanted[pass]);
+
+			if (r >= 0)
+				seconds[pass][r] = took;
+		}
+	for (int r = 0; r < REPEATS; r++) {
+		to_scan[r] = seconds[DEFRAME][r] / seconds[SCAN][r];
+		to_flags[r] = seconds[DEFRAME][r] / seconds[FLAGS][r];
+		to_plain[r] = seconds[PLAIN][r] / seconds[DEFRAME][r];
+	}
+	struct middle scan = middle_of(to_scan), flags = middle_of(to_flags), plain = middle_of(to_plain);
+	double ours = middle_of(seconds[DEFRAME]).value;
+
+	printf("| %s | %u | %zu | %.0f | %.1f (%.0f%%) | %.2f (%.0f%%) | %.1f (%.0f%%) | %ld |\n", b->name, b->n1,
+	       wanted[DEFRAME].frames, b->length / ours / 1e6, scan.value, scan.spread, flags.value, flags.spread,
+	       plain.value, plain.spread, taken);
+	fflush(stdout);
+}
+
+int main(void)
+{
+	static uint8_t octets[OCTETS];
+	static const struct { const char *name; uint16_t n1; int info; } framed[] = {
+		{ "frames of 0", 4089, 0 },	 { "frames of 31", 4089, 31 },
+		{ "frames of 127", 4089, 127 },	 { "frames of 1500", 4089, 1500 },
+		{ "frames of 0, small ring", 31, 0 },	{ "frames of 31, small ring", 31, 31 },
+		{ "frames of 127, small ring", 127, 127 },
+	};
+
+	puts("| Octets | N1 | frames | MB/s | times memchr, no hit | times memchr, each flag | plain decoder takes | blocks |");
+	puts("|---|---|---|---|---|---|---|---|");
+	for (size_t k = 0; k < sizeof framed / sizeof *framed; k++) {
+		struct buffer b = { framed[k].name, framed[k].n1, octets, OCTETS, { 0, 0 } };
+
+		fill_frames(&b, framed[k].info);
+		measure(&b);
+	}
+	struct buffer b = { "frames of 31, damaged", 4089, octets, OCTETS, { 0, 0 } };
+
+	fill_frames(&b, 31);
+	damage(&b);
+	measure(&b);
+	b.name = "random";
+	b.length = OCTETS;
+	fill_random(&b);
+	measure(&b);
+	b.name = "flags alone";
+	fill_with(&b, "\xF9", 1);
+	measure(&b);
+	b.name = "F9 05 EF alone";
+	fill_with(&b, "\xF9\x05\xEF", 3);
+	measure(&b);
+	return 0;
+}
