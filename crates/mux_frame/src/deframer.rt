@@ -8,9 +8,8 @@ ghost use Rattle.mux_frame.specs.Spelling.{most_info};
 
 use crate::error::FrameError;
 use crate::frame::FrameView;
-use crate::ring::{remove_front, settle, whole_header};
-use crate::slice::one_slice;
-use circular_buffer::HeapCircularBuffer;
+use crate::ring::{settle, whole_header};
+use crate::undecided::Undecided;
 use std::alloc::Global;
 use std::marker::Model;
 
@@ -19,7 +18,7 @@ use std::marker::Model;
 /// octet. So a full ring is always decided.
 #[derive(Drop)]
 pub struct Deframer {
-    octets: HeapCircularBuffer<u8>,
+    octets: Undecided,
     n1: u16,
 }
 
@@ -51,7 +50,7 @@ impl Deframer {
         if n1 < 31 || n1 > 32767 {
             return Err(FrameError::BadN1);
         }
-        let octets = HeapCircularBuffer::with_capacity(alloc, usize::from(n1) + 7)?;
+        let octets = Undecided::with_capacity(alloc, usize::from(n1) + 7)?;
         Ok(Deframer { octets, n1 })
     }
 
@@ -64,7 +63,7 @@ impl Deframer {
         ensures stays { (f : Frame) → self.old.next ≡ Some f → self.new.next ≡ Some f }
         ensures past { TakesIn self.old (take result octets.now) self.new }
     {
-        let count = self.octets.fill_from_slice(octets);
+        let count = self.octets.fill(octets);
         settle(&mut self.octets, self.n1);
         count
     }
@@ -78,7 +77,7 @@ impl Deframer {
         let Some(header) = whole_header(&self.octets, self.n1) else {
             return None;
         };
-        Some(header.view_after_flag(one_slice(&mut self.octets)))
+        Some(header.view_after_flag(self.octets.one_slice()))
     }
 
     /// Goes on behind the frame at hand. The condition is that there is one: that the last call was
@@ -90,7 +89,7 @@ impl Deframer {
         ensures past { HandsOver self.old self.new }
     {
         if let Some(header) = whole_header(&self.octets, self.n1) {
-            remove_front(&mut self.octets, header.check_place() + 2);
+            self.octets.remove_front(header.check_place() + 2);
             settle(&mut self.octets, self.n1);
         }
     }

@@ -13,6 +13,7 @@ pub mod laws;
 mod probe;
 mod ring;
 mod slice;
+mod undecided;
 mod write;
 
 pub use check::check_octet;

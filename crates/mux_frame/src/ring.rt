@@ -8,20 +8,20 @@ ghost use Rattle.mux_frame.specs.Laws.{AreOctets};
 ghost use Rattle.mux_frame.specs.Places.{from_flag};
 
 use crate::judge::{Header, Verdict};
+use crate::undecided::Undecided;
 use crate::write::FLAG;
-use circular_buffer::HeapCircularBuffer;
 use memchr::memchr;
 
 /// The octet at a place after the first one, where it has come.
-fn octet_after(octets: &HeapCircularBuffer<u8>, place: usize) -> Option<u8>
+fn octet_after(octets: &Undecided, place: usize) -> Option<u8>
     requires { place < 2 ^ 20 }
     ensures { result ≡ slice_get (drop 1 octets.now.items) place }
 {
-    octets.get(place + 1).copied()
+    octets.get(place + 1)
 }
 
 /// The place of the first flag, or their length where there is none.
-fn flag_place(octets: &HeapCircularBuffer<u8>) -> usize
+fn flag_place(octets: &Undecided) -> usize
     ensures within { result ≤ length octets.now.items }
     ensures rest { drop result octets.now.items ≡ from_flag octets.now.items }
 {
@@ -32,31 +32,23 @@ fn flag_place(octets: &HeapCircularBuffer<u8>) -> usize
     }
 }
 
-/// Takes this many octets off the front.
-pub(crate) fn remove_front(octets: &mut HeapCircularBuffer<u8>, count: usize)
-    ensures { octets.new ≡ buffer (drop count octets.old.items) octets.old.capacity }
-{
-    let rest = octets.len().saturating_sub(count);
-    octets.truncate_front(rest);
-}
-
 /// Takes all octets before the first flag off the front.
-fn skip_to_flag(octets: &mut HeapCircularBuffer<u8>)
+fn skip_to_flag(octets: &mut Undecided)
     ensures { octets.new ≡ buffer (from_flag octets.old.items) octets.old.capacity }
 {
     let place = flag_place(octets);
-    remove_front(octets, place);
+    octets.remove_front(place);
 }
 
 /// The verdict on the octets, by those that have come: nothing begins no frame yet, and what
 /// begins with another octet than a flag begins none.
-pub(crate) fn front_verdict(octets: &HeapCircularBuffer<u8>, n1: u16) -> Verdict
+pub(crate) fn front_verdict(octets: &Undecided, n1: u16) -> Verdict
     ensures { verdict_seen result ≡ decision_on n1 octets.now.items }
 {
-    let Some(first) = octets.front() else {
+    let Some(first) = octets.get(0) else {
         return Verdict::Unfinished;
     };
-    if *first != FLAG {
+    if first != FLAG {
         return Verdict::Refused;
     }
     let lengths = (octet_after(octets, 2), octet_after(octets, 3));
@@ -72,7 +64,7 @@ pub(crate) fn front_verdict(octets: &HeapCircularBuffer<u8>, n1: u16) -> Verdict
 
 /// Drops what begins no frame: where a candidate fails, only its flag, and then what stands before
 /// the next flag.
-pub(crate) fn settle(octets: &mut HeapCircularBuffer<u8>, n1: u16)
+pub(crate) fn settle(octets: &mut Undecided, n1: u16)
     requires { AreOctets octets.old.items }
     ensures decided { decision_on n1 octets.new.items ≢ refused }
     ensures reads { SameReading n1 octets.old.items octets.new.items }
@@ -82,13 +74,13 @@ pub(crate) fn settle(octets: &mut HeapCircularBuffer<u8>, n1: u16)
     ensures capacity { octets.new.capacity ≡ octets.old.capacity }
 {
     while let Verdict::Refused = front_verdict(octets, n1) {
-        remove_front(octets, 1);
+        octets.remove_front(1);
         skip_to_flag(octets);
     }
 }
 
 /// The header of the frame that is whole at the front, where there is one.
-pub(crate) fn whole_header(octets: &HeapCircularBuffer<u8>, n1: u16) -> Option<Header>
+pub(crate) fn whole_header(octets: &Undecided, n1: u16) -> Option<Header>
     requires { AreOctets octets.now.items }
     ensures next { option_map (λ h. frame_at (header_seen h) (drop 1 octets.now.items)) result
         ≡ next_in n1 octets.now.items }
