@@ -8,7 +8,8 @@ ghost use Rattle.mux_frame.specs.Spelling.{most_info};
 
 use crate::error::FrameError;
 use crate::frame::FrameView;
-use crate::ring::{settle, whole_header};
+use crate::judge::Header;
+use crate::ring::settle;
 use crate::undecided::Undecided;
 use std::alloc::Global;
 use std::marker::Model;
@@ -20,10 +21,13 @@ use std::marker::Model;
 pub struct Deframer {
     octets: Undecided,
     n1: u16,
+    /// The header of the frame at hand, where there is one.
+    next: Option<Header>,
 }
 
 impl Model for Deframer {
-    ghost use Rattle.mux_frame.specs.Deframing.{Deframing, IsSettled, next_in};
+    ghost use Rattle.mux_frame.specs.Deframing.{Deframing, next_in};
+    ghost use Rattle.mux_frame.specs.Judged.{IsReady};
 
     ghost Value = { Deframing };
 
@@ -33,7 +37,7 @@ impl Model for Deframer {
       next = next_in d.n1 d.octets.items;
     } };
 
-    ghost invariant = { λ d. IsSettled d.n1 d.octets.items d.octets.capacity };
+    ghost invariant = { λ d. IsReady d.n1 d.octets.items d.octets.capacity d.next };
 }
 
 impl Deframer {
@@ -51,7 +55,11 @@ impl Deframer {
             return Err(FrameError::BadN1);
         }
         let octets = Undecided::with_capacity(alloc, usize::from(n1) + 7)?;
-        Ok(Deframer { octets, n1 })
+        Ok(Deframer {
+            octets,
+            n1,
+            next: None,
+        })
     }
 
     /// Takes octets in from the front of these, as many as there is room for, and says how many.
@@ -64,7 +72,7 @@ impl Deframer {
         ensures past { TakesIn self.old (take result octets.now) self.new }
     {
         let count = self.octets.fill(octets);
-        settle(&mut self.octets, self.n1);
+        self.next = settle(&mut self.octets, self.n1);
         count
     }
 
@@ -74,9 +82,7 @@ impl Deframer {
         ensures room { IfSome result (λ f. length f.info.now ≤ most_info self.old.n1 f.kind) }
         ensures* after { sem 𝓛 (Rests the_row self.entry (λ new. new ≡ self.old)) }
     {
-        let Some(header) = whole_header(&self.octets, self.n1) else {
-            return None;
-        };
+        let header = self.next?;
         Some(header.view_after_flag(self.octets.one_slice()))
     }
 
@@ -88,9 +94,9 @@ impl Deframer {
         ensures shorter { length self.new.undecided < length self.old.undecided }
         ensures past { HandsOver self.old self.new }
     {
-        if let Some(header) = whole_header(&self.octets, self.n1) {
+        if let Some(header) = self.next {
             self.octets.remove_front(header.check_place() + 2);
-            settle(&mut self.octets, self.n1);
+            self.next = settle(&mut self.octets, self.n1);
         }
     }
 

@@ -2,7 +2,7 @@
 ghost use Rattle.std.specs.Prelude.{◌≡◌, ◌≢◌, ◌+◌, ◌<◌, ◌≤◌, ◌^◌, drop, length, option_map, slice_get, IfSome};
 ghost use Rattle.circular_buffer.specs.Buffer.{buffer};
 ghost use Rattle.mux_frame.specs.Deframing.{IsFront, SameReading, decision_on, next_in};
-ghost use Rattle.mux_frame.specs.Judged.{header_seen, verdict_seen};
+ghost use Rattle.mux_frame.specs.Judged.{IsAtHand, verdict_seen};
 ghost use Rattle.mux_frame.specs.Judging.{frame_at, refused};
 ghost use Rattle.mux_frame.specs.Laws.{AreOctets};
 ghost use Rattle.mux_frame.specs.Places.{from_flag};
@@ -40,9 +40,20 @@ fn skip_to_flag(octets: &mut Undecided)
     octets.remove_front(place);
 }
 
-/// The verdict on the octets, by those that have come: nothing begins no frame yet, and what
-/// begins with another octet than a flag begins none.
-pub(crate) fn front_verdict(octets: &Undecided, n1: u16) -> Verdict
+/// The verdict on octets in one slice: nothing begins no frame yet, and what begins with another
+/// octet than a flag begins none.
+fn slice_verdict(octets: &[u8], n1: u16) -> Verdict
+    ensures { verdict_seen result ≡ decision_on n1 octets.now }
+{
+    match octets.split_first() {
+        Some((&FLAG, text)) => Verdict::on(n1, text),
+        Some(_) => Verdict::Refused,
+        None => Verdict::Unfinished,
+    }
+}
+
+/// The same where they may wrap round.
+fn wrapped_verdict(octets: &Undecided, n1: u16) -> Verdict
     ensures { verdict_seen result ≡ decision_on n1 octets.now.items }
 {
     let Some(first) = octets.get(0) else {
@@ -62,9 +73,22 @@ pub(crate) fn front_verdict(octets: &Undecided, n1: u16) -> Verdict
     }
 }
 
+/// The verdict on the octets, by those that have come.
+fn front_verdict(octets: &Undecided, n1: u16) -> Verdict
+    ensures { verdict_seen result ≡ decision_on n1 octets.now.items }
+{
+    let (front, back) = octets.as_slices();
+    if back.is_empty() {
+        slice_verdict(front, n1)
+    } else {
+        wrapped_verdict(octets, n1)
+    }
+}
+
 /// Drops what begins no frame: where a candidate fails, only its flag, and then what stands before
-/// the next flag.
-pub(crate) fn settle(octets: &mut Undecided, n1: u16)
+/// the next flag. It gives the header of the frame that is then whole at the front, where there is
+/// one.
+pub(crate) fn settle(octets: &mut Undecided, n1: u16) -> Option<Header>
     requires { AreOctets octets.old.items }
     ensures decided { decision_on n1 octets.new.items ≢ refused }
     ensures reads { SameReading n1 octets.old.items octets.new.items }
@@ -72,24 +96,16 @@ pub(crate) fn settle(octets: &mut Undecided, n1: u16)
     ensures octets { AreOctets octets.new.items }
     ensures shorter { length octets.new.items ≤ length octets.old.items }
     ensures capacity { octets.new.capacity ≡ octets.old.capacity }
+    ensures at_hand { IsAtHand n1 octets.new.items result }
 {
-    while let Verdict::Refused = front_verdict(octets, n1) {
-        octets.remove_front(1);
-        skip_to_flag(octets);
-    }
-}
-
-/// The header of the frame that is whole at the front, where there is one.
-pub(crate) fn whole_header(octets: &Undecided, n1: u16) -> Option<Header>
-    requires { AreOctets octets.now.items }
-    ensures next { option_map (λ h. frame_at (header_seen h) (drop 1 octets.now.items)) result
-        ≡ next_in n1 octets.now.items }
-    ensures front { IfSome result (λ h. IsFront n1 octets.now.items (header_seen h)) }
-    ensures long { IfSome result (λ h. h.size + h.info_len + 3 ≤ length octets.now.items) }
-{
-    match front_verdict(octets, n1) {
-        Verdict::Fits(header) => Some(header),
-        Verdict::Unfinished => None,
-        Verdict::Refused => None,
+    loop {
+        match front_verdict(octets, n1) {
+            Verdict::Fits(header) => return Some(header),
+            Verdict::Unfinished => return None,
+            Verdict::Refused => {
+                octets.remove_front(1);
+                skip_to_flag(octets);
+            }
+        }
     }
 }

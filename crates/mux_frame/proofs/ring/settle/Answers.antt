@@ -1,14 +1,35 @@
 use Rattle.std.proofs.Common.{◌≡◌, drop}
 use Rattle.circular_buffer.specs.Buffer.{buffer}
+use Rattle.mux_frame.specs.Judged.{header_seen}
+use Rattle.mux_frame.specs.Judging.{unfinished, fits}
 use Rattle.mux_frame.specs.Places.{from_flag}
+use Rattle.mux_frame.proofs.Pasts.{front_is, front_long, next_of}
 use Rattle.mux_frame.proofs.Rings.{settles_more, dropped_shorter}
 use Rattle.mux_frame.proofs.ring.settle.Goals as goal
 
-pub loop-octets-smaller : goal.loop-octets-smaller
-loop-octets-smaller c =
-    rw (c.skip_to_flag.ensures, c.remove_front.ensures) (dropped_shorter c.args.n1 c.loop-octets.octets.items c.in-Refused.ensures)
+pub returns-in-Fits-clause-at_hand : goal.returns-in-Fits-clause-at_hand
+returns-in-Fits-clause-at_hand c =
+    let u = c.loop-header.octets.items in
+    let k = front_is c.args.n1 u (header_seen c.in-Fits.header) c.loop-header.invariant.octets c.in-Fits.ensures in
+    record {
+      frame = next_of c.args.n1 u (fits (header_seen c.in-Fits.header)) c.in-Fits.ensures;
+      front = k;
+      long = front_long c.args.n1 u (header_seen c.in-Fits.header) k;
+    }
 
-pub loop-octets-preserved : goal.loop-octets-preserved
-loop-octets-preserved c =
-    let e : c.skip_to_flag.new.octets ≡ buffer (from_flag (drop 1 c.loop-octets.octets.items)) c.loop-octets.octets.capacity = rw c.remove_front.ensures at c.skip_to_flag.ensures in
-    settles_more c.args.n1 c.args.octets.now c.loop-octets.octets c.skip_to_flag.new.octets c.loop-octets.invariant c.in-Refused.ensures e
+pub returns-in-Unfinished-clause-at_hand : goal.returns-in-Unfinished-clause-at_hand
+returns-in-Unfinished-clause-at_hand c =
+    record {
+      frame = next_of c.args.n1 c.loop-header.octets.items unfinished c.in-Unfinished.ensures;
+      front = tt;
+      long = tt;
+    }
+
+pub loop-header-smaller : goal.loop-header-smaller
+loop-header-smaller c =
+    rw (c.skip_to_flag.ensures, c.remove_front.ensures) (dropped_shorter c.args.n1 c.loop-header.octets.items c.in-Refused.ensures)
+
+pub loop-header-preserved : goal.loop-header-preserved
+loop-header-preserved c =
+    let e : c.skip_to_flag.new.octets ≡ buffer (from_flag (drop 1 c.loop-header.octets.items)) c.loop-header.octets.capacity = rw c.remove_front.ensures at c.skip_to_flag.ensures in
+    settles_more c.args.n1 c.args.octets.now c.loop-header.octets c.skip_to_flag.new.octets c.loop-header.invariant c.in-Refused.ensures e

@@ -1,12 +1,13 @@
 use Rattle.std.proofs.Common.{◌∙◌, ap, sym, subst}
 use Rattle.mux_frame.specs.Deframing.{Deframes}
-use Rattle.mux_frame.specs.Judged.{header_seen}
+use Rattle.mux_frame.specs.Judged.{header_seen, IsAtHand}
 use Rattle.mux_frame.proofs.Pasts.{past_taken}
 use Rattle.mux_frame.proofs.deframer.Deframer.advance.Goals as goal
 
 pub returns-in-Some-clause-past : goal.returns-in-Some-clause-past
 returns-in-Some-clause-past c = λ taken handed f some p.
     let q = subst (Deframes taken handed) (sym c.self.view_is) p in
-    let s = rw c.remove_front.ensures at c.settle.ensures.reads in
-    past_taken c.self.inside.n1 c.check_place.result taken c.self.inside.octets.items c.settle.new.octets.items handed (header_seen c.in-Some.header) f
-    q c.in-Some.ensures.front c.in-Some.ensures.next (ap (λ d. d.next) c.self.view_is ∙ some) c.check_place.ensures.value s c.settle.ensures.octets c.settle.ensures.decided
+    let s = rw c.remove_front.ensures at c.settle-self-inside.ensures.reads in
+    let h = subst (IsAtHand c.self.inside.n1 c.self.inside.octets.items) c.in-Some.is c.self.invariant.at_hand in
+    past_taken c.self.inside.n1 c.check_place.result taken c.self.inside.octets.items c.settle-self-inside.new.octets.items handed (header_seen c.in-Some.header) f
+    q h.front h.frame (ap (λ d. d.next) c.self.view_is ∙ some) c.check_place.ensures.value s c.settle-self-inside.ensures.octets c.settle-self-inside.ensures.decided

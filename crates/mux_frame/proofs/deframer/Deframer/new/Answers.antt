@@ -1,4 +1,4 @@
-use Rattle.std.proofs.Common.{refl}
+use Rattle.std.proofs.Common.{refl, rules}
 use Rattle.mux_frame.specs.Deframing.{next_in}
 use Rattle.mux_frame.proofs.Pasts.{past_none}
 use Rattle.mux_frame.proofs.deframer.Deframer.new.Goals as goal
@@ -10,3 +10,10 @@ returns-clause-ok c = rw c.in_ok-octets.ensures refl
 pub returns-clause-past : goal.returns-clause-past
 unfolding next_in
 returns-clause-past c = rw c.in_ok-octets.ensures (past_none c.args.n1)
+
+pub invariant_of-result : goal.invariant_of-result
+unfolding next_in
+invariant_of-result c = rw c.in_ok-octets.ensures record {
+  settled = search rules;
+  at_hand = record { frame = refl; front = tt; long = tt };
+}

@@ -3,7 +3,7 @@ use Rattle.mux_frame.specs.Judging.{unfinished, refused}
 use Rattle.mux_frame.specs.Judged.{header_seen}
 use Rattle.mux_frame.proofs.Judgements.{verdict_ends, verdict_fits}
 use Rattle.mux_frame.proofs.Rings.{decision_flag}
-use Rattle.mux_frame.proofs.ring.front_verdict.Goals as goal
+use Rattle.mux_frame.proofs.ring.wrapped_verdict.Goals as goal
 
 pub returns-in-Fits : goal.returns-in-Fits
 returns-in-Fits c =
