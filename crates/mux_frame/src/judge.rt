@@ -35,6 +35,7 @@ pub(crate) enum Verdict {
     Fits(Header),
 }
 
+#[inline(always)]
 /// The octet at a place, where it has come.
 fn octet_at(octets: &[u8], place: usize) -> Option<u8>
     ensures { result ≡ slice_get octets.now place }
@@ -42,6 +43,7 @@ fn octet_at(octets: &[u8], place: usize) -> Option<u8>
     octets.get(place).copied()
 }
 
+#[inline(always)]
 /// The kind of a control octet, whatever its P/F bit (27.010, 5.2.1.3).
 fn kind_of(control: u8) -> Option<Kind>
     ensures { result ≡ kind_in control }
@@ -56,6 +58,7 @@ fn kind_of(control: u8) -> Option<Kind>
     }
 }
 
+#[inline(always)]
 /// The verdict by the length octets, after a good address octet and a control octet of this kind.
 fn by_length(
     most: u16,
@@ -104,6 +107,7 @@ fn by_length(
 }
 
 impl Verdict {
+    #[inline(always)]
     #[tactic(auto, unfolding(crate::specs::Judging::by_header))]
     /// The verdict by the first four octets after a flag, as far as they have come.
     pub(crate) fn by_header(
@@ -134,6 +138,7 @@ impl Verdict {
 }
 
 impl Verdict {
+    #[inline(always)]
     #[tactic(auto, unfolding(crate::specs::Judging::verdict_on))]
     /// The verdict on the octets after a flag.
     pub(crate) fn on(n1: u16, text: &[u8]) -> Verdict
@@ -161,6 +166,7 @@ impl Header {
         usize::from(self.size) + usize::from(self.info_len)
     }
 
+    #[inline(always)]
     #[tactic(auto, unfolding(crate::specs::Judging::by_end))]
     /// The verdict by the octets where the check octet and the closing flag should stand.
     pub(crate) fn by_end(self, check: Option<u8>, close: Option<u8>) -> Verdict

@@ -26,6 +26,9 @@ fn flag_place(octets: &Undecided) -> usize
     ensures rest { drop result octets.now.items ≡ from_flag octets.now.items }
 {
     let (front, back) = octets.as_slices();
+    if front.first() == Some(&FLAG) {
+        return 0;
+    }
     match memchr(FLAG, front) {
         Some(place) => place,
         None => front.len() + memchr(FLAG, back).unwrap_or(back.len()),
@@ -40,6 +43,7 @@ fn skip_to_flag(octets: &mut Undecided)
     octets.remove_front(place);
 }
 
+#[inline(always)]
 /// The verdict on octets in one slice: nothing begins no frame yet, and what begins with another
 /// octet than a flag begins none.
 fn slice_verdict(octets: &[u8], n1: u16) -> Verdict
@@ -52,6 +56,7 @@ fn slice_verdict(octets: &[u8], n1: u16) -> Verdict
     }
 }
 
+#[inline(never)]
 /// The same where they may wrap round.
 fn wrapped_verdict(octets: &Undecided, n1: u16) -> Verdict
     ensures { verdict_seen result ≡ decision_on n1 octets.now.items }
@@ -73,6 +78,7 @@ fn wrapped_verdict(octets: &Undecided, n1: u16) -> Verdict
     }
 }
 
+#[inline(always)]
 /// The verdict on the octets, by those that have come.
 fn front_verdict(octets: &Undecided, n1: u16) -> Verdict
     ensures { verdict_seen result ≡ decision_on n1 octets.now.items }
