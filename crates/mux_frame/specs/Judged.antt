@@ -1,5 +1,5 @@
 -- Verdicts as the code has them.
-use Rattle.std.specs.Prelude.{◌≡◌, ℕ, ◌+◌, ◌≤◌, List, Option, drop, length, option_map, IfSome}
+use Rattle.std.specs.Prelude.{◌≡◌, ℕ, ◌+◌, ◌≤◌, List, Option, None, Some, drop, length}
 use Rattle.mux_frame.specs.Deframing.{IsFront, IsSettled, next_in}
 use Rattle.mux_frame.specs.Judging.{Header, Verdict, unfinished, refused, fits, frame_at}
 use Rattle.mux_frame.specs.declared.judge.Header.{Header as HeaderValue}
@@ -24,13 +24,20 @@ verdict_seen Unfinished = unfinished
 verdict_seen Refused = refused
 verdict_seen (Fits h) = fits (header_seen h)
 
--- the header, where there is one, is that of the frame at hand
-pub record IsAtHand (n1 : ℕ) (undecided : List ℕ) (next : Option HeaderValue) : Type 0 where
-  pub frame : option_map (λ h. frame_at (header_seen h) (drop 1 undecided)) next ≡ next_in n1 undecided
-  pub front : IfSome next (λ h. IsFront n1 undecided (header_seen h))
-  pub long : IfSome next (λ h. h.size + h.info_len + 3 ≤ length undecided)
+-- the frame at hand has this check place, counted from its address octet
+pub record IsAtPlace (n1 : ℕ) (undecided : List ℕ) (place : ℕ) : Type 0 where
+  pub header : Header
+  pub front : IsFront n1 undecided header
+  pub frame : Some (frame_at header (drop 1 undecided)) ≡ next_in n1 undecided
+  pub place_is : place ≡ header.size + header.info_len
+  pub within : place + 3 ≤ length undecided
 
--- a deframer keeps that header
-pub record IsReady (n1 : ℕ) (undecided : List ℕ) (capacity : ℕ) (next : Option HeaderValue) : Type 0 where
+-- the frame at hand has that check place, or there is none
+abbrev pub IsAtHand : ℕ → List ℕ → Option ℕ → Type 0
+IsAtHand n1 undecided None = next_in n1 undecided ≡ None
+IsAtHand n1 undecided (Some place) = IsAtPlace n1 undecided place
+
+-- a deframer keeps that place
+pub record IsReady (n1 : ℕ) (undecided : List ℕ) (capacity : ℕ) (check_place : Option ℕ) : Type 0 where
   pub settled : IsSettled n1 undecided capacity
-  pub at_hand : IsAtHand n1 undecided next
+  pub at_hand : IsAtHand n1 undecided check_place

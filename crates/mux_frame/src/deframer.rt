@@ -8,8 +8,7 @@ ghost use Rattle.mux_frame.specs.Spelling.{most_info};
 
 use crate::error::FrameError;
 use crate::frame::FrameView;
-use crate::judge::Header;
-use crate::ring::settle;
+use crate::ring::{settle, whole_header};
 use crate::undecided::Undecided;
 use std::alloc::Global;
 use std::marker::Model;
@@ -21,8 +20,8 @@ use std::marker::Model;
 pub struct Deframer {
     octets: Undecided,
     n1: u16,
-    /// The header of the frame at hand, where there is one.
-    next: Option<Header>,
+    /// Where there is a frame at hand, the place of its check octet, counted from its address octet.
+    check_place: Option<usize>,
 }
 
 impl Model for Deframer {
@@ -37,7 +36,7 @@ impl Model for Deframer {
       next = next_in d.n1 d.octets.items;
     } };
 
-    ghost invariant = { λ d. IsReady d.n1 d.octets.items d.octets.capacity d.next };
+    ghost invariant = { λ d. IsReady d.n1 d.octets.items d.octets.capacity d.check_place };
 }
 
 impl Deframer {
@@ -58,7 +57,7 @@ impl Deframer {
         Ok(Deframer {
             octets,
             n1,
-            next: None,
+            check_place: None,
         })
     }
 
@@ -72,7 +71,7 @@ impl Deframer {
         ensures past { TakesIn self.old (take result octets.now) self.new }
     {
         let count = self.octets.fill(octets);
-        self.next = settle(&mut self.octets, self.n1);
+        self.check_place = settle(&mut self.octets, self.n1);
         count
     }
 
@@ -82,7 +81,7 @@ impl Deframer {
         ensures room { IfSome result (λ f. length f.info.now ≤ most_info self.old.n1 f.kind) }
         ensures* after { sem 𝓛 (Rests the_row self.entry (λ new. new ≡ self.old)) }
     {
-        let header = self.next?;
+        let header = whole_header(&self.octets, self.n1)?;
         Some(header.view_after_flag(self.octets.one_slice()))
     }
 
@@ -94,9 +93,9 @@ impl Deframer {
         ensures shorter { length self.new.undecided < length self.old.undecided }
         ensures past { HandsOver self.old self.new }
     {
-        if let Some(header) = self.next {
-            self.octets.remove_front(header.check_place() + 2);
-            self.next = settle(&mut self.octets, self.n1);
+        if let Some(place) = self.check_place {
+            self.octets.remove_front(place + 2);
+            self.check_place = settle(&mut self.octets, self.n1);
         }
     }
 

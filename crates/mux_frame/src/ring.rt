@@ -2,7 +2,7 @@
 ghost use Rattle.std.specs.Prelude.{◌≡◌, ◌≢◌, ◌+◌, ◌<◌, ◌≤◌, ◌^◌, drop, length, option_map, slice_get, IfSome};
 ghost use Rattle.circular_buffer.specs.Buffer.{buffer};
 ghost use Rattle.mux_frame.specs.Deframing.{IsFront, SameReading, decision_on, next_in};
-ghost use Rattle.mux_frame.specs.Judged.{IsAtHand, verdict_seen};
+ghost use Rattle.mux_frame.specs.Judged.{IsAtHand, header_seen, verdict_seen};
 ghost use Rattle.mux_frame.specs.Judging.{frame_at, refused};
 ghost use Rattle.mux_frame.specs.Laws.{AreOctets};
 ghost use Rattle.mux_frame.specs.Places.{from_flag};
@@ -92,9 +92,9 @@ fn front_verdict(octets: &Undecided, n1: u16) -> Verdict
 }
 
 /// Drops what begins no frame: where a candidate fails, only its flag, and then what stands before
-/// the next flag. It gives the header of the frame that is then whole at the front, where there is
-/// one.
-pub(crate) fn settle(octets: &mut Undecided, n1: u16) -> Option<Header>
+/// the next flag. Where a frame is whole at the front then, it gives the place of its check octet,
+/// counted from its address octet.
+pub(crate) fn settle(octets: &mut Undecided, n1: u16) -> Option<usize>
     requires { AreOctets octets.old.items }
     ensures decided { decision_on n1 octets.new.items ≢ refused }
     ensures reads { SameReading n1 octets.old.items octets.new.items }
@@ -106,12 +106,27 @@ pub(crate) fn settle(octets: &mut Undecided, n1: u16) -> Option<Header>
 {
     loop {
         match front_verdict(octets, n1) {
-            Verdict::Fits(header) => return Some(header),
+            Verdict::Fits(header) => return Some(header.check_place()),
             Verdict::Unfinished => return None,
             Verdict::Refused => {
                 octets.remove_front(1);
                 skip_to_flag(octets);
             }
         }
+    }
+}
+
+#[inline(always)]
+/// The header of the frame that is whole at the front, where there is one.
+pub(crate) fn whole_header(octets: &Undecided, n1: u16) -> Option<Header>
+    requires { AreOctets octets.now.items }
+    ensures next { option_map (λ h. frame_at (header_seen h) (drop 1 octets.now.items)) result
+        ≡ next_in n1 octets.now.items }
+    ensures long { IfSome result (λ h. h.size + h.info_len + 3 ≤ length octets.now.items) }
+{
+    match front_verdict(octets, n1) {
+        Verdict::Fits(header) => Some(header),
+        Verdict::Unfinished => None,
+        Verdict::Refused => None,
     }
 }

@@ -1,4 +1,4 @@
-use Rattle.std.proofs.Common.{◌≡◌, drop}
+use Rattle.std.proofs.Common.{◌≡◌, drop, sym}
 use Rattle.circular_buffer.specs.Buffer.{buffer}
 use Rattle.mux_frame.specs.Judged.{header_seen}
 use Rattle.mux_frame.specs.Judging.{unfinished, fits}
@@ -12,18 +12,15 @@ returns-in-Fits-clause-at_hand c =
     let u = c.loop-header.octets.items in
     let k = front_is c.args.n1 u (header_seen c.in-Fits.header) c.loop-header.invariant.octets c.in-Fits.ensures in
     record {
-      frame = next_of c.args.n1 u (fits (header_seen c.in-Fits.header)) c.in-Fits.ensures;
+      header = header_seen c.in-Fits.header;
       front = k;
-      long = front_long c.args.n1 u (header_seen c.in-Fits.header) k;
+      frame = next_of c.args.n1 u (fits (header_seen c.in-Fits.header)) c.in-Fits.ensures;
+      place_is = c.check_place.ensures.value;
+      within = rw c.check_place.ensures.value (front_long c.args.n1 u (header_seen c.in-Fits.header) k);
     }
 
 pub returns-in-Unfinished-clause-at_hand : goal.returns-in-Unfinished-clause-at_hand
-returns-in-Unfinished-clause-at_hand c =
-    record {
-      frame = next_of c.args.n1 c.loop-header.octets.items unfinished c.in-Unfinished.ensures;
-      front = tt;
-      long = tt;
-    }
+returns-in-Unfinished-clause-at_hand c = sym (next_of c.args.n1 c.loop-header.octets.items unfinished c.in-Unfinished.ensures)
 
 pub loop-header-smaller : goal.loop-header-smaller
 loop-header-smaller c =
