@@ -14,6 +14,7 @@ use Rattle.mux_frame.proofs.Judgements.{verdict_means}
 use Rattle.mux_frame.proofs.Readings.{frame_cut}
 use Rattle.mux_frame.proofs.Slow.{refused_frame, total_reading, whole_later, octets_right}
 use Rattle.mux_frame.proofs.Spellings.{one_spelling}
+use Rattle.mux_frame.specs.Judged.{IsAtPlace}
 
 -- The frame at hand.
 
@@ -220,3 +221,10 @@ past_next taken handed d f p e =
     let r : Reads d.n1 ((flag ∷ k.later) ++ []) t.frames t.rest = subst (λ z. Reads d.n1 z t.frames t.rest) (sym (append-nil (flag ∷ k.later))) t.reads in
     let all = p.reads [] (f ∷ t.frames) t.rest (next_reads d.n1 d.undecided [] f t.frames t.rest k r) in
     record { later = t.frames; rest = t.rest; reads = subst (λ z. Reads d.n1 z (handed ++ f ∷ t.frames) t.rest) (append-nil taken) all }
+
+-- a frame that is whole at the front has its check octet at this place
+pub at_place : (n1 place : ℕ) (u : List ℕ) (h : Header) → AreOctets u → fits h ≡ decision_on n1 u → place ≡ h.size + h.info_len → IsAtPlace n1 u place
+at_place n1 place u h o e p =
+    let k = front_is n1 u h o e in
+    let l = front_long n1 u h k in
+    record { header = h; front = k; frame = next_of n1 u (fits h) e; place_is = p; within = omega (arith, p, l) }

@@ -2,7 +2,7 @@
 use Rattle.std.proofs.Common.{◌≡◌, ◌≢◌, ℕ, suc, ◌+◌, ◌<◌, ◌≤◌, ◌==◌, Bool, true, false, List, [], ◌∷◌, ◌++◌, Option, None, Some, length, drop, refl, if◌then◌else◌, sym, ap, subst, ◌∙◌, arith, append_assoc}
 use Rattle.std.specs.Prelude.{unwrap_or, slice_get}
 use Rattle.std.proofs.lemmas.Bool.{eqb-true}
-use Rattle.std.proofs.lemmas.List.{drop_all, drop-append-le}
+use Rattle.std.proofs.lemmas.List.{drop_all, drop-append-le, append-nil, drop-drop, length-drop}
 use Rattle.std.proofs.Math.Seq.{drop-append-add}
 use Rattle.memchr.specs.Find.{IsFirstByte, is_byte}
 use Rattle.mux_frame.specs.Spelling.{flag}
@@ -161,3 +161,39 @@ settles_more-at n1 u v w s e h = record {
 
 pub settles_more : (n1 : ℕ) (u v w : Buffer ℕ) → Settles n1 u v → refused ≡ decision_on n1 v.items → w ≡ buffer (from_flag (drop 1 v.items)) v.capacity → Settles n1 u w
 settles_more n1 u v w s e h = subst (Settles n1 u) (sym h) (settles_more-at n1 u v w s e h)
+
+-- octets in one slice settle from this place on
+pub record SettlesAt (n1 : ℕ) (s : List ℕ) (start : ℕ) : Type 0 where
+  pub within : start ≤ length s
+  pub settles : Settles n1 (buffer s 0) (buffer (drop start s) 0)
+
+pub settles_at_none : (n1 : ℕ) (s : List ℕ) → AreOctets s → SettlesAt n1 s 0
+settles_at_none n1 s o = record { within = omega arith; settles = settles_none n1 (buffer s 0) o }
+
+pub settles_at_more : (n1 start place : ℕ) (s : List ℕ)
+    → SettlesAt n1 s start
+    → refused ≡ decision_on n1 (drop start s)
+    → place ≤ length (drop (start + 1) s)
+    → drop place (drop (start + 1) s) ≡ from_flag (drop (start + 1) s)
+    → SettlesAt n1 s (start + (1 + place))
+settles_at_more n1 start place s h e l d =
+    let one : drop 1 (drop start s) ≡ drop (start + 1) s = drop-drop 1 start s in
+    let sum : start + 1 + place ≡ start + (1 + place) = omega arith in
+    let t : drop (start + (1 + place)) s ≡ from_flag (drop 1 (drop start s)) = ap (λ i. drop i s) (sym sum) ∙ sym (drop-drop place (start + 1) s) ∙ d ∙ ap from_flag (sym one) in
+    let k = dropped_shorter n1 (drop start s) e in
+    let i = length-drop start s in
+    let j = length-drop (start + 1) s in
+    let w = h.within in
+    record {
+      within = omega (arith, k, i, j, l, w);
+      settles = settles_more n1 (buffer s 0) (buffer (drop start s) 0) (buffer (drop (start + (1 + place)) s) 0) h.settles e (ap (λ x. buffer x 0) t);
+    }
+
+-- the first flag in one slice
+pub flag_in_slice : (xs : List ℕ) (r : Option ℕ) (n : ℕ) → IsFirstByte (is_byte flag) xs r → n ≡ unwrap_or r (length xs) → drop n xs ≡ from_flag xs
+flag_in_slice xs None n h e = ap (λ i. drop i xs) e ∙ drop_all (length xs) xs (omega arith) ∙ sym (from_flag-none xs (found_none xs h))
+flag_in_slice xs (Some k) n h e = ap (λ i. drop i xs) e ∙ (flag_in_front xs [] xs k (append-nil xs) h)
+
+-- what is refused is some octet
+pub refused_some : (n1 start : ℕ) (s : List ℕ) → refused ≡ decision_on n1 (drop start s) → start + 1 ≤ length s
+refused_some n1 start s e = let k = dropped_shorter n1 (drop start s) e in let i = length-drop start s in omega (arith, k, i)

@@ -26,13 +26,23 @@ fn flag_place(octets: &Undecided) -> usize
     ensures rest { drop result octets.now.items ≡ from_flag octets.now.items }
 {
     let (front, back) = octets.as_slices();
-    if front.first() == Some(&FLAG) {
-        return 0;
-    }
     match memchr(FLAG, front) {
         Some(place) => place,
         None => front.len() + memchr(FLAG, back).unwrap_or(back.len()),
     }
+}
+
+#[inline(always)]
+/// The place of the first flag in one slice, or its length where there is none. It most often
+/// stands at the front.
+fn flag_in(octets: &[u8]) -> usize
+    ensures within { result ≤ length octets.now }
+    ensures rest { drop result octets.now ≡ from_flag octets.now }
+{
+    if octets.first() == Some(&FLAG) {
+        return 0;
+    }
+    memchr(FLAG, octets).unwrap_or(octets.len())
 }
 
 /// Takes all octets before the first flag off the front.
@@ -91,10 +101,58 @@ fn front_verdict(octets: &Undecided, n1: u16) -> Verdict
     }
 }
 
+/// How many octets of one slice begin no frame: where a candidate fails, only its flag, and then
+/// what stands before the next flag. Where a frame is whole behind them, it gives the place of its
+/// check octet, counted from its address octet.
+fn settled_slice(octets: &[u8], n1: u16) -> (usize, Option<usize>)
+    requires { AreOctets octets.now }
+    ensures within { result.0 ≤ length octets.now }
+    ensures decided { decision_on n1 (drop result.0 octets.now) ≢ refused }
+    ensures reads { SameReading n1 octets.now (drop result.0 octets.now) }
+    ensures kept { decision_on n1 octets.now ≢ refused →
+        drop result.0 octets.now ≡ octets.now }
+    ensures octets { AreOctets (drop result.0 octets.now) }
+    ensures at_hand { IsAtHand n1 (drop result.0 octets.now) result.1 }
+{
+    let mut start = 0;
+    loop {
+        let (_, left) = octets.split_at(start);
+        match slice_verdict(left, n1) {
+            Verdict::Fits(header) => return (start, Some(header.check_place())),
+            Verdict::Unfinished => return (start, None),
+            Verdict::Refused => {
+                let (_, text) = octets.split_at(start + 1);
+                start += 1 + flag_in(text);
+            }
+        }
+    }
+}
+
 /// Drops what begins no frame: where a candidate fails, only its flag, and then what stands before
 /// the next flag. Where a frame is whole at the front then, it gives the place of its check octet,
 /// counted from its address octet.
 pub(crate) fn settle(octets: &mut Undecided, n1: u16) -> Option<usize>
+    requires { AreOctets octets.old.items }
+    ensures decided { decision_on n1 octets.new.items ≢ refused }
+    ensures reads { SameReading n1 octets.old.items octets.new.items }
+    ensures kept { decision_on n1 octets.old.items ≢ refused → octets.new ≡ octets.old }
+    ensures octets { AreOctets octets.new.items }
+    ensures shorter { length octets.new.items ≤ length octets.old.items }
+    ensures capacity { octets.new.capacity ≡ octets.old.capacity }
+    ensures at_hand { IsAtHand n1 octets.new.items result }
+{
+    let (front, back) = octets.as_slices();
+    if !back.is_empty() {
+        return settle_wrapped(octets, n1);
+    }
+    let (count, check_place) = settled_slice(front, n1);
+    octets.remove_front(count);
+    check_place
+}
+
+#[inline(never)]
+/// The same where they wrap round.
+fn settle_wrapped(octets: &mut Undecided, n1: u16) -> Option<usize>
     requires { AreOctets octets.old.items }
     ensures decided { decision_on n1 octets.new.items ≢ refused }
     ensures reads { SameReading n1 octets.old.items octets.new.items }

@@ -3,21 +3,12 @@ use Rattle.circular_buffer.specs.Buffer.{buffer}
 use Rattle.mux_frame.specs.Judged.{header_seen}
 use Rattle.mux_frame.specs.Judging.{unfinished, fits}
 use Rattle.mux_frame.specs.Places.{from_flag}
-use Rattle.mux_frame.proofs.Pasts.{front_is, front_long, next_of}
+use Rattle.mux_frame.proofs.Pasts.{at_place, next_of}
 use Rattle.mux_frame.proofs.Rings.{settles_more, dropped_shorter}
-use Rattle.mux_frame.proofs.ring.settle.Goals as goal
+use Rattle.mux_frame.proofs.ring.settle_wrapped.Goals as goal
 
 pub returns-in-Fits-clause-at_hand : goal.returns-in-Fits-clause-at_hand
-returns-in-Fits-clause-at_hand c =
-    let u = c.loop-header.octets.items in
-    let k = front_is c.args.n1 u (header_seen c.in-Fits.header) c.loop-header.invariant.octets c.in-Fits.ensures in
-    record {
-      header = header_seen c.in-Fits.header;
-      front = k;
-      frame = next_of c.args.n1 u (fits (header_seen c.in-Fits.header)) c.in-Fits.ensures;
-      place_is = c.check_place.ensures.value;
-      within = rw c.check_place.ensures.value (front_long c.args.n1 u (header_seen c.in-Fits.header) k);
-    }
+returns-in-Fits-clause-at_hand c = at_place c.args.n1 c.check_place.result c.loop-header.octets.items (header_seen c.in-Fits.header) c.loop-header.invariant.octets c.in-Fits.ensures c.check_place.ensures.value
 
 pub returns-in-Unfinished-clause-at_hand : goal.returns-in-Unfinished-clause-at_hand
 returns-in-Unfinished-clause-at_hand c = sym (next_of c.args.n1 c.loop-header.octets.items unfinished c.in-Unfinished.ensures)
