@@ -1,6 +1,7 @@
 pub mod Division
 pub mod Examples
 pub mod Flags
+pub mod Fronts
 pub mod Judgements
 pub mod Pasts
 pub mod ReadingOn

@@ -227,4 +227,4 @@ pub at_place : (n1 place : ℕ) (u : List ℕ) (h : Header) → AreOctets u → 
 at_place n1 place u h o e p =
     let k = front_is n1 u h o e in
     let l = front_long n1 u h k in
-    record { header = h; front = k; frame = next_of n1 u (fits h) e; place_is = p; within = omega (arith, p, l) }
+    record { header = h; decision = e; front = k; frame = next_of n1 u (fits h) e; place_is = p; within = omega (arith, p, l) }

@@ -1,6 +1,6 @@
 -- Verdicts as the code has them.
 use Rattle.std.specs.Prelude.{◌≡◌, ℕ, ◌+◌, ◌≤◌, List, Option, None, Some, drop, length}
-use Rattle.mux_frame.specs.Deframing.{IsFront, IsSettled, next_in}
+use Rattle.mux_frame.specs.Deframing.{IsFront, IsSettled, decision_on, next_in}
 use Rattle.mux_frame.specs.Judging.{Header, Verdict, unfinished, refused, fits, frame_at}
 use Rattle.mux_frame.specs.declared.judge.Header.{Header as HeaderValue}
 use Rattle.mux_frame.specs.declared.judge.Verdict.{Verdict as VerdictValue}
@@ -24,9 +24,15 @@ verdict_seen Unfinished = unfinished
 verdict_seen Refused = refused
 verdict_seen (Fits h) = fits (header_seen h)
 
+-- the octets begin with a whole frame
+pub record IsWholeFront (n1 : ℕ) (octets : List ℕ) : Type 0 where
+  pub header : Header
+  pub decision : fits header ≡ decision_on n1 octets
+
 -- the frame at hand has this check place, counted from its address octet
 pub record IsAtPlace (n1 : ℕ) (undecided : List ℕ) (place : ℕ) : Type 0 where
   pub header : Header
+  pub decision : fits header ≡ decision_on n1 undecided
   pub front : IsFront n1 undecided header
   pub frame : Some (frame_at header (drop 1 undecided)) ≡ next_in n1 undecided
   pub place_is : place ≡ header.size + header.info_len

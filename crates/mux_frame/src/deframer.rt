@@ -8,7 +8,8 @@ ghost use Rattle.mux_frame.specs.Spelling.{most_info};
 
 use crate::error::FrameError;
 use crate::frame::FrameView;
-use crate::ring::{settle, whole_header};
+use crate::judge::front_frame;
+use crate::ring::settle;
 use crate::undecided::Undecided;
 use std::alloc::Global;
 use std::marker::Model;
@@ -81,8 +82,10 @@ impl Deframer {
         ensures room { IfSome result (λ f. length f.info.now ≤ most_info self.old.n1 f.kind) }
         ensures* after { sem 𝓛 (Rests the_row self.entry (λ new. new ≡ self.old)) }
     {
-        let header = whole_header(&self.octets, self.n1)?;
-        Some(header.view_after_flag(self.octets.one_slice()))
+        if self.check_place.is_none() {
+            return None;
+        }
+        front_frame(self.n1, self.octets.one_slice())
     }
 
     /// Goes on behind the frame at hand. The condition is that there is one: that the last call was

@@ -1,8 +1,9 @@
 //! Candidates are judged: what the octets after a flag can be (27.010, 5.2.1).
-ghost use Rattle.std.specs.Prelude.{◌≡◌, ◌+◌, ◌/◌, ◌^◌, ◌<◌, ◌≤◌, drop, length, slice_get};
+ghost use Rattle.std.specs.Prelude.{◌≡◌, ◌+◌, ◌/◌, ◌^◌, ◌<◌, ◌≤◌, drop, length, option_map, slice_get};
 ghost use Rattle.mux_frame.specs.Frames.{frame_of};
 ghost use Rattle.mux_frame.specs.Judging.{Means, by_end, by_header, by_length, frame_at, kind_in, verdict_on};
-ghost use Rattle.mux_frame.specs.Judged.{header_seen, verdict_seen};
+ghost use Rattle.mux_frame.specs.Judged.{IsWholeFront, header_seen, verdict_seen};
+ghost use Rattle.mux_frame.specs.Deframing.{next_in};
 
 use crate::check::check_octet;
 use crate::dlci::Dlci;
@@ -215,5 +216,20 @@ impl Header {
     {
         let len = text.len();
         &text[self.check_place() + 1..len]
+    }
+}
+
+#[inline(always)]
+/// The frame that octets begin with, lent, where it is known to be whole: its header is all that is
+/// looked at.
+pub(crate) fn front_frame(n1: u16, octets: &[u8]) -> Option<FrameView<'_>>
+    requires { IsWholeFront n1 octets.now }
+    ensures { option_map frame_of result ≡ next_in n1 octets.now }
+{
+    let lengths = (octet_at(octets, 3), octet_at(octets, 4));
+    match Verdict::by_header(n1, octet_at(octets, 1), octet_at(octets, 2), lengths) {
+        Verdict::Fits(header) => Some(header.view_after_flag(octets)),
+        Verdict::Unfinished => None,
+        Verdict::Refused => None,
     }
 }

@@ -2,12 +2,12 @@
 ghost use Rattle.std.specs.Prelude.{◌≡◌, ◌≢◌, ◌+◌, ◌<◌, ◌≤◌, ◌^◌, drop, length, option_map, slice_get, IfSome};
 ghost use Rattle.circular_buffer.specs.Buffer.{buffer};
 ghost use Rattle.mux_frame.specs.Deframing.{IsFront, SameReading, decision_on, next_in};
-ghost use Rattle.mux_frame.specs.Judged.{IsAtHand, header_seen, verdict_seen};
+ghost use Rattle.mux_frame.specs.Judged.{IsAtHand, verdict_seen};
 ghost use Rattle.mux_frame.specs.Judging.{frame_at, refused};
 ghost use Rattle.mux_frame.specs.Laws.{AreOctets};
 ghost use Rattle.mux_frame.specs.Places.{from_flag};
 
-use crate::judge::{Header, Verdict};
+use crate::judge::Verdict;
 use crate::undecided::Undecided;
 use crate::write::FLAG;
 use memchr::memchr;
@@ -66,7 +66,6 @@ fn slice_verdict(octets: &[u8], n1: u16) -> Verdict
     }
 }
 
-#[inline(never)]
 /// The same where they may wrap round.
 fn wrapped_verdict(octets: &Undecided, n1: u16) -> Verdict
     ensures { verdict_seen result ≡ decision_on n1 octets.now.items }
@@ -85,19 +84,6 @@ fn wrapped_verdict(octets: &Undecided, n1: u16) -> Verdict
         }
         Verdict::Unfinished => Verdict::Unfinished,
         Verdict::Refused => Verdict::Refused,
-    }
-}
-
-#[inline(always)]
-/// The verdict on the octets, by those that have come.
-fn front_verdict(octets: &Undecided, n1: u16) -> Verdict
-    ensures { verdict_seen result ≡ decision_on n1 octets.now.items }
-{
-    let (front, back) = octets.as_slices();
-    if back.is_empty() {
-        slice_verdict(front, n1)
-    } else {
-        wrapped_verdict(octets, n1)
     }
 }
 
@@ -163,7 +149,7 @@ fn settle_wrapped(octets: &mut Undecided, n1: u16) -> Option<usize>
     ensures at_hand { IsAtHand n1 octets.new.items result }
 {
     loop {
-        match front_verdict(octets, n1) {
+        match wrapped_verdict(octets, n1) {
             Verdict::Fits(header) => return Some(header.check_place()),
             Verdict::Unfinished => return None,
             Verdict::Refused => {
@@ -171,20 +157,5 @@ fn settle_wrapped(octets: &mut Undecided, n1: u16) -> Option<usize>
                 skip_to_flag(octets);
             }
         }
-    }
-}
-
-#[inline(always)]
-/// The header of the frame that is whole at the front, where there is one.
-pub(crate) fn whole_header(octets: &Undecided, n1: u16) -> Option<Header>
-    requires { AreOctets octets.now.items }
-    ensures next { option_map (λ h. frame_at (header_seen h) (drop 1 octets.now.items)) result
-        ≡ next_in n1 octets.now.items }
-    ensures long { IfSome result (λ h. h.size + h.info_len + 3 ≤ length octets.now.items) }
-{
-    match front_verdict(octets, n1) {
-        Verdict::Fits(header) => Some(header),
-        Verdict::Unfinished => None,
-        Verdict::Refused => None,
     }
 }
