@@ -1,5 +1,5 @@
 -- The header of a frame that is whole at the front.
-use Rattle.std.specs.Prelude.{◌≡◌, ℕ, ◌+◌, ◌==◌, Bool, true, false, List, [], ◌∷◌, Option, None, Some, drop, slice_get, refl, if◌then◌else◌}
+use Rattle.std.specs.Prelude.{◌≡◌, ℕ, ◌==◌, Bool, true, false, List, [], ◌∷◌, Option, None, Some, slice_get, if◌then◌else◌}
 use Rattle.std.proofs.Common.{sym, ap, ◌∙◌}
 use Rattle.mux_frame.specs.Spelling.{flag}
 use Rattle.mux_frame.specs.Judging.{Header, Verdict, unfinished, refused, fits, by_flag, by_end, by_rest, by_header, verdict_on}

@@ -1,7 +1,6 @@
 -- Frames that are counted as they are taken out.
 use Rattle.std.specs.Prelude.{◌≡◌, ℕ, ◌+◌, ◌%◌, ◌^◌, ◌<◌, ◌≤◌, List, [], ◌∷◌, ◌++◌, Option, Some, None, length, min, take, drop, refl}
 use Rattle.std.proofs.Common.{sym, subst, ◌∙◌, ap, arith}
-use Rattle.std.specs.List.{sum_by}
 use Rattle.std.proofs.lemmas.List.{take-append-drop, append_assoc, append-nil, length-append, length-take, take-take}
 use Rattle.std.proofs.lemmas.List.Sums.{sum_by-cons, sum_by-append, sum_by_push}
 use Rattle.std.proofs.Math.Nat.{mod-eq_of_lt, mod-add-mod}
@@ -9,7 +8,7 @@ use Rattle.std.proofs.Math.Nat.{add-zero}
 use Rattle.mux_frame.specs.Frames.{Frame}
 use Rattle.mux_frame.specs.CheckOctet.{check_octet_of}
 use Rattle.mux_frame.specs.Spelling.{flag, header, Spells}
-use Rattle.mux_frame.specs.Reading.{Reads, after_flag, no_flag, fill, frame, cut_short, other}
+use Rattle.mux_frame.specs.Reading.{Reads, no_flag, fill, frame, cut_short, other}
 use Rattle.mux_frame.specs.Deframing.{Deframing, Deframes, AtHand}
 use Rattle.mux_frame.proofs.Slow.{after_shorter}
 use Rattle.mux_frame_c.specs.declared.counts.Counts.{Counts}

@@ -1,12 +1,12 @@
 //! Octets are read as frames and counted, for a caller in C.
 #![tactic(auto)]
+
 ghost use Rattle.std.specs.Prelude.{◌≡◌, ◌≢◌, ◌<◌, ◌↔◌, ◌⊎◌};
 ghost use Rattle.mux_frame_c.specs.Counting.{IsCountOf};
 
 mod counts;
 
 pub use counts::Counts;
-
 use counts::count_octets;
 use mux_frame::FrameError;
 use std::alloc::Global;

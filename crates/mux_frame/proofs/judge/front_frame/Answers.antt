@@ -1,6 +1,5 @@
-use Rattle.std.proofs.Common.{◌≡◌, ◌∙◌, Some, ap, arith}
-use Rattle.mux_frame.specs.Deframing.{decision_on}
-use Rattle.mux_frame.specs.Judging.{Verdict, unfinished, refused, fits}
+use Rattle.std.proofs.Common.{◌∙◌, Some, ap, arith}
+use Rattle.mux_frame.specs.Judging.{unfinished, refused, fits}
 use Rattle.mux_frame.specs.Judged.{header_seen}
 use Rattle.mux_frame.proofs.Fronts.{front_decides}
 use Rattle.mux_frame.proofs.Pasts.{front_is, front_long, next_of}

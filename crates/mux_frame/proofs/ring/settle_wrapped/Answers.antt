@@ -1,7 +1,7 @@
 use Rattle.std.proofs.Common.{◌≡◌, drop, sym}
 use Rattle.circular_buffer.specs.Buffer.{buffer}
 use Rattle.mux_frame.specs.Judged.{header_seen}
-use Rattle.mux_frame.specs.Judging.{unfinished, fits}
+use Rattle.mux_frame.specs.Judging.{unfinished}
 use Rattle.mux_frame.specs.Places.{from_flag}
 use Rattle.mux_frame.proofs.Pasts.{at_place, next_of}
 use Rattle.mux_frame.proofs.Rings.{settles_more, dropped_shorter}

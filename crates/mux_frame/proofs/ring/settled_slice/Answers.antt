@@ -16,7 +16,6 @@ returns-in-Unfinished-clause-at_hand c =
     let e : unfinished ≡ decision_on c.args.n1 (drop c.loop-header.start c.args.octets.now) = rw c.split_at.ensures.back at c.in-Unfinished.ensures in
     sym (next_of c.args.n1 (drop c.loop-header.start c.args.octets.now) unfinished e)
 
-
 pub loop-header-init : goal.loop-header-init
 loop-header-init c = settles_at_none c.args.n1 c.args.octets.now c.requires
 

@@ -1,6 +1,6 @@
 use Rattle.std.proofs.Common.{◌∙◌, ap, sym, subst}
 use Rattle.mux_frame.specs.Deframing.{Deframes}
-use Rattle.mux_frame.specs.Judged.{header_seen, IsAtHand}
+use Rattle.mux_frame.specs.Judged.{IsAtHand}
 use Rattle.mux_frame.proofs.Pasts.{past_taken}
 use Rattle.mux_frame.proofs.deframer.Deframer.advance.Goals as goal
 

@@ -1,4 +1,4 @@
-use Rattle.std.proofs.Common.{◌≡◌, ◌∙◌, ◌+◌, ap, drop, slice_get, sym, refl, rules, ℕ}
+use Rattle.std.proofs.Common.{◌≡◌, ◌∙◌, ◌+◌, ap, drop, slice_get, sym, refl, ℕ}
 use Rattle.circular_buffer.specs.Buffer.{Buffer}
 use Rattle.circular_buffer.proofs.Places.{slice_get-drop}
 use Rattle.mux_frame.proofs.undecided.Undecided.get.Goals as goal
