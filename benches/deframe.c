@@ -1,6 +1,7 @@
 /* Measures the deframer: it decodes buffers through the static library of mux_frame_c, and prints
  * how long that takes for each octet, as a multiple of memchr over the same buffer and beside a
  * plain decoder. ./run builds and runs it. */
+#include <stdbool.h>
 #include <stdint.h>
 #include <stdio.h>
 #include <stdlib.h>
@@ -36,13 +37,11 @@ struct buffer {
 	uint16_t n1;
 	uint8_t *octets;
 	size_t length;
-	struct counts wanted;
 };
 
-/* Each pass goes over all of the buffer once, and answers what it counted. */
+/* Each pass goes over all of the buffer once, and answers what it counted. No octet is 0xFE. */
 static struct counts scan(const struct buffer *b)
 {
-	/* 256 isn't sought: no octet of the buffers is 0xFE (see octet_of). */
 	return (struct counts){ memchr(b->octets, 0xFE, b->length) != NULL, 0 };
 }
 
@@ -77,7 +76,7 @@ static struct counts plain(const struct buffer *b)
 enum { SCAN, FLAGS, DEFRAME, PLAIN, PASSES };
 static struct counts (*const passes[PASSES])(const struct buffer *) = { scan, each_flag, deframe, plain };
 
-/* Random octets, the same in each run (xorshift), but for 0xFE, which a scan seeks in vain. */
+/* A random octet other than 0xFE; the same ones come in each run. */
 static uint8_t octet_of(uint64_t *seed)
 {
 	*seed ^= *seed << 13;
@@ -215,44 +214,50 @@ static void measure(const struct buffer *b)
 	struct middle scan = middle_of(to_scan), flags = middle_of(to_flags), plain = middle_of(to_plain);
 	double ours = middle_of(seconds[DEFRAME]).value;
 
-	printf("| %s | %u | %zu | %.0f | %.1f (%.0f%%) | %.2f (%.0f%%) | %.1f (%.0f%%) | %ld |\n", b->name, b->n1,
+	printf("| %s | %zu | %.0f | %.1f (%.0f%%) | %.2f (%.0f%%) | %.1f (%.0f%%) | %ld |\n", b->name,
 	       wanted[DEFRAME].frames, b->length / ours / 1e6, scan.value, scan.spread, flags.value, flags.spread,
 	       plain.value, plain.spread, taken);
 	fflush(stdout);
 }
 
+enum { RING_OF_4096 = 4089 }; /* the ring has N1 + 7 octets */
+
 int main(void)
 {
 	static uint8_t octets[OCTETS];
-	static const struct { const char *name; uint16_t n1; int info; } framed[] = {
-		{ "frames of 0", 4089, 0 },	 { "frames of 31", 4089, 31 },
-		{ "frames of 127", 4089, 127 },	 { "frames of 1500", 4089, 1500 },
-		{ "frames of 0, small ring", 31, 0 },	{ "frames of 31, small ring", 31, 31 },
-		{ "frames of 127, small ring", 127, 127 },
+	static const struct { const char *name; uint16_t n1; int info; bool damaged; } framed[] = {
+		{ "frames of 0", RING_OF_4096, 0, false },
+		{ "frames of 31", RING_OF_4096, 31, false },
+		{ "frames of 127", RING_OF_4096, 127, false },
+		{ "frames of 0, N1 31", 31, 0, false },
+		{ "frames of 31, N1 31", 31, 31, false },
+		{ "frames of 127, N1 127", 127, 127, false },
+		{ "frames of 31, damaged", RING_OF_4096, 31, true },
 	};
+	static const struct { const char *name, *text; size_t length; } hostile[] = {
+		{ "flags alone", "\xF9", 1 },
+		{ "F9 05 EF alone", "\xF9\x05\xEF", 3 },
+		{ "F9 05 EF 00 1E alone", "\xF9\x05\xEF\x00\x1E", 5 }, /* each calls for 3840 octets */
+	};
+	struct buffer b = { .n1 = RING_OF_4096, .octets = octets };
 
-	puts("| Octets | N1 | frames | MB/s | times memchr, no hit | times memchr, each flag | plain decoder takes | blocks |");
-	puts("|---|---|---|---|---|---|---|---|");
+	puts("| Octets | Frames | MB/s | Time over memchr, no hit | Time over memchr, each flag | Plain decoder's time over it | Blocks |");
+	puts("|---|---|---|---|---|---|---|");
 	for (size_t k = 0; k < sizeof framed / sizeof *framed; k++) {
-		struct buffer b = { framed[k].name, framed[k].n1, octets, OCTETS, { 0, 0 } };
-
+		b = (struct buffer){ framed[k].name, framed[k].n1, octets, OCTETS };
 		fill_frames(&b, framed[k].info);
+		if (framed[k].damaged)
+			damage(&b);
 		measure(&b);
 	}
-	struct buffer b = { "frames of 31, damaged", 4089, octets, OCTETS, { 0, 0 } };
-
-	fill_frames(&b, 31);
-	damage(&b);
-	measure(&b);
-	b.name = "random";
-	b.length = OCTETS;
+	b = (struct buffer){ "random", RING_OF_4096, octets, OCTETS };
 	fill_random(&b);
 	measure(&b);
-	b.name = "flags alone";
-	fill_with(&b, "\xF9", 1);
-	measure(&b);
-	b.name = "F9 05 EF alone";
-	fill_with(&b, "\xF9\x05\xEF", 3);
-	measure(&b);
+	b.length = OCTETS / 64; /* the plain decoder goes over these again and again */
+	for (size_t k = 0; k < sizeof hostile / sizeof *hostile; k++) {
+		b.name = hostile[k].name;
+		fill_with(&b, hostile[k].text, hostile[k].length);
+		measure(&b);
+	}
 	return 0;
 }

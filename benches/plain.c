@@ -119,11 +119,12 @@ struct counts plain_decode(const uint8_t *octets, size_t length, uint16_t n1)
 			p.state = HUNT;
 			i = opened;
 			break;
-		case READ:
+		case OPENED:
+			opened = i;
+			break;
+		case READ: /* its closing flag may open the next */
 			read.frames++;
 			read.information += p.size;
-			/* fall through: its closing flag may open the next */
-		case OPENED:
 			opened = i;
 		}
 	return read;
