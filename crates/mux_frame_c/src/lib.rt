@@ -5,6 +5,8 @@ ghost use Rattle.std.specs.Prelude.{◌≡◌, ◌≢◌, ◌<◌, ◌↔◌, �
 ghost use Rattle.mux_frame_c.specs.Counting.{IsCountOf};
 
 mod counts;
+#[cfg(test)]
+mod tests;
 
 pub use counts::Counts;
 use counts::count_octets;
