@@ -1,9 +1,9 @@
 //! The octets of a deframer, in a ring.
-ghost use Rattle.std.specs.Prelude.{◌≡◌, ◌≢◌, ◌+◌, ◌<◌, ◌≤◌, ◌^◌, drop, length, option_map, slice_get, IfSome};
+ghost use Rattle.std.specs.Prelude.{◌≡◌, ◌≢◌, ◌+◌, ◌<◌, ◌≤◌, ◌^◌, drop, length, slice_get};
 ghost use Rattle.circular_buffer.specs.Buffer.{buffer};
-ghost use Rattle.mux_frame.specs.Deframing.{IsFront, SameReading, decision_on, next_in};
+ghost use Rattle.mux_frame.specs.Deframing.{SameReading, decision_on};
 ghost use Rattle.mux_frame.specs.Judged.{IsAtHand, verdict_seen};
-ghost use Rattle.mux_frame.specs.Judging.{frame_at, refused};
+ghost use Rattle.mux_frame.specs.Judging.{refused};
 ghost use Rattle.mux_frame.specs.Laws.{AreOctets};
 ghost use Rattle.mux_frame.specs.Places.{from_flag};
 
