@@ -1,3 +1,8 @@
+pub mod Cuts
+pub mod Dumps
+pub mod Ends
 pub mod Framings
 pub mod Inputs
+pub mod Orders
+pub mod Readings
 pub mod Scripts

@@ -1,54 +1,73 @@
--- Lines of a script.
-use Rattle.std.specs.Prelude.{◌≡◌, ℕ, ◌+◌, ◌≤◌, List, [], ◌∷◌, ◌++◌, length, take, drop, refl}
-use Rattle.std.proofs.Common.{sym, ap, arith, ◌∙◌}
-use Rattle.std.proofs.lemmas.List.{take-append-drop, length-append}
+-- Events of a script, read line by line.
+use Rattle.std.specs.Prelude.{◌≡◌, ◌≢◌, ℕ, ◌+◌, ◌==◌, true, false, ◌<◌, ◌≤◌, List, [], ◌∷◌, ◌++◌, length, refl}
+use Rattle.std.proofs.Common.{sym, ap, arith, subst, ◌∙◌}
+use Rattle.std.proofs.lemmas.Bool.{eqb-true, false≢true}
+use Rattle.std.proofs.lemmas.List.{append_assoc, append-nil}
 use Rattle.modem_desk.specs.declared.request.Request.{Request}
 use Rattle.modem_driver.specs.declared.act.Event.{Event}
 use Rattle.modem_driver.specs.declared.act.Event.TheVariants as event
-use Rattle.modemctl.specs.Script.{AreNumbered, number_after, AreAsked}
+use Rattle.modemctl.specs.declared.script.Order.{Order}
+use Rattle.modemctl.specs.declared.script.Order.TheVariants as order
+use Rattle.modemctl.specs.Input.{input_lines}
+use Rattle.modemctl.specs.Script.{IsNoOrder, IsScript, Says}
+use Rattle.modemctl.proofs.Readings.{IsRead, read_none, read_more}
 
--- a line is its first word, and what stands behind it
-pub word_and_text : (words word rest text first : List ℕ) (end : ℕ) → word ≡ take end words → rest ≡ drop end words → rest ≡ 32 ∷ text → word ≡ first → words ≡ first ++ 32 ∷ text
-word_and_text words word rest text first end w r t f = rw (sym f, w, sym t, r, take-append-drop end words) refl
+-- so many lines are read, and the events of so many requests with them
+pub record AreEvents (script left : List ℕ) (events : List Event) (asked place : ℕ) : Type 0 where
+  pub read : IsRead IsNoOrder script left place
+  pub said : (more : List Event) → IsScript (asked + 1) (input_lines left) more → IsScript 1 (input_lines script) (events ++ more)
+  pub few : asked ≤ place
 
-numbered_ask : (n : ℕ) (events : List Event) (q : Request) → AreNumbered n events → number_after n events ≡ q.number → q.caller ≡ 0 → AreNumbered n (events ++ event.Ask q ∷ [])
-numbered_ask n [] q h e c = (c, sym e, tt)
-numbered_ask n (event.Ask r ∷ events) q h e c = (h.0, h.1, numbered_ask (n + 1) events q h.2 e c)
-numbered_ask n (event.Octets x ∷ events) q h e c = numbered_ask n events q h e c
+pub no_events : (script : List ℕ) → AreEvents script script [] 0 0
+no_events script = record { read = read_none IsNoOrder script; said = λ more h. h; few = omega arith }
 
-after_ask : (n : ℕ) (events : List Event) (q : Request) → number_after n (events ++ event.Ask q ∷ []) ≡ number_after n events + 1
-after_ask n [] q = refl
-after_ask n (event.Ask r ∷ events) q = after_ask (n + 1) events q
-after_ask n (event.Octets x ∷ events) q = after_ask n events q
+pub all_events : (script left : List ℕ) (events : List Event) (asked place : ℕ) → AreEvents script left events asked place → left ≡ [] → IsScript 1 (input_lines script) events
+all_events script left events asked place h e =
+    let all : IsScript 1 (input_lines script) (events ++ []) = h.said [] (rw e tt) in
+    rw (sym (append-nil events)) all
 
-numbered_octets : (n : ℕ) (events : List Event) (x : List ℕ) → AreNumbered n events → AreNumbered n (events ++ event.Octets x ∷ [])
-numbered_octets n [] x h = tt
-numbered_octets n (event.Ask r ∷ events) x h = (h.0, h.1, numbered_octets (n + 1) events x h.2)
-numbered_octets n (event.Octets y ∷ events) x h = numbered_octets n events x h
+nil : (line : List ℕ) → length line ≡ 0 → line ≡ []
+nil [] e = refl
+nil (c ∷ line) e = cc
 
-after_octets : (n : ℕ) (events : List Event) (x : List ℕ) → number_after n (events ++ event.Octets x ∷ []) ≡ number_after n events
-after_octets n [] x = refl
-after_octets n (event.Ask r ∷ events) x = after_octets (n + 1) events x
-after_octets n (event.Octets y ∷ events) x = after_octets n events x
+pub no_line : (line : List ℕ) → true ≡ (length line == 0) → line ≡ []
+no_line line e = nil line (eqb-true (length line) 0 (sym e))
 
-longer : (events : List Event) (e : Event) (asked : ℕ) → asked ≤ length events → asked + 1 ≤ length (events ++ e ∷ [])
-longer events e asked h = rw (length-append events (e ∷ [])) (omega (arith, h))
+pub some_line : (line : List ℕ) → false ≡ (length line == 0) → line ≢ []
+some_line line e n = false≢true (e ∙ ap (λ (l : List ℕ). length l == 0) n)
 
-pub none_numbered : AreAsked [] 0
-none_numbered = record { numbered = tt; next = refl; few = omega arith }
-
--- one more request
-pub asked_next : (events later : List Event) (asked : ℕ) (q : Request) → AreAsked events asked → q.caller ≡ 0 → q.number ≡ asked + 1 → later ≡ events ++ event.Ask q ∷ [] → AreAsked later (asked + 1)
-asked_next events later asked q a c n e = rw e record {
-  numbered = numbered_ask 1 events q a.numbered (a.next ∙ sym n) c;
-  next = after_ask 1 events q ∙ ap (λ (k : ℕ). k + 1) a.next;
-  few = longer events (event.Ask q) asked a.few;
+-- an empty line
+pub skipped : (script left line rest : List ℕ) (events : List Event) (asked place : ℕ) → AreEvents script left events asked place → input_lines left ≡ line ∷ input_lines rest → length rest < length left → line ≡ [] → AreEvents script rest events asked (place + 1)
+skipped script left line rest events asked place h e l n = record {
+  read = read_more IsNoOrder script left line rest place h.read e l (λ b. b.0 n);
+  said = λ more i. h.said more (rw (e, n) i);
+  few = let f = h.few in omega (arith, f);
 }
 
--- more octets
-pub heard_next : (events later : List Event) (asked : ℕ) (x : List ℕ) → AreAsked events asked → later ≡ events ++ event.Octets x ∷ [] → AreAsked later asked
-heard_next events later asked x a e = rw e record {
-  numbered = numbered_octets 1 events x a.numbered;
-  next = after_octets 1 events x ∙ a.next;
-  few = let l : asked + 1 ≤ length (events ++ event.Octets x ∷ []) = longer events (event.Octets x) asked a.few in omega (arith, l);
+says_asked : (line : List ℕ) (lines : List (List ℕ)) (q : Request) (events : List Event) (n : ℕ) → line ≢ [] → Says line (order.Ask q.ask) → q.caller ≡ 0 → q.number ≡ n → IsScript (n + 1) lines events → IsScript n (line ∷ lines) (event.Ask q ∷ events)
+says_asked [] lines q events n f s c m h = absurd (f refl)
+says_asked (x ∷ line) lines q events n f s c m h = (s, c, m, h)
+
+says_octets : (line : List ℕ) (lines : List (List ℕ)) (x : List ℕ) (events : List Event) (n : ℕ) → line ≢ [] → Says line (order.Octets x) → IsScript n lines events → IsScript n (line ∷ lines) (event.Octets x ∷ events)
+says_octets [] lines x events n f s h = absurd (f refl)
+says_octets (c ∷ line) lines x events n f s h = (s, h)
+
+-- a line with a request
+pub asked_next : (script left line rest : List ℕ) (events later : List Event) (asked place : ℕ) (q : Request) → AreEvents script left events asked place → input_lines left ≡ line ∷ input_lines rest → length rest < length left → line ≢ [] → Says line (order.Ask q.ask) → q.caller ≡ 0 → q.number ≡ asked + 1 → later ≡ events ++ event.Ask q ∷ [] → AreEvents script rest later (asked + 1) (place + 1)
+asked_next script left line rest events later asked place q h e l f s c m n = record {
+  read = read_more IsNoOrder script left line rest place h.read e l (λ b. b.1 (order.Ask q.ask) s);
+  said = λ more i.
+    rw (n, append_assoc events (event.Ask q ∷ []) more)
+    (h.said (event.Ask q ∷ more) (rw e (says_asked line (input_lines rest) q more (asked + 1) f s c m i)));
+  few = let g = h.few in omega (arith, g);
+}
+
+-- a line with octets
+pub heard_next : (script left line rest : List ℕ) (events later : List Event) (asked place : ℕ) (x : List ℕ) → AreEvents script left events asked place → input_lines left ≡ line ∷ input_lines rest → length rest < length left → line ≢ [] → Says line (order.Octets x) → later ≡ events ++ event.Octets x ∷ [] → AreEvents script rest later asked (place + 1)
+heard_next script left line rest events later asked place x h e l f s n = record {
+  read = read_more IsNoOrder script left line rest place h.read e l (λ b. b.1 (order.Octets x) s);
+  said = λ more i.
+    rw (n, append_assoc events (event.Octets x ∷ []) more)
+    (h.said (event.Octets x ∷ more) (rw e (says_octets line (input_lines rest) x more (asked + 1) f s i)));
+  few = let g = h.few in omega (arith, g);
 }

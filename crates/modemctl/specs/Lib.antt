@@ -1,3 +1,5 @@
+pub mod Dump
 pub mod Framing
+pub mod Input
 pub mod Script
 pub mod Statuses

@@ -1,8 +1,11 @@
 //! Input: it is read whole, and cut into lines.
-ghost use Rattle.std.specs.Prelude.{◌≡◌, ◌⊎◌, IfOk, IfErr, IfSome};
+ghost use Rattle.std.specs.Prelude.{◌≡◌, ◌<◌, ◌⊎◌, [], ◌∷◌, ◌++◌, length, IfOk, IfErr, IfSome, MatchOption};
+ghost use Rattle.std.specs.Str.Iter.{LacksByte};
+ghost use Rattle.modemctl.specs.Input.{input_lines};
 ghost use Rattle.modemctl.specs.declared.stop.Stop.TheVariants as Stop;
 
 use crate::stop::Stop;
+use memchr::memchr;
 use std::alloc::Global;
 use std::io::{ErrorKind, Read};
 
@@ -28,10 +31,25 @@ pub fn read_whole<R: Read>(alloc: Global, input: &mut R) -> Result<Vec<u8>, Stop
     Err(Stop::Input)
 }
 
-/// A line without its end: LF and one CR just before it. At the end of input a CR belongs to the line.
-pub fn without_end(piece: &[u8]) -> &[u8] {
-    match piece.strip_suffix(b"\n") {
-        Some(line) => line.strip_suffix(b"\r").unwrap_or(line),
-        None => piece,
+/// What stands before the first of these octets, and what behind it.
+#[tactic(auto, using(crate::proofs::Cuts::lacking, crate::proofs::Cuts::cut_at))]
+pub fn split_once(text: &[u8], octet: u8) -> Option<(&[u8], &[u8])>
+    ensures { MatchOption result (LacksByte octet text.now) (λ parts. (LacksByte octet parts.0.now) × (text.now ≡ parts.0.now ++ octet ∷ parts.1.now)) }
+{
+    let place = memchr(octet, text)?;
+    Some((&text[..place], &text[place + 1..]))
+}
+
+/// The first line of a text, without its end, and the text behind it.
+pub fn next_line(text: &[u8]) -> Option<(&[u8], &[u8])>
+    ensures cut { MatchOption result (text.now ≡ []) (λ parts. input_lines text.now ≡ parts.0.now ∷ input_lines parts.1.now) }
+    ensures shorter { IfSome result (λ parts. length parts.1.now < length text.now) }
+{
+    if text.is_empty() {
+        return None;
+    }
+    match split_once(text, b'\n') {
+        Some((line, rest)) => Some((line.strip_suffix(b"\r").unwrap_or(line), rest)),
+        None => Some((text, &[])),
     }
 }

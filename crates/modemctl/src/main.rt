@@ -4,6 +4,8 @@
 
 mod dump;
 mod framing;
+#[cfg(test)]
+mod hostile;
 mod input;
 mod runs;
 mod script;

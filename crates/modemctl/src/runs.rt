@@ -1,9 +1,12 @@
 //! The subcommands, each over a reader and two writers.
-ghost use Rattle.std.specs.Prelude.{◌≡◌, ◌≤◌, ◌<◌, ◌↔◌, ◌⊎◌, map, Ok, IfOk, IsErr, IsErrOf, OnErr, MatchResult, true};
+ghost use Rattle.std.specs.Prelude.{◌≡◌, ℕ, ◌≤◌, ◌<◌, ◌↔◌, ◌⊎◌, map, Ok, IfOk, IfErr, IfSome, IsErr, IsErrOf, OnErr, MatchResult, true};
 ghost use Rattle.std.specs.Io.KnownBytes.{Appends};
 ghost use Rattle.std.specs.String.{string_bytes};
 ghost use Rattle.mux_frame.specs.Frames.{kept_frame};
 ghost use Rattle.mux_frame.specs.Reading.{Reads};
+ghost use Rattle.modemctl.specs.Dump.{IsDumpText, IsNoDump};
+ghost use Rattle.modemctl.specs.Input.{HasBad, IsFirstBad, input_lines};
+ghost use Rattle.modemctl.specs.Script.{IsNoOrder, IsScriptText};
 ghost use Rattle.modemctl.specs.Statuses.{status_of};
 ghost use Rattle.modemctl.specs.declared.stop.Stop.TheVariants as Stop;
 
@@ -53,7 +56,8 @@ fn finish<W: Write, E: Write>(output: &mut W, faults: &mut E, built: Result<Stri
 
 /// What events come to.
 fn acts_of(alloc: Global, n1: u16, events: &[Event]) -> Result<Vec<Act>, Stop>
-    ensures { IsErrOf result Stop.BadN1 ↔ ((n1 < 31) ⊎ (32767 < n1)) }
+    ensures bad_n1 { IsErrOf result Stop.BadN1 ↔ ((n1 < 31) ⊎ (32767 < n1)) }
+    ensures err { IfErr result (λ stop. (stop ≡ Stop.BadN1) ⊎ (stop ≡ Stop.NoMemory)) }
 {
     match replay(alloc, n1, events) {
         Ok(acts) => Ok(acts),
@@ -67,6 +71,7 @@ fn acts_of(alloc: Global, n1: u16, events: &[Event]) -> Result<Vec<Act>, Stop>
 fn frames_of(alloc: Global, n1: u16, octets: &[u8]) -> Result<(Vec<FrameBuf>, Vec<u8>), Stop>
     ensures ok { IfOk result (λ read. Reads n1 octets.now (map kept_frame read.0.items) read.1.items) }
     ensures bad_n1 { IsErrOf result Stop.BadN1 ↔ ((n1 < 31) ⊎ (32767 < n1)) }
+    ensures err { IfErr result (λ stop. (stop ≡ Stop.BadN1) ⊎ (stop ≡ Stop.NoMemory)) }
 {
     match read_frames(alloc, n1, octets) {
         Ok(read) => Ok(read),
@@ -78,7 +83,10 @@ fn frames_of(alloc: Global, n1: u16, octets: &[u8]) -> Result<(Vec<FrameBuf>, Ve
 
 /// The acts that a script comes to, as text.
 fn replayed<R: Read>(alloc: Global, input: &mut R, n1: u16) -> Result<String, Stop>
-    ensures { (n1 < 31) ⊎ (32767 < n1) → IsErr result }
+    ensures ok { IfOk result (λ _. IfSome (R.remaining input.old) IsScriptText) }
+    ensures bad_line { (place : ℕ) → IsErrOf result (Stop.BadLine place) → IfSome (R.remaining input.old) (λ text. IsFirstBad IsNoOrder (input_lines text) place) }
+    ensures bad_n1 { IsErrOf result Stop.BadN1 → ((n1 < 31) ⊎ (32767 < n1)) × IfSome (R.remaining input.old) IsScriptText }
+    ensures n1 { (n1 < 31) ⊎ (32767 < n1) → IsErr result }
 {
     let script = read_whole(alloc, input)?;
     let events = read_script(alloc, script.as_slice())?;
@@ -92,7 +100,10 @@ fn replayed<R: Read>(alloc: Global, input: &mut R, n1: u16) -> Result<String, St
 
 /// The frames that octets are read as, and the rest, as text.
 fn framed<R: Read>(alloc: Global, input: &mut R, n1: u16) -> Result<String, Stop>
-    ensures { (n1 < 31) ⊎ (32767 < n1) → IsErr result }
+    ensures ok { IfOk result (λ _. IfSome (R.remaining input.old) IsDumpText) }
+    ensures bad_line { (place : ℕ) → IsErrOf result (Stop.BadLine place) → IfSome (R.remaining input.old) (λ text. IsFirstBad IsNoDump (input_lines text) place) }
+    ensures bad_n1 { IsErrOf result Stop.BadN1 → ((n1 < 31) ⊎ (32767 < n1)) × IfSome (R.remaining input.old) IsDumpText }
+    ensures n1 { (n1 < 31) ⊎ (32767 < n1) → IsErr result }
 {
     let dump = read_whole(alloc, input)?;
     let octets = read_dump(alloc, dump.as_slice())?;
@@ -115,6 +126,8 @@ pub fn replay_run<R: Read, W: Write, E: Write>(
     n1: u16,
 ) -> u8
     ensures status { result ≤ 2 }
+    ensures done { result ≡ 0 → IfSome (R.remaining input.old) IsScriptText }
+    ensures refused { result ≡ 2 → ((n1 < 31) ⊎ (32767 < n1)) ⊎ IfSome (R.remaining input.old) (λ text. HasBad IsNoOrder (input_lines text)) }
     ensures bad { result ≡ 2 → output.new ≡ output.old }
     ensures bad_n1 { (n1 < 31) ⊎ (32767 < n1) → 0 < result }
     ensures silent { result ≡ 0 → faults.new ≡ faults.old }
@@ -133,6 +146,8 @@ pub fn frames_run<R: Read, W: Write, E: Write>(
     n1: u16,
 ) -> u8
     ensures status { result ≤ 2 }
+    ensures done { result ≡ 0 → IfSome (R.remaining input.old) IsDumpText }
+    ensures refused { result ≡ 2 → ((n1 < 31) ⊎ (32767 < n1)) ⊎ IfSome (R.remaining input.old) (λ text. HasBad IsNoDump (input_lines text)) }
     ensures bad { result ≡ 2 → output.new ≡ output.old }
     ensures bad_n1 { (n1 < 31) ⊎ (32767 < n1) → 0 < result }
     ensures silent { result ≡ 0 → faults.new ≡ faults.old }

@@ -1,10 +1,11 @@
 //! The script that `replay` reads: a line for each event.
-ghost use Rattle.std.specs.Prelude.{◌≡◌, ◌≢◌, ◌<◌, ◌++◌, [], Ok, IfOk, IfErr, IfSome, codes};
+ghost use Rattle.std.specs.Prelude.{◌≡◌, ◌≢◌, ℕ, ◌<◌, ◌++◌, List, [], Ok, MatchOption, MatchResult, codes};
 ghost use Rattle.hex.specs.Hex.{decode_of};
-ghost use Rattle.modemctl.specs.Script.{AreNumbered, number_text, Says};
+ghost use Rattle.modemctl.specs.Input.{IsReason, input_lines};
+ghost use Rattle.modemctl.specs.Script.{IsNoOrder, IsScript, IsServed, Says, SaysNothing, number_text};
 ghost use Rattle.modemctl.specs.declared.stop.Refusal.TheVariants as Refusal;
 
-use crate::input::without_end;
+use crate::input::{next_line, split_once};
 use crate::stop::{Refusal, Stop};
 use at_text::CommandLine;
 use modem_desk::{Ask, Request};
@@ -21,7 +22,7 @@ enum Order {
 
 /// The number of a connection in decimal without leading zeros: 0 to 61.
 fn dlci_of(word: &[u8]) -> Option<Dlci>
-    ensures { IfSome result (λ dlci. word.now ≡ number_text dlci.number) }
+    ensures { MatchOption result ((n : ℕ) → n < 62 → word.now ≢ number_text n) (λ dlci. word.now ≡ number_text dlci.number) }
 {
     let number = match word {
         [ones] if ones.is_ascii_digit() => *ones - b'0',
@@ -35,8 +36,7 @@ fn dlci_of(word: &[u8]) -> Option<Dlci>
 
 /// A connection that is served: 0 and 1 are.
 fn served(word: &[u8]) -> Result<Dlci, Refusal>
-    ensures ok { IfOk result (λ dlci. (word.now ≡ number_text dlci.number) × (dlci.number < 2)) }
-    ensures err { IfErr result (λ refusal. refusal ≡ Refusal.Bad) }
+    ensures { MatchResult result (λ dlci. IsServed dlci.number × (word.now ≡ number_text dlci.number)) (λ why. (why ≡ Refusal.Bad) × ((n : ℕ) → IsServed n → word.now ≢ number_text n)) }
 {
     match dlci_of(word) {
         Some(dlci) if dlci.number() < 2 => Ok(dlci),
@@ -46,7 +46,7 @@ fn served(word: &[u8]) -> Result<Dlci, Refusal>
 
 /// Pairs of hexadecimal digits, at least one.
 fn octets_of(alloc: Global, word: &[u8]) -> Result<Octets, Refusal>
-    ensures { IfOk result (λ octets. (decode_of word.now ≡ Ok octets) × (octets ≢ [])) }
+    ensures { MatchResult result (λ octets. (decode_of word.now ≡ Ok octets) × (octets ≢ [])) (λ why. why ≡ Refusal.Bad → (x : List ℕ) → decode_of word.now ≡ Ok x → x ≡ []) }
 {
     let octets = hex::decode(alloc, word)?;
     if octets.is_empty() {
@@ -57,11 +57,9 @@ fn octets_of(alloc: Global, word: &[u8]) -> Result<Octets, Refusal>
 
 /// The words after `cmd`: a connection, one blank and a command line.
 fn command_of(alloc: Global, words: &[u8]) -> Result<Order, Refusal>
-    ensures { IfOk result (Says (codes "cmd " ++ words.now)) }
+    ensures { MatchResult result (Says (codes "cmd " ++ words.now)) (λ why. why ≡ Refusal.Bad → SaysNothing (codes "cmd " ++ words.now)) }
 {
-    let blank = words.iter().position(|octet| *octet == b' ');
-    let (word, rest) = words.split_at(blank.unwrap_or(words.len()));
-    let Some(text) = rest.strip_prefix(b" ") else {
+    let Some((word, text)) = split_once(words, b' ') else {
         return Err(Refusal::Bad);
     };
     let dlci = served(word)?;
@@ -71,7 +69,7 @@ fn command_of(alloc: Global, words: &[u8]) -> Result<Order, Refusal>
 
 /// A line that isn't empty.
 fn order_of(alloc: Global, line: &[u8]) -> Result<Order, Refusal>
-    ensures { IfOk result (Says line.now) }
+    ensures { MatchResult result (Says line.now) (λ why. why ≡ Refusal.Bad → SaysNothing line.now) }
 {
     if let Some(word) = line.strip_prefix(b"open ") {
         return Ok(Order::Ask(Ask::OpenChannel(served(word)?)));
@@ -85,16 +83,18 @@ fn order_of(alloc: Global, line: &[u8]) -> Result<Order, Refusal>
     Err(Refusal::Bad)
 }
 
-/// The events of a script. Requests are caller 0's and have the numbers from 1 in order.
-#[tactic(auto, using(crate::proofs::Scripts::none_numbered))]
+/// The events of a script. Requests are caller 0's and have the numbers from 1 in order. Refusals: the first bad
+/// line; NoMemory.
 pub fn read_script(alloc: Global, script: &[u8]) -> Result<Vec<Event>, Stop>
-    ensures { IfOk result (λ events. AreNumbered 1 events.items) }
+    ensures { MatchResult result (λ events. IsScript 1 (input_lines script.now) events.items) (IsReason IsNoOrder (input_lines script.now)) }
 {
     let mut events = Vec::new(alloc);
     let mut asked = 0;
-    let pieces = script.split_inclusive(|octet| *octet == b'\n');
-    for (place, piece) in (1..=u64::MAX).zip(pieces) {
-        let line = without_end(piece);
+    let mut place = 0;
+    let mut left = script;
+    while let Some((line, rest)) = next_line(left) {
+        left = rest;
+        place += 1;
         if line.is_empty() {
             continue;
         }

@@ -1,7 +1,10 @@
 //! Why a run ends without its output.
-ghost use Rattle.std.specs.Prelude.{◌≡◌, ◌≤◌};
+ghost use Rattle.std.specs.Prelude.{◌≡◌, ◌↔◌};
+ghost use Rattle.hex.specs.declared.error.FromHexError.TheVariants.{OutOfMemory};
+ghost use Rattle.at_text.specs.declared.error.TextError.TheVariants as TextError;
 ghost use Rattle.modemctl.specs.Statuses.{status_of, stop_at};
 ghost use Rattle.modemctl.specs.declared.stop.Stop.TheVariants.{NoMemory};
+ghost use Rattle.modemctl.specs.declared.stop.Refusal.TheVariants as Refused;
 
 use at_text::TextError;
 use hex::FromHexError;
@@ -78,12 +81,24 @@ impl Refusal {
 }
 
 impl From<AllocError> for Refusal {
+    ghost from_gives = { λ _ refusal. refusal ≡ Refused.NoMemory };
+
     fn from(_error: AllocError) -> Refusal {
         Refusal::NoMemory
     }
 }
 
+impl<T: Drop> From<AllocFailed<T>> for Refusal {
+    ghost from_gives = { λ _ refusal. refusal ≡ Refused.NoMemory };
+
+    fn from(_error: AllocFailed<T>) -> Refusal {
+        Refusal::NoMemory
+    }
+}
+
 impl From<FromHexError> for Refusal {
+    ghost from_gives = { λ error refusal. (refusal ≡ Refused.NoMemory) ↔ (error ≡ OutOfMemory) };
+
     fn from(error: FromHexError) -> Refusal {
         match error {
             FromHexError::OutOfMemory => Refusal::NoMemory,
@@ -93,16 +108,12 @@ impl From<FromHexError> for Refusal {
 }
 
 impl From<TextError> for Refusal {
+    ghost from_gives = { λ error refusal. (refusal ≡ Refused.NoMemory) ↔ (error ≡ TextError.NoMemory) };
+
     fn from(error: TextError) -> Refusal {
         match error {
             TextError::NoMemory => Refusal::NoMemory,
             _ => Refusal::Bad,
         }
-    }
-}
-
-impl<T: Drop> From<AllocFailed<T>> for Refusal {
-    fn from(_error: AllocFailed<T>) -> Refusal {
-        Refusal::NoMemory
     }
 }

@@ -1,0 +1,9 @@
+use Rattle.std.specs.Prelude.{◌<◌, ◌⊎◌}
+use Rattle.modemctl.specs.Script.{IsNoOrder, IsScriptText}
+use Rattle.modemctl.proofs.Ends.{refused_for}
+use Rattle.modemctl.proofs.runs.replay_run.Goals as goal
+
+pub returns-clause-refused : goal.returns-clause-refused
+returns-clause-refused g c =
+    refused_for c.replayed-built.result c.finish.result ((c.args.n1 < 31) ⊎ (32767 < c.args.n1)) (g.R.Read.remaining c.args.input.now) IsNoOrder IsScriptText
+    c.finish.ensures.ended c.replayed-built.ensures.bad_line c.replayed-built.ensures.bad_n1
