@@ -1,6 +1,8 @@
 -- How a run ends, where the octets of its reader are known.
-use Rattle.std.specs.Prelude.{◌≡◌, ℕ, ◌≤◌, ◌⊎◌, List, Option, None, Some, Result, Ok, Err, IfSome, IsErrOf, MatchResult, refl}
+use Rattle.std.specs.Prelude.{◌≡◌, ℕ, ◌≤◌, ◌⊎◌, List, Option, None, Some, Result, Ok, Err, IfOk, IfSome, IsErrOf, MatchResult, refl}
 use Rattle.std.proofs.Common.{arith, inl, inr, sym, subst, ◌∙◌}
+use Rattle.std.specs.Io.KnownBytes.{Appends}
+use Rattle.modemctl.specs.Printed.{IsPrinted}
 use Rattle.modemctl.specs.Input.{HasBad, IsFirstBad, input_lines}
 use Rattle.modemctl.specs.Statuses.{status_of}
 use Rattle.modemctl.specs.declared.stop.Stop.{Stop}
@@ -27,3 +29,17 @@ refused_for (Err Stop.Input) status BadN1 known IsBad IsText h line n1 e = absur
 refused_for (Err Stop.Output) status BadN1 known IsBad IsText h line n1 e = absurd (omega (arith, h, e))
 refused_for (Err Stop.BadN1) status BadN1 known IsBad IsText h line n1 e = inl (n1 refl).0
 refused_for (Err (Stop.BadLine place)) status BadN1 known IsBad IsText h line n1 e = inr (has_bad IsBad known place (line place refl))
+
+-- status 0 is that of an output that is written whole
+pub printed_for : {T : Type 0} (bytes : T → List ℕ) (built : Result T Stop) (status : ℕ) (Makes : List ℕ → List ℕ → Type 0) (known before after : Option (List ℕ))
+    → MatchResult built (λ _. status ≤ 1) (λ stop. status ≡ status_of stop)
+    → IfOk built (λ text. status ≡ 0 → Appends before after (bytes text))
+    → IfOk built (λ text. IfSome known (λ all. Makes all (bytes text)))
+    → status ≡ 0
+    → IsPrinted Makes known before after
+printed_for bytes (Ok text) status Makes known before after h w m e = record { shown = bytes text; made = m; appended = w e }
+printed_for bytes (Err Stop.NoMemory) status Makes known before after h w m e = absurd (omega (arith, h, e))
+printed_for bytes (Err Stop.Input) status Makes known before after h w m e = absurd (omega (arith, h, e))
+printed_for bytes (Err Stop.Output) status Makes known before after h w m e = absurd (omega (arith, h, e))
+printed_for bytes (Err Stop.BadN1) status Makes known before after h w m e = absurd (omega (arith, h, e))
+printed_for bytes (Err (Stop.BadLine place)) status Makes known before after h w m e = absurd (omega (arith, h, e))

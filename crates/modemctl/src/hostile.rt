@@ -115,7 +115,7 @@ fn expect_sound(rt: &impl Abort, alloc: Global, place: usize, damage: Damage) ->
 fn damaged_octets_tell_no_request_twice(rt: HostRuntime) -> Result<(), Fail> {
     let alloc = rt.alloc();
     for place in 0..COUNT {
-        for bit in 0..8 {
+        for bit in 0..u8::BITS {
             expect_sound(&rt, alloc, place, Damage::Flipped(1 << bit))?;
         }
         expect_sound(&rt, alloc, place, Damage::LeftOut)?;

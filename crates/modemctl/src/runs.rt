@@ -4,8 +4,11 @@ ghost use Rattle.std.specs.Io.KnownBytes.{Appends};
 ghost use Rattle.std.specs.String.{string_bytes};
 ghost use Rattle.mux_frame.specs.Frames.{kept_frame};
 ghost use Rattle.mux_frame.specs.Reading.{Reads};
+ghost use Rattle.modem_driver.specs.Acts.{act_of};
+ghost use Rattle.modem_driver.specs.Replays.{IsFirstRun, Replays};
 ghost use Rattle.modemctl.specs.Dump.{IsDumpText, IsNoDump};
 ghost use Rattle.modemctl.specs.Input.{HasBad, IsFirstBad, input_lines};
+ghost use Rattle.modemctl.specs.Printed.{IsFramed, IsPrinted, IsReplayed};
 ghost use Rattle.modemctl.specs.Script.{IsNoOrder, IsScriptText};
 ghost use Rattle.modemctl.specs.Statuses.{status_of};
 ghost use Rattle.modemctl.specs.declared.stop.Stop.TheVariants as Stop;
@@ -15,7 +18,7 @@ use crate::framing::read_frames;
 use crate::input::read_whole;
 use crate::script::read_script;
 use crate::stop::Stop;
-use crate::texts::{push_act, push_frame, push_rest};
+use crate::texts::{acts_text, frames_text};
 use modem_driver::{Act, CoreError, Event, replay};
 use mux_frame::{FrameBuf, FrameError};
 use std::alloc::Global;
@@ -56,6 +59,7 @@ fn finish<W: Write, E: Write>(output: &mut W, faults: &mut E, built: Result<Stri
 
 /// What events come to.
 fn acts_of(alloc: Global, n1: u16, events: &[Event]) -> Result<Vec<Act>, Stop>
+    ensures ok { IfOk result (λ acts. IsFirstRun n1 events.now → Replays n1 events.now (map act_of acts.items)) }
     ensures bad_n1 { IsErrOf result Stop.BadN1 ↔ ((n1 < 31) ⊎ (32767 < n1)) }
     ensures err { IfErr result (λ stop. (stop ≡ Stop.BadN1) ⊎ (stop ≡ Stop.NoMemory)) }
 {
@@ -83,7 +87,7 @@ fn frames_of(alloc: Global, n1: u16, octets: &[u8]) -> Result<(Vec<FrameBuf>, Ve
 
 /// The acts that a script comes to, as text.
 fn replayed<R: Read>(alloc: Global, input: &mut R, n1: u16) -> Result<String, Stop>
-    ensures ok { IfOk result (λ _. IfSome (R.remaining input.old) IsScriptText) }
+    ensures ok { IfOk result (λ text. IfSome (R.remaining input.old) (λ all. IsReplayed n1 all (string_bytes text))) }
     ensures bad_line { (place : ℕ) → IsErrOf result (Stop.BadLine place) → IfSome (R.remaining input.old) (λ text. IsFirstBad IsNoOrder (input_lines text) place) }
     ensures bad_n1 { IsErrOf result Stop.BadN1 → ((n1 < 31) ⊎ (32767 < n1)) × IfSome (R.remaining input.old) IsScriptText }
     ensures n1 { (n1 < 31) ⊎ (32767 < n1) → IsErr result }
@@ -91,16 +95,13 @@ fn replayed<R: Read>(alloc: Global, input: &mut R, n1: u16) -> Result<String, St
     let script = read_whole(alloc, input)?;
     let events = read_script(alloc, script.as_slice())?;
     let acts = acts_of(alloc, n1, events.as_slice())?;
-    let mut text = String::new(alloc);
-    for act in &acts {
-        push_act(alloc, act, &mut text)?;
-    }
+    let text = acts_text(alloc, acts.as_slice())?;
     Ok(text)
 }
 
 /// The frames that octets are read as, and the rest, as text.
 fn framed<R: Read>(alloc: Global, input: &mut R, n1: u16) -> Result<String, Stop>
-    ensures ok { IfOk result (λ _. IfSome (R.remaining input.old) IsDumpText) }
+    ensures ok { IfOk result (λ text. IfSome (R.remaining input.old) (λ all. IsFramed n1 all (string_bytes text))) }
     ensures bad_line { (place : ℕ) → IsErrOf result (Stop.BadLine place) → IfSome (R.remaining input.old) (λ text. IsFirstBad IsNoDump (input_lines text) place) }
     ensures bad_n1 { IsErrOf result Stop.BadN1 → ((n1 < 31) ⊎ (32767 < n1)) × IfSome (R.remaining input.old) IsDumpText }
     ensures n1 { (n1 < 31) ⊎ (32767 < n1) → IsErr result }
@@ -108,11 +109,7 @@ fn framed<R: Read>(alloc: Global, input: &mut R, n1: u16) -> Result<String, Stop
     let dump = read_whole(alloc, input)?;
     let octets = read_dump(alloc, dump.as_slice())?;
     let (frames, rest) = frames_of(alloc, n1, octets.as_slice())?;
-    let mut text = String::new(alloc);
-    for frame in &frames {
-        push_frame(alloc, &frame.view(), &mut text)?;
-    }
-    push_rest(alloc, rest.as_slice(), &mut text)?;
+    let text = frames_text(alloc, frames.as_slice(), rest.as_slice())?;
     Ok(text)
 }
 
@@ -126,7 +123,7 @@ pub fn replay_run<R: Read, W: Write, E: Write>(
     n1: u16,
 ) -> u8
     ensures status { result ≤ 2 }
-    ensures done { result ≡ 0 → IfSome (R.remaining input.old) IsScriptText }
+    ensures done { result ≡ 0 → IsPrinted (IsReplayed n1) (R.remaining input.old) (W.contents output.old) (W.contents output.new) }
     ensures refused { result ≡ 2 → ((n1 < 31) ⊎ (32767 < n1)) ⊎ IfSome (R.remaining input.old) (λ text. HasBad IsNoOrder (input_lines text)) }
     ensures bad { result ≡ 2 → output.new ≡ output.old }
     ensures bad_n1 { (n1 < 31) ⊎ (32767 < n1) → 0 < result }
@@ -146,7 +143,7 @@ pub fn frames_run<R: Read, W: Write, E: Write>(
     n1: u16,
 ) -> u8
     ensures status { result ≤ 2 }
-    ensures done { result ≡ 0 → IfSome (R.remaining input.old) IsDumpText }
+    ensures done { result ≡ 0 → IsPrinted (IsFramed n1) (R.remaining input.old) (W.contents output.old) (W.contents output.new) }
     ensures refused { result ≡ 2 → ((n1 < 31) ⊎ (32767 < n1)) ⊎ IfSome (R.remaining input.old) (λ text. HasBad IsNoDump (input_lines text)) }
     ensures bad { result ≡ 2 → output.new ≡ output.old }
     ensures bad_n1 { (n1 < 31) ⊎ (32767 < n1) → 0 < result }

@@ -1,7 +1,14 @@
 //! Acts and frames as text.
-ghost use Rattle.std.specs.Prelude.{◌≡◌};
+ghost use Rattle.std.specs.Prelude.{◌≡◌, ◌++◌, map, IfOk, OnOk};
+ghost use Rattle.std.specs.List.{flat_map};
+ghost use Rattle.std.specs.String.{string_bytes};
+ghost use Rattle.hex.specs.Hex.{encode_lower};
+ghost use Rattle.mux_frame.specs.Frames.{frame_of, kept_frame};
+ghost use Rattle.mux_frame.specs.Spelling.{spelled};
+ghost use Rattle.modem_driver.specs.Acts.{Act as Done, act_of};
+ghost use Rattle.modemctl.specs.Texts.{act_text, acts_text, answer_line_text, answer_text, ask_text, frame_text, frames_text, kind_text, line_text, octets_text, rest_text, urc_text};
 
-use at_text::UrcKind;
+use at_text::{AnswerLine, UrcKind};
 use modem_desk::{Answer, Ask, Outcome, Request, Urc};
 use modem_driver::Act;
 use mux_frame::{FrameBuf, FrameView, Kind, write_frame};
@@ -9,12 +16,16 @@ use std::alloc::{AllocError, Global};
 use std::fmt::Write;
 
 /// Octets as pairs of hexadecimal digits in lower case.
-fn push_octets(alloc: Global, octets: &[u8], text: &mut String) -> Result<(), AllocError> {
+fn push_octets(alloc: Global, octets: &[u8], text: &mut String) -> Result<(), AllocError>
+    ensures { OnOk result (string_bytes text.new ≡ string_bytes text.old ++ encode_lower octets.now) }
+{
     text.push_str(hex::encode(alloc, octets)?.as_str())
 }
 
 /// The same, or `-` where there is none.
-fn push_octets_or_dash(alloc: Global, octets: &[u8], text: &mut String) -> Result<(), AllocError> {
+fn push_octets_or_dash(alloc: Global, octets: &[u8], text: &mut String) -> Result<(), AllocError>
+    ensures { OnOk result (string_bytes text.new ≡ string_bytes text.old ++ octets_text octets.now) }
+{
     if octets.is_empty() {
         return text.push_str("-");
     }
@@ -22,19 +33,24 @@ fn push_octets_or_dash(alloc: Global, octets: &[u8], text: &mut String) -> Resul
 }
 
 /// Octets as text, those outside 20 to 7E hex as `\x` and two digits.
-fn push_line(line: &[u8], text: &mut String) -> Result<(), AllocError> {
+fn push_line(alloc: Global, line: &[u8], text: &mut String) -> Result<(), AllocError>
+    ensures { OnOk result (string_bytes text.new ≡ string_bytes text.old ++ line_text line.now) }
+{
     for octet in line {
         let octet = *octet;
         if (0x20..=0x7E).contains(&octet) {
             text.push(char::from(octet))?;
         } else {
-            write!(text, "\\x{octet:02x}")?;
+            text.push_str("\\x")?;
+            push_octets(alloc, &[octet], text)?;
         }
     }
     Ok(())
 }
 
-fn kind_word(kind: Kind) -> &'static str {
+fn kind_word(kind: Kind) -> &'static str
+    ensures { result.now ≡ kind_text kind }
+{
     match kind {
         Kind::Sabm => "SABM",
         Kind::Ua => "UA",
@@ -49,7 +65,9 @@ pub fn push_frame(
     alloc: Global,
     frame: &FrameView<'_>,
     text: &mut String,
-) -> Result<(), AllocError> {
+) -> Result<(), AllocError>
+    ensures { OnOk result (string_bytes text.new ≡ string_bytes text.old ++ frame_text (frame_of frame.now)) }
+{
     let dlci = frame.dlci.number();
     let kind = kind_word(frame.kind);
     let cr = u8::from(frame.cr);
@@ -60,14 +78,30 @@ pub fn push_frame(
 }
 
 /// The octets of the rest, with the line end.
-pub fn push_rest(alloc: Global, rest: &[u8], text: &mut String) -> Result<(), AllocError> {
+fn push_rest(alloc: Global, rest: &[u8], text: &mut String) -> Result<(), AllocError>
+    ensures { OnOk result (string_bytes text.new ≡ string_bytes text.old ++ rest_text rest.now) }
+{
     text.push_str("rest ")?;
     push_octets_or_dash(alloc, rest, text)?;
     text.push_str("\n")
 }
 
+/// Frames, a line for each, and the octets of the rest.
+pub fn frames_text(alloc: Global, frames: &[FrameBuf], rest: &[u8]) -> Result<String, AllocError>
+    ensures { IfOk result (λ text. string_bytes text ≡ frames_text (map kept_frame frames.now) rest.now) }
+{
+    let mut text = String::new(alloc);
+    for frame in frames {
+        push_frame(alloc, &frame.view(), &mut text)?;
+    }
+    push_rest(alloc, rest, &mut text)?;
+    Ok(text)
+}
+
 /// A frame as it is spelled.
-fn push_spelled(alloc: Global, frame: &FrameBuf, text: &mut String) -> Result<(), AllocError> {
+fn push_spelled(alloc: Global, frame: &FrameBuf, text: &mut String) -> Result<(), AllocError>
+    ensures { OnOk result (string_bytes text.new ≡ string_bytes text.old ++ encode_lower (spelled (kept_frame frame.now))) }
+{
     let mut octets = Vec::new(alloc);
     match write_frame(frame.view(), 32767, &mut octets) {
         Ok(()) => push_octets(alloc, octets.as_slice(), text),
@@ -75,7 +109,9 @@ fn push_spelled(alloc: Global, frame: &FrameBuf, text: &mut String) -> Result<()
     }
 }
 
-fn push_ask(alloc: Global, ask: &Ask, text: &mut String) -> Result<(), AllocError> {
+fn push_ask(alloc: Global, ask: &Ask, text: &mut String) -> Result<(), AllocError>
+    ensures { OnOk result (string_bytes text.new ≡ string_bytes text.old ++ ask_text ask.now) }
+{
     match ask {
         Ask::OpenChannel(dlci) => {
             let dlci = dlci.number();
@@ -88,7 +124,7 @@ fn push_ask(alloc: Global, ask: &Ask, text: &mut String) -> Result<(), AllocErro
         Ask::Command(dlci, line) => {
             let dlci = dlci.number();
             write!(text, "cmd {dlci} ")?;
-            push_line(line.text(), text)
+            push_line(alloc, line.text(), text)
         }
         Ask::Probe(probe) => {
             text.push_str("probe ")?;
@@ -98,14 +134,18 @@ fn push_ask(alloc: Global, ask: &Ask, text: &mut String) -> Result<(), AllocErro
     }
 }
 
-fn push_request(alloc: Global, request: &Request, text: &mut String) -> Result<(), AllocError> {
+fn push_request(alloc: Global, request: &Request, text: &mut String) -> Result<(), AllocError>
+    ensures { OnOk result (string_bytes text.new ≡ string_bytes text.old ++ act_text (Done.Took request.now)) }
+{
     let number = request.number;
     write!(text, "took {number} ")?;
     push_ask(alloc, &request.ask, text)?;
     text.push_str("\n")
 }
 
-fn answer_word(answer: &Answer) -> &'static str {
+fn answer_word(answer: &Answer) -> &'static str
+    ensures { result.now ≡ answer_text answer.now }
+{
     match answer {
         Answer::Done(_) => "done",
         Answer::Opened => "opened",
@@ -123,21 +163,33 @@ fn answer_word(answer: &Answer) -> &'static str {
     }
 }
 
-fn push_outcome(outcome: &Outcome, text: &mut String) -> Result<(), AllocError> {
-    let number = outcome.number;
-    let answer = answer_word(&outcome.answer);
-    writeln!(text, "told {number} {answer}")?;
-    if let Answer::Done(lines) = &outcome.answer {
-        for line in lines.as_slice() {
-            text.push_str("| ")?;
-            push_line(line.text.as_slice(), text)?;
-            text.push_str("\n")?;
-        }
+/// The lines of an answer.
+fn push_lines(alloc: Global, lines: &[AnswerLine], text: &mut String) -> Result<(), AllocError>
+    ensures { OnOk result (string_bytes text.new ≡ string_bytes text.old ++ flat_map answer_line_text lines.now) }
+{
+    for line in lines {
+        text.push_str("| ")?;
+        push_line(alloc, line.text.as_slice(), text)?;
+        text.push_str("\n")?;
     }
     Ok(())
 }
 
-fn urc_word(kind: UrcKind) -> &'static str {
+fn push_outcome(alloc: Global, outcome: &Outcome, text: &mut String) -> Result<(), AllocError>
+    ensures { OnOk result (string_bytes text.new ≡ string_bytes text.old ++ act_text (Done.Told outcome.now)) }
+{
+    let number = outcome.number;
+    let answer = answer_word(&outcome.answer);
+    writeln!(text, "told {number} {answer}")?;
+    match &outcome.answer {
+        Answer::Done(lines) => push_lines(alloc, lines.as_slice(), text),
+        _ => Ok(()),
+    }
+}
+
+fn urc_word(kind: UrcKind) -> &'static str
+    ensures { result.now ≡ urc_text kind }
+{
     match kind {
         UrcKind::Ring => "RING",
         UrcKind::Cring => "CRING",
@@ -149,16 +201,20 @@ fn urc_word(kind: UrcKind) -> &'static str {
     }
 }
 
-fn push_urc(urc: &Urc, text: &mut String) -> Result<(), AllocError> {
+fn push_urc(alloc: Global, urc: &Urc, text: &mut String) -> Result<(), AllocError>
+    ensures { OnOk result (string_bytes text.new ≡ string_bytes text.old ++ act_text (Done.Heard urc.now.kind urc.now.dlci.number urc.now.line)) }
+{
     let kind = urc_word(urc.kind);
     let dlci = urc.dlci.number();
     write!(text, "heard {kind} {dlci} ")?;
-    push_line(urc.line.as_slice(), text)?;
+    push_line(alloc, urc.line.as_slice(), text)?;
     text.push_str("\n")
 }
 
 /// An act, with its line end.
-pub fn push_act(alloc: Global, act: &Act, text: &mut String) -> Result<(), AllocError> {
+pub fn push_act(alloc: Global, act: &Act, text: &mut String) -> Result<(), AllocError>
+    ensures { OnOk result (string_bytes text.new ≡ string_bytes text.old ++ act_text (act_of act.now)) }
+{
     match act {
         Act::Took(request) => push_request(alloc, request, text),
         Act::Got(frame) => {
@@ -170,8 +226,8 @@ pub fn push_act(alloc: Global, act: &Act, text: &mut String) -> Result<(), Alloc
             push_spelled(alloc, frame, text)?;
             text.push_str("\n")
         }
-        Act::Told(outcome) => push_outcome(outcome, text),
-        Act::Heard(urc) => push_urc(urc, text),
+        Act::Told(outcome) => push_outcome(alloc, outcome, text),
+        Act::Heard(urc) => push_urc(alloc, urc, text),
         Act::Tick => text.push_str("tick\n"),
         Act::Lost => text.push_str("lost\n"),
         Act::Held(dlci) => {
@@ -183,4 +239,15 @@ pub fn push_act(alloc: Global, act: &Act, text: &mut String) -> Result<(), Alloc
             writeln!(text, "freed {dlci}")
         }
     }
+}
+
+/// Acts, in order.
+pub fn acts_text(alloc: Global, acts: &[Act]) -> Result<String, AllocError>
+    ensures { IfOk result (λ text. string_bytes text ≡ acts_text (map act_of acts.now)) }
+{
+    let mut text = String::new(alloc);
+    for act in acts {
+        push_act(alloc, act, &mut text)?;
+    }
+    Ok(text)
 }

@@ -1,7 +1,14 @@
 use Rattle.std.specs.Prelude.{◌<◌, ◌⊎◌}
+use Rattle.std.specs.String.{string_bytes}
 use Rattle.modemctl.specs.Script.{IsNoOrder, IsScriptText}
-use Rattle.modemctl.proofs.Ends.{refused_for}
+use Rattle.modemctl.specs.Printed.{IsReplayed}
+use Rattle.modemctl.proofs.Ends.{printed_for, refused_for}
 use Rattle.modemctl.proofs.runs.replay_run.Goals as goal
+
+pub returns-clause-done : goal.returns-clause-done
+returns-clause-done g c =
+    printed_for string_bytes c.replayed-built.result c.finish.result (IsReplayed c.args.n1) (g.R.Read.remaining c.args.input.now) _ _
+    c.finish.ensures.ended c.finish.ensures.written c.replayed-built.ensures.ok
 
 pub returns-clause-refused : goal.returns-clause-refused
 returns-clause-refused g c =

@@ -1,0 +1,104 @@
+-- What is printed.
+use Rattle.std.specs.Prelude.{ℕ, ◌&&◌, nat_le, List, [], ◌∷◌, ◌++◌, codes, if◌then◌else◌}
+use Rattle.std.specs.List.{flat_map}
+use Rattle.std.specs.Int.{from_bool}
+use Rattle.std.specs.Fmt.{decimal}
+use Rattle.hex.specs.Hex.{encode_lower}
+use Rattle.mux_frame.specs.Frames.{Frame}
+use Rattle.mux_frame.specs.Spelling.{spelled}
+use Rattle.mux_frame.specs.declared.frame.Kind.{Kind}
+use Rattle.at_text.specs.declared.answer.AnswerLine.{AnswerLine}
+use Rattle.at_text.specs.declared.unsolicited.UrcKind.{UrcKind}
+use Rattle.modem_desk.specs.declared.request.Ask.{Ask}
+use Rattle.modem_desk.specs.declared.request.Ask.TheVariants as ask
+use Rattle.modem_desk.specs.declared.request.Answer.{Answer}
+use Rattle.modem_desk.specs.declared.request.Answer.TheVariants as answer
+use Rattle.modem_driver.specs.Acts.{Act}
+
+abbrev pub kind_text : Kind → List ℕ
+kind_text Kind.Sabm = codes "SABM"
+kind_text Kind.Ua = codes "UA"
+kind_text Kind.Dm = codes "DM"
+kind_text Kind.Disc = codes "DISC"
+kind_text Kind.Uih = codes "UIH"
+
+-- octets in hexadecimal, or `-` where there is none
+abbrev pub octets_text : List ℕ → List ℕ
+octets_text [] = codes "-"
+octets_text (x ∷ octets) = encode_lower (x ∷ octets)
+
+-- a frame: connection, kind, C/R, P/F and information
+abbrev pub frame_text : Frame → List ℕ
+frame_text f =
+    decimal f.dlci ++ codes " " ++ kind_text f.kind ++ codes " " ++ decimal (from_bool f.cr) ++ codes " " ++ decimal (from_bool f.pf) ++ codes " "
+    ++ octets_text f.info ++ codes "\n"
+
+abbrev pub rest_text : List ℕ → List ℕ
+rest_text rest = codes "rest " ++ octets_text rest ++ codes "\n"
+
+-- what `frames` prints
+abbrev pub frames_text : List Frame → List ℕ → List ℕ
+frames_text frames rest = flat_map frame_text frames ++ rest_text rest
+
+-- an octet of a text, as it is if it is 20 to 7E hex
+abbrev pub octet_text : ℕ → List ℕ
+octet_text c = if nat_le 32 c && nat_le c 126 then c ∷ [] else codes "\\x" ++ encode_lower (c ∷ [])
+
+abbrev pub line_text : List ℕ → List ℕ
+line_text line = flat_map octet_text line
+
+abbrev pub ask_text : Ask → List ℕ
+ask_text (ask.OpenChannel d) = codes "open " ++ decimal d.number
+ask_text (ask.CloseChannel d) = codes "close " ++ decimal d.number
+ask_text (ask.Command d line) = codes "cmd " ++ decimal d.number ++ codes " " ++ line_text line
+ask_text (ask.Probe octets) = codes "probe " ++ encode_lower octets
+ask_text ask.Stop = codes "stop"
+
+abbrev pub answer_text : Answer → List ℕ
+answer_text (answer.Done lines) = codes "done"
+answer_text answer.Opened = codes "opened"
+answer_text answer.Shut = codes "shut"
+answer_text answer.ProbeBack = codes "probeback"
+answer_text answer.Stopped = codes "stopped"
+answer_text answer.NotOpen = codes "notopen"
+answer_text answer.AlreadyOpen = codes "alreadyopen"
+answer_text answer.Refused = codes "refused"
+answer_text answer.NoAnswer = codes "noanswer"
+answer_text answer.Closed = codes "closed"
+answer_text answer.ControlChannel = codes "controlchannel"
+answer_text answer.LineLost = codes "linelost"
+answer_text answer.Busy = codes "busy"
+
+-- a line of an answer
+abbrev pub answer_line_text : AnswerLine → List ℕ
+answer_line_text l = codes "| " ++ line_text l.text ++ codes "\n"
+
+abbrev pub lines_text : Answer → List ℕ
+lines_text (answer.Done lines) = flat_map answer_line_text lines
+lines_text _ = []
+
+abbrev pub urc_text : UrcKind → List ℕ
+urc_text UrcKind.Ring = codes "RING"
+urc_text UrcKind.Cring = codes "CRING"
+urc_text UrcKind.Creg = codes "CREG"
+urc_text UrcKind.Cgreg = codes "CGREG"
+urc_text UrcKind.Cgev = codes "CGEV"
+urc_text UrcKind.Ciev = codes "CIEV"
+urc_text UrcKind.Other = codes "OTHER"
+
+-- an act; `Given` isn't one
+abbrev pub act_text : Act → List ℕ
+act_text (Act.Took q) = codes "took " ++ decimal q.number ++ codes " " ++ ask_text q.ask ++ codes "\n"
+act_text (Act.Got f) = codes "got " ++ frame_text f
+act_text (Act.Sent f) = codes "sent " ++ encode_lower (spelled f) ++ codes "\n"
+act_text (Act.Told o) = codes "told " ++ decimal o.number ++ codes " " ++ answer_text o.answer ++ codes "\n" ++ lines_text o.answer
+act_text (Act.Heard kind d line) = codes "heard " ++ urc_text kind ++ codes " " ++ decimal d ++ codes " " ++ line_text line ++ codes "\n"
+act_text Act.Tick = codes "tick\n"
+act_text Act.Lost = codes "lost\n"
+act_text (Act.Held d) = codes "held " ++ decimal d ++ codes "\n"
+act_text (Act.Freed d) = codes "freed " ++ decimal d ++ codes "\n"
+act_text Act.Given = []
+
+-- what `replay` prints
+abbrev pub acts_text : List Act → List ℕ
+acts_text acts = flat_map act_text acts
