@@ -1,7 +1,7 @@
 -- Octets written as pairs of digits, read word by word and line by line.
-use Rattle.std.specs.Prelude.{◌≡◌, ◌≢◌, ℕ, suc, ◌+◌, ◌*◌, ◌%◌, ◌==◌, ◌<◌, Bool, true, false, List, [], ◌∷◌, ◌++◌, length, Option, None, Some, Result, Ok, Err, refl, if◌then◌else◌}
+use Rattle.std.specs.Prelude.{◌≡◌, ◌≢◌, ℕ, ◌+◌, ◌*◌, ◌%◌, ◌==◌, ◌<◌, Bool, true, false, List, [], ◌∷◌, ◌++◌, length, Option, None, Some, Result, Ok, Err, refl, if◌then◌else◌}
 use Rattle.std.proofs.Common.{sym, ap, arith, ◌∙◌}
-use Rattle.std.proofs.lemmas.Bool.{ne_eqb, eqb-true, false≢true}
+use Rattle.std.proofs.lemmas.Bool.{ne_eqb, eqb-true}
 use Rattle.std.proofs.lemmas.List.{append_assoc, append-nil}
 use denote.Ref.{Bor}
 use Rattle.std.specs.Option.{MatchOption, unwrap_or}

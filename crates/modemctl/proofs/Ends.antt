@@ -1,6 +1,6 @@
 -- How a run ends, where the octets of its reader are known.
 use Rattle.std.specs.Prelude.{◌≡◌, ℕ, ◌≤◌, ◌⊎◌, List, Option, None, Some, Result, Ok, Err, IfOk, IfSome, IsErrOf, MatchResult, refl}
-use Rattle.std.proofs.Common.{arith, inl, inr, sym, subst, ◌∙◌}
+use Rattle.std.proofs.Common.{arith, inl, inr, subst, ◌∙◌}
 use Rattle.std.specs.Io.KnownBytes.{Appends}
 use Rattle.modemctl.specs.Printed.{IsPrinted}
 use Rattle.modemctl.specs.Input.{HasBad, IsFirstBad, input_lines}

@@ -1,14 +1,11 @@
 -- What a line of a script says.
-use Rattle.std.specs.Prelude.{◌≡◌, ◌≢◌, ℕ, ◌+◌, ◌/◌, ◌%◌, ◌<◌, nat_lt, Bool, true, false, List, [], ◌∷◌, ◌++◌, length, take, drop, codes, None, Ok, refl, if◌then◌else◌}
+use Rattle.std.specs.Prelude.{◌≡◌, ◌≢◌, ℕ, ◌+◌, ◌/◌, ◌%◌, nat_lt, Bool, true, false, List, [], ◌∷◌, ◌++◌, drop, codes, None, refl, if◌then◌else◌}
 use Rattle.std.proofs.Common.{sym, ap, arith, ◌∙◌}
-use Rattle.std.proofs.lemmas.Bool.{false≢true}
 use Rattle.std.specs.Str.Iter.{LacksByte}
-use Rattle.std.specs.Str.{bytes_eq}
-use Rattle.hex.specs.Hex.{decode_of}
 use Rattle.at_text.specs.Commands.{refusal_of}
 use Rattle.modem_desk.specs.declared.request.Ask.TheVariants as ask
 use Rattle.modemctl.specs.declared.script.Order.TheVariants as order
-use Rattle.modemctl.specs.Script.{IsServed, Says, SaysNothing, number_text}
+use Rattle.modemctl.specs.Script.{IsServed, SaysNothing, number_text}
 use Rattle.modemctl.proofs.Cuts.{lacks_cons, lacks_head, lacks_nil, lacks_tail}
 
 abbrev head_of : List ℕ → ℕ

@@ -1,7 +1,6 @@
 -- A text that is read line by line.
-use Rattle.std.specs.Prelude.{◌≡◌, ℕ, ◌+◌, ◌<◌, ◌≤◌, List, [], ◌∷◌, ◌++◌, length, refl}
-use Rattle.std.proofs.Common.{sym, ap, arith, ◌∙◌}
-use Rattle.std.specs.List.{All}
+use Rattle.std.specs.Prelude.{◌≡◌, ℕ, ◌+◌, ◌<◌, ◌≤◌, List, [], ◌∷◌, length, refl}
+use Rattle.std.proofs.Common.{ap, arith}
 use Rattle.std.proofs.lemmas.List.Elements.{All-nil, All-cons}
 use Rattle.modemctl.specs.Input.{IsFirstBad, IsReason, input_lines}
 use Rattle.modemctl.specs.Statuses.{stop_at}
@@ -41,10 +40,10 @@ read_none IsBad text = record { bad = λ k h. let e : 0 + k ≡ k = omega arith 
 pub read_more : (IsBad : List ℕ → Type 0) (text left line rest : List ℕ) (place : ℕ) → IsRead IsBad text left place → input_lines left ≡ line ∷ input_lines rest → length rest < length left → (IsBad line → ⊥) → IsRead IsBad text rest (place + 1)
 read_more IsBad text left line rest place h e l good = record {
   bad = λ k b.
-    let next : IsFirstBad IsBad (input_lines text) (place + (k + 1)) =
-    h.bad (k + 1) (rw e (bad_later IsBad line (input_lines rest) k (k + 1) good refl b)) in
-    let same : place + 1 + k ≡ place + (k + 1) = omega arith in
-    rw same next;
+      let next : IsFirstBad IsBad (input_lines text) (place + (k + 1)) =
+      h.bad (k + 1) (rw e (bad_later IsBad line (input_lines rest) k (k + 1) good refl b)) in
+      let same : place + 1 + k ≡ place + (k + 1) = omega arith in
+      rw same next;
   counted = let c = h.counted in omega (arith, c);
 }
 

@@ -1,12 +1,11 @@
 -- Events of a script, read line by line.
 use Rattle.std.specs.Prelude.{◌≡◌, ◌≢◌, ℕ, ◌+◌, ◌==◌, true, false, ◌<◌, ◌≤◌, List, [], ◌∷◌, ◌++◌, length, refl}
-use Rattle.std.proofs.Common.{sym, ap, arith, subst, ◌∙◌}
+use Rattle.std.proofs.Common.{sym, ap, arith, ◌∙◌}
 use Rattle.std.proofs.lemmas.Bool.{eqb-true, false≢true}
 use Rattle.std.proofs.lemmas.List.{append_assoc, append-nil}
 use Rattle.modem_desk.specs.declared.request.Request.{Request}
 use Rattle.modem_driver.specs.declared.act.Event.{Event}
 use Rattle.modem_driver.specs.declared.act.Event.TheVariants as event
-use Rattle.modemctl.specs.declared.script.Order.{Order}
 use Rattle.modemctl.specs.declared.script.Order.TheVariants as order
 use Rattle.modemctl.specs.Input.{input_lines}
 use Rattle.modemctl.specs.Script.{IsNoOrder, IsScript, Says}
@@ -57,8 +56,8 @@ pub asked_next : (script left line rest : List ℕ) (events later : List Event) 
 asked_next script left line rest events later asked place q h e l f s c m n = record {
   read = read_more IsNoOrder script left line rest place h.read e l (λ b. b.1 (order.Ask q.ask) s);
   said = λ more i.
-    rw (n, append_assoc events (event.Ask q ∷ []) more)
-    (h.said (event.Ask q ∷ more) (rw e (says_asked line (input_lines rest) q more (asked + 1) f s c m i)));
+      rw (n, append_assoc events (event.Ask q ∷ []) more)
+      (h.said (event.Ask q ∷ more) (rw e (says_asked line (input_lines rest) q more (asked + 1) f s c m i)));
   few = let g = h.few in omega (arith, g);
 }
 
@@ -67,7 +66,7 @@ pub heard_next : (script left line rest : List ℕ) (events later : List Event) 
 heard_next script left line rest events later asked place x h e l f s n = record {
   read = read_more IsNoOrder script left line rest place h.read e l (λ b. b.1 (order.Octets x) s);
   said = λ more i.
-    rw (n, append_assoc events (event.Octets x ∷ []) more)
-    (h.said (event.Octets x ∷ more) (rw e (says_octets line (input_lines rest) x more (asked + 1) f s i)));
+      rw (n, append_assoc events (event.Octets x ∷ []) more)
+      (h.said (event.Octets x ∷ more) (rw e (says_octets line (input_lines rest) x more (asked + 1) f s i)));
   few = let g = h.few in omega (arith, g);
 }

@@ -114,7 +114,7 @@ fn framed<R: Read>(alloc: Global, input: &mut R, n1: u16) -> Result<String, Stop
 }
 
 /// Replays the script of `input`, and writes the acts to `output`. The status is 0 where all of them are
-/// written, 1 at a fault, 2 at a bad line; only then it says on `faults` why.
+/// written, 1 at a fault, 2 at a bad line or a bad N1; at 1 and 2 it says on `faults` why.
 pub fn replay_run<R: Read, W: Write, E: Write>(
     alloc: Global,
     input: &mut R,

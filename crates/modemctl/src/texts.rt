@@ -5,7 +5,7 @@ ghost use Rattle.std.specs.String.{string_bytes};
 ghost use Rattle.hex.specs.Hex.{encode_lower};
 ghost use Rattle.mux_frame.specs.Frames.{frame_of, kept_frame};
 ghost use Rattle.mux_frame.specs.Spelling.{spelled};
-ghost use Rattle.modem_driver.specs.Acts.{Act as Done, act_of};
+ghost use Rattle.modem_driver.specs.Acts.{Act as DriverAct, act_of};
 ghost use Rattle.modemctl.specs.Texts.{act_text, acts_text, answer_line_text, answer_text, ask_text, frame_text, frames_text, kind_text, line_text, octets_text, rest_text, urc_text};
 
 use at_text::{AnswerLine, UrcKind};
@@ -61,11 +61,7 @@ fn kind_word(kind: Kind) -> &'static str
 }
 
 /// A frame: connection, kind, C/R, P/F and information.
-pub fn push_frame(
-    alloc: Global,
-    frame: &FrameView<'_>,
-    text: &mut String,
-) -> Result<(), AllocError>
+pub fn push_frame(alloc: Global, frame: &FrameView<'_>, text: &mut String) -> Result<(), AllocError>
     ensures { OnOk result (string_bytes text.new ≡ string_bytes text.old ++ frame_text (frame_of frame.now)) }
 {
     let dlci = frame.dlci.number();
@@ -135,7 +131,7 @@ fn push_ask(alloc: Global, ask: &Ask, text: &mut String) -> Result<(), AllocErro
 }
 
 fn push_request(alloc: Global, request: &Request, text: &mut String) -> Result<(), AllocError>
-    ensures { OnOk result (string_bytes text.new ≡ string_bytes text.old ++ act_text (Done.Took request.now)) }
+    ensures { OnOk result (string_bytes text.new ≡ string_bytes text.old ++ act_text (DriverAct.Took request.now)) }
 {
     let number = request.number;
     write!(text, "took {number} ")?;
@@ -176,7 +172,7 @@ fn push_lines(alloc: Global, lines: &[AnswerLine], text: &mut String) -> Result<
 }
 
 fn push_outcome(alloc: Global, outcome: &Outcome, text: &mut String) -> Result<(), AllocError>
-    ensures { OnOk result (string_bytes text.new ≡ string_bytes text.old ++ act_text (Done.Told outcome.now)) }
+    ensures { OnOk result (string_bytes text.new ≡ string_bytes text.old ++ act_text (DriverAct.Told outcome.now)) }
 {
     let number = outcome.number;
     let answer = answer_word(&outcome.answer);
@@ -202,7 +198,7 @@ fn urc_word(kind: UrcKind) -> &'static str
 }
 
 fn push_urc(alloc: Global, urc: &Urc, text: &mut String) -> Result<(), AllocError>
-    ensures { OnOk result (string_bytes text.new ≡ string_bytes text.old ++ act_text (Done.Heard urc.now.kind urc.now.dlci.number urc.now.line)) }
+    ensures { OnOk result (string_bytes text.new ≡ string_bytes text.old ++ act_text (DriverAct.Heard urc.now.kind urc.now.dlci.number urc.now.line)) }
 {
     let kind = urc_word(urc.kind);
     let dlci = urc.dlci.number();
