@@ -13,7 +13,7 @@ use Rattle.hex.specs.declared.error.FromHexError.TheVariants.{OddLength}
 use Rattle.modemctl.specs.Dump.{IsNoDump, dump_octets, joined, line_octets, octet_of}
 use Rattle.modemctl.specs.Input.{input_lines}
 use Rattle.modemctl.proofs.Cuts.{IsCutAt, lacks_head, lacks_tail}
-use Rattle.modemctl.proofs.Readings.{IsRead, read_none, read_more}
+use Rattle.modemctl.proofs.Readings.{IsRead, read_more}
 
 pub joined_nil : (o : Option (List ℕ)) → joined (Some []) o ≡ o
 joined_nil None = refl
@@ -121,26 +121,10 @@ word_more octets more line word rest later e d n =
     ∙ sym (joined_assoc (Some octets) (Some more) (line_octets rest))
     ∙ ap (λ (l : List ℕ). joined (Some l) (line_octets rest)) (sym n)
 
--- nothing is left
-pub all_words : (octets left : List ℕ) (all : Option (List ℕ)) → left ≡ [] → joined (Some octets) (line_octets left) ≡ all → Some octets ≡ all
-all_words octets left all e h = ap (λ (l : List ℕ). Some l) (sym (append-nil octets)) ∙ ap (λ (l : List ℕ). joined (Some octets) (line_octets l)) (sym e) ∙ h
-
-none_joined : (octets : List ℕ) (o : Option (List ℕ)) → joined (Some octets) o ≡ None → o ≡ None
-none_joined octets None e = refl
-none_joined octets (Some x) e = absurd (some_isnt_none (octets ++ x) e)
-
--- a word that is refused
-pub word_refused : (octets old line left word rest : List ℕ) (why : FromHexError) → joined (Some octets) (line_octets left) ≡ joined (Some old) (line_octets line) → line_octets left ≡ joined (result_ok (decode_of word)) (line_octets rest) → decode_of word ≡ Err why → line_octets line ≡ None
-word_refused octets old line left word rest why h e d =
-    none_joined old (line_octets line) (sym h ∙ ap (joined (Some octets)) (e ∙ ap (λ r. joined (result_ok r) (line_octets rest)) d))
-
 -- so many lines are read, and their octets with them
 pub record AreOctets (dump left octets : List ℕ) (place : ℕ) : Type 0 where
   pub read : IsRead IsNoDump dump left place
   pub joins : joined (Some octets) (dump_octets (input_lines left)) ≡ dump_octets (input_lines dump)
-
-pub no_octets : (dump : List ℕ) → AreOctets dump dump [] 0
-no_octets dump = record { read = read_none IsNoDump dump; joins = joined_nil (dump_octets (input_lines dump)) }
 
 stands_for : (octets later : List ℕ) (o : Option (List ℕ)) → Some later ≡ joined (Some octets) o → o ≡ None → ⊥
 stands_for octets later None e n = some_isnt_none later e
@@ -155,7 +139,3 @@ line_more dump left line rest octets later place h e l n = record {
       ∙ ap (λ (l : List (List ℕ)). joined (Some octets) (dump_octets l)) (sym e)
       ∙ h.joins;
 }
-
-pub all_octets : (dump left octets : List ℕ) (place : ℕ) → AreOctets dump left octets place → left ≡ [] → dump_octets (input_lines dump) ≡ Some octets
-all_octets dump left octets place h e =
-    sym h.joins ∙ ap (λ (l : List ℕ). joined (Some octets) (dump_octets (input_lines l))) e ∙ ap (λ (l : List ℕ). Some l) (append-nil octets)

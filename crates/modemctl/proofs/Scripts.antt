@@ -9,16 +9,13 @@ use Rattle.modem_driver.specs.declared.act.Event.TheVariants as event
 use Rattle.modemctl.specs.declared.script.Order.TheVariants as order
 use Rattle.modemctl.specs.Input.{input_lines}
 use Rattle.modemctl.specs.Script.{IsNoOrder, IsScript, Says}
-use Rattle.modemctl.proofs.Readings.{IsRead, read_none, read_more}
+use Rattle.modemctl.proofs.Readings.{IsRead, read_more}
 
 -- so many lines are read, and the events of so many requests with them
 pub record AreEvents (script left : List ℕ) (events : List Event) (asked place : ℕ) : Type 0 where
   pub read : IsRead IsNoOrder script left place
   pub said : (more : List Event) → IsScript (asked + 1) (input_lines left) more → IsScript 1 (input_lines script) (events ++ more)
   pub few : asked ≤ place
-
-pub no_events : (script : List ℕ) → AreEvents script script [] 0 0
-no_events script = record { read = read_none IsNoOrder script; said = λ more h. h; few = omega arith }
 
 pub all_events : (script left : List ℕ) (events : List Event) (asked place : ℕ) → AreEvents script left events asked place → left ≡ [] → IsScript 1 (input_lines script) events
 all_events script left events asked place h e =
