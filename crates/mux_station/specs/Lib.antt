@@ -6,3 +6,5 @@ pub mod States
 pub mod Stopping
 pub mod Tables
 pub mod Sending
+pub mod ControlFrames
+pub mod ControlQueues

@@ -1,6 +1,8 @@
 //! One end of the basic option of 3GPP TS 27.010: connections, control messages, flow.
 #![tactic(auto)]
 
+mod control_frame;
+mod control_queue;
 mod error;
 pub mod laws;
 mod role;
