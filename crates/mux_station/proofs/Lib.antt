@@ -1,3 +1,4 @@
 pub mod Agrees
 pub mod Places
 pub mod Queues
+pub mod Fitted

@@ -8,3 +8,8 @@ pub mod Tables
 pub mod Sending
 pub mod ControlFrames
 pub mod ControlQueues
+pub mod Stations
+pub mod Stages
+pub mod Keeping
+pub mod Offering
+pub mod Fitting

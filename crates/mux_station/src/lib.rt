@@ -1,11 +1,15 @@
 //! One end of the basic option of 3GPP TS 27.010: connections, control messages, flow.
 #![tactic(auto)]
 
+mod channel;
 mod control_frame;
 mod control_queue;
 mod error;
 pub mod laws;
+mod repeats;
 mod role;
+mod station;
 
 pub use error::StationError;
 pub use role::{ChannelState, Role};
+pub use station::Station;
