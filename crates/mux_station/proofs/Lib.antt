@@ -2,3 +2,5 @@ pub mod Agrees
 pub mod Places
 pub mod Queues
 pub mod Fitted
+pub mod Answering
+pub mod Steps

@@ -1,13 +1,12 @@
 -- A station fits a past where each thing that it keeps is what the past says.
 use Rattle.std.specs.Prelude.{◌≡◌, ℕ, ◌<◌, Bool, true, false, List, [], ◌∷◌, ◌++◌}
 use Rattle.std.specs.List.{list_any}
-use Rattle.mux_frame.specs.Frames.{Frame}
 use Rattle.mux_station.specs.declared.role.Role.{Role}
-use Rattle.mux_station.specs.Acts.{Act, Sent}
+use Rattle.mux_station.specs.Acts.{Act}
 use Rattle.mux_station.specs.Opening.{since, standings}
 use Rattle.mux_station.specs.States.{is_opened, state_of}
 use Rattle.mux_station.specs.Stopping.{last_said, got_says, msc_says, flow_says}
-use Rattle.mux_station.specs.Sending.{Setting, is_loss, queue, probe_of, calls}
+use Rattle.mux_station.specs.Sending.{Setting, is_loss, queue, probe_of, answered}
 use Rattle.mux_station.specs.Offering.{offered, given, last_sender}
 use Rattle.mux_station.specs.Stations.{Channel, Station, channel_at, setting_of}
 
@@ -27,15 +26,6 @@ pub record Fits (v : Station) (past : List Act) : Type 0 where
   pub probe_is : probe_of (setting_of v) past ≡ v.probe
   pub queue_is : queue past ≡ v.queue
   pub last_is : last_sender past ≡ v.last
-
--- the past after these frames were sent, in their order
-abbrev pub sent_after : List Frame → List Act → List Act
-sent_after [] past = past
-sent_after (f ∷ fs) past = sent_after fs (Sent f ∷ past)
-
--- the past after an act and the frames that it calls for
-abbrev pub answered : Setting → List Act → Act → List Act
-answered s past a = sent_after (calls s past a) (a ∷ past)
 
 -- whatever past it fits, the station goes on with this act and all the frames that it calls for
 pub record Handles (old new : Station) (a : Act) : Type 0 where

@@ -5,11 +5,11 @@ pub mod Opening
 pub mod States
 pub mod Stopping
 pub mod Tables
+pub mod Offering
 pub mod Sending
 pub mod ControlFrames
 pub mod ControlQueues
 pub mod Stations
 pub mod Stages
 pub mod Keeping
-pub mod Offering
 pub mod Fitting

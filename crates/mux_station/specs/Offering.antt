@@ -1,9 +1,8 @@
 -- Data that the user offers, and data that leaves.
-use Rattle.std.specs.Prelude.{ℕ, ◌==◌, List, [], ◌∷◌, ◌++◌, if◌then◌else◌}
+use Rattle.std.specs.Prelude.{ℕ, ◌==◌, ◌&&◌, List, [], ◌∷◌, ◌++◌, if◌then◌else◌}
 use Rattle.mux_frame.specs.Frames.{Frame}
-use Rattle.mux_frame.specs.declared.frame.Kind.TheVariants.{Uih}
 use Rattle.mux_station.specs.declared.role.Role.{Role}
-use Rattle.mux_station.specs.Written.{is_on, is_data_frame}
+use Rattle.mux_station.specs.Written.{is_data_frame}
 use Rattle.mux_station.specs.Acts.{Call, Offer, Act, Called, Sent}
 use Rattle.mux_station.specs.Opening.{since}
 
@@ -12,7 +11,7 @@ octets_offered d (Called (Offer e octets)) = if e == d then octets else []
 octets_offered d _ = []
 
 abbrev pub octets_sent : ℕ → Act → List ℕ
-octets_sent d (Sent f) = if is_on Uih d f then f.info else []
+octets_sent d (Sent f) = if is_data_frame f && (f.dlci == d) then f.info else []
 octets_sent d _ = []
 
 -- what each of the acts (newest first) brings, joined in their order

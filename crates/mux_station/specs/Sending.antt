@@ -14,6 +14,7 @@ use Rattle.mux_station.specs.Acts.{Call, Open, Close, Probe, Stop, Flow, Offer, 
 use Rattle.mux_station.specs.Opening.{is_open}
 use Rattle.mux_station.specs.States.{State, is_opened, is_shut, state_of}
 use Rattle.mux_station.specs.Stopping.{is_stopped}
+use Rattle.mux_station.specs.Offering.{offered, given}
 use Rattle.mux_station.specs.Tables.{message_frame, msc_frame, ready, held_up, by_frame, by_tick, has_room, octets_of}
 
 -- whose history it is
@@ -148,20 +149,25 @@ calls s past a = if list_any is_loss past then [] else calls_seeing s (seen s pa
 
 -- ## The laws
 
--- what was called for and doesn't stand in the past yet, in order
+-- what was called for and doesn't stand in the past yet, in order; a loss of the line leaves nothing to be sent
 abbrev pub owed : Setting → List Act → List Frame
 owed s [] = []
 owed s (Sent f ∷ past) = if is_data_frame f then owed s past else drop 1 (owed s past)
+owed s (Lost ∷ past) = []
 owed s (a ∷ past) = owed s past ++ calls s past a
 
--- data leaves an open connection that isn't stopped, in a frame as this role writes it, behind all that is owed
+-- data leaves an open connection that isn't stopped, in a frame as this role writes it, behind all that is owed; it is the
+-- octets that were offered next
 pub record Gated (s : Setting) (past : List Act) (f : Frame) : Type 0 where
+  pub live : IsTrue (not (list_any is_loss past))
   pub is_open : IsTrue (is_open s.role f.dlci past)
   pub goes : IsTrue (not (is_stopped s.role f.dlci past))
   pub as_written : f ≡ written s.role Uih f.dlci f.info
   pub some : IsTrue (nat_le 1 (length f.info))
   pub fits : IsTrue (nat_le (length f.info) s.n1)
   pub behind : owed s past ≡ []
+  pub later : List ℕ
+  pub is_offered : offered s.role f.dlci past ≡ given s.role f.dlci past ++ f.info ++ later
 
 -- a frame that is no data is the next one owed
 pub record Controlled (s : Setting) (past : List Act) (f : Frame) : Type 0 where
@@ -181,3 +187,32 @@ Lawful s (a ∷ past) = Lawful s past
 -- nothing is owed
 unfoldable pub Complete : Setting → List Act → Type 0
 Complete s past = owed s past ≡ []
+
+-- ## What the laws come to
+
+-- the past after these frames were sent, in their order
+abbrev pub sent_after : List Frame → List Act → List Act
+sent_after [] past = past
+sent_after (f ∷ fs) past = sent_after fs (Sent f ∷ past)
+
+-- the past after an act and the frames that it calls for
+abbrev pub answered : Setting → List Act → Act → List Act
+answered s past a = sent_after (calls s past a) (a ∷ past)
+
+abbrev pub is_sent : Act → Bool
+is_sent (Sent f) = true
+is_sent _ = false
+
+-- an act that is followed by all that it calls for keeps a past lawful and complete
+pub record AnswersKeep (s : Setting) (past : List Act) (a : Act) : Type 0 where
+  pub lawful : is_sent a ≡ false → Lawful s past → Complete s past → Lawful s (answered s past a)
+  pub complete : is_sent a ≡ false → Lawful s past → Complete s past → Complete s (answered s past a)
+
+-- nothing is sent once the line is lost
+abbrev pub NoneAfterLoss : Setting → List Act → Type 0
+NoneAfterLoss s past = (f : Frame) → list_any is_loss past ≡ true → ¬ Lawful s (Sent f ∷ past)
+
+-- of what was offered on d since it opened, what was given on is the beginning
+pub record GivesBeginning (s : Setting) (d : ℕ) (past : List Act) : Type 0 where
+  pub rest : List ℕ
+  pub joins : given s.role d past ++ rest ≡ offered s.role d past
