@@ -4,3 +4,4 @@ pub mod Queues
 pub mod Fitted
 pub mod Answering
 pub mod Steps
+pub mod CallSteps

@@ -82,7 +82,7 @@ stays_belongs : (o b : Bool) → (o || b) ≡ true → o ≡ false → b ≡ tru
 stays_belongs false b h k = h
 stays_belongs true b h k = cc
 
-since_goes_on : (r : Role) (d : ℕ) (past : List Act) (a : Act) → opens_now r d past a ≡ false → is_open r d (a ∷ past) ≡ true → since r d (a ∷ past) ≡ a ∷ since r d past
+pub since_goes_on : (r : Role) (d : ℕ) (past : List Act) (a : Act) → opens_now r d past a ≡ false → is_open r d (a ∷ past) ≡ true → since r d (a ∷ past) ≡ a ∷ since r d past
 since_goes_on r d past a o h =
     let b : belongs r d past a ≡ true = stays_belongs (opens_now r d past a) (belongs r d past a) h o in
     ap (λ (v : Bool). since_after v (belongs r d past a) a (since r d past)) o ∙ ap (λ (v : Bool). since_after false v a (since r d past)) b

@@ -50,35 +50,41 @@ asking r (Offer d octets) = []
 abbrev pub all_have_room : Setting → Seen → List Frame → Bool
 all_have_room s v fs = list_all (has_room s.n1 v.queued) fs
 
+-- why a call is refused for the states, each list in its order; how much is offered is not spoken of here
+abbrev pub refused_by_state : Seen → Call → Option StationError
+refused_by_state v (Open d) =
+    if not (d == 0) && not (is_opened (v.state 0)) then Some NotOpen
+    else if is_opened (v.state d) then Some AlreadyOpen
+    else if not (is_shut (v.state d)) then Some Busy
+    else None
+refused_by_state v (Close d) =
+    if d == 0 then Some ControlChannel
+    else if is_shut (v.state d) then Some NotOpen
+    else if not (is_opened (v.state d)) then Some Busy
+    else None
+refused_by_state v (Probe octets) =
+    if not (nat_le (length octets) 16) then Some TooLong
+    else if not (is_opened (v.state 0)) then Some NotOpen
+    else if is_some v.probe then Some Busy
+    else None
+refused_by_state v Stop = if not (is_opened (v.state 0)) then Some NotOpen else None
+refused_by_state v (Flow d go) = if not (is_opened (v.state d) && is_opened (v.state 0)) then Some NotOpen else None
+refused_by_state v (Offer d octets) =
+    if d == 0 then Some ControlChannel
+    else if not (is_opened (v.state d)) then Some NotOpen
+    else None
+
 -- no place in the control queue is the last refusal
 abbrev pub if_no_room : Setting → Seen → Call → Option StationError
 if_no_room s v c = if all_have_room s v (asking s.role c) then None else Some NoRoom
 
--- why a call is refused, each list in its order; how much is offered is not spoken of here
+abbrev pub or_else : Option StationError → Option StationError → Option StationError
+or_else None o = o
+or_else (Some e) o = Some e
+
+-- why a call is refused
 abbrev pub refused : Setting → Seen → Call → Option StationError
-refused s v (Open d) =
-    if not (d == 0) && not (is_opened (v.state 0)) then Some NotOpen
-    else if is_opened (v.state d) then Some AlreadyOpen
-    else if not (is_shut (v.state d)) then Some Busy
-    else if_no_room s v (Open d)
-refused s v (Close d) =
-    if d == 0 then Some ControlChannel
-    else if is_shut (v.state d) then Some NotOpen
-    else if not (is_opened (v.state d)) then Some Busy
-    else if_no_room s v (Close d)
-refused s v (Probe octets) =
-    if not (nat_le (length octets) 16) then Some TooLong
-    else if not (is_opened (v.state 0)) then Some NotOpen
-    else if is_some v.probe then Some Busy
-    else if_no_room s v (Probe octets)
-refused s v Stop = if not (is_opened (v.state 0)) then Some NotOpen else if_no_room s v Stop
-refused s v (Flow d go) =
-    if not (is_opened (v.state d) && is_opened (v.state 0)) then Some NotOpen
-    else if_no_room s v (Flow d go)
-refused s v (Offer d octets) =
-    if d == 0 then Some ControlChannel
-    else if not (is_opened (v.state d)) then Some NotOpen
-    else None
+refused s v c = or_else (refused_by_state v c) (if_no_room s v c)
 
 -- the frames that an act calls for
 abbrev pub calls_seeing : Setting → Seen → Act → List Frame

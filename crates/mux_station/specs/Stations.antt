@@ -1,5 +1,5 @@
 -- What a station keeps.
-use Rattle.std.specs.Prelude.{ℕ, ◌==◌, ◌&&◌, ◌||◌, not, Bool, false, List, [], Option, None, slice_index_or, replicate}
+use Rattle.std.specs.Prelude.{ℕ, ◌==◌, ◌&&◌, ◌||◌, not, Bool, false, List, [], Option, None, ◌∷◌, ◌++◌, slice_index_or, slice_set, replicate}
 use Rattle.mux_frame.specs.Frames.{Frame}
 use Rattle.mux_station.specs.declared.role.Role.{Role}
 use Rattle.mux_station.specs.States.{State, IsShut, is_opened}
@@ -44,3 +44,10 @@ stopped_in v d =
     not (d == 0)
     && ((is_opened (channel_at v d).state && (channel_at v d).is_stopped)
     || (is_opened (channel_at v 0).state && v.all_stopped))
+
+-- d turned to another state, everything of it afresh, and this frame was put into the control queue
+abbrev pub asked_in : Station → ℕ → State → Frame → Station
+asked_in v d state f = record v {
+  channels = slice_set v.channels d (record { state = state; is_stopped = false; waiting = [] });
+  queue = v.queue ++ f ∷ [];
+}

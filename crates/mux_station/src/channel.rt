@@ -1,6 +1,6 @@
 //! What is kept of one connection.
 ghost use Rattle.std.specs.Prelude.{◌≡◌, ◌+◌, ◌<◌, ◌≤◌, ◌==◌, [], false, length, nat_le, IfOk, IfSome, IsNone, ◌↔◌};
-ghost use Rattle.mux_station.specs.States.{is_opened};
+ghost use Rattle.mux_station.specs.States.{is_opened, is_shut};
 ghost use Rattle.mux_station.specs.Stages.{stage_state, as_shown};
 ghost use Rattle.mux_station.specs.Stations.{shut_channel};
 
@@ -41,6 +41,12 @@ impl Stage {
         ensures { result ≡ is_opened (stage_state self) }
     {
         matches!(self, Stage::Opened)
+    }
+
+    pub fn is_shut(self) -> bool
+        ensures { result ≡ is_shut (stage_state self) }
+    {
+        matches!(self, Stage::Shut)
     }
 }
 

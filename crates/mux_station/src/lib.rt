@@ -1,6 +1,7 @@
 //! One end of the basic option of 3GPP TS 27.010: connections, control messages, flow.
 #![tactic(auto)]
 
+mod calls;
 mod channel;
 mod control_frame;
 mod control_queue;
