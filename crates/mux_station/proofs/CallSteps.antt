@@ -1,11 +1,12 @@
 -- A call of the user, and the control frame that it asks for.
-use Rattle.std.specs.Prelude.{◌≡◌, ℕ, ◌+◌, ◌*◌, ◌<◌, ◌==◌, ◌&&◌, ◌||◌, not, nat_le, Bool, true, false, List, [], ◌∷◌, ◌++◌, length, refl, if◌then◌else◌, Option, Some, None, unwrap_or}
+use Rattle.std.specs.Prelude.{◌≡◌, ℕ, ◌+◌, ◌*◌, ◌<◌, ◌==◌, ◌&&◌, ◌||◌, not, nat_le, Bool, true, false, List, [], ◌∷◌, ◌++◌, length, refl, if◌then◌else◌, Option, Some, None, is_some, unwrap_or}
 use Rattle.std.proofs.Common.{◌∙◌, ap, sym, subst, eqb-true}
 use Rattle.mux_frame.specs.Frames.{Frame}
 use Rattle.mux_frame.specs.declared.frame.Kind.TheVariants.{Sabm, Disc, Uih}
 use Rattle.mux_station.specs.declared.role.Role.{Role}
 use Rattle.mux_station.specs.declared.role.Role.TheVariants.{Initiator, Responder}
 use Rattle.mux_station.specs.declared.error.StationError.{StationError}
+use Rattle.mux_station.specs.declared.error.StationError.TheVariants.{TooLong, NotOpen, Busy}
 use Rattle.mux_station.specs.Written.{is_on, is_data_frame}
 use Rattle.mux_station.specs.Messages.{Message, message_in, cld, brings_command, octet_is}
 use Rattle.mux_station.specs.Acts.{Call, Open, Close, Probe, Stop, Flow, Offer, Act, Called, Got, Sent, Tick, Lost, Given}
@@ -13,7 +14,7 @@ use Rattle.mux_station.specs.Opening.{is_open, since, opens_now, ends_itself}
 use Rattle.mux_station.specs.States.{State, IsShut, IsOpening, IsOpened, IsClosing, IsStopping, is_opened, is_stopping, at_sent, at_tick, own_after, state_of}
 use Rattle.mux_station.specs.Stopping.{last_said, got_says, flow_says}
 use Rattle.mux_station.specs.Tables.{octets_of}
-use Rattle.mux_station.specs.Sending.{Setting, Seen, Waiting, seen, queue, refused, refused_act, probe_after, probe_begun, probe_of}
+use Rattle.mux_station.specs.Sending.{Setting, Seen, Waiting, seen, queue, refused, or_else, if_no_room, refused_act, probe_after, probe_begun, probe_of}
 use Rattle.mux_station.specs.Offering.{octets_offered, octets_sent}
 use Rattle.mux_station.specs.Stations.{Channel}
 use Rattle.mux_station.specs.Fitting.{ChannelFits}
@@ -172,7 +173,7 @@ begun_some : (e : StationError) (a : Act) (o : Option Waiting) → probe_begun (
 begun_some e a o = refl
 
 -- no probe begins by another call, nor by a refused one
-abbrev is_probe : Call → Bool
+abbrev pub is_probe : Call → Bool
 is_probe (Probe octets) = true
 is_probe _ = false
 
@@ -184,3 +185,79 @@ begun_other None (Probe octets) o h = absurd (let g : true ≡ false = h in cc)
 begun_other None Stop o h = refl
 begun_other None (Flow d go) o h = refl
 begun_other None (Offer d octets) o h = refl
+
+at_zero : (r : Role) (past : List Act) (a : Act) → state_of r 0 (a ∷ past) ≡ own_after r 0 true (state_of r 0 past) a
+at_zero r past a = state_next r 0 past a
+
+opened_tick : (z : State) → is_opened (at_tick z) ≡ false → is_opened z ≡ false
+opened_tick IsShut h = refl
+opened_tick (IsOpening n) h = refl
+opened_tick IsOpened h = h
+opened_tick (IsClosing n) h = refl
+opened_tick (IsStopping n) h = refl
+
+tick_none : (s : Setting) (z : Bool) (o : Option Waiting) → o ≡ None → probe_after s z o Tick ≡ None
+tick_none s z None h = refl
+tick_none s z (Some w) h = absurd (let e : Some w ≡ None = h in cc)
+
+-- a probe is taken only where 0 is Opened
+probe_taken : (long z busy : Bool) (rest : Option StationError) → or_else (if long then Some TooLong else if not z then Some NotOpen else if busy then Some Busy else None) rest ≡ None → z ≡ true
+probe_taken true z busy rest h = absurd (let e : Some TooLong ≡ None = h in cc)
+probe_taken false true busy rest h = refl
+probe_taken false false busy rest h = absurd (let e : Some NotOpen ≡ None = h in cc)
+
+pub probe_needs : (s : Setting) (past : List Act) → is_opened (state_of s.role 0 past) ≡ false → probe_of s past ≡ None
+probe_needs s [] h = refl
+probe_needs s (Got f ∷ past) h = ap (λ (z : Bool). probe_after s z (probe_of s past) (Got f)) h ∙ got_off s (probe_of s past) f
+probe_needs s (Sent f ∷ past) h = after_sent s (is_opened (state_of s.role 0 (Sent f ∷ past))) (probe_of s past) f ∙ (ap (λ (z : Bool). kept_if z (probe_of s past)) h ∙ kept_off (probe_of s past))
+probe_needs s (Given ∷ past) h = after_given s (is_opened (state_of s.role 0 (Given ∷ past))) (probe_of s past) ∙ (ap (λ (z : Bool). kept_if z (probe_of s past)) h ∙ kept_off (probe_of s past))
+probe_needs s (Lost ∷ past) h = after_lost s (is_opened (state_of s.role 0 (Lost ∷ past))) (probe_of s past) ∙ (ap (λ (z : Bool). kept_if z (probe_of s past)) h ∙ kept_off (probe_of s past))
+probe_needs s (Tick ∷ past) h =
+    let before : is_opened (state_of s.role 0 past) ≡ false = opened_tick (state_of s.role 0 past) (ap is_opened (sym (at_zero s.role past Tick)) ∙ h) in
+    tick_none s (is_opened (state_of s.role 0 (Tick ∷ past))) (probe_of s past) (probe_needs s past before)
+probe_needs s (Called x ∷ past) h = by_call x h
+  where
+    off : (x : Call) → is_opened (state_of s.role 0 (Called x ∷ past)) ≡ false → probe_after s (is_opened (state_of s.role 0 (Called x ∷ past))) (probe_of s past) (Called x) ≡ None
+    off x h = after_called s (is_opened (state_of s.role 0 (Called x ∷ past))) (probe_of s past) x ∙ (ap (λ (z : Bool). kept_if z (probe_of s past)) h ∙ kept_off (probe_of s past))
+    other : (x : Call) → is_probe x ≡ false → is_opened (state_of s.role 0 (Called x ∷ past)) ≡ false → probe_of s (Called x ∷ past) ≡ None
+    other x n h = begun_other (refused s (seen s past) x) x (probe_after s (is_opened (state_of s.role 0 (Called x ∷ past))) (probe_of s past) (Called x)) n ∙ off x h
+    probes : (octets : List ℕ) (refusal : Option StationError) → refused s (seen s past) (Probe octets) ≡ refusal → is_opened (state_of s.role 0 (Called (Probe octets) ∷ past)) ≡ false
+        → probe_begun refusal (Called (Probe octets)) (probe_after s (is_opened (state_of s.role 0 (Called (Probe octets) ∷ past))) (probe_of s past) (Called (Probe octets))) ≡ None
+    probes octets (Some e) k h = off (Probe octets) h
+    probes octets None k h =
+        let z : is_opened (state_of s.role 0 past) ≡ true = probe_taken (not (nat_le (length octets) 16)) (is_opened (state_of s.role 0 past)) (is_some (probe_of s past)) (if_no_room s (seen s past) (Probe octets)) k in
+        let now : is_opened (state_of s.role 0 (Called (Probe octets) ∷ past)) ≡ true = ap is_opened (state_called s.role 0 past (Probe octets)) ∙ z in
+        absurd (let e : false ≡ true = sym h ∙ now in cc)
+    by_call : (x : Call) → is_opened (state_of s.role 0 (Called x ∷ past)) ≡ false → probe_of s (Called x ∷ past) ≡ None
+    by_call (Open d) h = other (Open d) refl h
+    by_call (Close d) h = other (Close d) refl h
+    by_call (Probe octets) h = probes octets (refused s (seen s past) (Probe octets)) refl h
+    by_call Stop h = other Stop refl h
+    by_call (Flow d go) h = other (Flow d go) refl h
+    by_call (Offer d octets) h = other (Offer d octets) refl h
+
+kept_same : (s : Setting) (past : List Act) (b : Bool) → is_opened (state_of s.role 0 past) ≡ b → kept_if b (probe_of s past) ≡ probe_of s past
+kept_same s past true h = kept_on (probe_of s past)
+kept_same s past false h = kept_off (probe_of s past) ∙ sym (probe_needs s past h)
+
+-- what leaves 0 as it is leaves the probe as it is
+pub probe_sent : (s : Setting) (past : List Act) (f : Frame) → state_of s.role 0 (Sent f ∷ past) ≡ state_of s.role 0 past → probe_of s (Sent f ∷ past) ≡ probe_of s past
+probe_sent s past f e =
+    after_sent s (is_opened (state_of s.role 0 (Sent f ∷ past))) (probe_of s past) f ∙ kept_same s past (is_opened (state_of s.role 0 (Sent f ∷ past))) (ap is_opened (sym e))
+
+pub probe_given : (s : Setting) (past : List Act) → probe_of s (Given ∷ past) ≡ probe_of s past
+probe_given s past =
+    after_given s (is_opened (state_of s.role 0 (Given ∷ past))) (probe_of s past) ∙ kept_same s past (is_opened (state_of s.role 0 (Given ∷ past))) (ap is_opened (sym (state_given s.role 0 past)))
+
+pub probe_called : (s : Setting) (past : List Act) (x : Call) → is_probe x ≡ false → probe_of s (Called x ∷ past) ≡ probe_of s past
+probe_called s past x n =
+    begun_other (refused s (seen s past) x) x (probe_after s (is_opened (state_of s.role 0 (Called x ∷ past))) (probe_of s past) (Called x)) n
+    ∙ (after_called s (is_opened (state_of s.role 0 (Called x ∷ past))) (probe_of s past) x ∙ kept_same s past (is_opened (state_of s.role 0 (Called x ∷ past))) (ap is_opened (sym (state_called s.role 0 past x))))
+
+-- nothing waits before, nothing waits after
+pub probe_none : (s : Setting) (past : List Act) (f : Frame) → probe_of s past ≡ None → probe_of s (Sent f ∷ past) ≡ None
+probe_none s past f h = ap (λ (o : Option Waiting). probe_after s (is_opened (state_of s.role 0 (Sent f ∷ past))) o (Sent f)) h
+
+pub probe_taken_on : (s : Setting) (past : List Act) (octets : List ℕ) → refused s (seen s past) (Probe octets) ≡ None → probe_of s (Called (Probe octets) ∷ past) ≡ Some (record { data_octets = octets; ticks = 0 })
+probe_taken_on s past octets h =
+    ap (λ (e : Option StationError). probe_begun e (Called (Probe octets)) (probe_after s (is_opened (state_of s.role 0 (Called (Probe octets) ∷ past))) (probe_of s past) (Called (Probe octets)))) h

@@ -5,3 +5,4 @@ pub mod Fitted
 pub mod Answering
 pub mod Steps
 pub mod CallSteps
+pub mod Calling

@@ -16,6 +16,7 @@ use crate::channel::Stage;
 use crate::control_frame::ControlFrame;
 use crate::error::StationError;
 use crate::repeats::Repeats;
+use crate::role::Role;
 use crate::station::Station;
 use mux_frame::{Dlci, Kind};
 
@@ -79,6 +80,7 @@ impl Station {
         ensures refusal { result_err result ≡ refused (setting_of self.old) (seen_in self.old) (Open dlci.number) }
         ensures ok { OnOk result (self.new ≡ asked_in self.old dlci.number (IsOpening 0) (written self.old.role Kind.Sabm dlci.number [])) }
         ensures err { OnErr result (self.new ≡ self.old) }
+        ensures all { length self.old.channels ≡ 62 }
     {
         if let Some(why) = self.refuses_open(dlci) {
             return Err(why);
@@ -95,6 +97,7 @@ impl Station {
         ensures refusal { result_err result ≡ refused (setting_of self.old) (seen_in self.old) (Close dlci.number) }
         ensures ok { OnOk result (self.new ≡ asked_in self.old dlci.number (IsClosing 0) (written self.old.role Kind.Disc dlci.number [])) }
         ensures err { OnErr result (self.new ≡ self.old) }
+        ensures all { length self.old.channels ≡ 62 }
     {
         if let Some(why) = self.refuses_close(dlci) {
             return Err(why);
@@ -105,5 +108,28 @@ impl Station {
         channel.turn(Stage::Closing(Repeats::none()));
         self.control.push(disc);
         Ok(())
+    }
+
+    /// Asks for a connection to be opened: a SABM is queued. The condition is that this is the
+    /// initiator. Refusals: 1 NotOpen where 0 isn't Opened (and `dlci` isn't 0); 2 AlreadyOpen; 3 Busy
+    /// where it is being opened, closed or stopped; 7 NoRoom.
+    pub fn open(&mut self, dlci: Dlci) -> Result<(), StationError>
+        requires { self.old.role ≡ Role.Initiator }
+        ensures refusal { result_err result ≡ refused (setting_of self.old) (seen_in self.old) (Open dlci.number) }
+        ensures past { OnOk result (Handles self.old self.new (Called (Open dlci.number))) }
+        ensures err { OnErr result (self.new ≡ self.old) }
+    {
+        self.ask_open(dlci)
+    }
+
+    /// Asks for a connection to be closed: a DISC is queued, and its send ring is emptied. Refusals:
+    /// 4 ControlChannel; 1 NotOpen where it is Shut; 3 Busy where it is being opened or closed;
+    /// 7 NoRoom.
+    pub fn close(&mut self, dlci: Dlci) -> Result<(), StationError>
+        ensures refusal { result_err result ≡ refused (setting_of self.old) (seen_in self.old) (Close dlci.number) }
+        ensures past { OnOk result (Handles self.old self.new (Called (Close dlci.number))) }
+        ensures err { OnErr result (self.new ≡ self.old) }
+    {
+        self.ask_close(dlci)
     }
 }
