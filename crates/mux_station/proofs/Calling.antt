@@ -42,12 +42,12 @@ last_one past x f n = ap (λ (b : Bool). if b then f.dlci else last_sender past)
 
 -- what has to be shown of a call that queues one control frame
 pub record OneCall (v : Station) (channels : List Channel) (probe : Option Waiting) (x : Call) (f : Frame) (past : List Act) : Type 0 where
-  accepted : refused (setting_of v) (seen (setting_of v) past) x ≡ None
-  asks : asking v.role x ≡ f ∷ []
-  control : is_data_frame f ≡ false
-  each : (d : ℕ) → d < 62 → ChannelFits v.role d (Sent f ∷ Called x ∷ past) (slice_index_or channels d shut_channel)
-  all : is_opened (slice_index_or channels 0 shut_channel).state ≡ true → last_said (got_says flow_says) (since v.role 0 (Sent f ∷ Called x ∷ past)) ≡ v.all_stopped
-  probes : probe_of (setting_of v) (Sent f ∷ Called x ∷ past) ≡ probe
+  pub accepted : refused (setting_of v) (seen (setting_of v) past) x ≡ None
+  pub asks : asking v.role x ≡ f ∷ []
+  pub control : is_data_frame f ≡ false
+  pub each : (d : ℕ) → d < 62 → ChannelFits v.role d (Sent f ∷ Called x ∷ past) (slice_index_or channels d shut_channel)
+  pub all : is_opened (slice_index_or channels 0 shut_channel).state ≡ true → last_said (got_says flow_says) (since v.role 0 (Sent f ∷ Called x ∷ past)) ≡ v.all_stopped
+  pub probes : probe_of (setting_of v) (Sent f ∷ Called x ∷ past) ≡ probe
 
 pub one_call : (v : Station) (channels : List Channel) (probe : Option Waiting) (x : Call) (f : Frame) (past : List Act) → Fits v past → OneCall v channels probe x f past
     → Fits (record v { channels = channels; probe = probe; queue = v.queue ++ f ∷ [] }) (answered (setting_of v) past (Called x))
@@ -69,11 +69,11 @@ one_call v channels probe x f past h o =
 pub seen_state : (v : Station) (past : List Act) (d : ℕ) → Fits v past → d < 62 → (channel_at v d).state ≡ (seen (setting_of v) past).state d
 seen_state v past d h l = sym (h.channels_are d l).state_is
 
-seen_queued : (v : Station) (past : List Act) → Fits v past → octets_of v.queue ≡ octets_of (queue past)
+pub seen_queued : (v : Station) (past : List Act) → Fits v past → octets_of v.queue ≡ octets_of (queue past)
 seen_queued v past h = sym (ap octets_of h.queue_is)
 
 -- where a refusal is none, each of its parts is none
-none_else : (a b : Option StationError) → or_else a b ≡ None → (a ≡ None) × (b ≡ None)
+pub none_else : (a b : Option StationError) → or_else a b ≡ None → (a ≡ None) × (b ≡ None)
 none_else None b h = (refl, h)
 none_else (Some e) b h = absurd (let g : Some e ≡ None = h in cc)
 
@@ -94,11 +94,11 @@ open_seen v past d h l =
 
 -- ## Opening
 
-if_then_none : (b : Bool) (e : StationError) (o : Option StationError) → (if b then Some e else o) ≡ None → (b ≡ false) × (o ≡ None)
+pub if_then_none : (b : Bool) (e : StationError) (o : Option StationError) → (if b then Some e else o) ≡ None → (b ≡ false) × (o ≡ None)
 if_then_none true e o h = absurd (let g : Some e ≡ None = h in cc)
 if_then_none false e o h = (refl, h)
 
-not_false : (b : Bool) → not b ≡ false → b ≡ true
+pub not_false : (b : Bool) → not b ≡ false → b ≡ true
 not_false true h = refl
 not_false false h = cc
 
@@ -129,7 +129,7 @@ record Turns (v : Station) (d : ℕ) (x : Call) (f : Frame) (t : State) : Type 0
   not_opened : is_opened t ≡ false
   no_close_down : brings_command cld f ≡ false
   no_disc : is_on Disc 0 f ≡ false
-  control : is_data_frame f ≡ false
+  pub control : is_data_frame f ≡ false
   no_probe : is_probe x ≡ false
   no_offer : (e : ℕ) → octets_offered e (Called x) ≡ []
   zero_not_opened : (d == 0) ≡ true → is_opened (channel_at v 0).state ≡ false
@@ -245,7 +245,7 @@ close_seen v past d h l =
     ap (λ (w : State). close_refused (setting_of v) d w (octets_of v.queue)) (seen_state v past d h l)
     ∙ ap (λ (n : ℕ). close_refused (setting_of v) d (state_of v.role d past) n) (seen_queued v past h)
 
-is_opened_state : (s : State) → is_opened s ≡ true → s ≡ IsOpened
+pub is_opened_state : (s : State) → is_opened s ≡ true → s ≡ IsOpened
 is_opened_state IsShut h = cc
 is_opened_state (IsOpening n) h = cc
 is_opened_state IsOpened h = refl

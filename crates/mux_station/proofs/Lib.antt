@@ -6,3 +6,4 @@ pub mod Answering
 pub mod Steps
 pub mod CallSteps
 pub mod Calling
+pub mod Asking

@@ -1,10 +1,14 @@
 -- What a station keeps.
-use Rattle.std.specs.Prelude.{ℕ, ◌==◌, ◌&&◌, ◌||◌, not, Bool, false, List, [], Option, None, ◌∷◌, ◌++◌, slice_index_or, slice_set, replicate}
+use Rattle.std.specs.Prelude.{ℕ, ◌==◌, ◌&&◌, ◌||◌, not, Bool, false, List, [], Option, None, Some, nat_le, ◌+◌, length, if◌then◌else◌, ◌∷◌, ◌++◌, slice_index_or, slice_set, replicate}
 use Rattle.mux_frame.specs.Frames.{Frame}
 use Rattle.mux_station.specs.declared.role.Role.{Role}
-use Rattle.mux_station.specs.States.{State, IsShut, is_opened}
-use Rattle.mux_station.specs.Tables.{octets_of}
-use Rattle.mux_station.specs.Sending.{Setting, Seen, Waiting}
+use Rattle.mux_station.specs.States.{State, IsShut, IsStopping, is_opened}
+use Rattle.mux_station.specs.declared.error.StationError.{StationError}
+use Rattle.mux_station.specs.declared.error.StationError.TheVariants.{NoRoom}
+use Rattle.mux_station.specs.Messages.{test, cld}
+use Rattle.mux_station.specs.Acts.{Offer}
+use Rattle.mux_station.specs.Tables.{octets_of, message_frame}
+use Rattle.mux_station.specs.Sending.{Setting, Seen, Waiting, refused, or_else}
 
 -- one connection: its state, its own stop, and the octets in its send ring
 pub record Channel : Type 0 where
@@ -51,3 +55,28 @@ asked_in v d state f = record v {
   channels = slice_set v.channels d (record { state = state; is_stopped = false; waiting = [] });
   queue = v.queue ++ f ∷ [];
 }
+
+-- a probe waits, and its Test command was put into the control queue
+abbrev pub probed_in : Station → List ℕ → Station
+probed_in v octets = record v {
+  probe = Some (record { data_octets = octets; ticks = 0 });
+  queue = v.queue ++ message_frame v.role test octets ∷ [];
+}
+
+-- 0 is Stopping, every other connection Shut, and a CLD command was put into the control queue
+abbrev pub stopping_in : Station → Station
+stopping_in v = record v {
+  channels = slice_set (replicate 62 shut_channel) 0 (record { state = IsStopping 0; is_stopped = false; waiting = [] });
+  probe = None;
+  queue = v.queue ++ message_frame v.role cld [] ∷ [];
+}
+
+-- why an offer is refused: no place in the send ring of 1024 octets is the last refusal
+abbrev pub offer_refused : Station → ℕ → List ℕ → Option StationError
+offer_refused v d octets =
+    or_else (refused (setting_of v) (seen_in v) (Offer d octets))
+    (if nat_le (length (channel_at v d).waiting + length octets) 1024 then None else Some NoRoom)
+
+-- the octets wait in d's send ring
+abbrev pub offered_in : Station → ℕ → List ℕ → Station
+offered_in v d octets = record v { channels = slice_set v.channels d (record (channel_at v d) { waiting = (channel_at v d).waiting ++ octets }) }

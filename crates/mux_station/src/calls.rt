@@ -1,24 +1,24 @@
 //! What the user of a station asks of it.
-ghost use Rattle.std.specs.Prelude.{◌≡◌, ◌++◌, ◌∷◌, [], ℕ, Some, None, is_some, if◌then◌else◌, length, nat_le, not, ◌&&◌, slice_set, OnOk, OnErr};
+ghost use Rattle.std.specs.Prelude.{◌≡◌, ◌++◌, ◌∷◌, [], ℕ, Some, None, is_some, if◌then◌else◌, length, nat_le, not, ◌&&◌, slice_set, replicate, OnOk, OnErr};
 ghost use Rattle.std.specs.List.{list_all};
 ghost use Rattle.std.specs.Result.{result_err};
 ghost use Rattle.mux_station.specs.Acts.{Open, Close, Probe, Stop, Flow, Offer, Called};
 ghost use Rattle.mux_station.specs.States.{IsOpening, IsClosing, is_opened};
 ghost use Rattle.mux_station.specs.Tables.{octets_of, has_room};
 ghost use Rattle.mux_station.specs.Written.{written};
-ghost use Rattle.mux_station.specs.Sending.{refused, refused_by_state};
+ghost use Rattle.mux_station.specs.Sending.{refused, refused_by_state, asking};
 ghost use Rattle.mux_station.specs.ControlFrames.{control_frame};
 ghost use Rattle.mux_station.specs.Stages.{stage_state};
-ghost use Rattle.mux_station.specs.Stations.{setting_of, seen_in, channel_at, asked_in};
+ghost use Rattle.mux_station.specs.Stations.{setting_of, seen_in, channel_at, shut_channel, asked_in, probed_in, stopping_in, offer_refused, offered_in};
 ghost use Rattle.mux_station.specs.Fitting.{Handles};
 
-use crate::channel::Stage;
-use crate::control_frame::ControlFrame;
+use crate::channel::{Channel, Stage};
+use crate::control_frame::{CLD, ControlFrame, FCOFF, FCON, HELD_UP, READY, TEST};
 use crate::error::StationError;
 use crate::repeats::Repeats;
 use crate::role::Role;
-use crate::station::Station;
-use mux_frame::{Dlci, Kind};
+use crate::station::{Station, WaitingProbe};
+use mux_frame::{Dlci, Kind, ProbeData};
 
 impl Station {
     /// How a connection stands, with its count.
@@ -110,6 +110,85 @@ impl Station {
         Ok(())
     }
 
+    fn ask_probe(&mut self, octets: &[u8]) -> Result<(), StationError>
+        ensures refusal { result_err result ≡ refused (setting_of self.old) (seen_in self.old) (Probe octets.now) }
+        ensures ok { OnOk result (self.new ≡ probed_in self.old octets.now) }
+        ensures err { OnErr result (self.new ≡ self.old) }
+    {
+        let Some(data_octets) = ProbeData::new(octets) else {
+            return Err(StationError::TooLong);
+        };
+        if !self.is_running() {
+            return Err(StationError::NotOpen);
+        }
+        if self.probe.is_some() {
+            return Err(StationError::Busy);
+        }
+        let test = ControlFrame::message(self.role, TEST, octets);
+        self.check_room(&test)?;
+        self.probe = Some(WaitingProbe {
+            octets: data_octets,
+            ticks: Repeats::none(),
+        });
+        self.control.push(test);
+        Ok(())
+    }
+
+    fn ask_stop(&mut self) -> Result<(), StationError>
+        ensures refusal { result_err result ≡ refused (setting_of self.old) (seen_in self.old) Stop }
+        ensures ok { OnOk result (self.new ≡ stopping_in self.old) }
+        ensures err { OnErr result (self.new ≡ self.old) }
+    {
+        if !self.is_running() {
+            return Err(StationError::NotOpen);
+        }
+        let cld = ControlFrame::message(self.role, CLD, &[]);
+        self.check_room(&cld)?;
+        shut_all(&mut self.channels);
+        let control = &mut self.channels[0];
+        control.turn(Stage::Stopping(Repeats::none()));
+        self.probe = None;
+        self.control.push(cld);
+        Ok(())
+    }
+
+    fn ask_flow(&mut self, dlci: Dlci, go: bool) -> Result<(), StationError>
+        ensures refusal { result_err result ≡ refused (setting_of self.old) (seen_in self.old) (Flow dlci.number go) }
+        ensures ok { OnOk result (self.new ≡ record self.old { queue = self.old.queue ++ asking self.old.role (Flow dlci.number go) }) }
+        ensures err { OnErr result (self.new ≡ self.old) }
+    {
+        if !(self.stage(dlci).is_opened() && self.is_running()) {
+            return Err(StationError::NotOpen);
+        }
+        let message = if dlci.number() == 0 {
+            ControlFrame::message(self.role, if go { FCON } else { FCOFF }, &[])
+        } else {
+            ControlFrame::msc(self.role, dlci, if go { READY } else { HELD_UP })
+        };
+        self.check_room(&message)?;
+        self.control.push(message);
+        Ok(())
+    }
+
+    fn take_offer(&mut self, dlci: Dlci, octets: &[u8]) -> Result<(), StationError>
+        ensures refusal { result_err result ≡ offer_refused self.old dlci.number octets.now }
+        ensures ok { OnOk result (self.new ≡ offered_in self.old dlci.number octets.now) }
+        ensures err { OnErr result (self.new ≡ self.old) }
+    {
+        if dlci.number() == 0 {
+            return Err(StationError::ControlChannel);
+        }
+        if !self.stage(dlci).is_opened() {
+            return Err(StationError::NotOpen);
+        }
+        let channel = &mut self.channels[usize::from(dlci.number())];
+        if !channel.has_room(octets.len()) {
+            return Err(StationError::NoRoom);
+        }
+        channel.append(octets);
+        Ok(())
+    }
+
     /// Asks for a connection to be opened: a SABM is queued. The condition is that this is the
     /// initiator. Refusals: 1 NotOpen where 0 isn't Opened (and `dlci` isn't 0); 2 AlreadyOpen; 3 Busy
     /// where it is being opened, closed or stopped; 7 NoRoom.
@@ -131,5 +210,14 @@ impl Station {
         ensures err { OnErr result (self.new ≡ self.old) }
     {
         self.ask_close(dlci)
+    }
+}
+
+/// Makes every connection Shut.
+pub(crate) fn shut_all(channels: &mut Vec<Channel>)
+    ensures { channels.new.items ≡ replicate (length channels.old.items) shut_channel }
+{
+    for channel in channels.iter_mut() {
+        channel.turn(Stage::Shut);
     }
 }

@@ -1,11 +1,13 @@
 //! What is kept of one connection.
-ghost use Rattle.std.specs.Prelude.{◌≡◌, ◌+◌, ◌<◌, ◌≤◌, ◌==◌, [], false, length, nat_le, IfOk, IfSome, IsNone, ◌↔◌};
+ghost use Rattle.std.specs.Prelude.{◌≡◌, ◌+◌, ◌<◌, ◌≤◌, ◌==◌, ◌++◌, [], false, not, length, nat_le, take, drop, IfOk, IfSome, IsNone, ◌↔◌};
+ghost use Rattle.circular_buffer.specs.Buffer.{buffer};
 ghost use Rattle.mux_station.specs.States.{is_opened, is_shut};
 ghost use Rattle.mux_station.specs.Stages.{stage_state, as_shown};
 ghost use Rattle.mux_station.specs.Stations.{shut_channel};
 
 use crate::repeats::Repeats;
 use crate::role::ChannelState;
+use arrayvec::ArrayVec;
 use circular_buffer::HeapCircularBuffer;
 use std::alloc::{AllocError, Global};
 use std::marker::Model;
@@ -109,4 +111,51 @@ impl Channel {
     {
         self.stopped = stopped;
     }
+
+    /// Whether so many octets more fit into the send ring.
+    pub fn has_room(&self, more: usize) -> bool
+        ensures { result ≡ nat_le (length self.now.waiting + more) 1024 }
+    {
+        more <= RING - self.octets.len()
+    }
+
+    /// Puts octets into the send ring.
+    pub fn append(&mut self, octets: &[u8])
+        requires { length self.old.waiting + length octets.now ≤ 1024 }
+        ensures { self.new ≡ record self.old { waiting = self.old.waiting ++ octets.now } }
+    {
+        self.octets.fill_from_slice(octets);
+    }
+
+    /// Whether octets wait in the send ring.
+    pub fn has_octets(&self) -> bool
+        ensures { result ≡ not (length self.now.waiting == 0) }
+    {
+        !self.octets.is_empty()
+    }
+
+    /// Takes the first octets out of the send ring, at most so many.
+    pub fn take_front(&mut self, most: usize) -> ArrayVec<u8, 1024>
+        ensures taken { result.items ≡ take most self.old.waiting }
+        ensures rest { self.new ≡ record self.old { waiting = drop most self.old.waiting } }
+    {
+        let count = most.min(self.octets.len());
+        pop_octets(&mut self.octets, count)
+    }
+}
+
+/// Takes so many octets off the front.
+fn pop_octets(octets: &mut HeapCircularBuffer<u8>, count: usize) -> ArrayVec<u8, 1024>
+    requires there { count ≤ length octets.old.items }
+    requires short { count ≤ 1024 }
+    ensures taken { result.items ≡ take count octets.old.items }
+    ensures rest { octets.new ≡ buffer (drop count octets.old.items) octets.old.capacity }
+{
+    let mut taken = ArrayVec::new();
+    for _ in 0..count {
+        if let Some(octet) = octets.pop_front() {
+            taken.push(octet);
+        }
+    }
+    taken
 }

@@ -12,6 +12,17 @@ use mux_frame::{Dlci, FrameView, Kind};
 /// The most octets of a control message: its type, its length field and 127 octets of value.
 pub(crate) const LONGEST_MESSAGE: usize = 129;
 
+/// Type octets of commands (27.010, 5.4.6.3); that of a response is 2 less.
+pub(crate) const TEST: u8 = 0x23;
+pub(crate) const FCOFF: u8 = 0x63;
+pub(crate) const FCON: u8 = 0xA3;
+pub(crate) const CLD: u8 = 0xC3;
+pub(crate) const MSC: u8 = 0xE3;
+
+/// Signals of an MSC (27.010, 5.4.6.3.7): DV, RTR, RTC and EA, and the same with FC.
+pub(crate) const READY: u8 = 0x8D;
+pub(crate) const HELD_UP: u8 = 0x8F;
+
 pub(crate) const CONTROL: Dlci = Dlci { number: 0 };
 
 /// A control frame, with its information in place.
@@ -62,7 +73,7 @@ impl ControlFrame {
     pub fn msc(role: Role, dlci: Dlci, signals: u8) -> ControlFrame
         ensures { control_frame result ≡ msc_frame role dlci.number signals }
     {
-        ControlFrame::message(role, 0xE3, &[4 * dlci.number() + 3, signals])
+        ControlFrame::message(role, MSC, &[4 * dlci.number() + 3, signals])
     }
 
     /// How many octets it is as written, both flags counted.
