@@ -1,5 +1,6 @@
 -- Probe, stop, flow and offer lead from each past that the station fits to one that it fits.
 use Rattle.std.specs.Prelude.{◌≡◌, ◌≢◌, ℕ, ◌+◌, ◌*◌, ◌/◌, ◌%◌, ◌<◌, ◌==◌, ◌&&◌, ◌||◌, not, nat_le, Bool, true, false, List, [], ◌∷◌, ◌++◌, length, take, refl, if◌then◌else◌, Option, Some, None, is_some, is_none, slice_index_or, slice_set, replicate, unwrap_or}
+use Rattle.std.specs.List.{list_any}
 use Rattle.std.proofs.Common.{◌∙◌, ap, sym, subst, eqb-true, get_or-set_same, get_or-set_other, eq-eqb, arith, append-nil}
 use Rattle.std.proofs.lemmas.Bool.{eqb-false, and_parts}
 use Rattle.std.proofs.lemmas.List.{get_or-replicate}
@@ -23,6 +24,9 @@ use Rattle.mux_station.specs.Fitting.{ChannelFits, Fits, Handles}
 use Rattle.mux_station.proofs.Steps.{state_next, next_state, shut_now, goes_on}
 use Rattle.mux_station.proofs.CallSteps.{state_called, state_sent_uih, fits_sent, fits_called, AllStopped, all_sent, all_called, probe_sent, probe_called, probe_taken_on}
 use Rattle.mux_station.proofs.Calling.{OneCall, one_call, calls_asked, seen_state, seen_queued, none_else, if_then_none, not_false, is_opened_state, stop_in_past}
+
+abbrev no_frames : List Frame
+no_frames = []
 
 -- ## A message that changes no state
 
@@ -192,4 +196,65 @@ stop_handles v new n e =
         all = λ o. absurd (let g : false ≡ true = o in cc);
         probes = stop_probe (setting_of v) past (probe_of (setting_of v) (Called Stop ∷ past)) (is_opened (state_of v.role 0 (Sent (stop_frame v.role) ∷ Called Stop ∷ past))) (ap is_opened (stopped_zero v.role v.role (Called Stop ∷ past)));
       });
+    })
+
+-- ## Offer
+
+none_asked : (b : Bool) → (if b then no_frames else no_frames) ≡ no_frames
+none_asked true = refl
+none_asked false = refl
+
+offer_calls : (s : Setting) (past : List Act) (d : ℕ) (octets : List ℕ) → list_any is_loss past ≡ false → Called (Offer d octets) ∷ past ≡ answered s past (Called (Offer d octets))
+offer_calls s past d octets live =
+    let none : calls s past (Called (Offer d octets)) ≡ [] = ap (λ (b : Bool). if b then no_frames else calls_seeing s (seen s past) (Called (Offer d octets))) live ∙ none_asked (is_none (refused s (seen s past) (Offer d octets))) in
+    sym (ap (λ (fs : List Frame). sent_after fs (Called (Offer d octets) ∷ past)) none)
+
+opens_offer : (r : Role) (e : ℕ) (past : List Act) (x : Call) → opens_now r e past (Called x) ≡ false
+opens_offer Initiator e past x = refl
+opens_offer Responder e past x = refl
+
+offer_each : (v : Station) (d : ℕ) (octets : List ℕ) (past : List Act) → Fits v past → d < 62 → length v.channels ≡ 62 → is_opened (channel_at v d).state ≡ true → (e : ℕ) → e < 62 → (b : Bool) → (d == e) ≡ b
+    → ChannelFits v.role e (Called (Offer d octets) ∷ past) (channel_at (offered_in v d octets) e)
+offer_each v d octets past h l n o e k true same =
+    let c : Channel = record (channel_at v d) { waiting = (channel_at v d).waiting ++ octets } in
+    let place : slice_index_or (slice_set v.channels d c) d shut_channel ≡ c = get_or-set_same v.channels d c shut_channel (subst (λ (m : ℕ). d < m) (sym n) l) in
+    let state : state_of v.role d (Called (Offer d octets) ∷ past) ≡ c.state = state_called v.role d past (Offer d octets) ∙ (h.channels_are d l).state_is in
+    let more : octets_offered d (Called (Offer d octets)) ≡ octets = ap (λ (b : Bool). if b then octets else []) (eq-eqb d d refl) in
+    let there : ChannelFits v.role d (Called (Offer d octets) ∷ past) c
+    = goes_on v.role d past (Called (Offer d octets)) (channel_at v d) c (h.channels_are d l) o state o (opens_offer v.role d past (Offer d octets)) refl refl (ap (λ (w : List ℕ). (channel_at v d).waiting ++ w) more) in
+    subst (λ (m : ℕ). ChannelFits v.role m (Called (Offer d octets) ∷ past) (channel_at (offered_in v d octets) m)) (eqb-true d e same)
+    (subst (λ (w : Channel). ChannelFits v.role d (Called (Offer d octets) ∷ past) w) (sym place) there)
+offer_each v d octets past h l n o e k false same =
+    let c : Channel = record (channel_at v d) { waiting = (channel_at v d).waiting ++ octets } in
+    let place : slice_index_or (slice_set v.channels d c) e shut_channel ≡ channel_at v e = get_or-set_other v.channels d e c shut_channel (λ (g : e ≡ d). eqb-false d e same (sym g)) in
+    let none : octets_offered e (Called (Offer d octets)) ≡ [] = ap (λ (b : Bool). if b then octets else []) same in
+    subst (λ (w : Channel). ChannelFits v.role e (Called (Offer d octets) ∷ past) w) (sym place) (fits_called v.role e past (Offer d octets) (channel_at v e) (h.channels_are e k) none)
+
+-- an offer is taken only on a connection that is Opened
+offer_opened : (v : Station) (d : ℕ) (octets : List ℕ) → offer_refused v d octets ≡ None → is_opened (channel_at v d).state ≡ true
+offer_opened v d octets h =
+    let s = setting_of v in
+    let w = seen_in v in
+    let first = (none_else (refused s w (Offer d octets)) _ h).0 in
+    let states = (none_else (refused_by_state w (Offer d octets)) (if_no_room s w (Offer d octets)) first).0 in
+    let one = if_then_none (d == 0) ControlChannel _ states in
+    let two = if_then_none (not (is_opened (w.state d))) NotOpen None one.1 in
+    not_false (is_opened (w.state d)) two.0
+
+offer_fits : (v : Station) (d : ℕ) (octets : List ℕ) (past : List Act) → d < 62 → length v.channels ≡ 62 → is_opened (channel_at v d).state ≡ true → Fits v past → Fits (offered_in v d octets) (Called (Offer d octets) ∷ past)
+offer_fits v d octets past l n o h =
+    let each = offer_each v d octets past h l n o in
+    record {
+      live = h.live;
+      channels_are = λ e k. each e k (d == e) refl;
+      stop_of_all_is = λ t. all_called v.role past (Offer d octets) v.all_stopped (stop_in_past v past h) (ap is_opened (each 0 (omega arith) (d == 0) refl).state_is ∙ t);
+      probe_is = probe_called (setting_of v) past (Offer d octets) refl ∙ h.probe_is;
+      queue_is = h.queue_is;
+      last_is = h.last_is;
+    }
+
+pub offer_handles : (v new : Station) (d : ℕ) (octets : List ℕ) → d < 62 → length v.channels ≡ 62 → offer_refused v d octets ≡ None → new ≡ offered_in v d octets → Handles v new (Called (Offer d octets))
+offer_handles v new d octets l n h e =
+    subst (λ (w : Station). Handles v w (Called (Offer d octets))) (sym e) (record {
+      fits = λ past f. subst (λ (p : List Act). Fits (offered_in v d octets) p) (offer_calls (setting_of v) past d octets f.live) (offer_fits v d octets past l n (offer_opened v d octets h) f);
     })

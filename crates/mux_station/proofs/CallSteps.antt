@@ -86,15 +86,15 @@ state_sent_uih r d past f k c h =
 
 -- ## Connections
 
-opens_sent : (r : Role) (d : ℕ) (past : List Act) (f : Frame) → opens_now r d past (Sent f) ≡ false
+pub opens_sent : (r : Role) (d : ℕ) (past : List Act) (f : Frame) → opens_now r d past (Sent f) ≡ false
 opens_sent Initiator d past f = refl
 opens_sent Responder d past f = refl
 
-opens_called : (r : Role) (d : ℕ) (past : List Act) (x : Call) → opens_now r d past (Called x) ≡ false
+pub opens_called : (r : Role) (d : ℕ) (past : List Act) (x : Call) → opens_now r d past (Called x) ≡ false
 opens_called Initiator d past x = refl
 opens_called Responder d past x = refl
 
-opens_given : (r : Role) (d : ℕ) (past : List Act) → opens_now r d past Given ≡ false
+pub opens_given : (r : Role) (d : ℕ) (past : List Act) → opens_now r d past Given ≡ false
 opens_given Initiator d past = refl
 opens_given Responder d past = refl
 

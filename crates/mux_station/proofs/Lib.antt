@@ -7,3 +7,5 @@ pub mod Steps
 pub mod CallSteps
 pub mod Calling
 pub mod Asking
+pub mod Turns
+pub mod Gives

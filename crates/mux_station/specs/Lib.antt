@@ -13,3 +13,5 @@ pub mod Stations
 pub mod Stages
 pub mod Keeping
 pub mod Fitting
+pub mod Giving
+pub mod GivenFrames

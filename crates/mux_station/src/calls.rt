@@ -174,14 +174,15 @@ impl Station {
         ensures refusal { result_err result ≡ offer_refused self.old dlci.number octets.now }
         ensures ok { OnOk result (self.new ≡ offered_in self.old dlci.number octets.now) }
         ensures err { OnErr result (self.new ≡ self.old) }
+        ensures all { length self.old.channels ≡ 62 }
     {
+        let channel = &mut self.channels[usize::from(dlci.number())];
         if dlci.number() == 0 {
             return Err(StationError::ControlChannel);
         }
-        if !self.stage(dlci).is_opened() {
+        if !channel.stage().is_opened() {
             return Err(StationError::NotOpen);
         }
-        let channel = &mut self.channels[usize::from(dlci.number())];
         if !channel.has_room(octets.len()) {
             return Err(StationError::NoRoom);
         }
@@ -210,6 +211,46 @@ impl Station {
         ensures err { OnErr result (self.new ≡ self.old) }
     {
         self.ask_close(dlci)
+    }
+
+    /// Sends a probe, a Test command with these octets. Refusals: 6 TooLong where they are over 16;
+    /// 1 NotOpen where 0 isn't Opened; 3 Busy where a probe waits; 7 NoRoom.
+    pub fn probe(&mut self, octets: &[u8]) -> Result<(), StationError>
+        ensures refusal { result_err result ≡ refused (setting_of self.old) (seen_in self.old) (Probe octets.now) }
+        ensures past { OnOk result (Handles self.old self.new (Called (Probe octets.now))) }
+        ensures err { OnErr result (self.new ≡ self.old) }
+    {
+        self.ask_probe(octets)
+    }
+
+    /// Closes the multiplexer down: a CLD command is queued, every other connection is Shut, and 0 is
+    /// Stopping. Refusals: 1 NotOpen where 0 isn't Opened; 7 NoRoom.
+    pub fn stop(&mut self) -> Result<(), StationError>
+        ensures refusal { result_err result ≡ refused (setting_of self.old) (seen_in self.old) Stop }
+        ensures past { OnOk result (Handles self.old self.new (Called Stop)) }
+        ensures err { OnErr result (self.new ≡ self.old) }
+    {
+        self.ask_stop()
+    }
+
+    /// Tells the other end whether it may send on a connection, or for 0 on all of them. Refusals:
+    /// 1 NotOpen where the connection or 0 isn't Opened; 7 NoRoom.
+    pub fn flow(&mut self, dlci: Dlci, go: bool) -> Result<(), StationError>
+        ensures refusal { result_err result ≡ refused (setting_of self.old) (seen_in self.old) (Flow dlci.number go) }
+        ensures past { OnOk result (Handles self.old self.new (Called (Flow dlci.number go))) }
+        ensures err { OnErr result (self.new ≡ self.old) }
+    {
+        self.ask_flow(dlci, go)
+    }
+
+    /// Puts octets into a connection's send ring. Refusals: 4 ControlChannel; 1 NotOpen where it isn't
+    /// Opened; 7 NoRoom where they don't all fit.
+    pub fn offer(&mut self, dlci: Dlci, octets: &[u8]) -> Result<(), StationError>
+        ensures refusal { result_err result ≡ offer_refused self.old dlci.number octets.now }
+        ensures past { OnOk result (Handles self.old self.new (Called (Offer dlci.number octets.now))) }
+        ensures err { OnErr result (self.new ≡ self.old) }
+    {
+        self.take_offer(dlci, octets)
     }
 }
 

@@ -7,10 +7,9 @@ ghost use Rattle.mux_station.specs.Written.{written_length};
 ghost use Rattle.mux_station.specs.Tables.{octets_of};
 ghost use Rattle.mux_station.specs.ControlFrames.{control_frame};
 
-use crate::control_frame::{CONTROL, ControlFrame};
-use crate::role::Role;
+use crate::control_frame::ControlFrame;
 use circular_buffer::HeapCircularBuffer;
-use mux_frame::{FrameView, Kind};
+use mux_frame::FrameView;
 use std::alloc::{AllocError, Global};
 use std::marker::Model;
 
@@ -22,8 +21,6 @@ const SHORTEST: usize = 6;
 #[derive(Drop)]
 pub(crate) struct ControlQueue {
     frames: HeapCircularBuffer<ControlFrame>,
-    /// The frame that was taken out last, which may be lent.
-    given: ControlFrame,
     octets: usize,
     room: usize,
 }
@@ -50,7 +47,6 @@ impl ControlQueue {
         let frames = HeapCircularBuffer::with_capacity(alloc, room / SHORTEST)?;
         Ok(ControlQueue {
             frames,
-            given: ControlFrame::bare(Role::Initiator, Kind::Dm, CONTROL),
             octets: 0,
             room,
         })
@@ -87,14 +83,13 @@ impl ControlQueue {
         Some(frame.view())
     }
 
-    /// Takes the frame at the front out, and lends it.
-    pub fn pop(&mut self) -> Option<FrameView<'_>>
-        ensures frame { option_map frame_of result ≡ slice_get self.old.frames 0 }
-        ensures* after { sem 𝓛 (Rests the_row self.entry (λ new. new ≡ record self.old { frames = drop 1 self.old.frames })) }
+    /// Takes the frame at the front out.
+    pub fn pop(&mut self) -> Option<ControlFrame>
+        ensures frame { option_map control_frame result ≡ slice_get self.old.frames 0 }
+        ensures after { self.new ≡ record self.old { frames = drop 1 self.old.frames } }
     {
         let front = self.frames.pop_front()?;
         self.octets -= front.written_len();
-        self.given = front;
-        Some(self.given.view())
+        Some(front)
     }
 }

@@ -7,10 +7,13 @@ mod control_frame;
 mod control_queue;
 mod error;
 pub mod laws;
+mod outgoing;
 mod repeats;
 mod role;
+mod sending;
 mod station;
 
 pub use error::StationError;
+pub use outgoing::Outgoing;
 pub use role::{ChannelState, Role};
 pub use station::Station;

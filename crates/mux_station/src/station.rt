@@ -8,11 +8,13 @@ ghost use Rattle.mux_station.specs.Stations.{new_station, shut_channel, channel_
 ghost use Rattle.mux_station.specs.Fitting.{Fits};
 
 use crate::channel::Channel;
+use crate::control_frame::{CONTROL, ControlFrame};
 use crate::control_queue::ControlQueue;
 use crate::error::StationError;
+use crate::outgoing::GivenFrame;
 use crate::repeats::Repeats;
 use crate::role::{ChannelState, Role};
-use mux_frame::{Dlci, ProbeData};
+use mux_frame::{Dlci, Kind, ProbeData};
 use std::alloc::{AllocError, Global};
 use std::marker::Model;
 
@@ -40,6 +42,8 @@ pub struct Station {
     pub(crate) control: ControlQueue,
     /// The connection that last sent data.
     pub(crate) last: u8,
+    /// The frame that was given on last, which may be lent.
+    pub(crate) given: GivenFrame,
 }
 
 impl Model for Station {
@@ -83,6 +87,7 @@ impl Station {
             probe: None,
             control,
             last: 0,
+            given: GivenFrame::of_control(&ControlFrame::bare(role, Kind::Dm, CONTROL)),
         })
     }
 
@@ -110,7 +115,7 @@ impl Station {
         self.is_held_up(dlci)
     }
 
-    fn is_held_up(&self, dlci: Dlci) -> bool
+    pub(crate) fn is_held_up(&self, dlci: Dlci) -> bool
         ensures { result ≡ stopped_in self.now dlci.number }
     {
         if dlci.number() == 0 {
