@@ -17,7 +17,7 @@ use Rattle.mux_station.specs.Opening.{since, opens_now, asks}
 use Rattle.mux_station.specs.States.{State, IsShut, IsOpened, IsStopping, is_opened, is_shut, at_sent, own_after, state_of}
 use Rattle.mux_station.specs.Stopping.{last_said, got_says, msc_says, flow_says}
 use Rattle.mux_station.specs.Tables.{message_frame, msc_frame, octets_of, ready, held_up}
-use Rattle.mux_station.specs.Sending.{Setting, Seen, Waiting, seen, is_loss, queue, refused, refused_by_state, or_else, if_no_room, asking, calls, calls_seeing, probe_after, probe_of, answered, sent_after}
+use Rattle.mux_station.specs.Sending.{Setting, Seen, Waiting, seen, is_loss, queue, refused, refused_by_state, or_else, if_no_room, asking, calls, calls_seeing, probe_after, zero_stays, probe_of, answered, sent_after}
 use Rattle.mux_station.specs.Offering.{octets_offered, octets_sent, last_sender}
 use Rattle.mux_station.specs.Stations.{Channel, Station, shut_channel, channel_at, setting_of, seen_in, probed_in, stopping_in, offer_refused, offered_in}
 use Rattle.mux_station.specs.Fitting.{ChannelFits, Fits, Handles}
@@ -194,7 +194,7 @@ stop_handles v new n e =
         control = refl;
         each = λ d l. stopped_each v.role v.role (Called Stop ∷ past) d l (d == 0) refl;
         all = λ o. absurd (let g : false ≡ true = o in cc);
-        probes = stop_probe (setting_of v) past (probe_of (setting_of v) (Called Stop ∷ past)) (is_opened (state_of v.role 0 (Sent (stop_frame v.role) ∷ Called Stop ∷ past))) (ap is_opened (stopped_zero v.role v.role (Called Stop ∷ past)));
+        probes = stop_probe (setting_of v) past (probe_of (setting_of v) (Called Stop ∷ past)) (zero_stays (setting_of v) (Called Stop ∷ past) (Sent (stop_frame v.role))) (ap (λ (s : State). is_opened s && not (opens_now v.role 0 (Called Stop ∷ past) (Sent (stop_frame v.role)))) (stopped_zero v.role v.role (Called Stop ∷ past)));
       });
     })
 

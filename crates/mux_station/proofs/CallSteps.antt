@@ -14,7 +14,7 @@ use Rattle.mux_station.specs.Opening.{is_open, since, opens_now, ends_itself}
 use Rattle.mux_station.specs.States.{State, IsShut, IsOpening, IsOpened, IsClosing, IsStopping, is_opened, is_stopping, at_sent, at_tick, own_after, state_of}
 use Rattle.mux_station.specs.Stopping.{last_said, got_says, flow_says}
 use Rattle.mux_station.specs.Tables.{octets_of}
-use Rattle.mux_station.specs.Sending.{Setting, Seen, Waiting, seen, queue, refused, or_else, if_no_room, refused_act, probe_after, probe_begun, probe_of}
+use Rattle.mux_station.specs.Sending.{Setting, Seen, Waiting, seen, queue, refused, or_else, if_no_room, refused_act, probe_after, probe_begun, zero_stays, probe_of}
 use Rattle.mux_station.specs.Offering.{octets_offered, octets_sent}
 use Rattle.mux_station.specs.Stations.{Channel}
 use Rattle.mux_station.specs.Fitting.{ChannelFits}
@@ -206,23 +206,36 @@ probe_taken true z busy rest h = absurd (let e : Some TooLong ≡ None = h in cc
 probe_taken false true busy rest h = refl
 probe_taken false false busy rest h = absurd (let e : Some NotOpen ≡ None = h in cc)
 
+-- 0 doesn't stay where it isn't Opened afterwards; and where the act opens nothing, it stays if it is
+stays_off : (s : Setting) (past : List Act) (a : Act) → is_opened (state_of s.role 0 (a ∷ past)) ≡ false → zero_stays s past a ≡ false
+stays_off s past a h = ap (λ (b : Bool). b && not (opens_now s.role 0 past a)) h
+
+stays_if : (b : Bool) → (b && true) ≡ b
+stays_if true = refl
+stays_if false = refl
+
+stays_as : (s : Setting) (past : List Act) (a : Act) → opens_now s.role 0 past a ≡ false → state_of s.role 0 (a ∷ past) ≡ state_of s.role 0 past → is_opened (state_of s.role 0 past) ≡ zero_stays s past a
+stays_as s past a n e =
+    let b = is_opened (state_of s.role 0 (a ∷ past)) in
+    ap is_opened (sym e) ∙ (sym (stays_if b) ∙ ap (λ (o : Bool). b && not o) (sym n))
+
 pub probe_needs : (s : Setting) (past : List Act) → is_opened (state_of s.role 0 past) ≡ false → probe_of s past ≡ None
 probe_needs s [] h = refl
-probe_needs s (Got f ∷ past) h = ap (λ (z : Bool). probe_after s z (probe_of s past) (Got f)) h ∙ got_off s (probe_of s past) f
-probe_needs s (Sent f ∷ past) h = after_sent s (is_opened (state_of s.role 0 (Sent f ∷ past))) (probe_of s past) f ∙ (ap (λ (z : Bool). kept_if z (probe_of s past)) h ∙ kept_off (probe_of s past))
-probe_needs s (Given ∷ past) h = after_given s (is_opened (state_of s.role 0 (Given ∷ past))) (probe_of s past) ∙ (ap (λ (z : Bool). kept_if z (probe_of s past)) h ∙ kept_off (probe_of s past))
-probe_needs s (Lost ∷ past) h = after_lost s (is_opened (state_of s.role 0 (Lost ∷ past))) (probe_of s past) ∙ (ap (λ (z : Bool). kept_if z (probe_of s past)) h ∙ kept_off (probe_of s past))
+probe_needs s (Got f ∷ past) h = ap (λ (z : Bool). probe_after s z (probe_of s past) (Got f)) (stays_off s past (Got f) h) ∙ got_off s (probe_of s past) f
+probe_needs s (Sent f ∷ past) h = after_sent s (zero_stays s past (Sent f)) (probe_of s past) f ∙ (ap (λ (z : Bool). kept_if z (probe_of s past)) (stays_off s past (Sent f) h) ∙ kept_off (probe_of s past))
+probe_needs s (Given ∷ past) h = after_given s (zero_stays s past Given) (probe_of s past) ∙ (ap (λ (z : Bool). kept_if z (probe_of s past)) (stays_off s past Given h) ∙ kept_off (probe_of s past))
+probe_needs s (Lost ∷ past) h = after_lost s (zero_stays s past Lost) (probe_of s past) ∙ (ap (λ (z : Bool). kept_if z (probe_of s past)) (stays_off s past Lost h) ∙ kept_off (probe_of s past))
 probe_needs s (Tick ∷ past) h =
     let before : is_opened (state_of s.role 0 past) ≡ false = opened_tick (state_of s.role 0 past) (ap is_opened (sym (at_zero s.role past Tick)) ∙ h) in
-    tick_none s (is_opened (state_of s.role 0 (Tick ∷ past))) (probe_of s past) (probe_needs s past before)
+    tick_none s (zero_stays s past Tick) (probe_of s past) (probe_needs s past before)
 probe_needs s (Called x ∷ past) h = by_call x h
   where
-    off : (x : Call) → is_opened (state_of s.role 0 (Called x ∷ past)) ≡ false → probe_after s (is_opened (state_of s.role 0 (Called x ∷ past))) (probe_of s past) (Called x) ≡ None
-    off x h = after_called s (is_opened (state_of s.role 0 (Called x ∷ past))) (probe_of s past) x ∙ (ap (λ (z : Bool). kept_if z (probe_of s past)) h ∙ kept_off (probe_of s past))
+    off : (x : Call) → is_opened (state_of s.role 0 (Called x ∷ past)) ≡ false → probe_after s (zero_stays s past (Called x)) (probe_of s past) (Called x) ≡ None
+    off x h = after_called s (zero_stays s past (Called x)) (probe_of s past) x ∙ (ap (λ (z : Bool). kept_if z (probe_of s past)) (stays_off s past (Called x) h) ∙ kept_off (probe_of s past))
     other : (x : Call) → is_probe x ≡ false → is_opened (state_of s.role 0 (Called x ∷ past)) ≡ false → probe_of s (Called x ∷ past) ≡ None
-    other x n h = begun_other (refused s (seen s past) x) x (probe_after s (is_opened (state_of s.role 0 (Called x ∷ past))) (probe_of s past) (Called x)) n ∙ off x h
+    other x n h = begun_other (refused s (seen s past) x) x (probe_after s (zero_stays s past (Called x)) (probe_of s past) (Called x)) n ∙ off x h
     probes : (octets : List ℕ) (refusal : Option StationError) → refused s (seen s past) (Probe octets) ≡ refusal → is_opened (state_of s.role 0 (Called (Probe octets) ∷ past)) ≡ false
-        → probe_begun refusal (Called (Probe octets)) (probe_after s (is_opened (state_of s.role 0 (Called (Probe octets) ∷ past))) (probe_of s past) (Called (Probe octets))) ≡ None
+        → probe_begun refusal (Called (Probe octets)) (probe_after s (zero_stays s past (Called (Probe octets))) (probe_of s past) (Called (Probe octets))) ≡ None
     probes octets (Some e) k h = off (Probe octets) h
     probes octets None k h =
         let z : is_opened (state_of s.role 0 past) ≡ true = probe_taken (not (nat_le (length octets) 16)) (is_opened (state_of s.role 0 past)) (is_some (probe_of s past)) (if_no_room s (seen s past) (Probe octets)) k in
@@ -243,21 +256,21 @@ kept_same s past false h = kept_off (probe_of s past) ∙ sym (probe_needs s pas
 -- what leaves 0 as it is leaves the probe as it is
 pub probe_sent : (s : Setting) (past : List Act) (f : Frame) → state_of s.role 0 (Sent f ∷ past) ≡ state_of s.role 0 past → probe_of s (Sent f ∷ past) ≡ probe_of s past
 probe_sent s past f e =
-    after_sent s (is_opened (state_of s.role 0 (Sent f ∷ past))) (probe_of s past) f ∙ kept_same s past (is_opened (state_of s.role 0 (Sent f ∷ past))) (ap is_opened (sym e))
+    after_sent s (zero_stays s past (Sent f)) (probe_of s past) f ∙ kept_same s past (zero_stays s past (Sent f)) (stays_as s past (Sent f) (opens_sent s.role 0 past f) e)
 
 pub probe_given : (s : Setting) (past : List Act) → probe_of s (Given ∷ past) ≡ probe_of s past
 probe_given s past =
-    after_given s (is_opened (state_of s.role 0 (Given ∷ past))) (probe_of s past) ∙ kept_same s past (is_opened (state_of s.role 0 (Given ∷ past))) (ap is_opened (sym (state_given s.role 0 past)))
+    after_given s (zero_stays s past Given) (probe_of s past) ∙ kept_same s past (zero_stays s past Given) (stays_as s past Given (opens_given s.role 0 past) (state_given s.role 0 past))
 
 pub probe_called : (s : Setting) (past : List Act) (x : Call) → is_probe x ≡ false → probe_of s (Called x ∷ past) ≡ probe_of s past
 probe_called s past x n =
-    begun_other (refused s (seen s past) x) x (probe_after s (is_opened (state_of s.role 0 (Called x ∷ past))) (probe_of s past) (Called x)) n
-    ∙ (after_called s (is_opened (state_of s.role 0 (Called x ∷ past))) (probe_of s past) x ∙ kept_same s past (is_opened (state_of s.role 0 (Called x ∷ past))) (ap is_opened (sym (state_called s.role 0 past x))))
+    begun_other (refused s (seen s past) x) x (probe_after s (zero_stays s past (Called x)) (probe_of s past) (Called x)) n
+    ∙ (after_called s (zero_stays s past (Called x)) (probe_of s past) x ∙ kept_same s past (zero_stays s past (Called x)) (stays_as s past (Called x) (opens_called s.role 0 past x) (state_called s.role 0 past x)))
 
 -- nothing waits before, nothing waits after
 pub probe_none : (s : Setting) (past : List Act) (f : Frame) → probe_of s past ≡ None → probe_of s (Sent f ∷ past) ≡ None
-probe_none s past f h = ap (λ (o : Option Waiting). probe_after s (is_opened (state_of s.role 0 (Sent f ∷ past))) o (Sent f)) h
+probe_none s past f h = ap (λ (o : Option Waiting). probe_after s (zero_stays s past (Sent f)) o (Sent f)) h
 
 pub probe_taken_on : (s : Setting) (past : List Act) (octets : List ℕ) → refused s (seen s past) (Probe octets) ≡ None → probe_of s (Called (Probe octets) ∷ past) ≡ Some (record { data_octets = octets; ticks = 0 })
 probe_taken_on s past octets h =
-    ap (λ (e : Option StationError). probe_begun e (Called (Probe octets)) (probe_after s (is_opened (state_of s.role 0 (Called (Probe octets) ∷ past))) (probe_of s past) (Called (Probe octets)))) h
+    ap (λ (e : Option StationError). probe_begun e (Called (Probe octets)) (probe_after s (zero_stays s past (Called (Probe octets))) (probe_of s past) (Called (Probe octets)))) h

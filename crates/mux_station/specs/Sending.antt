@@ -11,7 +11,7 @@ use Rattle.mux_station.specs.declared.error.StationError.TheVariants.{NotOpen, A
 use Rattle.mux_station.specs.Written.{written, is_data_frame}
 use Rattle.mux_station.specs.Messages.{Message, message_in, command_of, test, nsc, cld}
 use Rattle.mux_station.specs.Acts.{Call, Open, Close, Probe, Stop, Flow, Offer, Act, Called, Got, Sent, Tick, Lost, Given}
-use Rattle.mux_station.specs.Opening.{is_open}
+use Rattle.mux_station.specs.Opening.{is_open, opens_now}
 use Rattle.mux_station.specs.States.{State, is_opened, is_shut, state_of}
 use Rattle.mux_station.specs.Stopping.{is_stopped}
 use Rattle.mux_station.specs.Offering.{offered, given}
@@ -119,12 +119,12 @@ abbrev pub refuses_probe : Option Message → Bool
 refuses_probe None = false
 refuses_probe (Some m) = (command_of m.octet == nsc) && names_test m.value
 
-abbrev pub probe_after : Setting → (zero_stays : Bool) → Option Waiting → Act → Option Waiting
-probe_after s zero_stays None a = None
-probe_after s zero_stays (Some w) (Got f) =
-    if zero_stays && not (brings_probe_back w.data_octets (message_in f) || refuses_probe (message_in f)) then Some w else None
-probe_after s zero_stays (Some w) Tick = if w.ticks == 3 then None else Some (record w { ticks = w.ticks + 1 })
-probe_after s zero_stays (Some w) a = if zero_stays then Some w else None
+abbrev pub probe_after : Setting → (stays : Bool) → Option Waiting → Act → Option Waiting
+probe_after s stays None a = None
+probe_after s stays (Some w) (Got f) =
+    if stays && not (brings_probe_back w.data_octets (message_in f) || refuses_probe (message_in f)) then Some w else None
+probe_after s stays (Some w) Tick = if w.ticks == 3 then None else Some (record w { ticks = w.ticks + 1 })
+probe_after s stays (Some w) a = if stays then Some w else None
 
 abbrev pub probe_begun : Option StationError → Act → Option Waiting → Option Waiting
 probe_begun None (Called (Probe octets)) o = Some (record { data_octets = octets; ticks = 0 })
@@ -134,13 +134,17 @@ abbrev pub refused_act : Setting → Seen → Act → Option StationError
 refused_act s v (Called c) = refused s v c
 refused_act s v a = None
 
+-- 0 stays open: it is Opened after the act, which didn't open it anew
+abbrev pub zero_stays : Setting → List Act → Act → Bool
+zero_stays s past a = is_opened (state_of s.role 0 (a ∷ past)) && not (opens_now s.role 0 past a)
+
 -- the probe that waits
 abbrev pub probe_of : Setting → List Act → Option Waiting
 probe_of s [] = None
 probe_of s (a ∷ past) =
     let before = probe_of s past in
     let v : Seen = record { state = λ d. state_of s.role d past; queued = octets_of (queue past); probe = before } in
-    probe_begun (refused_act s v a) a (probe_after s (is_opened (state_of s.role 0 (a ∷ past))) before a)
+    probe_begun (refused_act s v a) a (probe_after s (zero_stays s past a) before a)
 
 abbrev pub seen : Setting → List Act → Seen
 seen s past = record { state = λ d. state_of s.role d past; queued = octets_of (queue past); probe = probe_of s past }
