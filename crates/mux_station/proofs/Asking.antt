@@ -61,6 +61,7 @@ message_call v probe x octet value past h m =
       accepted = m.accepted;
       asks = m.asks;
       control = refl;
+      shut = h.others_shut;
       each = λ e l. fits_sent v.role e (Called x ∷ past) f (channel_at v e) (fits_called v.role e past x (channel_at v e) (h.channels_are e l) (m.no_offer e)) refl refl (same_state v.role v.role e (Called x ∷ past) octet value m.no_cld);
       all = λ o.
           let same : state_of v.role 0 (Sent f ∷ Called x ∷ past) ≡ (channel_at v 0).state
@@ -192,6 +193,7 @@ stop_handles v new n e =
         accepted = sym (stop_seen v past f) ∙ n;
         asks = refl;
         control = refl;
+        shut = λ o d l z. ap (λ (c : Channel). c.state) (get_or-set_other (replicate 62 shut_channel) 0 d stopping shut_channel (λ (g : d ≡ 0). eqb-false d 0 z g) ∙ get_or-replicate 62 d shut_channel shut_channel l);
         each = λ d l. stopped_each v.role v.role (Called Stop ∷ past) d l (d == 0) refl;
         all = λ o. absurd (let g : false ≡ true = o in cc);
         probes = stop_probe (setting_of v) past (probe_of (setting_of v) (Called Stop ∷ past)) (zero_stays (setting_of v) (Called Stop ∷ past) (Sent (stop_frame v.role))) (ap (λ (s : State). is_opened s && not (opens_now v.role 0 (Called Stop ∷ past) (Sent (stop_frame v.role)))) (stopped_zero v.role v.role (Called Stop ∷ past)));
@@ -244,9 +246,12 @@ offer_opened v d octets h =
 offer_fits : (v : Station) (d : ℕ) (octets : List ℕ) (past : List Act) → d < 62 → length v.channels ≡ 62 → is_opened (channel_at v d).state ≡ true → Fits v past → Fits (offered_in v d octets) (Called (Offer d octets) ∷ past)
 offer_fits v d octets past l n o h =
     let each = offer_each v d octets past h l n o in
+    let same : (e : ℕ) → e < 62 → (channel_at (offered_in v d octets) e).state ≡ (channel_at v e).state
+    = λ e k. sym (each e k (d == e) refl).state_is ∙ (state_called v.role e past (Offer d octets) ∙ (h.channels_are e k).state_is) in
     record {
       live = h.live;
       channels_are = λ e k. each e k (d == e) refl;
+      others_shut = λ t e k z. same e k ∙ h.others_shut (ap is_opened (sym (same 0 (omega arith))) ∙ t) e k z;
       stop_of_all_is = λ t. all_called v.role past (Offer d octets) v.all_stopped (stop_in_past v past h) (ap is_opened (each 0 (omega arith) (d == 0) refl).state_is ∙ t);
       probe_is = probe_called (setting_of v) past (Offer d octets) refl ∙ h.probe_is;
       queue_is = h.queue_is;

@@ -49,7 +49,7 @@ and_off false = refl
 abbrev pub on_sent : ℕ → Frame → State → State
 on_sent d f s = if f.dlci == d then at_sent s f.kind else s
 
-own_sent : (r : Role) (d : ℕ) (z : Bool) (s : State) (f : Frame) → brings_command cld f ≡ false → own_after r d z s (Sent f) ≡ on_sent d f s
+pub own_sent : (r : Role) (d : ℕ) (z : Bool) (s : State) (f : Frame) → brings_command cld f ≡ false → own_after r d z s (Sent f) ≡ on_sent d f s
 own_sent r d z s f h = ap (λ (b : Bool). if b then IsStopping 0 else on_sent d f s) (ap (λ (b : Bool). (d == 0) && b) h ∙ and_off (d == 0))
 
 sent_by : (r : Role) (d : ℕ) (past : List Act) (f : Frame) (b : Bool) → (d == 0) ≡ b → brings_command cld f ≡ false → is_on Disc 0 f ≡ false → state_of r d (Sent f ∷ past) ≡ on_sent d f (state_of r d past)

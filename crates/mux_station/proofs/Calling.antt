@@ -46,6 +46,7 @@ pub record OneCall (v : Station) (channels : List Channel) (probe : Option Waiti
   pub asks : asking v.role x ≡ f ∷ []
   pub control : is_data_frame f ≡ false
   pub each : (d : ℕ) → d < 62 → ChannelFits v.role d (Sent f ∷ Called x ∷ past) (slice_index_or channels d shut_channel)
+  pub shut : is_opened (slice_index_or channels 0 shut_channel).state ≡ false → (d : ℕ) → d < 62 → (d == 0) ≡ false → (slice_index_or channels d shut_channel).state ≡ IsShut
   pub all : is_opened (slice_index_or channels 0 shut_channel).state ≡ true → last_said (got_says flow_says) (since v.role 0 (Sent f ∷ Called x ∷ past)) ≡ v.all_stopped
   pub probes : probe_of (setting_of v) (Sent f ∷ Called x ∷ past) ≡ probe
 
@@ -56,6 +57,7 @@ one_call v channels probe x f past h o =
     let there : Fits new (Sent f ∷ Called x ∷ past) = record {
       live = h.live;
       channels_are = o.each;
+      others_shut = o.shut;
       stop_of_all_is = o.all;
       probe_is = o.probes;
       queue_is = queued_one past x f o.control ∙ ap (λ (fs : List Frame). fs ++ f ∷ []) h.queue_is;
@@ -118,6 +120,22 @@ open_shut s v d h =
     let three = if_then_none (not (is_shut (v.state d))) Busy None two.1 in
     is_shut_state (v.state d) (not_false (is_shut (v.state d)) three.0)
 
+-- and, but for 0, only while 0 is Opened
+not_true : (b : Bool) → not b ≡ true → b ≡ false
+not_true false h = refl
+not_true true h = cc
+
+and_none : (b c : Bool) → (not b && not c) ≡ false → b ≡ false → c ≡ true
+and_none false true h k = refl
+and_none false false h k = cc
+and_none true c h k = cc
+
+open_zero : (s : Setting) (v : Seen) (d : ℕ) → refused s v (Open d) ≡ None → (d == 0) ≡ false → is_opened (v.state 0) ≡ true
+open_zero s v d h z =
+    let states = (none_else (refused_by_state v (Open d)) (if_no_room s v (Open d)) h).0 in
+    let one = if_then_none (not (d == 0) && not (is_opened (v.state 0))) NotOpen _ states in
+    and_none (d == 0) (is_opened (v.state 0)) one.0 z
+
 -- ## One connection is turned
 
 -- the call x turns d by the frame f to a state that isn't Opened
@@ -133,6 +151,7 @@ record Turns (v : Station) (d : ℕ) (x : Call) (f : Frame) (t : State) : Type 0
   no_probe : is_probe x ≡ false
   no_offer : (e : ℕ) → octets_offered e (Called x) ≡ []
   zero_not_opened : (d == 0) ≡ true → is_opened (channel_at v 0).state ≡ false
+  zero_opened : (d == 0) ≡ false → is_opened (channel_at v 0).state ≡ true
 
 abbrev fresh : State → Channel
 fresh t = record { state = t; is_stopped = false; waiting = [] }
@@ -200,6 +219,19 @@ turned_probe v d x f t past u h = by_zero (f.dlci == 0) refl
         let before : probe_of (setting_of v) (Called x ∷ past) ≡ None = probe_called (setting_of v) past x u.no_probe ∙ none in
         probe_none (setting_of v) (Called x ∷ past) f before ∙ (sym before ∙ called)
 
+turned_shut : (v : Station) (d : ℕ) (x : Call) (f : Frame) (t : State) (past : List Act) → Turns v d x f t → Fits v past → is_opened (slice_index_or (slice_set v.channels d (fresh t)) 0 shut_channel).state ≡ false
+    → (e : ℕ) → e < 62 → (e == 0) ≡ false → (slice_index_or (slice_set v.channels d (fresh t)) e shut_channel).state ≡ IsShut
+turned_shut v d x f t past u h o e l z = by_zero (d == 0) refl
+  where
+    by_zero : (b : Bool) → (d == 0) ≡ b → (slice_index_or (slice_set v.channels d (fresh t)) e shut_channel).state ≡ IsShut
+    by_zero true k =
+        let zero : d ≡ 0 = eqb-true d 0 k in
+        let place : slice_index_or (slice_set v.channels d (fresh t)) e shut_channel ≡ channel_at v e = get_or-set_other v.channels d e (fresh t) shut_channel (λ (g : e ≡ d). eqb-false e 0 z (g ∙ zero)) in
+        ap (λ (c : Channel). c.state) place ∙ h.others_shut (u.zero_not_opened k) e l z
+    by_zero false k =
+        let place : slice_index_or (slice_set v.channels d (fresh t)) 0 shut_channel ≡ channel_at v 0 = get_or-set_other v.channels d 0 (fresh t) shut_channel (λ (g : 0 ≡ d). eqb-false d 0 k (sym g)) in
+        absurd (let g : false ≡ true = sym o ∙ (ap (λ (c : Channel). is_opened c.state) place ∙ u.zero_opened k) in cc)
+
 turned_call : (v : Station) (d : ℕ) (x : Call) (f : Frame) (t : State) (past : List Act) → Turns v d x f t → asking v.role x ≡ f ∷ [] → refused (setting_of v) (seen (setting_of v) past) x ≡ None → Fits v past
     → Fits (asked_in v d t f) (answered (setting_of v) past (Called x))
 turned_call v d x f t past u a r h =
@@ -207,6 +239,7 @@ turned_call v d x f t past u a r h =
       accepted = r;
       asks = a;
       control = u.control;
+      shut = λ o e l z. turned_shut v d x f t past u h o e l z;
       each = λ e l. turned_each v d x f t past u h e l (f.dlci == e) refl;
       all = λ o. turned_all v d x f t past u h (ap is_opened (turned_each v d x f t past u h 0 (omega arith) (f.dlci == 0) refl).state_is ∙ o);
       probes = turned_probe v d x f t past u h;
@@ -229,6 +262,7 @@ open_handles v new d l n h e =
       no_probe = refl;
       no_offer = λ m. refl;
       zero_not_opened = λ z. let zero : d ≡ 0 = eqb-true d 0 z in subst (λ (m : ℕ). is_opened (channel_at v m).state ≡ false) zero (ap is_opened shut);
+      zero_opened = λ z. open_zero (setting_of v) (seen_in v) d h z;
     } in
     subst (λ (w : Station). Handles v w (Called (Open d))) (sym e) (record {
       fits = λ past f. turned_call v d (Open d) (written v.role Sabm d []) (IsOpening 0) past turns refl (sym (open_seen v past d f l) ∙ h) f;
@@ -261,24 +295,32 @@ close_opened s v d h =
     let three = if_then_none (not (is_opened (v.state d))) Busy None two.1 in
     (is_opened_state (v.state d) (not_false (is_opened (v.state d)) three.0), one.0)
 
+-- what is Opened is so while 0 is
+opened_zero : (v : Station) (d : ℕ) (past : List Act) (b : Bool) → is_opened (channel_at v 0).state ≡ b → Fits v past → d < 62 → (d == 0) ≡ false → (channel_at v d).state ≡ IsOpened → b ≡ true
+opened_zero v d past true k h l z o = refl
+opened_zero v d past false k h l z o = let shut : (channel_at v d).state ≡ IsShut = h.others_shut k d l z in cc
+
+close_turns : (v : Station) (d : ℕ) (past : List Act) → d < 62 → length v.channels ≡ 62 → (channel_at v d).state ≡ IsOpened → (d == 0) ≡ false → Fits v past → Turns v d (Close d) (written v.role Disc d []) (IsClosing 0)
+close_turns v d past l n o z h = record {
+  in_range = l;
+  all = n;
+  on = refl;
+  turned = ap (λ (s : State). at_sent s Disc) o;
+  not_opened = refl;
+  no_close_down = refl;
+  no_disc = z;
+  control = refl;
+  no_probe = refl;
+  no_offer = λ m. refl;
+  zero_not_opened = λ k. absurd (let g : false ≡ true = sym z ∙ k in cc);
+  zero_opened = λ k. opened_zero v d past (is_opened (channel_at v 0).state) refl h l z o;
+}
+
 pub close_handles : (v new : Station) (d : ℕ) → d < 62 → length v.channels ≡ 62 → refused (setting_of v) (seen_in v) (Close d) ≡ None → new ≡ asked_in v d (IsClosing 0) (written v.role Disc d []) → Handles v new (Called (Close d))
 close_handles v new d l n h e =
     let o = close_opened (setting_of v) (seen_in v) d h in
-    let turns : Turns v d (Close d) (written v.role Disc d []) (IsClosing 0) = record {
-      in_range = l;
-      all = n;
-      on = refl;
-      turned = ap (λ (s : State). at_sent s Disc) o.0;
-      not_opened = refl;
-      no_close_down = refl;
-      no_disc = o.1;
-      control = refl;
-      no_probe = refl;
-      no_offer = λ m. refl;
-      zero_not_opened = λ z. absurd (let g : false ≡ true = sym o.1 ∙ z in cc);
-    } in
     subst (λ (w : Station). Handles v w (Called (Close d))) (sym e) (record {
-      fits = λ past f. turned_call v d (Close d) (written v.role Disc d []) (IsClosing 0) past turns refl (sym (close_seen v past d f l) ∙ h) f;
+      fits = λ past f. turned_call v d (Close d) (written v.role Disc d []) (IsClosing 0) past (close_turns v d past l n o.0 o.1 f) refl (sym (close_seen v past d f l) ∙ h) f;
     })
 
 -- ## What a call answers

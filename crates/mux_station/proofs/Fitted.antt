@@ -41,6 +41,7 @@ new_past : (r : Role) (n1 : ℕ) → Fits (new_station r n1) []
 new_past r n1 = record {
   live = refl;
   channels_are = λ d l. subst (λ (c : Channel). ChannelFits r d [] c) (sym (get_or-replicate 62 d shut_channel shut_channel l)) (shut_fits r d);
+  others_shut = λ o d l z. ap (λ (c : Channel). c.state) (get_or-replicate 62 d shut_channel shut_channel l);
   stop_of_all_is = λ h. refl;
   probe_is = refl;
   queue_is = refl;

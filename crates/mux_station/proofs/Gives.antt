@@ -30,6 +30,7 @@ control_fits : (v : Station) (f : Frame) (fs : List Frame) (past : List Act) →
 control_fits v f fs past q h = record {
   live = h.live;
   channels_are = λ d l. fits_given v.role d past (channel_at v d) (h.channels_are d l);
+  others_shut = h.others_shut;
   stop_of_all_is = λ t. all_given v.role past v.all_stopped (stop_in_past v past h) (ap is_opened (state_given v.role 0 past ∙ (h.channels_are 0 (omega arith)).state_is) ∙ t);
   probe_is = probe_given (setting_of v) past ∙ h.probe_is;
   queue_is = ap (λ (v : List Frame). drop 1 v) (h.queue_is ∙ q);
@@ -110,10 +111,13 @@ data_each v d past n r h e l false same =
 data_fits : (v : Station) (d : ℕ) (past : List Act) → length v.channels ≡ 62 → Ready v d → Fits v past → Fits (data_given v (Some d)) (Sent (data_frame v d) ∷ past)
 data_fits v d past n r h =
     let f = data_frame v d in
+    let same : (e : ℕ) → e < 62 → (channel_at (data_given v (Some d)) e).state ≡ (channel_at v e).state
+    = λ e k. sym (data_each v d past n r h e k (d == e) refl).state_is ∙ (same_state v d past e r.no_zero ∙ (h.channels_are e k).state_is) in
     let data_is : is_data_frame f ≡ true = is_data v.role d (take v.n1 (channel_at v d).waiting) r.no_zero in
     record {
       live = h.live;
       channels_are = λ e l. data_each v d past n r h e l (d == e) refl;
+      others_shut = λ t e k z. same e k ∙ h.others_shut (ap is_opened (sym (same 0 (omega arith))) ∙ t) e k z;
       stop_of_all_is = λ t. all_sent v.role past f v.all_stopped (stop_in_past v past h) (same_state v d past 0 r.no_zero) (ap is_opened (data_each v d past n r h 0 (omega arith) (d == 0) refl).state_is ∙ t);
       probe_is = probe_sent (setting_of v) past f (same_state v d past 0 r.no_zero) ∙ h.probe_is;
       queue_is = ap (λ (b : Bool). queue past ++ (if b then [] else f ∷ [])) data_is ∙ (append-nil (queue past) ∙ h.queue_is);

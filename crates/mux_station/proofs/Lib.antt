@@ -9,3 +9,5 @@ pub mod Calling
 pub mod Asking
 pub mod Turns
 pub mod Gives
+pub mod Ticks
+pub mod TickTurns

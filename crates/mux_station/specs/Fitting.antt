@@ -1,10 +1,10 @@
 -- A station fits a past where each thing that it keeps is what the past says.
-use Rattle.std.specs.Prelude.{◌≡◌, ℕ, ◌<◌, Bool, true, false, List, [], ◌∷◌, ◌++◌}
+use Rattle.std.specs.Prelude.{◌≡◌, ℕ, ◌<◌, ◌==◌, Bool, true, false, List, [], ◌∷◌, ◌++◌}
 use Rattle.std.specs.List.{list_any}
 use Rattle.mux_station.specs.declared.role.Role.{Role}
 use Rattle.mux_station.specs.Acts.{Act}
 use Rattle.mux_station.specs.Opening.{since, standings}
-use Rattle.mux_station.specs.States.{is_opened, state_of}
+use Rattle.mux_station.specs.States.{IsShut, is_opened, state_of}
 use Rattle.mux_station.specs.Stopping.{last_said, got_says, msc_says, flow_says}
 use Rattle.mux_station.specs.Sending.{Setting, is_loss, queue, probe_of, answered}
 use Rattle.mux_station.specs.Offering.{offered, given, last_sender}
@@ -22,6 +22,7 @@ pub record Fits (v : Station) (past : List Act) : Type 0 where
   -- a station is told of no loss of the line
   pub live : list_any is_loss past ≡ false
   pub channels_are : (d : ℕ) → d < 62 → ChannelFits v.role d past (channel_at v d)
+  pub others_shut : is_opened (channel_at v 0).state ≡ false → (d : ℕ) → d < 62 → (d == 0) ≡ false → (channel_at v d).state ≡ IsShut
   pub stop_of_all_is : is_opened (channel_at v 0).state ≡ true → last_said (got_says flow_says) (since v.role 0 past) ≡ v.all_stopped
   pub probe_is : probe_of (setting_of v) past ≡ v.probe
   pub queue_is : queue past ≡ v.queue

@@ -15,3 +15,5 @@ pub mod Keeping
 pub mod Fitting
 pub mod Giving
 pub mod GivenFrames
+pub mod Ticking
+pub mod Noticing

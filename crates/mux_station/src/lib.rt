@@ -12,8 +12,10 @@ mod repeats;
 mod role;
 mod sending;
 mod station;
+mod tick;
 
 pub use error::StationError;
 pub use outgoing::Outgoing;
 pub use role::{ChannelState, Role};
 pub use station::Station;
+pub use tick::{GivenUp, Noticed};
