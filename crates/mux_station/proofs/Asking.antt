@@ -87,6 +87,7 @@ probe_seen v past octets h =
 pub probe_handles : (v new : Station) (octets : List ℕ) → refused (setting_of v) (seen_in v) (Probe octets) ≡ None → new ≡ probed_in v octets → Handles v new (Called (Probe octets))
 probe_handles v new octets n e =
     subst (λ (w : Station). Handles v w (Called (Probe octets))) (sym e) (record {
+      setting = refl;
       fits = λ past f.
           let accepted : refused (setting_of v) (seen (setting_of v) past) (Probe octets) ≡ None = sym (probe_seen v past octets f) ∙ n in
           message_call v (Some (record { data_octets = octets; ticks = 0 })) (Probe octets) test octets past f (record {
@@ -135,6 +136,7 @@ flow_handles v new d go l n e =
     let asked : asking v.role (Flow d go) ≡ message_frame v.role octet value ∷ [] = flow_asks v.role d go (d == 0) in
     let whole : new ≡ record v { queue = v.queue ++ message_frame v.role octet value ∷ [] } = e ∙ ap (λ (fs : List Frame). let w : Station = record v { queue = v.queue ++ fs } in w) asked in
     subst (λ (w : Station). Handles v w (Called (Flow d go))) (sym whole) (record {
+      setting = refl;
       fits = λ past f. message_call v v.probe (Flow d go) octet value past f (record {
         accepted = sym (flow_seen v past d go f l) ∙ n;
         asks = asked;
@@ -189,6 +191,7 @@ stop_probe s past (Some w) b h = ap (λ (z : Bool). if z then Some w else None) 
 pub stop_handles : (v new : Station) → refused (setting_of v) (seen_in v) Stop ≡ None → new ≡ stopping_in v → Handles v new (Called Stop)
 stop_handles v new n e =
     subst (λ (w : Station). Handles v w (Called Stop)) (sym e) (record {
+      setting = refl;
       fits = λ past f. one_call v (slice_set (replicate 62 shut_channel) 0 stopping) None Stop (stop_frame v.role) past f (record {
         accepted = sym (stop_seen v past f) ∙ n;
         asks = refl;
@@ -261,5 +264,6 @@ offer_fits v d octets past l n o h =
 pub offer_handles : (v new : Station) (d : ℕ) (octets : List ℕ) → d < 62 → length v.channels ≡ 62 → offer_refused v d octets ≡ None → new ≡ offered_in v d octets → Handles v new (Called (Offer d octets))
 offer_handles v new d octets l n h e =
     subst (λ (w : Station). Handles v w (Called (Offer d octets))) (sym e) (record {
+      setting = refl;
       fits = λ past f. subst (λ (p : List Act). Fits (offered_in v d octets) p) (offer_calls (setting_of v) past d octets f.live) (offer_fits v d octets past l n (offer_opened v d octets h) f);
     })

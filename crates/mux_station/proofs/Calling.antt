@@ -265,6 +265,7 @@ open_handles v new d l n h e =
       zero_opened = λ z. open_zero (setting_of v) (seen_in v) d h z;
     } in
     subst (λ (w : Station). Handles v w (Called (Open d))) (sym e) (record {
+      setting = refl;
       fits = λ past f. turned_call v d (Open d) (written v.role Sabm d []) (IsOpening 0) past turns refl (sym (open_seen v past d f l) ∙ h) f;
     })
 
@@ -320,6 +321,7 @@ pub close_handles : (v new : Station) (d : ℕ) → d < 62 → length v.channels
 close_handles v new d l n h e =
     let o = close_opened (setting_of v) (seen_in v) d h in
     subst (λ (w : Station). Handles v w (Called (Close d))) (sym e) (record {
+      setting = refl;
       fits = λ past f. turned_call v d (Close d) (written v.role Disc d []) (IsClosing 0) past (close_turns v d past l n o.0 o.1 f) refl (sym (close_seen v past d f l) ∙ h) f;
     })
 

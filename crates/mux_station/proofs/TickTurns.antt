@@ -10,9 +10,9 @@ use Rattle.mux_station.specs.declared.tick.GivenUp.{GivenUp}
 use Rattle.mux_station.specs.Written.{written}
 use Rattle.mux_station.specs.States.{State, IsShut, IsOpening, IsOpened, IsClosing, IsStopping}
 use Rattle.mux_station.specs.Tables.{again, if_room, has_room, octets_of}
-use Rattle.mux_station.specs.Stations.{Channel, Station, shut_channel, channel_at, asked_in}
+use Rattle.mux_station.specs.Stations.{Channel, Station, shut_channel, channel_at, setting_of, asked_in}
 use Rattle.mux_station.specs.Ticking.{Up, UpChannel, gives_up, given_up, given_up_in, probe_up, noticed, turned_in, asked_if, ticked_by, ticked_one, ticked_all, ticked_probe, ticked_in}
-use Rattle.mux_station.specs.Sending.{Waiting}
+use Rattle.mux_station.specs.Sending.{Setting, Waiting}
 use Rattle.mux_station.specs.Noticing.{up_of}
 use Rattle.mux_station.proofs.Queues.{octets_more}
 
@@ -118,6 +118,18 @@ up_passed w new d kept all l e g h =
     let rest = given_up_in (ticked_one w d) (d + 1) (62 - (d + 1)) in
     let here : given_up_in w d (62 - d) ≡ rest = up_next w d l ∙ ap (λ (b : Bool). (if b then UpChannel d ∷ [] else []) ++ rest) g in
     ap (λ (v : Station). map up_of kept ++ given_up_in v (d + 1) (62 - (d + 1))) e ∙ (ap (λ (ys : List Up). map up_of kept ++ ys) (sym here) ∙ h)
+
+-- ## The setting
+
+setting_same : (w new : Station) → new.role ≡ w.role → new.n1 ≡ w.n1 → setting_of new ≡ setting_of w
+setting_same w new r n = ap (λ (x : Role). let s : Setting = record { role = x; n1 = new.n1 } in s) r ∙ ap (λ (x : ℕ). let s : Setting = record { role = w.role; n1 = x } in s) n
+
+pub setting_all : (w : Station) (d count : ℕ) → setting_of (ticked_all w d count) ≡ setting_of w
+unfolding ticked_all
+setting_all w d zero = refl
+setting_all w d (suc count) =
+    let c : Changed w d (ticked_one w d) (turn_frame w d) = changed_by w d (states_in w d) in
+    setting_all (ticked_one w d) (d + 1) count ∙ setting_same w (ticked_one w d) c.role_is c.n1_is
 
 -- ## The probe
 

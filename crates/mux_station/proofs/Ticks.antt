@@ -20,6 +20,7 @@ use Rattle.mux_station.specs.Stations.{Channel, Station, shut_channel, channel_a
 use Rattle.mux_station.specs.Fitting.{ChannelFits, Fits, Handles}
 use Rattle.mux_station.specs.Ticking.{turned_in, asked_if, ticked_by, ticked_one, ticked_all, ticked_probe, ticked_in}
 use Rattle.mux_station.proofs.Queues.{octets_more}
+use Rattle.mux_station.proofs.TickTurns.{setting_all}
 use Rattle.mux_station.proofs.Steps.{next_state, state_next, shut_now, untouched}
 use Rattle.mux_station.proofs.CallSteps.{own_sent, state_sent, on_sent, fits_sent, AllStopped, all_untouched, all_sent, probe_sent, probe_none, probe_needs}
 use Rattle.mux_station.proofs.Calling.{stop_in_past, seen_queued}
@@ -435,6 +436,7 @@ tick_calls v past h =
 pub tick_handles : (v new : Station) → length v.channels ≡ 62 → new ≡ ticked_in v → Handles v new Tick
 tick_handles v new n e =
     subst (λ (w : Station). Handles v w Tick) (sym e) (record {
+      setting = setting_all v 0 62;
       fits = λ past h.
           let m = mid_all (setting_of v) (ticked_probe v.probe) 62 0 v (Tick ∷ past) (mid_first v past n h) refl in
           let fits = mid_last (setting_of v) (ticked_probe v.probe) (ticked_all v 0 62) (sent_after (ticked v.role v.n1 (states_in v) (octets_of v.queue) 0 62) (Tick ∷ past)) m in

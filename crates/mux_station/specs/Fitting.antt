@@ -28,6 +28,7 @@ pub record Fits (v : Station) (past : List Act) : Type 0 where
   pub queue_is : queue past ≡ v.queue
   pub last_is : last_sender past ≡ v.last
 
--- whatever past it fits, the station goes on with this act and all the frames that it calls for
+-- whatever past it fits, the station goes on with this act and all the frames that it calls for; its role and N1 stay
 pub record Handles (old new : Station) (a : Act) : Type 0 where
+  pub setting : setting_of new ≡ setting_of old
   pub fits : (past : List Act) → Fits old past → Fits new (answered (setting_of old) past a)

@@ -19,3 +19,6 @@ pub use outgoing::Outgoing;
 pub use role::{ChannelState, Role};
 pub use station::Station;
 pub use tick::{GivenUp, Noticed};
+
+#[cfg(test)]
+mod tests;
