@@ -9,14 +9,14 @@ use Rattle.mux_frame.specs.declared.frame.Kind.{Kind}
 use Rattle.mux_frame.specs.declared.frame.Kind.TheVariants.{Sabm, Ua, Dm, Disc, Uih}
 use Rattle.mux_station.specs.declared.role.Role.{Role}
 use Rattle.mux_station.specs.declared.role.Role.TheVariants.{Initiator, Responder}
-use Rattle.mux_station.specs.Written.{is_kind, is_on, written, is_data_frame}
+use Rattle.mux_station.specs.Written.{is_on, written, is_data_frame}
 use Rattle.mux_station.specs.Messages.{Message, is_command, nsc, cld, brings_command, message_in, response_of}
 use Rattle.mux_station.specs.Acts.{Call, Open, Close, Probe, Stop, Flow, Offer, Act, Called, Got, Sent, Tick, Lost, Given}
-use Rattle.mux_station.specs.Opening.{since, is_open, opens_now, belongs, since_after}
-use Rattle.mux_station.specs.States.{State, IsShut, IsOpening, IsOpened, IsClosing, IsStopping, is_opened, state_of}
+use Rattle.mux_station.specs.Opening.{since, opens_now, belongs, since_after}
+use Rattle.mux_station.specs.States.{State, IsShut, IsOpening, IsOpened, IsClosing, IsStopping, is_opened}
 use Rattle.mux_station.specs.Tables.{by_message, by_table, response_to, is_supported, ua_or_dm, msc_after_opening, is_opening, ticked, if_room, again, has_room, octets_of, msc_frame, message_frame, ready, held_up}
 use Rattle.mux_station.specs.Offering.{offered, given, octets_offered, octets_sent, joined_octets}
-use Rattle.mux_station.specs.Sending.{Setting, Seen, seen, refused, asking, calls, calls_seeing, is_loss, owed, Gated, Controlled, Sends, Lawful, Complete, sent_after, answered, is_sent, AnswersKeep, NoneAfterLoss, GivesBeginning}
+use Rattle.mux_station.specs.Sending.{Setting, Seen, seen, refused, asking, calls, calls_seeing, is_loss, owed, Gated, Sends, Lawful, Complete, sent_after, answered, is_sent, AnswersKeep, NoneAfterLoss, GivesBeginning}
 
 abbrev is_control : Frame → Bool
 is_control f = not (is_data_frame f)

@@ -1,29 +1,26 @@
 -- Probe, stop, flow and offer lead from each past that the station fits to one that it fits.
-use Rattle.std.specs.Prelude.{◌≡◌, ◌≢◌, ℕ, ◌+◌, ◌*◌, ◌/◌, ◌%◌, ◌<◌, ◌==◌, ◌&&◌, ◌||◌, not, nat_le, Bool, true, false, List, [], ◌∷◌, ◌++◌, length, take, refl, if◌then◌else◌, Option, Some, None, is_some, is_none, slice_index_or, slice_set, replicate, unwrap_or}
+use Rattle.std.specs.Prelude.{◌≡◌, ℕ, ◌+◌, ◌*◌, ◌/◌, ◌%◌, ◌<◌, ◌==◌, ◌&&◌, not, nat_le, Bool, true, false, List, [], ◌∷◌, ◌++◌, length, take, refl, if◌then◌else◌, Option, Some, None, is_some, is_none, slice_index_or, slice_set, replicate}
 use Rattle.std.specs.List.{list_any}
-use Rattle.std.proofs.Common.{◌∙◌, ap, sym, subst, eqb-true, get_or-set_same, get_or-set_other, eq-eqb, arith, append-nil}
-use Rattle.std.proofs.lemmas.Bool.{eqb-false, and_parts}
+use Rattle.std.proofs.Common.{◌∙◌, ap, sym, subst, eqb-true, get_or-set_same, get_or-set_other, eq-eqb, arith}
+use Rattle.std.proofs.lemmas.Bool.{eqb-false}
 use Rattle.std.proofs.lemmas.List.{get_or-replicate}
 use Rattle.mux_frame.specs.Frames.{Frame}
-use Rattle.mux_frame.specs.declared.frame.Kind.TheVariants.{Sabm, Disc, Uih}
 use Rattle.mux_station.specs.declared.role.Role.{Role}
 use Rattle.mux_station.specs.declared.role.Role.TheVariants.{Initiator, Responder}
 use Rattle.mux_station.specs.declared.error.StationError.{StationError}
-use Rattle.mux_station.specs.declared.error.StationError.TheVariants.{TooLong, NotOpen, Busy, ControlChannel, NoRoom}
-use Rattle.mux_station.specs.Written.{is_on, written, is_data_frame}
-use Rattle.mux_station.specs.Messages.{Message, cld, test, msc, brings_command, octet_is, if_good, is_msc, is_good_msc, message_of}
-use Rattle.mux_station.specs.Acts.{Call, Open, Close, Probe, Stop, Flow, Offer, Act, Called, Sent}
-use Rattle.mux_station.specs.Opening.{since, opens_now, asks}
-use Rattle.mux_station.specs.States.{State, IsShut, IsOpened, IsStopping, is_opened, is_shut, at_sent, own_after, state_of}
-use Rattle.mux_station.specs.Stopping.{last_said, got_says, msc_says, flow_says}
+use Rattle.mux_station.specs.declared.error.StationError.TheVariants.{TooLong, NotOpen, Busy, ControlChannel}
+use Rattle.mux_station.specs.Messages.{Message, cld, test, msc, brings_command, octet_is, is_msc, is_good_msc}
+use Rattle.mux_station.specs.Acts.{Call, Probe, Stop, Flow, Offer, Act, Called, Sent}
+use Rattle.mux_station.specs.Opening.{opens_now}
+use Rattle.mux_station.specs.States.{State, IsShut, IsStopping, is_opened, state_of}
 use Rattle.mux_station.specs.Tables.{message_frame, msc_frame, octets_of, ready, held_up}
-use Rattle.mux_station.specs.Sending.{Setting, Seen, Waiting, seen, is_loss, queue, refused, refused_by_state, or_else, if_no_room, asking, calls, calls_seeing, probe_after, zero_stays, probe_of, answered, sent_after}
-use Rattle.mux_station.specs.Offering.{octets_offered, octets_sent, last_sender}
+use Rattle.mux_station.specs.Sending.{Setting, Seen, Waiting, seen, is_loss, refused, refused_by_state, or_else, if_no_room, asking, calls, calls_seeing, probe_after, zero_stays, probe_of, answered, sent_after}
+use Rattle.mux_station.specs.Offering.{octets_offered}
 use Rattle.mux_station.specs.Stations.{Channel, Station, shut_channel, channel_at, setting_of, seen_in, probed_in, stopping_in, offer_refused, offered_in}
 use Rattle.mux_station.specs.Fitting.{ChannelFits, Fits, Handles}
-use Rattle.mux_station.proofs.Steps.{state_next, next_state, shut_now, goes_on}
-use Rattle.mux_station.proofs.CallSteps.{state_called, state_sent_uih, fits_sent, fits_called, AllStopped, all_sent, all_called, probe_sent, probe_called, probe_taken_on}
-use Rattle.mux_station.proofs.Calling.{OneCall, one_call, calls_asked, seen_state, seen_queued, none_else, if_then_none, not_false, is_opened_state, stop_in_past}
+use Rattle.mux_station.proofs.Steps.{state_next, shut_now, goes_on}
+use Rattle.mux_station.proofs.CallSteps.{state_called, state_sent_uih, fits_sent, fits_called, all_sent, all_called, probe_sent, probe_called, probe_taken_on}
+use Rattle.mux_station.proofs.Calling.{one_call, seen_state, seen_queued, none_else, if_then_none, not_false, stop_in_past}
 
 abbrev no_frames : List Frame
 no_frames = []

@@ -1,5 +1,5 @@
 -- A call of the user, and the control frame that it asks for.
-use Rattle.std.specs.Prelude.{◌≡◌, ℕ, ◌+◌, ◌*◌, ◌<◌, ◌==◌, ◌&&◌, ◌||◌, not, nat_le, Bool, true, false, List, [], ◌∷◌, ◌++◌, length, refl, if◌then◌else◌, Option, Some, None, is_some, unwrap_or}
+use Rattle.std.specs.Prelude.{◌≡◌, ℕ, ◌==◌, ◌&&◌, ◌||◌, not, nat_le, Bool, true, false, List, [], ◌∷◌, length, refl, if◌then◌else◌, Option, Some, None, is_some, unwrap_or}
 use Rattle.std.proofs.Common.{◌∙◌, ap, sym, subst, eqb-true}
 use Rattle.mux_frame.specs.Frames.{Frame}
 use Rattle.mux_frame.specs.declared.frame.Kind.TheVariants.{Sabm, Disc, Uih}
@@ -8,17 +8,16 @@ use Rattle.mux_station.specs.declared.role.Role.TheVariants.{Initiator, Responde
 use Rattle.mux_station.specs.declared.error.StationError.{StationError}
 use Rattle.mux_station.specs.declared.error.StationError.TheVariants.{TooLong, NotOpen, Busy}
 use Rattle.mux_station.specs.Written.{is_on, is_data_frame}
-use Rattle.mux_station.specs.Messages.{Message, message_in, cld, brings_command, octet_is}
+use Rattle.mux_station.specs.Messages.{cld, brings_command}
 use Rattle.mux_station.specs.Acts.{Call, Open, Close, Probe, Stop, Flow, Offer, Act, Called, Got, Sent, Tick, Lost, Given}
-use Rattle.mux_station.specs.Opening.{is_open, since, opens_now, ends_itself}
-use Rattle.mux_station.specs.States.{State, IsShut, IsOpening, IsOpened, IsClosing, IsStopping, is_opened, is_stopping, at_sent, at_tick, own_after, state_of}
+use Rattle.mux_station.specs.Opening.{since, opens_now, ends_itself}
+use Rattle.mux_station.specs.States.{State, IsShut, IsOpening, IsOpened, IsClosing, IsStopping, is_opened, at_sent, at_tick, own_after, state_of}
 use Rattle.mux_station.specs.Stopping.{last_said, got_says, flow_says}
-use Rattle.mux_station.specs.Tables.{octets_of}
-use Rattle.mux_station.specs.Sending.{Setting, Seen, Waiting, seen, queue, refused, or_else, if_no_room, refused_act, probe_after, probe_begun, zero_stays, probe_of}
+use Rattle.mux_station.specs.Sending.{Setting, Waiting, seen, refused, or_else, if_no_room, probe_after, probe_begun, zero_stays, probe_of}
 use Rattle.mux_station.specs.Offering.{octets_offered, octets_sent}
 use Rattle.mux_station.specs.Stations.{Channel}
 use Rattle.mux_station.specs.Fitting.{ChannelFits}
-use Rattle.mux_station.proofs.Steps.{next_state, state_next, shut_now, untouched, opened_open, since_goes_on}
+use Rattle.mux_station.proofs.Steps.{state_next, untouched, opened_open, since_goes_on}
 
 -- ## States
 
@@ -232,8 +231,10 @@ probe_needs s (Called x ∷ past) h = by_call x h
   where
     off : (x : Call) → is_opened (state_of s.role 0 (Called x ∷ past)) ≡ false → probe_after s (zero_stays s past (Called x)) (probe_of s past) (Called x) ≡ None
     off x h = after_called s (zero_stays s past (Called x)) (probe_of s past) x ∙ (ap (λ (z : Bool). kept_if z (probe_of s past)) (stays_off s past (Called x) h) ∙ kept_off (probe_of s past))
+
     other : (x : Call) → is_probe x ≡ false → is_opened (state_of s.role 0 (Called x ∷ past)) ≡ false → probe_of s (Called x ∷ past) ≡ None
     other x n h = begun_other (refused s (seen s past) x) x (probe_after s (zero_stays s past (Called x)) (probe_of s past) (Called x)) n ∙ off x h
+
     probes : (octets : List ℕ) (refusal : Option StationError) → refused s (seen s past) (Probe octets) ≡ refusal → is_opened (state_of s.role 0 (Called (Probe octets) ∷ past)) ≡ false
         → probe_begun refusal (Called (Probe octets)) (probe_after s (zero_stays s past (Called (Probe octets))) (probe_of s past) (Called (Probe octets))) ≡ None
     probes octets (Some e) k h = off (Probe octets) h
@@ -241,6 +242,7 @@ probe_needs s (Called x ∷ past) h = by_call x h
         let z : is_opened (state_of s.role 0 past) ≡ true = probe_taken (not (nat_le (length octets) 16)) (is_opened (state_of s.role 0 past)) (is_some (probe_of s past)) (if_no_room s (seen s past) (Probe octets)) k in
         let now : is_opened (state_of s.role 0 (Called (Probe octets) ∷ past)) ≡ true = ap is_opened (state_called s.role 0 past (Probe octets)) ∙ z in
         absurd (let e : false ≡ true = sym h ∙ now in cc)
+
     by_call : (x : Call) → is_opened (state_of s.role 0 (Called x ∷ past)) ≡ false → probe_of s (Called x ∷ past) ≡ None
     by_call (Open d) h = other (Open d) refl h
     by_call (Close d) h = other (Close d) refl h

@@ -1,17 +1,16 @@
 -- A call of the user leads from each past that the station fits to one that it fits.
-use Rattle.std.specs.Prelude.{◌≡◌, ◌≢◌, ℕ, ◌+◌, ◌<◌, ◌==◌, ◌&&◌, ◌||◌, not, Bool, true, false, List, [], ◌∷◌, ◌++◌, length, refl, if◌then◌else◌, Option, Some, None, is_none, slice_index_or, slice_set, Result, Ok, Err, OnOk}
+use Rattle.std.specs.Prelude.{◌≡◌, ◌≢◌, ℕ, ◌<◌, ◌==◌, ◌&&◌, not, Bool, true, false, List, [], ◌∷◌, ◌++◌, length, refl, if◌then◌else◌, Option, Some, None, is_none, slice_index_or, slice_set, Result, Ok, Err, OnOk}
 use Rattle.std.specs.List.{list_any}
 use Rattle.std.specs.Result.{result_err}
-use Rattle.std.proofs.Common.{◌∙◌, ap, sym, subst, eqb-true, get_or-set_same, get_or-set_other, eq-eqb, arith, append-nil}
+use Rattle.std.proofs.Common.{◌∙◌, ap, sym, subst, eqb-true, get_or-set_same, get_or-set_other, eq-eqb, arith}
 use Rattle.std.proofs.lemmas.Bool.{eqb-false}
 use Rattle.mux_frame.specs.Frames.{Frame}
-use Rattle.mux_frame.specs.declared.frame.Kind.TheVariants.{Sabm, Disc, Uih}
-use Rattle.mux_station.specs.declared.role.Role.{Role}
+use Rattle.mux_frame.specs.declared.frame.Kind.TheVariants.{Sabm, Disc}
 use Rattle.mux_station.specs.declared.error.StationError.{StationError}
-use Rattle.mux_station.specs.declared.error.StationError.TheVariants.{TooLong, NotOpen, Busy, AlreadyOpen, ControlChannel}
+use Rattle.mux_station.specs.declared.error.StationError.TheVariants.{NotOpen, Busy, AlreadyOpen, ControlChannel}
 use Rattle.mux_station.specs.Written.{is_kind, is_on, written, is_data_frame}
 use Rattle.mux_station.specs.Messages.{cld, brings_command}
-use Rattle.mux_station.specs.Acts.{Call, Open, Close, Probe, Stop, Flow, Offer, Act, Called, Sent}
+use Rattle.mux_station.specs.Acts.{Call, Open, Close, Act, Called, Sent}
 use Rattle.mux_station.specs.Opening.{since}
 use Rattle.mux_station.specs.States.{State, IsShut, IsOpening, IsOpened, IsClosing, IsStopping, is_opened, is_shut, at_sent, state_of}
 use Rattle.mux_station.specs.Stopping.{last_said, got_says, flow_says}
@@ -21,7 +20,7 @@ use Rattle.mux_station.specs.Offering.{octets_offered, last_sender}
 use Rattle.mux_station.specs.Stations.{Channel, Station, shut_channel, channel_at, setting_of, seen_in, asked_in}
 use Rattle.mux_station.specs.Fitting.{ChannelFits, Fits, Handles}
 use Rattle.mux_station.proofs.Steps.{shut_now}
-use Rattle.mux_station.proofs.CallSteps.{is_probe, state_called, state_sent, on_sent, fits_sent, fits_called, AllStopped, all_sent, all_called, probe_sent, probe_called, probe_none, probe_needs}
+use Rattle.mux_station.proofs.CallSteps.{is_probe, state_called, state_sent, fits_sent, fits_called, AllStopped, all_sent, all_called, probe_sent, probe_called, probe_none, probe_needs}
 
 -- ## What a call calls for
 
@@ -210,6 +209,7 @@ turned_probe v d x f t past u h = by_zero (f.dlci == 0) refl
   where
     called : probe_of (setting_of v) (Called x ∷ past) ≡ v.probe
     called = probe_called (setting_of v) past x u.no_probe ∙ h.probe_is
+
     by_zero : (b : Bool) → (f.dlci == 0) ≡ b → probe_of (setting_of v) (Sent f ∷ Called x ∷ past) ≡ v.probe
     by_zero false k = probe_sent (setting_of v) (Called x ∷ past) f (kept_state v d x f t past 0 u k) ∙ called
     by_zero true k =

@@ -1,10 +1,10 @@
 -- What a station's parts say of each past that it fits.
-use Rattle.std.specs.Prelude.{◌≡◌, ℕ, ◌<◌, ◌==◌, ◌&&◌, ◌||◌, not, Bool, true, false, List, [], ◌∷◌, None, replicate, slice_index_or, refl}
+use Rattle.std.specs.Prelude.{◌≡◌, ℕ, ◌<◌, ◌==◌, ◌&&◌, ◌||◌, not, Bool, true, false, List, [], None, replicate, refl}
 use Rattle.std.proofs.Common.{ap, sym, ◌∙◌, subst, arith}
 use Rattle.mux_station.specs.declared.role.Role.{Role}
 use Rattle.mux_station.specs.Acts.{Act}
 use Rattle.mux_station.specs.Opening.{is_open, since}
-use Rattle.mux_station.specs.States.{State, is_opened, state_of}
+use Rattle.mux_station.specs.States.{is_opened, state_of}
 use Rattle.mux_station.specs.Stopping.{last_said, got_says, msc_says, flow_says, is_stopped}
 use Rattle.mux_frame.specs.Frames.{Frame}
 use Rattle.std.proofs.lemmas.List.{get_or-replicate}

@@ -1,27 +1,24 @@
 -- What is given on leads from each past that the station fits to one that it fits.
-use Rattle.std.specs.Prelude.{zero, suc, ◌≡◌, ◌≢◌, ℕ, ◌+◌, ◌-◌, ◌<◌, ◌≤◌, ◌==◌, ◌&&◌, ◌||◌, not, nat_le, min, Bool, true, false, IsTrue, List, [], ◌∷◌, ◌++◌, length, take, drop, refl, if◌then◌else◌, Option, Some, None, slice_index_or, slice_set}
+use Rattle.std.specs.Prelude.{zero, suc, ◌≡◌, ℕ, ◌+◌, ◌-◌, ◌<◌, ◌≤◌, ◌==◌, ◌&&◌, not, min, Bool, true, false, List, [], ◌∷◌, ◌++◌, length, take, drop, refl, if◌then◌else◌, Option, Some, None, slice_index_or, slice_set}
 use Rattle.std.specs.List.{list_any}
 use Rattle.std.proofs.Common.{◌∙◌, ap, sym, subst, eqb-true, get_or-set_same, get_or-set_other, eq-eqb, arith, append-nil, append_assoc}
-use Rattle.std.proofs.lemmas.Bool.{le-leb, eqb-false, and_parts, and_from, ne_eqb}
+use Rattle.std.proofs.lemmas.Bool.{le-leb, eqb-false, and_parts, ne_eqb}
 use Rattle.std.proofs.lemmas.List.{length-take, take-append-drop}
 use Rattle.mux_frame.specs.Frames.{Frame}
-use Rattle.mux_frame.specs.declared.frame.Kind.TheVariants.{Sabm, Disc, Uih}
+use Rattle.mux_frame.specs.declared.frame.Kind.TheVariants.{Uih}
 use Rattle.mux_station.specs.declared.role.Role.{Role}
-use Rattle.mux_station.specs.declared.role.Role.TheVariants.{Initiator, Responder}
-use Rattle.mux_station.specs.Written.{is_on, written, is_data_frame}
+use Rattle.mux_station.specs.Written.{written, is_data_frame}
 use Rattle.mux_station.specs.Messages.{cld, brings_command, octet_is, message_of}
-use Rattle.mux_station.specs.Acts.{Act, Called, Sent, Given}
-use Rattle.mux_station.specs.Opening.{is_open, since, opens_now, asks}
-use Rattle.mux_station.specs.States.{State, is_opened, state_of}
-use Rattle.mux_station.specs.Stopping.{is_stopped}
-use Rattle.mux_station.specs.Sending.{Setting, Seen, seen, is_loss, queue, probe_of, owed, calls, calls_seeing, Gated, Sends, Lawful, Complete}
-use Rattle.mux_station.specs.Offering.{octets_offered, octets_sent, offered, given, last_sender}
+use Rattle.mux_station.specs.Acts.{Act, Sent, Given}
+use Rattle.mux_station.specs.States.{is_opened, state_of}
+use Rattle.mux_station.specs.Sending.{Setting, is_loss, queue, owed, calls, Gated, Sends, Lawful, Complete}
+use Rattle.mux_station.specs.Offering.{octets_offered, octets_sent, given, last_sender}
 use Rattle.mux_station.specs.Stations.{Channel, Station, shut_channel, channel_at, setting_of, stopped_in}
 use Rattle.mux_station.specs.Fitting.{ChannelFits, Fits}
 use Rattle.mux_station.specs.Giving.{is_ready, first_ready, ready_from, else_first, next_turn, data_frame, data_given, data_sent, given_on, after_given, GivesOn}
 use Rattle.mux_station.proofs.Fitted.{open_fits, stopped_fits}
 use Rattle.mux_station.proofs.Steps.{untouched, goes_on}
-use Rattle.mux_station.proofs.CallSteps.{opens_sent, state_sent_uih, state_given, fits_given, AllStopped, all_sent, all_given, probe_sent, probe_given}
+use Rattle.mux_station.proofs.CallSteps.{opens_sent, state_sent_uih, state_given, fits_given, all_sent, all_given, probe_sent, probe_given}
 use Rattle.mux_station.proofs.Calling.{stop_in_past}
 
 -- ## A control frame

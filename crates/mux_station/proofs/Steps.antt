@@ -1,15 +1,10 @@
 -- One act further: what a connection comes to.
-use Rattle.std.specs.Prelude.{◌≡◌, ℕ, ◌<◌, ◌==◌, ◌&&◌, ◌||◌, not, Bool, true, false, List, [], ◌∷◌, ◌++◌, refl, if◌then◌else◌, Option, Some, None, unwrap_or}
-use Rattle.std.proofs.Common.{◌∙◌, ap, sym, subst, append_assoc, append-nil}
-use Rattle.mux_frame.specs.Frames.{Frame}
-use Rattle.mux_frame.specs.declared.frame.Kind.TheVariants.{Sabm}
+use Rattle.std.specs.Prelude.{◌≡◌, ℕ, ◌&&◌, ◌||◌, not, Bool, true, false, List, [], ◌∷◌, ◌++◌, refl, Option, None, unwrap_or}
+use Rattle.std.proofs.Common.{◌∙◌, ap, sym, append_assoc, append-nil}
 use Rattle.mux_station.specs.declared.role.Role.{Role}
-use Rattle.mux_station.specs.declared.role.Role.TheVariants.{Initiator, Responder}
-use Rattle.mux_station.specs.Written.{is_on, is_data_frame}
-use Rattle.mux_station.specs.Messages.{Message}
-use Rattle.mux_station.specs.Acts.{Call, Act, Called, Got, Sent, Tick, Lost, Given}
-use Rattle.mux_station.specs.Opening.{Standing, asks, is_word, ends, is_open, standings, since, since_after, opens_now, belongs}
-use Rattle.mux_station.specs.States.{State, IsShut, IsOpened, is_opened, own_after, States, joined, states, state_of}
+use Rattle.mux_station.specs.Acts.{Act}
+use Rattle.mux_station.specs.Opening.{asks, is_word, ends, is_open, standings, since, since_after, opens_now, belongs}
+use Rattle.mux_station.specs.States.{State, IsOpened, is_opened, own_after, joined, states, state_of}
 use Rattle.mux_station.specs.Stopping.{last_said, got_says, msc_says}
 use Rattle.mux_station.specs.Offering.{offered, given, octets_offered, octets_sent, joined_octets}
 use Rattle.mux_station.specs.Stations.{Channel}

@@ -1,6 +1,6 @@
 -- The turns of a tick, one after the other.
-use Rattle.std.specs.Prelude.{zero, suc, ◌≡◌, ◌≢◌, ℕ, ◌+◌, ◌-◌, ◌<◌, ◌≤◌, ◌==◌, Bool, true, false, List, [], ◌∷◌, ◌++◌, length, map, refl, if◌then◌else◌, Option, Some, None, slice_index_or, slice_set}
-use Rattle.std.proofs.Common.{◌∙◌, ap, sym, subst, get_or-set_other, arith, append-nil, append_assoc, length-append}
+use Rattle.std.specs.Prelude.{zero, suc, ◌≡◌, ℕ, ◌+◌, ◌-◌, ◌<◌, ◌≤◌, ◌==◌, Bool, true, false, List, [], ◌∷◌, ◌++◌, map, refl, if◌then◌else◌, Option, Some, None, slice_index_or, slice_set}
+use Rattle.std.proofs.Common.{◌∙◌, ap, sym, get_or-set_other, arith, append_assoc}
 use Rattle.std.proofs.lemmas.Bool.{eqb-false, ne_eqb}
 use Rattle.std.proofs.lemmas.List.{map-append}
 use Rattle.mux_frame.specs.Frames.{Frame}

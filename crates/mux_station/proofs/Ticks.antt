@@ -1,28 +1,28 @@
 -- A tick leads from each past that the station fits to one that it fits.
-use Rattle.std.specs.Prelude.{zero, suc, ◌≡◌, ◌≢◌, ℕ, ◌+◌, ◌-◌, ◌<◌, ◌≤◌, ◌==◌, ◌&&◌, ◌||◌, not, Bool, true, false, List, [], ◌∷◌, ◌++◌, length, refl, if◌then◌else◌, Option, Some, None, slice_index_or, slice_set}
+use Rattle.std.specs.Prelude.{zero, suc, ◌≡◌, ◌≢◌, ℕ, ◌+◌, ◌<◌, ◌≤◌, ◌==◌, ◌&&◌, Bool, true, false, List, [], ◌∷◌, ◌++◌, length, refl, if◌then◌else◌, Option, Some, None, slice_index_or, slice_set}
 use Rattle.std.specs.List.{list_any}
-use Rattle.std.proofs.Common.{◌∙◌, ap, sym, subst, eqb-true, get_or-set_same, get_or-set_other, length-set, eq-eqb, arith, append-nil, append_assoc}
+use Rattle.std.proofs.Common.{◌∙◌, ap, sym, subst, eqb-true, get_or-set_same, get_or-set_other, length-set, eq-eqb, arith}
 use Rattle.std.proofs.lemmas.Bool.{eqb-false, ne_eqb}
 use Rattle.mux_frame.specs.Frames.{Frame}
 use Rattle.mux_frame.specs.declared.frame.Kind.{Kind}
-use Rattle.mux_frame.specs.declared.frame.Kind.TheVariants.{Sabm, Disc, Uih}
+use Rattle.mux_frame.specs.declared.frame.Kind.TheVariants.{Sabm, Disc}
 use Rattle.mux_station.specs.declared.role.Role.{Role}
 use Rattle.mux_station.specs.declared.role.Role.TheVariants.{Initiator, Responder}
 use Rattle.mux_station.specs.Written.{is_kind, is_on, written, is_data_frame}
 use Rattle.mux_station.specs.Messages.{cld, brings_command}
 use Rattle.mux_station.specs.Acts.{Act, Sent, Tick}
-use Rattle.mux_station.specs.Opening.{since, opens_now, ends_itself}
+use Rattle.mux_station.specs.Opening.{opens_now, ends_itself}
 use Rattle.mux_station.specs.States.{State, IsShut, IsOpening, IsOpened, IsClosing, IsStopping, is_opened, at_sent, at_tick, own_after, state_of}
-use Rattle.mux_station.specs.Tables.{again, if_room, has_room, octets_of, ticked, by_tick}
-use Rattle.mux_station.specs.Sending.{Setting, Seen, Waiting, seen, is_loss, queue, probe_of, probe_after, zero_stays, calls, calls_seeing, answered, sent_after}
+use Rattle.mux_station.specs.Tables.{again, if_room, has_room, octets_of, ticked}
+use Rattle.mux_station.specs.Sending.{Setting, Waiting, seen, is_loss, queue, probe_of, probe_after, zero_stays, calls, calls_seeing, sent_after}
 use Rattle.mux_station.specs.Offering.{last_sender}
 use Rattle.mux_station.specs.Stations.{Channel, Station, shut_channel, channel_at, setting_of, asked_in}
 use Rattle.mux_station.specs.Fitting.{ChannelFits, Fits, Handles}
 use Rattle.mux_station.specs.Ticking.{turned_in, asked_if, ticked_by, ticked_one, ticked_all, ticked_probe, ticked_in}
 use Rattle.mux_station.proofs.Queues.{octets_more}
 use Rattle.mux_station.proofs.TickTurns.{setting_all}
-use Rattle.mux_station.proofs.Steps.{next_state, state_next, shut_now, untouched}
-use Rattle.mux_station.proofs.CallSteps.{own_sent, state_sent, on_sent, fits_sent, AllStopped, all_untouched, all_sent, probe_sent, probe_none, probe_needs}
+use Rattle.mux_station.proofs.Steps.{state_next, shut_now, untouched}
+use Rattle.mux_station.proofs.CallSteps.{own_sent, state_sent, fits_sent, AllStopped, all_untouched, all_sent, probe_sent, probe_none, probe_needs}
 use Rattle.mux_station.proofs.Calling.{stop_in_past, seen_queued}
 
 abbrev fresh : State → Channel
@@ -68,6 +68,7 @@ fits_tick r d past c h = by_state (is_opened c.state) refl
   where
     now : state_of r d (Tick ∷ past) ≡ at_tick c.state
     now = state_tick r d past ∙ ap at_tick h.state_is
+
     by_state : (b : Bool) → is_opened c.state ≡ b → ChannelFits r d (Tick ∷ past) (before_turn c)
     by_state false o = shut_now r d (Tick ∷ past) (before_turn c) now (tick_not_opened c.state o)
     by_state true o =
@@ -161,6 +162,7 @@ turned_shut w d t n l s0 keeps shut o e k z = by_place (e == d) refl
     off : (b : Bool) → (0 == d) ≡ b → is_opened (channel_at w 0).state ≡ false
     off true g = let here : 0 ≡ d = eqb-true 0 d g in subst (λ (m : ℕ). is_opened (channel_at w m).state ≡ false) (sym here) s0
     off false g = ap (λ (c : Channel). is_opened c.state) (sym (turned_there w d 0 t g)) ∙ o
+
     by_place : (b : Bool) → (e == d) ≡ b → (slice_index_or (slice_set w.channels d (fresh t)) e shut_channel).state ≡ IsShut
     by_place false g = ap (λ (c : Channel). c.state) (turned_there w d e t g) ∙ shut (off (0 == d) refl) e k z
     by_place true g =
@@ -209,6 +211,7 @@ sent_here r d p g t false z on c h =
     off : (b : Bool) → (b && false) ≡ false
     off true = refl
     off false = refl
+
     disc_elsewhere : (g : Frame) → (g.dlci == 0) ≡ false → is_on Disc 0 g ≡ false
     disc_elsewhere g z = ap (λ (b : Bool). is_kind g.kind Disc && b) z ∙ off (is_kind g.kind Disc)
 
@@ -282,8 +285,10 @@ mid_sends s probe d w p g t m u = record {
   where
     now : state_of s.role d (Sent g ∷ p) ≡ t
     now = sent_here s.role d p g t (d == 0) refl u.on u.no_close_down (ap (λ (x : State). at_sent x g.kind) ((m.todo d u.in_range (omega arith)).state_is ∙ u.still) ∙ u.turned)
+
     zero_there : (d == 0) ≡ false → state_of s.role 0 (Sent g ∷ p) ≡ state_of s.role 0 p
     zero_there z = sent_there s.role d 0 p g z u.on (ne_eqb 0 d (λ (h : 0 ≡ d). eqb-false d 0 z (sym h))) u.no_close_down
+
     by_place : (e : ℕ) → e < 62 → e < d + 1 → (b : Bool) → (e == d) ≡ b → ChannelFits s.role e (Sent g ∷ p) (slice_index_or (slice_set w.channels d (fresh t)) e shut_channel)
     by_place e k x false h =
         subst (λ (c : Channel). ChannelFits s.role e (Sent g ∷ p) c) (sym (turned_there w d e t h)) (other_sent s probe d e w p g t (channel_at w e) (d == 0) refl m u k h (λ y. y) (m.done e k (at_place e d x h)))
@@ -291,12 +296,14 @@ mid_sends s probe d w p g t m u = record {
         let here : e ≡ d = eqb-true e d h in
         subst (λ (n : ℕ). ChannelFits s.role n (Sent g ∷ p) (slice_index_or (slice_set w.channels d (fresh t)) n shut_channel)) (sym here)
         (subst (λ (c : Channel). ChannelFits s.role d (Sent g ∷ p) c) (sym (turned_here w d t m.all u.in_range)) (shut_now s.role d (Sent g ∷ p) (fresh t) now u.not_opened))
+
     all_by : (b : Bool) → (d == 0) ≡ b → AllStopped s.role (Sent g ∷ p) w.all_stopped
     all_by false z o = all_sent s.role p g w.all_stopped m.stop_of_all_is (zero_there z) o
     all_by true z o =
         let zero : d ≡ 0 = eqb-true d 0 z in
         let off : is_opened (state_of s.role 0 (Sent g ∷ p)) ≡ false = ap is_opened (subst (λ (n : ℕ). state_of s.role n (Sent g ∷ p) ≡ t) zero now) ∙ u.not_opened in
         absurd (let h : false ≡ true = sym off ∙ o in cc)
+
     probe_by : (b : Bool) → (d == 0) ≡ b → probe_of s (Sent g ∷ p) ≡ probe
     probe_by false z = probe_sent s p g (zero_there z) ∙ m.probe_is
     probe_by true z =

@@ -1,6 +1,6 @@
 -- Whose turn it is.
-use Rattle.std.specs.Prelude.{zero, suc, ◌≡◌, ℕ, ◌+◌, ◌-◌, ◌<◌, ◌≤◌, ◌==◌, List, [], ◌∷◌, length, drop, slice_get, option_map, Bool, true, false, Option, Some, None, refl, if◌then◌else◌}
-use Rattle.std.proofs.Common.{◌∙◌, ap, sym, arith, eqb-true}
+use Rattle.std.specs.Prelude.{suc, ◌≡◌, ℕ, ◌+◌, ◌-◌, ◌<◌, ◌≤◌, ◌==◌, List, [], ◌∷◌, length, drop, slice_get, option_map, Bool, true, false, Some, None, refl, if◌then◌else◌}
+use Rattle.std.proofs.Common.{◌∙◌, ap, arith, eqb-true}
 use Rattle.mux_station.specs.Stations.{Station}
 use Rattle.mux_frame.specs.Frames.{Frame}
 use Rattle.mux_station.specs.Giving.{is_ready, first_ready, next_turn, data_frame, data_given, next_given, given_on}

@@ -1,12 +1,12 @@
 -- A station fits a past where each thing that it keeps is what the past says.
-use Rattle.std.specs.Prelude.{◌≡◌, ℕ, ◌<◌, ◌==◌, Bool, true, false, List, [], ◌∷◌, ◌++◌}
+use Rattle.std.specs.Prelude.{◌≡◌, ℕ, ◌<◌, ◌==◌, true, false, List, ◌++◌}
 use Rattle.std.specs.List.{list_any}
 use Rattle.mux_station.specs.declared.role.Role.{Role}
 use Rattle.mux_station.specs.Acts.{Act}
 use Rattle.mux_station.specs.Opening.{since, standings}
 use Rattle.mux_station.specs.States.{IsShut, is_opened, state_of}
 use Rattle.mux_station.specs.Stopping.{last_said, got_says, msc_says, flow_says}
-use Rattle.mux_station.specs.Sending.{Setting, is_loss, queue, probe_of, answered}
+use Rattle.mux_station.specs.Sending.{is_loss, queue, probe_of, answered}
 use Rattle.mux_station.specs.Offering.{offered, given, last_sender}
 use Rattle.mux_station.specs.Stations.{Channel, Station, channel_at, setting_of}
 

@@ -1,12 +1,12 @@
 -- What a station gives on to the line.
-use Rattle.std.specs.Prelude.{zero, suc, ℕ, ◌+◌, ◌-◌, ◌==◌, ◌&&◌, not, Bool, true, false, List, [], ◌∷◌, length, take, drop, Option, Some, None, option_map, if◌then◌else◌, slice_set}
+use Rattle.std.specs.Prelude.{zero, suc, ℕ, ◌+◌, ◌-◌, ◌==◌, ◌&&◌, not, Bool, List, [], ◌∷◌, length, take, drop, Option, Some, None, option_map, if◌then◌else◌, slice_set}
 use Rattle.mux_frame.specs.Frames.{Frame}
 use Rattle.mux_frame.specs.declared.frame.Kind.TheVariants.{Uih}
 use Rattle.mux_station.specs.Written.{written}
 use Rattle.mux_station.specs.Acts.{Act, Sent, Given}
 use Rattle.mux_station.specs.States.{is_opened}
 use Rattle.mux_station.specs.Sending.{Lawful, Complete}
-use Rattle.mux_station.specs.Stations.{Channel, Station, channel_at, setting_of, stopped_in}
+use Rattle.mux_station.specs.Stations.{Station, channel_at, setting_of, stopped_in}
 use Rattle.mux_station.specs.Fitting.{Fits}
 
 -- d is Opened and not stopped, and octets wait in its ring

@@ -1,9 +1,8 @@
 -- Data that the user offers, and data that leaves.
 use Rattle.std.specs.Prelude.{ℕ, ◌==◌, ◌&&◌, List, [], ◌∷◌, ◌++◌, if◌then◌else◌}
-use Rattle.mux_frame.specs.Frames.{Frame}
 use Rattle.mux_station.specs.declared.role.Role.{Role}
 use Rattle.mux_station.specs.Written.{is_data_frame}
-use Rattle.mux_station.specs.Acts.{Call, Offer, Act, Called, Sent}
+use Rattle.mux_station.specs.Acts.{Offer, Act, Called, Sent}
 use Rattle.mux_station.specs.Opening.{since}
 
 abbrev pub octets_offered : ℕ → Act → List ℕ

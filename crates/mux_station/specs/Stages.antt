@@ -1,5 +1,4 @@
 -- How a connection's stage is seen.
-use Rattle.std.specs.Prelude.{ℕ}
 use Rattle.mux_station.specs.declared.channel.Stage.{Stage}
 use Rattle.mux_station.specs.declared.channel.Stage.TheVariants as stage
 use Rattle.mux_station.specs.declared.role.ChannelState.{ChannelState}

@@ -1,5 +1,5 @@
 -- What a station does at a tick, one connection after the other (27.010, 5.4.1, 5.4.2 and 5.7.3).
-use Rattle.std.specs.Prelude.{zero, suc, ℕ, ◌+◌, ◌==◌, ◌&&◌, Bool, true, false, List, [], ◌∷◌, ◌++◌, Option, Some, None, is_some, is_none, if◌then◌else◌, slice_set}
+use Rattle.std.specs.Prelude.{zero, suc, ℕ, ◌+◌, ◌==◌, Bool, false, List, [], ◌∷◌, ◌++◌, Option, Some, None, if◌then◌else◌, slice_set}
 use Rattle.mux_frame.specs.Frames.{Frame}
 use Rattle.mux_frame.specs.declared.frame.Kind.TheVariants.{Sabm, Disc}
 use Rattle.mux_station.specs.declared.role.Role.{Role}
@@ -7,7 +7,7 @@ use Rattle.mux_station.specs.Written.{written}
 use Rattle.mux_station.specs.States.{State, IsShut, IsOpening, IsOpened, IsClosing, IsStopping}
 use Rattle.mux_station.specs.Tables.{again, if_room, has_room, octets_of}
 use Rattle.mux_station.specs.Sending.{Waiting}
-use Rattle.mux_station.specs.Stations.{Channel, Station, channel_at, asked_in}
+use Rattle.mux_station.specs.Stations.{Station, channel_at, asked_in}
 
 -- what is given up at a tick
 pub data Up : Type 0 where

@@ -1,5 +1,5 @@
 //! What the user of a station asks of it.
-ghost use Rattle.std.specs.Prelude.{◌≡◌, ◌++◌, ◌∷◌, [], ℕ, Some, None, is_some, if◌then◌else◌, length, nat_le, not, ◌&&◌, slice_set, replicate, OnOk, OnErr};
+ghost use Rattle.std.specs.Prelude.{◌≡◌, ◌++◌, ◌∷◌, [], Some, None, is_some, if◌then◌else◌, length, ◌&&◌, replicate, OnOk, OnErr};
 ghost use Rattle.std.specs.List.{list_all};
 ghost use Rattle.std.specs.Result.{result_err};
 ghost use Rattle.mux_station.specs.Acts.{Open, Close, Probe, Stop, Flow, Offer, Called};

@@ -1,5 +1,5 @@
 //! The frames that an end writes of its own (27.010, 5.2.1 and 5.4.6).
-ghost use Rattle.std.specs.Prelude.{◌≡◌, ◌≤◌, ◌<◌, ◌∷◌, [], length};
+ghost use Rattle.std.specs.Prelude.{◌≡◌, ◌≤◌, ◌<◌, [], length};
 ghost use Rattle.mux_frame.specs.Frames.{frame_of};
 ghost use Rattle.mux_station.specs.Written.{written, written_length};
 ghost use Rattle.mux_station.specs.Tables.{message_frame, msc_frame};
@@ -9,23 +9,26 @@ use crate::role::Role;
 use arrayvec::ArrayVec;
 use mux_frame::{Dlci, FrameView, Kind};
 
-/// The most octets of a control message: its type, its length field and 127 octets of value.
-pub(crate) const LONGEST_MESSAGE: usize = 129;
-
 /// Type octets of commands (27.010, 5.4.6.3); that of a response is 2 less.
 pub(crate) const TEST: u8 = 0x23;
+
 pub(crate) const FCOFF: u8 = 0x63;
+
 pub(crate) const FCON: u8 = 0xA3;
+
 pub(crate) const CLD: u8 = 0xC3;
+
 pub(crate) const MSC: u8 = 0xE3;
 
 /// Signals of an MSC (27.010, 5.4.6.3.7): DV, RTR, RTC and EA, and the same with FC.
 pub(crate) const READY: u8 = 0x8D;
+
 pub(crate) const HELD_UP: u8 = 0x8F;
 
 pub(crate) const CONTROL: Dlci = Dlci { number: 0 };
 
-/// A control frame, with its information in place.
+/// A control frame, with its information in place: a message has a type, a length field and at most
+/// 127 octets of value.
 #[derive(Drop)]
 pub(crate) struct ControlFrame {
     pub dlci: Dlci,
@@ -81,7 +84,11 @@ impl ControlFrame {
         ensures { result ≡ written_length (control_frame self.now) }
     {
         let length = self.info.len();
-        if length <= 127 { length + 6 } else { length + 7 }
+        if length <= 127 {
+            length + 6
+        } else {
+            length + 7
+        }
     }
 
     /// The frame, lent.

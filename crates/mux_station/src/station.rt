@@ -1,5 +1,5 @@
 //! One end of the line.
-ghost use Rattle.std.specs.Prelude.{◌≡◌, ◌≢◌, ◌↔◌, ◌⊎◌, ◌<◌, [], List, replicate, IfOk, IsErrOf};
+ghost use Rattle.std.specs.Prelude.{◌≡◌, ◌↔◌, ◌⊎◌, ◌<◌, [], List, replicate, IfOk, IsErrOf};
 ghost use Rattle.mux_station.specs.Acts.{Act as Happened};
 ghost use Rattle.mux_station.specs.States.{state_of};
 ghost use Rattle.mux_station.specs.Stopping.{is_stopped};

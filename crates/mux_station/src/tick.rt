@@ -6,7 +6,7 @@ ghost use Rattle.mux_station.specs.Written.{written};
 ghost use Rattle.mux_station.specs.Tables.{octets_of, has_room, if_room, again};
 ghost use Rattle.mux_station.specs.Stages.{stage_state};
 ghost use Rattle.mux_station.specs.Stations.{channel_at};
-ghost use Rattle.mux_station.specs.Ticking.{UpProbe, gives_up, given_up_in, probe_up, noticed, turned_in, asked_if, ticked_by, ticked_one, ticked_all, ticked_probe, ticked_in};
+ghost use Rattle.mux_station.specs.Ticking.{UpProbe, gives_up, given_up_in, probe_up, noticed, turned_in, asked_if, ticked_by, ticked_one, ticked_all, ticked_probe};
 ghost use Rattle.mux_station.specs.Noticing.{up_of};
 ghost use Rattle.mux_station.specs.Fitting.{Handles};
 
@@ -136,6 +136,7 @@ impl Station {
         ensures few { length result.items ≤ 62 }
         ensures all { length self.old.channels ≡ 62 }
     {
+        // Looked at so that the proof knows how many there are.
         let _ = &self.channels;
         let mut noticed = ArrayVec::new();
         for number in 0..CONNECTIONS as u8 {

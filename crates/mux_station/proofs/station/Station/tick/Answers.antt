@@ -1,7 +1,7 @@
 -- All connections have their turn, and then the probe.
-use Rattle.std.specs.Prelude.{◌++◌, ◌∷◌, [], List, Bool, if◌then◌else◌}
+use Rattle.std.specs.Prelude.{◌∷◌, [], Bool, if◌then◌else◌}
 use Rattle.std.proofs.Common.{◌∙◌, ap, sym, append-nil}
-use Rattle.mux_station.specs.Ticking.{Up, UpProbe}
+use Rattle.mux_station.specs.Ticking.{UpProbe}
 use Rattle.mux_station.proofs.Ticks.{tick_handles}
 use Rattle.mux_station.proofs.TickTurns.{tick_new, tick_up, pushed_up}
 use Rattle.mux_station.proofs.station.Station.tick.Goals as goal

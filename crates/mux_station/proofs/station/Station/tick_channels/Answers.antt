@@ -1,6 +1,6 @@
 -- The connections have their turns in rising order.
-use Rattle.std.specs.Prelude.{◌≡◌, ◌++◌, ◌∷◌, [], List, ℕ, ◌+◌, ◌≤◌, length, map, refl}
-use Rattle.std.proofs.Common.{◌∙◌, ap, sym, arith, length-append, append-nil}
+use Rattle.std.specs.Prelude.{◌++◌, List, map, refl}
+use Rattle.std.proofs.Common.{◌∙◌, ap, sym, arith, append-nil}
 use Rattle.mux_station.proofs.TickTurns.{up_end, ticked_next, ticked_end, up_pushed, up_passed}
 use Rattle.mux_station.specs.Ticking.{Up}
 use Rattle.mux_station.specs.Noticing.{up_of}
@@ -17,8 +17,9 @@ loop-number-preserved c =
     let new = c.tick_channel.new.self in
     let turn = sym (ticked_next w new i c.loop-number-test.true c.tick_channel.ensures.after) ∙ c.loop-number.invariant.0 in
     elim c.if-tick_channel.branch [
-      then-tick_channel x ↦ (turn, rw x.noticed-is (up_pushed w new i _ _ _ _ c.loop-number-test.true c.tick_channel.ensures.after x.push.ensures.items refl (sym c.tick_channel.ensures.up ∙ x.if-tick_channel.true) c.loop-number.invariant.1), rw x.noticed-is (omega (arith, x.push.ensures.len, c.loop-number.invariant.2)))
-    | else-tick_channel x ↦ (turn, rw x.noticed-is (up_passed w new i c.loop-number.noticed.items _ c.loop-number-test.true c.tick_channel.ensures.after (sym c.tick_channel.ensures.up ∙ x.if-tick_channel.false) c.loop-number.invariant.1), rw x.noticed-is (omega (arith, c.loop-number.invariant.2))) ]
+      | then-tick_channel x ↦ (turn, rw x.noticed-is (up_pushed w new i _ _ _ _ c.loop-number-test.true c.tick_channel.ensures.after x.push.ensures.items refl (sym c.tick_channel.ensures.up ∙ x.if-tick_channel.true) c.loop-number.invariant.1), rw x.noticed-is (omega (arith, x.push.ensures.len, c.loop-number.invariant.2)))
+      | else-tick_channel x ↦ (turn, rw x.noticed-is (up_passed w new i c.loop-number.noticed.items _ c.loop-number-test.true c.tick_channel.ensures.after (sym c.tick_channel.ensures.up ∙ x.if-tick_channel.false) c.loop-number.invariant.1), rw x.noticed-is (omega (arith, c.loop-number.invariant.2)))
+    ]
 
 pub returns-clause-after : goal.returns-clause-after
 returns-clause-after c = sym (ticked_end c.loop-number.self c.loop-number.number c.loop-number-test.false) ∙ c.loop-number.invariant.0
