@@ -10,17 +10,17 @@ use Rattle.mux_station.specs.declared.role.Role.TheVariants.{Initiator, Responde
 use Rattle.mux_station.specs.declared.error.StationError.{StationError}
 use Rattle.mux_station.specs.declared.error.StationError.TheVariants.{TooLong, NotOpen, Busy, ControlChannel}
 use Rattle.mux_station.specs.Messages.{Message, cld, test, msc, brings_command, octet_is, is_msc, is_good_msc}
-use Rattle.mux_station.specs.Acts.{Call, Probe, Stop, Flow, Offer, Act, Called, Sent}
+use Rattle.mux_station.specs.Acts.{Call, Open, Close, Probe, Stop, Flow, Offer, Act, Called, Sent}
 use Rattle.mux_station.specs.Opening.{opens_now}
 use Rattle.mux_station.specs.States.{State, IsShut, IsStopping, is_opened, state_of}
 use Rattle.mux_station.specs.Tables.{message_frame, msc_frame, octets_of, ready, held_up}
 use Rattle.mux_station.specs.Sending.{Setting, Seen, Waiting, seen, is_loss, refused, refused_by_state, or_else, if_no_room, asking, calls, calls_seeing, probe_after, zero_stays, probe_of, answered, sent_after}
 use Rattle.mux_station.specs.Offering.{octets_offered}
 use Rattle.mux_station.specs.Stations.{Channel, Station, shut_channel, channel_at, setting_of, seen_in, probed_in, stopping_in, offer_refused, offered_in}
-use Rattle.mux_station.specs.Fitting.{ChannelFits, Fits, Handles}
+use Rattle.mux_station.specs.Fitting.{ChannelFits, Fits, Handles, SeesThePast}
 use Rattle.mux_station.proofs.Steps.{state_next, shut_now, goes_on}
 use Rattle.mux_station.proofs.CallSteps.{state_called, state_sent_uih, fits_sent, fits_called, all_sent, all_called, probe_sent, probe_called, probe_taken_on}
-use Rattle.mux_station.proofs.Calling.{one_call, seen_state, seen_queued, none_else, if_then_none, not_false, stop_in_past}
+use Rattle.mux_station.proofs.Calling.{one_call, seen_state, seen_queued, none_else, if_then_none, not_false, stop_in_past, open_seen, close_seen}
 
 abbrev no_frames : List Frame
 no_frames = []
@@ -264,3 +264,24 @@ offer_handles v new d octets l n h e =
       setting = refl;
       fits = λ past f. subst (λ (p : List Act). Fits (offered_in v d octets) p) (offer_calls (setting_of v) past d octets f.live) (offer_fits v d octets past l n (offer_opened v d octets h) f);
     })
+
+-- ## All of them
+
+offer_by_state : Setting → ℕ → List ℕ → State → ℕ → Option StationError
+offer_by_state s d octets o q =
+    let v : Seen = record { state = λ e. o; queued = q; probe = None } in
+    or_else (if d == 0 then Some ControlChannel else if not (is_opened o) then Some NotOpen else None) (if_no_room s v (Offer d octets))
+
+offer_seen : (v : Station) (past : List Act) (d : ℕ) (octets : List ℕ) → Fits v past → d < 62 → refused (setting_of v) (seen_in v) (Offer d octets) ≡ refused (setting_of v) (seen (setting_of v) past) (Offer d octets)
+unfolding offer_by_state
+offer_seen v past d octets h l =
+    ap (λ (w : State). offer_by_state (setting_of v) d octets w (octets_of v.queue)) (seen_state v past d h l)
+    ∙ ap (λ (n : ℕ). offer_by_state (setting_of v) d octets (state_of v.role d past) n) (seen_queued v past h)
+
+pub sees_the_past : (v : Station) (past : List Act) (c : Call) → SeesThePast v past c
+sees_the_past v past (Open d) h l = open_seen v past d h l
+sees_the_past v past (Close d) h l = close_seen v past d h l
+sees_the_past v past (Probe octets) h l = probe_seen v past octets h
+sees_the_past v past Stop h l = stop_seen v past h
+sees_the_past v past (Flow d go) h l = flow_seen v past d go h l
+sees_the_past v past (Offer d octets) h l = offer_seen v past d octets h l

@@ -274,7 +274,7 @@ close_refused s d o q =
     let v : Seen = record { state = λ e. o; queued = q; probe = None } in
     or_else (if d == 0 then Some ControlChannel else if is_shut o then Some NotOpen else if not (is_opened o) then Some Busy else None) (if_no_room s v (Close d))
 
-close_seen : (v : Station) (past : List Act) (d : ℕ) → Fits v past → d < 62 → refused (setting_of v) (seen_in v) (Close d) ≡ refused (setting_of v) (seen (setting_of v) past) (Close d)
+pub close_seen : (v : Station) (past : List Act) (d : ℕ) → Fits v past → d < 62 → refused (setting_of v) (seen_in v) (Close d) ≡ refused (setting_of v) (seen (setting_of v) past) (Close d)
 unfolding close_refused
 close_seen v past d h l =
     ap (λ (w : State). close_refused (setting_of v) d w (octets_of v.queue)) (seen_state v past d h l)

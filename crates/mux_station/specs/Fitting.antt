@@ -2,13 +2,13 @@
 use Rattle.std.specs.Prelude.{◌≡◌, ℕ, ◌<◌, ◌==◌, true, false, List, ◌++◌}
 use Rattle.std.specs.List.{list_any}
 use Rattle.mux_station.specs.declared.role.Role.{Role}
-use Rattle.mux_station.specs.Acts.{Act}
+use Rattle.mux_station.specs.Acts.{Call, Open, Close, Flow, Offer, Act}
 use Rattle.mux_station.specs.Opening.{since, standings}
 use Rattle.mux_station.specs.States.{IsShut, is_opened, state_of}
 use Rattle.mux_station.specs.Stopping.{last_said, got_says, msc_says, flow_says}
-use Rattle.mux_station.specs.Sending.{is_loss, queue, probe_of, answered}
+use Rattle.mux_station.specs.Sending.{is_loss, queue, seen, refused, probe_of, answered}
 use Rattle.mux_station.specs.Offering.{offered, given, last_sender}
-use Rattle.mux_station.specs.Stations.{Channel, Station, channel_at, setting_of}
+use Rattle.mux_station.specs.Stations.{Channel, Station, channel_at, setting_of, seen_in}
 
 -- The connection's state is that of the table. While it is open, no SABM was sent on it since it opened, its own stop is what
 -- the last MSC for it said, and of what was offered on it what was given on is the beginning and the ring holds the rest.
@@ -32,3 +32,15 @@ pub record Fits (v : Station) (past : List Act) : Type 0 where
 pub record Handles (old new : Station) (a : Act) : Type 0 where
   pub setting : setting_of new ≡ setting_of old
   pub fits : (past : List Act) → Fits old past → Fits new (answered (setting_of old) past a)
+
+-- the connection that a call names; 0 where it names none
+abbrev pub call_dlci : Call → ℕ
+call_dlci (Open d) = d
+call_dlci (Close d) = d
+call_dlci (Flow d go) = d
+call_dlci (Offer d octets) = d
+call_dlci _ = 0
+
+-- a call is refused by what a station keeps just where it is refused by each past that the station fits
+abbrev pub SeesThePast : Station → List Act → Call → Type 0
+SeesThePast v past c = Fits v past → call_dlci c < 62 → refused (setting_of v) (seen_in v) c ≡ refused (setting_of v) (seen (setting_of v) past) c

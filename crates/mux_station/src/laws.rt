@@ -1,7 +1,9 @@
 //! Laws of every history.
 ghost use Rattle.std.specs.Prelude.{ℕ, List};
 ghost use Rattle.mux_station.specs.declared.role.Role.{Role};
-ghost use Rattle.mux_station.specs.Acts.{Act};
+ghost use Rattle.mux_station.specs.Acts.{Act, Call};
+ghost use Rattle.mux_station.specs.Stations.{Station};
+ghost use Rattle.mux_station.specs.Fitting.{SeesThePast};
 ghost use Rattle.mux_station.specs.Opening.{IsOpenByPlaces};
 ghost use Rattle.mux_station.specs.States.{OpenedIsOpen};
 ghost use Rattle.mux_station.specs.Sending.{Setting, Lawful, AnswersKeep, NoneAfterLoss, GivesBeginning};
@@ -21,4 +23,11 @@ pub fn sendings()
     ensures answers { (s : Setting) (past : List Act) (a : Act) → AnswersKeep s past a }
     ensures loss { (s : Setting) (past : List Act) → NoneAfterLoss s past }
     ensures data { (s : Setting) (d : ℕ) (past : List Act) → Lawful s past → GivesBeginning s d past }
+{}
+
+/// A call is refused by what a station keeps just where it is refused by each past that the station
+/// fits.
+#[tactic(auto, using(crate::proofs::Asking::sees_the_past))]
+pub fn refusals()
+    ensures { (v : Station) (past : List Act) (c : Call) → SeesThePast v past c }
 {}
