@@ -1,2 +1,13 @@
 pub mod Agrees
 pub mod Places
+pub mod Queues
+pub mod Fitted
+pub mod Answering
+pub mod Steps
+pub mod CallSteps
+pub mod Calling
+pub mod Asking
+pub mod Turns
+pub mod Gives
+pub mod Ticks
+pub mod TickTurns

@@ -9,6 +9,7 @@ pub data Call : Type 0 where
   Probe : (data_octets : List ℕ) → Call
   Stop : Call
   Flow : (dlci : ℕ) → (go : Bool) → Call
+  -- an offer that was taken
   Offer : (dlci : ℕ) → (octets : List ℕ) → Call
 
 pub data Act : Type 0 where

@@ -5,4 +5,15 @@ pub mod Opening
 pub mod States
 pub mod Stopping
 pub mod Tables
+pub mod Offering
 pub mod Sending
+pub mod ControlFrames
+pub mod ControlQueues
+pub mod Stations
+pub mod Stages
+pub mod Keeping
+pub mod Fitting
+pub mod Giving
+pub mod GivenFrames
+pub mod Ticking
+pub mod Noticing

@@ -11,9 +11,10 @@ use Rattle.mux_station.specs.declared.error.StationError.TheVariants.{NotOpen, A
 use Rattle.mux_station.specs.Written.{written, is_data_frame}
 use Rattle.mux_station.specs.Messages.{Message, message_in, command_of, test, nsc, cld}
 use Rattle.mux_station.specs.Acts.{Call, Open, Close, Probe, Stop, Flow, Offer, Act, Called, Got, Sent, Tick, Lost, Given}
-use Rattle.mux_station.specs.Opening.{is_open}
+use Rattle.mux_station.specs.Opening.{is_open, opens_now}
 use Rattle.mux_station.specs.States.{State, is_opened, is_shut, state_of}
 use Rattle.mux_station.specs.Stopping.{is_stopped}
+use Rattle.mux_station.specs.Offering.{offered, given}
 use Rattle.mux_station.specs.Tables.{message_frame, msc_frame, ready, held_up, by_frame, by_tick, has_room, octets_of}
 
 -- whose history it is
@@ -49,35 +50,41 @@ asking r (Offer d octets) = []
 abbrev pub all_have_room : Setting → Seen → List Frame → Bool
 all_have_room s v fs = list_all (has_room s.n1 v.queued) fs
 
+-- why a call is refused for the states, each list in its order; how much is offered is not spoken of here
+abbrev pub refused_by_state : Seen → Call → Option StationError
+refused_by_state v (Open d) =
+    if not (d == 0) && not (is_opened (v.state 0)) then Some NotOpen
+    else if is_opened (v.state d) then Some AlreadyOpen
+    else if not (is_shut (v.state d)) then Some Busy
+    else None
+refused_by_state v (Close d) =
+    if d == 0 then Some ControlChannel
+    else if is_shut (v.state d) then Some NotOpen
+    else if not (is_opened (v.state d)) then Some Busy
+    else None
+refused_by_state v (Probe octets) =
+    if not (nat_le (length octets) 16) then Some TooLong
+    else if not (is_opened (v.state 0)) then Some NotOpen
+    else if is_some v.probe then Some Busy
+    else None
+refused_by_state v Stop = if not (is_opened (v.state 0)) then Some NotOpen else None
+refused_by_state v (Flow d go) = if not (is_opened (v.state d) && is_opened (v.state 0)) then Some NotOpen else None
+refused_by_state v (Offer d octets) =
+    if d == 0 then Some ControlChannel
+    else if not (is_opened (v.state d)) then Some NotOpen
+    else None
+
 -- no place in the control queue is the last refusal
 abbrev pub if_no_room : Setting → Seen → Call → Option StationError
 if_no_room s v c = if all_have_room s v (asking s.role c) then None else Some NoRoom
 
--- why a call is refused, each list in its order; how much is offered is not spoken of here
+abbrev pub or_else : Option StationError → Option StationError → Option StationError
+or_else None o = o
+or_else (Some e) o = Some e
+
+-- why a call is refused
 abbrev pub refused : Setting → Seen → Call → Option StationError
-refused s v (Open d) =
-    if not (d == 0) && not (is_opened (v.state 0)) then Some NotOpen
-    else if is_opened (v.state d) then Some AlreadyOpen
-    else if not (is_shut (v.state d)) then Some Busy
-    else if_no_room s v (Open d)
-refused s v (Close d) =
-    if d == 0 then Some ControlChannel
-    else if is_shut (v.state d) then Some NotOpen
-    else if not (is_opened (v.state d)) then Some Busy
-    else if_no_room s v (Close d)
-refused s v (Probe octets) =
-    if not (nat_le (length octets) 16) then Some TooLong
-    else if not (is_opened (v.state 0)) then Some NotOpen
-    else if is_some v.probe then Some Busy
-    else if_no_room s v (Probe octets)
-refused s v Stop = if not (is_opened (v.state 0)) then Some NotOpen else if_no_room s v Stop
-refused s v (Flow d go) =
-    if not (is_opened (v.state d) && is_opened (v.state 0)) then Some NotOpen
-    else if_no_room s v (Flow d go)
-refused s v (Offer d octets) =
-    if d == 0 then Some ControlChannel
-    else if not (is_opened (v.state d)) then Some NotOpen
-    else None
+refused s v c = or_else (refused_by_state v c) (if_no_room s v c)
 
 -- the frames that an act calls for
 abbrev pub calls_seeing : Setting → Seen → Act → List Frame
@@ -112,12 +119,12 @@ abbrev pub refuses_probe : Option Message → Bool
 refuses_probe None = false
 refuses_probe (Some m) = (command_of m.octet == nsc) && names_test m.value
 
-abbrev pub probe_after : Setting → (zero_stays : Bool) → Option Waiting → Act → Option Waiting
-probe_after s zero_stays None a = None
-probe_after s zero_stays (Some w) (Got f) =
-    if zero_stays && not (brings_probe_back w.data_octets (message_in f) || refuses_probe (message_in f)) then Some w else None
-probe_after s zero_stays (Some w) Tick = if w.ticks == 3 then None else Some (record w { ticks = w.ticks + 1 })
-probe_after s zero_stays (Some w) a = if zero_stays then Some w else None
+abbrev pub probe_after : Setting → (stays : Bool) → Option Waiting → Act → Option Waiting
+probe_after s stays None a = None
+probe_after s stays (Some w) (Got f) =
+    if stays && not (brings_probe_back w.data_octets (message_in f) || refuses_probe (message_in f)) then Some w else None
+probe_after s stays (Some w) Tick = if w.ticks == 3 then None else Some (record w { ticks = w.ticks + 1 })
+probe_after s stays (Some w) a = if stays then Some w else None
 
 abbrev pub probe_begun : Option StationError → Act → Option Waiting → Option Waiting
 probe_begun None (Called (Probe octets)) o = Some (record { data_octets = octets; ticks = 0 })
@@ -127,13 +134,17 @@ abbrev pub refused_act : Setting → Seen → Act → Option StationError
 refused_act s v (Called c) = refused s v c
 refused_act s v a = None
 
+-- 0 stays open: it is Opened after the act, which didn't open it anew
+abbrev pub zero_stays : Setting → List Act → Act → Bool
+zero_stays s past a = is_opened (state_of s.role 0 (a ∷ past)) && not (opens_now s.role 0 past a)
+
 -- the probe that waits
 abbrev pub probe_of : Setting → List Act → Option Waiting
 probe_of s [] = None
 probe_of s (a ∷ past) =
     let before = probe_of s past in
     let v : Seen = record { state = λ d. state_of s.role d past; queued = octets_of (queue past); probe = before } in
-    probe_begun (refused_act s v a) a (probe_after s (is_opened (state_of s.role 0 (a ∷ past))) before a)
+    probe_begun (refused_act s v a) a (probe_after s (zero_stays s past a) before a)
 
 abbrev pub seen : Setting → List Act → Seen
 seen s past = record { state = λ d. state_of s.role d past; queued = octets_of (queue past); probe = probe_of s past }
@@ -148,20 +159,25 @@ calls s past a = if list_any is_loss past then [] else calls_seeing s (seen s pa
 
 -- ## The laws
 
--- what was called for and doesn't stand in the past yet, in order
+-- what was called for and doesn't stand in the past yet, in order; a loss of the line leaves nothing to be sent
 abbrev pub owed : Setting → List Act → List Frame
 owed s [] = []
 owed s (Sent f ∷ past) = if is_data_frame f then owed s past else drop 1 (owed s past)
+owed s (Lost ∷ past) = []
 owed s (a ∷ past) = owed s past ++ calls s past a
 
--- data leaves an open connection that isn't stopped, in a frame as this role writes it, behind all that is owed
+-- data leaves an open connection that isn't stopped, in a frame as this role writes it, behind all that is owed; it is the
+-- octets that were offered next
 pub record Gated (s : Setting) (past : List Act) (f : Frame) : Type 0 where
+  pub live : IsTrue (not (list_any is_loss past))
   pub is_open : IsTrue (is_open s.role f.dlci past)
   pub goes : IsTrue (not (is_stopped s.role f.dlci past))
   pub as_written : f ≡ written s.role Uih f.dlci f.info
   pub some : IsTrue (nat_le 1 (length f.info))
   pub fits : IsTrue (nat_le (length f.info) s.n1)
   pub behind : owed s past ≡ []
+  pub later : List ℕ
+  pub is_offered : offered s.role f.dlci past ≡ given s.role f.dlci past ++ f.info ++ later
 
 -- a frame that is no data is the next one owed
 pub record Controlled (s : Setting) (past : List Act) (f : Frame) : Type 0 where
@@ -181,3 +197,32 @@ Lawful s (a ∷ past) = Lawful s past
 -- nothing is owed
 unfoldable pub Complete : Setting → List Act → Type 0
 Complete s past = owed s past ≡ []
+
+-- ## What the laws come to
+
+-- the past after these frames were sent, in their order
+abbrev pub sent_after : List Frame → List Act → List Act
+sent_after [] past = past
+sent_after (f ∷ fs) past = sent_after fs (Sent f ∷ past)
+
+-- the past after an act and the frames that it calls for
+abbrev pub answered : Setting → List Act → Act → List Act
+answered s past a = sent_after (calls s past a) (a ∷ past)
+
+abbrev pub is_sent : Act → Bool
+is_sent (Sent f) = true
+is_sent _ = false
+
+-- an act that is followed by all that it calls for keeps a past lawful and complete
+pub record AnswersKeep (s : Setting) (past : List Act) (a : Act) : Type 0 where
+  pub lawful : is_sent a ≡ false → Lawful s past → Complete s past → Lawful s (answered s past a)
+  pub complete : is_sent a ≡ false → Lawful s past → Complete s past → Complete s (answered s past a)
+
+-- nothing is sent once the line is lost
+abbrev pub NoneAfterLoss : Setting → List Act → Type 0
+NoneAfterLoss s past = (f : Frame) → list_any is_loss past ≡ true → ¬ Lawful s (Sent f ∷ past)
+
+-- of what was offered on d since it opened, what was given on is the beginning
+pub record GivesBeginning (s : Setting) (d : ℕ) (past : List Act) : Type 0 where
+  pub rest : List ℕ
+  pub joins : given s.role d past ++ rest ≡ offered s.role d past

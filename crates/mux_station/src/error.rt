@@ -1,4 +1,8 @@
 //! Why a station refuses a call.
+ghost use Rattle.std.specs.Prelude.{◌≡◌};
+ghost use Rattle.mux_station.specs.declared.error.StationError.TheVariants.{NoMemory};
+
+use std::alloc::{AllocError, AllocFailed};
 use thiserror::Error;
 
 /// Why a station refuses a call, which then changed nothing.
@@ -20,4 +24,20 @@ pub enum StationError {
     NoRoom,
     #[error("N1 is 31 to 32767")]
     BadN1,
+}
+
+impl From<AllocError> for StationError {
+    ghost from_gives = { λ _ e. e ≡ NoMemory };
+
+    fn from(_error: AllocError) -> StationError {
+        StationError::NoMemory
+    }
+}
+
+impl<T: Drop> From<AllocFailed<T>> for StationError {
+    ghost from_gives = { λ _ e. e ≡ NoMemory };
+
+    fn from(_error: AllocFailed<T>) -> StationError {
+        StationError::NoMemory
+    }
 }

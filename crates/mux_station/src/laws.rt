@@ -1,9 +1,12 @@
 //! Laws of every history.
 ghost use Rattle.std.specs.Prelude.{ℕ, List};
 ghost use Rattle.mux_station.specs.declared.role.Role.{Role};
-ghost use Rattle.mux_station.specs.Acts.{Act};
+ghost use Rattle.mux_station.specs.Acts.{Act, Call};
+ghost use Rattle.mux_station.specs.Stations.{Station};
+ghost use Rattle.mux_station.specs.Fitting.{SeesThePast};
 ghost use Rattle.mux_station.specs.Opening.{IsOpenByPlaces};
 ghost use Rattle.mux_station.specs.States.{OpenedIsOpen};
+ghost use Rattle.mux_station.specs.Sending.{Setting, Lawful, AnswersKeep, NoneAfterLoss, GivesBeginning};
 
 /// A connection is Opened in the table exactly where it is open; and it is open exactly where some act
 /// opened it and no later act ended it.
@@ -11,4 +14,20 @@ ghost use Rattle.mux_station.specs.States.{OpenedIsOpen};
 pub fn openings()
     ensures table { (r : Role) (past : List Act) → OpenedIsOpen r past }
     ensures places { (r : Role) (d : ℕ) (past : List Act) → IsOpenByPlaces r d past }
+{}
+
+/// An act that is followed by all that it calls for keeps a past lawful and complete, nothing is sent
+/// once the line is lost, and what leaves a connection is the beginning of what was offered on it.
+#[tactic(auto, using(crate::proofs::Answering::answers_keep, crate::proofs::Answering::none_after_loss, crate::proofs::Answering::gives_beginning))]
+pub fn sendings()
+    ensures answers { (s : Setting) (past : List Act) (a : Act) → AnswersKeep s past a }
+    ensures loss { (s : Setting) (past : List Act) → NoneAfterLoss s past }
+    ensures data { (s : Setting) (d : ℕ) (past : List Act) → Lawful s past → GivesBeginning s d past }
+{}
+
+/// A call is refused by what a station keeps just where it is refused by each past that the station
+/// fits.
+#[tactic(auto, using(crate::proofs::Asking::sees_the_past))]
+pub fn refusals()
+    ensures { (v : Station) (past : List Act) (c : Call) → SeesThePast v past c }
 {}

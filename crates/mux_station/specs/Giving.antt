@@ -1,0 +1,66 @@
+-- What a station gives on to the line.
+use Rattle.std.specs.Prelude.{zero, suc, ℕ, ◌+◌, ◌-◌, ◌==◌, ◌&&◌, not, Bool, List, [], ◌∷◌, length, take, drop, Option, Some, None, option_map, if◌then◌else◌, slice_set}
+use Rattle.mux_frame.specs.Frames.{Frame}
+use Rattle.mux_frame.specs.declared.frame.Kind.TheVariants.{Uih}
+use Rattle.mux_station.specs.Written.{written}
+use Rattle.mux_station.specs.Acts.{Act, Sent, Given}
+use Rattle.mux_station.specs.States.{is_opened}
+use Rattle.mux_station.specs.Sending.{Lawful, Complete}
+use Rattle.mux_station.specs.Stations.{Station, channel_at, setting_of, stopped_in}
+use Rattle.mux_station.specs.Fitting.{Fits}
+
+-- d is Opened and not stopped, and octets wait in its ring
+abbrev pub is_ready : Station → ℕ → Bool
+is_ready v d = is_opened (channel_at v d).state && (not (stopped_in v d) && not (length (channel_at v d).waiting == 0))
+
+-- the least that is ready of so many connections from d on
+abbrev pub first_ready : Station → ℕ → ℕ → Option ℕ
+first_ready v d zero = None
+first_ready v d (suc count) = if is_ready v d then Some d else first_ready v (d + 1) count
+
+abbrev pub else_first : Option ℕ → Option ℕ → Option ℕ
+else_first (Some d) o = Some d
+else_first None o = o
+
+-- the least that is ready from d on
+abbrev pub ready_from : Station → ℕ → Option ℕ
+ready_from v d = first_ready v d (62 - d)
+
+-- whose turn it is: the least that is ready above the last that sent data, else the least that is ready
+abbrev pub next_turn : Station → Option ℕ
+next_turn v = else_first (ready_from v (v.last + 1)) (ready_from v 1)
+
+-- as many octets as are there, at most N1
+abbrev pub data_frame : Station → ℕ → Frame
+data_frame v d = written v.role Uih d (take v.n1 (channel_at v d).waiting)
+
+abbrev pub data_given : Station → Option ℕ → Station
+data_given v None = v
+data_given v (Some d) = record v {
+  channels = slice_set v.channels d (record (channel_at v d) { waiting = drop v.n1 (channel_at v d).waiting });
+  last = d;
+}
+
+abbrev pub data_sent : Station → Option ℕ → List Act → List Act
+data_sent v None past = past
+data_sent v (Some d) past = Sent (data_frame v d) ∷ past
+
+-- first the control queue, in its order; where it is empty, data
+abbrev pub next_given : Station → List Frame → Option Frame
+next_given v (f ∷ fs) = Some f
+next_given v [] = option_map (data_frame v) (next_turn v)
+
+abbrev pub given_on : Station → List Frame → Station
+given_on v (f ∷ fs) = record v { queue = fs }
+given_on v [] = data_given v (next_turn v)
+
+-- the past after a control frame was given on, or data sent
+abbrev pub after_given : Station → List Frame → List Act → List Act
+after_given v (f ∷ fs) past = Given ∷ past
+after_given v [] past = data_sent v (next_turn v) past
+
+-- whatever past the station fits, it goes on with what it gives on, and a lawful and complete past stays so
+pub record GivesOn (v : Station) : Type 0 where
+  pub fits : (past : List Act) → Fits v past → Fits (given_on v v.queue) (after_given v v.queue past)
+  pub lawful : (past : List Act) → Fits v past → Lawful (setting_of v) past → Complete (setting_of v) past → Lawful (setting_of v) (after_given v v.queue past)
+  pub complete : (past : List Act) → Fits v past → Lawful (setting_of v) past → Complete (setting_of v) past → Complete (setting_of v) (after_given v v.queue past)

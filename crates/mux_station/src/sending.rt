@@ -1,0 +1,110 @@
+//! What a station gives on to the line.
+ghost use Rattle.std.specs.Prelude.{◌≡◌, ◌-◌, ◌≤◌, ◌==◌, drop, length, option_map, slice_get};
+ghost use Rattle.std.specs.Borrow.{sem};
+ghost use Rattle.std.specs.Io.BufRead.{Rests};
+ghost use Rattle.mux_frame.specs.Frames.{frame_of};
+ghost use Rattle.mux_station.specs.Giving.{is_ready, first_ready, next_turn, data_frame, data_given, next_given, given_on, GivesOn};
+ghost use Rattle.mux_station.specs.GivenFrames.{given_frame, outgoing_of, with_freshness, dlci_of};
+
+use crate::outgoing::{GivenFrame, Outgoing};
+use crate::role::Role;
+use crate::station::{CONNECTIONS, Station};
+use mux_frame::{Dlci, FrameView, Kind};
+
+impl Station {
+    ghost use Rattle.mux_station.specs.contracts.station.Station.{the_row};
+
+    fn is_ready(&self, dlci: Dlci) -> bool
+        ensures { result ≡ is_ready self.now dlci.number }
+    {
+        let channel = &self.channels[usize::from(dlci.number())];
+        channel.stage().is_opened() && !self.is_held_up(dlci) && channel.has_octets()
+    }
+
+    /// The least connection from this one on that has data to send now.
+    fn first_ready(&self, from: u8) -> Option<Dlci>
+        requires { from ≤ 62 }
+        ensures { option_map dlci_of result ≡ first_ready self.now from (62 - from) }
+    {
+        for number in from..CONNECTIONS as u8 {
+            let dlci = Dlci { number };
+            if self.is_ready(dlci) {
+                return Some(dlci);
+            }
+        }
+        None
+    }
+
+    /// The connection whose turn it is to send data.
+    fn next_turn(&self) -> Option<Dlci>
+        ensures { option_map dlci_of result ≡ next_turn self.now }
+    {
+        match self.first_ready(self.last + 1) {
+            Some(dlci) => Some(dlci),
+            None => self.first_ready(1),
+        }
+    }
+
+    fn take_data(&mut self) -> Option<GivenFrame>
+        ensures frame { option_map given_frame result ≡ option_map (data_frame self.old) (next_turn self.old) }
+        ensures after { self.new ≡ data_given self.old (next_turn self.old) }
+    {
+        let dlci = self.next_turn()?;
+        let most = usize::from(self.n1);
+        let channel = &mut self.channels[usize::from(dlci.number())];
+        let info = channel.take_front(most);
+        self.last = dlci.number();
+        Some(GivenFrame {
+            dlci,
+            kind: Kind::Uih,
+            cr: matches!(self.role, Role::Initiator),
+            pf: false,
+            info,
+        })
+    }
+
+    fn take_control(&mut self) -> Option<GivenFrame>
+        ensures frame { option_map given_frame result ≡ slice_get self.old.queue 0 }
+        ensures after { self.new ≡ record self.old { queue = drop 1 self.old.queue } }
+    {
+        let frame = self.control.pop()?;
+        Some(GivenFrame::of_control(&frame))
+    }
+
+    #[tactic(auto, using(crate::proofs::Turns::next_data, crate::proofs::Turns::after_data, crate::proofs::Turns::next_control, crate::proofs::Turns::after_control))]
+    fn take_next(&mut self) -> Option<GivenFrame>
+        ensures frame { option_map given_frame result ≡ next_given self.old self.old.queue }
+        ensures after { self.new ≡ given_on self.old self.old.queue }
+    {
+        if self.control.is_empty() {
+            self.take_data()
+        } else {
+            self.take_control()
+        }
+    }
+
+    /// The next frame for the line, lent, which is then no longer kept: the first of the control
+    /// queue; where that is empty, data of the connection whose turn it is.
+    #[tactic(auto, using(crate::proofs::Gives::gives_on))]
+    pub fn next_frame(&mut self) -> Option<Outgoing<'_>>
+        ensures frame { option_map outgoing_of result ≡ option_map (with_freshness (length self.old.queue == 0)) (next_given self.old self.old.queue) }
+        ensures past { GivesOn self.old }
+        ensures* after { sem 𝓛 (Rests the_row self.entry (λ new. new ≡ given_on self.old self.old.queue)) }
+    {
+        let fresh = self.control.is_empty();
+        let frame = self.take_next()?;
+        self.given = frame;
+        Some(Outgoing {
+            frame: self.given.view(),
+            fresh,
+        })
+    }
+
+    /// The frame at a place of the control queue, counted from its front. It changes nothing.
+    pub fn queued(&mut self, i: usize) -> Option<FrameView<'_>>
+        ensures frame { option_map frame_of result ≡ slice_get self.old.queue i }
+        ensures* after { sem 𝓛 (Rests the_row self.entry (λ new. new ≡ self.old)) }
+    {
+        self.control.get(i)
+    }
+}

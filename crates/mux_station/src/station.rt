@@ -1,0 +1,139 @@
+//! One end of the line.
+ghost use Rattle.std.specs.Prelude.{◌≡◌, ◌↔◌, ◌⊎◌, ◌<◌, [], List, replicate, IfOk, IsErrOf};
+ghost use Rattle.mux_station.specs.Acts.{Act as Happened};
+ghost use Rattle.mux_station.specs.States.{state_of};
+ghost use Rattle.mux_station.specs.Stopping.{is_stopped};
+ghost use Rattle.mux_station.specs.Stages.{as_shown};
+ghost use Rattle.mux_station.specs.Stations.{new_station, shut_channel, channel_at, stopped_in};
+ghost use Rattle.mux_station.specs.Fitting.{Fits};
+
+use crate::channel::Channel;
+use crate::control_frame::{CONTROL, ControlFrame};
+use crate::control_queue::ControlQueue;
+use crate::error::StationError;
+use crate::outgoing::GivenFrame;
+use crate::repeats::Repeats;
+use crate::role::{ChannelState, Role};
+use mux_frame::{Dlci, Kind, ProbeData};
+use std::alloc::{AllocError, Global};
+use std::marker::Model;
+
+/// How many connections there are, 0 among them.
+pub(crate) const CONNECTIONS: usize = 62;
+
+/// What the control queue has room for beside N1, in octets of frames as written.
+const QUEUE: usize = 4096;
+
+/// A probe that waits.
+#[derive(Drop)]
+pub(crate) struct WaitingProbe {
+    pub octets: ProbeData,
+    pub ticks: Repeats,
+}
+
+/// One end of the basic option: its connections, its control queue and its send rings.
+#[derive(Drop)]
+pub struct Station {
+    pub(crate) role: Role,
+    pub(crate) n1: u16,
+    pub(crate) channels: Vec<Channel>,
+    pub(crate) all_stopped: bool,
+    pub(crate) probe: Option<WaitingProbe>,
+    pub(crate) control: ControlQueue,
+    /// The connection that last sent data.
+    pub(crate) last: u8,
+    /// The frame that was given on last, which may be lent.
+    pub(crate) given: GivenFrame,
+}
+
+impl Model for Station {
+    ghost use Rattle.std.specs.Prelude.{option_map};
+    ghost use Rattle.mux_station.specs.Stations.{Station};
+    ghost use Rattle.mux_station.specs.Keeping.{waiting_of, IsKept};
+
+    ghost Value = { Station };
+
+    ghost view = { λ s. record {
+      role = s.role;
+      n1 = s.n1;
+      channels = s.channels.items;
+      all_stopped = s.all_stopped;
+      probe = option_map waiting_of s.probe;
+      queue = s.control.frames;
+      last = s.last;
+    } };
+
+    ghost invariant = { λ s. IsKept s.n1 s.channels.items s.control s.last };
+}
+
+impl Station {
+    /// A station whose connections are shut. N1 is how many octets of information a frame may have.
+    /// Refusals: 8 BadN1 where it isn't 31 to 32767, checked first; 5 NoMemory.
+    pub fn new(alloc: Global, role: Role, n1: u16) -> Result<Station, StationError>
+        ensures ok { IfOk result (λ s. s ≡ new_station role n1) }
+        ensures past { IfOk result (λ s. Fits s []) }
+        ensures bad_n1 { IsErrOf result StationError.BadN1 ↔ ((n1 < 31) ⊎ (32767 < n1)) }
+    {
+        if n1 < 31 || n1 > 32767 {
+            return Err(StationError::BadN1);
+        }
+        let channels = shut_channels(alloc)?;
+        let control = ControlQueue::new(alloc, QUEUE + usize::from(n1))?;
+        Ok(Station {
+            role,
+            n1,
+            channels,
+            all_stopped: false,
+            probe: None,
+            control,
+            last: 0,
+            given: GivenFrame::of_control(&ControlFrame::bare(role, Kind::Dm, CONTROL)),
+        })
+    }
+
+    /// The end that this is.
+    pub fn role(&self) -> Role
+        ensures { result ≡ self.now.role }
+    {
+        self.role
+    }
+
+    /// How a connection stands.
+    pub fn state(&self, dlci: Dlci) -> ChannelState
+        ensures value { result ≡ as_shown (channel_at self.now dlci.number).state }
+        ensures past { (past : List Happened) → Fits self.now past → result ≡ as_shown (state_of self.now.role dlci.number past) }
+    {
+        self.channels[usize::from(dlci.number())].stage().shown()
+    }
+
+    /// Whether a connection is stopped, by itself or with all.
+    #[tactic(auto, using(crate::proofs::Fitted::stopped_fits))]
+    pub fn stopped(&self, dlci: Dlci) -> bool
+        ensures value { result ≡ stopped_in self.now dlci.number }
+        ensures past { (past : List Happened) → Fits self.now past → result ≡ is_stopped self.now.role dlci.number past }
+    {
+        self.is_held_up(dlci)
+    }
+
+    pub(crate) fn is_held_up(&self, dlci: Dlci) -> bool
+        ensures { result ≡ stopped_in self.now dlci.number }
+    {
+        if dlci.number() == 0 {
+            return false;
+        }
+        let own = &self.channels[usize::from(dlci.number())];
+        let stops = own.stage().is_opened() && own.is_stopped();
+        stops || (self.channels[0].stage().is_opened() && self.all_stopped)
+    }
+}
+
+/// All connections, shut.
+fn shut_channels(alloc: Global) -> Result<Vec<Channel>, AllocError>
+    ensures { IfOk result (λ cs. cs.items ≡ replicate 62 shut_channel) }
+{
+    let mut channels = Vec::with_capacity(alloc, CONNECTIONS)?;
+    for _ in 0..CONNECTIONS {
+        channels.push(Channel::new(alloc)?)?;
+    }
+    Ok(channels)
+}
