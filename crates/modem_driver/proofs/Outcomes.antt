@@ -33,7 +33,7 @@ use Rattle.modem_desk.specs.declared.request.Answer.{Answer}
 use Rattle.modem_driver.specs.Acts.{Act, Took, Got, Sent, Told, Heard, Tick, Lost, Held, Freed, Given, is_for, told, without, in_hand}
 use Rattle.modem_driver.specs.Information.{command_on}
 use Rattle.modem_driver.specs.Calls.{Setting, Seen, seen_behind, unanswered, calls_seeing, calls_behind, states_now, frames, frames_by, at_once, said_of, said_at_once, lines_said, by_lines, by_seen, heard, done, first_on, tolds, told_later, later}
-use Rattle.modem_driver.specs.Lawful.{Lawful, IsNext, When, owed}
+use Rattle.modem_driver.specs.Lawful.{Lawful, IsNext, When, unsent, owed}
 use Rattle.modem_driver.specs.Wholes.{called, stands, taken, outcomes, is_same, UsesOnce, AnswersOnce}
 use Rattle.modem_driver.proofs.WholeLaws.{beginning}
 
@@ -464,6 +464,37 @@ with_none s past a r e h =
     + left_of (told_to r (owed s past ++ calls_behind s past (owed s past) a)) (many r (in_hand past ++ brought a)) ≤ many r qs) (ap (λ (qs : List Request). taken past ++ qs) e ∙ append-nil (taken past))
     (called_more s past a r h))
 
+-- what a loss leaves out is no outcome
+told_unsent : (r : Request) (xs : List Act) → told_to r (unsent xs) ≡ told_to r xs
+told_unsent r [] = refl
+told_unsent r (Sent f ∷ xs) = told_unsent r xs ∙ sym (zero-add (told_to r xs))
+told_unsent r (Took q ∷ xs) = ap (λ (n : ℕ). 0 + n) (told_unsent r xs)
+told_unsent r (Got f ∷ xs) = ap (λ (n : ℕ). 0 + n) (told_unsent r xs)
+told_unsent r (Told o ∷ xs) = ap (λ (n : ℕ). one (is_for r o) + n) (told_unsent r xs)
+told_unsent r (Heard k d l ∷ xs) = ap (λ (n : ℕ). 0 + n) (told_unsent r xs)
+told_unsent r (Tick ∷ xs) = ap (λ (n : ℕ). 0 + n) (told_unsent r xs)
+told_unsent r (Lost ∷ xs) = ap (λ (n : ℕ). 0 + n) (told_unsent r xs)
+told_unsent r (Held d ∷ xs) = ap (λ (n : ℕ). 0 + n) (told_unsent r xs)
+told_unsent r (Freed d ∷ xs) = ap (λ (n : ℕ). 0 + n) (told_unsent r xs)
+told_unsent r (Given ∷ xs) = ap (λ (n : ℕ). 0 + n) (told_unsent r xs)
+
+lost_counted : (s : Setting) (past : List Act) (r : Request) → Lawful s past
+    → told_to r (called s past ++ calls_behind s past (owed s past) Lost)
+    + left_of (told_to r (owed s past ++ calls_behind s past (owed s past) Lost)) (many r (in_hand past)) ≤ many r (taken past)
+    → Counted s (Lost ∷ past) r
+lost_counted s past r l h =
+    let more = calls_behind s past (owed s past) Lost in
+    let a = told_append r (unsent (owed s past)) more in
+    let b = told_append r (owed s past) more in
+    let c = told_unsent r (owed s past) in
+    let same : told_to r (unsent (owed s past) ++ more) ≡ told_to r (owed s past ++ more) = omega (arith, a, b, c) in
+    let d = told_append r (stands past) (unsent (owed s past) ++ more) in
+    let e = told_append r (stands past) (owed s past) in
+    let f = ap (told_to r) (beginning s past l) in
+    let g = told_append r (called s past) more in
+    let all : told_to r (stands past ++ (unsent (owed s past) ++ more)) ≡ told_to r (called s past ++ more) = omega (arith, a, b, c, d, e, f, g) in
+    rw (all, same) h
+
 told_next : (r : Request) (o : Outcome) (owing later : List Act) (h : List Request) → owing ≡ Told o ∷ later
     → left_of (told_to r (drop 1 owing)) (many r (without o h)) ≤ left_of (told_to r owing) (many r h)
 told_next r o owing later h e =
@@ -496,7 +527,7 @@ counted s (Given ∷ past) r l = counted s past r l.1
 counted s (Took q ∷ past) r l = called_more s past (Took q) r (counted s past r l.1)
 counted s (Got f ∷ past) r l = with_none s past (Got f) r refl (counted s past r l.1)
 counted s (Tick ∷ past) r l = with_none s past Tick r refl (counted s past r l.1)
-counted s (Lost ∷ past) r l = with_none s past Lost r refl (counted s past r l.1)
+counted s (Lost ∷ past) r l = lost_counted s past r l.1 (with_none s past Lost r refl (counted s past r l.1))
 counted s (Held d ∷ past) r l = with_none s past (Held d) r refl (counted s past r l.1)
 counted s (Freed d ∷ past) r l = with_none s past (Freed d) r refl (counted s past r l.1)
 

@@ -28,7 +28,7 @@ use Rattle.modem_desk.specs.declared.request.Answer.TheVariants.{Done, Opened, S
 use Rattle.modem_driver.specs.Acts.{Act, Took, Got, Sent, Told, Heard, Tick, Lost, Held, Freed, Given, told}
 use Rattle.modem_driver.specs.Placing.{marks, run_on}
 use Rattle.modem_driver.specs.Calls.{Setting, Seen, seen_behind, calls_seeing, calls_behind, states_now, frames, at_once, refused_ask, all_have_room, asking, probe_waits, said_of, said_at_once, lines_said, by_lines, by_seen, heard, done, first_on, tolds, told_later, later, open_later, close_later, probe_later, probe_answer, stop_ended, cause}
-use Rattle.modem_driver.specs.Lawful.{Lawful, owed}
+use Rattle.modem_driver.specs.Lawful.{Lawful, unsent, owed}
 use Rattle.modem_driver.specs.Wholes.{called, stands, EndsWindow, HasAnswer, TellsAnswers}
 use Rattle.modem_driver.proofs.WholeLaws.{beginning}
 use Rattle.modem_driver.proofs.Outcomes.{lawful_part}
@@ -343,18 +343,47 @@ one_more s a past h =
     tell_both (HasAnswer s (a ∷ past)) (called s past) (calls_behind s past (owed s past) a)
     (tell_more (HasAnswer s past) (HasAnswer s (a ∷ past)) (later_answer s a past) (called s past) h) (call_tells s past (owed s past) a)
 
-called_tell : (s : Setting) (past : List Act) → AllTell (HasAnswer s past) (called s past)
-called_tell s [] = tt
-called_tell s (Sent f ∷ past) = tell_more (HasAnswer s past) (HasAnswer s (Sent f ∷ past)) (later_answer s (Sent f) past) (called s past) (called_tell s past)
-called_tell s (Told o ∷ past) = tell_more (HasAnswer s past) (HasAnswer s (Told o ∷ past)) (later_answer s (Told o) past) (called s past) (called_tell s past)
-called_tell s (Heard k d l ∷ past) = tell_more (HasAnswer s past) (HasAnswer s (Heard k d l ∷ past)) (later_answer s (Heard k d l) past) (called s past) (called_tell s past)
-called_tell s (Given ∷ past) = tell_more (HasAnswer s past) (HasAnswer s (Given ∷ past)) (later_answer s Given past) (called s past) (called_tell s past)
-called_tell s (Took q ∷ past) = one_more s (Took q) past (called_tell s past)
-called_tell s (Got f ∷ past) = one_more s (Got f) past (called_tell s past)
-called_tell s (Tick ∷ past) = one_more s Tick past (called_tell s past)
-called_tell s (Lost ∷ past) = one_more s Lost past (called_tell s past)
-called_tell s (Held d ∷ past) = one_more s (Held d) past (called_tell s past)
-called_tell s (Freed d ∷ past) = one_more s (Freed d) past (called_tell s past)
+tell_unsent : (P : List AnswerLine → Type 0) (xs : List Act) → AllTell P xs → AllTell P (unsent xs)
+tell_unsent P [] h = tt
+tell_unsent P (Sent f ∷ xs) h = tell_unsent P xs h.1
+tell_unsent P (Took q ∷ xs) h = (tt, tell_unsent P xs h.1)
+tell_unsent P (Got f ∷ xs) h = (tt, tell_unsent P xs h.1)
+tell_unsent P (Told o ∷ xs) h = (h.0, tell_unsent P xs h.1)
+tell_unsent P (Heard k d l ∷ xs) h = (tt, tell_unsent P xs h.1)
+tell_unsent P (Tick ∷ xs) h = (tt, tell_unsent P xs h.1)
+tell_unsent P (Lost ∷ xs) h = (tt, tell_unsent P xs h.1)
+tell_unsent P (Held d ∷ xs) h = (tt, tell_unsent P xs h.1)
+tell_unsent P (Freed d ∷ xs) h = (tt, tell_unsent P xs h.1)
+tell_unsent P (Given ∷ xs) h = (tt, tell_unsent P xs h.1)
+
+tell_left : (P : List AnswerLine → Type 0) (xs ys : List Act) → AllTell P (xs ++ ys) → AllTell P xs
+tell_left P [] ys h = tt
+tell_left P (a ∷ xs) ys h = (h.0, tell_left P xs ys h.1)
+
+lost_tell : (s : Setting) (past : List Act) → stands past ++ owed s past ≡ called s past → AllTell (HasAnswer s past) (called s past)
+    → AllTell (HasAnswer s (Lost ∷ past)) (stands past ++ (unsent (owed s past) ++ calls_behind s past (owed s past) Lost))
+lost_tell s past e h =
+    let P = HasAnswer s (Lost ∷ past) in
+    let up = tell_more (HasAnswer s past) P (later_answer s Lost past) in
+    let all = subst (λ (acts : List Act). AllTell (HasAnswer s past) acts) (sym e) h in
+    let more = calls_behind s past (owed s past) Lost in
+    tell_both P (stands past) (unsent (owed s past) ++ more) (up (stands past) (tell_left (HasAnswer s past) (stands past) (owed s past) all))
+    (tell_both P (unsent (owed s past)) more (tell_unsent P (owed s past) (up (owed s past) (tell_right (HasAnswer s past) (stands past) (owed s past) all)))
+    (call_tells s past (owed s past) Lost))
+
+called_tell : (s : Setting) (past : List Act) → Lawful s past → AllTell (HasAnswer s past) (called s past)
+unfolding Lawful
+called_tell s [] l = tt
+called_tell s (Sent f ∷ past) l = tell_more (HasAnswer s past) (HasAnswer s (Sent f ∷ past)) (later_answer s (Sent f) past) (called s past) (called_tell s past l.1)
+called_tell s (Told o ∷ past) l = tell_more (HasAnswer s past) (HasAnswer s (Told o ∷ past)) (later_answer s (Told o) past) (called s past) (called_tell s past l.1)
+called_tell s (Heard k d line ∷ past) l = tell_more (HasAnswer s past) (HasAnswer s (Heard k d line ∷ past)) (later_answer s (Heard k d line) past) (called s past) (called_tell s past l.1)
+called_tell s (Given ∷ past) l = tell_more (HasAnswer s past) (HasAnswer s (Given ∷ past)) (later_answer s Given past) (called s past) (called_tell s past l.1)
+called_tell s (Took q ∷ past) l = one_more s (Took q) past (called_tell s past l.1)
+called_tell s (Got f ∷ past) l = one_more s (Got f) past (called_tell s past l.1)
+called_tell s (Tick ∷ past) l = one_more s Tick past (called_tell s past l.1)
+called_tell s (Lost ∷ past) l = lost_tell s past (beginning s past l.1) (called_tell s past l.1)
+called_tell s (Held d ∷ past) l = one_more s (Held d) past (called_tell s past l.1)
+called_tell s (Freed d ∷ past) l = one_more s (Freed d) past (called_tell s past l.1)
 
 first_tells : (P : List AnswerLine → Type 0) (o : Outcome) (owing later : List Act) → owing ≡ Told o ∷ later → AllTell P owing → (ls : List AnswerLine) → o.answer ≡ Done ls → P ls
 first_tells P o owing later e h = (subst (λ (acts : List Act). AllTell P acts) e h).0
@@ -362,7 +391,7 @@ first_tells P o owing later e h = (subst (λ (acts : List Act). AllTell P acts) 
 owed_tells : (s : Setting) (older : List Act) (o : Outcome) → Lawful s (Told o ∷ older) → (ls : List AnswerLine) → o.answer ≡ Done ls → HasAnswer s older ls
 unfolding Lawful
 owed_tells s older o l ls d =
-    let all = subst (λ (acts : List Act). AllTell (HasAnswer s older) acts) (sym (beginning s older l.1)) (called_tell s older) in
+    let all = subst (λ (acts : List Act). AllTell (HasAnswer s older) acts) (sym (beginning s older l.1)) (called_tell s older l.1) in
     first_tells (HasAnswer s older) o (owed s older) l.0.answered.later l.0.answered.is_next (tell_right (HasAnswer s older) (stands older) (owed s older) all) ls d
 
 pub tells_answers : (s : Setting) (past : List Act) → Lawful s past → TellsAnswers s past

@@ -7,7 +7,7 @@ use Rattle.mux_frame.specs.Frames.{Frame}
 use Rattle.mux_station.specs.Written.{is_data_frame}
 use Rattle.modem_driver.specs.Acts.{Act, Took, Got, Sent, Told, Heard, Tick, Lost, Held, Freed, Given, after}
 use Rattle.modem_driver.specs.Calls.{Setting, calls, calls_behind, seen}
-use Rattle.modem_driver.specs.Lawful.{Lawful, Complete, Allows, IsNext, When, owed}
+use Rattle.modem_driver.specs.Lawful.{Lawful, Complete, Allows, IsNext, When, unsent, owed}
 use Rattle.modem_driver.specs.Wholes.{called, stands, IsBeginning, is_said, GoesOn, CallGoesOn}
 use Rattle.modem_driver.proofs.Said.{calls_said}
 
@@ -36,7 +36,7 @@ beginning s [] l = refl
 beginning s (Took r ∷ past) l = added (stands past) (owed s past) (called s past) (calls_behind s past (owed s past) (Took r)) (beginning s past l.1)
 beginning s (Got f ∷ past) l = added (stands past) (owed s past) (called s past) (calls_behind s past (owed s past) (Got f)) (beginning s past l.1)
 beginning s (Tick ∷ past) l = added (stands past) (owed s past) (called s past) (calls_behind s past (owed s past) Tick) (beginning s past l.1)
-beginning s (Lost ∷ past) l = added (stands past) (owed s past) (called s past) (calls_behind s past (owed s past) Lost) (beginning s past l.1)
+beginning s (Lost ∷ past) l = refl
 beginning s (Held d ∷ past) l = added (stands past) (owed s past) (called s past) (calls_behind s past (owed s past) (Held d)) (beginning s past l.1)
 beginning s (Freed d ∷ past) l = added (stands past) (owed s past) (called s past) (calls_behind s past (owed s past) (Freed d)) (beginning s past l.1)
 beginning s (Given ∷ past) l = beginning s past l.1
@@ -119,12 +119,17 @@ paid s past a e allowed p l c =
     let done = pays s (a ∷ past) (calls s past a) [] now p (allowed, l) in
     record { lawful = done.0; complete = done.1 }
 
+-- where nothing was owed, a loss drops nothing
+unsent_none : (owing : List Act) → owing ≡ [] → unsent owing ≡ owing
+unsent_none [] e = refl
+unsent_none (a ∷ owing) e = cc
+
 pub call_goes_on : (s : Setting) (past : List Act) (a : Act) → CallGoesOn s past a
 unfolding CallGoesOn Complete
 call_goes_on s past (Took r) b l c = paid s past (Took r) refl (record { gated = tt; once = tt; in_turn = tt; controlled = tt; answered = tt; heard = tt }) (calls_said s (seen s past) (Took r)) l c
 call_goes_on s past (Got f) b l c = paid s past (Got f) refl (record { gated = tt; once = tt; in_turn = tt; controlled = tt; answered = tt; heard = tt }) (calls_said s (seen s past) (Got f)) l c
 call_goes_on s past Tick b l c = paid s past Tick refl (record { gated = tt; once = tt; in_turn = tt; controlled = tt; answered = tt; heard = tt }) (calls_said s (seen s past) Tick) l c
-call_goes_on s past Lost b l c = paid s past Lost refl (record { gated = tt; once = tt; in_turn = tt; controlled = tt; answered = tt; heard = tt }) (calls_said s (seen s past) Lost) l c
+call_goes_on s past Lost b l c = paid s past Lost (ap (λ (v : List Act). v ++ calls_behind s past (owed s past) Lost) (unsent_none (owed s past) c)) (record { gated = tt; once = tt; in_turn = tt; controlled = tt; answered = tt; heard = tt }) (calls_said s (seen s past) Lost) l c
 call_goes_on s past (Held d) b l c = paid s past (Held d) refl (record { gated = tt; once = tt; in_turn = tt; controlled = tt; answered = tt; heard = tt }) (calls_said s (seen s past) (Held d)) l c
 call_goes_on s past (Freed d) b l c = paid s past (Freed d) refl (record { gated = tt; once = tt; in_turn = tt; controlled = tt; answered = tt; heard = tt }) (calls_said s (seen s past) (Freed d)) l c
 call_goes_on s past (Sent f) b l c = absurd (let e : false ≡ true = b in cc)

@@ -7,10 +7,16 @@ use Rattle.mux_station.specs.Written.{written, is_data_frame}
 use Rattle.mux_station.specs.Opening.{is_open}
 use Rattle.mux_station.specs.Stopping.{is_stopped}
 use Rattle.at_text.specs.Windows.{answered}
-use Rattle.modem_driver.specs.Acts.{Act, Sent, Told, Heard, Given, wire}
+use Rattle.modem_driver.specs.Acts.{Act, Sent, Told, Heard, Lost, Given, wire}
 use Rattle.modem_driver.specs.Information.{accepted, texts, information_out}
 use Rattle.modem_driver.specs.Placing.{marks, reached_in, whole_in}
 use Rattle.modem_driver.specs.Calls.{Setting, calls_behind}
+
+-- what isn't a frame; a loss of the line leaves no frame to be sent
+abbrev pub unsent : List Act → List Act
+unsent [] = []
+unsent (Sent f ∷ acts) = unsent acts
+unsent (a ∷ acts) = a ∷ unsent acts
 
 -- what was called for and doesn't stand in the past yet, in order, with one act more
 abbrev pub owed_after : Setting → List Act → List Act → Act → List Act
@@ -18,6 +24,7 @@ owed_after s past owing (Sent f) = if is_data_frame f then owing else drop 1 owi
 owed_after s past owing (Told o) = drop 1 owing
 owed_after s past owing (Heard kind d line) = drop 1 owing
 owed_after s past owing Given = owing
+owed_after s past owing Lost = unsent owing ++ calls_behind s past owing Lost
 owed_after s past owing a = owing ++ calls_behind s past owing a
 
 abbrev pub owed : Setting → List Act → List Act

@@ -11,28 +11,29 @@ use Rattle.at_text.specs.Seeing.{answer_lines}
 use Rattle.modem_desk.specs.declared.request.Request.{Request}
 use Rattle.modem_desk.specs.declared.request.Answer.TheVariants.{Done}
 use Rattle.modem_desk.specs.declared.request.Outcome.{Outcome}
-use Rattle.modem_driver.specs.Acts.{Act, Took, Got, Sent, Told, Heard, Given, is_for, after, wire}
+use Rattle.modem_driver.specs.Acts.{Act, Took, Got, Sent, Told, Heard, Lost, Given, is_for, after, wire}
 use Rattle.modem_driver.specs.Information.{information_out, accepted, texts}
 use Rattle.modem_driver.specs.Placing.{marks, run_on}
 use Rattle.modem_driver.specs.Calls.{Setting, calls, calls_behind}
-use Rattle.modem_driver.specs.Lawful.{Lawful, Complete, owed}
+use Rattle.modem_driver.specs.Lawful.{Lawful, Complete, owed, owed_after}
 
--- all that the acts of the past called for, in order
-abbrev pub called : Setting → List Act → List Act
-called s [] = []
-called s (Sent f ∷ past) = called s past
-called s (Told o ∷ past) = called s past
-called s (Heard kind d line ∷ past) = called s past
-called s (Given ∷ past) = called s past
-called s (a ∷ past) = called s past ++ calls_behind s past (owed s past) a
-
--- what stands in it of that: frames that are no data, outcomes and lines
+-- what stands in the past of what is called for: frames that are no data, outcomes and lines
 abbrev pub stands : List Act → List Act
 stands [] = []
 stands (Sent f ∷ past) = if is_data_frame f then stands past else stands past ++ Sent f ∷ []
 stands (Told o ∷ past) = stands past ++ Told o ∷ []
 stands (Heard kind d line ∷ past) = stands past ++ Heard kind d line ∷ []
 stands (_ ∷ past) = stands past
+
+-- all that the acts of the past called for, in order, but for frames that a loss of the line left unsent
+abbrev pub called : Setting → List Act → List Act
+called s [] = []
+called s (Sent f ∷ past) = called s past
+called s (Told o ∷ past) = called s past
+called s (Heard kind d line ∷ past) = called s past
+called s (Given ∷ past) = called s past
+called s (Lost ∷ past) = stands past ++ owed_after s past (owed s past) Lost
+called s (a ∷ past) = called s past ++ calls_behind s past (owed s past) a
 
 -- what stands there is the beginning of what was called for, and the rest is owed
 abbrev pub IsBeginning : Setting → List Act → Type 0
