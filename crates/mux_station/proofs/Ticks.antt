@@ -91,7 +91,7 @@ record Mid (s : Setting) (probe : Option Waiting) (d : ℕ) (w : Station) (p : L
   queue_is : queue p ≡ w.queue
   last_is : last_sender p ≡ w.last
   done : (e : ℕ) → e < 62 → e < d → ChannelFits s.role e p (channel_at w e)
-  todo : (e : ℕ) → e < 62 → d ≤ e → ChannelFits s.role e p (before_turn (channel_at w e))
+  to_come : (e : ℕ) → e < 62 → d ≤ e → ChannelFits s.role e p (before_turn (channel_at w e))
   shut : is_opened (channel_at w 0).state ≡ false → (e : ℕ) → e < 62 → (e == 0) ≡ false → (channel_at w e).state ≡ IsShut
   stop_of_all_is : AllStopped s.role p w.all_stopped
   probe_is : probe_of s p ≡ probe
@@ -105,7 +105,7 @@ mid_first v past n h = record {
   queue_is = h.queue_is;
   last_is = h.last_is;
   done = λ e l k. absurd (omega (arith, k));
-  todo = λ e l k. fits_tick v.role e past (channel_at v e) (h.channels_are e l);
+  to_come = λ e l k. fits_tick v.role e past (channel_at v e) (h.channels_are e l);
   shut = h.others_shut;
   stop_of_all_is = λ o. by_zero (is_opened (state_of v.role 0 past)) refl o;
   probe_is = tick_probe (setting_of v) (zero_stays (setting_of v) past Tick) (probe_of (setting_of v) past) ∙ ap ticked_probe h.probe_is;
@@ -132,7 +132,7 @@ mid_stays s probe d w p m same = record {
   queue_is = m.queue_is;
   last_is = m.last_is;
   done = λ e l k. by_place e l k (e == d) refl;
-  todo = λ e l k. m.todo e l (omega (arith, k));
+  to_come = λ e l k. m.to_come e l (omega (arith, k));
   shut = m.shut;
   stop_of_all_is = m.stop_of_all_is;
   probe_is = m.probe_is;
@@ -142,7 +142,7 @@ mid_stays s probe d w p m same = record {
     by_place e l k false g = m.done e l (at_place e d k g)
     by_place e l k true g =
         let here : e ≡ d = eqb-true e d g in
-        let there : ChannelFits s.role e p (before_turn (channel_at w e)) = m.todo e l (omega (arith, here)) in
+        let there : ChannelFits s.role e p (before_turn (channel_at w e)) = m.to_come e l (omega (arith, here)) in
         let same_here : at_tick (channel_at w e).state ≡ (channel_at w e).state = subst (λ (n : ℕ). at_tick (channel_at w n).state ≡ (channel_at w n).state) (sym here) same in
         subst (λ (t : State). ChannelFits s.role e p (record (channel_at w e) { state = t })) same_here there
 
@@ -180,7 +180,7 @@ mid_turns s probe d w p t m l o same = record {
   queue_is = m.queue_is;
   last_is = m.last_is;
   done = λ e k g. by_place e k g (e == d) refl;
-  todo = λ e k g. subst (λ (c : Channel). ChannelFits s.role e p (before_turn c)) (sym (turned_there w d e t (ne_eqb e d (λ (h : e ≡ d). omega (arith, g, h))))) (m.todo e k (omega (arith, g)));
+  to_come = λ e k g. subst (λ (c : Channel). ChannelFits s.role e p (before_turn c)) (sym (turned_there w d e t (ne_eqb e d (λ (h : e ≡ d). omega (arith, g, h))))) (m.to_come e k (omega (arith, g)));
   shut = turned_shut w d t m.all l o (λ h. sym same ∙ ap at_tick h) m.shut;
   stop_of_all_is = m.stop_of_all_is;
   probe_is = m.probe_is;
@@ -190,7 +190,7 @@ mid_turns s probe d w p t m l o same = record {
     by_place e k g false h = subst (λ (c : Channel). ChannelFits s.role e p c) (sym (turned_there w d e t h)) (m.done e k (at_place e d g h))
     by_place e k g true h =
         let here : e ≡ d = eqb-true e d h in
-        let now : ChannelFits s.role d p (fresh t) = shut_now s.role d p (fresh t) ((m.todo d l (omega arith)).state_is ∙ same) (ap is_opened (sym same) ∙ tick_not_opened (channel_at w d).state o) in
+        let now : ChannelFits s.role d p (fresh t) = shut_now s.role d p (fresh t) ((m.to_come d l (omega arith)).state_is ∙ same) (ap is_opened (sym same) ∙ tick_not_opened (channel_at w d).state o) in
         subst (λ (n : ℕ). ChannelFits s.role n p (slice_index_or (slice_set w.channels d (fresh t)) n shut_channel)) (sym here) (subst (λ (c : Channel). ChannelFits s.role d p c) (sym (turned_here w d t m.all l)) now)
 
 -- ## A turn in which a frame is sent
@@ -274,17 +274,17 @@ mid_sends s probe d w p g t m u = record {
   queue_is = ap (λ (b : Bool). queue p ++ (if b then [] else g ∷ [])) u.control ∙ ap (λ (fs : List Frame). fs ++ g ∷ []) m.queue_is;
   last_is = ap (λ (b : Bool). if b then g.dlci else last_sender p) u.control ∙ m.last_is;
   done = λ e k x. by_place e k x (e == d) refl;
-  todo = λ e k x.
+  to_come = λ e k x.
       let apart : (e == d) ≡ false = ne_eqb e d (λ (h : e ≡ d). omega (arith, x, h)) in
       subst (λ (c : Channel). ChannelFits s.role e (Sent g ∷ p) (before_turn c)) (sym (turned_there w d e t apart))
-      (other_sent s probe d e w p g t (before_turn (channel_at w e)) (d == 0) refl m u k apart (λ h. ap at_tick h) (m.todo e k (omega (arith, x))));
+      (other_sent s probe d e w p g t (before_turn (channel_at w e)) (d == 0) refl m u k apart (λ h. ap at_tick h) (m.to_come e k (omega (arith, x))));
   shut = turned_shut w d t m.all u.in_range u.was (λ h. absurd (u.was_not_shut h)) m.shut;
   stop_of_all_is = λ o. all_by (d == 0) refl o;
   probe_is = probe_by (d == 0) refl;
 }
   where
     now : state_of s.role d (Sent g ∷ p) ≡ t
-    now = sent_here s.role d p g t (d == 0) refl u.on u.no_close_down (ap (λ (x : State). at_sent x g.kind) ((m.todo d u.in_range (omega arith)).state_is ∙ u.still) ∙ u.turned)
+    now = sent_here s.role d p g t (d == 0) refl u.on u.no_close_down (ap (λ (x : State). at_sent x g.kind) ((m.to_come d u.in_range (omega arith)).state_is ∙ u.still) ∙ u.turned)
 
     zero_there : (d == 0) ≡ false → state_of s.role 0 (Sent g ∷ p) ≡ state_of s.role 0 p
     zero_there z = sent_there s.role d 0 p g z u.on (ne_eqb 0 d (λ (h : 0 ≡ d). eqb-false d 0 z (sym h))) u.no_close_down
@@ -308,7 +308,7 @@ mid_sends s probe d w p g t m u = record {
     probe_by false z = probe_sent s p g (zero_there z) ∙ m.probe_is
     probe_by true z =
         let zero : d ≡ 0 = eqb-true d 0 z in
-        let before : state_of s.role d p ≡ (channel_at w d).state = (m.todo d u.in_range (omega arith)).state_is ∙ u.still in
+        let before : state_of s.role d p ≡ (channel_at w d).state = (m.to_come d u.in_range (omega arith)).state_is ∙ u.still in
         let off : is_opened (state_of s.role 0 p) ≡ false = subst (λ (n : ℕ). is_opened (state_of s.role n p) ≡ false) zero (ap is_opened before ∙ u.was) in
         let none : probe_of s p ≡ None = probe_needs s p off in
         probe_none s p g none ∙ (sym none ∙ m.probe_is)
