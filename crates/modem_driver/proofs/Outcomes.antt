@@ -22,7 +22,7 @@ use Rattle.at_text.specs.Unsolicited.{unsolicited_of}
 use Rattle.at_text.specs.Lines.{lines}
 use Rattle.at_text.specs.Windows.{Mark, Line, Window, open_window}
 use Rattle.at_text.specs.Seeing.{by_kind, seen_after}
-use Rattle.at_text.specs.OpenWindow.{OpenWindow, shown, is_echo, solicited_by, seen_by, after_solicited, after_line}
+use Rattle.at_text.specs.OpenWindow.{OpenWindow, shown, is_echo, seen_by, after_line}
 use Rattle.at_text.specs.Finals.{is_final}
 use Rattle.at_text.proofs.WindowLemmas.{shows_line, seen_line}
 use Rattle.modem_desk.specs.declared.request.Ask.{Ask}
@@ -32,10 +32,10 @@ use Rattle.modem_desk.specs.declared.request.Outcome.{Outcome}
 use Rattle.modem_desk.specs.declared.request.Answer.{Answer}
 use Rattle.modem_driver.specs.Acts.{Act, Took, Got, Sent, Told, Heard, Tick, Lost, Held, Freed, Given, is_for, told, without, in_hand}
 use Rattle.modem_driver.specs.Information.{command_on}
-use Rattle.modem_driver.specs.Calls.{Setting, Seen, seen_behind, unanswered, calls_seeing, calls_behind, states_now, frames, frames_by, at_once, said_of, said_at_once, lines_said, by_lines, by_seen, heard, done, first_on, tolds, told_later, later}
+use Rattle.modem_driver.specs.Calls.{Setting, Seen, seen_behind, unanswered, calls_seeing, calls_behind, states_now, frames, frames_by, at_once, said_of, said_at_once, lines_said, by_lines, by_seen, first_on, tolds, told_later, later}
 use Rattle.modem_driver.specs.Lawful.{Lawful, IsNext, When, unsent, owed}
-use Rattle.modem_driver.specs.Wholes.{called, stands, taken, outcomes, is_same, UsesOnce, AnswersOnce}
-use Rattle.modem_driver.proofs.WholeLaws.{beginning}
+use Rattle.modem_driver.specs.Wholes.{called, stands, taken, outcomes, is_same, AnswersOnce}
+use Rattle.modem_driver.proofs.WholeLaws.{beginning, not_true}
 
 -- ## Counts
 
@@ -247,14 +247,6 @@ lines_within s d owner r ms (l ∷ ls) =
     omega (arith, both, parts)
 
 -- ## A data frame
-
-and_false : (b : Bool) → (b && false) ≡ false
-and_false true = refl
-and_false false = refl
-
-not_true : (b : Bool) → not b ≡ true → b ≡ false
-not_true false e = refl
-not_true true e = cc
 
 kind_is : (k : Kind) → is_kind k Uih ≡ true → k ≡ Uih
 kind_is Uih e = refl

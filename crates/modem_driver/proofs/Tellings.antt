@@ -1,5 +1,5 @@
 -- Each answer that is told is that of a window, at its place.
-use Rattle.std.specs.Prelude.{◌≡◌, ℕ, ◌+◌, ◌==◌, ◌&&◌, ◌||◌, not, nat_le, Bool, true, false, List, [], ◌∷◌, ◌++◌, length, map, take, filter_map, refl, if◌then◌else◌, Option, Some, None, option_map, is_none}
+use Rattle.std.specs.Prelude.{◌≡◌, ℕ, ◌==◌, ◌&&◌, ◌||◌, not, nat_le, Bool, true, false, List, [], ◌∷◌, ◌++◌, length, map, take, filter_map, refl, if◌then◌else◌, Option, Some, None, option_map}
 use Rattle.std.specs.List.{cons_option}
 use Rattle.std.proofs.Common.{ap, sym, subst, ◌∙◌, append_assoc, append-nil}
 use Rattle.std.proofs.Math.Seq.{take-append_seam}
@@ -16,7 +16,7 @@ use Rattle.at_text.specs.declared.window.Seen as line_is
 use Rattle.at_text.specs.declared.window.Seen.TheVariants.{Echo, Kept, Unsolicited}
 use Rattle.at_text.specs.Unsolicited.{unsolicited_of}
 use Rattle.at_text.specs.Lines.{lines}
-use Rattle.at_text.specs.Windows.{Mark, Line, Window, answer_of, is_answered, more_of, open_of, open_window, last_window, window_more}
+use Rattle.at_text.specs.Windows.{Mark, Line, Window, answer_of, is_answered, more_of, open_of, last_window, window_more}
 use Rattle.at_text.specs.Seeing.{answer_lines, is_fresh, by_kind, solicited_in, seen_after}
 use Rattle.at_text.proofs.WindowLemmas.{last_window-line}
 use Rattle.modem_desk.specs.declared.request.Ask.{Ask}
@@ -24,10 +24,10 @@ use Rattle.modem_desk.specs.declared.request.Ask.TheVariants.{OpenChannel, Close
 use Rattle.modem_desk.specs.declared.request.Request.{Request}
 use Rattle.modem_desk.specs.declared.request.Outcome.{Outcome}
 use Rattle.modem_desk.specs.declared.request.Answer.{Answer}
-use Rattle.modem_desk.specs.declared.request.Answer.TheVariants.{Done, Opened, Shut, ProbeBack, Stopped, NotOpen, AlreadyOpen, Refused, NoAnswer, Closed, ControlChannel, LineLost, Busy}
+use Rattle.modem_desk.specs.declared.request.Answer.TheVariants.{Done, Shut, ProbeBack, NotOpen, AlreadyOpen, Refused, NoAnswer, Closed, ControlChannel, LineLost, Busy}
 use Rattle.modem_driver.specs.Acts.{Act, Took, Got, Sent, Told, Heard, Tick, Lost, Held, Freed, Given, told}
 use Rattle.modem_driver.specs.Placing.{marks, run_on}
-use Rattle.modem_driver.specs.Calls.{Setting, Seen, seen_behind, calls_seeing, calls_behind, states_now, frames, at_once, refused_ask, all_have_room, asking, probe_waits, said_of, said_at_once, lines_said, by_lines, by_seen, heard, done, first_on, tolds, told_later, later, open_later, close_later, probe_later, probe_answer, stop_ended, cause}
+use Rattle.modem_driver.specs.Calls.{Setting, Seen, seen_behind, calls_behind, states_now, frames, at_once, refused_ask, all_have_room, asking, probe_waits, said_of, said_at_once, lines_said, by_lines, by_seen, done, first_on, tolds, told_later, later, open_later, close_later, probe_later, probe_answer, stop_ended, cause}
 use Rattle.modem_driver.specs.Lawful.{Lawful, unsent, owed}
 use Rattle.modem_driver.specs.Wholes.{called, stands, EndsWindow, HasAnswer, TellsAnswers}
 use Rattle.modem_driver.proofs.WholeLaws.{beginning}

@@ -44,7 +44,7 @@ beginning s (Sent f ∷ past) l = sent_by (is_data_frame f) (stands past) (owed 
 beginning s (Told o ∷ past) l = moved (stands past) (owed s past) (called s past) (Told o) (beginning s past l.1) l.0.answered
 beginning s (Heard k d line ∷ past) l = moved (stands past) (owed s past) (called s past) (Heard k d line) (beginning s past l.1) l.0.heard
 
-not_true : (b : Bool) → not b ≡ true → b ≡ false
+pub not_true : (b : Bool) → not b ≡ true → b ≡ false
 not_true false h = refl
 not_true true h = cc
 

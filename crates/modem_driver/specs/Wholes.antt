@@ -3,7 +3,6 @@ use Rattle.std.specs.Prelude.{◌≡◌, ℕ, ◌≤◌, ◌==◌, ◌&&◌, Boo
 use Rattle.std.specs.List.{concat, list_any}
 use Rattle.mux_frame.specs.Frames.{Frame}
 use Rattle.mux_station.specs.Written.{is_data_frame}
-use Rattle.mux_station.specs.Opening.{is_open}
 use Rattle.at_text.specs.declared.answer.AnswerLine.{AnswerLine}
 use Rattle.at_text.specs.Lines.{lines}
 use Rattle.at_text.specs.Windows.{Line, Window, answer_of, is_answered, last_window}
@@ -11,7 +10,7 @@ use Rattle.at_text.specs.Seeing.{answer_lines}
 use Rattle.modem_desk.specs.declared.request.Request.{Request}
 use Rattle.modem_desk.specs.declared.request.Answer.TheVariants.{Done}
 use Rattle.modem_desk.specs.declared.request.Outcome.{Outcome}
-use Rattle.modem_driver.specs.Acts.{Act, Took, Got, Sent, Told, Heard, Lost, Given, is_for, after, wire}
+use Rattle.modem_driver.specs.Acts.{Act, Took, Got, Sent, Told, Heard, Lost, Given, is_for, after}
 use Rattle.modem_driver.specs.Information.{information_out, accepted, texts}
 use Rattle.modem_driver.specs.Placing.{marks, run_on}
 use Rattle.modem_driver.specs.Calls.{Setting, calls, calls_behind}
