@@ -1,6 +1,7 @@
 pub mod Said
 pub mod WholeLaws
 pub mod Leaving
+pub mod Losing
 pub mod Outcomes
 pub mod Tellings
 pub mod Standing

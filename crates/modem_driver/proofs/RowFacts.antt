@@ -20,7 +20,7 @@ csq_lawful = (
     (
       record { gated = tt; once = tt; in_turn = tt; controlled = tt; answered = tt; heard = tt },
       (
-        record { gated = record { is_open = refl; goes = refl; as_written = refl; some = refl; fits = refl; behind = refl }; once = refl; in_turn = refl; controlled = tt; answered = tt; heard = tt },
+        record { gated = record { live = refl; is_open = refl; goes = refl; as_written = refl; some = refl; fits = refl; behind = refl }; once = refl; in_turn = refl; controlled = tt; answered = tt; heard = tt },
         (
           record { gated = tt; once = tt; in_turn = tt; controlled = tt; answered = tt; heard = tt },
           (

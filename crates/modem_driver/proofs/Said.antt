@@ -1,7 +1,7 @@
 -- What an act calls for is frames that are no data, outcomes and lines.
 use Rattle.std.specs.Prelude.{◌≡◌, ℕ, zero, suc, ◌+◌, ◌==◌, ◌&&◌, ◌||◌, not, Bool, true, false, List, [], ◌∷◌, ◌++◌, refl, if◌then◌else◌, map, Option, Some, None, filter_map, option_map, is_none}
 use Rattle.std.specs.List.{list_all, cons_option}
-use Rattle.std.proofs.Common.{◌∙◌}
+use Rattle.std.proofs.Common.{◌∙◌, ap}
 use Rattle.std.proofs.lemmas.Bool.{and_from}
 use Rattle.std.proofs.lemmas.List.Folds.{list_all-append, list_all-map}
 use Rattle.mux_frame.specs.Frames.{Frame}
@@ -35,22 +35,34 @@ is_control f = not (is_data_frame f)
 abbrev Controls : List Frame → Type 0
 Controls fs = list_all is_control fs ≡ true
 
-abbrev Saids : List Act → Type 0
+abbrev pub Saids : List Act → Type 0
 Saids acts = list_all is_said acts ≡ true
+
+-- an outcome or a line
+abbrev pub is_word : Act → Bool
+is_word (Told o) = true
+is_word (Heard k d line) = true
+is_word a = false
+
+abbrev pub Words : List Act → Type 0
+Words acts = list_all is_word acts ≡ true
 
 controls_both : (fs gs : List Frame) → Controls fs → Controls gs → Controls (fs ++ gs)
 controls_both fs gs h k = list_all-append is_control fs gs ∙ and_from (list_all is_control fs) (list_all is_control gs) h k
 
-saids_both : (xs ys : List Act) → Saids xs → Saids ys → Saids (xs ++ ys)
+pub words_both : (xs ys : List Act) → Words xs → Words ys → Words (xs ++ ys)
+words_both xs ys h k = list_all-append is_word xs ys ∙ and_from (list_all is_word xs) (list_all is_word ys) h k
+
+pub saids_both : (xs ys : List Act) → Saids xs → Saids ys → Saids (xs ++ ys)
 saids_both xs ys h k = list_all-append is_said xs ys ∙ and_from (list_all is_said xs) (list_all is_said ys) h k
 
 controls_if : (b : Bool) (fs gs : List Frame) → Controls fs → Controls gs → Controls (if b then fs else gs)
 controls_if true fs gs h k = h
 controls_if false fs gs h k = k
 
-saids_if : (b : Bool) (xs ys : List Act) → Saids xs → Saids ys → Saids (if b then xs else ys)
-saids_if true xs ys h k = h
-saids_if false xs ys h k = k
+words_if : (b : Bool) (xs ys : List Act) → Words xs → Words ys → Words (if b then xs else ys)
+words_if true xs ys h k = h
+words_if false xs ys h k = k
 
 asked : (r : Role) (a : Ask) → Controls (asking r a)
 asked r (OpenChannel d) = refl
@@ -136,11 +148,11 @@ framed s v (Told o) = refl
 framed s v (Heard k d l) = refl
 framed s v Given = refl
 
-at_once_said : (r : Request) (o : Option Answer) → Saids (said_of r o)
+at_once_said : (r : Request) (o : Option Answer) → Words (said_of r o)
 at_once_said r None = refl
 at_once_said r (Some a) = refl
 
-once_said : (s : Setting) (v : Seen) (a : Act) → Saids (said_at_once s v a)
+once_said : (s : Setting) (v : Seen) (a : Act) → Words (said_at_once s v a)
 once_said s v (Took r) = at_once_said r (at_once s v r)
 once_said s v (Got f) = refl
 once_said s v (Sent f) = refl
@@ -152,29 +164,29 @@ once_said s v (Held f) = refl
 once_said s v (Freed f) = refl
 once_said s v Given = refl
 
-heard_said : (s : Setting) (d : ℕ) (k : UrcKind) (line : List ℕ) → Saids (heard s d k line)
-heard_said s d k line = saids_if (s.listens k) (Heard k d line ∷ []) [] refl refl
+heard_said : (s : Setting) (d : ℕ) (k : UrcKind) (line : List ℕ) → Words (heard s d k line)
+heard_said s d k line = words_if (s.listens k) (Heard k d line ∷ []) [] refl refl
 
-done_said : (o : Option Request) (ls : List AnswerLine) → Saids (done o ls)
+done_said : (o : Option Request) (ls : List AnswerLine) → Words (done o ls)
 done_said None ls = refl
 done_said (Some r) ls = refl
 
-line_said : (s : Setting) (d : ℕ) (owner : Option Request) (line : List ℕ) (v : line_is.Seen) → Saids (by_seen s d owner line v)
+line_said : (s : Setting) (d : ℕ) (owner : Option Request) (line : List ℕ) (v : line_is.Seen) → Words (by_seen s d owner line v)
 line_said s d owner line Echo = refl
 line_said s d owner line Kept = refl
 line_said s d owner line (line_is.TheVariants.Done ls) = done_said owner ls
 line_said s d owner line (Unsolicited k) = heard_said s d k line
 line_said s d owner line line_is.TheVariants.Other = heard_said s d Other line
 
-lines_each_said : (s : Setting) (d : ℕ) (owner : Option Request) (ms : List Mark) (ls : List (List ℕ)) → Saids (by_lines s d owner ms ls)
+lines_each_said : (s : Setting) (d : ℕ) (owner : Option Request) (ms : List Mark) (ls : List (List ℕ)) → Words (by_lines s d owner ms ls)
 lines_each_said s d owner ms [] = refl
 lines_each_said s d owner ms (line ∷ rest) =
-    saids_both (by_seen s d owner line (seen_after ms line)) (by_lines s d owner (ms ++ Line line ∷ []) rest)
+    words_both (by_seen s d owner line (seen_after ms line)) (by_lines s d owner (ms ++ Line line ∷ []) rest)
     (line_said s d owner line (seen_after ms line)) (lines_each_said s d owner (ms ++ Line line ∷ []) rest)
 
-lines_all_said : (s : Setting) (v : Seen) (a : Act) → Saids (lines_said s v a)
+lines_all_said : (s : Setting) (v : Seen) (a : Act) → Words (lines_said s v a)
 lines_all_said s v (Got f) =
-    saids_if (is_opened (v.state f.dlci) && is_data_frame f) (by_lines s f.dlci (first_on f.dlci v.waiting) (v.marks f.dlci) (lines (v.run f.dlci ++ f.info))) []
+    words_if (is_opened (v.state f.dlci) && is_data_frame f) (by_lines s f.dlci (first_on f.dlci v.waiting) (v.marks f.dlci) (lines (v.run f.dlci ++ f.info))) []
     (lines_each_said s f.dlci (first_on f.dlci v.waiting) (v.marks f.dlci) (lines (v.run f.dlci ++ f.info))) refl
 lines_all_said s v (Took r) = refl
 lines_all_said s v (Sent f) = refl
@@ -186,13 +198,32 @@ lines_all_said s v (Held f) = refl
 lines_all_said s v (Freed f) = refl
 lines_all_said s v Given = refl
 
-one_told : (r : Request) (o : Option Answer) (rest : List Act) → Saids rest → Saids (cons_option (option_map (told r) o) rest)
+one_told : (r : Request) (o : Option Answer) (rest : List Act) → Words rest → Words (cons_option (option_map (told r) o) rest)
 one_told r None rest h = h
 one_told r (Some a) rest h = h
 
-tolds_said : (v : Seen) (now : ℕ → State) (a : Act) (rs : List Request) → Saids (filter_map (told_later v now a) rs)
+tolds_said : (v : Seen) (now : ℕ → State) (a : Act) (rs : List Request) → Words (filter_map (told_later v now a) rs)
 tolds_said v now a [] = refl
 tolds_said v now a (r ∷ rs) = one_told r (later v now a r r.ask) (filter_map (told_later v now a) rs) (tolds_said v now a rs)
+
+-- what an act calls for besides frames
+spoken : (s : Setting) (v : Seen) (a : Act) (now : ℕ → State) → Words (said_at_once s v a ++ (lines_said s v a ++ tolds v now a))
+spoken s v a now =
+    words_both (said_at_once s v a) (lines_said s v a ++ tolds v now a) (once_said s v a)
+    (words_both (lines_said s v a) (tolds v now a) (lines_all_said s v a) (tolds_said v now a v.waiting))
+
+pub words_said : (acts : List Act) → Words acts → Saids acts
+words_said [] h = refl
+words_said (Told o ∷ acts) h = words_said acts h
+words_said (Heard k d line ∷ acts) h = words_said acts h
+words_said (Took r ∷ acts) h = absurd (let e : false ≡ true = h in cc)
+words_said (Got f ∷ acts) h = absurd (let e : false ≡ true = h in cc)
+words_said (Sent f ∷ acts) h = absurd (let e : false ≡ true = h in cc)
+words_said (Tick ∷ acts) h = absurd (let e : false ≡ true = h in cc)
+words_said (Lost ∷ acts) h = absurd (let e : false ≡ true = h in cc)
+words_said (Held d ∷ acts) h = absurd (let e : false ≡ true = h in cc)
+words_said (Freed d ∷ acts) h = absurd (let e : false ≡ true = h in cc)
+words_said (Given ∷ acts) h = absurd (let e : false ≡ true = h in cc)
 
 -- what an act calls for is what a call may be called for
 pub calls_said : (s : Setting) (v : Seen) (a : Act) → Saids (calls_seeing s v a)
@@ -201,7 +232,13 @@ calls_said s v a =
     let now = states_now s v (a ∷ sent) in
     let controls : Controls (frames s v a) = controls_if v.lost [] (frames_by s v a) refl (framed s v a) in
     let first : Saids sent = list_all-map is_said Sent (frames s v a) ∙ controls in
-    let last : Saids (tolds v now a) = tolds_said v now a v.waiting in
-    saids_both sent (said_at_once s v a ++ (lines_said s v a ++ tolds v now a)) first
-    (saids_both (said_at_once s v a) (lines_said s v a ++ tolds v now a) (once_said s v a)
-    (saids_both (lines_said s v a) (tolds v now a) (lines_all_said s v a) last))
+    let words = said_at_once s v a ++ (lines_said s v a ++ tolds v now a) in
+    saids_both sent words first (words_said words (spoken s v a now))
+
+-- and no frames where it calls for none
+pub calls_words : (s : Setting) (v : Seen) (a : Act) → frames s v a ≡ [] → Words (calls_seeing s v a)
+calls_words s v a e =
+    let sent = map Sent (frames s v a) in
+    let now = states_now s v (a ∷ sent) in
+    let none : sent ≡ [] = ap (λ (fs : List Frame). map Sent fs) e in
+    ap (λ (fs : List Act). list_all is_word (fs ++ (said_at_once s v a ++ (lines_said s v a ++ tolds v now a)))) none ∙ spoken s v a now

@@ -145,6 +145,7 @@ allowed n1 channel hand before later c ms kept s chunk rest past some fits joins
     let order : reached_in (length (information_out Initiator 1 past ++ chunk)) (texts (accepted Initiator 1 past)) ≤ answered (marks Initiator 1 past) + 1 = omega (arith, reaches, given) in
     record {
       gated = record {
+        live = l.holds.live;
         is_open = own_open channel stage.Opened past l.holds.stands;
         goes = never_stopped channel stage.Opened (wire past) l.holds.stands;
         as_written = refl;

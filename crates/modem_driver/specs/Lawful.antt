@@ -10,7 +10,7 @@ use Rattle.at_text.specs.Windows.{answered}
 use Rattle.modem_driver.specs.Acts.{Act, Sent, Told, Heard, Lost, Given, wire}
 use Rattle.modem_driver.specs.Information.{accepted, texts, information_out}
 use Rattle.modem_driver.specs.Placing.{marks, reached_in, whole_in}
-use Rattle.modem_driver.specs.Calls.{Setting, calls_behind}
+use Rattle.modem_driver.specs.Calls.{Setting, calls_behind, is_lost}
 
 -- what isn't a frame; a loss of the line leaves no frame to be sent
 abbrev pub unsent : List Act → List Act
@@ -33,8 +33,9 @@ owed s (a ∷ past) = owed_after s past (owed s past) a
 
 -- ## The laws of a data frame
 
--- it leaves an open connection that isn't stopped, as this end writes it, and behind all that is owed
+-- the line isn't lost; it leaves an open connection that isn't stopped, as this end writes it, and behind all that is owed
 pub record Gated (s : Setting) (past owing : List Act) (f : Frame) : Type 0 where
+  pub live : is_lost past ≡ false
   pub is_open : is_open s.role f.dlci (wire past) ≡ true
   pub goes : is_stopped s.role f.dlci (wire past) ≡ false
   pub as_written : f ≡ written s.role Uih f.dlci f.info

@@ -13,7 +13,7 @@ use Rattle.modem_desk.specs.declared.request.Outcome.{Outcome}
 use Rattle.modem_driver.specs.Acts.{Act, Took, Got, Sent, Told, Heard, Lost, Given, is_for, after}
 use Rattle.modem_driver.specs.Information.{information_out, accepted, texts}
 use Rattle.modem_driver.specs.Placing.{marks, run_on}
-use Rattle.modem_driver.specs.Calls.{Setting, calls, calls_behind}
+use Rattle.modem_driver.specs.Calls.{Setting, calls, calls_behind, is_lost}
 use Rattle.modem_driver.specs.Lawful.{Lawful, Complete, owed, owed_after}
 
 -- what stands in the past of what is called for: frames that are no data, outcomes and lines
@@ -68,6 +68,10 @@ pub record IsPrefixOf (xs ys : List ℕ) : Type 0 where
 -- what left since d opened is a prefix of the commands accepted since then, each as it goes out
 abbrev pub LeavesOnce : Setting → List Act → Type 0
 LeavesOnce s past = (d : ℕ) → IsPrefixOf (information_out s.role d past) (concat (texts (accepted s.role d past)))
+
+-- nothing is sent once the line is lost
+abbrev pub NoneAfterLoss : Setting → List Act → Type 0
+NoneAfterLoss s past = (f : Frame) → is_lost past ≡ true → ¬ Lawful s (Sent f ∷ past)
 
 -- ## Outcomes
 
