@@ -1,22 +1,24 @@
 -- What one event comes to.
 use Rattle.std.specs.Prelude.{◌≡◌, ℕ, List, ◌++◌}
 use Rattle.mux_frame.specs.Frames.{Frame}
-use Rattle.mux_frame.specs.Reading.{Reads}
+use Rattle.mux_frame.specs.Deframing.{Deframing, Deframes}
 use Rattle.modem_driver.specs.declared.act.Event.{Event}
 use Rattle.modem_driver.specs.declared.act.Event.TheVariants as event
 use Rattle.modem_desk.specs.declared.request.Request.{Request}
 use Rattle.modem_driver.specs.Served.{Served, Takes, ArriveAll}
 
-pub record HandlesAsk (n1 : ℕ) (q : Request) (old new : Served) (rest last : List ℕ) : Type 0 where
+-- a request is taken
+pub record HandlesAsk (n1 : ℕ) (q : Request) (d d' : Deframing) (old new : Served) : Type 0 where
   pub takes : Takes n1 q old new
-  pub same : last ≡ rest
+  pub same : d' ≡ d
 
-pub record HandlesOctets (n1 : ℕ) (x : List ℕ) (old new : Served) (rest last : List ℕ) : Type 0 where
+-- octets are taken by the deframer, and the frames that it hands out then come, one after the other
+pub record Hears (n1 : ℕ) (x : List ℕ) (d d' : Deframing) (old new : Served) : Type 0 where
   pub frames : List Frame
-  pub reads : Reads n1 (rest ++ x) frames last
+  pub bound : d'.n1 ≡ d.n1
+  pub past : (taken : List ℕ) (handed : List Frame) → Deframes taken handed d → Deframes (taken ++ x) (handed ++ frames) d'
   pub arrive : ArriveAll n1 frames old new
 
--- a request is taken, or the frames come that octets behind the rest read as
-abbrev pub Handles : ℕ → Event → Served → Served → List ℕ → List ℕ → Type 0
-Handles n1 (event.Ask q) old new rest last = HandlesAsk n1 q old new rest last
-Handles n1 (event.Octets x) old new rest last = HandlesOctets n1 x old new rest last
+abbrev pub Handles : ℕ → Event → Deframing → Deframing → Served → Served → Type 0
+Handles n1 (event.Ask q) d d' old new = HandlesAsk n1 q d d' old new
+Handles n1 (event.Octets x) d d' old new = Hears n1 x d d' old new

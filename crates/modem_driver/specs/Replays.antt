@@ -3,6 +3,7 @@ use Rattle.std.specs.Prelude.{◌≡◌, ℕ, ◌≤◌, true, List, [], ◌∷�
 use Rattle.std.specs.List.{list_all, flat_map}
 use Rattle.mux_frame.specs.Frames.{Frame}
 use Rattle.mux_frame.specs.Reading.{Reads}
+use Rattle.mux_frame.specs.Deframing.{Deframing, Deframes}
 use Rattle.modem_desk.specs.declared.request.Request.{Request}
 use Rattle.modem_driver.specs.declared.act.Event.{Event}
 use Rattle.modem_driver.specs.declared.act.Event.TheVariants as event
@@ -100,8 +101,10 @@ pub record Runs (n1 : ℕ) (done : List Event) (v : Served) : Type 0 where
   pub suits : Suits n1 v (past_of [] pieces)
   pub within : IsWithin v.hand (requests done)
 
--- so far these frames were read, with this rest, and a first run is run
-pub record SoFar (n1 : ℕ) (events : List Event) (k : ℕ) (v : Served) (rest : List ℕ) : Type 0 where
+-- so far the deframer has handed out these frames, none is at hand, and a first run is run
+pub record SoFar (n1 : ℕ) (events : List Event) (k : ℕ) (v : Served) (d : Deframing) : Type 0 where
   pub frames : List Frame
-  pub reads : Reads n1 (octets (take k events)) frames rest
+  pub deframes : Deframes (octets (take k events)) frames d
+  pub idle : d.next ≡ None
+  pub bound : d.n1 ≡ n1
   pub runs : IsFirstRun n1 events → Runs n1 (take k events) v

@@ -2,20 +2,20 @@
 ghost use Rattle.std.specs.Prelude.{◌≡◌, ℕ, ◌<◌, ◌≤◌, ◌==◌, [], ◌∷◌, ◌++◌, length, map, find, position, option_map, OnOk, IfOk, Some, None};
 ghost use Rattle.std.specs.Option.{option_copied};
 ghost use Rattle.at_text.specs.Lines.{lines, kept_run};
-ghost use Rattle.mux_frame.specs.Frames.{kept_frame};
+ghost use Rattle.mux_frame.specs.Frames.{frame_of, kept_frame};
 ghost use Rattle.mux_station.specs.declared.role.Role.TheVariants.{Initiator};
 ghost use Rattle.mux_station.specs.Written.{written};
 ghost use Rattle.mux_station.specs.Tables.{msc_frame, ready};
 ghost use Rattle.modem_driver.specs.Acts.{act_of, Heard};
 ghost use Rattle.modem_driver.specs.Information.{line_of};
-ghost use Rattle.modem_driver.specs.Served.{none_yet, refusal, opening_refusal, opens_on, commands_on, without_first, asked_by, said_more, said_one, taken, taken_by, entered, zero_answered, one_answered, opened_now, data_read, read_by, octets_read, octets_each_read, arrived, data_frames, SendsNext, SendsSome, Takes, Arrives, ArriveAll};
+ghost use Rattle.modem_driver.specs.Served.{none_yet, refusal, opening_refusal, opens_on, commands_on, without_first, asked_by, said_more, said_one, taken, taken_by, entered, zero_answered, one_answered, opened_now, data_read, read_by, octets_read, octets_each_read, arrived, data_frames, SendsNext, SendsSome, Takes, Arrives};
 ghost use Rattle.modem_driver.specs.Engines.{served_of, PlacedBy};
 
 use crate::act::Act;
 use crate::stage::Stage;
 use at_text::{CommandLine, LineReader, Seen, Text, UrcKind, Window};
 use modem_desk::{Answer, Ask, Outcome, Request, Urc};
-use mux_frame::{Dlci, FrameBuf, Info, Kind};
+use mux_frame::{Dlci, FrameBuf, FrameView, Info, Kind};
 use std::alloc::{AllocError, Global};
 
 /// A line that ended, and what it is at its place.
@@ -168,10 +168,10 @@ impl Engine {
     }
 
     /// A frame comes: a UA on 0 or 1 and a UIH on 1 are read.
-    pub fn arrive(&mut self, frame: &FrameBuf) -> Result<(), AllocError>
-        ensures { OnOk result (served_of self.new ≡ arrived (served_of self.old) (kept_frame frame.now)) }
+    pub fn arrive(&mut self, frame: FrameView<'_>) -> Result<(), AllocError>
+        ensures { OnOk result (served_of self.new ≡ arrived (served_of self.old) (frame_of frame.entry)) }
     {
-        let copy = frame.view().to_buf(self.alloc)?;
+        let copy = frame.to_buf(self.alloc)?;
         self.acts.push(Act::Got(copy))?;
         match frame.kind {
             Kind::Ua => match frame.dlci.number() {
@@ -179,7 +179,7 @@ impl Engine {
                 1 => self.answer_one(),
                 _ => Ok(()),
             },
-            Kind::Uih if frame.dlci.number() == 1 => self.read_data(frame.info.as_slice()),
+            Kind::Uih if frame.dlci.number() == 1 => self.read_data(frame.info),
             _ => Ok(()),
         }
     }
@@ -317,23 +317,12 @@ impl Engine {
     }
 
     /// A frame comes, and then the next command leaves.
-    pub fn got(&mut self, n1: usize, frame: &FrameBuf) -> Result<(), AllocError>
+    pub fn got(&mut self, n1: usize, frame: FrameView<'_>) -> Result<(), AllocError>
         requires { 0 < n1 }
-        ensures { OnOk result (Arrives n1 (kept_frame frame.now) (served_of self.old) (served_of self.new)) }
+        ensures { OnOk result (Arrives n1 (frame_of frame.entry) (served_of self.old) (served_of self.new)) }
     {
         self.arrive(frame)?;
         self.send_next(n1)
-    }
-
-    /// Frames come, one after the other.
-    pub fn got_all(&mut self, n1: usize, frames: &[FrameBuf]) -> Result<(), AllocError>
-        requires { 0 < n1 }
-        ensures { OnOk result (ArriveAll n1 (map kept_frame frames.now) (served_of self.old) (served_of self.new)) }
-    {
-        for frame in frames {
-            self.got(n1, frame)?;
-        }
-        Ok(())
     }
 
     /// Where no command is under way, the first one in hand leaves: its text and CR, in frames of at

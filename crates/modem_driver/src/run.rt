@@ -1,57 +1,66 @@
 //! A replay of what came to the driver.
-ghost use Rattle.std.specs.Prelude.{◌≡◌, ◌≢◌, ◌↔◌, ◌<◌, ◌⊎◌, map, IfOk, IsErrOf, Err};
-ghost use Rattle.mux_frame.specs.Frames.{kept_frame};
-ghost use Rattle.mux_frame.specs.Reading.{Reads};
+ghost use Rattle.std.specs.Prelude.{◌≡◌, ◌≢◌, ◌↔◌, ◌<◌, ◌⊎◌, [], map, None, OnOk, IfOk, IsErrOf, Err};
 ghost use Rattle.modem_driver.specs.Acts.{act_of};
 ghost use Rattle.modem_driver.specs.Engines.{served_of};
-ghost use Rattle.modem_driver.specs.Served.{ArriveAll};
-ghost use Rattle.modem_driver.specs.Handles.{Handles, HandlesOctets};
+ghost use Rattle.modem_driver.specs.Handles.{Handles, Hears};
 ghost use Rattle.modem_driver.specs.Replays.{IsFirstRun, Replays};
 ghost use Rattle.modem_driver.specs.declared.error.CoreError.TheVariants as CoreError;
 
 use crate::act::{Act, Event};
 use crate::engine::Engine;
 use crate::error::CoreError;
-use mux_frame::laws::read_plain;
+use mux_frame::{Deframer, FrameError};
 use std::alloc::{AllocError, Global};
 
-/// Frames that octets behind the rest read as come, and what is then the rest.
-fn hear(
-    alloc: Global,
-    n1: u16,
-    engine: &mut Engine,
-    rest: Vec<u8>,
-    octets: &[u8],
-) -> Result<Vec<u8>, AllocError>
+/// The frames at hand come, one after the other.
+fn handle_frames(deframer: &mut Deframer, n1: u16, engine: &mut Engine) -> Result<(), AllocError>
     requires { 0 < n1 }
-    ensures { IfOk result (λ last. HandlesOctets n1 octets.now (served_of engine.old) (served_of engine.new) rest.items last.items) }
+    ensures all { OnOk result (deframer.new.next ≡ None) }
+    ensures come { OnOk result (Hears n1 [] deframer.old deframer.new (served_of engine.old) (served_of engine.new)) }
 {
-    let mut text = rest;
-    text.extend_from_slice(octets)?;
-    let Ok((frames, last)) = read_plain(alloc, n1, &text) else {
-        return Err(AllocError);
-    };
-    engine.got_all(usize::from(n1), &frames)?;
-    Ok(last)
+    while let Some(frame) = deframer.peek() {
+        engine.got(usize::from(n1), frame)?;
+        deframer.advance();
+    }
+    Ok(())
 }
 
-/// What one event comes to, and the octets that are then the rest.
-fn handle(
-    alloc: Global,
+/// Octets come, as much at a time as there is room for.
+fn hear(
+    deframer: &mut Deframer,
     n1: u16,
     engine: &mut Engine,
-    rest: Vec<u8>,
+    octets: &[u8],
+) -> Result<(), AllocError>
+    requires n1 { 0 < n1 }
+    requires idle { deframer.old.next ≡ None }
+    ensures all { OnOk result (deframer.new.next ≡ None) }
+    ensures come { OnOk result (Hears n1 octets.now deframer.old deframer.new (served_of engine.old) (served_of engine.new)) }
+{
+    let mut left = octets;
+    while !left.is_empty() {
+        let count = deframer.feed(left);
+        (_, left) = left.split_at(count);
+        handle_frames(deframer, n1, engine)?;
+    }
+    Ok(())
+}
+
+/// What one event comes to.
+fn handle(
+    deframer: &mut Deframer,
+    n1: u16,
+    engine: &mut Engine,
     event: &Event,
-) -> Result<Vec<u8>, AllocError>
-    requires { 0 < n1 }
-    ensures { IfOk result (λ last. Handles n1 event.now (served_of engine.old) (served_of engine.new) rest.items last.items) }
+) -> Result<(), AllocError>
+    requires n1 { 0 < n1 }
+    requires idle { deframer.old.next ≡ None }
+    ensures all { OnOk result (deframer.new.next ≡ None) }
+    ensures come { OnOk result (Handles n1 event.now deframer.old deframer.new (served_of engine.old) (served_of engine.new)) }
 {
     match event {
-        Event::Ask(request) => {
-            engine.took(usize::from(n1), request.copy()?)?;
-            Ok(rest)
-        }
-        Event::Octets(octets) => hear(alloc, n1, engine, rest, octets.as_slice()),
+        Event::Ask(request) => engine.took(usize::from(n1), request.copy()?),
+        Event::Octets(octets) => hear(deframer, n1, engine, octets.as_slice()),
     }
 }
 
@@ -62,13 +71,14 @@ pub fn replay(alloc: Global, n1: u16, events: &[Event]) -> Result<Vec<Act>, Core
     ensures others { result ≢ Err CoreError.NoRoom }
     ensures ok { IfOk result (λ acts. IsFirstRun n1 events.now → Replays n1 events.now (map act_of acts.items)) }
 {
-    if n1 < 31 || n1 > 32767 {
-        return Err(CoreError::BadN1);
-    }
+    let mut deframer = match Deframer::new(alloc, n1) {
+        Ok(deframer) => deframer,
+        Err(FrameError::BadN1) => return Err(CoreError::BadN1),
+        Err(_) => return Err(CoreError::NoMemory),
+    };
     let mut engine = Engine::new(alloc);
-    let mut rest = Vec::new(alloc);
     for event in events {
-        rest = handle(alloc, n1, &mut engine, rest, event)?;
+        handle(&mut deframer, n1, &mut engine, event)?;
     }
     Ok(engine.acts)
 }
