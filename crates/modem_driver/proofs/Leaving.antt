@@ -48,7 +48,7 @@ passed true b d a acts qs more same = record { rest = []; joins = refl }
 passed false true d a acts qs more same = more
 passed false false d a acts qs more same = same
 
-when_true : {P : Type 0} (b : Bool) → b ≡ true → When b P → P
+pub when_true : {P : Type 0} (b : Bool) → b ≡ true → When b P → P
 when_true true e h = h
 when_true false e h = cc
 

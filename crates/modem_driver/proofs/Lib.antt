@@ -3,10 +3,12 @@ pub mod WholeLaws
 pub mod Leaving
 pub mod Losing
 pub mod Outcomes
+pub mod Begins
 pub mod Tellings
 pub mod Standing
 pub mod Laning
 pub mod Counts
+pub mod Wholly
 pub mod Sends
 pub mod Calling
 pub mod Hands

@@ -255,10 +255,10 @@ kind_is Ua e = cc
 kind_is Dm e = cc
 kind_is Disc e = cc
 
-abbrev data_on : ℕ → Frame → Frame
+abbrev pub data_on : ℕ → Frame → Frame
 data_on d f = record { dlci = d; kind = Uih; cr = f.cr; pf = f.pf; info = f.info }
 
-is_data : (f : Frame) → is_data_frame f ≡ true → f ≡ data_on f.dlci f
+pub is_data : (f : Frame) → is_data_frame f ≡ true → f ≡ data_on f.dlci f
 is_data f e =
     let parts = and_parts (is_kind f.kind Uih) (not (f.dlci == 0)) e in
     ap (λ (k : Kind). record { dlci = f.dlci; kind = k; cr = f.cr; pf = f.pf; info = f.info }) (kind_is f.kind parts.0)

@@ -5,14 +5,14 @@ use Rattle.mux_frame.specs.Frames.{Frame}
 use Rattle.mux_station.specs.Written.{is_data_frame}
 use Rattle.at_text.specs.declared.answer.AnswerLine.{AnswerLine}
 use Rattle.at_text.specs.Lines.{lines}
-use Rattle.at_text.specs.Windows.{Line, Window, answer_of, is_answered, last_window}
+use Rattle.at_text.specs.Windows.{Mark, Line, Window, IsInTurn, windows, answer_of, is_answered, last_window}
 use Rattle.at_text.specs.Seeing.{answer_lines}
 use Rattle.modem_desk.specs.declared.request.Request.{Request}
 use Rattle.modem_desk.specs.declared.request.Answer.TheVariants.{Done}
 use Rattle.modem_desk.specs.declared.request.Outcome.{Outcome}
 use Rattle.modem_driver.specs.Acts.{Act, Took, Got, Sent, Told, Heard, Lost, Given, is_for, after}
-use Rattle.modem_driver.specs.Information.{information_out, accepted, texts}
-use Rattle.modem_driver.specs.Placing.{marks, run_on}
+use Rattle.modem_driver.specs.Information.{information_out, accepted, texts, line_of}
+use Rattle.modem_driver.specs.Placing.{marks, run_on, whole_after}
 use Rattle.modem_driver.specs.Calls.{Setting, calls, calls_behind, is_lost}
 use Rattle.modem_driver.specs.Lawful.{Lawful, Complete, owed, owed_after}
 
@@ -68,6 +68,18 @@ pub record IsPrefixOf (xs ys : List ℕ) : Type 0 where
 -- what left since d opened is a prefix of the commands accepted since then, each as it goes out
 abbrev pub LeavesOnce : Setting → List Act → Type 0
 LeavesOnce s past = (d : ℕ) → IsPrefixOf (information_out s.role d past) (concat (texts (accepted s.role d past)))
+
+-- the commands that began, in order
+abbrev pub begun_in : List Mark → List (List ℕ)
+begun_in ms = map (λ (w : Window). w.command) (windows ms)
+
+-- the commands that began since d opened are those of the accepted that are wholly sent, each where no window is open
+pub record AreInTurn (s : Setting) (d : ℕ) (past : List Act) : Type 0 where
+  pub in_turn : IsInTurn (marks s.role d past)
+  pub first : begun_in (marks s.role d past) ≡ map line_of (whole_after (length (information_out s.role d past)) (accepted s.role d past))
+
+unfoldable pub BeginsInTurn : Setting → List Act → Type 0
+BeginsInTurn s past = (d : ℕ) → AreInTurn s d past
 
 -- nothing is sent once the line is lost
 abbrev pub NoneAfterLoss : Setting → List Act → Type 0

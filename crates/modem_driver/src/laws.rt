@@ -4,18 +4,20 @@ ghost use Rattle.modem_driver.specs.Acts.{Act};
 ghost use Rattle.modem_driver.specs.Calls.{Setting};
 ghost use Rattle.modem_driver.specs.Lawful.{Lawful};
 ghost use Rattle.modem_driver.specs.Rows.{csq, data_before_opening, told_another, told_early, told_twice, IsGood, IsRefused};
-ghost use Rattle.modem_driver.specs.Wholes.{AnswersOnce, CallGoesOn, IsBeginning, LeavesOnce, NoneAfterLoss, TellsAnswers};
+ghost use Rattle.modem_driver.specs.Wholes.{AnswersOnce, BeginsInTurn, CallGoesOn, IsBeginning, LeavesOnce, NoneAfterLoss, TellsAnswers};
 
 /// Of all that a lawful history called for, what stands in it is the beginning; and a call that does just what
 /// its first act calls for keeps a history lawful and complete. What left a connection since it opened is a
-/// prefix of the command lines accepted on it since then, and nothing is sent once the line is lost. Each outcome answers a request that was taken before it,
-/// and where no caller uses a number twice no request has two. Each answer that was told is that of the window of the
-/// last command, at the line that ended it.
-#[tactic(auto, using(crate::proofs::WholeLaws::beginning, crate::proofs::WholeLaws::call_goes_on, crate::proofs::Leaving::leaves_once, crate::proofs::Losing::none_after_loss, crate::proofs::Outcomes::answers_once, crate::proofs::Tellings::tells_answers))]
+/// prefix of the command lines accepted on it since then, and nothing is sent once the line is lost. The commands
+/// that began since then are the accepted ones that are wholly sent, each where no window is open. Each outcome
+/// answers a request that was taken before it, and where no caller uses a number twice no request has two. Each
+/// answer that was told is that of the window of the last command, at the line that ended it.
+#[tactic(auto, using(crate::proofs::WholeLaws::beginning, crate::proofs::WholeLaws::call_goes_on, crate::proofs::Leaving::leaves_once, crate::proofs::Losing::none_after_loss, crate::proofs::Begins::begins_in_turn, crate::proofs::Outcomes::answers_once, crate::proofs::Tellings::tells_answers))]
 pub fn histories()
     ensures beginning { (s : Setting) (past : List Act) → Lawful s past → IsBeginning s past }
     ensures leaves { (s : Setting) (past : List Act) → Lawful s past → LeavesOnce s past }
     ensures loss { (s : Setting) (past : List Act) → NoneAfterLoss s past }
+    ensures begins { (s : Setting) (past : List Act) → Lawful s past → BeginsInTurn s past }
     ensures answers { (s : Setting) (past : List Act) → Lawful s past → AnswersOnce past }
     ensures tells { (s : Setting) (past : List Act) → Lawful s past → TellsAnswers s past }
     ensures call { (s : Setting) (past : List Act) (a : Act) → CallGoesOn s past a }
