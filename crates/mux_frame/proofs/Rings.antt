@@ -1,6 +1,7 @@
 -- The octets of a deframer.
-use Rattle.std.proofs.Common.{◌≡◌, ◌≢◌, ℕ, suc, ◌+◌, ◌<◌, ◌≤◌, ◌==◌, Bool, true, false, List, [], ◌∷◌, ◌++◌, Option, None, Some, length, drop, refl, if◌then◌else◌, sym, ap, subst, ◌∙◌, arith, append_assoc}
-use Rattle.std.specs.Prelude.{unwrap_or, slice_get}
+use Rattle.std.proofs.Common.{◌≡◌, ◌≢◌, ℕ, suc, ◌+◌, ◌<◌, ◌≤◌, ◌==◌, Bool, true, false, List, [], ◌∷◌, ◌++◌, Option, None, Some, length, take, drop, refl, if◌then◌else◌, sym, ap, subst, ◌∙◌, arith, append_assoc}
+use Rattle.std.specs.Prelude.{unwrap_or, slice_get, IsTrue}
+use mir.Val.{bool_byte}
 use Rattle.std.proofs.lemmas.Bool.{eqb-true}
 use Rattle.std.proofs.lemmas.List.{drop_all, drop-append-le, append-nil, drop-drop, length-drop}
 use Rattle.std.proofs.Math.Seq.{drop-append-add}
@@ -9,7 +10,7 @@ use Rattle.mux_frame.specs.Spelling.{flag}
 use Rattle.mux_frame.specs.Reading.{after_flag}
 use Rattle.mux_frame.specs.Places.{from_flag}
 use Rattle.circular_buffer.specs.Buffer.{Buffer, buffer}
-use Rattle.mux_frame.specs.Judging.{unfinished, refused, verdict_on, IsRefused, Means}
+use Rattle.mux_frame.specs.Judging.{Verdict, unfinished, refused, by_header, verdict_on, IsRefused, Means}
 use Rattle.mux_frame.specs.Deframing.{decision_on, SameReading}
 use Rattle.mux_frame.specs.Laws.{AreOctets}
 use Rattle.mux_frame.proofs.Judgements.{verdict_means}
@@ -77,6 +78,23 @@ decision_other n1 x (y ∷ t) e h = decision_other-at n1 y t (y == flag) refl (�
 pub decision_none : (n1 : ℕ) (u : List ℕ) → None ≡ slice_get u 0 → unfinished ≡ decision_on n1 u
 decision_none n1 [] e = refl
 decision_none n1 (y ∷ t) e = cc
+
+two_flags : (n1 : ℕ) (s : List ℕ) → refused ≡ decision_on n1 (flag ∷ flag ∷ s)
+unfolding verdict_on by_header
+two_flags n1 s = refl
+
+-- with a flag behind a flag, no frame begins
+pub decision_flags : (n1 x y : ℕ) (u t : List ℕ) → u ≡ x ∷ t → x ≡ flag → Some y ≡ slice_get t 0 → y ≡ flag → refused ≡ decision_on n1 u
+decision_flags n1 x y u [] e h g k = cc
+decision_flags n1 x y u (z ∷ s) e h g k =
+    let same : u ≡ flag ∷ flag ∷ s = cc in
+    rw same (two_flags n1 s)
+
+-- behind a flag, the decision is the verdict
+pub decision_behind : (n1 x : ℕ) (u t : List ℕ) (v : Verdict) → u ≡ x ∷ t → x ≡ flag → v ≡ verdict_on n1 t → v ≡ decision_on n1 u
+decision_behind n1 x u t v e h g =
+    let same : u ≡ flag ∷ t = cc in
+    rw same g
 
 refused_more : (n1 : ℕ) (t y : List ℕ) → IsRefused n1 t → IsRefused n1 (t ++ y)
 refused_more n1 t y r b x z f s e = r b x (y ++ z) f s (e ∙ append_assoc t y z)
@@ -188,6 +206,21 @@ settles_at_more n1 start place s h e l d =
       within = omega (arith, k, i, j, l, w);
       settles = settles_more n1 (buffer s 0) (buffer (drop start s) 0) (buffer (drop (start + (1 + place)) s) 0) h.settles e (ap (λ x. buffer x 0) t);
     }
+
+-- with a flag behind a flag, the first begins no frame
+settles_two_flags : (n1 : ℕ) (t : List ℕ) → AreOctets (flag ∷ flag ∷ t) → SettlesAt n1 (flag ∷ flag ∷ t) 1
+settles_two_flags n1 t o = settles_at_more n1 0 0 (flag ∷ flag ∷ t) (settles_at_none n1 (flag ∷ flag ∷ t) o) (two_flags n1 t) (omega arith) refl
+
+settles_at_two : (n1 : ℕ) (s : List ℕ) → take 2 s ≡ flag ∷ flag ∷ [] → AreOctets s → SettlesAt n1 s 1
+settles_at_two n1 [] e o = cc
+settles_at_two n1 (x ∷ []) e o = cc
+settles_at_two n1 (x ∷ y ∷ t) e o =
+    let same : flag ∷ flag ∷ t ≡ x ∷ y ∷ t = cc in
+    subst (λ z. SettlesAt n1 z 1) same (settles_two_flags n1 t (subst AreOctets (sym same) o))
+
+pub settles_at_flags : (n1 start : ℕ) (s : List ℕ) (b : Bool) → start ≡ bool_byte b → (IsTrue b → take 2 s ≡ flag ∷ flag ∷ []) → AreOctets s → SettlesAt n1 s start
+settles_at_flags n1 start s true e h o = rw e (settles_at_two n1 s (h refl) o)
+settles_at_flags n1 start s false e h o = rw e (settles_at_none n1 s o)
 
 -- the first flag in one slice
 pub flag_in_slice : (xs : List ℕ) (r : Option ℕ) (n : ℕ) → IsFirstByte (is_byte flag) xs r → n ≡ unwrap_or r (length xs) → drop n xs ≡ from_flag xs

@@ -1,7 +1,7 @@
 //! Candidates are judged: what the octets after a flag can be (27.010, 5.2.1).
 ghost use Rattle.std.specs.Prelude.{◌≡◌, ◌+◌, ◌/◌, ◌^◌, ◌<◌, ◌≤◌, drop, length, option_map, slice_get};
 ghost use Rattle.mux_frame.specs.Frames.{frame_of};
-ghost use Rattle.mux_frame.specs.Judging.{Means, by_end, by_header, by_length, frame_at, kind_in, verdict_on};
+ghost use Rattle.mux_frame.specs.Judging.{Means, by_end, by_header, by_length, by_rest, fits, frame_at, kind_in, verdict_on};
 ghost use Rattle.mux_frame.specs.Judged.{IsWholeFront, header_seen, verdict_seen};
 ghost use Rattle.mux_frame.specs.Deframing.{next_in};
 
@@ -148,10 +148,7 @@ impl Verdict {
     {
         let lengths = (octet_at(text, 2), octet_at(text, 3));
         match Verdict::by_header(n1, octet_at(text, 0), octet_at(text, 1), lengths) {
-            Verdict::Fits(header) => {
-                let place = header.check_place();
-                header.by_end(octet_at(text, place), octet_at(text, place + 1))
-            }
+            Verdict::Fits(header) => header.by_rest(text),
             Verdict::Unfinished => Verdict::Unfinished,
             Verdict::Refused => Verdict::Refused,
         }
@@ -183,6 +180,19 @@ impl Header {
             None => Verdict::Unfinished,
             Some(FLAG) => Verdict::Fits(self),
             Some(_) => Verdict::Refused,
+        }
+    }
+
+    #[inline(always)]
+    /// The verdict by these octets after a flag, which begin with the header's.
+    fn by_rest(self, text: &[u8]) -> Verdict
+        ensures { verdict_seen result ≡ by_rest text.now (fits (header_seen self)) }
+    {
+        let place = self.check_place();
+        if place + 1 < text.len() {
+            self.by_end(Some(text[place]), Some(text[place + 1]))
+        } else {
+            self.by_end(octet_at(text, place), None)
         }
     }
 

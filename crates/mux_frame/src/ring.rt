@@ -1,11 +1,12 @@
 //! The octets of a deframer, in a ring.
-ghost use Rattle.std.specs.Prelude.{◌≡◌, ◌≢◌, ◌+◌, ◌<◌, ◌≤◌, ◌^◌, drop, length, slice_get};
+ghost use Rattle.std.specs.Prelude.{◌≡◌, ◌≢◌, ◌+◌, ◌<◌, ◌≤◌, ◌^◌, ◌∷◌, ◌↔◌, [], drop, length, slice_get, take, IfSome, IsTrue};
 ghost use Rattle.circular_buffer.specs.Buffer.{buffer};
 ghost use Rattle.mux_frame.specs.Deframing.{SameReading, decision_on};
-ghost use Rattle.mux_frame.specs.Judged.{IsAtHand, verdict_seen};
+ghost use Rattle.mux_frame.specs.Judged.{IsAtHand, IsAtPlace, verdict_seen};
 ghost use Rattle.mux_frame.specs.Judging.{refused};
 ghost use Rattle.mux_frame.specs.Laws.{AreOctets};
 ghost use Rattle.mux_frame.specs.Places.{from_flag};
+ghost use Rattle.mux_frame.specs.Spelling.{flag};
 
 use crate::judge::Verdict;
 use crate::undecided::Undecided;
@@ -60,7 +61,10 @@ fn slice_verdict(octets: &[u8], n1: u16) -> Verdict
     ensures { verdict_seen result ≡ decision_on n1 octets.now }
 {
     match octets.split_first() {
-        Some((&FLAG, text)) => Verdict::on(n1, text),
+        Some((&FLAG, text)) => match text.first() {
+            Some(&FLAG) => Verdict::Refused,
+            _ => Verdict::on(n1, text),
+        },
         Some(_) => Verdict::Refused,
         None => Verdict::Unfinished,
     }
@@ -87,10 +91,11 @@ fn wrapped_verdict(octets: &Undecided, n1: u16) -> Verdict
     }
 }
 
+#[inline(never)]
 /// How many octets of one slice begin no frame: where a candidate fails, only its flag, and then
 /// what stands before the next flag. Where a frame is whole behind them, it gives the place of its
 /// check octet, counted from its address octet.
-fn settled_slice(octets: &[u8], n1: u16) -> (usize, Option<usize>)
+fn searched_slice(octets: &[u8], n1: u16) -> (usize, Option<usize>)
     requires { AreOctets octets.now }
     ensures within { result.0 ≤ length octets.now }
     ensures decided { decision_on n1 (drop result.0 octets.now) ≢ refused }
@@ -114,6 +119,54 @@ fn settled_slice(octets: &[u8], n1: u16) -> (usize, Option<usize>)
     }
 }
 
+#[inline(always)]
+/// Whether a flag stands at the front with another flag behind it.
+fn has_two_flags(octets: &[u8]) -> bool
+    ensures { IsTrue result ↔ take 2 octets.now ≡ flag ∷ flag ∷ [] }
+{
+    match octets.split_first() {
+        Some((&FLAG, text)) => text.first() == Some(&FLAG),
+        _ => false,
+    }
+}
+
+#[inline(always)]
+/// Where the octets of one slice begin with a whole frame, the place of its check octet, counted
+/// from its address octet.
+fn whole_place(octets: &[u8], n1: u16) -> Option<usize>
+    requires { AreOctets octets.now }
+    ensures { IfSome result (IsAtPlace n1 octets.now) }
+{
+    match octets.split_first() {
+        Some((&FLAG, text)) if text.len() >= 4 => match Verdict::on(n1, text) {
+            Verdict::Fits(header) => Some(header.check_place()),
+            _ => None,
+        },
+        _ => None,
+    }
+}
+
+#[inline(always)]
+/// The same, at once where a whole frame stands at the front, or behind the closing flag of another
+/// one.
+fn settled_slice(octets: &[u8], n1: u16) -> (usize, Option<usize>)
+    requires { AreOctets octets.now }
+    ensures within { result.0 ≤ length octets.now }
+    ensures decided { decision_on n1 (drop result.0 octets.now) ≢ refused }
+    ensures reads { SameReading n1 octets.now (drop result.0 octets.now) }
+    ensures kept { decision_on n1 octets.now ≢ refused →
+        drop result.0 octets.now ≡ octets.now }
+    ensures octets { AreOctets (drop result.0 octets.now) }
+    ensures at_hand { IsAtHand n1 (drop result.0 octets.now) result.1 }
+{
+    let start = usize::from(has_two_flags(octets));
+    let (_, left) = octets.split_at(start);
+    match whole_place(left, n1) {
+        Some(place) => (start, Some(place)),
+        None => searched_slice(octets, n1),
+    }
+}
+
 /// Drops what begins no frame: where a candidate fails, only its flag, and then what stands before
 /// the next flag. Where a frame is whole at the front then, it gives the place of its check octet,
 /// counted from its address octet.
@@ -127,11 +180,10 @@ pub(crate) fn settle(octets: &mut Undecided, n1: u16) -> Option<usize>
     ensures capacity { octets.new.capacity ≡ octets.old.capacity }
     ensures at_hand { IsAtHand n1 octets.new.items result }
 {
-    let (front, back) = octets.as_slices();
-    if !back.is_empty() {
+    let Some(straight) = octets.straight() else {
         return settle_wrapped(octets, n1);
-    }
-    let (count, check_place) = settled_slice(front, n1);
+    };
+    let (count, check_place) = settled_slice(straight, n1);
     octets.remove_front(count);
     check_place
 }

@@ -1,5 +1,5 @@
 //! The octets of a deframer that are not decided yet.
-ghost use Rattle.std.specs.Prelude.{◌≡◌, ◌+◌, ◌-◌, ◌≤◌, ◌++◌, [], drop, length, min, slice_get, take, IfOk};
+ghost use Rattle.std.specs.Prelude.{◌≡◌, ◌+◌, ◌-◌, ◌≤◌, ◌++◌, [], drop, length, min, slice_get, take, IfOk, IfSome};
 ghost use Rattle.std.specs.Borrow.{sem};
 ghost use Rattle.std.specs.Io.BufRead.{Rests};
 ghost use Rattle.circular_buffer.specs.Buffer.{buffer};
@@ -96,11 +96,25 @@ impl Undecided {
         }
     }
 
+    /// The octets, where they don't wrap round.
+    pub(crate) fn straight(&self) -> Option<&[u8]>
+        ensures { IfSome result (λ octets. octets.now ≡ self.now.items) }
+    {
+        let (front, back) = self.octets.as_slices();
+        if back.is_empty() {
+            Some(&front[self.passed..])
+        } else {
+            None
+        }
+    }
+
     /// Takes this many octets off the front.
     pub(crate) fn remove_front(&mut self, count: usize)
+        requires { count ≤ length self.old.items }
         ensures { self.new ≡ buffer (drop count self.old.items) self.old.capacity }
     {
-        self.passed += count.min(self.octets.len() - self.passed);
+        let _most = self.octets.len();
+        self.passed += count;
     }
 
     /// The octets in one slice, to be read.

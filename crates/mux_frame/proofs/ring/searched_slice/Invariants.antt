@@ -1,6 +1,6 @@
 use Rattle.std.proofs.Common.{◌-◌, length}
 use Rattle.mux_frame.proofs.Rings.{SettlesAt}
-use Rattle.mux_frame.proofs.ring.settled_slice.Given as goal
+use Rattle.mux_frame.proofs.ring.searched_slice.Given as goal
 
 abbrev pub invariant-loop-header : goal.invariant-loop-header
 invariant-loop-header l = SettlesAt l.n1 l.octets l.start
