@@ -1,6 +1,6 @@
 -- The octets of a deframer.
-use Rattle.std.proofs.Common.{◌≡◌, ◌≢◌, ℕ, suc, ◌+◌, ◌<◌, ◌≤◌, ◌==◌, Bool, true, false, List, [], ◌∷◌, ◌++◌, Option, None, Some, length, take, drop, refl, if◌then◌else◌, sym, ap, subst, ◌∙◌, arith, append_assoc}
-use Rattle.std.specs.Prelude.{unwrap_or, slice_get, IsTrue}
+use Rattle.std.proofs.Common.{◌≡◌, ◌≢◌, ℕ, suc, ◌+◌, ◌<◌, ◌≤◌, ◌==◌, Bool, true, false, List, [], ◌∷◌, ◌++◌, Option, None, Some, length, drop, refl, if◌then◌else◌, sym, ap, subst, ◌∙◌, arith, append_assoc}
+use Rattle.std.specs.Prelude.{unwrap_or, slice_get}
 use mir.Val.{bool_byte}
 use Rattle.std.proofs.lemmas.Bool.{eqb-true}
 use Rattle.std.proofs.lemmas.List.{drop_all, drop-append-le, append-nil, drop-drop, length-drop}
@@ -10,10 +10,12 @@ use Rattle.mux_frame.specs.Spelling.{flag}
 use Rattle.mux_frame.specs.Reading.{after_flag}
 use Rattle.mux_frame.specs.Places.{from_flag}
 use Rattle.circular_buffer.specs.Buffer.{Buffer, buffer}
-use Rattle.mux_frame.specs.Judging.{Verdict, unfinished, refused, by_header, verdict_on, IsRefused, Means}
+use Rattle.mux_frame.specs.Judging.{Verdict, unfinished, refused, fits, by_header, verdict_on, IsRefused, Means}
 use Rattle.mux_frame.specs.Deframing.{decision_on, SameReading}
+use Rattle.mux_frame.specs.Judged.{IsAtPlace, IsCandidate, IsWholeTo}
 use Rattle.mux_frame.specs.Laws.{AreOctets}
 use Rattle.mux_frame.proofs.Judgements.{verdict_means}
+use Rattle.mux_frame.proofs.Pasts.{at_place}
 use Rattle.mux_frame.proofs.Slow.{refused_reads}
 use Rattle.mux_frame.proofs.Flags.{found_none, found_some}
 use Rattle.mux_frame.proofs.ReadingOn.{after_flag-none, after_flag-some, same_after}
@@ -211,16 +213,33 @@ settles_at_more n1 start place s h e l d =
 settles_two_flags : (n1 : ℕ) (t : List ℕ) → AreOctets (flag ∷ flag ∷ t) → SettlesAt n1 (flag ∷ flag ∷ t) 1
 settles_two_flags n1 t o = settles_at_more n1 0 0 (flag ∷ flag ∷ t) (settles_at_none n1 (flag ∷ flag ∷ t) o) (two_flags n1 t) (omega arith) refl
 
-settles_at_two : (n1 : ℕ) (s : List ℕ) → take 2 s ≡ flag ∷ flag ∷ [] → AreOctets s → SettlesAt n1 s 1
-settles_at_two n1 [] e o = cc
-settles_at_two n1 (x ∷ []) e o = cc
-settles_at_two n1 (x ∷ y ∷ t) e o =
-    let same : flag ∷ flag ∷ t ≡ x ∷ y ∷ t = cc in
-    subst (λ z. SettlesAt n1 z 1) same (settles_two_flags n1 t (subst AreOctets (sym same) o))
+-- what stands behind a candidate's flag, and that nothing is lost ahead of it
+pub settles_at_candidate : (n1 start : ℕ) (s text : List ℕ) (b : Bool) → start ≡ bool_byte b → IsCandidate s b text → AreOctets s → SettlesAt n1 s start
+settles_at_candidate n1 start s text true e h o = rw (e, h) (settles_two_flags n1 text (subst AreOctets h o))
+settles_at_candidate n1 start s text false e h o = rw e (settles_at_none n1 s o)
 
-pub settles_at_flags : (n1 start : ℕ) (s : List ℕ) (b : Bool) → start ≡ bool_byte b → (IsTrue b → take 2 s ≡ flag ∷ flag ∷ []) → AreOctets s → SettlesAt n1 s start
-settles_at_flags n1 start s true e h o = rw e (settles_at_two n1 s (h refl) o)
-settles_at_flags n1 start s false e h o = rw e (settles_at_none n1 s o)
+pub candidate_behind : (start : ℕ) (s text : List ℕ) (b : Bool) → start ≡ bool_byte b → IsCandidate s b text → drop start s ≡ flag ∷ text
+candidate_behind start s text true e h = rw (e, h) refl
+candidate_behind start s text false e h = rw (e, h) refl
+
+-- a whole frame there is at hand
+pub candidate_whole : (n1 start place : ℕ) (s text : List ℕ) (b : Bool) → start ≡ bool_byte b → IsCandidate s b text → AreOctets s → IsWholeTo n1 text place → IsAtPlace n1 (drop start s) place
+candidate_whole n1 start place s text b e h o w =
+    let d = candidate_behind start s text b e h in
+    let a = settles_at_candidate n1 start s text b e h o in
+    at_place n1 place (drop start s) w.header a.settles.octets (decision_behind n1 flag (drop start s) text (fits w.header) d refl w.verdict) w.place_is
+
+one_flag : (n1 : ℕ) → unfinished ≡ decision_on n1 (flag ∷ [])
+unfolding verdict_on by_header
+one_flag n1 = refl
+
+-- where nothing stands behind its flag, it is unfinished
+pub candidate_empty : (n1 start : ℕ) (s text : List ℕ) (b : Bool) → start ≡ bool_byte b → IsCandidate s b text → true ≡ (length text == 0) → unfinished ≡ decision_on n1 (drop start s)
+candidate_empty n1 start s [] b e h t = rw (candidate_behind start s [] b e h) (one_flag n1)
+candidate_empty n1 start s (x ∷ t) b e h k = let z = eqb-true (length (x ∷ t)) 0 (sym k) in absurd (omega (arith, z))
+
+pub unfinished_stays : (n1 : ℕ) (u : List ℕ) → unfinished ≡ decision_on n1 u → decision_on n1 u ≢ refused
+unfinished_stays n1 u e k = no_refused (e ∙ k)
 
 -- the first flag in one slice
 pub flag_in_slice : (xs : List ℕ) (r : Option ℕ) (n : ℕ) → IsFirstByte (is_byte flag) xs r → n ≡ unwrap_or r (length xs) → drop n xs ≡ from_flag xs

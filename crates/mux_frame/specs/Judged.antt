@@ -1,7 +1,8 @@
 -- Verdicts as the code has them.
-use Rattle.std.specs.Prelude.{◌≡◌, ℕ, ◌+◌, ◌≤◌, List, Option, None, Some, drop, length}
+use Rattle.std.specs.Prelude.{◌≡◌, ℕ, ◌+◌, ◌≤◌, Bool, List, ◌∷◌, Option, None, Some, drop, length, if◌then◌else◌}
 use Rattle.mux_frame.specs.Deframing.{IsFront, IsSettled, decision_on, next_in}
-use Rattle.mux_frame.specs.Judging.{Header, Verdict, unfinished, refused, fits, frame_at}
+use Rattle.mux_frame.specs.Judging.{Header, Verdict, unfinished, refused, fits, frame_at, verdict_on}
+use Rattle.mux_frame.specs.Spelling.{flag}
 use Rattle.mux_frame.specs.declared.judge.Header.{Header as HeaderValue}
 use Rattle.mux_frame.specs.declared.judge.Verdict.{Verdict as VerdictValue}
 use Rattle.mux_frame.specs.declared.judge.Verdict.TheVariants.{Unfinished, Refused, Fits}
@@ -23,6 +24,16 @@ abbrev pub verdict_seen : VerdictValue → Verdict
 verdict_seen Unfinished = unfinished
 verdict_seen Refused = refused
 verdict_seen (Fits h) = fits (header_seen h)
+
+-- the octets are this text behind a flag, or behind two
+abbrev pub IsCandidate : List ℕ → Bool → List ℕ → Type 0
+IsCandidate octets is_second text = octets ≡ (if is_second then flag ∷ flag ∷ text else flag ∷ text)
+
+-- the text after a flag begins with a whole frame, whose check octet stands at this place
+pub record IsWholeTo (n1 : ℕ) (text : List ℕ) (place : ℕ) : Type 0 where
+  pub header : Header
+  pub verdict : fits header ≡ verdict_on n1 text
+  pub place_is : place ≡ header.size + header.info_len
 
 -- the octets begin with a whole frame
 pub record IsWholeFront (n1 : ℕ) (octets : List ℕ) : Type 0 where

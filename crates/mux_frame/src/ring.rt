@@ -1,12 +1,11 @@
 //! The octets of a deframer, in a ring.
-ghost use Rattle.std.specs.Prelude.{◌≡◌, ◌≢◌, ◌+◌, ◌<◌, ◌≤◌, ◌^◌, ◌∷◌, ◌↔◌, [], drop, length, slice_get, take, IfSome, IsTrue};
+ghost use Rattle.std.specs.Prelude.{◌≡◌, ◌≢◌, ◌+◌, ◌<◌, ◌≤◌, ◌^◌, drop, length, slice_get, IfSome};
 ghost use Rattle.circular_buffer.specs.Buffer.{buffer};
 ghost use Rattle.mux_frame.specs.Deframing.{SameReading, decision_on};
-ghost use Rattle.mux_frame.specs.Judged.{IsAtHand, IsAtPlace, verdict_seen};
+ghost use Rattle.mux_frame.specs.Judged.{IsAtHand, IsCandidate, IsWholeTo, verdict_seen};
 ghost use Rattle.mux_frame.specs.Judging.{refused};
 ghost use Rattle.mux_frame.specs.Laws.{AreOctets};
 ghost use Rattle.mux_frame.specs.Places.{from_flag};
-ghost use Rattle.mux_frame.specs.Spelling.{flag};
 
 use crate::judge::Verdict;
 use crate::undecided::Undecided;
@@ -91,7 +90,6 @@ fn wrapped_verdict(octets: &Undecided, n1: u16) -> Verdict
     }
 }
 
-#[inline(never)]
 /// How many octets of one slice begin no frame: where a candidate fails, only its flag, and then
 /// what stands before the next flag. Where a frame is whole behind them, it gives the place of its
 /// check octet, counted from its address octet.
@@ -120,50 +118,31 @@ fn searched_slice(octets: &[u8], n1: u16) -> (usize, Option<usize>)
 }
 
 #[inline(always)]
-/// Whether a flag stands at the front with another flag behind it.
-fn has_two_flags(octets: &[u8]) -> bool
-    ensures { IsTrue result ↔ take 2 octets.now ≡ flag ∷ flag ∷ [] }
+/// The octets behind a flag at the front, or behind a second flag: then the first one is most often
+/// the closing flag of another frame.
+fn candidate(octets: &[u8]) -> Option<(bool, &[u8])>
+    ensures { IfSome result (λ c. IsCandidate octets.now c.0 c.1.now) }
 {
     match octets.split_first() {
-        Some((&FLAG, text)) => text.first() == Some(&FLAG),
-        _ => false,
-    }
-}
-
-#[inline(always)]
-/// Where the octets of one slice begin with a whole frame, the place of its check octet, counted
-/// from its address octet.
-fn whole_place(octets: &[u8], n1: u16) -> Option<usize>
-    requires { AreOctets octets.now }
-    ensures { IfSome result (IsAtPlace n1 octets.now) }
-{
-    match octets.split_first() {
-        Some((&FLAG, text)) if text.len() >= 4 => match Verdict::on(n1, text) {
-            Verdict::Fits(header) => Some(header.check_place()),
-            _ => None,
+        Some((&FLAG, text)) => match text.split_first() {
+            Some((&FLAG, text)) => Some((true, text)),
+            _ => Some((false, text)),
         },
         _ => None,
     }
 }
 
 #[inline(always)]
-/// The same, at once where a whole frame stands at the front, or behind the closing flag of another
-/// one.
-fn settled_slice(octets: &[u8], n1: u16) -> (usize, Option<usize>)
-    requires { AreOctets octets.now }
-    ensures within { result.0 ≤ length octets.now }
-    ensures decided { decision_on n1 (drop result.0 octets.now) ≢ refused }
-    ensures reads { SameReading n1 octets.now (drop result.0 octets.now) }
-    ensures kept { decision_on n1 octets.now ≢ refused →
-        drop result.0 octets.now ≡ octets.now }
-    ensures octets { AreOctets (drop result.0 octets.now) }
-    ensures at_hand { IsAtHand n1 (drop result.0 octets.now) result.1 }
+/// Where the octets after a flag begin with a whole frame, the place of its check octet.
+fn whole_place(n1: u16, text: &[u8]) -> Option<usize>
+    ensures { IfSome result (IsWholeTo n1 text.now) }
 {
-    let start = usize::from(has_two_flags(octets));
-    let (_, left) = octets.split_at(start);
-    match whole_place(left, n1) {
-        Some(place) => (start, Some(place)),
-        None => searched_slice(octets, n1),
+    if text.len() < 4 {
+        return None;
+    }
+    match Verdict::on(n1, text) {
+        Verdict::Fits(header) => Some(header.check_place()),
+        _ => None,
     }
 }
 
@@ -183,7 +162,38 @@ pub(crate) fn settle(octets: &mut Undecided, n1: u16) -> Option<usize>
     let Some(straight) = octets.straight() else {
         return settle_wrapped(octets, n1);
     };
-    let (count, check_place) = settled_slice(straight, n1);
+    let Some((is_second, text)) = candidate(straight) else {
+        return settle_searching(octets, n1);
+    };
+    match whole_place(n1, text) {
+        Some(place) => {
+            octets.remove_front(usize::from(is_second));
+            Some(place)
+        }
+        None if text.is_empty() => {
+            octets.remove_front(usize::from(is_second));
+            None
+        }
+        None => settle_searching(octets, n1),
+    }
+}
+
+#[inline(never)]
+/// The same where it isn't the first candidate that is whole.
+fn settle_searching(octets: &mut Undecided, n1: u16) -> Option<usize>
+    requires { AreOctets octets.old.items }
+    ensures decided { decision_on n1 octets.new.items ≢ refused }
+    ensures reads { SameReading n1 octets.old.items octets.new.items }
+    ensures kept { decision_on n1 octets.old.items ≢ refused → octets.new ≡ octets.old }
+    ensures octets { AreOctets octets.new.items }
+    ensures shorter { length octets.new.items ≤ length octets.old.items }
+    ensures capacity { octets.new.capacity ≡ octets.old.capacity }
+    ensures at_hand { IsAtHand n1 octets.new.items result }
+{
+    let Some(straight) = octets.straight() else {
+        return settle_wrapped(octets, n1);
+    };
+    let (count, check_place) = searched_slice(straight, n1);
     octets.remove_front(count);
     check_place
 }
