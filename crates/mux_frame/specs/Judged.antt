@@ -35,11 +35,6 @@ pub record IsWholeTo (n1 : ℕ) (text : List ℕ) (place : ℕ) : Type 0 where
   pub verdict : fits header ≡ verdict_on n1 text
   pub place_is : place ≡ header.size + header.info_len
 
--- the octets begin with a whole frame
-pub record IsWholeFront (n1 : ℕ) (octets : List ℕ) : Type 0 where
-  pub header : Header
-  pub decision : fits header ≡ decision_on n1 octets
-
 -- the frame at hand has this check place, counted from its address octet
 pub record IsAtPlace (n1 : ℕ) (undecided : List ℕ) (place : ℕ) : Type 0 where
   pub header : Header

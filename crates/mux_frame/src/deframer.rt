@@ -82,10 +82,10 @@ impl Deframer {
         ensures room { IfSome result (λ f. length f.info.now ≤ most_info self.old.n1 f.kind) }
         ensures* after { sem 𝓛 (Rests the_row self.entry (λ new. new ≡ self.old)) }
     {
-        if self.check_place.is_none() {
+        let Some(place) = self.check_place else {
             return None;
-        }
-        front_frame(self.n1, self.octets.one_slice())
+        };
+        Some(front_frame(self.n1, self.octets.one_slice(), place))
     }
 
     /// Goes on behind the frame at hand. The condition is that there is one: that the last call was

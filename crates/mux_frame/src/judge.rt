@@ -1,8 +1,8 @@
 //! Candidates are judged: what the octets after a flag can be (27.010, 5.2.1).
-ghost use Rattle.std.specs.Prelude.{◌≡◌, ◌+◌, ◌/◌, ◌^◌, ◌<◌, ◌≤◌, drop, length, option_map, slice_get};
+ghost use Rattle.std.specs.Prelude.{◌≡◌, ◌+◌, ◌/◌, ◌^◌, ◌<◌, ◌≤◌, Some, drop, length, slice_get};
 ghost use Rattle.mux_frame.specs.Frames.{frame_of};
 ghost use Rattle.mux_frame.specs.Judging.{Means, by_end, by_header, by_length, by_rest, fits, frame_at, kind_in, verdict_on};
-ghost use Rattle.mux_frame.specs.Judged.{IsWholeFront, header_seen, verdict_seen};
+ghost use Rattle.mux_frame.specs.Judged.{IsAtPlace, header_seen, verdict_seen};
 ghost use Rattle.mux_frame.specs.Deframing.{next_in};
 
 use crate::check::check_octet;
@@ -210,15 +210,6 @@ impl Header {
         }
     }
 
-    /// The frame in octets that begin with a flag, lent.
-    pub(crate) fn view_after_flag(self, octets: &[u8]) -> FrameView<'_>
-        requires { 1 + self.size + self.info_len ≤ length octets.now }
-        ensures { frame_of result ≡ frame_at (header_seen self) (drop 1 octets.now) }
-    {
-        let len = octets.len();
-        self.view(&octets[1..len])
-    }
-
     /// The octets after a flag from the frame's closing flag on.
     pub(crate) fn later(self, text: &[u8]) -> &[u8]
         requires { self.size + self.info_len + 1 ≤ length text.now }
@@ -230,16 +221,22 @@ impl Header {
 }
 
 #[inline(always)]
-/// The frame that octets begin with, lent, where it is known to be whole: its header is all that is
-/// looked at.
-pub(crate) fn front_frame(n1: u16, octets: &[u8]) -> Option<FrameView<'_>>
-    requires { IsWholeFront n1 octets.now }
-    ensures { option_map frame_of result ≡ next_in n1 octets.now }
+/// The frame that octets begin with, lent, where it is known to be whole and where its check octet
+/// stands: so nothing is asked about them again.
+pub(crate) fn front_frame(n1: u16, octets: &[u8], check_place: usize) -> FrameView<'_>
+    requires { IsAtPlace n1 octets.now check_place }
+    ensures { Some (frame_of result) ≡ next_in n1 octets.now }
 {
-    let lengths = (octet_at(octets, 3), octet_at(octets, 4));
-    match Verdict::by_header(n1, octet_at(octets, 1), octet_at(octets, 2), lengths) {
-        Verdict::Fits(header) => Some(header.view_after_flag(octets)),
-        Verdict::Unfinished => None,
-        Verdict::Refused => None,
+    let (address, control) = (octets[1], octets[2]);
+    // Its low bit is set where no second length octet follows.
+    let size = 4 - usize::from(octets[3] % 2);
+    FrameView {
+        dlci: Dlci {
+            number: address / 4,
+        },
+        kind: kind_of(control).unwrap_or(Kind::Uih),
+        cr: address / 2 % 2 == 1,
+        pf: control / 16 % 2 == 1,
+        info: &octets[1 + size..1 + check_place],
     }
 }
