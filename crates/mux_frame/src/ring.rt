@@ -146,6 +146,7 @@ fn whole_place(n1: u16, text: &[u8]) -> Option<usize>
     }
 }
 
+#[inline(always)]
 /// Drops what begins no frame: where a candidate fails, only its flag, and then what stands before
 /// the next flag. Where a frame is whole at the front then, it gives the place of its check octet,
 /// counted from its address octet.
