@@ -1,5 +1,5 @@
 -- What verdicts mean.
-use Rattle.std.proofs.Common.{◌≡◌, ◌≢◌, ℕ, zero, suc, ◌+◌, ◌-◌, ◌*◌, ◌/◌, ◌%◌, ◌<◌, ◌≤◌, ◌==◌, Bool, true, false, List, [], ◌∷◌, ◌++◌, Option, None, Some, length, take, drop, refl, if◌then◌else◌, sym, ap, subst, ◌∙◌, arith, append_assoc, length-append}
+use Rattle.std.proofs.Common.{◌≡◌, ◌≢◌, ℕ, zero, suc, ◌+◌, ◌-◌, ◌*◌, ◌/◌, ◌%◌, ◌<◌, ◌≤◌, ◌==◌, Bool, true, false, List, [], ◌∷◌, ◌++◌, Option, None, Some, length, take, drop, refl, if◌then◌else◌, sym, ap, subst, ◌∙◌, arith, append_assoc, bit_or, length-append}
 use Rattle.std.proofs.lemmas.List.{append-nil, length-replicate}
 use Rattle.std.proofs.Math.Seq.{drop-append_seam, take-append_seam}
 use Rattle.mux_frame.proofs.ReadingOn.{cut_none}
@@ -40,6 +40,31 @@ control_is : (x : ℕ) (k : Kind) → x < 256 → kind_in x ≡ Some k → x ≡
 control_is x k h e =
     let r : control_right x (kind_in x) ≡ true = agree_below_at (λ y. control_right y (kind_in y)) (λ _. true) 256 x control_computed h in
     eqb-true x (control_of_kind k + (if pf_in x then 0x10 else 0)) (subst (λ o. control_right x o ≡ true) e r)
+
+-- both control octets of UIH, in one comparison
+abbrev is_uih : Option Kind → Bool
+is_uih None = false
+is_uih (Some Sabm) = false
+is_uih (Some Ua) = false
+is_uih (Some Dm) = false
+is_uih (Some Disc) = false
+is_uih (Some Uih) = true
+
+is_uih-true : (o : Option Kind) → is_uih o ≡ true → Some Uih ≡ o
+is_uih-true None e = cc
+is_uih-true (Some Sabm) e = cc
+is_uih-true (Some Ua) e = cc
+is_uih-true (Some Dm) e = cc
+is_uih-true (Some Disc) e = cc
+is_uih-true (Some Uih) e = refl
+
+uih_computed : agree_below (λ x. if bit_or x 0x10 == 0xFF then is_uih (kind_in x) else true) (λ _. true) 256 ≡ true
+uih_computed = refl
+
+pub uih_octet : (x : ℕ) → x < 256 → bit_or x 0x10 ≡ 0xFF → Some Uih ≡ kind_in x
+uih_octet x h e =
+    let r : (if bit_or x 0x10 == 0xFF then is_uih (kind_in x) else true) ≡ true = agree_below_at (λ y. if bit_or y 0x10 == 0xFF then is_uih (kind_in y) else true) (λ _. true) 256 x uih_computed h in
+    is_uih-true (kind_in x) (rw e at r)
 
 address_is-at : (b : Bool) (x : ℕ) → (x / 2 % 2 == 1) ≡ b → x % 2 ≡ 1 → x ≡ 1 + (if b then 2 else 0) + 4 * (x / 4)
 address_is-at true x e h = let k = eqb-true (x / 2 % 2) 1 e in omega (arith, k)

@@ -49,12 +49,15 @@ fn octet_at(octets: &[u8], place: usize) -> Option<u8>
 fn kind_of(control: u8) -> Option<Kind>
     ensures { result ≡ kind_in control }
 {
+    // The most frequent ones, in one comparison.
+    if control | 0x10 == 0xFF {
+        return Some(Kind::Uih);
+    }
     match control {
         0x2F | 0x3F => Some(Kind::Sabm),
         0x63 | 0x73 => Some(Kind::Ua),
         0x0F | 0x1F => Some(Kind::Dm),
         0x43 | 0x53 => Some(Kind::Disc),
-        0xEF | 0xFF => Some(Kind::Uih),
         _ => None,
     }
 }
