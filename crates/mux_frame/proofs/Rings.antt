@@ -77,10 +77,6 @@ pub decision_other : (n1 x : ℕ) (u : List ℕ) → Some x ≡ slice_get u 0 �
 decision_other n1 x [] e h = cc
 decision_other n1 x (y ∷ t) e h = decision_other-at n1 y t (y == flag) refl (λ k. h (sym (some_octet y x (sym e)) ∙ k))
 
-pub decision_none : (n1 : ℕ) (u : List ℕ) → None ≡ slice_get u 0 → unfinished ≡ decision_on n1 u
-decision_none n1 [] e = refl
-decision_none n1 (y ∷ t) e = cc
-
 two_flags : (n1 : ℕ) (s : List ℕ) → refused ≡ decision_on n1 (flag ∷ flag ∷ s)
 unfolding verdict_on by_header
 two_flags n1 s = refl
