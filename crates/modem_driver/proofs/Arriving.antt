@@ -22,7 +22,8 @@ use Rattle.modem_driver.proofs.Laning.{got}
 use Rattle.modem_driver.proofs.Opens.{kept_as}
 use Rattle.modem_driver.proofs.Commands.{suits_rests, suits_none}
 use Rattle.modem_driver.proofs.Arrivals.{ua_opens_zero, ua_opens_one, ua_idle_zero, ua_idle_one, never_none}
-use Rattle.modem_driver.proofs.Readings.{is_word, taken_off, said_words, OffBy, opened_off, closed_off, closed_stays}
+use Rattle.modem_driver.proofs.Said.{is_word}
+use Rattle.modem_driver.proofs.Readings.{taken_off, said_words, OffBy, opened_off, closed_off, closed_stays}
 use Rattle.modem_driver.proofs.Answering.{data_unread, read_on, read_whole, first_found}
 use Rattle.modem_driver.proofs.Fares.{Ready, ReadyStep, ready_by, no_next}
 

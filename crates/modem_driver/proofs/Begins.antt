@@ -1,5 +1,5 @@
 -- The commands that begin are the first of those accepted, each where no window is open.
-use Rattle.std.specs.Prelude.{◌≡◌, ℕ, zero, suc, ◌+◌, ◌-◌, ◌<◌, ◌≤◌, ◌==◌, ◌&&◌, ◌||◌, not, nat_le, Bool, true, false, IsTrue, List, [], ◌∷◌, ◌++◌, length, map, take, drop, refl, if◌then◌else◌, Option, Some, None, option_map, IsNone}
+use Rattle.std.specs.Prelude.{◌≡◌, ℕ, suc, ◌+◌, ◌<◌, ◌≤◌, ◌==◌, ◌&&◌, ◌||◌, not, nat_le, Bool, true, false, IsTrue, List, [], ◌∷◌, ◌++◌, length, map, take, drop, refl, if◌then◌else◌, Option, Some, None, option_map, IsNone}
 use Rattle.std.specs.List.{concat}
 use Rattle.std.proofs.Common.{ap, sym, ◌∙◌, subst, arith, append-nil, append_assoc, length-append, eqb-true, leb-true}
 use Rattle.std.proofs.lemmas.Bool.{and_parts, and_from}
@@ -14,17 +14,17 @@ use Rattle.mux_station.specs.Messages.{cld, brings_command}
 use Rattle.mux_station.specs.Opening.{since, since_after, opens, ends, opens_now, belongs, is_open}
 use Rattle.at_text.specs.Lines.{lines}
 use Rattle.at_text.specs.Windows.{Mark, Line, Begun, Window, IsInTurn, answered, open_window}
-use Rattle.at_text.specs.OpenWindow.{OpenWindow, shown, opened, FitsMarks, seen_by, after_line}
+use Rattle.at_text.specs.OpenWindow.{shown, opened, FitsMarks, seen_by, after_line}
 use Rattle.at_text.proofs.WindowLemmas.{fits_nothing, sees, begins}
 use Rattle.modem_desk.specs.declared.request.Request.{Request}
 use Rattle.modem_driver.specs.Acts.{Act, Took, Got, Sent, Told, Heard, Tick, Lost, Held, Freed, Given, wire}
-use Rattle.modem_driver.specs.Information.{carries, info_of, info_sent, accepted, is_accepted, texts, line_of, information_out}
+use Rattle.modem_driver.specs.Information.{carries, info_sent, accepted, is_accepted, texts, line_of, information_out}
 use Rattle.modem_driver.specs.Placing.{marks, run_on, whole_in, reached_in, whole_after, begun_placed}
 use Rattle.modem_driver.specs.Calls.{Setting}
 use Rattle.modem_driver.specs.Lawful.{Lawful, When, Gated, InTurn, owed}
 use Rattle.modem_driver.specs.Served.{begun_count, IsInOrder}
 use Rattle.modem_driver.specs.Wholes.{begun_in, BeginsInTurn, IsPrefixOf}
-use Rattle.modem_driver.proofs.Counts.{AllFilled, texts_filled}
+use Rattle.modem_driver.proofs.Counts.{texts_filled}
 use Rattle.modem_driver.proofs.Wholly.{whole_reached, whole_few, whole_more, whole_push, take_within}
 use Rattle.modem_driver.proofs.InOrder.{order_line, order_begun, open_count, counts}
 use Rattle.modem_driver.proofs.Leaving.{leaves_once, when_true}
@@ -33,23 +33,23 @@ use Rattle.modem_driver.proofs.Outcomes.{data_on, is_data}
 
 -- ## Marks
 
-begun_append : (xs ys : List Mark) → begun_in (xs ++ ys) ≡ begun_in xs ++ begun_in ys
+pub begun_append : (xs ys : List Mark) → begun_in (xs ++ ys) ≡ begun_in xs ++ begun_in ys
 begun_append [] ys = refl
 begun_append (Line l ∷ xs) ys = begun_append xs ys
 begun_append (Begun c ∷ xs) ys = ap (λ (v : List (List ℕ)). c ∷ v) (begun_append xs ys)
 
-begun_lines : (ls : List (List ℕ)) → begun_in (map Line ls) ≡ []
+pub begun_lines : (ls : List (List ℕ)) → begun_in (map Line ls) ≡ []
 begun_lines [] = refl
 begun_lines (l ∷ ls) = begun_lines ls
 
-abbrev marks_of : List Request → List Mark
+abbrev pub marks_of : List Request → List Mark
 marks_of qs = map (λ (q : Request). Begun (line_of q)) qs
 
 begun_commands : (qs : List Request) → begun_in (marks_of qs) ≡ map line_of qs
 begun_commands [] = refl
 begun_commands (q ∷ qs) = ap (λ (v : List (List ℕ)). line_of q ∷ v) (begun_commands qs)
 
-begun_counted : (ms : List Mark) → length (begun_in ms) ≡ begun_count ms
+pub begun_counted : (ms : List Mark) → length (begun_in ms) ≡ begun_count ms
 begun_counted [] = refl
 begun_counted (Line l ∷ ms) = begun_counted ms
 begun_counted (Begun c ∷ ms) = let h = begun_counted ms in omega (arith, h)
@@ -70,7 +70,7 @@ turns_line ms l t =
     let w = option_map shown (open_window ms) in
     record { in_turn = (sees w (after_line w l) ms l (seen_by w l) (fits_itself ms t) refl refl).fits.in_turn; order = order_line ms l t.order }
 
-turns_lines : (ls : List (List ℕ)) (ms : List Mark) → Turns ms → Turns (ms ++ map Line ls)
+pub turns_lines : (ls : List (List ℕ)) (ms : List Mark) → Turns ms → Turns (ms ++ map Line ls)
 turns_lines [] ms t = subst Turns (sym (append-nil ms)) t
 turns_lines (l ∷ ls) ms t = subst Turns (append_assoc ms (Line l ∷ []) (map Line ls)) (turns_lines ls (ms ++ Line l ∷ []) (turns_line ms l t))
 
@@ -95,9 +95,9 @@ turns_few ms (q ∷ r ∷ qs) t h = absurd (let all = counts ms t.order in omega
 
 -- ## What is kept
 
-record Kept (ms : List Mark) (out : List ℕ) (qs : List Request) : Type 0 where
-  turns : Turns ms
-  first : begun_in ms ≡ map line_of (whole_after (length out) qs)
+pub record Kept (ms : List Mark) (out : List ℕ) (qs : List Request) : Type 0 where
+  pub turns : Turns ms
+  pub first : begun_in ms ≡ map line_of (whole_after (length out) qs)
 
 kept_none : Kept [] [] []
 kept_none = record { turns = turns_none; first = refl }
@@ -111,7 +111,7 @@ kept_lines ms out qs ls k = record {
 texts_more : (qs : List Request) (q : Request) → texts (qs ++ q ∷ []) ≡ texts qs ++ (line_of q ++ 13 ∷ []) ∷ []
 texts_more qs q = map-append (λ (r : Request). line_of r ++ 13 ∷ []) qs (q ∷ [])
 
-texts_counted : (qs : List Request) → length (texts qs) ≡ length qs
+pub texts_counted : (qs : List Request) → length (texts qs) ≡ length qs
 texts_counted [] = refl
 texts_counted (q ∷ qs) = ap suc (texts_counted qs)
 
@@ -161,11 +161,11 @@ kept_sent ms out chunk qs turn k =
 
 -- ## Acts of the station
 
-opens_by_sent : (r : Role) (z k : Bool) (d : ℕ) (f : Frame) → opens r z k d (station.Sent f) ≡ false
+pub opens_by_sent : (r : Role) (z k : Bool) (d : ℕ) (f : Frame) → opens r z k d (station.Sent f) ≡ false
 opens_by_sent Initiator z k d f = refl
 opens_by_sent Responder z k d f = refl
 
-opens_by_tick : (r : Role) (z k : Bool) (d : ℕ) → opens r z k d station.Tick ≡ false
+pub opens_by_tick : (r : Role) (z k : Bool) (d : ℕ) → opens r z k d station.Tick ≡ false
 opens_by_tick Initiator z k d = refl
 opens_by_tick Responder z k d = refl
 
@@ -173,7 +173,7 @@ opens_by_loss : (r : Role) (z k : Bool) (d : ℕ) → opens r z k d station.Lost
 opens_by_loss Initiator z k d = refl
 opens_by_loss Responder z k d = refl
 
-opens_by_mark : (r : Role) (z k : Bool) (d : ℕ) → opens r z k d station.Given ≡ false
+pub opens_by_mark : (r : Role) (z k : Bool) (d : ℕ) → opens r z k d station.Given ≡ false
 opens_by_mark Initiator z k d = refl
 opens_by_mark Responder z k d = refl
 
@@ -216,16 +216,16 @@ none_or false false e = refl
 none_or true y e = cc
 
 -- data ends nothing
-data_ends_none : (z : Bool) (d e : ℕ) (f : Frame) → (e == 0) ≡ false → ends z d (station.Sent (data_on e f)) ≡ false
+pub data_ends_none : (z : Bool) (d e : ℕ) (f : Frame) → (e == 0) ≡ false → ends z d (station.Sent (data_on e f)) ≡ false
 data_ends_none z d e f h = none_or (brings_command cld (data_on e f)) (not (d == 0)) (rw h refl)
 
 -- what a frame is that carries information on d
-record Carried (d : ℕ) (f : Frame) : Type 0 where
-  is_data : is_data_frame f ≡ true
-  same : f.dlci ≡ d
-  apart : (d == 0) ≡ false
+pub record Carried (d : ℕ) (f : Frame) : Type 0 where
+  pub is_data : is_data_frame f ≡ true
+  pub same : f.dlci ≡ d
+  pub apart : (d == 0) ≡ false
 
-carried : (d : ℕ) (f : Frame) → carries d f ≡ true → Carried d f
+pub carried : (d : ℕ) (f : Frame) → carries d f ≡ true → Carried d f
 carried d f e =
     let parts = and_parts (not (d == 0)) (is_on Uih d f) e in
     let more = and_parts (is_kind f.kind Uih) (f.dlci == d) parts.1 in
@@ -258,7 +258,7 @@ turn_on s past d f w c =
     subst (λ (m : ℕ). reached_in (length (information_out s.role m past ++ f.info)) (texts (accepted s.role m past)) ≤ answered (marks s.role m past) + 1) c.same
     (le_of _ _ (when_true (is_data_frame f) c.is_data w))
 
-kept : (s : Setting) (past : List Act) → Lawful s past → (d : ℕ) → Kept (marks s.role d past) (information_out s.role d past) (accepted s.role d past)
+pub kept : (s : Setting) (past : List Act) → Lawful s past → (d : ℕ) → Kept (marks s.role d past) (information_out s.role d past) (accepted s.role d past)
 unfolding Lawful
 kept s [] l d = kept_none
 kept s (Took q ∷ past) l d =

@@ -27,7 +27,7 @@ use Rattle.modem_driver.specs.Served.{is_at_opening, is_at_opened, opening_on, o
 
 -- ## The states after a call's acts
 
-then_is : (r : Role) (d : ℕ) (acts past : List Act) → states_then r d (states r d (wire past)) (wire acts) ≡ states r d (wire (after past acts))
+pub then_is : (r : Role) (d : ℕ) (acts past : List Act) → states_then r d (states r d (wire past)) (wire acts) ≡ states r d (wire (after past acts))
 then_is r d [] past = refl
 then_is r d (Took q ∷ acts) past = then_is r d acts (Took q ∷ past)
 then_is r d (Got f ∷ acts) past = then_is r d acts (Got f ∷ past)

@@ -19,7 +19,7 @@ use Rattle.modem_driver.proofs.Answering.{first_found}
 
 -- ## Pieces
 
-after_both : (xs ys past : List Act) → after past (xs ++ ys) ≡ after (after past xs) ys
+pub after_both : (xs ys past : List Act) → after past (xs ++ ys) ≡ after (after past xs) ys
 after_both [] ys past = refl
 after_both (x ∷ xs) ys past = after_both xs ys (x ∷ past)
 

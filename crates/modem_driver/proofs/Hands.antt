@@ -46,7 +46,7 @@ apart_swaps q r h =
     eq_swaps : (n m : ℕ) → (n == m) ≡ (m == n)
     eq_swaps n m = grind (arith, nat_tests)
 
-all_swap : (q : Request) (qs : List Request) → list_all (is_apart q) qs ≡ true → all_apart q qs ≡ true
+pub all_swap : (q : Request) (qs : List Request) → list_all (is_apart q) qs ≡ true → all_apart q qs ≡ true
 all_swap q [] h = refl
 all_swap q (r ∷ rs) h =
     let parts = and_parts (is_apart q r) (list_all (is_apart q) rs) h in

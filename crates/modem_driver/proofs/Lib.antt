@@ -18,8 +18,16 @@ pub mod InOrder
 pub mod Commands
 pub mod Arrivals
 pub mod Readings
+pub mod Stays
+pub mod Closing
+pub mod Unasked
 pub mod Answering
 pub mod Fares
+pub mod Ending
+pub mod Owning
+pub mod OwningTook
+pub mod OwningGot
+pub mod InSteps
 pub mod Taking
 pub mod Arriving
 pub mod Quieting

@@ -39,7 +39,7 @@ use Rattle.modem_driver.proofs.WholeLaws.{beginning, not_true}
 
 -- ## Counts
 
-abbrev one : Bool → ℕ
+abbrev pub one : Bool → ℕ
 one b = if b then 1 else 0
 
 abbrev told_one : Request → Act → ℕ
@@ -52,7 +52,7 @@ told_to r [] = 0
 told_to r (a ∷ acts) = told_one r a + told_to r acts
 
 -- how many of the requests are this one
-abbrev many : Request → List Request → ℕ
+abbrev pub many : Request → List Request → ℕ
 many r [] = 0
 many r (q ∷ qs) = one (is_same r q) + many r qs
 
@@ -60,7 +60,7 @@ told_append : (r : Request) (xs ys : List Act) → told_to r (xs ++ ys) ≡ told
 told_append r [] ys = sym (zero-add (told_to r ys))
 told_append r (a ∷ xs) ys = let h = told_append r xs ys in omega (arith, h)
 
-many_append : (r : Request) (xs ys : List Request) → many r (xs ++ ys) ≡ many r xs + many r ys
+pub many_append : (r : Request) (xs ys : List Request) → many r (xs ++ ys) ≡ many r xs + many r ys
 many_append r [] ys = sym (zero-add (many r ys))
 many_append r (q ∷ xs) ys = let h = many_append r xs ys in omega (arith, h)
 
@@ -91,7 +91,7 @@ either_zero : (b : Bool) (z : ℕ) → z ≡ 0 → z ≡ (if b then 0 else z)
 either_zero true z e = e
 either_zero false z e = refl
 
-many_without : (r : Request) (o : Outcome) (qs : List Request) → many r (without o qs) ≡ (if is_for r o then 0 else many r qs)
+pub many_without : (r : Request) (o : Outcome) (qs : List Request) → many r (without o qs) ≡ (if is_for r o then 0 else many r qs)
 many_without r o [] = either_zero (is_for r o) 0 refl
 many_without r o (q ∷ qs) =
     many_cond r q (without o qs) (not (is_for q o))
@@ -167,7 +167,7 @@ final_closes None false true o x y got ls e = refl
 final_closes None false false o x y got ls e = absurd (let g : Kept ≡ Done ls = e in cc)
 final_closes (Some k) echo final o x y got ls e = absurd (let g : Unsolicited k ≡ Done ls = e in cc)
 
-no_final : (k : Option UrcKind) (ls : List AnswerLine) → by_kind k line_is.TheVariants.Other ≡ Done ls → ⊥
+pub no_final : (k : Option UrcKind) (ls : List AnswerLine) → by_kind k line_is.TheVariants.Other ≡ Done ls → ⊥
 no_final None ls e = let g : line_is.TheVariants.Other ≡ Done ls = e in cc
 no_final (Some k) ls e = let g : Unsolicited k ≡ Done ls = e in cc
 
@@ -180,7 +180,7 @@ none_shown : (o : Option Window) → option_map shown o ≡ None → o ≡ None
 none_shown None e = refl
 none_shown (Some w) e = cc
 
-done_closes : (ms : List Mark) (l : List ℕ) (ls : List AnswerLine) → seen_after ms l ≡ Done ls → open_window (ms ++ Line l ∷ []) ≡ None
+pub done_closes : (ms : List Mark) (l : List ℕ) (ls : List AnswerLine) → seen_after ms l ≡ Done ls → open_window (ms ++ Line l ∷ []) ≡ None
 done_closes ms l ls e =
     let seen : seen_by (option_map shown (open_window ms)) l ≡ Done ls = seen_line ms l ∙ e in
     none_shown (open_window (ms ++ Line l ∷ [])) (sym (shows_line ms l) ∙ closed_by (option_map shown (open_window ms)) l ls seen)
@@ -189,12 +189,12 @@ closed_after : (b : Bool) (x y : Option OpenWindow) → x ≡ None → y ≡ Non
 closed_after true x y e h = e
 closed_after false x y e h = h
 
-stays_closed : (ms : List Mark) (l : List ℕ) → open_window ms ≡ None → open_window (ms ++ Line l ∷ []) ≡ None
+pub stays_closed : (ms : List Mark) (l : List ℕ) → open_window ms ≡ None → open_window (ms ++ Line l ∷ []) ≡ None
 stays_closed ms l e =
     none_shown (open_window (ms ++ Line l ∷ []))
     (sym (shows_line ms l) ∙ (ap (λ (w : Option Window). after_line (option_map shown w) l) e ∙ closed_after (is_none (unsolicited_of l)) None None refl refl))
 
-closed_tells_none : (ms : List Mark) (l : List ℕ) (ls : List AnswerLine) → open_window ms ≡ None → seen_after ms l ≡ Done ls → ⊥
+pub closed_tells_none : (ms : List Mark) (l : List ℕ) (ls : List AnswerLine) → open_window ms ≡ None → seen_after ms l ≡ Done ls → ⊥
 closed_tells_none ms l ls e h =
     no_final (unsolicited_of l) ls (ap (λ (w : Option Window). seen_by (option_map shown w) l) (sym e) ∙ (seen_line ms l ∙ h))
 
@@ -306,7 +306,7 @@ still_open s v d f e h =
     ∙ data_keeps s.role d f (v.state 0) (v.state d) e h
 
 -- so a command on it is told nothing but by a line
-untold : (v : Seen) (now : ℕ → State) (a : Act) (d : ℕ) → is_opened (now d) ≡ true → (q : Request) (ask : Ask) → command_on d ask ≡ true → later v now a q ask ≡ None
+pub untold : (v : Seen) (now : ℕ → State) (a : Act) (d : ℕ) → is_opened (now d) ≡ true → (q : Request) (ask : Ask) → command_on d ask ≡ true → later v now a q ask ≡ None
 untold v now a d h q (Command e line) c =
     let same : e.number ≡ d = eqb-true e.number d c in
     let open_now : is_opened (now e.number) ≡ true = ap (λ (n : ℕ). is_opened (now n)) same ∙ h in
@@ -532,7 +532,7 @@ counted_cond : {X : Type 0} → (x : X) (xs : List X) (b : Bool) → length (con
 counted_cond x xs true = omega arith
 counted_cond x xs false = omega arith
 
-many_filtered : (r : Request) (qs : List Request) → length (filter (is_same r) qs) ≡ many r qs
+pub many_filtered : (r : Request) (qs : List Request) → length (filter (is_same r) qs) ≡ many r qs
 many_filtered r [] = refl
 many_filtered r (q ∷ qs) = counted_cond q (filter (is_same r) qs) (is_same r q) ∙ ap (λ (n : ℕ). one (is_same r q) + n) (many_filtered r qs)
 

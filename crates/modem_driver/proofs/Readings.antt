@@ -23,6 +23,7 @@ use Rattle.modem_driver.specs.Lane.{LaneIs}
 use Rattle.modem_driver.specs.Served.{Shows, after_lines, said_one, said_by}
 use Rattle.modem_driver.proofs.Laning.{told_keeps, heard_keeps}
 use Rattle.modem_driver.proofs.Hands.{outcome_of}
+use Rattle.modem_driver.proofs.Said.{is_word}
 
 -- ## What lines are said to be
 
@@ -51,12 +52,6 @@ fits_after (l ∷ ls) w ms f =
     fits_after ls (window.after_line w l) (ms ++ Line l ∷ []) fits ∙ ap (λ (v : List Mark). option_map window.shown (open_window v)) (append_assoc ms (Line l ∷ []) (map Line ls))
 
 -- ## Outcomes and lines leave the rest as it was
-
--- an outcome or a line
-abbrev pub is_word : Act → Bool
-is_word (Told o) = true
-is_word (Heard k d line) = true
-is_word _ = false
 
 -- the requests in hand after some acts
 abbrev pub taken_off : List Act → List Request → List Request
@@ -116,7 +111,7 @@ said_words owner (l ∷ ls) w = both_words (said_one owner l (window.seen_by w l
 
 -- ## Which request they take off
 
-off_both : (xs ys : List Act) (hand : List Request) → list_all is_word xs ≡ true → taken_off (xs ++ ys) hand ≡ taken_off ys (taken_off xs hand)
+pub off_both : (xs ys : List Act) (hand : List Request) → list_all is_word xs ≡ true → taken_off (xs ++ ys) hand ≡ taken_off ys (taken_off xs hand)
 off_both [] ys hand h = refl
 off_both (Told o ∷ xs) ys hand h = off_both xs ys (without o hand) h
 off_both (Heard k d line ∷ xs) ys hand h = off_both xs ys hand h

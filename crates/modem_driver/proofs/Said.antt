@@ -29,10 +29,10 @@ use Rattle.modem_driver.specs.Acts.{Act, Took, Got, Sent, Told, Heard, Tick, Los
 use Rattle.modem_driver.specs.Calls.{Setting, Seen, calls_seeing, states_now, frames, frames_by, asking, at_once, said_of, said_at_once, lines_said, by_lines, by_seen, heard, done, first_on, tolds, told_later, later}
 use Rattle.modem_driver.specs.Wholes.{is_said}
 
-abbrev is_control : Frame → Bool
+abbrev pub is_control : Frame → Bool
 is_control f = not (is_data_frame f)
 
-abbrev Controls : List Frame → Type 0
+abbrev pub Controls : List Frame → Type 0
 Controls fs = list_all is_control fs ≡ true
 
 abbrev pub Saids : List Act → Type 0
@@ -171,7 +171,7 @@ done_said : (o : Option Request) (ls : List AnswerLine) → Words (done o ls)
 done_said None ls = refl
 done_said (Some r) ls = refl
 
-line_said : (s : Setting) (d : ℕ) (owner : Option Request) (line : List ℕ) (v : line_is.Seen) → Words (by_seen s d owner line v)
+pub line_said : (s : Setting) (d : ℕ) (owner : Option Request) (line : List ℕ) (v : line_is.Seen) → Words (by_seen s d owner line v)
 line_said s d owner line Echo = refl
 line_said s d owner line Kept = refl
 line_said s d owner line (line_is.TheVariants.Done ls) = done_said owner ls
@@ -207,7 +207,7 @@ tolds_said v now a [] = refl
 tolds_said v now a (r ∷ rs) = one_told r (later v now a r r.ask) (filter_map (told_later v now a) rs) (tolds_said v now a rs)
 
 -- what an act calls for besides frames
-spoken : (s : Setting) (v : Seen) (a : Act) (now : ℕ → State) → Words (said_at_once s v a ++ (lines_said s v a ++ tolds v now a))
+pub spoken : (s : Setting) (v : Seen) (a : Act) (now : ℕ → State) → Words (said_at_once s v a ++ (lines_said s v a ++ tolds v now a))
 spoken s v a now =
     words_both (said_at_once s v a) (lines_said s v a ++ tolds v now a) (once_said s v a)
     (words_both (lines_said s v a) (tolds v now a) (lines_all_said s v a) (tolds_said v now a v.waiting))
@@ -225,13 +225,16 @@ words_said (Held d ∷ acts) h = absurd (let e : false ≡ true = h in cc)
 words_said (Freed d ∷ acts) h = absurd (let e : false ≡ true = h in cc)
 words_said (Given ∷ acts) h = absurd (let e : false ≡ true = h in cc)
 
+-- the frames that it calls for are no data
+pub frames_control : (s : Setting) (v : Seen) (a : Act) → Controls (frames s v a)
+frames_control s v a = controls_if v.lost [] (frames_by s v a) refl (framed s v a)
+
 -- what an act calls for is what a call may be called for
 pub calls_said : (s : Setting) (v : Seen) (a : Act) → Saids (calls_seeing s v a)
 calls_said s v a =
     let sent = map Sent (frames s v a) in
     let now = states_now s v (a ∷ sent) in
-    let controls : Controls (frames s v a) = controls_if v.lost [] (frames_by s v a) refl (framed s v a) in
-    let first : Saids sent = list_all-map is_said Sent (frames s v a) ∙ controls in
+    let first : Saids sent = list_all-map is_said Sent (frames s v a) ∙ frames_control s v a in
     let words = said_at_once s v a ++ (lines_said s v a ++ tolds v now a) in
     saids_both sent words first (words_said words (spoken s v a now))
 

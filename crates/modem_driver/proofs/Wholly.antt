@@ -1,7 +1,7 @@
 -- How the texts that are wholly sent grow.
 use Rattle.std.specs.Prelude.{◌≡◌, ℕ, zero, suc, ◌+◌, ◌-◌, ◌<◌, ◌≤◌, nat_le, nat_lt, List, [], ◌∷◌, ◌++◌, length, take, refl, if◌then◌else◌}
 use Rattle.std.specs.List.{concat}
-use Rattle.std.proofs.Common.{ap, sym, ◌∙◌, arith, length-append}
+use Rattle.std.proofs.Common.{ap, arith, length-append}
 use Rattle.std.proofs.lemmas.Bool.Decides.{nat_tests}
 use Rattle.modem_driver.specs.Placing.{whole_in, reached_in}
 use Rattle.modem_driver.proofs.Counts.{AllFilled, whole_none}

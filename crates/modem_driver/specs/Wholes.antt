@@ -3,15 +3,17 @@ use Rattle.std.specs.Prelude.{◌≡◌, ℕ, ◌≤◌, ◌==◌, ◌&&◌, Boo
 use Rattle.std.specs.List.{concat, list_any}
 use Rattle.mux_frame.specs.Frames.{Frame}
 use Rattle.mux_station.specs.Written.{is_data_frame}
+use Rattle.mux_station.specs.declared.role.Role.TheVariants.{Initiator}
+use Rattle.mux_station.specs.Opening.{is_open}
 use Rattle.at_text.specs.declared.answer.AnswerLine.{AnswerLine}
 use Rattle.at_text.specs.Lines.{lines}
-use Rattle.at_text.specs.Windows.{Mark, Line, Window, IsInTurn, windows, answer_of, is_answered, last_window}
+use Rattle.at_text.specs.Windows.{Mark, Line, Window, IsInTurn, windows, answer_of, answered, is_answered, last_window}
 use Rattle.at_text.specs.Seeing.{answer_lines}
 use Rattle.modem_desk.specs.declared.request.Request.{Request}
 use Rattle.modem_desk.specs.declared.request.Answer.TheVariants.{Done}
 use Rattle.modem_desk.specs.declared.request.Outcome.{Outcome}
-use Rattle.modem_driver.specs.Acts.{Act, Took, Got, Sent, Told, Heard, Lost, Given, is_for, after}
-use Rattle.modem_driver.specs.Information.{information_out, accepted, texts, line_of}
+use Rattle.modem_driver.specs.Acts.{Act, Took, Got, Sent, Told, Heard, Lost, Given, is_for, after, wire, in_hand}
+use Rattle.modem_driver.specs.Information.{information_out, accepted, command_on, texts, line_of}
 use Rattle.modem_driver.specs.Placing.{marks, run_on, whole_after}
 use Rattle.modem_driver.specs.Calls.{Setting, calls, calls_behind, is_lost}
 use Rattle.modem_driver.specs.Lawful.{Lawful, Complete, owed, owed_after}
@@ -131,3 +133,30 @@ pub record HasAnswer (s : Setting) (past : List Act) (ls : List AnswerLine) : Ty
 -- each answer that was told is that of a window, at its place
 abbrev pub TellsAnswers : Setting → List Act → Type 0
 TellsAnswers s past = (newer older : List Act) (o : Outcome) (ls : List AnswerLine) → past ≡ newer ++ Told o ∷ older → o.answer ≡ Done ls → HasAnswer s older ls
+
+-- ## Commands in step
+
+-- nothing was owed where an act stands that isn't called for: each call was complete when something else began
+abbrev pub CompleteCalls : Setting → List Act → Type 0
+CompleteCalls s [] = Unit {0}
+CompleteCalls s (a ∷ past) = (is_said a ≡ false → owed s past ≡ []) × CompleteCalls s past
+
+-- the commands on d
+abbrev pub commands_for : ℕ → List Request → List Request
+commands_for d qs = filter (λ (q : Request). command_on d q.ask) qs
+
+-- of the commands accepted on d those before have their answers, and the others are in hand
+pub record InStep (s : Setting) (d : ℕ) (past : List Act) : Type 0 where
+  pub before : List Request
+  pub accepted_are : accepted s.role d past ≡ before ++ commands_for d (in_hand past)
+  pub answered_are : answered (marks s.role d past) ≡ length before
+
+-- while d isn't open no command on it is in hand
+pub record OnChannel (s : Setting) (d : ℕ) (past : List Act) : Type 0 where
+  pub while_open : is_open s.role d (wire past) ≡ true → InStep s d past
+  pub while_shut : is_open s.role d (wire past) ≡ false → commands_for d (in_hand past) ≡ []
+
+-- an initiator's commands are in step wherever nothing is owed
+unfoldable pub StaysInStep : Setting → List Act → Type 0
+StaysInStep s past =
+    s.role ≡ Initiator → CompleteCalls s past → UsesOnce (taken past) → is_lost past ≡ false → Complete s past → (d : ℕ) → (d == 0) ≡ false → OnChannel s d past

@@ -4,7 +4,7 @@ ghost use Rattle.modem_driver.specs.Acts.{Act};
 ghost use Rattle.modem_driver.specs.Calls.{Setting};
 ghost use Rattle.modem_driver.specs.Lawful.{Lawful};
 ghost use Rattle.modem_driver.specs.Rows.{csq, data_before_opening, told_another, told_early, told_twice, IsGood, IsRefused};
-ghost use Rattle.modem_driver.specs.Wholes.{AnswersOnce, BeginsInTurn, CallGoesOn, IsBeginning, LeavesOnce, NoneAfterLoss, TellsAnswers};
+ghost use Rattle.modem_driver.specs.Wholes.{AnswersOnce, BeginsInTurn, CallGoesOn, IsBeginning, LeavesOnce, NoneAfterLoss, StaysInStep, TellsAnswers};
 
 /// Of all that a lawful history called for, what stands in it is the beginning; and a call that does just what
 /// its first act calls for keeps a history lawful and complete. What left a connection since it opened is a
@@ -21,6 +21,13 @@ pub fn histories()
     ensures answers { (s : Setting) (past : List Act) → Lawful s past → AnswersOnce past }
     ensures tells { (s : Setting) (past : List Act) → Lawful s past → TellsAnswers s past }
     ensures call { (s : Setting) (past : List Act) (a : Act) → CallGoesOn s past a }
+{}
+
+/// An initiator whose calls are complete has its commands in step, where no caller uses a number twice: of those that
+/// were accepted on an open connection the ones before have their answers, and the others are in hand.
+#[tactic(auto, using(crate::proofs::InSteps::stays_in_step))]
+pub fn commands()
+    ensures { (s : Setting) (past : List Act) → Lawful s past → StaysInStep s past }
 {}
 
 /// Worked histories, computed by the definitions: a command that is answered; and the same with its answer told
