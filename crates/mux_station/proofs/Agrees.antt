@@ -12,7 +12,8 @@ use Rattle.mux_station.specs.Written.{is_kind}
 use Rattle.mux_station.specs.Messages.{cld, octet_is, message_of, command_of}
 use Rattle.mux_station.specs.Acts.{Act, Called, Got, Sent, Tick, Lost, Given}
 use Rattle.mux_station.specs.Opening.{Standing, standing_after, standings, ends_itself}
-use Rattle.mux_station.specs.States.{State, IsShut, IsOpening, IsOpened, IsClosing, IsStopping, is_opened, at_tick, at_sent, got_by, at_close_down, own_after, states, OpenedIsOpen}
+use Rattle.mux_station.specs.States.{State, IsShut, IsOpening, IsOpened, IsClosing, IsStopping, is_opened, at_tick, at_sent, got_by, at_close_down, own_after, states, state_of, OpenedIsOpen}
+use Rattle.mux_station.specs.Tables.{is_opening as opening}
 
 beq_same : (b c : Bool) → beq b c ≡ true → b ≡ c
 beq_same true true h = refl
@@ -353,3 +354,27 @@ by_zero r past d true e =
 -- a connection is Opened in the table exactly where it is open
 pub opened_is_open : (r : Role) (past : List Act) → OpenedIsOpen r past
 opened_is_open r past d = by_zero r past d (d == 0) refl
+
+asked_same : (s : State) (t : Standing) → fits Initiator s t ≡ true → opening s ≡ (t.is_asked && not t.is_open)
+unfolding is_opening
+asked_same IsShut t h = beq_same false (t.is_asked && not t.is_open) (and_parts (beq false t.is_open) (beq false (t.is_asked && not t.is_open)) h).1
+asked_same (IsOpening n) t h = beq_same true (t.is_asked && not t.is_open) (and_parts (beq false t.is_open) (beq true (t.is_asked && not t.is_open)) h).1
+asked_same IsOpened t h = beq_same false (t.is_asked && not t.is_open) (and_parts (beq true t.is_open) (beq false (t.is_asked && not t.is_open)) h).1
+asked_same (IsClosing n) t h = beq_same false (t.is_asked && not t.is_open) (and_parts (beq false t.is_open) (beq false (t.is_asked && not t.is_open)) h).1
+asked_same (IsStopping n) t h = beq_same false (t.is_asked && not t.is_open) (and_parts (beq false t.is_open) (beq false (t.is_asked && not t.is_open)) h).1
+
+abbrev is_asked_at : ℕ → List Act → Bool
+is_asked_at d past = (standings Initiator d past).own.is_asked && not (standings Initiator d past).own.is_open
+
+asked_at : (past : List Act) (d : ℕ) (b : Bool) → (d == 0) ≡ b → opening (states Initiator d past).own ≡ is_asked_at d past
+asked_at past d false n = asked_same (states Initiator d past).own (standings Initiator d past).own (lane_fits Initiator d past n)
+asked_at past d true e =
+    let here : opening (states Initiator 0 past).own ≡ is_asked_at 0 past =
+    ap opening (state_zero Initiator past)
+    ∙ (asked_same (states Initiator 0 past).zero (standings Initiator 0 past).zero (zero_fits Initiator 0 past)
+    ∙ sym (ap (λ (t : Standing). t.is_asked && not t.is_open) (own_zero Initiator past))) in
+    subst (λ (m : ℕ). opening (states Initiator m past).own ≡ is_asked_at m past) (sym (eqb-true d 0 e)) here
+
+-- an initiator's connection is Opening exactly where a SABM was its last word and it isn't open
+pub opening_is_asked : (d : ℕ) (past : List Act) → opening (state_of Initiator d past) ≡ ((standings Initiator d past).own.is_asked && not (standings Initiator d past).own.is_open)
+opening_is_asked d past = asked_at past d (d == 0) refl

@@ -33,7 +33,7 @@ octet_apart m true false h = h
 octet_apart m false c h = refl
 
 -- a message of another type is no close-down
-no_close_down : (r : Role) (octet : ℕ) (value : List ℕ) → (octet == cld) ≡ false → brings_command cld (message_frame r octet value) ≡ false
+pub no_close_down : (r : Role) (octet : ℕ) (value : List ℕ) → (octet == cld) ≡ false → brings_command cld (message_frame r octet value) ≡ false
 no_close_down r octet value h =
     let l = 2 * length value + 1 in
     let m : Message = record { octet = octet; value = take (l / 2) value } in

@@ -11,3 +11,9 @@ pub mod Turns
 pub mod Gives
 pub mod Ticks
 pub mod TickTurns
+pub mod Rooms
+pub mod Values
+pub mod Coming
+pub mod Words
+pub mod Told
+pub mod Handling

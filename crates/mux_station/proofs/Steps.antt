@@ -57,7 +57,7 @@ or_false : (b c : Bool) → b ≡ false → c ≡ false → (b || c) ≡ false
 or_false false c g h = h
 or_false true c g h = cc
 
-since_opens : (r : Role) (d : ℕ) (past : List Act) (a : Act) → opens_now r d past a ≡ true → since r d (a ∷ past) ≡ []
+pub since_opens : (r : Role) (d : ℕ) (past : List Act) (a : Act) → opens_now r d past a ≡ true → since r d (a ∷ past) ≡ []
 since_opens r d past a o = ap (λ (b : Bool). since_after b (belongs r d past a) a (since r d past)) o
 
 -- a connection that opens, again or for the first time

@@ -1,12 +1,13 @@
 -- A station fits a past where each thing that it keeps is what the past says.
 use Rattle.std.specs.Prelude.{◌≡◌, ℕ, ◌<◌, ◌==◌, true, false, List, ◌++◌}
 use Rattle.std.specs.List.{list_any}
+use Rattle.mux_frame.specs.Frames.{Frame}
 use Rattle.mux_station.specs.declared.role.Role.{Role}
 use Rattle.mux_station.specs.Acts.{Call, Open, Close, Flow, Offer, Act}
 use Rattle.mux_station.specs.Opening.{since, standings}
 use Rattle.mux_station.specs.States.{IsShut, is_opened, state_of}
 use Rattle.mux_station.specs.Stopping.{last_said, got_says, msc_says, flow_says}
-use Rattle.mux_station.specs.Sending.{is_loss, queue, seen, refused, probe_of, answered}
+use Rattle.mux_station.specs.Sending.{is_loss, queue, seen, refused, got_refused, probe_of, answered}
 use Rattle.mux_station.specs.Offering.{offered, given, last_sender}
 use Rattle.mux_station.specs.Stations.{Channel, Station, channel_at, setting_of, seen_in}
 
@@ -44,3 +45,7 @@ call_dlci _ = 0
 -- a call is refused by what a station keeps just where it is refused by each past that the station fits
 abbrev pub SeesThePast : Station → List Act → Call → Type 0
 SeesThePast v past c = Fits v past → call_dlci c < 62 → refused (setting_of v) (seen_in v) c ≡ refused (setting_of v) (seen (setting_of v) past) c
+
+-- and so is a frame that comes
+abbrev pub SeesTheFrame : Station → List Act → Frame → Type 0
+SeesTheFrame v past f = Fits v past → f.dlci < 62 → got_refused (setting_of v) (seen_in v) f ≡ got_refused (setting_of v) (seen (setting_of v) past) f

@@ -17,3 +17,7 @@ pub mod Giving
 pub mod GivenFrames
 pub mod Ticking
 pub mod Noticing
+pub mod MessagesRead
+pub mod AnswersSent
+pub mod Noting
+pub mod Getting

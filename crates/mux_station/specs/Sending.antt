@@ -2,7 +2,7 @@
 -- called for, and none that is called for is missing (27.010, 5.4).
 use Rattle.std.specs.Prelude.{ℕ, ◌≡◌, ◌+◌, ◌==◌, ◌&&◌, ◌||◌, not, nat_le, Bool, true, false, IsTrue, List, [], ◌∷◌, ◌++◌, length, drop, Option, Some, None, if◌then◌else◌, is_none, is_some}
 use Rattle.std.specs.Str.{bytes_eq}
-use Rattle.std.specs.List.{list_all, list_any}
+use Rattle.std.specs.List.{list_any}
 use Rattle.mux_frame.specs.Frames.{Frame}
 use Rattle.mux_frame.specs.declared.frame.Kind.TheVariants.{Sabm, Disc, Uih}
 use Rattle.mux_station.specs.declared.role.Role.{Role}
@@ -15,7 +15,7 @@ use Rattle.mux_station.specs.Opening.{is_open, opens_now}
 use Rattle.mux_station.specs.States.{State, is_opened, is_shut, state_of}
 use Rattle.mux_station.specs.Stopping.{is_stopped}
 use Rattle.mux_station.specs.Offering.{offered, given}
-use Rattle.mux_station.specs.Tables.{message_frame, msc_frame, ready, held_up, by_frame, by_tick, has_room, octets_of}
+use Rattle.mux_station.specs.Tables.{message_frame, msc_frame, ready, held_up, by_frame, by_tick, have_room, octets_of}
 
 -- whose history it is
 pub record Setting : Type 0 where
@@ -47,9 +47,6 @@ asking r (Flow d go) =
     else msc_frame r d (if go then ready else held_up) ∷ []
 asking r (Offer d octets) = []
 
-abbrev pub all_have_room : Setting → Seen → List Frame → Bool
-all_have_room s v fs = list_all (has_room s.n1 v.queued) fs
-
 -- why a call is refused for the states, each list in its order; how much is offered is not spoken of here
 abbrev pub refused_by_state : Seen → Call → Option StationError
 refused_by_state v (Open d) =
@@ -74,9 +71,13 @@ refused_by_state v (Offer d octets) =
     else if not (is_opened (v.state d)) then Some NotOpen
     else None
 
--- no place in the control queue is the last refusal
+-- no place in the control queue for all frames that are called for
+abbrev pub without_room : Setting → Seen → List Frame → Option StationError
+without_room s v fs = if have_room s.n1 v.queued fs then None else Some NoRoom
+
+-- which is the last refusal
 abbrev pub if_no_room : Setting → Seen → Call → Option StationError
-if_no_room s v c = if all_have_room s v (asking s.role c) then None else Some NoRoom
+if_no_room s v c = without_room s v (asking s.role c)
 
 abbrev pub or_else : Option StationError → Option StationError → Option StationError
 or_else None o = o
@@ -85,6 +86,10 @@ or_else (Some e) o = Some e
 -- why a call is refused
 abbrev pub refused : Setting → Seen → Call → Option StationError
 refused s v c = or_else (refused_by_state v c) (if_no_room s v c)
+
+-- why a frame that comes is refused
+abbrev pub got_refused : Setting → Seen → Frame → Option StationError
+got_refused s v f = without_room s v (by_frame s.role v.state f)
 
 -- the frames that an act calls for
 abbrev pub calls_seeing : Setting → Seen → Act → List Frame

@@ -65,6 +65,7 @@ at_got s k = s
 abbrev pub at_answered : Bool → State → Kind → State
 at_answered at_zero s Sabm = if at_zero then IsOpened else IsShut
 at_answered at_zero IsOpened Disc = IsShut
+at_answered at_zero (IsOpening n) Disc = IsShut
 at_answered at_zero (IsClosing n) Ua = IsShut
 at_answered at_zero s Dm = IsShut
 at_answered at_zero s k = s

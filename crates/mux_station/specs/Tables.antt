@@ -1,5 +1,5 @@
 -- The frames that the tables call for (27.010, 5.4).
-use Rattle.std.specs.Prelude.{zero, suc, ℕ, ◌+◌, ◌*◌, ◌==◌, ◌&&◌, ◌||◌, not, nat_le, Bool, true, false, List, [], ◌∷◌, ◌++◌, Option, Some, None, if◌then◌else◌}
+use Rattle.std.specs.Prelude.{◌≡◌, zero, suc, ℕ, ◌+◌, ◌*◌, ◌==◌, ◌&&◌, ◌||◌, not, nat_le, Bool, true, false, List, [], ◌∷◌, ◌++◌, Option, Some, None, if◌then◌else◌}
 use Rattle.mux_frame.specs.Frames.{Frame}
 use Rattle.mux_frame.specs.declared.frame.Kind.{Kind}
 use Rattle.mux_frame.specs.declared.frame.Kind.TheVariants.{Sabm, Ua, Dm, Disc, Uih}
@@ -82,6 +82,15 @@ octets_of (f ∷ fs) = written_length f + octets_of fs
 -- a frame fits into the control queue of an end with this N1, behind so many octets that wait there
 abbrev pub has_room : ℕ → ℕ → Frame → Bool
 has_room n1 queued f = nat_le (queued + written_length f) (4096 + n1)
+
+-- and so many frames, each behind the ones before it; no frames always do
+abbrev pub have_room : ℕ → ℕ → List Frame → Bool
+have_room n1 queued [] = true
+have_room n1 queued (f ∷ fs) = has_room n1 queued f && have_room n1 (queued + written_length f) fs
+
+-- which is to say that the sum of their octets does
+abbrev pub HasRoomBySum : ℕ → ℕ → Frame → List Frame → Type 0
+HasRoomBySum n1 queued f fs = have_room n1 queued (f ∷ fs) ≡ nat_le (queued + octets_of (f ∷ fs)) (4096 + n1)
 
 -- a tick's frame for a connection: the SABM or DISC again, and at the fourth tick of an opening DISC
 abbrev pub again : Role → ℕ → State → Option Frame

@@ -1,10 +1,9 @@
 //! What the user of a station asks of it.
 ghost use Rattle.std.specs.Prelude.{◌≡◌, ◌++◌, ◌∷◌, [], Some, None, is_some, if◌then◌else◌, length, ◌&&◌, replicate, OnOk, OnErr};
-ghost use Rattle.std.specs.List.{list_all};
 ghost use Rattle.std.specs.Result.{result_err};
 ghost use Rattle.mux_station.specs.Acts.{Open, Close, Probe, Stop, Flow, Offer, Called};
 ghost use Rattle.mux_station.specs.States.{IsOpening, IsClosing, is_opened};
-ghost use Rattle.mux_station.specs.Tables.{octets_of, has_room};
+ghost use Rattle.mux_station.specs.Tables.{octets_of, have_room};
 ghost use Rattle.mux_station.specs.Written.{written};
 ghost use Rattle.mux_station.specs.Sending.{refused, refused_by_state, asking};
 ghost use Rattle.mux_station.specs.ControlFrames.{control_frame};
@@ -37,7 +36,7 @@ impl Station {
 
     /// Whether the frame fits into the control queue: NoRoom where it doesn't.
     pub(crate) fn check_room(&self, frame: &ControlFrame) -> Result<(), StationError>
-        ensures { result_err result ≡ (if list_all (has_room self.now.n1 (octets_of self.now.queue)) (control_frame frame.now ∷ []) then None else Some StationError.NoRoom) }
+        ensures { result_err result ≡ (if have_room self.now.n1 (octets_of self.now.queue) (control_frame frame.now ∷ []) then None else Some StationError.NoRoom) }
     {
         if self.control.has_room(frame.written_len()) {
             Ok(())

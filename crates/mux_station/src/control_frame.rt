@@ -9,7 +9,7 @@ use crate::role::Role;
 use arrayvec::ArrayVec;
 use mux_frame::{Dlci, FrameView, Kind};
 
-/// Type octets of commands (27.010, 5.4.6.3); that of a response is 2 less.
+/// Type octets of commands (27.010, 5.4.6.3).
 pub(crate) const TEST: u8 = 0x23;
 
 pub(crate) const FCOFF: u8 = 0x63;
@@ -19,6 +19,17 @@ pub(crate) const FCON: u8 = 0xA3;
 pub(crate) const CLD: u8 = 0xC3;
 
 pub(crate) const MSC: u8 = 0xE3;
+
+pub(crate) const NSC: u8 = 0x13;
+
+/// Type octets of responses.
+pub(crate) const TEST_RESPONSE: u8 = 0x21;
+
+pub(crate) const CLD_RESPONSE: u8 = 0xC1;
+
+pub(crate) const MSC_RESPONSE: u8 = 0xE1;
+
+pub(crate) const NSC_RESPONSE: u8 = 0x11;
 
 /// Signals of an MSC (27.010, 5.4.6.3.7): DV, RTR, RTC and EA, and the same with FC.
 pub(crate) const READY: u8 = 0x8D;
@@ -81,7 +92,8 @@ impl ControlFrame {
 
     /// How many octets it is as written, both flags counted.
     pub fn written_len(&self) -> usize
-        ensures { result ≡ written_length (control_frame self.now) }
+        ensures octets { result ≡ written_length (control_frame self.now) }
+        ensures few { result ≤ 136 }
     {
         let length = self.info.len();
         if length <= 127 {

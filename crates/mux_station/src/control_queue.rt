@@ -1,5 +1,5 @@
 //! The frames that wait in the control queue.
-ghost use Rattle.std.specs.Prelude.{◌≡◌, ◌+◌, ◌≤◌, ◌++◌, ◌∷◌, ◌==◌, [], drop, length, nat_le, slice_get, option_map, IfOk};
+ghost use Rattle.std.specs.Prelude.{◌≡◌, ◌+◌, ◌≤◌, ◌++◌, ◌∷◌, ◌==◌, true, [], drop, length, nat_le, slice_get, option_map, IfOk};
 ghost use Rattle.std.specs.Borrow.{sem};
 ghost use Rattle.std.specs.Io.BufRead.{Rests};
 ghost use Rattle.mux_frame.specs.Frames.{frame_of};
@@ -54,7 +54,8 @@ impl ControlQueue {
 
     /// Whether so many octets more fit.
     pub fn has_room(&self, more: usize) -> bool
-        ensures { result ≡ nat_le (octets_of self.now.frames + more) self.now.room }
+        ensures fits { result ≡ nat_le (octets_of self.now.frames + more) self.now.room }
+        ensures none { more ≡ 0 → result ≡ true }
     {
         more <= self.room - self.octets
     }

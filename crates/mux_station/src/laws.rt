@@ -1,9 +1,11 @@
 //! Laws of every history.
 ghost use Rattle.std.specs.Prelude.{ℕ, List};
+ghost use Rattle.mux_frame.specs.Frames.{Frame};
 ghost use Rattle.mux_station.specs.declared.role.Role.{Role};
+ghost use Rattle.mux_station.specs.Tables.{HasRoomBySum};
 ghost use Rattle.mux_station.specs.Acts.{Act, Call};
 ghost use Rattle.mux_station.specs.Stations.{Station};
-ghost use Rattle.mux_station.specs.Fitting.{SeesThePast};
+ghost use Rattle.mux_station.specs.Fitting.{SeesThePast, SeesTheFrame};
 ghost use Rattle.mux_station.specs.Opening.{IsOpenByPlaces};
 ghost use Rattle.mux_station.specs.States.{OpenedIsOpen};
 ghost use Rattle.mux_station.specs.Sending.{Setting, Lawful, AnswersKeep, NoneAfterLoss, GivesBeginning};
@@ -25,9 +27,11 @@ pub fn sendings()
     ensures data { (s : Setting) (d : ℕ) (past : List Act) → Lawful s past → GivesBeginning s d past }
 {}
 
-/// A call is refused by what a station keeps just where it is refused by each past that the station
-/// fits.
-#[tactic(auto, using(crate::proofs::Asking::sees_the_past))]
+/// A call or a frame is refused by what a station keeps just where it is refused by each past that the
+/// station fits; and what a frame calls for has room where the sum of the octets has.
+#[tactic(auto, using(crate::proofs::Asking::sees_the_past, crate::proofs::Handling::sees_the_frame, crate::proofs::Rooms::room_sum))]
 pub fn refusals()
-    ensures { (v : Station) (past : List Act) (c : Call) → SeesThePast v past c }
+    ensures calls { (v : Station) (past : List Act) (c : Call) → SeesThePast v past c }
+    ensures frames { (v : Station) (past : List Act) (f : Frame) → SeesTheFrame v past f }
+    ensures room { (n1 queued : ℕ) (f : Frame) (fs : List Frame) → HasRoomBySum n1 queued f fs }
 {}

@@ -1,20 +1,27 @@
 //! One end of the basic option of 3GPP TS 27.010: connections, control messages, flow.
 #![tactic(auto)]
 
+mod answers;
 mod calls;
 mod channel;
 mod control_frame;
 mod control_queue;
 mod error;
+mod got;
 pub mod laws;
+mod message;
+mod noted;
 mod outgoing;
+mod reading;
 mod repeats;
 mod role;
+mod row;
 mod sending;
 mod station;
 mod tick;
 
 pub use error::StationError;
+pub use noted::Noted;
 pub use outgoing::Outgoing;
 pub use role::{ChannelState, Role};
 pub use station::Station;

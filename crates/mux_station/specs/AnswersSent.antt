@@ -1,0 +1,14 @@
+-- The frames that a frame calls for, as they are made.
+use Rattle.std.specs.Prelude.{List, [], ◌∷◌, ◌++◌, Option, None, Some}
+use Rattle.mux_frame.specs.Frames.{Frame}
+use Rattle.mux_station.specs.declared.control_frame.ControlFrame.{ControlFrame}
+use Rattle.mux_station.specs.declared.answers.Answers.{Answers}
+use Rattle.mux_station.specs.ControlFrames.{control_frame}
+
+abbrev pub frames_in : Option ControlFrame → List Frame
+frames_in None = []
+frames_in (Some f) = control_frame f ∷ []
+
+-- one after the other
+abbrev pub answers_sent : Answers → List Frame
+answers_sent a = frames_in a.first ++ frames_in a.second

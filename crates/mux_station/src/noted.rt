@@ -1,0 +1,24 @@
+//! What is noted of a frame that comes.
+
+/// What a frame came to (27.010, 5.4).
+#[derive(Clone, Copy, PartialEq, Eq, Debug)]
+pub enum Noted {
+    /// Its connection is open now.
+    Opened,
+    /// Its connection was being opened, and is Shut.
+    Refused,
+    /// Its connection is Shut now.
+    Closed,
+    /// Of a responder: its connection was open, and was opened afresh.
+    Reset,
+    /// Its information belongs to the user of its connection.
+    Info,
+    /// The probe that waited came back.
+    ProbeBack,
+    /// The other end doesn't know probes.
+    ProbeRefused,
+    /// Connection 0 was closed, and all others with it.
+    AllClosed,
+    /// Nothing of these.
+    Nothing,
+}
