@@ -17,3 +17,4 @@ pub mod Coming
 pub mod Words
 pub mod Told
 pub mod Handling
+pub mod Notings

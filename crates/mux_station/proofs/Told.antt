@@ -22,7 +22,7 @@ use Rattle.mux_station.proofs.Steps.{shut_now, untouched, goes_on, since_goes_on
 use Rattle.mux_station.proofs.CallSteps.{all_untouched, probe_needs}
 use Rattle.mux_station.proofs.Calling.{stop_in_past}
 use Rattle.mux_station.proofs.Coming.{ends_zero, stays_up, state_zero, state_beside_zero}
-use Rattle.mux_station.proofs.Words.{kept, got_kept, zero_same, probe_gone}
+use Rattle.mux_station.proofs.Words.{kept, got_kept, zero_same, probe_gone, zero_place, zero_others}
 
 abbrev fresh : State → Channel
 fresh t = record { state = t; is_stopped = false; waiting = [] }
@@ -41,14 +41,14 @@ kind_uih Disc h = cc
 kind_uih Uih h = refl
 
 -- UIH on 0
-record OnZero (f : Frame) : Type 0 where
-  kind_is : f.kind ≡ Uih
-  zero : (f.dlci == 0) ≡ true
-  read : message_in f ≡ message_of f.info
-  commands : brings_command cld f ≡ octet_is (λ n. n) cld (message_of f.info)
-  responds : brings_response cld f ≡ octet_is command_of cld (message_of f.info)
+pub record OnZero (f : Frame) : Type 0 where
+  pub kind_is : f.kind ≡ Uih
+  pub zero : (f.dlci == 0) ≡ true
+  pub read : message_in f ≡ message_of f.info
+  pub commands : brings_command cld f ≡ octet_is (λ n. n) cld (message_of f.info)
+  pub responds : brings_response cld f ≡ octet_is command_of cld (message_of f.info)
 
-on_zero : (f : Frame) → is_on Uih 0 f ≡ true → OnZero f
+pub on_zero : (f : Frame) → is_on Uih 0 f ≡ true → OnZero f
 on_zero f h =
     let parts = and_parts (is_kind f.kind Uih) (f.dlci == 0) h in
     record {
@@ -72,7 +72,7 @@ got_uih Responder (IsClosing n) = refl
 got_uih Responder (IsStopping n) = refl
 
 -- 0 afterwards
-zero_told : (v : Station) (f : Frame) (past : List Act) → OnZero f → Fits v past → state_of v.role 0 (Got f ∷ past) ≡ at_close_down (brings_command cld f) (brings_response cld f) (channel_at v 0).state
+pub zero_told : (v : Station) (f : Frame) (past : List Act) → OnZero f → Fits v past → state_of v.role 0 (Got f ∷ past) ≡ at_close_down (brings_command cld f) (brings_response cld f) (channel_at v 0).state
 zero_told v f past o h =
     state_zero v.role past f o.zero
     ∙ (ap (λ (k : Kind). at_close_down (brings_command cld f) (brings_response cld f) (got_by v.role true (state_of v.role 0 past) k)) o.kind_is
@@ -89,18 +89,11 @@ other_told v f past e o h l k =
     ∙ (ap (λ (s : State). if is_opened s && brings_command cld f then IsShut else state_of v.role e past) (h.channels_are 0 (omega arith)).state_is
     ∙ ap (λ (s : State). if is_opened (channel_at v 0).state && brings_command cld f then IsShut else s) (h.channels_are e l).state_is))
 
-opens_none : (r : Role) (e : ℕ) (past : List Act) (f : Frame) → OnZero f → opens_now r e past (Got f) ≡ false
+pub opens_none : (r : Role) (e : ℕ) (past : List Act) (f : Frame) → OnZero f → opens_now r e past (Got f) ≡ false
 opens_none Initiator e past f o = ap (λ (k : Kind). (is_kind k Ua && (f.dlci == e)) && (standings Initiator e past).own.is_asked) o.kind_is
 opens_none Responder e past f o = ap (λ (k : Kind). (is_kind k Sabm && (f.dlci == e)) && ((e == 0) || (standings Responder e past).zero.is_open)) o.kind_is
 
 -- ## 0 is closed by it
-
-zero_place : (v : Station) (s : State) → channel_at (all_turned_in v s) 0 ≡ fresh s
-zero_place v s = get_or-set_same (replicate 62 shut_channel) 0 (fresh s) shut_channel (omega arith)
-
-zero_others : (v : Station) (s : State) (e : ℕ) → e < 62 → (e == 0) ≡ false → channel_at (all_turned_in v s) e ≡ shut_channel
-zero_others v s e l k =
-    get_or-set_other (replicate 62 shut_channel) 0 e (fresh s) shut_channel (λ (g : e ≡ 0). eqb-false e 0 k g) ∙ get_or-replicate 62 e shut_channel shut_channel l
 
 closed_fits : (v : Station) (f : Frame) (past : List Act) → state_of v.role 0 (Got f ∷ past) ≡ IsShut → ((e : ℕ) → e < 62 → (e == 0) ≡ false → state_of v.role e (Got f ∷ past) ≡ IsShut) → Fits v past → Fits (all_turned_in v IsShut) (Got f ∷ past)
 closed_fits v f past zero others h = record {

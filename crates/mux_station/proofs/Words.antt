@@ -246,12 +246,12 @@ is_stays Stays = true
 is_stays _ = false
 
 -- it opens or is shut
-record Turned (t : Turn) (s : State) : Type 0 where
-  moves : t ≢ Stays
-  to : (own : State) → turned t own ≡ s
-  opens : is_opens t ≡ is_opened s
-  shut_or_opened : is_opened s ≡ false → s ≡ IsShut
-  opened_state : is_opened s ≡ true → s ≡ IsOpened
+pub record Turned (t : Turn) (s : State) : Type 0 where
+  pub moves : t ≢ Stays
+  pub to : (own : State) → turned t own ≡ s
+  pub opens : is_opens t ≡ is_opened s
+  pub shut_or_opened : is_opened s ≡ false → s ≡ IsShut
+  pub opened_state : is_opened s ≡ true → s ≡ IsOpened
 
 turn_apart : (t u : Turn) → is_stays t ≡ false → is_stays u ≡ true → t ≢ u
 turn_apart t u h k e = let g : false ≡ true = sym h ∙ (ap is_stays e ∙ k) in cc
@@ -259,7 +259,7 @@ turn_apart t u h k e = let g : false ≡ true = sym h ∙ (ap is_stays e ∙ k) 
 turned_open : Turned Opens IsOpened
 turned_open = record { moves = turn_apart Opens Stays refl refl; to = λ own. refl; opens = refl; shut_or_opened = λ h. let g : true ≡ false = h in cc; opened_state = λ h. refl }
 
-turned_closed : Turned Shuts IsShut
+pub turned_closed : Turned Shuts IsShut
 turned_closed = record { moves = turn_apart Shuts Stays refl refl; to = λ own. refl; opens = refl; shut_or_opened = λ h. refl; opened_state = λ h. let g : false ≡ true = h in cc }
 
 -- a word on its connection, that opens it, is a UA or SABM
@@ -343,10 +343,10 @@ lane_fits v f t s past u w z =
 
 -- ### On 0
 
-zero_place : (v : Station) (s : State) → channel_at (all_turned_in v s) 0 ≡ fresh s
+pub zero_place : (v : Station) (s : State) → channel_at (all_turned_in v s) 0 ≡ fresh s
 zero_place v s = get_or-set_same (replicate 62 shut_channel) 0 (fresh s) shut_channel (omega arith)
 
-zero_others : (v : Station) (s : State) (e : ℕ) → e < 62 → (e == 0) ≡ false → channel_at (all_turned_in v s) e ≡ shut_channel
+pub zero_others : (v : Station) (s : State) (e : ℕ) → e < 62 → (e == 0) ≡ false → channel_at (all_turned_in v s) e ≡ shut_channel
 zero_others v s e l k =
     get_or-set_other (replicate 62 shut_channel) 0 e (fresh s) shut_channel (λ (g : e ≡ 0). eqb-false e 0 k g) ∙ get_or-replicate 62 e shut_channel shut_channel l
 
@@ -394,7 +394,7 @@ zero_gone v f t s past b o u w z =
     neither true = refl
     neither false = refl
 
-zero_fits : (v : Station) (f : Frame) (t : Turn) (s : State) (past : List Act) → Turned t s → Word v f t past → (f.dlci == 0) ≡ true → Fits (all_turned_in v s) (Got f ∷ past)
+pub zero_fits : (v : Station) (f : Frame) (t : Turn) (s : State) (past : List Act) → Turned t s → Word v f t past → (f.dlci == 0) ≡ true → Fits (all_turned_in v s) (Got f ∷ past)
 zero_fits v f t s past u w z = record {
   live = w.fits.live;
   channels_are = λ e l. zero_each v f t s past e (e == 0) refl u w z l;

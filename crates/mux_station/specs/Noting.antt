@@ -1,5 +1,5 @@
 -- What is noted of a frame that comes (27.010, 5.4).
-use Rattle.std.specs.Prelude.{ℕ, ◌==◌, ◌||◌, Bool, Option, None, Some, if◌then◌else◌}
+use Rattle.std.specs.Prelude.{◌≡◌, ℕ, ◌<◌, ◌==◌, ◌&&◌, ◌||◌, Bool, true, false, List, ◌∷◌, length, Option, None, Some, if◌then◌else◌}
 use Rattle.mux_frame.specs.Frames.{Frame}
 use Rattle.mux_frame.specs.declared.frame.Kind.{Kind}
 use Rattle.mux_frame.specs.declared.frame.Kind.TheVariants.{Sabm, Ua, Dm, Disc, Uih}
@@ -7,10 +7,14 @@ use Rattle.mux_station.specs.declared.role.Role.{Role}
 use Rattle.mux_station.specs.declared.role.Role.TheVariants.{Initiator, Responder}
 use Rattle.mux_station.specs.declared.noted.Noted.{Noted}
 use Rattle.mux_station.specs.declared.noted.Noted.TheVariants.{Opened, Refused, Closed, Reset, Info, ProbeBack, ProbeRefused, AllClosed, Nothing}
-use Rattle.mux_station.specs.Written.{is_on}
+use Rattle.mux_station.specs.Written.{is_on, is_data_frame}
 use Rattle.mux_station.specs.Messages.{Message, message_of, command_of, cld}
-use Rattle.mux_station.specs.States.{State, IsShut, IsOpening, IsOpened, IsClosing, IsStopping, is_opened}
-use Rattle.mux_station.specs.Sending.{Waiting, Seen, brings_probe_back, refuses_probe}
+use Rattle.mux_station.specs.States.{State, IsShut, IsOpening, IsOpened, IsClosing, IsStopping, is_opened, state_of}
+use Rattle.mux_station.specs.Acts.{Act, Got}
+use Rattle.mux_station.specs.Opening.{is_open, opens_now}
+use Rattle.mux_station.specs.Stations.{Station, setting_of}
+use Rattle.mux_station.specs.Fitting.{Fits}
+use Rattle.mux_station.specs.Sending.{Setting, Waiting, Seen, seen, brings_probe_back, refuses_probe}
 
 -- what closes 0 closes all
 abbrev pub closed_on : ℕ → Noted
@@ -26,7 +30,7 @@ by_initiator d IsOpened Uih = Info
 by_initiator d IsOpened k = closed_on d
 by_initiator d (IsClosing n) Ua = Closed
 by_initiator d (IsClosing n) Dm = Closed
-by_initiator d (IsStopping n) Dm = AllClosed
+by_initiator d (IsStopping n) Dm = closed_on d
 by_initiator d own k = Nothing
 
 -- the responder's, where at_zero says whether d is 0, or 0 is Opened
@@ -66,3 +70,28 @@ abbrev pub noted_of : Role → Seen → Frame → Noted
 noted_of r v f =
     if is_on Uih 0 f then noted_by_message (v.state 0) v.probe (message_of f.info)
     else noted_by_table r f.dlci (v.state 0) (v.state f.dlci) f.kind
+
+-- ## What that comes to
+
+abbrev pub says_open : Noted → Bool
+says_open Opened = true
+says_open Reset = true
+says_open _ = false
+
+abbrev pub says_info : Noted → Bool
+says_info Info = true
+says_info _ = false
+
+-- what is noted of a frame is what happens
+pub record NotesWhatHappens (s : Setting) (past : List Act) (f : Frame) : Type 0 where
+  -- Opened or Reset: the frame opens its connection
+  pub opened : says_open (noted_of s.role (seen s past) f) ≡ opens_now s.role f.dlci past (Got f)
+  -- Info: it is data of a connection that is open
+  pub info : says_info (noted_of s.role (seen s past) f) ≡ (is_data_frame f && is_open s.role f.dlci past)
+  -- AllClosed: every connection is Shut after it; and so it is noted where 0 was open and isn't any more
+  pub all_shut : noted_of s.role (seen s past) f ≡ AllClosed → (d : ℕ) → d < 62 → state_of s.role d (Got f ∷ past) ≡ IsShut
+  pub closes_all : is_open s.role 0 past ≡ true → is_open s.role 0 (Got f ∷ past) ≡ false → noted_of s.role (seen s past) f ≡ AllClosed
+
+-- in each past that a station fits
+abbrev pub NotedTruly : Station → List Act → Frame → Type 0
+NotedTruly v past f = Fits v past → length v.channels ≡ 62 → f.dlci < 62 → NotesWhatHappens (setting_of v) past f

@@ -6,6 +6,7 @@ ghost use Rattle.mux_station.specs.Tables.{HasRoomBySum};
 ghost use Rattle.mux_station.specs.Acts.{Act, Call};
 ghost use Rattle.mux_station.specs.Stations.{Station};
 ghost use Rattle.mux_station.specs.Fitting.{SeesThePast, SeesTheFrame};
+ghost use Rattle.mux_station.specs.Noting.{NotedTruly};
 ghost use Rattle.mux_station.specs.Opening.{IsOpenByPlaces};
 ghost use Rattle.mux_station.specs.States.{OpenedIsOpen};
 ghost use Rattle.mux_station.specs.Sending.{Setting, Lawful, AnswersKeep, NoneAfterLoss, GivesBeginning};
@@ -34,4 +35,10 @@ pub fn refusals()
     ensures calls { (v : Station) (past : List Act) (c : Call) → SeesThePast v past c }
     ensures frames { (v : Station) (past : List Act) (f : Frame) → SeesTheFrame v past f }
     ensures room { (n1 queued : ℕ) (f : Frame) (fs : List Frame) → HasRoomBySum n1 queued f fs }
+{}
+
+/// What is noted of a frame is what happens: its connection opens, it is data of an open connection, or
+/// all are closed.
+pub fn notings()
+    ensures { (v : Station) (past : List Act) (f : Frame) → NotedTruly v past f }
 {}

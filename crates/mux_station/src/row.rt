@@ -70,12 +70,13 @@ pub(crate) fn initiator_row(dlci: Dlci, stage: Stage, kind: Kind) -> Row
         (Stage::Opening(_), Kind::Disc | Kind::Sabm) => {
             Row::new(Some(Kind::Dm), Turn::Shuts, Noted::Refused)
         }
-        (Stage::Opened, Kind::Dm) => Row::new(None, Turn::Shuts, closed_on(dlci)),
+        (Stage::Opened | Stage::Stopping(_), Kind::Dm) => {
+            Row::new(None, Turn::Shuts, closed_on(dlci))
+        }
         (Stage::Opened, Kind::Disc) => Row::new(Some(Kind::Ua), Turn::Shuts, closed_on(dlci)),
         (Stage::Opened, Kind::Sabm) => Row::new(Some(Kind::Dm), Turn::Shuts, closed_on(dlci)),
         (Stage::Opened, Kind::Uih) => Row::new(None, Turn::Stays, Noted::Info),
         (Stage::Closing(_), Kind::Ua | Kind::Dm) => Row::new(None, Turn::Shuts, Noted::Closed),
-        (Stage::Stopping(_), Kind::Dm) => Row::new(None, Turn::Shuts, Noted::AllClosed),
         (_, Kind::Disc | Kind::Sabm) => Row::new(Some(Kind::Dm), Turn::Stays, Noted::Nothing),
         _ => Row::new(None, Turn::Stays, Noted::Nothing),
     }
