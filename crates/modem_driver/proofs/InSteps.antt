@@ -67,7 +67,7 @@ none_same q (r ∷ qs) h =
 itself : (q : Request) → is_same q q ≡ true
 itself q = and_from (q.caller == q.caller) (q.number == q.number) (eq-eqb q.caller q.caller refl) (eq-eqb q.number q.number refl)
 
-abbrev Few : List Request → Type 0
+abbrev pub Few : List Request → Type 0
 Few qs = (r : Request) → many r qs ≤ 1
 
 distinct_few : (qs : List Request) → Few qs → are_distinct qs ≡ true
@@ -81,7 +81,7 @@ distinct_few (q ∷ qs) h =
 few_hand : (past : List Act) → Few (taken past) → Few (in_hand past)
 few_hand past h r = let a = hand_few r past in let b = h r in omega (arith, a, b)
 
-few_before : (past : List Act) (q : Request) → Few (taken past ++ q ∷ []) → Few (taken past)
+pub few_before : (past : List Act) (q : Request) → Few (taken past ++ q ∷ []) → Few (taken past)
 few_before past q h r = let a = many_append r (taken past) (q ∷ []) in let b = h r in omega (arith, a, b)
 
 few_with : (past : List Act) (q : Request) → Few (taken past ++ q ∷ []) → Few (in_hand past ++ q ∷ [])
@@ -190,7 +190,7 @@ paid s d past a n k =
 called : (s : Setting) (d : ℕ) (past : List Act) (a : Act) → owed s past ≡ [] → Kept s d (ended s past a) → Kept s d (after (a ∷ past) (owed s past ++ calls_behind s past (owed s past) a))
 called s d past a e k = subst (λ (owing : List Act). Kept s d (after (a ∷ past) (owing ++ calls_behind s past owing a))) (sym e) k
 
-here : (s : Setting) (d : ℕ) (past : List Act) → owed s past ≡ [] → Kept s d (settled s past) → Kept s d past
+pub here : (s : Setting) (d : ℕ) (past : List Act) → owed s past ≡ [] → Kept s d (settled s past) → Kept s d past
 here s d past e k = subst (λ (acts : List Act). Kept s d (after past acts)) e k
 
 there : (s : Setting) (d : ℕ) (past : List Act) → owed s past ≡ [] → Kept s d past → Kept s d (settled s past)
@@ -232,7 +232,7 @@ kept_all s r (Freed e ∷ past) l c u n d z =
     called s d past (Freed e) none (kept_freed s d e past (distinct_few (in_hand past) (few_hand past u)) (here s d past none (kept_all s r past l.1 c.1 u n d z)))
 kept_all s r (Lost ∷ past) l c u n d z = absurd (let x : true ≡ false = n in cc)
 
-few_once : (qs : List Request) → UsesOnce qs → Few qs
+pub few_once : (qs : List Request) → UsesOnce qs → Few qs
 few_once qs h r = let a = many_filtered r qs in let b = h r in omega (arith, a, b)
 
 pub stays_in_step : (s : Setting) (past : List Act) → Lawful s past → StaysInStep s past

@@ -4,7 +4,6 @@ pub mod Leaving
 pub mod Losing
 pub mod Outcomes
 pub mod Begins
-pub mod Tellings
 pub mod Standing
 pub mod Laning
 pub mod Counts
@@ -12,6 +11,7 @@ pub mod Wholly
 pub mod Sends
 pub mod Calling
 pub mod Hands
+pub mod Tellings
 pub mod Steps
 pub mod Opens
 pub mod InOrder
@@ -28,6 +28,7 @@ pub mod Owning
 pub mod OwningTook
 pub mod OwningGot
 pub mod InSteps
+pub mod Owns
 pub mod Taking
 pub mod Arriving
 pub mod Quieting

@@ -263,7 +263,7 @@ is_data f e =
     let parts = and_parts (is_kind f.kind Uih) (not (f.dlci == 0)) e in
     ap (λ (k : Kind). record { dlci = f.dlci; kind = k; cr = f.cr; pf = f.pf; info = f.info }) (kind_is f.kind parts.0)
 
-not_zero : (f : Frame) → is_data_frame f ≡ true → (f.dlci == 0) ≡ false
+pub not_zero : (f : Frame) → is_data_frame f ≡ true → (f.dlci == 0) ≡ false
 not_zero f e = let parts = and_parts (is_kind f.kind Uih) (not (f.dlci == 0)) e in not_true (f.dlci == 0) parts.1
 
 either_none : (b : Bool) (fs : List Frame) → fs ≡ [] → (if b then [] else fs) ≡ []

@@ -32,6 +32,7 @@ use Rattle.modem_driver.specs.Lawful.{Lawful, unsent, owed}
 use Rattle.modem_driver.specs.Wholes.{called, stands, EndsWindow, HasAnswer, TellsAnswers}
 use Rattle.modem_driver.proofs.WholeLaws.{beginning}
 use Rattle.modem_driver.proofs.Outcomes.{lawful_part}
+use Rattle.modem_driver.proofs.Hands.{outcome_of}
 
 -- ## Answers that are no Done
 
@@ -137,21 +138,21 @@ later_plain v now a r Stop = either_plain (is_stopping (now 0)) None (Some (stop
 
 -- ## Acts that tell answers
 
-abbrev Tells : (List AnswerLine → Type 0) → Act → Type 0
-Tells P (Told o) = (ls : List AnswerLine) → o.answer ≡ Done ls → P ls
+abbrev pub Tells : (Outcome → List AnswerLine → Type 0) → Act → Type 0
+Tells P (Told o) = (ls : List AnswerLine) → o.answer ≡ Done ls → P o ls
 Tells P _ = Unit {0}
 
 -- each answer that one of the acts tells is of this kind
-abbrev AllTell : (List AnswerLine → Type 0) → List Act → Type 0
+abbrev pub AllTell : (Outcome → List AnswerLine → Type 0) → List Act → Type 0
 AllTell P [] = Unit {0}
 AllTell P (a ∷ acts) = Tells P a × AllTell P acts
 
-tell_both : (P : List AnswerLine → Type 0) (xs ys : List Act) → AllTell P xs → AllTell P ys → AllTell P (xs ++ ys)
+pub tell_both : (P : Outcome → List AnswerLine → Type 0) (xs ys : List Act) → AllTell P xs → AllTell P ys → AllTell P (xs ++ ys)
 tell_both P [] ys h k = k
 tell_both P (a ∷ xs) ys h k = (h.0, tell_both P xs ys h.1 k)
 
-tell_one : (P Q : List AnswerLine → Type 0) → ((ls : List AnswerLine) → P ls → Q ls) → (a : Act) → Tells P a → Tells Q a
-tell_one P Q up (Told o) h = λ ls e. up ls (h ls e)
+tell_one : (P Q : Outcome → List AnswerLine → Type 0) → ((o : Outcome) (ls : List AnswerLine) → P o ls → Q o ls) → (a : Act) → Tells P a → Tells Q a
+tell_one P Q up (Told o) h = λ ls e. up o ls (h ls e)
 tell_one P Q up (Took q) h = tt
 tell_one P Q up (Got f) h = tt
 tell_one P Q up (Sent f) h = tt
@@ -162,34 +163,34 @@ tell_one P Q up (Held d) h = tt
 tell_one P Q up (Freed d) h = tt
 tell_one P Q up Given h = tt
 
-tell_more : (P Q : List AnswerLine → Type 0) → ((ls : List AnswerLine) → P ls → Q ls) → (xs : List Act) → AllTell P xs → AllTell Q xs
+pub tell_more : (P Q : Outcome → List AnswerLine → Type 0) → ((o : Outcome) (ls : List AnswerLine) → P o ls → Q o ls) → (xs : List Act) → AllTell P xs → AllTell Q xs
 tell_more P Q up [] h = tt
 tell_more P Q up (a ∷ xs) h = (tell_one P Q up a h.0, tell_more P Q up xs h.1)
 
-tell_right : (P : List AnswerLine → Type 0) (xs ys : List Act) → AllTell P (xs ++ ys) → AllTell P ys
+pub tell_right : (P : Outcome → List AnswerLine → Type 0) (xs ys : List Act) → AllTell P (xs ++ ys) → AllTell P ys
 tell_right P [] ys h = h
 tell_right P (a ∷ xs) ys h = tell_right P xs ys h.1
 
-none_told : (P : List AnswerLine → Type 0) (fs : List Frame) → AllTell P (map Sent fs)
+pub none_told : (P : Outcome → List AnswerLine → Type 0) (fs : List Frame) → AllTell P (map Sent fs)
 none_told P [] = tt
 none_told P (f ∷ fs) = (tt, none_told P fs)
 
-plain_tells : (P : List AnswerLine → Type 0) (x : Answer) → is_plain x ≡ true → (ls : List AnswerLine) → x ≡ Done ls → P ls
-plain_tells P x h ls e = absurd (let g : is_plain (Done ls) ≡ true = ap is_plain (sym e) ∙ h in cc)
+plain_tells : (P : Outcome → List AnswerLine → Type 0) (o : Outcome) (x : Answer) → is_plain x ≡ true → (ls : List AnswerLine) → x ≡ Done ls → P o ls
+plain_tells P o x h ls e = absurd (let g : is_plain (Done ls) ≡ true = ap is_plain (sym e) ∙ h in cc)
 
-said_tells : (P : List AnswerLine → Type 0) (q : Request) (o : Option Answer) → is_plain_if o ≡ true → AllTell P (said_of q o)
+said_tells : (P : Outcome → List AnswerLine → Type 0) (q : Request) (o : Option Answer) → is_plain_if o ≡ true → AllTell P (said_of q o)
 said_tells P q None h = tt
-said_tells P q (Some x) h = (plain_tells P x h, tt)
+said_tells P q (Some x) h = (plain_tells P (outcome_of q x) x h, tt)
 
-later_tells : (P : List AnswerLine → Type 0) (q : Request) (o : Option Answer) (rest : List Act) → is_plain_if o ≡ true → AllTell P rest → AllTell P (cons_option (option_map (told q) o) rest)
+later_tells : (P : Outcome → List AnswerLine → Type 0) (q : Request) (o : Option Answer) (rest : List Act) → is_plain_if o ≡ true → AllTell P rest → AllTell P (cons_option (option_map (told q) o) rest)
 later_tells P q None rest h k = k
-later_tells P q (Some x) rest h k = (plain_tells P x h, k)
+later_tells P q (Some x) rest h k = (plain_tells P (outcome_of q x) x h, k)
 
-tolds_tell : (P : List AnswerLine → Type 0) (v : Seen) (now : ℕ → State) (a : Act) (qs : List Request) → AllTell P (filter_map (told_later v now a) qs)
+pub tolds_tell : (P : Outcome → List AnswerLine → Type 0) (v : Seen) (now : ℕ → State) (a : Act) (qs : List Request) → AllTell P (filter_map (told_later v now a) qs)
 tolds_tell P v now a [] = tt
 tolds_tell P v now a (q ∷ qs) = later_tells P q (later v now a q q.ask) (filter_map (told_later v now a) qs) (later_plain v now a q q.ask) (tolds_tell P v now a qs)
 
-at_once_tells : (P : List AnswerLine → Type 0) (s : Setting) (v : Seen) (a : Act) → AllTell P (said_at_once s v a)
+pub at_once_tells : (P : Outcome → List AnswerLine → Type 0) (s : Setting) (v : Seen) (a : Act) → AllTell P (said_at_once s v a)
 at_once_tells P s v (Took q) = said_tells P q (at_once s v q) (at_once_plain s v q)
 at_once_tells P s v (Got f) = tt
 at_once_tells P s v (Sent f) = tt
@@ -204,11 +205,11 @@ at_once_tells P s v Given = tt
 -- ## Lines
 
 -- the window of these marks is whole, and this is its answer
-record Ends (ms : List Mark) (ls : List AnswerLine) : Type 0 where
-  window : Window
-  is_last : last_window ms ≡ Some window
-  ended : is_answered window ≡ true
-  answer : ls ≡ answer_lines (answer_of window)
+pub record Ends (ms : List Mark) (ls : List AnswerLine) : Type 0 where
+  pub window : Window
+  pub is_last : last_window ms ≡ Some window
+  pub ended : is_answered window ≡ true
+  pub answer : ls ≡ answer_lines (answer_of window)
 
 done_same : (xs ls : List AnswerLine) → line_is.TheVariants.Done xs ≡ line_is.TheVariants.Done ls → xs ≡ ls
 done_same xs ls e = cc
@@ -247,29 +248,29 @@ done_ends ms l ls h = by_last (last_window ms) refl
         ended_by ms w l ls (unsolicited_of l) (is_answered w) (is_fresh w && bytes_eq l w.command) (is_answered (more_of w l)) e refl refl refl
         (ap (λ (o : Option Window). by_kind (unsolicited_of l) (solicited_in (open_of o) l)) (sym e) ∙ h)
 
-heard_tells : (P : List AnswerLine → Type 0) (b : Bool) (kind : UrcKind) (d : ℕ) (l : List ℕ) → AllTell P (if b then Heard kind d l ∷ [] else [])
+heard_tells : (P : Outcome → List AnswerLine → Type 0) (b : Bool) (kind : UrcKind) (d : ℕ) (l : List ℕ) → AllTell P (if b then Heard kind d l ∷ [] else [])
 heard_tells P true kind d l = (tt, tt)
 heard_tells P false kind d l = tt
 
-owner_tells : (P : List AnswerLine → Type 0) (owner : Option Request) (ls : List AnswerLine) → P ls → AllTell P (done owner ls)
+owner_tells : (P : Outcome → List AnswerLine → Type 0) (owner : Option Request) (ls : List AnswerLine) → ((q : Request) → owner ≡ Some q → P (outcome_of q (Done ls)) ls) → AllTell P (done owner ls)
 owner_tells P None ls p = tt
-owner_tells P (Some q) ls p = (λ more e. subst P (same_lines ls more e) p, tt)
+owner_tells P (Some q) ls p = (λ more e. subst (P (outcome_of q (Done ls))) (same_lines ls more e) (p q refl), tt)
   where
     same_lines : (xs ys : List AnswerLine) → Done xs ≡ Done ys → xs ≡ ys
     same_lines xs ys e = cc
 
-line_tells : (P : List AnswerLine → Type 0) (s : Setting) (d : ℕ) (owner : Option Request) (l : List ℕ) (x : line_is.Seen) → ((ls : List AnswerLine) → x ≡ line_is.TheVariants.Done ls → P ls)
+pub line_tells : (P : Outcome → List AnswerLine → Type 0) (s : Setting) (d : ℕ) (owner : Option Request) (l : List ℕ) (x : line_is.Seen) → ((q : Request) (ls : List AnswerLine) → owner ≡ Some q → x ≡ line_is.TheVariants.Done ls → P (outcome_of q (Done ls)) ls)
     → AllTell P (by_seen s d owner l x)
 line_tells P s d owner l Echo p = tt
 line_tells P s d owner l Kept p = tt
-line_tells P s d owner l (line_is.TheVariants.Done ls) p = owner_tells P owner ls (p ls refl)
+line_tells P s d owner l (line_is.TheVariants.Done ls) p = owner_tells P owner ls (λ q e. p q ls e refl)
 line_tells P s d owner l (Unsolicited kind) p = heard_tells P (s.listens kind) kind d l
 line_tells P s d owner l line_is.TheVariants.Other p = heard_tells P (s.listens Other) Other d l
 
 -- the window of so many of the lines is whole, behind these marks
-record EndsAt (base : List Mark) (all : List (List ℕ)) (ls : List AnswerLine) : Type 0 where
-  count : ℕ
-  ends : Ends (base ++ map Line (take count all)) ls
+pub record EndsAt (base : List Mark) (all : List (List ℕ)) (ls : List AnswerLine) : Type 0 where
+  pub count : ℕ
+  pub ends : Ends (base ++ map Line (take count all)) ls
 
 map_last : (before : List (List ℕ)) (l : List ℕ) → map Line (before ++ l ∷ []) ≡ map Line before ++ Line l ∷ []
 map_last [] l = refl
@@ -287,33 +288,34 @@ ends_here base before rest all l ls e h =
       ends = subst (λ (ms : List Mark). Ends ms ls) (placed_last base before l ∙ ap (λ (xs : List (List ℕ)). base ++ map Line xs) (sym first)) h;
     }
 
-lines_tell : (s : Setting) (d : ℕ) (owner : Option Request) (base : List Mark) (all before rest : List (List ℕ)) (ms : List Mark) → before ++ rest ≡ all → ms ≡ base ++ map Line before
-    → AllTell (EndsAt base all) (by_lines s d owner ms rest)
-lines_tell s d owner base all before [] ms e m = tt
-lines_tell s d owner base all before (l ∷ rest) ms e m =
-    let here : (ls : List AnswerLine) → seen_after ms l ≡ line_is.TheVariants.Done ls → EndsAt base all ls =
-    λ ls h. ends_here base before rest all l ls e (subst (λ (marks_so : List Mark). Ends (marks_so ++ Line l ∷ []) ls) m (done_ends ms l ls h)) in
-    tell_both (EndsAt base all) (by_seen s d owner l (seen_after ms l)) (by_lines s d owner (ms ++ Line l ∷ []) rest)
-    (line_tells (EndsAt base all) s d owner l (seen_after ms l) here)
-    (lines_tell s d owner base all (before ++ l ∷ []) rest (ms ++ Line l ∷ []) (append_assoc before (l ∷ []) rest ∙ e)
+pub lines_tell : (P : Outcome → List AnswerLine → Type 0) (s : Setting) (d : ℕ) (owner : Option Request) (base : List Mark) (all before rest : List (List ℕ)) (ms : List Mark)
+    → ((q : Request) (ls : List AnswerLine) → owner ≡ Some q → EndsAt base all ls → P (outcome_of q (Done ls)) ls) → before ++ rest ≡ all → ms ≡ base ++ map Line before → AllTell P (by_lines s d owner ms rest)
+lines_tell P s d owner base all before [] ms p e m = tt
+lines_tell P s d owner base all before (l ∷ rest) ms p e m =
+    let here : (q : Request) (ls : List AnswerLine) → owner ≡ Some q → seen_after ms l ≡ line_is.TheVariants.Done ls → P (outcome_of q (Done ls)) ls =
+    λ q ls o h. p q ls o (ends_here base before rest all l ls e (subst (λ (marks_so : List Mark). Ends (marks_so ++ Line l ∷ []) ls) m (done_ends ms l ls h))) in
+    tell_both P (by_seen s d owner l (seen_after ms l)) (by_lines s d owner (ms ++ Line l ∷ []) rest)
+    (line_tells P s d owner l (seen_after ms l) here)
+    (lines_tell P s d owner base all (before ++ l ∷ []) rest (ms ++ Line l ∷ []) p (append_assoc before (l ∷ []) rest ∙ e)
     (ap (λ (xs : List Mark). xs ++ Line l ∷ []) m ∙ placed_last base before l))
 
 -- ## Whole histories
 
-window_ends : (s : Setting) (past : List Act) (f : Frame) (ls : List AnswerLine) → EndsAt (marks s.role f.dlci past) (lines (run_on s.role f.dlci past ++ f.info)) ls → EndsWindow s past f ls
+abbrev Answered : Setting → List Act → Outcome → List AnswerLine → Type 0
+Answered s past o ls = HasAnswer s past ls
+
+pub window_ends : (s : Setting) (past : List Act) (f : Frame) (ls : List AnswerLine) → EndsAt (marks s.role f.dlci past) (lines (run_on s.role f.dlci past ++ f.info)) ls → EndsWindow s past f ls
 window_ends s past f ls h = record { count = h.count; window = h.ends.window; is_last = h.ends.is_last; ended = h.ends.ended; answer = h.ends.answer }
 
-frame_tells : (s : Setting) (past owing : List Act) (a : Act) → AllTell (HasAnswer s (a ∷ past)) (lines_said s (seen_behind s past owing) a)
-frame_tells s past owing (Got f) =
-    tell_more (EndsAt (marks s.role f.dlci past) (lines (run_on s.role f.dlci past ++ f.info))) (HasAnswer s (Got f ∷ past))
-    (λ ls h. record { newer = []; older = past; frame = f; joins = refl; ends = window_ends s past f ls h }) _
-    (by_case (is_opened ((seen_behind s past owing).state f.dlci) && is_data_frame f))
+frame_tells : (s : Setting) (past owing : List Act) (a : Act) → AllTell (Answered s (a ∷ past)) (lines_said s (seen_behind s past owing) a)
+frame_tells s past owing (Got f) = by_case (is_opened ((seen_behind s past owing).state f.dlci) && is_data_frame f)
   where
-    by_case : (b : Bool) → AllTell (EndsAt (marks s.role f.dlci past) (lines (run_on s.role f.dlci past ++ f.info)))
+    by_case : (b : Bool) → AllTell (Answered s (Got f ∷ past))
         (if b then by_lines s f.dlci (first_on f.dlci (seen_behind s past owing).waiting) (marks s.role f.dlci past) (lines (run_on s.role f.dlci past ++ f.info)) else [])
     by_case true =
-        lines_tell s f.dlci (first_on f.dlci (seen_behind s past owing).waiting) (marks s.role f.dlci past) (lines (run_on s.role f.dlci past ++ f.info)) []
-        (lines (run_on s.role f.dlci past ++ f.info)) (marks s.role f.dlci past) refl (sym (append-nil (marks s.role f.dlci past)))
+        lines_tell (Answered s (Got f ∷ past)) s f.dlci (first_on f.dlci (seen_behind s past owing).waiting) (marks s.role f.dlci past) (lines (run_on s.role f.dlci past ++ f.info)) []
+        (lines (run_on s.role f.dlci past ++ f.info)) (marks s.role f.dlci past)
+        (λ q ls o h. record { newer = []; older = past; frame = f; joins = refl; ends = window_ends s past f ls h }) refl (sym (append-nil (marks s.role f.dlci past)))
     by_case false = tt
 frame_tells s past owing (Took q) = tt
 frame_tells s past owing (Sent f) = tt
@@ -325,25 +327,25 @@ frame_tells s past owing (Held d) = tt
 frame_tells s past owing (Freed d) = tt
 frame_tells s past owing Given = tt
 
-call_tells : (s : Setting) (past owing : List Act) (a : Act) → AllTell (HasAnswer s (a ∷ past)) (calls_behind s past owing a)
+call_tells : (s : Setting) (past owing : List Act) (a : Act) → AllTell (Answered s (a ∷ past)) (calls_behind s past owing a)
 call_tells s past owing a =
-    let P = HasAnswer s (a ∷ past) in
+    let P = Answered s (a ∷ past) in
     let v = seen_behind s past owing in
     let now = states_now s v (a ∷ map Sent (frames s v a)) in
     tell_both P (map Sent (frames s v a)) (said_at_once s v a ++ (lines_said s v a ++ tolds v now a)) (none_told P (frames s v a))
     (tell_both P (said_at_once s v a) (lines_said s v a ++ tolds v now a) (at_once_tells P s v a)
     (tell_both P (lines_said s v a) (tolds v now a) (frame_tells s past owing a) (tolds_tell P v now a v.waiting)))
 
-later_answer : (s : Setting) (a : Act) (past : List Act) (ls : List AnswerLine) → HasAnswer s past ls → HasAnswer s (a ∷ past) ls
-later_answer s a past ls h = record { newer = a ∷ h.newer; older = h.older; frame = h.frame; joins = ap (λ (acts : List Act). a ∷ acts) h.joins; ends = h.ends }
+later_answer : (s : Setting) (a : Act) (past : List Act) (o : Outcome) (ls : List AnswerLine) → HasAnswer s past ls → HasAnswer s (a ∷ past) ls
+later_answer s a past o ls h = record { newer = a ∷ h.newer; older = h.older; frame = h.frame; joins = ap (λ (acts : List Act). a ∷ acts) h.joins; ends = h.ends }
 
-one_more : (s : Setting) (a : Act) (past : List Act) → AllTell (HasAnswer s past) (called s past)
-    → AllTell (HasAnswer s (a ∷ past)) (called s past ++ calls_behind s past (owed s past) a)
+one_more : (s : Setting) (a : Act) (past : List Act) → AllTell (Answered s past) (called s past)
+    → AllTell (Answered s (a ∷ past)) (called s past ++ calls_behind s past (owed s past) a)
 one_more s a past h =
-    tell_both (HasAnswer s (a ∷ past)) (called s past) (calls_behind s past (owed s past) a)
-    (tell_more (HasAnswer s past) (HasAnswer s (a ∷ past)) (later_answer s a past) (called s past) h) (call_tells s past (owed s past) a)
+    tell_both (Answered s (a ∷ past)) (called s past) (calls_behind s past (owed s past) a)
+    (tell_more (Answered s past) (Answered s (a ∷ past)) (later_answer s a past) (called s past) h) (call_tells s past (owed s past) a)
 
-tell_unsent : (P : List AnswerLine → Type 0) (xs : List Act) → AllTell P xs → AllTell P (unsent xs)
+tell_unsent : (P : Outcome → List AnswerLine → Type 0) (xs : List Act) → AllTell P xs → AllTell P (unsent xs)
 tell_unsent P [] h = tt
 tell_unsent P (Sent f ∷ xs) h = tell_unsent P xs h.1
 tell_unsent P (Took q ∷ xs) h = (tt, tell_unsent P xs h.1)
@@ -356,28 +358,28 @@ tell_unsent P (Held d ∷ xs) h = (tt, tell_unsent P xs h.1)
 tell_unsent P (Freed d ∷ xs) h = (tt, tell_unsent P xs h.1)
 tell_unsent P (Given ∷ xs) h = (tt, tell_unsent P xs h.1)
 
-tell_left : (P : List AnswerLine → Type 0) (xs ys : List Act) → AllTell P (xs ++ ys) → AllTell P xs
+tell_left : (P : Outcome → List AnswerLine → Type 0) (xs ys : List Act) → AllTell P (xs ++ ys) → AllTell P xs
 tell_left P [] ys h = tt
 tell_left P (a ∷ xs) ys h = (h.0, tell_left P xs ys h.1)
 
-lost_tell : (s : Setting) (past : List Act) → stands past ++ owed s past ≡ called s past → AllTell (HasAnswer s past) (called s past)
-    → AllTell (HasAnswer s (Lost ∷ past)) (stands past ++ (unsent (owed s past) ++ calls_behind s past (owed s past) Lost))
+lost_tell : (s : Setting) (past : List Act) → stands past ++ owed s past ≡ called s past → AllTell (Answered s past) (called s past)
+    → AllTell (Answered s (Lost ∷ past)) (stands past ++ (unsent (owed s past) ++ calls_behind s past (owed s past) Lost))
 lost_tell s past e h =
-    let P = HasAnswer s (Lost ∷ past) in
-    let up = tell_more (HasAnswer s past) P (later_answer s Lost past) in
-    let all = subst (λ (acts : List Act). AllTell (HasAnswer s past) acts) (sym e) h in
+    let P = Answered s (Lost ∷ past) in
+    let up = tell_more (Answered s past) P (later_answer s Lost past) in
+    let all = subst (λ (acts : List Act). AllTell (Answered s past) acts) (sym e) h in
     let more = calls_behind s past (owed s past) Lost in
-    tell_both P (stands past) (unsent (owed s past) ++ more) (up (stands past) (tell_left (HasAnswer s past) (stands past) (owed s past) all))
-    (tell_both P (unsent (owed s past)) more (tell_unsent P (owed s past) (up (owed s past) (tell_right (HasAnswer s past) (stands past) (owed s past) all)))
+    tell_both P (stands past) (unsent (owed s past) ++ more) (up (stands past) (tell_left (Answered s past) (stands past) (owed s past) all))
+    (tell_both P (unsent (owed s past)) more (tell_unsent P (owed s past) (up (owed s past) (tell_right (Answered s past) (stands past) (owed s past) all)))
     (call_tells s past (owed s past) Lost))
 
-called_tell : (s : Setting) (past : List Act) → Lawful s past → AllTell (HasAnswer s past) (called s past)
+called_tell : (s : Setting) (past : List Act) → Lawful s past → AllTell (Answered s past) (called s past)
 unfolding Lawful
 called_tell s [] l = tt
-called_tell s (Sent f ∷ past) l = tell_more (HasAnswer s past) (HasAnswer s (Sent f ∷ past)) (later_answer s (Sent f) past) (called s past) (called_tell s past l.1)
-called_tell s (Told o ∷ past) l = tell_more (HasAnswer s past) (HasAnswer s (Told o ∷ past)) (later_answer s (Told o) past) (called s past) (called_tell s past l.1)
-called_tell s (Heard k d line ∷ past) l = tell_more (HasAnswer s past) (HasAnswer s (Heard k d line ∷ past)) (later_answer s (Heard k d line) past) (called s past) (called_tell s past l.1)
-called_tell s (Given ∷ past) l = tell_more (HasAnswer s past) (HasAnswer s (Given ∷ past)) (later_answer s Given past) (called s past) (called_tell s past l.1)
+called_tell s (Sent f ∷ past) l = tell_more (Answered s past) (Answered s (Sent f ∷ past)) (later_answer s (Sent f) past) (called s past) (called_tell s past l.1)
+called_tell s (Told o ∷ past) l = tell_more (Answered s past) (Answered s (Told o ∷ past)) (later_answer s (Told o) past) (called s past) (called_tell s past l.1)
+called_tell s (Heard k d line ∷ past) l = tell_more (Answered s past) (Answered s (Heard k d line ∷ past)) (later_answer s (Heard k d line) past) (called s past) (called_tell s past l.1)
+called_tell s (Given ∷ past) l = tell_more (Answered s past) (Answered s (Given ∷ past)) (later_answer s Given past) (called s past) (called_tell s past l.1)
 called_tell s (Took q ∷ past) l = one_more s (Took q) past (called_tell s past l.1)
 called_tell s (Got f ∷ past) l = one_more s (Got f) past (called_tell s past l.1)
 called_tell s (Tick ∷ past) l = one_more s Tick past (called_tell s past l.1)
@@ -385,14 +387,14 @@ called_tell s (Lost ∷ past) l = lost_tell s past (beginning s past l.1) (calle
 called_tell s (Held d ∷ past) l = one_more s (Held d) past (called_tell s past l.1)
 called_tell s (Freed d ∷ past) l = one_more s (Freed d) past (called_tell s past l.1)
 
-first_tells : (P : List AnswerLine → Type 0) (o : Outcome) (owing later : List Act) → owing ≡ Told o ∷ later → AllTell P owing → (ls : List AnswerLine) → o.answer ≡ Done ls → P ls
+pub first_tells : (P : Outcome → List AnswerLine → Type 0) (o : Outcome) (owing later : List Act) → owing ≡ Told o ∷ later → AllTell P owing → (ls : List AnswerLine) → o.answer ≡ Done ls → P o ls
 first_tells P o owing later e h = (subst (λ (acts : List Act). AllTell P acts) e h).0
 
 owed_tells : (s : Setting) (older : List Act) (o : Outcome) → Lawful s (Told o ∷ older) → (ls : List AnswerLine) → o.answer ≡ Done ls → HasAnswer s older ls
 unfolding Lawful
 owed_tells s older o l ls d =
-    let all = subst (λ (acts : List Act). AllTell (HasAnswer s older) acts) (sym (beginning s older l.1)) (called_tell s older l.1) in
-    first_tells (HasAnswer s older) o (owed s older) l.0.answered.later l.0.answered.is_next (tell_right (HasAnswer s older) (stands older) (owed s older) all) ls d
+    let all = subst (λ (acts : List Act). AllTell (Answered s older) acts) (sym (beginning s older l.1)) (called_tell s older l.1) in
+    first_tells (Answered s older) o (owed s older) l.0.answered.later l.0.answered.is_next (tell_right (Answered s older) (stands older) (owed s older) all) ls d
 
 pub tells_answers : (s : Setting) (past : List Act) → Lawful s past → TellsAnswers s past
 tells_answers s past l newer older o ls e d =

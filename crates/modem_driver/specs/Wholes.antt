@@ -160,3 +160,29 @@ pub record OnChannel (s : Setting) (d : ℕ) (past : List Act) : Type 0 where
 unfoldable pub StaysInStep : Setting → List Act → Type 0
 StaysInStep s past =
     s.role ≡ Initiator → CompleteCalls s past → UsesOnce (taken past) → is_lost past ≡ false → Complete s past → (d : ℕ) → (d == 0) ≡ false → OnChannel s d past
+
+-- the answer is that of the request's own command: those accepted before it have their answers, and one of the lines of the
+-- frame ends the window of the last command, which is its own
+pub record IsOwnAnswer (s : Setting) (past : List Act) (f : Frame) (r : Request) (ls : List AnswerLine) : Type 0 where
+  pub before : List Request
+  pub later : List Request
+  pub accepted_are : accepted s.role f.dlci past ≡ before ++ r ∷ later
+  pub answered_are : answered (marks s.role f.dlci past) ≡ length before
+  pub ends : EndsWindow s past f ls
+  pub own : ends.window.command ≡ line_of r
+
+-- a frame that came ended the window of the request that was told
+pub record HasOwnAnswer (s : Setting) (past : List Act) (o : Outcome) (ls : List AnswerLine) : Type 0 where
+  pub newer : List Act
+  pub older : List Act
+  pub frame : Frame
+  pub request : Request
+  pub joins : past ≡ newer ++ Got frame ∷ older
+  pub answers : is_for request o ≡ true
+  pub owns : IsOwnAnswer s older frame request ls
+
+-- an initiator tells each request the answer of its own command
+unfoldable pub TellsOwn : Setting → List Act → Type 0
+TellsOwn s past =
+    s.role ≡ Initiator → CompleteCalls s past → UsesOnce (taken past) → is_lost past ≡ false
+    → (newer older : List Act) (o : Outcome) (ls : List AnswerLine) → past ≡ newer ++ Told o ∷ older → o.answer ≡ Done ls → HasOwnAnswer s older o ls

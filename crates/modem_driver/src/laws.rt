@@ -4,7 +4,7 @@ ghost use Rattle.modem_driver.specs.Acts.{Act};
 ghost use Rattle.modem_driver.specs.Calls.{Setting};
 ghost use Rattle.modem_driver.specs.Lawful.{Lawful};
 ghost use Rattle.modem_driver.specs.Rows.{csq, data_before_opening, told_another, told_early, told_twice, IsGood, IsRefused};
-ghost use Rattle.modem_driver.specs.Wholes.{AnswersOnce, BeginsInTurn, CallGoesOn, IsBeginning, LeavesOnce, NoneAfterLoss, StaysInStep, TellsAnswers};
+ghost use Rattle.modem_driver.specs.Wholes.{AnswersOnce, BeginsInTurn, CallGoesOn, IsBeginning, LeavesOnce, NoneAfterLoss, StaysInStep, TellsAnswers, TellsOwn};
 
 /// Of all that a lawful history called for, what stands in it is the beginning; and a call that does just what
 /// its first act calls for keeps a history lawful and complete. What left a connection since it opened is a
@@ -24,10 +24,12 @@ pub fn histories()
 {}
 
 /// An initiator whose calls are complete has its commands in step, where no caller uses a number twice: of those that
-/// were accepted on an open connection the ones before have their answers, and the others are in hand.
-#[tactic(auto, using(crate::proofs::InSteps::stays_in_step))]
+/// were accepted on an open connection the ones before have their answers, and the others are in hand. So each answer
+/// that was told is that of the request's own command.
+#[tactic(auto, using(crate::proofs::InSteps::stays_in_step, crate::proofs::Owns::tells_own))]
 pub fn commands()
-    ensures { (s : Setting) (past : List Act) → Lawful s past → StaysInStep s past }
+    ensures steps { (s : Setting) (past : List Act) → Lawful s past → StaysInStep s past }
+    ensures own { (s : Setting) (past : List Act) → Lawful s past → TellsOwn s past }
 {}
 
 /// Worked histories, computed by the definitions: a command that is answered; and the same with its answer told
