@@ -12,13 +12,13 @@ use Rattle.mux_station.specs.declared.noted.Noted.TheVariants.{Opened, Refused, 
 use Rattle.mux_station.specs.Written.{is_kind, is_on, is_data_frame}
 use Rattle.mux_station.specs.Messages.{Message, message_of, command_of, octet_is, cld, brings_command, brings_response}
 use Rattle.mux_station.specs.Acts.{Act, Got}
-use Rattle.mux_station.specs.Opening.{is_open, opens_now}
+use Rattle.mux_station.specs.Opening.{is_open}
 use Rattle.mux_station.specs.States.{State, IsShut, IsOpening, IsOpened, IsClosing, IsStopping, is_opened, at_close_down, got_by, state_of}
 use Rattle.mux_station.specs.Sending.{Waiting, Seen, seen, probe_of, brings_probe_back, refuses_probe}
 use Rattle.mux_station.specs.Stations.{Channel, Station, channel_at, setting_of}
-use Rattle.mux_station.specs.Fitting.{ChannelFits, Fits}
+use Rattle.mux_station.specs.Fitting.{Fits}
 use Rattle.mux_station.specs.Getting.{TurnsBy, opens_by, all_turned_in, message_taken}
-use Rattle.mux_station.specs.Noting.{closed_on, noted_by_table, noted_of_probe, noted_of_message, noted_by_message, noted_of, says_open, says_info, NotesWhatHappens, NotedTruly}
+use Rattle.mux_station.specs.Noting.{noted_by_table, noted_of_probe, noted_by_message, noted_of, says_open, says_info, NotesWhatHappens, NotedTruly}
 use Rattle.mux_station.proofs.Agrees.{opened_is_open}
 use Rattle.mux_station.proofs.Calling.{is_opened_state}
 use Rattle.mux_station.proofs.Coming.{state_own, state_other, opens_own}
@@ -40,245 +40,74 @@ all_closed ProbeRefused h = cc
 all_closed AllClosed h = refl
 all_closed Nothing h = cc
 
-closed_opens : (d : ℕ) → says_open (closed_on d) ≡ false
-closed_opens d = by_zero (d == 0)
-  where
-    by_zero : (b : Bool) → says_open (if b then AllClosed else Closed) ≡ false
-    by_zero true = refl
-    by_zero false = refl
-
-closed_info : (d : ℕ) → says_info (closed_on d) ≡ false
-closed_info d = by_zero (d == 0)
-  where
-    by_zero : (b : Bool) → says_info (if b then AllClosed else Closed) ≡ false
-    by_zero true = refl
-    by_zero false = refl
-
 -- ## The tables
 
-reset_opens : (z o : Bool) → says_open (if z then (if o then Reset else Opened) else Nothing) ≡ z
-reset_opens true true = refl
-reset_opens true false = refl
-reset_opens false o = refl
+-- what a row of the tables notes: that its connection opens, that it brings data, or that it closes all
+record Says (r : Role) (d : ℕ) (z : Bool) (s : State) (k : Kind) (n : Noted) : Type 0 where
+  opens : says_open n ≡ opens_by r z s k
+  info : says_info n ≡ (is_kind k Uih && is_opened s)
+  one : (d == 0) ≡ false → says_all n ≡ false
+  shuts : says_all n ≡ true → TurnsBy r true s k Shuts
 
-reset_info : (z o : Bool) → says_info (if z then (if o then Reset else Opened) else Nothing) ≡ false
-reset_info true true = refl
-reset_info true false = refl
-reset_info false o = refl
+plain : {r : Role} {d : ℕ} {z : Bool} {s : State} {k : Kind} {n : Noted} → says_open n ≡ opens_by r z s k → says_info n ≡ (is_kind k Uih && is_opened s) → says_all n ≡ false → Says r d z s k n
+plain o i a = record { opens = o; info = i; one = λ h. a; shuts = λ h. absurd (let e : false ≡ true = sym a ∙ h in cc) }
 
-table_opens : (r : Role) (d : ℕ) (z s : State) (k : Kind) → says_open (noted_by_table r d z s k) ≡ opens_by r ((d == 0) || is_opened z) s k
-table_opens Initiator d z IsShut Ua = refl
-table_opens Initiator d z IsShut Sabm = refl
-table_opens Initiator d z IsShut Dm = refl
-table_opens Initiator d z IsShut Disc = refl
-table_opens Initiator d z IsShut Uih = refl
-table_opens Initiator d z (IsOpening n) Ua = refl
-table_opens Initiator d z (IsOpening n) Sabm = refl
-table_opens Initiator d z (IsOpening n) Dm = refl
-table_opens Initiator d z (IsOpening n) Disc = refl
-table_opens Initiator d z (IsOpening n) Uih = refl
-table_opens Initiator d z IsOpened Ua = refl
-table_opens Initiator d z IsOpened Sabm = closed_opens d
-table_opens Initiator d z IsOpened Dm = closed_opens d
-table_opens Initiator d z IsOpened Disc = closed_opens d
-table_opens Initiator d z IsOpened Uih = refl
-table_opens Initiator d z (IsClosing n) Ua = refl
-table_opens Initiator d z (IsClosing n) Sabm = refl
-table_opens Initiator d z (IsClosing n) Dm = refl
-table_opens Initiator d z (IsClosing n) Disc = refl
-table_opens Initiator d z (IsClosing n) Uih = refl
-table_opens Initiator d z (IsStopping n) Ua = refl
-table_opens Initiator d z (IsStopping n) Sabm = refl
-table_opens Initiator d z (IsStopping n) Dm = closed_opens d
-table_opens Initiator d z (IsStopping n) Disc = refl
-table_opens Initiator d z (IsStopping n) Uih = refl
-table_opens Responder d z s Sabm = reset_opens ((d == 0) || is_opened z) (is_opened s)
-table_opens Responder d z IsShut Ua = refl
-table_opens Responder d z IsShut Dm = refl
-table_opens Responder d z IsShut Disc = refl
-table_opens Responder d z IsShut Uih = refl
-table_opens Responder d z (IsOpening n) Ua = refl
-table_opens Responder d z (IsOpening n) Dm = closed_opens d
-table_opens Responder d z (IsOpening n) Disc = refl
-table_opens Responder d z (IsOpening n) Uih = refl
-table_opens Responder d z IsOpened Ua = refl
-table_opens Responder d z IsOpened Dm = closed_opens d
-table_opens Responder d z IsOpened Disc = closed_opens d
-table_opens Responder d z IsOpened Uih = refl
-table_opens Responder d z (IsClosing n) Ua = closed_opens d
-table_opens Responder d z (IsClosing n) Dm = closed_opens d
-table_opens Responder d z (IsClosing n) Disc = refl
-table_opens Responder d z (IsClosing n) Uih = refl
-table_opens Responder d z (IsStopping n) Ua = refl
-table_opens Responder d z (IsStopping n) Dm = closed_opens d
-table_opens Responder d z (IsStopping n) Disc = refl
-table_opens Responder d z (IsStopping n) Uih = refl
+closing : {r : Role} {z : Bool} {s : State} {k : Kind} (d : ℕ) (b : Bool) → (d == 0) ≡ b → opens_by r z s k ≡ false → (is_kind k Uih && is_opened s) ≡ false → TurnsBy r true s k Shuts → Says r d z s k (if b then AllClosed else Closed)
+closing d true e o i t = record { opens = sym o; info = sym i; one = λ h. absurd (let g : true ≡ false = sym e ∙ h in cc); shuts = λ h. t }
+closing d false e o i t = plain (sym o) (sym i) refl
 
-table_info : (r : Role) (d : ℕ) (z s : State) (k : Kind) → says_info (noted_by_table r d z s k) ≡ (is_kind k Uih && is_opened s)
-table_info Initiator d z IsShut Ua = refl
-table_info Initiator d z IsShut Sabm = refl
-table_info Initiator d z IsShut Dm = refl
-table_info Initiator d z IsShut Disc = refl
-table_info Initiator d z IsShut Uih = refl
-table_info Initiator d z (IsOpening n) Ua = refl
-table_info Initiator d z (IsOpening n) Sabm = refl
-table_info Initiator d z (IsOpening n) Dm = refl
-table_info Initiator d z (IsOpening n) Disc = refl
-table_info Initiator d z (IsOpening n) Uih = refl
-table_info Initiator d z IsOpened Ua = refl
-table_info Initiator d z IsOpened Sabm = closed_info d
-table_info Initiator d z IsOpened Dm = closed_info d
-table_info Initiator d z IsOpened Disc = closed_info d
-table_info Initiator d z IsOpened Uih = refl
-table_info Initiator d z (IsClosing n) Ua = refl
-table_info Initiator d z (IsClosing n) Sabm = refl
-table_info Initiator d z (IsClosing n) Dm = refl
-table_info Initiator d z (IsClosing n) Disc = refl
-table_info Initiator d z (IsClosing n) Uih = refl
-table_info Initiator d z (IsStopping n) Ua = refl
-table_info Initiator d z (IsStopping n) Sabm = refl
-table_info Initiator d z (IsStopping n) Dm = closed_info d
-table_info Initiator d z (IsStopping n) Disc = refl
-table_info Initiator d z (IsStopping n) Uih = refl
-table_info Responder d z IsShut Ua = refl
-table_info Responder d z IsShut Sabm = reset_info ((d == 0) || is_opened z) (is_opened IsShut)
-table_info Responder d z IsShut Dm = refl
-table_info Responder d z IsShut Disc = refl
-table_info Responder d z IsShut Uih = refl
-table_info Responder d z (IsOpening n) Ua = refl
-table_info Responder d z (IsOpening n) Sabm = reset_info ((d == 0) || is_opened z) (is_opened (IsOpening n))
-table_info Responder d z (IsOpening n) Dm = closed_info d
-table_info Responder d z (IsOpening n) Disc = refl
-table_info Responder d z (IsOpening n) Uih = refl
-table_info Responder d z IsOpened Ua = refl
-table_info Responder d z IsOpened Sabm = reset_info ((d == 0) || is_opened z) (is_opened IsOpened)
-table_info Responder d z IsOpened Dm = closed_info d
-table_info Responder d z IsOpened Disc = closed_info d
-table_info Responder d z IsOpened Uih = refl
-table_info Responder d z (IsClosing n) Ua = closed_info d
-table_info Responder d z (IsClosing n) Sabm = reset_info ((d == 0) || is_opened z) (is_opened (IsClosing n))
-table_info Responder d z (IsClosing n) Dm = closed_info d
-table_info Responder d z (IsClosing n) Disc = refl
-table_info Responder d z (IsClosing n) Uih = refl
-table_info Responder d z (IsStopping n) Ua = refl
-table_info Responder d z (IsStopping n) Sabm = reset_info ((d == 0) || is_opened z) (is_opened (IsStopping n))
-table_info Responder d z (IsStopping n) Dm = closed_info d
-table_info Responder d z (IsStopping n) Disc = refl
-table_info Responder d z (IsStopping n) Uih = refl
+sabm_says : (d : ℕ) (z : Bool) (s : State) (b : Bool) → is_opened s ≡ b → Says Responder d z s Sabm (if z then (if b then Reset else Opened) else Nothing)
+sabm_says d true s true e = plain refl refl refl
+sabm_says d true s false e = plain refl refl refl
+sabm_says d false s b e = plain refl refl refl
 
--- a frame on another connection than 0 doesn't close all
-closed_one : (d : ℕ) → (d == 0) ≡ false → says_all (closed_on d) ≡ false
-closed_one d h = ap (λ (b : Bool). says_all (if b then AllClosed else Closed)) h
-
-reset_one : (z o : Bool) → says_all (if z then (if o then Reset else Opened) else Nothing) ≡ false
-reset_one true true = refl
-reset_one true false = refl
-reset_one false o = refl
-
-table_one : (r : Role) (d : ℕ) (z s : State) (k : Kind) → (d == 0) ≡ false → says_all (noted_by_table r d z s k) ≡ false
-table_one Initiator d z IsShut Ua h = refl
-table_one Initiator d z IsShut Sabm h = refl
-table_one Initiator d z IsShut Dm h = refl
-table_one Initiator d z IsShut Disc h = refl
-table_one Initiator d z IsShut Uih h = refl
-table_one Initiator d z (IsOpening n) Ua h = refl
-table_one Initiator d z (IsOpening n) Sabm h = refl
-table_one Initiator d z (IsOpening n) Dm h = refl
-table_one Initiator d z (IsOpening n) Disc h = refl
-table_one Initiator d z (IsOpening n) Uih h = refl
-table_one Initiator d z IsOpened Ua h = refl
-table_one Initiator d z IsOpened Sabm h = closed_one d h
-table_one Initiator d z IsOpened Dm h = closed_one d h
-table_one Initiator d z IsOpened Disc h = closed_one d h
-table_one Initiator d z IsOpened Uih h = refl
-table_one Initiator d z (IsClosing n) Ua h = refl
-table_one Initiator d z (IsClosing n) Sabm h = refl
-table_one Initiator d z (IsClosing n) Dm h = refl
-table_one Initiator d z (IsClosing n) Disc h = refl
-table_one Initiator d z (IsClosing n) Uih h = refl
-table_one Initiator d z (IsStopping n) Ua h = refl
-table_one Initiator d z (IsStopping n) Sabm h = refl
-table_one Initiator d z (IsStopping n) Dm h = closed_one d h
-table_one Initiator d z (IsStopping n) Disc h = refl
-table_one Initiator d z (IsStopping n) Uih h = refl
-table_one Responder d z IsShut Ua h = refl
-table_one Responder d z IsShut Sabm h = reset_one ((d == 0) || is_opened z) (is_opened IsShut)
-table_one Responder d z IsShut Dm h = refl
-table_one Responder d z IsShut Disc h = refl
-table_one Responder d z IsShut Uih h = refl
-table_one Responder d z (IsOpening n) Ua h = refl
-table_one Responder d z (IsOpening n) Sabm h = reset_one ((d == 0) || is_opened z) (is_opened (IsOpening n))
-table_one Responder d z (IsOpening n) Dm h = closed_one d h
-table_one Responder d z (IsOpening n) Disc h = refl
-table_one Responder d z (IsOpening n) Uih h = refl
-table_one Responder d z IsOpened Ua h = refl
-table_one Responder d z IsOpened Sabm h = reset_one ((d == 0) || is_opened z) (is_opened IsOpened)
-table_one Responder d z IsOpened Dm h = closed_one d h
-table_one Responder d z IsOpened Disc h = closed_one d h
-table_one Responder d z IsOpened Uih h = refl
-table_one Responder d z (IsClosing n) Ua h = closed_one d h
-table_one Responder d z (IsClosing n) Sabm h = reset_one ((d == 0) || is_opened z) (is_opened (IsClosing n))
-table_one Responder d z (IsClosing n) Dm h = closed_one d h
-table_one Responder d z (IsClosing n) Disc h = refl
-table_one Responder d z (IsClosing n) Uih h = refl
-table_one Responder d z (IsStopping n) Ua h = refl
-table_one Responder d z (IsStopping n) Sabm h = reset_one ((d == 0) || is_opened z) (is_opened (IsStopping n))
-table_one Responder d z (IsStopping n) Dm h = closed_one d h
-table_one Responder d z (IsStopping n) Disc h = refl
-table_one Responder d z (IsStopping n) Uih h = refl
-
--- one on 0 that does shuts it
-table_shuts : (r : Role) (d : ℕ) (z s : State) (k : Kind) → says_all (noted_by_table r d z s k) ≡ true → TurnsBy r true s k Shuts
-table_shuts Initiator d z IsShut Ua h = cc
-table_shuts Initiator d z IsShut Sabm h = cc
-table_shuts Initiator d z IsShut Dm h = cc
-table_shuts Initiator d z IsShut Disc h = cc
-table_shuts Initiator d z IsShut Uih h = cc
-table_shuts Initiator d z (IsOpening n) Ua h = cc
-table_shuts Initiator d z (IsOpening n) Sabm h = cc
-table_shuts Initiator d z (IsOpening n) Dm h = cc
-table_shuts Initiator d z (IsOpening n) Disc h = cc
-table_shuts Initiator d z (IsOpening n) Uih h = cc
-table_shuts Initiator d z IsOpened Ua h = cc
-table_shuts Initiator d z IsOpened Sabm h = record { state = refl; opens = refl }
-table_shuts Initiator d z IsOpened Dm h = record { state = refl; opens = refl }
-table_shuts Initiator d z IsOpened Disc h = record { state = refl; opens = refl }
-table_shuts Initiator d z IsOpened Uih h = cc
-table_shuts Initiator d z (IsClosing n) Ua h = cc
-table_shuts Initiator d z (IsClosing n) Sabm h = cc
-table_shuts Initiator d z (IsClosing n) Dm h = cc
-table_shuts Initiator d z (IsClosing n) Disc h = cc
-table_shuts Initiator d z (IsClosing n) Uih h = cc
-table_shuts Initiator d z (IsStopping n) Ua h = cc
-table_shuts Initiator d z (IsStopping n) Sabm h = cc
-table_shuts Initiator d z (IsStopping n) Dm h = record { state = refl; opens = refl }
-table_shuts Initiator d z (IsStopping n) Disc h = cc
-table_shuts Initiator d z (IsStopping n) Uih h = cc
-table_shuts Responder d z IsShut Ua h = cc
-table_shuts Responder d z IsShut Sabm h = absurd (let e : false ≡ true = sym (reset_one ((d == 0) || is_opened z) (is_opened IsShut)) ∙ h in cc)
-table_shuts Responder d z IsShut Dm h = cc
-table_shuts Responder d z IsShut Disc h = cc
-table_shuts Responder d z IsShut Uih h = cc
-table_shuts Responder d z (IsOpening n) Ua h = cc
-table_shuts Responder d z (IsOpening n) Sabm h = absurd (let e : false ≡ true = sym (reset_one ((d == 0) || is_opened z) (is_opened (IsOpening n))) ∙ h in cc)
-table_shuts Responder d z (IsOpening n) Dm h = record { state = refl; opens = refl }
-table_shuts Responder d z (IsOpening n) Disc h = cc
-table_shuts Responder d z (IsOpening n) Uih h = cc
-table_shuts Responder d z IsOpened Ua h = cc
-table_shuts Responder d z IsOpened Sabm h = absurd (let e : false ≡ true = sym (reset_one ((d == 0) || is_opened z) (is_opened IsOpened)) ∙ h in cc)
-table_shuts Responder d z IsOpened Dm h = record { state = refl; opens = refl }
-table_shuts Responder d z IsOpened Disc h = record { state = refl; opens = refl }
-table_shuts Responder d z IsOpened Uih h = cc
-table_shuts Responder d z (IsClosing n) Ua h = record { state = refl; opens = refl }
-table_shuts Responder d z (IsClosing n) Sabm h = absurd (let e : false ≡ true = sym (reset_one ((d == 0) || is_opened z) (is_opened (IsClosing n))) ∙ h in cc)
-table_shuts Responder d z (IsClosing n) Dm h = record { state = refl; opens = refl }
-table_shuts Responder d z (IsClosing n) Disc h = cc
-table_shuts Responder d z (IsClosing n) Uih h = cc
-table_shuts Responder d z (IsStopping n) Ua h = cc
-table_shuts Responder d z (IsStopping n) Sabm h = absurd (let e : false ≡ true = sym (reset_one ((d == 0) || is_opened z) (is_opened (IsStopping n))) ∙ h in cc)
-table_shuts Responder d z (IsStopping n) Dm h = record { state = refl; opens = refl }
-table_shuts Responder d z (IsStopping n) Disc h = cc
-table_shuts Responder d z (IsStopping n) Uih h = cc
+table_says : (r : Role) (d : ℕ) (z s : State) (k : Kind) → Says r d ((d == 0) || is_opened z) s k (noted_by_table r d z s k)
+table_says Initiator d z IsShut Sabm = plain refl refl refl
+table_says Initiator d z IsShut Ua = plain refl refl refl
+table_says Initiator d z IsShut Dm = plain refl refl refl
+table_says Initiator d z IsShut Disc = plain refl refl refl
+table_says Initiator d z IsShut Uih = plain refl refl refl
+table_says Initiator d z (IsOpening n) Sabm = plain refl refl refl
+table_says Initiator d z (IsOpening n) Ua = plain refl refl refl
+table_says Initiator d z (IsOpening n) Dm = plain refl refl refl
+table_says Initiator d z (IsOpening n) Disc = plain refl refl refl
+table_says Initiator d z (IsOpening n) Uih = plain refl refl refl
+table_says Initiator d z IsOpened Sabm = closing d (d == 0) refl refl refl (record { state = refl; opens = refl })
+table_says Initiator d z IsOpened Ua = plain refl refl refl
+table_says Initiator d z IsOpened Dm = closing d (d == 0) refl refl refl (record { state = refl; opens = refl })
+table_says Initiator d z IsOpened Disc = closing d (d == 0) refl refl refl (record { state = refl; opens = refl })
+table_says Initiator d z IsOpened Uih = plain refl refl refl
+table_says Initiator d z (IsClosing n) Sabm = plain refl refl refl
+table_says Initiator d z (IsClosing n) Ua = plain refl refl refl
+table_says Initiator d z (IsClosing n) Dm = plain refl refl refl
+table_says Initiator d z (IsClosing n) Disc = plain refl refl refl
+table_says Initiator d z (IsClosing n) Uih = plain refl refl refl
+table_says Initiator d z (IsStopping n) Sabm = plain refl refl refl
+table_says Initiator d z (IsStopping n) Ua = plain refl refl refl
+table_says Initiator d z (IsStopping n) Dm = closing d (d == 0) refl refl refl (record { state = refl; opens = refl })
+table_says Initiator d z (IsStopping n) Disc = plain refl refl refl
+table_says Initiator d z (IsStopping n) Uih = plain refl refl refl
+table_says Responder d z s Sabm = sabm_says d ((d == 0) || is_opened z) s (is_opened s) refl
+table_says Responder d z IsShut Ua = plain refl refl refl
+table_says Responder d z IsShut Dm = plain refl refl refl
+table_says Responder d z IsShut Disc = plain refl refl refl
+table_says Responder d z IsShut Uih = plain refl refl refl
+table_says Responder d z (IsOpening n) Ua = plain refl refl refl
+table_says Responder d z (IsOpening n) Dm = closing d (d == 0) refl refl refl (record { state = refl; opens = refl })
+table_says Responder d z (IsOpening n) Disc = plain refl refl refl
+table_says Responder d z (IsOpening n) Uih = plain refl refl refl
+table_says Responder d z IsOpened Ua = plain refl refl refl
+table_says Responder d z IsOpened Dm = closing d (d == 0) refl refl refl (record { state = refl; opens = refl })
+table_says Responder d z IsOpened Disc = closing d (d == 0) refl refl refl (record { state = refl; opens = refl })
+table_says Responder d z IsOpened Uih = plain refl refl refl
+table_says Responder d z (IsClosing n) Ua = closing d (d == 0) refl refl refl (record { state = refl; opens = refl })
+table_says Responder d z (IsClosing n) Dm = closing d (d == 0) refl refl refl (record { state = refl; opens = refl })
+table_says Responder d z (IsClosing n) Disc = plain refl refl refl
+table_says Responder d z (IsClosing n) Uih = plain refl refl refl
+table_says Responder d z (IsStopping n) Ua = plain refl refl refl
+table_says Responder d z (IsStopping n) Dm = closing d (d == 0) refl refl refl (record { state = refl; opens = refl })
+table_says Responder d z (IsStopping n) Disc = plain refl refl refl
+table_says Responder d z (IsStopping n) Uih = plain refl refl refl
 
 -- and one on 0 that ends it while it is Opened is so noted
 table_closes : (r : Role) (d : ℕ) (z : State) (k : Kind) → (d == 0) ≡ true → is_opened (got_by r true IsOpened k) ≡ false → says_all (noted_by_table r d z IsOpened k) ≡ true
@@ -365,10 +194,10 @@ no_data false b h = refl
 -- by the tables
 word_shut : (v : Station) (past : List Act) (f : Frame) (b : Bool) → (f.dlci == 0) ≡ b → is_on Uih 0 f ≡ false → Fits v past → length v.channels ≡ 62 → f.dlci < 62
     → says_all (noted_by_table v.role f.dlci (state_of v.role 0 past) (state_of v.role f.dlci past) f.kind) ≡ true → (d : ℕ) → d < 62 → state_of v.role d (Got f ∷ past) ≡ IsShut
-word_shut v past f false e i h n l a d k = absurd (let g : false ≡ true = sym (table_one v.role f.dlci (state_of v.role 0 past) (state_of v.role f.dlci past) f.kind e) ∙ a in cc)
+word_shut v past f false e i h n l a d k = absurd (let g : false ≡ true = sym ((table_says v.role f.dlci (state_of v.role 0 past) (state_of v.role f.dlci past) f.kind).one e) ∙ a in cc)
 word_shut v past f true e i h n l a d k =
     let own : state_of v.role f.dlci past ≡ (channel_at v f.dlci).state = (h.channels_are f.dlci l).state_is in
-    let shuts : TurnsBy v.role true (state_of v.role f.dlci past) f.kind Shuts = table_shuts v.role f.dlci (state_of v.role 0 past) (state_of v.role f.dlci past) f.kind a in
+    let shuts : TurnsBy v.role true (state_of v.role f.dlci past) f.kind Shuts = (table_says v.role f.dlci (state_of v.role 0 past) (state_of v.role f.dlci past) f.kind).shuts a in
     let turns : TurnsBy v.role ((f.dlci == 0) || is_opened (channel_at v 0).state) (channel_at v f.dlci).state f.kind Shuts
     = subst (λ (b : Bool). TurnsBy v.role (b || is_opened (channel_at v 0).state) (channel_at v f.dlci).state f.kind Shuts) (sym e)
     (subst (λ (s : State). TurnsBy v.role true s f.kind Shuts) own shuts) in
@@ -394,9 +223,9 @@ word_notes v past f i h n l =
     let own = h.channels_are f.dlci l in
     let noted = noted_word v.role (seen (setting_of v) past) f i in
     record {
-      opened = ap says_open noted ∙ (table_opens v.role f.dlci z s f.kind ∙ (ap (λ (x : State). opens_by v.role ((f.dlci == 0) || is_opened z) x f.kind) own.state_is ∙ sym (opens_own v.role past f (channel_at v f.dlci) own)));
+      opened = ap says_open noted ∙ ((table_says v.role f.dlci z s f.kind).opens ∙ (ap (λ (x : State). opens_by v.role ((f.dlci == 0) || is_opened z) x f.kind) own.state_is ∙ sym (opens_own v.role past f (channel_at v f.dlci) own)));
       info = ap says_info noted
-          ∙ (table_info v.role f.dlci z s f.kind
+          ∙ ((table_says v.role f.dlci z s f.kind).info
           ∙ (ap (λ (b : Bool). is_kind f.kind Uih && b) (opened_is_open v.role past f.dlci)
           ∙ ap (λ (b : Bool). b && is_open v.role f.dlci past) (no_data (is_kind f.kind Uih) (f.dlci == 0) i)));
       all_shut = λ e d k. word_shut v past f (f.dlci == 0) refl i h n l (ap says_all (sym noted ∙ e)) d k;

@@ -354,3 +354,30 @@ fn a_stop_is_answered(rt: HostRuntime) -> Result<(), Fail> {
     assert_eq!(rt; station.state(zero), ChannelState::Shut);
     Ok(())
 }
+
+#[test]
+fn a_responder_answers(rt: HostRuntime) -> Result<(), Fail> {
+    let alloc = rt.alloc();
+    let one = Dlci::new(1).ok_or("no such DLCI")?;
+    let mut station = Station::new(alloc, Role::Responder, 31)?;
+    let sabm_1 = b"\xF9\x07\x3F\x01\xDE\xF9";
+    assert_eq!(rt; got(alloc, &mut station, sabm_1)?, Ok(Noted::Nothing));
+    let octets = next_spelled(alloc, &mut station)?;
+    assert_eq!(rt; octets.as_slice(), b"\xF9\x07\x1F\x01\xF4\xF9".as_slice());
+    let sabm_0 = b"\xF9\x03\x3F\x01\x1C\xF9";
+    assert_eq!(rt; got(alloc, &mut station, sabm_0)?, Ok(Noted::Opened));
+    assert_eq!(rt; next_spelled(alloc, &mut station)?.as_slice(), UA_0);
+    assert_eq!(rt; got(alloc, &mut station, sabm_1)?, Ok(Noted::Opened));
+    assert_eq!(rt; next_spelled(alloc, &mut station)?.as_slice(), UA_1);
+    let octets = next_spelled(alloc, &mut station)?;
+    assert_eq!(rt;
+        octets.as_slice(),
+        b"\xF9\x01\xEF\x09\xE3\x05\x07\x8D\x9A\xF9".as_slice()
+    );
+    assert_eq!(rt; got(alloc, &mut station, sabm_1)?, Ok(Noted::Reset));
+    assert_eq!(rt; got(alloc, &mut station, sabm_0)?, Ok(Noted::Reset));
+    assert_eq!(rt; station.state(one), ChannelState::Shut);
+    let disc_0 = b"\xF9\x03\x53\x01\xFD\xF9";
+    assert_eq!(rt; got(alloc, &mut station, disc_0)?, Ok(Noted::AllClosed));
+    Ok(())
+}
