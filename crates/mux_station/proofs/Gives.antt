@@ -37,12 +37,12 @@ control_fits v f fs past q h = record {
 -- ## Data
 
 -- what is ready is Opened, not stopped, and has octets; and 0 never is
-record Ready (v : Station) (d : ℕ) : Type 0 where
-  opened : is_opened (channel_at v d).state ≡ true
-  goes : stopped_in v d ≡ false
-  some : (length (channel_at v d).waiting == 0) ≡ false
-  in_range : d < 62
-  no_zero : (d == 0) ≡ false
+pub record Ready (v : Station) (d : ℕ) : Type 0 where
+  pub opened : is_opened (channel_at v d).state ≡ true
+  pub goes : stopped_in v d ≡ false
+  pub some : (length (channel_at v d).waiting == 0) ≡ false
+  pub in_range : d < 62
+  pub no_zero : (d == 0) ≡ false
 
 not_true : (b : Bool) → not b ≡ true → b ≡ false
 not_true false h = refl
@@ -65,7 +65,7 @@ first_is_ready v d (suc count) e h l n = by_test (is_ready v d) refl h (λ k. fi
     by_test true r h f = subst (λ (m : ℕ). Ready v m) (some_same d e h) (ready_parts v d r (omega (arith, l)) (ne_eqb d 0 (λ (z : d ≡ 0). omega (arith, z, n))))
     by_test false r h f = f h
 
-turn_is_ready : (v : Station) (d : ℕ) → v.last < 62 → next_turn v ≡ Some d → Ready v d
+pub turn_is_ready : (v : Station) (d : ℕ) → v.last < 62 → next_turn v ≡ Some d → Ready v d
 turn_is_ready v d l h = by_first (ready_from v (v.last + 1)) refl h
   where
     by_first : (o : Option ℕ) → ready_from v (v.last + 1) ≡ o → else_first o (ready_from v 1) ≡ Some d → Ready v d
@@ -121,7 +121,7 @@ data_fits v d past n r h =
       last_is = ap (λ (b : Bool). if b then d else last_sender past) data_is;
     }
 
-some_long : (n : ℕ) → (n == 0) ≡ false → 1 ≤ n
+pub some_long : (n : ℕ) → (n == 0) ≡ false → 1 ≤ n
 some_long zero h = absurd (let e : true ≡ false = h in cc)
 some_long (suc n) h = omega arith
 

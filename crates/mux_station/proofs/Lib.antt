@@ -18,3 +18,5 @@ pub mod Words
 pub mod Told
 pub mod Handling
 pub mod Notings
+pub mod Traces
+pub mod Senders

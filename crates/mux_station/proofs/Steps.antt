@@ -13,7 +13,7 @@ use Rattle.mux_station.proofs.Agrees.{opened_is_open}
 
 -- ## States
 
-zero_own : (r : Role) (past : List Act) → (states r 0 past).own ≡ (states r 0 past).zero
+pub zero_own : (r : Role) (past : List Act) → (states r 0 past).own ≡ (states r 0 past).zero
 zero_own r [] = refl
 zero_own r (a ∷ past) = refl
 

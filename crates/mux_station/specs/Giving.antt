@@ -1,11 +1,15 @@
 -- What a station gives on to the line.
-use Rattle.std.specs.Prelude.{zero, suc, ℕ, ◌+◌, ◌-◌, ◌==◌, ◌&&◌, not, Bool, List, [], ◌∷◌, length, take, drop, Option, Some, None, option_map, if◌then◌else◌, slice_set}
+use Rattle.std.specs.Prelude.{◌≡◌, ◌<◌, true, false, zero, suc, ℕ, ◌+◌, ◌-◌, ◌==◌, ◌&&◌, not, Bool, List, [], ◌∷◌, length, take, drop, Option, Some, None, option_map, if◌then◌else◌, slice_set}
 use Rattle.mux_frame.specs.Frames.{Frame}
 use Rattle.mux_frame.specs.declared.frame.Kind.TheVariants.{Uih}
 use Rattle.mux_station.specs.Written.{written}
 use Rattle.mux_station.specs.Acts.{Act, Sent, Given}
 use Rattle.mux_station.specs.States.{is_opened}
-use Rattle.mux_station.specs.Sending.{Lawful, Complete}
+use Rattle.mux_station.specs.declared.role.Role.{Role}
+use Rattle.mux_station.specs.Opening.{is_open}
+use Rattle.mux_station.specs.Stopping.{is_stopped}
+use Rattle.mux_station.specs.Offering.{offered, given}
+use Rattle.mux_station.specs.Sending.{queue, Lawful, Complete}
 use Rattle.mux_station.specs.Stations.{Station, channel_at, setting_of, stopped_in}
 use Rattle.mux_station.specs.Fitting.{Fits}
 
@@ -29,6 +33,11 @@ ready_from v d = first_ready v d (62 - d)
 -- whose turn it is: the least that is ready above the last that sent data, else the least that is ready
 abbrev pub next_turn : Station → Option ℕ
 next_turn v = else_first (ready_from v (v.last + 1)) (ready_from v 1)
+
+-- whose data is next: where nothing waits in the control queue
+abbrev pub next_sender : Station → List Frame → Option ℕ
+next_sender v (f ∷ fs) = None
+next_sender v [] = next_turn v
 
 -- as many octets as are there, at most N1
 abbrev pub data_frame : Station → ℕ → Frame
@@ -58,6 +67,19 @@ given_on v [] = data_given v (next_turn v)
 abbrev pub after_given : Station → List Frame → List Act → List Act
 after_given v (f ∷ fs) past = Given ∷ past
 after_given v [] past = data_sent v (next_turn v) past
+
+-- this many octets were offered on d since it opened and not given on yet
+unfoldable pub Waits : Role → ℕ → List Act → ℕ → Type 0
+Waits r d past n = is_open r d past ≡ true → length (given r d past) + n ≡ length (offered r d past)
+
+-- data may leave d next: it is open and not stopped, and more was offered on it than was given on
+pub record SendsNext (r : Role) (d : ℕ) (past : List Act) : Type 0 where
+  pub in_range : d < 62
+  pub no_zero : (d == 0) ≡ false
+  pub is_open : is_open r d past ≡ true
+  pub goes : is_stopped r d past ≡ false
+  pub some : length (given r d past) < length (offered r d past)
+  pub alone : queue past ≡ []
 
 -- whatever past the station fits, it goes on with what it gives on, and a lawful and complete past stays so
 pub record GivesOn (v : Station) : Type 0 where

@@ -21,3 +21,4 @@ pub mod MessagesRead
 pub mod AnswersSent
 pub mod Noting
 pub mod Getting
+pub mod Traces

@@ -127,6 +127,13 @@ impl Channel {
         self.octets.fill_from_slice(octets);
     }
 
+    /// How many octets wait in the send ring.
+    pub fn waiting(&self) -> usize
+        ensures { result ≡ length self.now.waiting }
+    {
+        self.octets.len()
+    }
+
     /// Whether octets wait in the send ring.
     pub fn has_octets(&self) -> bool
         ensures { result ≡ not (length self.now.waiting == 0) }

@@ -69,6 +69,13 @@ impl ControlQueue {
         self.frames.push_back(frame);
     }
 
+    /// How many frames wait.
+    pub fn len(&self) -> usize
+        ensures { result ≡ length self.now.frames }
+    {
+        self.frames.len()
+    }
+
     pub fn is_empty(&self) -> bool
         ensures { result ≡ (length self.now.frames == 0) }
     {

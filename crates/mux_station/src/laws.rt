@@ -5,6 +5,7 @@ ghost use Rattle.mux_station.specs.declared.role.Role.{Role};
 ghost use Rattle.mux_station.specs.Tables.{HasRoomBySum};
 ghost use Rattle.mux_station.specs.Acts.{Act, Call};
 ghost use Rattle.mux_station.specs.Stations.{Station};
+ghost use Rattle.mux_station.specs.Traces.{LeavesNoTrace};
 ghost use Rattle.mux_station.specs.Fitting.{SeesThePast, SeesTheFrame};
 ghost use Rattle.mux_station.specs.Noting.{NotedTruly};
 ghost use Rattle.mux_station.specs.Opening.{IsOpenByPlaces};
@@ -41,4 +42,11 @@ pub fn refusals()
 /// all are closed.
 pub fn notings()
     ensures { (v : Station) (past : List Act) (f : Frame) → NotedTruly v past f }
+{}
+
+/// The calls of the user change nothing by themselves: without them a past has the same states, openings
+/// and stops, the same control queue, and the same that was given on. What a call comes to are the frames
+/// that it asks for.
+pub fn calls()
+    ensures { (r : Role) (d : ℕ) (past : List Act) → LeavesNoTrace r d past }
 {}

@@ -1,9 +1,13 @@
 //! What a station gives on to the line.
-ghost use Rattle.std.specs.Prelude.{◌≡◌, ◌-◌, ◌≤◌, ◌==◌, drop, length, option_map, slice_get};
+ghost use Rattle.std.specs.Prelude.{◌≡◌, ◌-◌, ◌≤◌, ◌==◌, List, drop, length, option_map, slice_get, IfSome};
 ghost use Rattle.std.specs.Borrow.{sem};
 ghost use Rattle.std.specs.Io.BufRead.{Rests};
 ghost use Rattle.mux_frame.specs.Frames.{frame_of};
-ghost use Rattle.mux_station.specs.Giving.{is_ready, first_ready, next_turn, data_frame, data_given, next_given, given_on, GivesOn};
+ghost use Rattle.mux_station.specs.Acts.{Act as Happened};
+ghost use Rattle.mux_station.specs.Fitting.{Fits};
+ghost use Rattle.mux_station.specs.Giving.{is_ready, first_ready, next_turn, next_sender, data_frame, data_given, next_given, given_on, GivesOn, SendsNext, Waits};
+ghost use Rattle.mux_station.specs.Sending.{queue};
+ghost use Rattle.mux_station.specs.Stations.{channel_at};
 ghost use Rattle.mux_station.specs.GivenFrames.{given_frame, outgoing_of, with_freshness, dlci_of};
 
 use crate::outgoing::{GivenFrame, Outgoing};
@@ -98,6 +102,35 @@ impl Station {
             frame: self.given.view(),
             fresh,
         })
+    }
+
+    /// The connection whose data `next_frame` gives; nothing where it gives a control frame, or none.
+    #[tactic(auto, using(crate::proofs::Senders::sender_alone))]
+    pub fn next_sender(&self) -> Option<Dlci>
+        ensures value { option_map dlci_of result ≡ next_sender self.now self.now.queue }
+        ensures past { (past : List Happened) → Fits self.now past → IfSome result (λ d. SendsNext self.now.role d.number past) }
+    {
+        if !self.control.is_empty() {
+            return None;
+        }
+        self.next_turn()
+    }
+
+    /// How many octets wait in a connection's send ring.
+    #[tactic(auto, using(crate::proofs::Senders::waits_in))]
+    pub fn waiting(&self, dlci: Dlci) -> usize
+        ensures value { result ≡ length (channel_at self.now dlci.number).waiting }
+        ensures past { (past : List Happened) → Fits self.now past → Waits self.now.role dlci.number past result }
+    {
+        self.channels[usize::from(dlci.number())].waiting()
+    }
+
+    /// How many frames wait in the control queue.
+    pub fn queue_len(&self) -> usize
+        ensures value { result ≡ length self.now.queue }
+        ensures past { (past : List Happened) → Fits self.now past → result ≡ length (queue past) }
+    {
+        self.control.len()
     }
 
     /// The frame at a place of the control queue, counted from its front. It changes nothing.

@@ -22,6 +22,8 @@ enum Step {
     /// How a connection stands.
     Is(u8, ChannelState),
     Stopped(u8, bool),
+    /// How many control frames wait, how many octets on a connection, and whose data is next.
+    Waits(usize, (u8, usize), Option<u8>),
 }
 
 fn dlci(number: u8) -> Result<Dlci, Fail> {
@@ -87,6 +89,11 @@ fn play_one(rt: &impl Abort, alloc: Global, station: &mut Station, step: Step) -
         Step::Is(number, state) => assert_eq!(rt; station.state(dlci(number)?), state),
         Step::Stopped(number, stopped) => {
             assert_eq!(rt; station.stopped(dlci(number)?), stopped)
+        }
+        Step::Waits(frames, (number, octets), sender) => {
+            assert_eq!(rt; station.queue_len(), frames);
+            assert_eq!(rt; station.waiting(dlci(number)?), octets);
+            assert_eq!(rt; station.next_sender().map(Dlci::number), sender);
         }
         _ => call(station, step)?,
     }
@@ -265,6 +272,24 @@ fn one_connection_is_stopped_and_started(rt: HostRuntime) -> Result<(), Fail> {
         Step::Sent(b"\xF9\x07\xEF\x0Dmple\"\r\x3E\xF9"),
     ];
     one_and(&rt, rt.alloc(), &steps)?;
+    Ok(())
+}
+
+#[test]
+fn what_waits_is_known(rt: HostRuntime) -> Result<(), Fail> {
+    let steps = [
+        Step::Open(1),
+        Step::Waits(1, (1, 0), None),
+        Step::Sent(SABM_1),
+        Step::Got(UA_1, Noted::Opened),
+        Step::Offer(1, b"AT+CSQ\r"),
+        Step::Waits(1, (1, 7), None),
+        Step::Sent(MSC_1),
+        Step::Waits(0, (1, 7), Some(1)),
+        Step::Sent(COMMAND),
+        Step::Waits(0, (1, 0), None),
+    ];
+    zero_and(&rt, rt.alloc(), &steps)?;
     Ok(())
 }
 
