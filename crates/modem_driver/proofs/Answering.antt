@@ -14,23 +14,27 @@ use Rattle.modem_desk.specs.declared.request.Request.{Request}
 use Rattle.modem_desk.specs.declared.request.Answer.TheVariants.{Opened}
 use Rattle.modem_driver.specs.declared.stage.Stage.{Stage}
 use Rattle.modem_driver.specs.declared.stage.Stage.TheVariants as stage
-use Rattle.modem_driver.specs.Acts.{Act, after, wire, in_hand, without}
-use Rattle.modem_driver.specs.Information.{texts}
-use Rattle.modem_driver.specs.Calls.{seen, is_lost, calls, lines_said, told_later, states_now, by_lines, first_on}
-use Rattle.modem_driver.specs.Lawful.{Lawful, owed}
-use Rattle.modem_driver.specs.Serving.{Stands, replaying, state_as, standing_as}
+use Rattle.modem_history.specs.Acts.{Act, after, wire, in_hand, without}
+use Rattle.modem_history.specs.Information.{texts}
+use Rattle.modem_history.specs.Calls.{seen, is_lost, calls, lines_said, told_later, states_now, by_lines, first_on}
+use Rattle.modem_history.specs.Lawful.{Lawful, owed}
+use Rattle.modem_driver.specs.Serving.{Stands, state_as, standing_as}
+use Rattle.modem_history.specs.Calls.{replaying}
 use Rattle.modem_driver.specs.Lane.{LaneIs}
-use Rattle.modem_driver.specs.Served.{Suits, Rests, Idles, waits_rightly, is_at_opened, opens_on, commands_on, commands, IsAwaited, left_of, count_of, begun_count, without_first, after_lines, said_by, text_of}
+use Rattle.modem_driver.specs.Served.{Suits, Rests, Idles, waits_rightly, is_at_opened, opens_on, commands, IsAwaited, left_of, count_of, after_lines, said_by, text_of}
+use Rattle.modem_history.specs.Requests.{commands_on, without_first}
+use Rattle.modem_history.specs.Begun.{begun_count}
 use Rattle.modem_driver.proofs.Calling.{state_one, now_zero, now_one, tolds_none}
 use Rattle.modem_driver.proofs.Laning.{got, data_arrives, data_ignored}
-use Rattle.modem_driver.proofs.Hands.{outcome_of, without_found, first_is_found, filter_first, filter_other, all_first, distinct_first}
-use Rattle.modem_driver.proofs.InOrder.{order_lines}
+use Rattle.modem_history.proofs.Hands.{outcome_of, without_found, first_is_found, filter_first, filter_other, all_first, distinct_first}
+use Rattle.modem_history.proofs.InOrder.{order_lines}
 use Rattle.modem_driver.proofs.Sends.{texts_both}
 use Rattle.modem_driver.proofs.Standing.{data_comes}
 use Rattle.modem_driver.proofs.Steps.{calls_are, goes_on_by, alive}
 use Rattle.modem_driver.proofs.Opens.{kept_as}
 use Rattle.modem_driver.proofs.Commands.{opens_none}
-use Rattle.modem_driver.proofs.Readings.{said_is, fits_after, taken_off, words, words_keep, said_words, OffBy, opened_off}
+use Rattle.modem_driver.proofs.Readings.{said_is, fits_after, words_keep, said_words, OffBy, opened_off}
+use Rattle.modem_history.proofs.OutcomesAndLines.{taken_off, words}
 
 -- ## While 1 isn't open
 

@@ -15,14 +15,16 @@ use Rattle.modem_desk.specs.declared.request.Request.{Request}
 use Rattle.modem_desk.specs.declared.request.Answer.TheVariants.{Opened}
 use Rattle.modem_driver.specs.declared.stage.Stage.{Stage}
 use Rattle.modem_driver.specs.declared.stage.Stage.TheVariants as stage
-use Rattle.modem_driver.specs.Acts.{Act, Sent, Given, wire, told, in_hand, without}
-use Rattle.modem_driver.specs.Information.{command_on, texts}
-use Rattle.modem_driver.specs.Calls.{seen, calls, frames_by, told_later, states_now}
-use Rattle.modem_driver.specs.Serving.{Stands, replaying, state_as, standing_as}
-use Rattle.modem_driver.specs.Served.{Suits, Works, with_piece, may_wait, waits_rightly, is_at_opening, opening_on, opens_on, commands_on, commands, IsAwaited, left_of, without_first}
+use Rattle.modem_history.specs.Acts.{Act, Sent, Given, wire, told, in_hand, without}
+use Rattle.modem_history.specs.Information.{command_on, texts}
+use Rattle.modem_history.specs.Calls.{seen, calls, frames_by, told_later, states_now}
+use Rattle.modem_driver.specs.Serving.{Stands, state_as, standing_as}
+use Rattle.modem_history.specs.Calls.{replaying}
+use Rattle.modem_driver.specs.Served.{Suits, Works, with_piece, may_wait, waits_rightly, is_at_opening, opening_on, opens_on, commands, IsAwaited, left_of}
+use Rattle.modem_history.specs.Requests.{commands_on, without_first}
 use Rattle.modem_driver.proofs.Calling.{state_zero, state_one, now_zero, now_one, tolds_none, tolds_zero, tolds_one, opened_acts}
 use Rattle.modem_driver.proofs.Laning.{got, told_keeps, given_keeps, control_keeps, zero_ua_keeps, one_ua_begins, one_ua_keeps}
-use Rattle.modem_driver.proofs.Hands.{outcome_of, without_found, filter_first, filter_other, all_first, distinct_first}
+use Rattle.modem_history.proofs.Hands.{outcome_of, without_found, filter_first, filter_other, all_first, distinct_first}
 use Rattle.modem_driver.proofs.Standing.{zero_opens, one_opens, zero_shut_ua, zero_open_ua, one_shut_ua, one_open_ua, readiness, given_on as given_stands}
 use Rattle.modem_driver.proofs.Steps.{calls_are, goes_on_by, given_lawful, alive, and_false}
 use Rattle.modem_driver.proofs.Opens.{kept_as, other_one, other_zero, no_command, none_pass}

@@ -15,15 +15,17 @@ use Rattle.modem_desk.specs.declared.request.Request.{Request}
 use Rattle.modem_desk.specs.declared.request.Answer.TheVariants.{Opened}
 use Rattle.modem_driver.specs.declared.stage.Stage.{Stage}
 use Rattle.modem_driver.specs.declared.stage.Stage.TheVariants as stage
-use Rattle.modem_driver.specs.Acts.{Act, Took, Got, Sent, Told, Heard, Tick, Lost, Held, Freed, Given, after, told}
-use Rattle.modem_driver.specs.Information.{information_in}
-use Rattle.modem_driver.specs.Served.{Served, Suits, with_piece, given_on, is_expected, is_expected_of, commands, commands_on, opens_on, is_busy, without_first, arrived, zero_answered, one_answered, data_read, octets_read, octets_each_read, answered_now, told_opened, after_lines, said_one, said_by}
+use Rattle.modem_history.specs.Acts.{Act, Took, Got, Sent, Told, Heard, Tick, Lost, Held, Freed, Given, after, told}
+use Rattle.modem_history.specs.Information.{information_in}
+use Rattle.modem_driver.specs.Served.{Served, Suits, with_piece, given_on, is_expected, is_expected_of, commands, opens_on, is_busy, arrived, zero_answered, one_answered, data_read, octets_read, octets_each_read, answered_now, told_opened, after_lines, said_one, said_by}
+use Rattle.modem_history.specs.Requests.{commands_on, without_first}
 use Rattle.modem_driver.proofs.Laning.{got}
 use Rattle.modem_driver.proofs.Opens.{kept_as}
 use Rattle.modem_driver.proofs.Commands.{suits_rests, suits_none}
 use Rattle.modem_driver.proofs.Arrivals.{ua_opens_zero, ua_opens_one, ua_idle_zero, ua_idle_one, never_none}
-use Rattle.modem_driver.proofs.Said.{is_word}
-use Rattle.modem_driver.proofs.Readings.{taken_off, said_words, OffBy, opened_off, closed_off, closed_stays}
+use Rattle.modem_history.proofs.Said.{is_word}
+use Rattle.modem_driver.proofs.Readings.{said_words, OffBy, opened_off, closed_off, closed_stays}
+use Rattle.modem_history.proofs.OutcomesAndLines.{taken_off}
 use Rattle.modem_driver.proofs.Answering.{data_unread, read_on, read_whole, first_found}
 use Rattle.modem_driver.proofs.Fares.{Ready, ReadyStep, ready_by, no_next}
 

@@ -6,7 +6,6 @@ use Rattle.std.proofs.lemmas.Bool.{and_parts}
 use Rattle.std.proofs.lemmas.Bool.Decides.{nat_tests}
 use Rattle.mux_frame.specs.declared.frame.Kind.TheVariants.{Sabm}
 use Rattle.mux_frame.specs.Frames.{Frame}
-use Rattle.mux_station.specs.declared.role.Role.{Role}
 use Rattle.mux_station.specs.declared.role.Role.TheVariants.{Initiator}
 use Rattle.mux_station.specs.Written.{written}
 use Rattle.mux_station.specs.Acts as station
@@ -20,25 +19,14 @@ use Rattle.modem_desk.specs.declared.request.Answer.{Answer}
 use Rattle.modem_desk.specs.declared.request.Answer.TheVariants.{Opened, NotOpen, AlreadyOpen, ControlChannel, Busy, LineLost}
 use Rattle.modem_driver.specs.declared.stage.Stage.{Stage}
 use Rattle.modem_driver.specs.declared.stage.Stage.TheVariants as stage
-use Rattle.modem_driver.specs.Acts.{Act, Took, Got, Sent, Told, Heard, Tick, Lost, Held, Freed, Given, after, wire, told, in_hand}
-use Rattle.modem_driver.specs.Calls.{Seen, seen, states_now, told_later, later, open_later, at_once, refused_ask, all_have_room}
-use Rattle.modem_driver.specs.Serving.{Stands, Holds, replaying, state_as}
+use Rattle.modem_history.specs.Acts.{Act, after, wire, told, in_hand}
+use Rattle.modem_history.specs.Calls.{Seen, seen, states_now, told_later, later, open_later, at_once, refused_ask, all_have_room}
+use Rattle.modem_driver.specs.Serving.{Stands, Holds, state_as}
+use Rattle.modem_history.specs.Calls.{replaying}
 use Rattle.modem_driver.specs.Served.{is_at_opening, is_at_opened, opening_on, opens_on, may_wait, waits_rightly, refusal, opening_refusal, is_served}
+use Rattle.modem_history.proofs.AfterActs.{then_is}
 
 -- ## The states after a call's acts
-
-pub then_is : (r : Role) (d : ℕ) (acts past : List Act) → states_then r d (states r d (wire past)) (wire acts) ≡ states r d (wire (after past acts))
-then_is r d [] past = refl
-then_is r d (Took q ∷ acts) past = then_is r d acts (Took q ∷ past)
-then_is r d (Got f ∷ acts) past = then_is r d acts (Got f ∷ past)
-then_is r d (Sent f ∷ acts) past = then_is r d acts (Sent f ∷ past)
-then_is r d (Told o ∷ acts) past = then_is r d acts (Told o ∷ past)
-then_is r d (Heard k e line ∷ acts) past = then_is r d acts (Heard k e line ∷ past)
-then_is r d (Tick ∷ acts) past = then_is r d acts (Tick ∷ past)
-then_is r d (Lost ∷ acts) past = then_is r d acts (Lost ∷ past)
-then_is r d (Held e ∷ acts) past = then_is r d acts (Held e ∷ past)
-then_is r d (Freed e ∷ acts) past = then_is r d acts (Freed e ∷ past)
-then_is r d (Given ∷ acts) past = then_is r d acts (Given ∷ past)
 
 pub state_zero : (z o : Stage) (w : List station.Act) → Stands z o w → state_of Initiator 0 w ≡ state_as z
 state_zero z o w s = ap (λ (v : States). v.own) s.states_zero

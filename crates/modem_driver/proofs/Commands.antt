@@ -17,17 +17,20 @@ use Rattle.modem_desk.specs.declared.request.Answer.{Answer}
 use Rattle.modem_desk.specs.declared.request.Answer.TheVariants.{ControlChannel, NotOpen}
 use Rattle.modem_driver.specs.declared.stage.Stage.{Stage}
 use Rattle.modem_driver.specs.declared.stage.Stage.TheVariants as stage
-use Rattle.modem_driver.specs.Acts.{Act, Took, after, wire, in_hand}
-use Rattle.modem_driver.specs.Information.{is_accepted, command_on, line_of, texts}
-use Rattle.modem_driver.specs.Calls.{seen, calls, frames_by, asking, at_once, said_of, told_later, states_now}
-use Rattle.modem_driver.specs.Lawful.{Lawful, owed}
-use Rattle.modem_driver.specs.Serving.{Holds, replaying}
+use Rattle.modem_history.specs.Acts.{Act, Took, after, wire, in_hand}
+use Rattle.modem_history.specs.Information.{is_accepted, command_on, line_of, texts}
+use Rattle.modem_history.specs.Calls.{seen, calls, frames_by, asking, at_once, said_of, told_later, states_now}
+use Rattle.modem_history.specs.Lawful.{Lawful, owed}
+use Rattle.modem_driver.specs.Serving.{Holds}
+use Rattle.modem_history.specs.Calls.{replaying}
 use Rattle.modem_driver.specs.Lane.{LaneIs}
-use Rattle.modem_driver.specs.Served.{Suits, Works, Rests, Idles, refusal, is_served, may_wait, waits_rightly, is_at_opened, opening_on, opens_on, commands_on, commands, IsAwaited, are_distinct, left_of, count_of, is_busy, begun_count, text_of, AllFit, data_frames}
+use Rattle.modem_driver.specs.Served.{Suits, Works, Rests, Idles, refusal, is_served, may_wait, waits_rightly, is_at_opened, opening_on, opens_on, commands, IsAwaited, left_of, count_of, is_busy, text_of, AllFit, data_frames}
+use Rattle.modem_history.specs.Requests.{commands_on, are_distinct}
+use Rattle.modem_history.specs.Begun.{begun_count}
 use Rattle.modem_driver.proofs.Calling.{now_zero, now_one, tolds_none, at_once_is}
 use Rattle.modem_driver.proofs.Laning.{own_open, took_accepted}
-use Rattle.modem_driver.proofs.Hands.{all_apart, distinct_more}
-use Rattle.modem_driver.proofs.InOrder.{order_begun, counts, open_count}
+use Rattle.modem_history.proofs.Hands.{all_apart, distinct_more}
+use Rattle.modem_history.proofs.InOrder.{order_begun, counts, open_count}
 use Rattle.modem_driver.proofs.Sends.{Left, sends_on}
 use Rattle.modem_driver.proofs.Steps.{calls_are, goes_on_by, alive}
 use Rattle.modem_driver.proofs.Opens.{kept_as, all_more, filter_more}

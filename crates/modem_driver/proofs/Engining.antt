@@ -13,9 +13,10 @@ use Rattle.mux_frame.specs.declared.dlci.Dlci.{Dlci}
 use Rattle.modem_desk.specs.declared.request.Ask.{Ask}
 use Rattle.modem_desk.specs.declared.request.Ask.TheVariants.{OpenChannel, CloseChannel, Command, Probe, Stop}
 use Rattle.modem_desk.specs.declared.request.Request.{Request}
-use Rattle.modem_driver.specs.Information.{command_on}
-use Rattle.modem_driver.specs.Acts.{Act, Sent}
-use Rattle.modem_driver.specs.Served.{Served, said_more, without_first, AllFit, data_frames, SendsSome, octets_read, octets_each_read, read_by, answered_now, is_none_open, commands_on}
+use Rattle.modem_history.specs.Information.{command_on}
+use Rattle.modem_history.specs.Acts.{Act, Sent}
+use Rattle.modem_driver.specs.Served.{Served, said_more, AllFit, data_frames, SendsSome, octets_read, octets_each_read, read_by, answered_now, is_none_open}
+use Rattle.modem_history.specs.Requests.{without_first, commands_on}
 
 -- where none is found, none is left out
 pub without_none : (test : Request → Bool) (qs : List Request) → find test qs ≡ None → without_first test qs ≡ qs

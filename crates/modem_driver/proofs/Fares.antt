@@ -9,19 +9,17 @@ use Rattle.modem_desk.specs.declared.request.Ask.TheVariants.{OpenChannel, Close
 use Rattle.modem_desk.specs.declared.request.Request.{Request}
 use Rattle.modem_driver.specs.declared.stage.Stage.{Stage}
 use Rattle.modem_driver.specs.declared.stage.Stage.TheVariants as stage
-use Rattle.modem_driver.specs.Acts.{Act, Took, Got, Sent, Told, Heard, Tick, Lost, Held, Freed, Given, after}
-use Rattle.modem_driver.specs.Information.{command_on, line_of}
-use Rattle.modem_driver.specs.Served.{waits_rightly, may_wait, Served, Suits, Rests, StepsTo, SendsNext, SendsOf, AllFit, data_frames, with_piece, given_on, is_at_opened, next_of, commands, commands_on}
+use Rattle.modem_history.specs.Acts.{Act, Took, Got, Sent, Told, Heard, Tick, Lost, Held, Freed, Given, after}
+use Rattle.modem_history.specs.Information.{command_on, line_of}
+use Rattle.modem_driver.specs.Served.{waits_rightly, may_wait, Served, Suits, Rests, StepsTo, SendsNext, SendsOf, AllFit, data_frames, with_piece, given_on, is_at_opened, next_of, commands}
+use Rattle.modem_history.specs.Requests.{commands_on}
 use Rattle.modem_driver.proofs.Steps.{and_false}
 use Rattle.modem_driver.proofs.Opens.{kept_as, none_pass}
 use Rattle.modem_driver.proofs.Commands.{leave, rest_on, suits_rests}
 use Rattle.modem_driver.proofs.Answering.{first_found}
+use Rattle.modem_history.proofs.AfterActs.{after_both}
 
 -- ## Pieces
-
-pub after_both : (xs ys past : List Act) → after past (xs ++ ys) ≡ after (after past xs) ys
-after_both [] ys past = refl
-after_both (x ∷ xs) ys past = after_both xs ys (x ∷ past)
 
 given_data : (chunks : List (List ℕ)) → given_on (data_frames chunks) ≡ []
 given_data [] = refl

@@ -15,9 +15,9 @@ use Rattle.modem_desk.specs.declared.request.Request.{Request}
 use Rattle.modem_desk.specs.declared.request.Outcome.{Outcome}
 use Rattle.modem_driver.specs.declared.stage.Stage.{Stage}
 use Rattle.modem_driver.specs.declared.stage.Stage.TheVariants as stage
-use Rattle.modem_driver.specs.Acts.{Act, Took, Got, Sent, Told, Heard, Given, wire}
-use Rattle.modem_driver.specs.Information.{carries, info_of, info_got, info_sent, accepted, is_accepted, line_of, texts}
-use Rattle.modem_driver.specs.Placing.{marks, run_on, begun_placed, whole_in, whole_after}
+use Rattle.modem_history.specs.Acts.{Act, Took, Got, Sent, Told, Heard, Given, wire}
+use Rattle.modem_history.specs.Information.{carries, info_of, info_got, info_sent, accepted, is_accepted, line_of, texts}
+use Rattle.modem_history.specs.Placing.{marks, run_on, begun_placed, whole_in, whole_after}
 use Rattle.modem_driver.specs.Serving.{standing_as, Stands}
 use Rattle.modem_driver.specs.Lane.{LaneIs}
 

@@ -17,14 +17,16 @@ use Rattle.modem_desk.specs.declared.request.Request.{Request}
 use Rattle.modem_desk.specs.declared.request.Answer.{Answer}
 use Rattle.modem_driver.specs.declared.stage.Stage.{Stage}
 use Rattle.modem_driver.specs.declared.stage.Stage.TheVariants as stage
-use Rattle.modem_driver.specs.Acts.{Act, Took, Sent, Given, wire, in_hand}
-use Rattle.modem_driver.specs.Information.{is_accepted, carries, command_on, texts}
-use Rattle.modem_driver.specs.Calls.{seen, calls, frames_by, asking, at_once, said_of, told_later, states_now}
-use Rattle.modem_driver.specs.Serving.{Stands, replaying}
-use Rattle.modem_driver.specs.Served.{Served, Suits, Works, with_piece, refusal, is_served, may_wait, waits_rightly, is_at_opening, opening_on, opens_on, commands_on, commands, IsAwaited, left_of}
+use Rattle.modem_history.specs.Acts.{Act, Took, Sent, Given, wire, in_hand}
+use Rattle.modem_history.specs.Information.{is_accepted, carries, command_on, texts}
+use Rattle.modem_history.specs.Calls.{seen, calls, frames_by, asking, at_once, said_of, told_later, states_now}
+use Rattle.modem_driver.specs.Serving.{Stands}
+use Rattle.modem_history.specs.Calls.{replaying}
+use Rattle.modem_driver.specs.Served.{Served, Suits, Works, with_piece, refusal, is_served, may_wait, waits_rightly, is_at_opening, opening_on, opens_on, commands, IsAwaited, left_of}
+use Rattle.modem_history.specs.Requests.{commands_on}
 use Rattle.modem_driver.proofs.Calling.{now_zero, now_one, tolds_none, at_once_is}
 use Rattle.modem_driver.proofs.Laning.{took_other, given_keeps, control_keeps}
-use Rattle.modem_driver.proofs.Hands.{all_apart, distinct_more}
+use Rattle.modem_history.proofs.Hands.{all_apart, distinct_more}
 use Rattle.modem_driver.proofs.Standing.{zero_asked, one_asked, given_on as given_stands}
 use Rattle.modem_driver.proofs.Steps.{calls_are, goes_on_by, given_lawful, alive, and_false}
 

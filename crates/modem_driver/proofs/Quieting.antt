@@ -8,13 +8,14 @@ use Rattle.mux_station.specs.Opening.{is_open}
 use Rattle.at_text.specs.Windows.{Mark, Window, answered, open_window}
 use Rattle.at_text.specs.OpenWindow as window
 use Rattle.modem_desk.specs.declared.request.Request.{Request}
-use Rattle.modem_driver.specs.Acts.{Act, wire}
-use Rattle.modem_driver.specs.Information.{information_out, texts}
-use Rattle.modem_driver.specs.Placing.{marks, whole_in}
-use Rattle.modem_driver.specs.Lawful.{Quiet, is_quiet_on}
-use Rattle.modem_driver.specs.Serving.{replaying}
-use Rattle.modem_driver.specs.Served.{Served, Suits, Works, commands, left_of, count_of, is_busy, begun_count, text_of}
-use Rattle.modem_driver.proofs.InOrder.{counts, open_count}
+use Rattle.modem_history.specs.Acts.{Act, wire}
+use Rattle.modem_history.specs.Information.{information_out, texts}
+use Rattle.modem_history.specs.Placing.{marks, whole_in}
+use Rattle.modem_history.specs.Lawful.{Quiet, is_quiet_on}
+use Rattle.modem_history.specs.Calls.{replaying}
+use Rattle.modem_driver.specs.Served.{Served, Suits, Works, commands, left_of, count_of, is_busy, text_of}
+use Rattle.modem_history.specs.Begun.{begun_count}
+use Rattle.modem_history.proofs.InOrder.{counts, open_count}
 use Rattle.modem_driver.proofs.Sends.{length_texts, whole_all, out_of}
 
 or_right : (b c : Bool) → c ≡ true → (b || c) ≡ true

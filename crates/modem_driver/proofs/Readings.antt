@@ -16,14 +16,15 @@ use Rattle.at_text.specs.Finals.{is_final}
 use Rattle.at_text.proofs.WindowLemmas.{seen_line, shows_line}
 use Rattle.modem_desk.specs.declared.request.Request.{Request}
 use Rattle.modem_desk.specs.declared.request.Answer.TheVariants.{Opened}
-use Rattle.modem_driver.specs.Acts.{Act, Took, Got, Sent, Told, Heard, Tick, Lost, Held, Freed, Given, after, wire, in_hand, without}
-use Rattle.modem_driver.specs.Calls.{is_lost, by_seen, by_lines, done}
-use Rattle.modem_driver.specs.Serving.{replaying}
+use Rattle.modem_history.specs.Acts.{Act, Took, Got, Sent, Told, Heard, Tick, Lost, Held, Freed, Given, after, without}
+use Rattle.modem_history.specs.Calls.{by_seen, by_lines, done}
+use Rattle.modem_history.specs.Calls.{replaying}
 use Rattle.modem_driver.specs.Lane.{LaneIs}
 use Rattle.modem_driver.specs.Served.{Shows, after_lines, said_one, said_by}
 use Rattle.modem_driver.proofs.Laning.{told_keeps, heard_keeps}
-use Rattle.modem_driver.proofs.Hands.{outcome_of}
-use Rattle.modem_driver.proofs.Said.{is_word}
+use Rattle.modem_history.proofs.Hands.{outcome_of}
+use Rattle.modem_history.proofs.Said.{is_word}
+use Rattle.modem_history.proofs.OutcomesAndLines.{taken_off, off_both}
 
 -- ## What lines are said to be
 
@@ -52,30 +53,6 @@ fits_after (l ∷ ls) w ms f =
     fits_after ls (window.after_line w l) (ms ++ Line l ∷ []) fits ∙ ap (λ (v : List Mark). option_map window.shown (open_window v)) (append_assoc ms (Line l ∷ []) (map Line ls))
 
 -- ## Outcomes and lines leave the rest as it was
-
--- the requests in hand after some acts
-abbrev pub taken_off : List Act → List Request → List Request
-taken_off [] hand = hand
-taken_off (Told o ∷ acts) hand = taken_off acts (without o hand)
-taken_off (_ ∷ acts) hand = taken_off acts hand
-
-pub record Words (acts past : List Act) : Type 0 where
-  pub wire_same : wire (after past acts) ≡ wire past
-  pub lost_same : is_lost (after past acts) ≡ is_lost past
-  pub hand_same : in_hand (after past acts) ≡ taken_off acts (in_hand past)
-
-pub words : (acts past : List Act) → list_all is_word acts ≡ true → Words acts past
-words [] past h = record { wire_same = refl; lost_same = refl; hand_same = refl }
-words (Told o ∷ acts) past h = let w = words acts (Told o ∷ past) h in record { wire_same = w.wire_same; lost_same = w.lost_same; hand_same = w.hand_same }
-words (Heard k d line ∷ acts) past h = let w = words acts (Heard k d line ∷ past) h in record { wire_same = w.wire_same; lost_same = w.lost_same; hand_same = w.hand_same }
-words (Took q ∷ acts) past h = absurd (let e : false ≡ true = h in cc)
-words (Got f ∷ acts) past h = absurd (let e : false ≡ true = h in cc)
-words (Sent f ∷ acts) past h = absurd (let e : false ≡ true = h in cc)
-words (Tick ∷ acts) past h = absurd (let e : false ≡ true = h in cc)
-words (Lost ∷ acts) past h = absurd (let e : false ≡ true = h in cc)
-words (Held d ∷ acts) past h = absurd (let e : false ≡ true = h in cc)
-words (Freed d ∷ acts) past h = absurd (let e : false ≡ true = h in cc)
-words (Given ∷ acts) past h = absurd (let e : false ≡ true = h in cc)
 
 pub words_keep : (acts past : List Act) (qs : List Request) (out : List ℕ) (ms : List Mark) (kept : List ℕ) → list_all is_word acts ≡ true → LaneIs past qs out ms kept → LaneIs (after past acts) qs out ms kept
 words_keep [] past qs out ms kept h l = l
@@ -110,19 +87,6 @@ said_words owner [] w = refl
 said_words owner (l ∷ ls) w = both_words (said_one owner l (window.seen_by w l)) (said_by owner (window.after_line w l) ls) (seen_words owner l (window.seen_by w l)) (said_words owner ls (window.after_line w l))
 
 -- ## Which request they take off
-
-pub off_both : (xs ys : List Act) (hand : List Request) → list_all is_word xs ≡ true → taken_off (xs ++ ys) hand ≡ taken_off ys (taken_off xs hand)
-off_both [] ys hand h = refl
-off_both (Told o ∷ xs) ys hand h = off_both xs ys (without o hand) h
-off_both (Heard k d line ∷ xs) ys hand h = off_both xs ys hand h
-off_both (Took q ∷ acts) ys hand h = absurd (let e : false ≡ true = h in cc)
-off_both (Got f ∷ acts) ys hand h = absurd (let e : false ≡ true = h in cc)
-off_both (Sent f ∷ acts) ys hand h = absurd (let e : false ≡ true = h in cc)
-off_both (Tick ∷ acts) ys hand h = absurd (let e : false ≡ true = h in cc)
-off_both (Lost ∷ acts) ys hand h = absurd (let e : false ≡ true = h in cc)
-off_both (Held d ∷ acts) ys hand h = absurd (let e : false ≡ true = h in cc)
-off_both (Freed d ∷ acts) ys hand h = absurd (let e : false ≡ true = h in cc)
-off_both (Given ∷ acts) ys hand h = absurd (let e : false ≡ true = h in cc)
 
 after_none : (b : Bool) (l : List ℕ) → (if b then window.after_solicited None l else None) ≡ None
 after_none true l = refl

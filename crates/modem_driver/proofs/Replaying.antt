@@ -8,11 +8,11 @@ use Rattle.std.proofs.lemmas.List.Folds.{list_all-append}
 use Rattle.mux_frame.specs.Frames.{Frame}
 use Rattle.mux_frame.specs.Reading.{Reads}
 use Rattle.mux_frame.specs.Deframing.{Deframing, Deframes, AtHand}
-use Rattle.modem_driver.specs.declared.act.Event.{Event}
-use Rattle.modem_driver.specs.declared.act.Event.TheVariants as event
-use Rattle.modem_driver.specs.Acts.{Act}
-use Rattle.modem_driver.specs.Lawful.{Lawful}
-use Rattle.modem_driver.specs.Serving.{replaying}
+use Rattle.modem_driver.specs.declared.event.Event.{Event}
+use Rattle.modem_driver.specs.declared.event.Event.TheVariants as event
+use Rattle.modem_history.specs.Acts.{Act}
+use Rattle.modem_history.specs.Lawful.{Lawful}
+use Rattle.modem_history.specs.Calls.{replaying}
 use Rattle.modem_driver.specs.Served.{Served, Suits, is_expected, none_yet}
 use Rattle.modem_driver.specs.Handles.{Handles}
 use Rattle.modem_driver.specs.Replays.{Begins, ends, IsFirstRun, Runs, SoFar, Replays, first_of, octets}

@@ -17,14 +17,16 @@ use Rattle.modem_desk.specs.declared.request.Request.{Request}
 use Rattle.modem_desk.specs.declared.request.Answer.{Answer}
 use Rattle.modem_driver.specs.declared.stage.Stage.{Stage}
 use Rattle.modem_driver.specs.declared.stage.Stage.TheVariants as stage
-use Rattle.modem_driver.specs.declared.act.Event.{Event}
-use Rattle.modem_driver.specs.declared.act.Event.TheVariants as event
-use Rattle.modem_driver.specs.Acts.{Act, Took, Got}
-use Rattle.modem_driver.specs.Lawful.{Complete}
-use Rattle.modem_driver.specs.Serving.{replaying}
-use Rattle.modem_driver.specs.Served.{Served, Suits, MayTake, StepsTo, Takes, Arrives, ArriveAll, none_more, one_more, is_served, is_expected, is_apart, are_distinct, with_piece, taken_by, entered, refusal, arrived, arrived_by, said_more, zero_answered, one_answered, data_read, told_opened, read_by, answered_now, octets_each_read, without_first, opens_on, commands_on, is_none_open}
-use Rattle.modem_driver.specs.Replays.{Piece, acts_in, first_of, past_of, Begins, ends, asks, hears, Keeps, KeepsAlong, IsWithin, IsFirstRun, Runs, request_in, octets_in, requests, octets}
-use Rattle.modem_driver.proofs.Hands.{all_apart, all_first, length_first}
+use Rattle.modem_driver.specs.declared.event.Event.{Event}
+use Rattle.modem_driver.specs.declared.event.Event.TheVariants as event
+use Rattle.modem_history.specs.Acts.{Act, Took, Got}
+use Rattle.modem_history.specs.Lawful.{Complete}
+use Rattle.modem_history.specs.Calls.{replaying}
+use Rattle.modem_driver.specs.Served.{Served, Suits, MayTake, StepsTo, Takes, Arrives, ArriveAll, none_more, one_more, is_served, is_expected, with_piece, taken_by, entered, refusal, arrived, arrived_by, said_more, zero_answered, one_answered, data_read, told_opened, read_by, answered_now, octets_each_read, opens_on, is_none_open}
+use Rattle.modem_history.specs.Requests.{is_apart, are_distinct, without_first, commands_on}
+use Rattle.modem_driver.specs.Replays.{Piece, acts_in, first_of, past_of, Begins, ends, asks, hears, KeepsAlong, IsWithin, IsFirstRun, Runs, request_in, octets_in, requests, octets}
+use Rattle.modem_history.specs.Lawful.{Keeps}
+use Rattle.modem_history.proofs.Hands.{all_apart, all_first, length_first}
 use Rattle.modem_driver.proofs.Fares.{ReadyStep, step_on}
 use Rattle.modem_driver.proofs.Taking.{take_ready}
 use Rattle.modem_driver.proofs.Arriving.{arrive_ready}

@@ -14,16 +14,17 @@ use Rattle.at_text.specs.Windows.{Mark, Begun, answered}
 use Rattle.modem_desk.specs.declared.request.Request.{Request}
 use Rattle.modem_driver.specs.declared.stage.Stage.{Stage}
 use Rattle.modem_driver.specs.declared.stage.Stage.TheVariants as stage
-use Rattle.modem_driver.specs.Acts.{Act, after, wire}
-use Rattle.modem_driver.specs.Information.{accepted, information_out, line_of, texts}
-use Rattle.modem_driver.specs.Placing.{marks, whole_in, reached_in, whole_after}
-use Rattle.modem_driver.specs.Lawful.{Lawful, Allows, owed}
-use Rattle.modem_driver.specs.Serving.{Stands, Holds, replaying}
+use Rattle.modem_history.specs.Acts.{Act, after, wire}
+use Rattle.modem_history.specs.Information.{accepted, information_out, line_of, texts}
+use Rattle.modem_history.specs.Placing.{marks, whole_in, reached_in, whole_after}
+use Rattle.modem_history.specs.Lawful.{Lawful, Allows, owed}
+use Rattle.modem_driver.specs.Serving.{Stands, Holds}
+use Rattle.modem_history.specs.Calls.{replaying}
 use Rattle.modem_driver.specs.Lane.{LaneIs}
 use Rattle.modem_driver.specs.Served.{text_of, data_frames, AllFit}
 use Rattle.modem_driver.proofs.Standing.{data_goes}
 use Rattle.modem_driver.proofs.Laning.{sent, begun_in, own_open, data_leaves}
-use Rattle.modem_driver.proofs.Counts.{texts_filled, whole_front, whole_none, whole_one, reached_front, reached_one, begins_with}
+use Rattle.modem_history.proofs.Counts.{texts_filled, whole_front, whole_none, whole_one, reached_front, reached_one, begins_with}
 
 pub texts_both : (qs rs : List Request) → texts (qs ++ rs) ≡ texts qs ++ texts rs
 texts_both [] rs = refl

@@ -13,17 +13,18 @@ use Rattle.modem_desk.specs.declared.request.Answer.{Answer}
 use Rattle.modem_desk.specs.declared.request.Answer.TheVariants.{ControlChannel, NotOpen}
 use Rattle.modem_driver.specs.declared.stage.Stage.{Stage}
 use Rattle.modem_driver.specs.declared.stage.Stage.TheVariants as stage
-use Rattle.modem_driver.specs.Acts.{Act, Took, Sent, Given, after, wire, told, in_hand, without, is_for}
-use Rattle.modem_driver.specs.Information.{is_accepted, command_on, texts}
-use Rattle.modem_driver.specs.Calls.{seen, calls, frames, frames_by, asking, at_once, said_of, said_at_once, lines_said, tolds, told_later, states_now}
-use Rattle.modem_driver.specs.Lawful.{Lawful, Complete, owed}
-use Rattle.modem_driver.specs.Wholes.{is_first, CallGoesOn}
-use Rattle.modem_driver.specs.Serving.{Stands, replaying}
+use Rattle.modem_history.specs.Acts.{Act, Took, Sent, Given, after, wire, told, in_hand, without, is_for}
+use Rattle.modem_history.specs.Information.{is_accepted, command_on, texts}
+use Rattle.modem_history.specs.Calls.{seen, calls, frames, frames_by, asking, at_once, said_of, said_at_once, lines_said, tolds, told_later, states_now}
+use Rattle.modem_history.specs.Lawful.{Lawful, Complete, owed}
+use Rattle.modem_history.specs.Wholes.{is_first, CallGoesOn}
+use Rattle.modem_driver.specs.Serving.{Stands}
+use Rattle.modem_history.specs.Calls.{replaying}
 use Rattle.modem_driver.specs.Served.{Served, Suits, with_piece, refusal, is_served, is_at_opened, commands, left_of}
-use Rattle.modem_driver.proofs.WholeLaws.{call_goes_on}
+use Rattle.modem_history.proofs.WholeLaws.{call_goes_on}
 use Rattle.modem_driver.proofs.Calling.{now_zero, now_one, tolds_none, at_once_is}
 use Rattle.modem_driver.proofs.Laning.{own_open, took_other, told_keeps}
-use Rattle.modem_driver.proofs.Hands.{outcome_of, all_apart, without_apart, for_itself}
+use Rattle.modem_history.proofs.Hands.{outcome_of, all_apart, without_apart, for_itself}
 
 -- ## Any call
 

@@ -14,13 +14,14 @@ use Rattle.modem_desk.specs.declared.request.Answer.{Answer}
 use Rattle.modem_desk.specs.declared.request.Answer.TheVariants.{ControlChannel, NotOpen}
 use Rattle.modem_driver.specs.declared.stage.Stage.{Stage}
 use Rattle.modem_driver.specs.declared.stage.Stage.TheVariants as stage
-use Rattle.modem_driver.specs.Acts.{Act, Took, Sent, told}
-use Rattle.modem_driver.specs.Information.{command_on}
-use Rattle.modem_driver.specs.Served.{Served, Suits, MayTake, with_piece, taken, taken_by, entered, asked_by, said_more, in_hand_too, refusal, opening_refusal, is_served, is_at_opened, opening_on, is_none_open, commands, commands_on}
+use Rattle.modem_history.specs.Acts.{Act, Took, Sent, told}
+use Rattle.modem_history.specs.Information.{command_on}
+use Rattle.modem_driver.specs.Served.{Served, Suits, MayTake, with_piece, taken, taken_by, entered, asked_by, said_more, in_hand_too, refusal, opening_refusal, is_served, is_at_opened, opening_on, is_none_open, commands}
+use Rattle.modem_history.specs.Requests.{commands_on}
 use Rattle.modem_driver.proofs.Steps.{told_once}
 use Rattle.modem_driver.proofs.Opens.{kept_as, opens_zero, opens_one, no_command, filter_more}
 use Rattle.modem_driver.proofs.Commands.{command_facts, take_busy, take_idle, suits_rests, suits_none}
-use Rattle.modem_driver.proofs.Hands.{all_apart}
+use Rattle.modem_history.proofs.Hands.{all_apart}
 use Rattle.modem_driver.proofs.Fares.{Ready, ReadyStep, ready_by, no_next}
 
 -- what is said so far doesn't matter

@@ -3,7 +3,7 @@ use Rattle.std.specs.Prelude.{◌≡◌, ℕ, List, [], ◌∷◌, map, Option, 
 use Rattle.at_text.specs.OpenWindow as window
 use Rattle.modem_driver.specs.declared.engine.Engine.{Engine}
 use Rattle.modem_driver.specs.declared.engine.Placed.{Placed}
-use Rattle.modem_driver.specs.Acts.{act_of}
+use Rattle.modem_history.specs.Acts.{act_of}
 use Rattle.modem_driver.specs.Served.{Served}
 
 abbrev pub served_of : Engine → Served

@@ -2,8 +2,8 @@
 use Rattle.std.specs.Prelude.{◌≡◌, ℕ, List, ◌++◌}
 use Rattle.mux_frame.specs.Frames.{Frame}
 use Rattle.mux_frame.specs.Deframing.{Deframing, Deframes}
-use Rattle.modem_driver.specs.declared.act.Event.{Event}
-use Rattle.modem_driver.specs.declared.act.Event.TheVariants as event
+use Rattle.modem_driver.specs.declared.event.Event.{Event}
+use Rattle.modem_driver.specs.declared.event.Event.TheVariants as event
 use Rattle.modem_desk.specs.declared.request.Request.{Request}
 use Rattle.modem_driver.specs.Served.{Served, Takes, ArriveAll}
 

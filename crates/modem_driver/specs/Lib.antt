@@ -1,13 +1,6 @@
-pub mod Acts
-pub mod Information
-pub mod Placing
-pub mod Calls
-pub mod Lawful
-pub mod Wholes
 pub mod Serving
 pub mod Lane
 pub mod Served
 pub mod Engines
 pub mod Replays
-pub mod Rows
 pub mod Handles

@@ -5,13 +5,14 @@ use Rattle.mux_frame.specs.Frames.{Frame}
 use Rattle.mux_frame.specs.Reading.{Reads}
 use Rattle.mux_frame.specs.Deframing.{Deframing, Deframes}
 use Rattle.modem_desk.specs.declared.request.Request.{Request}
-use Rattle.modem_driver.specs.declared.act.Event.{Event}
-use Rattle.modem_driver.specs.declared.act.Event.TheVariants as event
-use Rattle.modem_driver.specs.Acts.{Act, Took, Got}
-use Rattle.modem_driver.specs.Calls.{Setting}
-use Rattle.modem_driver.specs.Lawful.{Lawful, Complete, Quiet}
-use Rattle.modem_driver.specs.Serving.{replaying}
-use Rattle.modem_driver.specs.Served.{Served, Suits, is_served, is_expected, is_apart, are_distinct, with_piece}
+use Rattle.modem_driver.specs.declared.event.Event.{Event}
+use Rattle.modem_driver.specs.declared.event.Event.TheVariants as event
+use Rattle.modem_history.specs.Acts.{Act, Took, Got}
+use Rattle.modem_history.specs.Calls.{Setting}
+use Rattle.modem_history.specs.Lawful.{Keeps}
+use Rattle.modem_history.specs.Calls.{replaying}
+use Rattle.modem_driver.specs.Served.{Served, Suits, is_served, is_expected, with_piece}
+use Rattle.modem_history.specs.Requests.{is_apart, are_distinct}
 
 -- ## Events
 
@@ -67,11 +68,6 @@ pub data Begins (n1 : ℕ) : List ℕ → List Event → List Act → Type 0 whe
       → Begins n1 heard (event.Octets x ∷ events) (map Got gs ++ firsts)
 
 -- ## The promise
-
-pub record Keeps (s : Setting) (past : List Act) : Type 0 where
-  pub lawful : Lawful s past
-  pub complete : Complete s past
-  pub quiet : Quiet s past
 
 -- after each piece the history so far is lawful, complete and quiet
 abbrev pub KeepsAlong : Setting → List Act → List Piece → Type 0

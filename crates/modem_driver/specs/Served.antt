@@ -1,5 +1,5 @@
 -- What the replay keeps between two calls, and which histories it fits.
-use Rattle.std.specs.Prelude.{◌≡◌, ℕ, ◌+◌, ◌<◌, ◌≤◌, ◌==◌, ◌&&◌, ◌||◌, not, nat_le, Bool, true, false, List, [], ◌∷◌, ◌++◌, length, filter, map, Option, Some, None, is_some, find, option_map, if◌then◌else◌}
+use Rattle.std.specs.Prelude.{◌≡◌, ℕ, ◌+◌, ◌<◌, ◌≤◌, ◌==◌, ◌&&◌, ◌||◌, nat_le, Bool, true, false, List, [], ◌∷◌, ◌++◌, length, filter, map, Option, Some, None, is_some, find, option_map, if◌then◌else◌}
 use Rattle.std.specs.List.{list_all, concat}
 use Rattle.mux_frame.specs.Frames.{Frame}
 use Rattle.mux_frame.specs.declared.frame.Kind.{Kind}
@@ -8,7 +8,7 @@ use Rattle.mux_station.specs.declared.role.Role.TheVariants.{Initiator}
 use Rattle.mux_station.specs.Written.{is_data_frame, written}
 use Rattle.mux_station.specs.Tables.{msc_frame, ready}
 use Rattle.at_text.specs.Lines.{lines, kept_run}
-use Rattle.at_text.specs.Windows.{Mark, Line, Begun, lines_of, answer, has_final, open_window}
+use Rattle.at_text.specs.Windows.{Mark, open_window}
 use Rattle.at_text.specs.declared.unsolicited.UrcKind.TheVariants.{Other}
 use Rattle.at_text.specs.declared.window.Seen as line_is
 use Rattle.at_text.specs.declared.window.Seen.TheVariants.{Echo, Kept, Unsolicited}
@@ -20,11 +20,14 @@ use Rattle.modem_desk.specs.declared.request.Answer.{Answer}
 use Rattle.modem_desk.specs.declared.request.Answer.TheVariants.{Opened, NotOpen, AlreadyOpen, ControlChannel, Busy}
 use Rattle.modem_driver.specs.declared.stage.Stage.{Stage}
 use Rattle.modem_driver.specs.declared.stage.Stage.TheVariants as stage
-use Rattle.modem_driver.specs.Acts.{Act, Took, Got, Sent, Heard, Given, after, told}
-use Rattle.modem_driver.specs.Information.{command_on, line_of, texts}
-use Rattle.modem_driver.specs.Calls.{done}
-use Rattle.modem_driver.specs.Lawful.{Lawful, owed}
-use Rattle.modem_driver.specs.Serving.{Holds, replaying}
+use Rattle.modem_history.specs.Acts.{Act, Took, Got, Sent, Heard, Given, after, told}
+use Rattle.modem_history.specs.Information.{line_of, texts}
+use Rattle.modem_history.specs.Requests.{is_apart, are_distinct, commands_on, without_first}
+use Rattle.modem_history.specs.Begun.{begun_count, IsInOrder}
+use Rattle.modem_history.specs.Calls.{done}
+use Rattle.modem_history.specs.Lawful.{Lawful, owed}
+use Rattle.modem_driver.specs.Serving.{Holds}
+use Rattle.modem_history.specs.Calls.{replaying}
 use Rattle.modem_driver.specs.Lane.{LaneIs}
 
 -- the stages of 0 and 1, the requests in hand, what is kept of 1's unfinished line, its window, and all acts so far
@@ -58,9 +61,6 @@ opening_on d _ = false
 abbrev pub opens_on : ℕ → Request → Bool
 opens_on d q = opening_on d q.ask
 
-abbrev pub commands_on : ℕ → Request → Bool
-commands_on d q = command_on d q.ask
-
 -- the commands on 1
 abbrev pub commands : List Request → List Request
 commands qs = filter (commands_on 1) qs
@@ -79,32 +79,7 @@ abbrev pub IsAwaited : Stage → List Request → Type 0
 IsAwaited stage.Opening qs = length qs ≡ 1
 IsAwaited _ qs = Unit {0}
 
--- of another caller, or of another number
-abbrev pub is_apart : Request → Request → Bool
-is_apart q r = not ((q.caller == r.caller) && (q.number == r.number))
-
--- no caller uses a number twice
-abbrev pub are_distinct : List Request → Bool
-are_distinct [] = true
-are_distinct (q ∷ qs) = list_all (is_apart q) qs && are_distinct qs
-
 -- ## Fits
-
-abbrev pub begun_count : List Mark → ℕ
-begun_count [] = 0
-begun_count (Line l ∷ ms) = begun_count ms
-begun_count (Begun c ∷ ms) = begun_count ms + 1
-
-abbrev pub has_begun : List Mark → Bool
-has_begun [] = false
-has_begun (Line l ∷ ms) = has_begun ms
-has_begun (Begun c ∷ ms) = true
-
--- where a later command has begun, an earlier one has its final code
-abbrev pub IsInOrder : List Mark → Type 0
-IsInOrder [] = Unit {0}
-IsInOrder (Line l ∷ ms) = IsInOrder ms
-IsInOrder (Begun c ∷ ms) = (has_begun ms ≡ true → has_final (answer c (lines_of ms)) ≡ true) × IsInOrder ms
 
 -- a command as it goes out
 abbrev pub text_of : Request → List ℕ
@@ -220,11 +195,6 @@ abbrev pub is_served : Ask → Bool
 is_served (OpenChannel d) = nat_le d.number 1
 is_served (Command d line) = nat_le d.number 1
 is_served _ = false
-
--- the first of a list that passes a test is left out
-abbrev pub without_first : (Request → Bool) → List Request → List Request
-without_first test [] = []
-without_first test (q ∷ qs) = if test q then qs else q ∷ without_first test qs
 
 -- ## Steps of the replay
 

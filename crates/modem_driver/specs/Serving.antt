@@ -6,8 +6,8 @@ use Rattle.mux_station.specs.Opening.{Standing, standings, is_open, since}
 use Rattle.mux_station.specs.States.{State, IsShut, IsOpening, IsOpened, states}
 use Rattle.mux_station.specs.Sending.{queue}
 use Rattle.modem_desk.specs.declared.request.Request.{Request}
-use Rattle.modem_driver.specs.Acts.{Act, wire, in_hand}
-use Rattle.modem_driver.specs.Calls.{Setting, is_lost}
+use Rattle.modem_history.specs.Acts.{Act, wire, in_hand}
+use Rattle.modem_history.specs.Calls.{is_lost}
 use Rattle.modem_driver.specs.declared.stage.Stage.{Stage}
 use Rattle.modem_driver.specs.declared.stage.Stage.TheVariants as stage
 use Rattle.mux_station.specs.Stopping.{last_said, got_says, msc_says, flow_says}
@@ -32,10 +32,6 @@ pub record Stands (zero one : Stage) (w : List station.Act) : Type 0 where
   pub no_stop : last_said (got_says (msc_says 1)) (since Initiator 1 w) ≡ false
   pub no_stop_of_all : last_said (got_says flow_says) (since Initiator 0 w) ≡ false
   pub no_other : (d : ℕ) → (d == 0) ≡ false → (d == 1) ≡ false → is_open Initiator d w ≡ false
-
--- a replay's history: an initiator that listens to every kind
-abbrev pub replaying : ℕ → Setting
-replaying n1 = record { role = Initiator; n1 = n1; listens = λ _. true }
 
 -- the line isn't lost, nothing waits in the control queue, 0 and 1 stand so, and these requests are in hand
 pub record Holds (zero one : Stage) (hand : List Request) (past : List Act) : Type 0 where

@@ -6,15 +6,16 @@ ghost use Rattle.mux_frame.specs.Frames.{frame_of, kept_frame};
 ghost use Rattle.mux_station.specs.declared.role.Role.TheVariants.{Initiator};
 ghost use Rattle.mux_station.specs.Written.{written};
 ghost use Rattle.mux_station.specs.Tables.{msc_frame, ready};
-ghost use Rattle.modem_driver.specs.Acts.{act_of, Heard};
-ghost use Rattle.modem_driver.specs.Information.{line_of};
-ghost use Rattle.modem_driver.specs.Served.{none_yet, refusal, opening_refusal, opens_on, commands_on, without_first, asked_by, said_more, said_one, taken, taken_by, entered, zero_answered, one_answered, opened_now, data_read, read_by, octets_read, octets_each_read, arrived, data_frames, SendsNext, SendsSome, Takes, Arrives};
+ghost use Rattle.modem_history.specs.Acts.{act_of, Heard};
+ghost use Rattle.modem_history.specs.Information.{line_of};
+ghost use Rattle.modem_driver.specs.Served.{none_yet, refusal, opening_refusal, opens_on, asked_by, said_more, said_one, taken, taken_by, entered, zero_answered, one_answered, opened_now, data_read, read_by, octets_read, octets_each_read, arrived, data_frames, SendsNext, SendsSome, Takes, Arrives};
+ghost use Rattle.modem_history.specs.Requests.{commands_on, without_first};
 ghost use Rattle.modem_driver.specs.Engines.{served_of, PlacedBy};
 
-use crate::act::Act;
 use crate::stage::Stage;
 use at_text::{CommandLine, LineReader, Seen, Text, UrcKind, Window};
 use modem_desk::{Answer, Ask, Outcome, Request, Urc};
+use modem_history::Act;
 use mux_frame::{Dlci, FrameBuf, FrameView, Info, Kind};
 use std::alloc::{AllocError, Global};
 

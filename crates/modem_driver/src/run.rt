@@ -1,14 +1,15 @@
 //! A replay of what came to the driver.
 ghost use Rattle.std.specs.Prelude.{◌≡◌, ◌≢◌, ◌↔◌, ◌<◌, ◌⊎◌, [], map, None, OnOk, IfOk, IsErrOf, Err};
-ghost use Rattle.modem_driver.specs.Acts.{act_of};
+ghost use Rattle.modem_history.specs.Acts.{act_of};
 ghost use Rattle.modem_driver.specs.Engines.{served_of};
 ghost use Rattle.modem_driver.specs.Handles.{Handles, Hears};
 ghost use Rattle.modem_driver.specs.Replays.{IsFirstRun, Replays};
 ghost use Rattle.modem_driver.specs.declared.error.CoreError.TheVariants as CoreError;
 
-use crate::act::{Act, Event};
 use crate::engine::Engine;
 use crate::error::CoreError;
+use crate::event::Event;
+use modem_history::Act;
 use mux_frame::{Deframer, FrameError};
 use std::alloc::{AllocError, Global};
 

@@ -4,8 +4,8 @@ use Rattle.std.proofs.Common.{sym, ap, arith, ◌∙◌}
 use Rattle.std.proofs.lemmas.Bool.{eqb-true, false≢true}
 use Rattle.std.proofs.lemmas.List.{append_assoc, append-nil}
 use Rattle.modem_desk.specs.declared.request.Request.{Request}
-use Rattle.modem_driver.specs.declared.act.Event.{Event}
-use Rattle.modem_driver.specs.declared.act.Event.TheVariants as event
+use Rattle.modem_driver.specs.declared.event.Event.{Event}
+use Rattle.modem_driver.specs.declared.event.Event.TheVariants as event
 use Rattle.modemctl.specs.declared.script.Order.TheVariants as order
 use Rattle.modemctl.specs.Input.{input_lines}
 use Rattle.modemctl.specs.Script.{IsNoOrder, IsScript, Says}

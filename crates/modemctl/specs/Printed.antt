@@ -3,9 +3,9 @@ use Rattle.std.specs.Prelude.{◌≡◌, ℕ, List, Option, Some, IfSome}
 use Rattle.std.specs.Io.KnownBytes.{Appends}
 use Rattle.mux_frame.specs.Frames.{Frame}
 use Rattle.mux_frame.specs.Reading.{Reads}
-use Rattle.modem_driver.specs.Acts.{Act}
+use Rattle.modem_history.specs.Acts.{Act}
 use Rattle.modem_driver.specs.Replays.{IsFirstRun, Replays}
-use Rattle.modem_driver.specs.declared.act.Event.{Event}
+use Rattle.modem_driver.specs.declared.event.Event.{Event}
 use Rattle.modemctl.specs.Dump.{dump_octets}
 use Rattle.modemctl.specs.Input.{input_lines}
 use Rattle.modemctl.specs.Script.{IsScript}

@@ -3,8 +3,8 @@ use Rattle.std.specs.Prelude.{◌≡◌, ◌≢◌, ℕ, ◌+◌, ◌/◌, ◌%�
 use Rattle.hex.specs.Hex.{decode_of}
 use Rattle.at_text.specs.Commands.{refusal_of}
 use Rattle.modem_desk.specs.declared.request.Ask.TheVariants as ask
-use Rattle.modem_driver.specs.declared.act.Event.{Event}
-use Rattle.modem_driver.specs.declared.act.Event.TheVariants as event
+use Rattle.modem_driver.specs.declared.event.Event.{Event}
+use Rattle.modem_driver.specs.declared.event.Event.TheVariants as event
 use Rattle.modemctl.specs.Input.{input_lines}
 use Rattle.modemctl.specs.declared.script.Order.{Order}
 use Rattle.modemctl.specs.declared.script.Order.TheVariants as order

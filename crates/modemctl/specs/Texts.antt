@@ -13,7 +13,7 @@ use Rattle.modem_desk.specs.declared.request.Ask.{Ask}
 use Rattle.modem_desk.specs.declared.request.Ask.TheVariants as ask
 use Rattle.modem_desk.specs.declared.request.Answer.{Answer}
 use Rattle.modem_desk.specs.declared.request.Answer.TheVariants as answer
-use Rattle.modem_driver.specs.Acts.{Act}
+use Rattle.modem_history.specs.Acts.{Act}
 
 abbrev pub kind_text : Kind → List ℕ
 kind_text Kind.Sabm = codes "SABM"

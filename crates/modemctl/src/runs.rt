@@ -4,7 +4,7 @@ ghost use Rattle.std.specs.Io.KnownBytes.{Appends};
 ghost use Rattle.std.specs.String.{string_bytes};
 ghost use Rattle.mux_frame.specs.Frames.{kept_frame};
 ghost use Rattle.mux_frame.specs.Reading.{Reads};
-ghost use Rattle.modem_driver.specs.Acts.{act_of};
+ghost use Rattle.modem_history.specs.Acts.{act_of};
 ghost use Rattle.modem_driver.specs.Replays.{IsFirstRun, Replays};
 ghost use Rattle.modemctl.specs.Dump.{IsDumpText, IsNoDump};
 ghost use Rattle.modemctl.specs.Input.{HasBad, IsFirstBad, input_lines};

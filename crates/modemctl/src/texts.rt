@@ -5,7 +5,7 @@ ghost use Rattle.std.specs.String.{string_bytes};
 ghost use Rattle.hex.specs.Hex.{encode_lower};
 ghost use Rattle.mux_frame.specs.Frames.{frame_of, kept_frame};
 ghost use Rattle.mux_frame.specs.Spelling.{spelled};
-ghost use Rattle.modem_driver.specs.Acts.{Act as DriverAct, act_of};
+ghost use Rattle.modem_history.specs.Acts.{Act as DriverAct, act_of};
 ghost use Rattle.modemctl.specs.Texts.{act_text, acts_text, answer_line_text, answer_text, ask_text, frame_text, frames_text, kind_text, line_text, octets_text, rest_text, urc_text};
 
 use at_text::{AnswerLine, UrcKind};

@@ -1,9 +1,9 @@
 -- The request that is found is a command.
 use Rattle.std.specs.Option.{option_copied}
 use Rattle.std.proofs.Common.{sym, ◌∙◌, ap}
-use Rattle.modem_driver.specs.Served.{commands_on}
+use Rattle.modem_history.specs.Requests.{commands_on}
 use Rattle.modem_driver.proofs.Engining.{line_found}
-use Rattle.modem_driver.proofs.Hands.{found_tests}
+use Rattle.modem_history.proofs.Hands.{found_tests}
 use Rattle.modem_driver.proofs.engine.next_line.Goals as goal
 
 pub returns-in_default : goal.returns-in_default

@@ -1,6 +1,6 @@
 use Rattle.std.specs.Prelude.{map}
 use Rattle.std.specs.String.{string_bytes}
-use Rattle.modem_driver.specs.Acts.{act_of}
+use Rattle.modem_history.specs.Acts.{act_of}
 use Rattle.modemctl.specs.Printed.{IsReplayed}
 use Rattle.modemctl.proofs.Ends.{at_known}
 use Rattle.modemctl.proofs.runs.replayed.Goals as goal

@@ -1,7 +1,7 @@
 use Rattle.std.specs.Prelude.{◌≡◌, map, take}
 use Rattle.std.specs.List.{flat_map}
 use Rattle.std.specs.String.{string_bytes}
-use Rattle.modem_driver.specs.Acts.{act_of}
+use Rattle.modem_history.specs.Acts.{act_of}
 use Rattle.modemctl.specs.Texts.{act_text}
 use Rattle.modemctl.proofs.texts.acts_text.Given as goal
 

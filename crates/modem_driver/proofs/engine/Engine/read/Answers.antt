@@ -2,7 +2,8 @@
 use Rattle.std.specs.Prelude.{List, IsNone}
 use Rattle.std.proofs.Common.{◌∙◌, ap, subst, rules}
 use Rattle.modem_desk.specs.declared.request.Request.{Request}
-use Rattle.modem_driver.specs.Served.{Served, without_first, commands_on, octets_each_read}
+use Rattle.modem_driver.specs.Served.{Served, octets_each_read}
+use Rattle.modem_history.specs.Requests.{without_first, commands_on}
 use Rattle.modem_driver.specs.Engines.{served_of}
 use Rattle.modem_driver.proofs.Engining.{read_done}
 use Rattle.modem_driver.proofs.engine.Engine.read.Goals as goal

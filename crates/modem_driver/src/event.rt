@@ -1,0 +1,50 @@
+//! What comes to the driver.
+ghost use Rattle.std.specs.Prelude.{◌≡◌};
+
+use modem_desk::Request;
+use std::marker::Model;
+
+/// Octets of the line.
+#[derive(Drop, Debug)]
+pub struct Octets {
+    octets: Vec<u8>,
+}
+
+impl Model for Octets {
+    ghost use Rattle.std.specs.Prelude.{ℕ, List};
+
+    ghost Value = { List ℕ };
+
+    ghost view = { λ o. o.octets.items };
+}
+
+impl Octets {
+    /// These octets.
+    pub fn from_vec(octets: Vec<u8>) -> Octets
+        ensures { result ≡ octets.items }
+    {
+        Octets { octets }
+    }
+
+    /// The octets, lent.
+    pub fn as_slice(&self) -> &[u8]
+        ensures { result.now ≡ self.now }
+    {
+        self.octets.as_slice()
+    }
+
+    /// The octets, without taking memory.
+    pub fn into_vec(self) -> Vec<u8>
+        ensures { result.items ≡ self }
+    {
+        let Octets { octets } = self;
+        octets
+    }
+}
+
+/// What comes to the driver.
+#[derive(Drop, Debug)]
+pub enum Event {
+    Ask(Request),
+    Octets(Octets),
+}

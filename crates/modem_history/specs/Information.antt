@@ -1,0 +1,74 @@
+-- Information of a connection and the commands that were accepted on it, read over the past.
+use Rattle.std.specs.Prelude.{ℕ, ◌==◌, ◌&&◌, not, nat_lt, Bool, false, List, [], ◌∷◌, ◌++◌, length, map, Option, Some, None, if◌then◌else◌}
+use Rattle.mux_frame.specs.Frames.{Frame}
+use Rattle.mux_frame.specs.declared.frame.Kind.TheVariants.{Uih}
+use Rattle.mux_station.specs.declared.role.Role.{Role}
+use Rattle.mux_station.specs.Written.{is_on}
+use Rattle.mux_station.specs.Acts as station
+use Rattle.mux_station.specs.Opening.{since, is_open, opens_now}
+use Rattle.modem_desk.specs.declared.request.Ask.{Ask}
+use Rattle.modem_desk.specs.declared.request.Ask.TheVariants.{Command}
+use Rattle.modem_desk.specs.declared.request.Request.{Request}
+use Rattle.modem_history.specs.Acts.{Act, Took, wire_act, wire, in_hand}
+
+-- the frame carries information on d; on 0 there is none
+abbrev pub carries : ℕ → Frame → Bool
+carries d f = not (d == 0) && is_on Uih d f
+
+-- the information that it carries
+abbrev pub info_of : ℕ → Frame → List ℕ
+info_of d f = if carries d f then f.info else []
+
+-- the information of the UIH frames on d that came among the acts (newest first), joined
+abbrev pub info_got : ℕ → List station.Act → List ℕ
+info_got d [] = []
+info_got d (station.Got f ∷ acts) = info_got d acts ++ info_of d f
+info_got d (_ ∷ acts) = info_got d acts
+
+-- the same of those that were sent
+abbrev pub info_sent : ℕ → List station.Act → List ℕ
+info_sent d [] = []
+info_sent d (station.Sent f ∷ acts) = info_sent d acts ++ info_of d f
+info_sent d (_ ∷ acts) = info_sent d acts
+
+-- information in, and out, of d since it opened
+abbrev pub information_in : Role → ℕ → List Act → List ℕ
+information_in r d past = info_got d (since r d (wire past))
+
+abbrev pub information_out : Role → ℕ → List Act → List ℕ
+information_out r d past = info_sent d (since r d (wire past))
+
+-- the request is a command on d
+abbrev pub command_on : ℕ → Ask → Bool
+command_on d (Command e line) = e.number == d
+command_on d _ = false
+
+-- the act opens d
+abbrev pub opens_by : Role → ℕ → List Act → Option station.Act → Bool
+opens_by r d past None = false
+opens_by r d past (Some a) = opens_now r d (wire past) a
+
+abbrev pub opens_here : Role → ℕ → List Act → Act → Bool
+opens_here r d past a = opens_by r d past (wire_act a)
+
+-- a command taken while d is open is accepted, but for one that is told Busy since 128 requests are in hand
+abbrev pub is_accepted : Role → ℕ → List Act → Request → Bool
+is_accepted r d past q = is_open r d (wire past) && (command_on d q.ask && nat_lt (length (in_hand past)) 128)
+
+-- the commands that were accepted on d since it opened, in order
+abbrev pub accepted : Role → ℕ → List Act → List Request
+accepted r d [] = []
+accepted r d (Took q ∷ past) = if is_accepted r d past q then accepted r d past ++ q ∷ [] else accepted r d past
+accepted r d (a ∷ past) = if opens_here r d past a then [] else accepted r d past
+
+abbrev pub line_in : Ask → List ℕ
+line_in (Command d line) = line
+line_in _ = []
+
+-- the text of the command
+abbrev pub line_of : Request → List ℕ
+line_of q = line_in q.ask
+
+-- commands as they go out: each its text and CR
+abbrev pub texts : List Request → List (List ℕ)
+texts qs = map (λ (q : Request). line_of q ++ 13 ∷ []) qs

@@ -1,0 +1,9 @@
+pub mod Acts
+pub mod Information
+pub mod Placing
+pub mod Requests
+pub mod Begun
+pub mod Calls
+pub mod Lawful
+pub mod Wholes
+pub mod Rows
