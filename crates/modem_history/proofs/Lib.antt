@@ -2,6 +2,7 @@ pub mod Said
 pub mod WholeLaws
 pub mod Leaving
 pub mod Losing
+pub mod Shut
 pub mod Outcomes
 pub mod Begins
 pub mod Counts
@@ -20,4 +21,5 @@ pub mod OwningTook
 pub mod OwningGot
 pub mod InSteps
 pub mod Owns
+pub mod Decided
 pub mod RowFacts

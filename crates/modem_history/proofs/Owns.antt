@@ -1,5 +1,5 @@
 -- Each answer that is told is that of the request's own command.
-use Rattle.std.specs.Prelude.{◌≡◌, ℕ, ◌+◌, ◌≤◌, ◌==◌, ◌&&◌, ◌||◌, Bool, true, false, List, [], ◌∷◌, ◌++◌, length, map, take, refl, if◌then◌else◌, Option, Some, None}
+use Rattle.std.specs.Prelude.{◌≡◌, ℕ, ◌+◌, ◌≤◌, ◌==◌, ◌&&◌, Bool, true, false, List, [], ◌∷◌, ◌++◌, length, map, take, refl, if◌then◌else◌, Option, Some, None, is_some}
 use Rattle.std.specs.List.{last_or}
 use Rattle.std.proofs.Common.{ap, sym, ◌∙◌, subst, arith, append-nil}
 use Rattle.std.proofs.lemmas.Bool.{and_parts}
@@ -21,11 +21,12 @@ use Rattle.modem_desk.specs.declared.request.Outcome.{Outcome}
 use Rattle.modem_history.specs.Acts.{Act, Took, Got, Sent, Told, Heard, Tick, Lost, Held, Freed, Given, wire, in_hand}
 use Rattle.modem_history.specs.Information.{accepted, information_out, line_of, texts}
 use Rattle.modem_history.specs.Placing.{marks, run_on, whole_in, whole_after}
-use Rattle.modem_history.specs.Calls.{Setting, seen, is_lost, is_loss, states_now, frames, calls, calls_behind, said_at_once, lines_said, by_lines, by_seen, first_on, tolds}
-use Rattle.modem_history.specs.Lawful.{Lawful, owed}
+use Rattle.modem_history.specs.Calls.{Setting, seen, is_lost, states_now, frames, calls, calls_behind, said_at_once, lines_said, by_lines, by_seen, first_on, tolds}
+use Rattle.modem_history.specs.Lawful.{Lawful, owed, unsent}
 use Rattle.modem_history.specs.Begun.{begun_count}
 use Rattle.modem_history.specs.Wholes.{called, stands, taken, begun_in, commands_for, CompleteCalls, IsOwnAnswer, HasOwnAnswer, TellsOwn}
 use Rattle.modem_history.proofs.WholeLaws.{beginning}
+use Rattle.modem_history.proofs.Shut.{none_open}
 use Rattle.modem_history.proofs.Outcomes.{lawful_part, closed_tells_none, stays_closed, not_zero}
 use Rattle.modem_history.proofs.Hands.{for_itself}
 use Rattle.modem_history.proofs.Begins as begins
@@ -55,6 +56,7 @@ record Next (s : Setting) (d : ℕ) (past : List Act) (r : Request) : Type 0 whe
   accepted_are : accepted s.role d past ≡ before ++ r ∷ later
   answered_are : answered (marks s.role d past) ≡ length before
   begun : begun_in (marks s.role d past) ≡ map line_of before ++ line_of r ∷ []
+  was_open : is_some (open_window (marks s.role d past)) ≡ true
 
 tail_of : (cs : List Request) (r : Request) → Some r ≡ head_of cs → (later : List Request) × (cs ≡ r ∷ later)
 tail_of [] r e = cc
@@ -84,6 +86,7 @@ next_by s d past r w l k o e h =
       accepted_are = accepts;
       answered_are = ans;
       begun = b.first ∙ (ap (map line_of) front ∙ map-append line_of i.before (r ∷ []));
+      was_open = ap (λ (v : Option Window). is_some v) e;
     }
 
 begun_still : (ms : List Mark) (ls : List (List ℕ)) → begun_in (ms ++ map Line ls) ≡ begun_in ms
@@ -99,6 +102,8 @@ owns s past f r ls n h =
       later = n.later;
       accepted_are = n.accepted_are;
       answered_are = n.answered_are;
+      begun_are = n.begun;
+      was_open = n.was_open;
       ends = record { count = h.count; window = h.ends.window; is_last = h.ends.is_last; ended = h.ends.ended; answer = h.ends.answer };
       own = last_command None (windows (ms ++ map Line (take h.count all))) h.ends.window (map line_of n.before) (line_of r) h.ends.is_last (begun_still ms (take h.count all) ∙ n.begun);
     }
@@ -168,9 +173,9 @@ one_owned s a past e h k =
     (subst (λ (owing : List Act). AllTell (Owned s (a ∷ past)) (calls_behind s past owing a)) (sym e) h)
 
 -- data on 0 there is none
-got_owned : (s : Setting) → s.role ≡ Initiator → (past : List Act) (f : Frame) → Lawful s past → CompleteCalls s past → Few (taken past) → is_lost past ≡ false → owed s past ≡ []
+live_owned : (s : Setting) → s.role ≡ Initiator → (past : List Act) (f : Frame) → Lawful s past → CompleteCalls s past → Few (taken past) → is_lost past ≡ false → owed s past ≡ []
     → AllTell (Owned s (Got f ∷ past)) (lines_said s (seen s past) (Got f))
-got_owned s r past f l c u n e = by_zero (f.dlci == 0) refl
+live_owned s r past f l c u n e = by_zero (f.dlci == 0) refl
   where
     none_on_zero : (b x : Bool) (acts : List Act) → x ≡ false → AllTell (Owned s (Got f ∷ past)) (if b && x then acts else [])
     none_on_zero true x acts h = subst (λ (y : Bool). AllTell (Owned s (Got f ∷ past)) (if y then acts else [])) (sym h) tt
@@ -184,19 +189,45 @@ got_owned s r past f l c u n e = by_zero (f.dlci == 0) refl
     by_zero false z = frame_owned s past f l (here s f.dlci past e (kept_all s r past l c u n f.dlci z))
     by_zero true z = none_on_zero (is_opened ((seen s past).state f.dlci)) (is_data_frame f) _ (no_data (is_data_frame f) refl z)
 
-owned : (s : Setting) → s.role ≡ Initiator → (past : List Act) → Lawful s past → CompleteCalls s past → Few (taken past) → is_lost past ≡ false → AllTell (Owned s past) (called s past)
+-- once the line is lost no line is read
+lost_owned : (s : Setting) → s.role ≡ Initiator → (past : List Act) (f : Frame) → Lawful s past → is_lost past ≡ true → AllTell (Owned s (Got f ∷ past)) (lines_said s (seen s past) (Got f))
+lost_owned s r past f l n = unread (is_opened ((seen s past).state f.dlci)) (opened_is_open s.role (wire past) f.dlci ∙ none_open s f.dlci past r l n)
+  where
+    unread : (b : Bool) → b ≡ false
+        → AllTell (Owned s (Got f ∷ past)) (if b && is_data_frame f then by_lines s f.dlci (first_on f.dlci (in_hand past)) (marks s.role f.dlci past) (lines (run_on s.role f.dlci past ++ f.info)) else [])
+    unread false h = tt
+    unread true h = cc
+
+got_owned : (s : Setting) → s.role ≡ Initiator → (past : List Act) (f : Frame) → Lawful s past → CompleteCalls s past → Few (taken past) → owed s past ≡ []
+    → AllTell (Owned s (Got f ∷ past)) (lines_said s (seen s past) (Got f))
+got_owned s r past f l c u e = by_loss (is_lost past) refl
+  where
+    by_loss : (b : Bool) → is_lost past ≡ b → AllTell (Owned s (Got f ∷ past)) (lines_said s (seen s past) (Got f))
+    by_loss true n = lost_owned s r past f l n
+    by_loss false n = live_owned s r past f l c u n e
+
+-- a loss of the line where nothing was owed
+loss_owned : (s : Setting) (past : List Act) → Lawful s past → owed s past ≡ [] → AllTell (Owned s past) (called s past) → AllTell (Owned s (Lost ∷ past)) (called s (Lost ∷ past))
+loss_owned s past l e k =
+    let P = Owned s (Lost ∷ past) in
+    let stood : stands past ≡ called s past = sym (append-nil (stands past)) ∙ (ap (λ (v : List Act). stands past ++ v) (sym e) ∙ beginning s past l) in
+    tell_both P (stands past) (unsent (owed s past) ++ calls_behind s past (owed s past) Lost)
+    (subst (λ (acts : List Act). AllTell P acts) (sym stood) (more_owned s Lost past k))
+    (subst (λ (owing : List Act). AllTell P (unsent owing ++ calls_behind s past owing Lost)) (sym e) (call_owned s past Lost tt))
+
+owned : (s : Setting) → s.role ≡ Initiator → (past : List Act) → Lawful s past → CompleteCalls s past → Few (taken past) → AllTell (Owned s past) (called s past)
 unfolding Lawful
-owned s r [] l c u n = tt
-owned s r (Sent f ∷ past) l c u n = more_owned s (Sent f) past (owned s r past l.1 c.1 u n)
-owned s r (Told o ∷ past) l c u n = more_owned s (Told o) past (owned s r past l.1 c.1 u n)
-owned s r (Heard k d line ∷ past) l c u n = more_owned s (Heard k d line) past (owned s r past l.1 c.1 u n)
-owned s r (Given ∷ past) l c u n = more_owned s Given past (owned s r past l.1 c.1 u n)
-owned s r (Took q ∷ past) l c u n = one_owned s (Took q) past (c.0 refl) (call_owned s past (Took q) tt) (owned s r past l.1 c.1 (few_before past q u) n)
-owned s r (Got f ∷ past) l c u n = one_owned s (Got f) past (c.0 refl) (call_owned s past (Got f) (got_owned s r past f l.1 c.1 u n (c.0 refl))) (owned s r past l.1 c.1 u n)
-owned s r (Tick ∷ past) l c u n = one_owned s Tick past (c.0 refl) (call_owned s past Tick tt) (owned s r past l.1 c.1 u n)
-owned s r (Held d ∷ past) l c u n = one_owned s (Held d) past (c.0 refl) (call_owned s past (Held d) tt) (owned s r past l.1 c.1 u n)
-owned s r (Freed d ∷ past) l c u n = one_owned s (Freed d) past (c.0 refl) (call_owned s past (Freed d) tt) (owned s r past l.1 c.1 u n)
-owned s r (Lost ∷ past) l c u n = absurd (let x : true ≡ false = n in cc)
+owned s r [] l c u = tt
+owned s r (Sent f ∷ past) l c u = more_owned s (Sent f) past (owned s r past l.1 c.1 u)
+owned s r (Told o ∷ past) l c u = more_owned s (Told o) past (owned s r past l.1 c.1 u)
+owned s r (Heard k d line ∷ past) l c u = more_owned s (Heard k d line) past (owned s r past l.1 c.1 u)
+owned s r (Given ∷ past) l c u = more_owned s Given past (owned s r past l.1 c.1 u)
+owned s r (Took q ∷ past) l c u = one_owned s (Took q) past (c.0 refl) (call_owned s past (Took q) tt) (owned s r past l.1 c.1 (few_before past q u))
+owned s r (Got f ∷ past) l c u = one_owned s (Got f) past (c.0 refl) (call_owned s past (Got f) (got_owned s r past f l.1 c.1 u (c.0 refl))) (owned s r past l.1 c.1 u)
+owned s r (Tick ∷ past) l c u = one_owned s Tick past (c.0 refl) (call_owned s past Tick tt) (owned s r past l.1 c.1 u)
+owned s r (Held d ∷ past) l c u = one_owned s (Held d) past (c.0 refl) (call_owned s past (Held d) tt) (owned s r past l.1 c.1 u)
+owned s r (Freed d ∷ past) l c u = one_owned s (Freed d) past (c.0 refl) (call_owned s past (Freed d) tt) (owned s r past l.1 c.1 u)
+owned s r (Lost ∷ past) l c u = loss_owned s past l.1 (c.0 refl) (owned s r past l.1 c.1 u)
 
 -- what holds of a history holds of its older part
 calls_part : (s : Setting) (newer older : List Act) → CompleteCalls s (newer ++ older) → CompleteCalls s older
@@ -219,26 +250,17 @@ few_part : (newer older : List Act) → Few (taken (newer ++ older)) → Few (ta
 few_part [] older h = h
 few_part (a ∷ newer) older h = few_part newer older (few_one (newer ++ older) a h)
 
-live_one : (b c : Bool) → (b || c) ≡ false → c ≡ false
-live_one false c h = h
-live_one true c h = cc
-
-live_part : (newer older : List Act) → is_lost (newer ++ older) ≡ false → is_lost older ≡ false
-live_part [] older h = h
-live_part (a ∷ newer) older h = live_part newer older (live_one (is_loss a) (is_lost (newer ++ older)) h)
-
-told_owned : (s : Setting) → s.role ≡ Initiator → (older : List Act) (o : Outcome) → Lawful s (Told o ∷ older) → CompleteCalls s older → Few (taken older) → is_lost older ≡ false
+told_owned : (s : Setting) → s.role ≡ Initiator → (older : List Act) (o : Outcome) → Lawful s (Told o ∷ older) → CompleteCalls s older → Few (taken older)
     → (ls : List AnswerLine) → o.answer ≡ Done ls → HasOwnAnswer s older o ls
 unfolding Lawful
-told_owned s r older o l c u n ls d =
-    let all = subst (λ (acts : List Act). AllTell (Owned s older) acts) (sym (beginning s older l.1)) (owned s r older l.1 c u n) in
+told_owned s r older o l c u ls d =
+    let all = subst (λ (acts : List Act). AllTell (Owned s older) acts) (sym (beginning s older l.1)) (owned s r older l.1 c u) in
     first_tells (Owned s older) o (owed s older) l.0.answered.later l.0.answered.is_next (tell_right (Owned s older) (stands older) (owed s older) all) ls d
 
 pub tells_own : (s : Setting) (past : List Act) → Lawful s past → TellsOwn s past
 unfolding TellsOwn
-tells_own s past l r c u n newer older o ls e d =
+tells_own s past l r c u newer older o ls e d =
     let part : Lawful s (Told o ∷ older) = lawful_part s newer (Told o ∷ older) (subst (λ (acts : List Act). Lawful s acts) e l) in
     let calls_so = calls_part s newer (Told o ∷ older) (subst (λ (acts : List Act). CompleteCalls s acts) e c) in
     let few_so = few_part newer (Told o ∷ older) (subst (λ (acts : List Act). Few (taken acts)) e (few_once (taken past) u)) in
-    let live_so = live_part newer (Told o ∷ older) (ap is_lost (sym e) ∙ n) in
-    told_owned s r older o part calls_so.1 few_so live_so ls d
+    told_owned s r older o part calls_so.1 few_so ls d

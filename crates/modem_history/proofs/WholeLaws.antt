@@ -7,8 +7,9 @@ use Rattle.mux_frame.specs.Frames.{Frame}
 use Rattle.mux_station.specs.Written.{is_data_frame}
 use Rattle.modem_history.specs.Acts.{Act, Took, Got, Sent, Told, Heard, Tick, Lost, Held, Freed, Given, after}
 use Rattle.modem_history.specs.Calls.{Setting, calls, calls_behind, seen}
-use Rattle.modem_history.specs.Lawful.{Lawful, Complete, Allows, IsNext, When, unsent, owed}
-use Rattle.modem_history.specs.Wholes.{called, stands, IsBeginning, is_said, GoesOn, CallGoesOn}
+use Rattle.modem_history.specs.Holding.{OnHeld}
+use Rattle.modem_history.specs.Lawful.{owes_frame, Lawful, Complete, Allows, IsNext, When, unsent, owed}
+use Rattle.modem_history.specs.Wholes.{is_first, called, stands, IsBeginning, is_said, GoesOn, CallGoesOn}
 use Rattle.modem_history.proofs.Said.{calls_said}
 
 dropped : (owing acts : List Act) (a : Act) → owing ≡ a ∷ acts → drop 1 owing ≡ acts
@@ -76,6 +77,9 @@ pays s past (Sent f ∷ acts) rest h p l =
         controlled = when_is (not (is_data_frame f)) (IsNext (owed s past) (Sent f)) (record { later = acts ++ rest; is_next = h });
         answered = tt;
         heard = tt;
+        prompt = tt;
+        held = tt;
+        marked = tt;
       },
       l,
     )
@@ -88,6 +92,9 @@ pays s past (Told o ∷ acts) rest h p l =
         controlled = tt;
         answered = record { later = acts ++ rest; is_next = h };
         heard = tt;
+        prompt = tt;
+        held = tt;
+        marked = tt;
       },
       l,
     )
@@ -100,6 +107,9 @@ pays s past (Heard k d line ∷ acts) rest h p l =
         controlled = tt;
         answered = tt;
         heard = record { later = acts ++ rest; is_next = h };
+        prompt = tt;
+        held = tt;
+        marked = tt;
       },
       l,
     )
@@ -124,15 +134,32 @@ unsent_none : (owing : List Act) → owing ≡ [] → unsent owing ≡ owing
 unsent_none [] e = refl
 unsent_none (a ∷ owing) e = cc
 
+none_owes : (owing : List Act) → owing ≡ [] → owes_frame owing ≡ false
+none_owes [] e = refl
+none_owes (a ∷ owing) e = cc
+
+-- an act that a call begins with is allowed where nothing is owed
+first_allowed : (s : Setting) (past : List Act) (a : Act) → is_first a ≡ true → OnHeld s.role past a → owed s past ≡ [] → Allows s past (owed s past) a
+first_allowed s past (Took r) b h c = record { gated = tt; once = tt; in_turn = tt; controlled = tt; answered = tt; heard = tt; prompt = none_owes (owed s past) c; held = h; marked = tt }
+first_allowed s past (Got f) b h c = record { gated = tt; once = tt; in_turn = tt; controlled = tt; answered = tt; heard = tt; prompt = none_owes (owed s past) c; held = h; marked = tt }
+first_allowed s past Tick b h c = record { gated = tt; once = tt; in_turn = tt; controlled = tt; answered = tt; heard = tt; prompt = none_owes (owed s past) c; held = h; marked = tt }
+first_allowed s past Lost b h c = record { gated = tt; once = tt; in_turn = tt; controlled = tt; answered = tt; heard = tt; prompt = tt; held = h; marked = tt }
+first_allowed s past (Held d) b h c = record { gated = tt; once = tt; in_turn = tt; controlled = tt; answered = tt; heard = tt; prompt = none_owes (owed s past) c; held = h; marked = tt }
+first_allowed s past (Freed d) b h c = record { gated = tt; once = tt; in_turn = tt; controlled = tt; answered = tt; heard = tt; prompt = none_owes (owed s past) c; held = h; marked = tt }
+first_allowed s past (Sent f) b h c = absurd (let e : false ≡ true = b in cc)
+first_allowed s past (Told f) b h c = absurd (let e : false ≡ true = b in cc)
+first_allowed s past (Heard k d line) b h c = absurd (let e : false ≡ true = b in cc)
+first_allowed s past Given b h c = absurd (let e : false ≡ true = b in cc)
+
 pub call_goes_on : (s : Setting) (past : List Act) (a : Act) → CallGoesOn s past a
 unfolding CallGoesOn Complete
-call_goes_on s past (Took r) b l c = paid s past (Took r) refl (record { gated = tt; once = tt; in_turn = tt; controlled = tt; answered = tt; heard = tt }) (calls_said s (seen s past) (Took r)) l c
-call_goes_on s past (Got f) b l c = paid s past (Got f) refl (record { gated = tt; once = tt; in_turn = tt; controlled = tt; answered = tt; heard = tt }) (calls_said s (seen s past) (Got f)) l c
-call_goes_on s past Tick b l c = paid s past Tick refl (record { gated = tt; once = tt; in_turn = tt; controlled = tt; answered = tt; heard = tt }) (calls_said s (seen s past) Tick) l c
-call_goes_on s past Lost b l c = paid s past Lost (ap (λ (v : List Act). v ++ calls_behind s past (owed s past) Lost) (unsent_none (owed s past) c)) (record { gated = tt; once = tt; in_turn = tt; controlled = tt; answered = tt; heard = tt }) (calls_said s (seen s past) Lost) l c
-call_goes_on s past (Held d) b l c = paid s past (Held d) refl (record { gated = tt; once = tt; in_turn = tt; controlled = tt; answered = tt; heard = tt }) (calls_said s (seen s past) (Held d)) l c
-call_goes_on s past (Freed d) b l c = paid s past (Freed d) refl (record { gated = tt; once = tt; in_turn = tt; controlled = tt; answered = tt; heard = tt }) (calls_said s (seen s past) (Freed d)) l c
-call_goes_on s past (Sent f) b l c = absurd (let e : false ≡ true = b in cc)
-call_goes_on s past (Told f) b l c = absurd (let e : false ≡ true = b in cc)
-call_goes_on s past (Heard k d line) b l c = absurd (let e : false ≡ true = b in cc)
-call_goes_on s past Given b l c = absurd (let e : false ≡ true = b in cc)
+call_goes_on s past (Took r) b h l c = paid s past (Took r) refl (first_allowed s past (Took r) b h c) (calls_said s (seen s past) (Took r)) l c
+call_goes_on s past (Got f) b h l c = paid s past (Got f) refl (first_allowed s past (Got f) b h c) (calls_said s (seen s past) (Got f)) l c
+call_goes_on s past Tick b h l c = paid s past Tick refl (first_allowed s past Tick b h c) (calls_said s (seen s past) Tick) l c
+call_goes_on s past (Held d) b h l c = paid s past (Held d) refl (first_allowed s past (Held d) b h c) (calls_said s (seen s past) (Held d)) l c
+call_goes_on s past (Freed d) b h l c = paid s past (Freed d) refl (first_allowed s past (Freed d) b h c) (calls_said s (seen s past) (Freed d)) l c
+call_goes_on s past Lost b h l c = paid s past Lost (ap (λ (v : List Act). v ++ calls_behind s past (owed s past) Lost) (unsent_none (owed s past) c)) (first_allowed s past Lost b h c) (calls_said s (seen s past) Lost) l c
+call_goes_on s past (Sent f) b h l c = absurd (let e : false ≡ true = b in cc)
+call_goes_on s past (Told f) b h l c = absurd (let e : false ≡ true = b in cc)
+call_goes_on s past (Heard k d line) b h l c = absurd (let e : false ≡ true = b in cc)
+call_goes_on s past Given b h l c = absurd (let e : false ≡ true = b in cc)

@@ -7,9 +7,11 @@ use Rattle.mux_station.specs.Written.{written, is_data_frame}
 use Rattle.mux_station.specs.Opening.{is_open}
 use Rattle.mux_station.specs.Stopping.{is_stopped}
 use Rattle.at_text.specs.Windows.{answered}
-use Rattle.modem_history.specs.Acts.{Act, Sent, Told, Heard, Lost, Given, wire}
+use Rattle.mux_station.specs.Sending.{queue}
+use Rattle.modem_history.specs.Acts.{Act, Took, Got, Sent, Told, Heard, Tick, Lost, Held, Freed, Given, wire}
 use Rattle.modem_history.specs.Information.{accepted, texts, information_out}
 use Rattle.modem_history.specs.Placing.{marks, reached_in, whole_in}
+use Rattle.modem_history.specs.Holding.{OnHeld}
 use Rattle.modem_history.specs.Calls.{Setting, calls_behind, is_lost}
 
 -- what isn't a frame; a loss of the line leaves no frame to be sent
@@ -33,7 +35,8 @@ owed s (a ∷ past) = owed_after s past (owed s past) a
 
 -- ## The laws of a data frame
 
--- the line isn't lost; it leaves an open connection that isn't stopped, as this end writes it, and behind all that is owed
+-- the line isn't lost; it leaves an open connection that isn't stopped, as this end writes it, behind all that is
+-- owed and behind every control frame, each of which is given on: so the order of frames sent is that on the line
 pub record Gated (s : Setting) (past owing : List Act) (f : Frame) : Type 0 where
   pub live : is_lost past ≡ false
   pub is_open : is_open s.role f.dlci (wire past) ≡ true
@@ -42,6 +45,7 @@ pub record Gated (s : Setting) (past owing : List Act) (f : Frame) : Type 0 wher
   pub some : IsTrue (nat_le 1 (length f.info))
   pub fits : IsTrue (nat_le (length f.info) s.n1)
   pub behind : owing ≡ []
+  pub alone : queue (wire past) ≡ []
 
 -- what left goes on to be a prefix of what was accepted
 abbrev pub Once : Setting → List Act → Frame → Type 0
@@ -82,6 +86,31 @@ abbrev pub OnHeard : List Act → Act → Type 0
 OnHeard owing (Heard kind d line) = IsNext owing (Heard kind d line)
 OnHeard owing _ = Unit {0}
 
+-- a frame is owed
+abbrev pub owes_frame : List Act → Bool
+owes_frame [] = false
+owes_frame (Sent f ∷ owing) = true
+owes_frame (_ ∷ owing) = owes_frame owing
+
+-- a call begins where no frame is owed, since what it calls for goes by the states after all frames; outcomes and
+-- lines may be late, and a loss of the line may come at any time
+abbrev pub OnFirst : List Act → Act → Type 0
+OnFirst owing (Took r) = owes_frame owing ≡ false
+OnFirst owing (Got f) = owes_frame owing ≡ false
+OnFirst owing Tick = owes_frame owing ≡ false
+OnFirst owing (Held d) = owes_frame owing ≡ false
+OnFirst owing (Freed d) = owes_frame owing ≡ false
+OnFirst owing _ = Unit {0}
+
+abbrev pub some_wait : List Frame → Bool
+some_wait [] = false
+some_wait (f ∷ fs) = true
+
+-- a frame is given on where one waits
+abbrev pub OnGiven : List Act → Act → Type 0
+OnGiven past Given = some_wait (queue (wire past)) ≡ true
+OnGiven past _ = Unit {0}
+
 -- the act may follow the past, to which so much is owed: a frame that is no data, an outcome, a line is the next
 -- one owed
 pub record Allows (s : Setting) (past owing : List Act) (a : Act) : Type 0 where
@@ -91,6 +120,9 @@ pub record Allows (s : Setting) (past owing : List Act) (a : Act) : Type 0 where
   pub controlled : OnControl owing a
   pub answered : OnTold owing a
   pub heard : OnHeard owing a
+  pub prompt : OnFirst owing a
+  pub held : OnHeld s.role past a
+  pub marked : OnGiven past a
 
 -- each act might follow what went before it
 unfoldable pub Lawful : Setting → List Act → Type 0

@@ -2,8 +2,11 @@ pub mod Acts
 pub mod Information
 pub mod Placing
 pub mod Requests
+pub mod Holding
 pub mod Begun
 pub mod Calls
 pub mod Lawful
 pub mod Wholes
 pub mod Rows
+pub mod GoodRows
+pub mod BadRows

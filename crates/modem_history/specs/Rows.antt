@@ -1,20 +1,22 @@
--- Worked rows as histories of a first run.
+-- Words for histories that are worked by hand: caller 0's requests at an initiator with N1 31.
 use Rattle.std.proofs.Common.{lit<}
-use Rattle.std.specs.Prelude.{ℕ, List, [], ◌∷◌, ◌++◌, codes}
+use Rattle.std.specs.Prelude.{ℕ, ◌+◌, ◌*◌, List, [], ◌∷◌, ◌++◌}
 use Rattle.mux_frame.specs.declared.frame.Kind.{Kind}
-use Rattle.mux_frame.specs.declared.frame.Kind.TheVariants.{Sabm, Ua, Dm, Uih}
+use Rattle.mux_frame.specs.declared.frame.Kind.TheVariants.{Sabm, Ua, Uih}
 use Rattle.mux_frame.specs.declared.dlci.Dlci.{Dlci}
 use Rattle.mux_station.specs.declared.role.Role.TheVariants.{Initiator, Responder}
 use Rattle.mux_station.specs.Written.{written}
 use Rattle.at_text.specs.Seeing.{answer_lines}
 use Rattle.modem_desk.specs.declared.request.Ask.{Ask}
-use Rattle.modem_desk.specs.declared.request.Ask.TheVariants.{OpenChannel, Command}
+use Rattle.modem_desk.specs.declared.request.Ask.TheVariants.{OpenChannel}
 use Rattle.modem_desk.specs.declared.request.Request.{Request}
-use Rattle.modem_desk.specs.declared.request.Answer.TheVariants.{Opened, Refused, Done}
-use Rattle.modem_history.specs.Acts.{Act, Took, Got, Sent, told, after}
+use Rattle.modem_desk.specs.declared.request.Answer.{Answer}
+use Rattle.modem_desk.specs.declared.request.Answer.TheVariants.{Opened, Done}
+use Rattle.modem_history.specs.Acts.{Act, Took, Got, Sent, Told, Given, after}
 use Rattle.modem_history.specs.Calls.{replaying}
-use Rattle.modem_history.specs.Lawful.{Lawful}
-use Rattle.modem_history.specs.Lawful.{Keeps}
+use Rattle.modem_history.specs.Lawful.{Lawful, Complete, Quiet, Keeps}
+
+-- ## Connections, requests and outcomes
 
 abbrev pub zero : Dlci
 zero = record { number = 0; in_range = lit< tt }
@@ -22,61 +24,95 @@ zero = record { number = 0; in_range = lit< tt }
 abbrev pub one : Dlci
 one = record { number = 1; in_range = lit< tt }
 
+abbrev pub two : Dlci
+two = record { number = 2; in_range = lit< tt }
+
+abbrev pub sixty_one : Dlci
+sixty_one = record { number = 61; in_range = lit< tt }
+
 -- caller 0's request of this number
 abbrev pub asks : ℕ → Ask → Request
 asks n ask = record { caller = 0; number = n; ask = ask }
 
--- what the initiator sends, and what the modem sends
-abbrev pub out : Kind → ℕ → List ℕ → Act
-out k d info = Sent (written Initiator k d info)
+abbrev pub takes : ℕ → Ask → Act
+takes n ask = Took (asks n ask)
 
-abbrev pub come : Kind → ℕ → List ℕ → Act
-come k d info = Got (written Responder k d info)
+-- caller 0's outcome of this number
+abbrev pub tells : ℕ → Answer → Act
+tells n answer = Told (record { caller = 0; number = n; answer = answer })
+
+abbrev pub tells_done : ℕ → List (List ℕ) → Act
+tells_done n ls = tells n (Done (answer_lines ls))
+
+-- ## Frames
+
+-- the initiator sends it; it comes from the modem
+abbrev pub sends : Kind → ℕ → List ℕ → Act
+sends k d info = Sent (written Initiator k d info)
+
+abbrev pub comes : Kind → ℕ → List ℕ → Act
+comes k d info = Got (written Responder k d info)
+
+abbrev pub cr : List ℕ
+cr = 0xd ∷ []
+
+abbrev pub lf : List ℕ
+lf = 0xa ∷ []
 
 -- CR LF, text, CR LF
 abbrev pub framed : List ℕ → List ℕ
-framed text = 13 ∷ 10 ∷ (text ++ 13 ∷ 10 ∷ [])
+framed text = cr ++ lf ++ text ++ cr ++ lf
+
+-- control messages (27.010, 5.4.6.3)
+abbrev pub msc : ℕ → ℕ → List ℕ
+msc d signals = 0xe3 ∷ 5 ∷ (4 * d + 3) ∷ signals ∷ []
+
+abbrev pub msc_response : ℕ → ℕ → List ℕ
+msc_response d signals = 0xe1 ∷ 5 ∷ (4 * d + 3) ∷ signals ∷ []
+
+abbrev pub fcoff : List ℕ
+fcoff = 0x63 ∷ 1 ∷ []
+
+abbrev pub fcoff_response : List ℕ
+fcoff_response = 0x61 ∷ 1 ∷ []
+
+abbrev pub fcon : List ℕ
+fcon = 0xa3 ∷ 1 ∷ []
+
+abbrev pub fcon_response : List ℕ
+fcon_response = 0xa1 ∷ 1 ∷ []
+
+abbrev pub cld : List ℕ
+cld = 0xc3 ∷ 1 ∷ []
+
+abbrev pub cld_response : List ℕ
+cld_response = 0xc1 ∷ 1 ∷ []
+
+-- ## What most rows begin with
 
 abbrev pub opening_zero : List Act
-opening_zero = Took (asks 1 (OpenChannel zero)) ∷ out Sabm 0 [] ∷ come Ua 0 [] ∷ told (asks 1 (OpenChannel zero)) Opened ∷ []
+opening_zero = takes 1 (OpenChannel zero) ∷ sends Sabm 0 [] ∷ Given ∷ comes Ua 0 [] ∷ tells 1 Opened ∷ []
 
-abbrev pub opening : List Act
-opening = opening_zero ++ Took (asks 2 (OpenChannel one)) ∷ out Sabm 1 [] ∷ come Ua 1 [] ∷ out Uih 0 (0xe3 ∷ 5 ∷ 7 ∷ 0x8d ∷ []) ∷ told (asks 2 (OpenChannel one)) Opened ∷ []
+abbrev pub opening_one : List Act
+opening_one =
+    opening_zero ++ takes 2 (OpenChannel one) ∷ sends Sabm 1 [] ∷ Given ∷ comes Ua 1 [] ∷
+    sends Uih 0 (msc 1 0x8d) ∷ tells 2 Opened ∷ Given ∷ []
 
-abbrev pub signal : Request
-signal = asks 3 (Command one (codes "AT+CSQ"))
+-- ## What is said of rows
 
-abbrev pub leaves : List Act
-leaves = Took signal ∷ out Uih 1 (codes "AT+CSQ" ++ 13 ∷ []) ∷ []
-
-abbrev pub its_answer : Act
-its_answer = told signal (Done (answer_lines (codes "+CSQ: 18,99" ∷ codes "OK" ∷ [])))
-
--- a command leaves, and its answer comes and is told
-abbrev pub csq : List Act
-csq = opening ++ leaves ++ come Uih 1 (framed (codes "+CSQ: 18,99")) ∷ come Uih 1 (framed (codes "OK")) ∷ its_answer ∷ []
-
--- the answer is told before its final code came
-abbrev pub told_early : List Act
-told_early = opening ++ leaves ++ come Uih 1 (framed (codes "+CSQ: 18,99")) ∷ its_answer ∷ []
-
-abbrev pub told_twice : List Act
-told_twice = csq ++ its_answer ∷ []
-
--- the opening and its end come before the opening is told, and both are told
-abbrev told_late : List Act
-told_late = Took (asks 1 (OpenChannel zero)) ∷ out Sabm 0 [] ∷ come Ua 0 [] ∷ come Dm 0 [] ∷ told (asks 1 (OpenChannel zero)) Opened ∷ []
-
-abbrev pub told_another : List Act
-told_another = told_late ++ told (asks 1 (OpenChannel zero)) Refused ∷ []
-
--- data on a connection that isn't open
-abbrev pub data_before_opening : List Act
-data_before_opening = opening_zero ++ leaves
-
--- it may stand, and nothing more is called for
+-- it is lawful, complete and quiet
 abbrev pub IsGood : List Act → Type 0
 IsGood acts = Keeps (replaying 31) (after [] acts)
 
 abbrev pub IsRefused : List Act → Type 0
 IsRefused acts = ¬ Lawful (replaying 31) (after [] acts)
+
+abbrev pub IsIncomplete : List Act → Type 0
+IsIncomplete acts = ¬ Complete (replaying 31) (after [] acts)
+
+abbrev pub IsUnquiet : List Act → Type 0
+IsUnquiet acts = ¬ Quiet (replaying 31) (after [] acts)
+
+abbrev pub AllAre : (List Act → Type 0) → List (List Act) → Type 0
+AllAre P [] = Unit {0}
+AllAre P (row ∷ rows) = P row × AllAre P rows

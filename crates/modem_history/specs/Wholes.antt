@@ -1,5 +1,5 @@
 -- What a whole history says: of all that it called for, what stands in it is the beginning.
-use Rattle.std.specs.Prelude.{◌≡◌, ℕ, ◌≤◌, ◌==◌, ◌&&◌, Bool, true, false, not, List, [], ◌∷◌, ◌++◌, length, filter, map, take, Some, if◌then◌else◌}
+use Rattle.std.specs.Prelude.{◌≡◌, ℕ, ◌≤◌, ◌==◌, ◌&&◌, Bool, true, false, not, List, [], ◌∷◌, ◌++◌, length, filter, map, take, Some, is_some, if◌then◌else◌}
 use Rattle.std.specs.List.{concat, list_any}
 use Rattle.mux_frame.specs.Frames.{Frame}
 use Rattle.mux_station.specs.Written.{is_data_frame}
@@ -7,7 +7,7 @@ use Rattle.mux_station.specs.declared.role.Role.TheVariants.{Initiator}
 use Rattle.mux_station.specs.Opening.{is_open}
 use Rattle.at_text.specs.declared.answer.AnswerLine.{AnswerLine}
 use Rattle.at_text.specs.Lines.{lines}
-use Rattle.at_text.specs.Windows.{Mark, Line, Window, IsInTurn, windows, answer_of, answered, is_answered, last_window}
+use Rattle.at_text.specs.Windows.{Mark, Line, Window, IsInTurn, windows, answer_of, answered, is_answered, last_window, open_window}
 use Rattle.at_text.specs.Seeing.{answer_lines}
 use Rattle.modem_desk.specs.declared.request.Request.{Request}
 use Rattle.modem_desk.specs.declared.request.Answer.TheVariants.{Done}
@@ -15,6 +15,7 @@ use Rattle.modem_desk.specs.declared.request.Outcome.{Outcome}
 use Rattle.modem_history.specs.Acts.{Act, Took, Got, Sent, Told, Heard, Lost, Given, is_for, after, wire, in_hand}
 use Rattle.modem_history.specs.Information.{information_out, accepted, command_on, texts, line_of}
 use Rattle.modem_history.specs.Placing.{marks, run_on, whole_after}
+use Rattle.modem_history.specs.Holding.{OnHeld}
 use Rattle.modem_history.specs.Calls.{Setting, calls, calls_behind, is_lost}
 use Rattle.modem_history.specs.Lawful.{Lawful, Complete, owed, owed_after}
 
@@ -61,7 +62,7 @@ pub record GoesOn (s : Setting) (past acts : List Act) : Type 0 where
   pub complete : Complete s (after past acts)
 
 unfoldable pub CallGoesOn : Setting → List Act → Act → Type 0
-CallGoesOn s past a = is_first a ≡ true → Lawful s past → Complete s past → GoesOn s past (a ∷ calls s past a)
+CallGoesOn s past a = is_first a ≡ true → OnHeld s.role past a → Lawful s past → Complete s past → GoesOn s past (a ∷ calls s past a)
 
 pub record IsPrefixOf (xs ys : List ℕ) : Type 0 where
   pub rest : List ℕ
@@ -161,13 +162,15 @@ unfoldable pub StaysInStep : Setting → List Act → Type 0
 StaysInStep s past =
     s.role ≡ Initiator → CompleteCalls s past → UsesOnce (taken past) → is_lost past ≡ false → Complete s past → (d : ℕ) → (d == 0) ≡ false → OnChannel s d past
 
--- the answer is that of the request's own command: those accepted before it have their answers, and one of the lines of the
--- frame ends the window of the last command, which is its own
+-- the answer is that of the request's own command, by its place: the commands accepted before it have their answers, it
+-- is the last that began, its window is open when the frame comes, and one of the lines of the frame ends it
 pub record IsOwnAnswer (s : Setting) (past : List Act) (f : Frame) (r : Request) (ls : List AnswerLine) : Type 0 where
   pub before : List Request
   pub later : List Request
   pub accepted_are : accepted s.role f.dlci past ≡ before ++ r ∷ later
   pub answered_are : answered (marks s.role f.dlci past) ≡ length before
+  pub begun_are : begun_in (marks s.role f.dlci past) ≡ map line_of before ++ line_of r ∷ []
+  pub was_open : is_some (open_window (marks s.role f.dlci past)) ≡ true
   pub ends : EndsWindow s past f ls
   pub own : ends.window.command ≡ line_of r
 
@@ -181,8 +184,8 @@ pub record HasOwnAnswer (s : Setting) (past : List Act) (o : Outcome) (ls : List
   pub answers : is_for request o ≡ true
   pub owns : IsOwnAnswer s older frame request ls
 
--- an initiator tells each request the answer of its own command
+-- an initiator tells each request the answer of its own command, also in a history that a loss of the line ends
 unfoldable pub TellsOwn : Setting → List Act → Type 0
 TellsOwn s past =
-    s.role ≡ Initiator → CompleteCalls s past → UsesOnce (taken past) → is_lost past ≡ false
+    s.role ≡ Initiator → CompleteCalls s past → UsesOnce (taken past)
     → (newer older : List Act) (o : Outcome) (ls : List AnswerLine) → past ≡ newer ++ Told o ∷ older → o.answer ≡ Done ls → HasOwnAnswer s older o ls

@@ -3,7 +3,9 @@ ghost use Rattle.std.specs.Prelude.{List};
 ghost use Rattle.modem_history.specs.Acts.{Act};
 ghost use Rattle.modem_history.specs.Calls.{Setting};
 ghost use Rattle.modem_history.specs.Lawful.{Lawful};
-ghost use Rattle.modem_history.specs.Rows.{csq, data_before_opening, told_another, told_early, told_twice, IsGood, IsRefused};
+ghost use Rattle.modem_history.specs.BadRows.{NotItsOwn, refused_rows, incomplete_rows, unquiet_rows};
+ghost use Rattle.modem_history.specs.GoodRows.{good_rows};
+ghost use Rattle.modem_history.specs.Rows.{AllAre, IsGood, IsIncomplete, IsRefused, IsUnquiet};
 ghost use Rattle.modem_history.specs.Wholes.{AnswersOnce, BeginsInTurn, CallGoesOn, IsBeginning, LeavesOnce, NoneAfterLoss, StaysInStep, TellsAnswers, TellsOwn};
 
 /// Of all that a lawful history called for, what stands in it is the beginning; and a call that does just what
@@ -32,13 +34,14 @@ pub fn commands()
     ensures own { (s : Setting) (past : List Act) → Lawful s past → TellsOwn s past }
 {}
 
-/// Worked histories, computed by the definitions: a command that is answered; and the same with its answer told
-/// before its final code, or twice, with a second outcome for a request, and with data before the opening.
-#[tactic(auto, using(crate::proofs::RowFacts::csq_good, crate::proofs::RowFacts::told_early_refused, crate::proofs::RowFacts::told_twice_refused, crate::proofs::RowFacts::told_another_refused, crate::proofs::RowFacts::data_before_opening_refused))]
+/// Worked histories, computed by the definitions: those of a right driver are kept, and those that a bad one would
+/// make are refused, lack something, or leave a command waiting that could leave. Of two commands with the same text
+/// the answer of the first is not the second's own.
+#[tactic(auto, using(crate::proofs::RowFacts::all_good, crate::proofs::RowFacts::all_refused, crate::proofs::RowFacts::all_incomplete, crate::proofs::RowFacts::all_unquiet, crate::proofs::RowFacts::not_its_own))]
 pub fn worked_examples()
-    ensures csq { IsGood csq }
-    ensures told_early { IsRefused told_early }
-    ensures told_twice { IsRefused told_twice }
-    ensures told_another { IsRefused told_another }
-    ensures data_before_opening { IsRefused data_before_opening }
+    ensures good { AllAre IsGood good_rows }
+    ensures refused { AllAre IsRefused refused_rows }
+    ensures incomplete { AllAre IsIncomplete incomplete_rows }
+    ensures unquiet { AllAre IsUnquiet unquiet_rows }
+    ensures own { NotItsOwn }
 {}
