@@ -64,7 +64,7 @@ data_unread n1 z o hand kept w acts acts' past c p info closed s =
     ap (λ (b : Bool). if b && true then by_lines (replaying n1) 1 (first_on 1 see.hand) (see.marks 1) (lines (see.run 1 ++ info)) else []) shut in
     let called : calls (replaying n1) past a ≡ [] =
     calls_are n1 past a [] [] [] [] (alive n1 past a [] s.holds.live refl) refl unsaid still in
-    let good = goes_on_by n1 past a [] refl called s.lawful s.complete in
+    let good = goes_on_by n1 past a [] refl tt called s.lawful s.complete in
     let k = s.works in
     record {
       lawful = good.0;
@@ -127,7 +127,7 @@ heeds n1 z hand kept w acts past c p info s =
     ∙ sym (said_is n1 owner ls w k.ms k.fits))))) in
     let called : calls (replaying n1) past a ≡ said =
     calls_are n1 past a [] [] said [] (alive n1 past a [] s.holds.live refl) refl heard still ∙ append-nil said in
-    let good = goes_on_by n1 past a said refl called s.lawful s.complete in
+    let good = goes_on_by n1 past a said refl tt called s.lawful s.complete in
     let word = said_words owner ls w in
     let same = words said (a ∷ past) word in
     let qs = k.before ++ commands hand in

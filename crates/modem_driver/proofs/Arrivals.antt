@@ -26,8 +26,9 @@ use Rattle.modem_driver.proofs.Calling.{state_zero, state_one, now_zero, now_one
 use Rattle.modem_driver.proofs.Laning.{got, told_keeps, given_keeps, control_keeps, zero_ua_keeps, one_ua_begins, one_ua_keeps}
 use Rattle.modem_history.proofs.Hands.{outcome_of, without_found, filter_first, filter_other, all_first, distinct_first}
 use Rattle.modem_driver.proofs.Standing.{zero_opens, one_opens, zero_shut_ua, zero_open_ua, one_shut_ua, one_open_ua, readiness, given_on as given_stands}
-use Rattle.modem_driver.proofs.Steps.{calls_are, goes_on_by, given_lawful, alive, and_false}
+use Rattle.modem_driver.proofs.Steps.{calls_are, goes_on_by, given_lawful, waits_more, alive, and_false}
 use Rattle.modem_driver.proofs.Opens.{kept_as, other_one, other_zero, no_command, none_pass}
+use Rattle.mux_station.specs.Sending.{queue}
 
 -- ## The one that waited
 
@@ -119,7 +120,7 @@ ua_opens_zero n1 o hand kept w acts acts' past q c p info found s =
     ∙ ap opened_acts one) in
     let called : calls (replaying n1) past a ≡ told q Opened ∷ [] =
     calls_are n1 past a [] [] [] (told q Opened ∷ []) (alive n1 past a [] s.holds.live none) refl (no_lines (is_opened (see.state 0)) _) opened in
-    let good = goes_on_by n1 past a (told q Opened ∷ []) refl called s.lawful s.complete in
+    let good = goes_on_by n1 past a (told q Opened ∷ []) refl tt called s.lawful s.complete in
     let hand' = without_first (opens_on 0) hand in
     let gone : filter (opens_on 0) hand' ≡ [] = filter_first (opens_on 0) hand ∙ ap (drop 1) one in
     let same : commands hand' ≡ commands hand = filter_other (commands_on 1) (opens_on 0) hand (λ r e. no_command 0 r.ask e) in
@@ -180,7 +181,7 @@ ua_opens_one n1 z hand kept w acts acts' past q c p info found s =
     ∙ ap opened_acts one) in
     let called : calls (replaying n1) past a ≡ Sent f ∷ told q Opened ∷ [] =
     calls_are n1 past a (f ∷ []) [] [] (told q Opened ∷ []) (alive n1 past a (f ∷ []) s.holds.live msc) refl (no_lines (is_opened (see.state 1)) _) opened in
-    let good = goes_on_by n1 past a (Sent f ∷ told q Opened ∷ []) refl called s.lawful s.complete in
+    let good = goes_on_by n1 past a (Sent f ∷ told q Opened ∷ []) refl tt called s.lawful s.complete in
     let hand' = without_first (opens_on 1) hand in
     let gone : filter (opens_on 1) hand' ≡ [] = filter_first (opens_on 1) hand ∙ ap (drop 1) one in
     let none : commands hand ≡ [] = none_pass (waits_rightly z stage.Opening) (commands_on 1) hand (λ r. no_command_yet z r.ask) s.rightly in
@@ -196,7 +197,7 @@ ua_opens_one n1 z hand kept w acts acts' past q c p info found s =
       in_order = tt;
     } in
     record {
-      lawful = given_lawful n1 (told q Opened ∷ Sent f ∷ a ∷ past) good.0;
+      lawful = given_lawful n1 (told q Opened ∷ Sent f ∷ a ∷ past) (waits_more (queue (wire past)) f) good.0;
       complete = good.1;
       holds = record {
         stands = given_stands z stage.Opened (wire (Sent f ∷ a ∷ past)) then_stands;
@@ -248,7 +249,7 @@ ua_idle_zero n1 z o hand kept w acts acts' past c p info idle s =
     ∙ tolds_none z o see now a hand s.rightly (now_zero n1 z o z o past (a ∷ []) stands then_stands) (now_one n1 z o z o past (a ∷ []) stands then_stands) in
     let called : calls (replaying n1) past a ≡ [] =
     calls_are n1 past a [] [] [] [] (alive n1 past a [] s.holds.live none) refl (no_lines (is_opened (see.state 0)) _) still in
-    let good = goes_on_by n1 past a [] refl called s.lawful s.complete in
+    let good = goes_on_by n1 past a [] refl tt called s.lawful s.complete in
     let k = s.works in
     record {
       lawful = good.0;
@@ -289,7 +290,7 @@ ua_idle_one n1 z o hand kept w acts acts' past c p info idle s =
     ∙ tolds_none z o see now a hand s.rightly (now_zero n1 z o z o past (a ∷ []) stands then_stands) (now_one n1 z o z o past (a ∷ []) stands then_stands) in
     let called : calls (replaying n1) past a ≡ [] =
     calls_are n1 past a [] [] [] [] (alive n1 past a [] s.holds.live none) refl (no_lines (is_opened (see.state 1)) _) still in
-    let good = goes_on_by n1 past a [] refl called s.lawful s.complete in
+    let good = goes_on_by n1 past a [] refl tt called s.lawful s.complete in
     let k = s.works in
     record {
       lawful = good.0;

@@ -27,6 +27,7 @@ use Rattle.modem_history.proofs.Said.{is_word}
 use Rattle.modem_driver.proofs.Readings.{said_words, OffBy, opened_off, closed_off, closed_stays}
 use Rattle.modem_history.proofs.OutcomesAndLines.{taken_off}
 use Rattle.modem_driver.proofs.Answering.{data_unread, read_on, read_whole, first_found}
+use Rattle.modem_history.specs.Wholes.{follows}
 use Rattle.modem_driver.proofs.Fares.{Ready, ReadyStep, ready_by, no_next}
 
 -- ## A UA on 0
@@ -40,6 +41,7 @@ told_zero n1 o hand kept w acts past c p info (Some q) e s =
     let acts' = (acts ++ a ∷ []) ++ told q Opened ∷ [] in
     record {
       more = told q Opened ∷ [];
+      follow = refl;
       acts_are = append_assoc acts (a ∷ []) (told q Opened ∷ []);
       ready = ready_by n1 stage.Opened o (without_first (opens_on 0) hand) kept w acts' (with_piece past (a ∷ told q Opened ∷ [])) (ua_opens_zero n1 o hand kept w acts acts' past q c p info e s);
       plain = inl refl;
@@ -53,6 +55,7 @@ arrive_zero n1 stage.Shut o hand kept w acts past c p info s =
     let a = got Ua 0 c p info in
     record {
       more = [];
+      follow = refl;
       acts_are = refl;
       ready = ready_by n1 stage.Shut o hand kept w (acts ++ a ∷ []) (a ∷ past) (ua_idle_zero n1 stage.Shut o hand kept w acts (acts ++ a ∷ []) past c p info refl s);
       plain = inl refl;
@@ -61,6 +64,7 @@ arrive_zero n1 stage.Opened o hand kept w acts past c p info s =
     let a = got Ua 0 c p info in
     record {
       more = [];
+      follow = refl;
       acts_are = refl;
       ready = ready_by n1 stage.Opened o hand kept w (acts ++ a ∷ []) (a ∷ past) (ua_idle_zero n1 stage.Opened o hand kept w acts (acts ++ a ∷ []) past c p info refl s);
       plain = inl refl;
@@ -79,6 +83,7 @@ told_one n1 z hand kept w acts past c p info (Some q) e s =
     let there = ua_opens_one n1 z hand kept w acts acts' past q c p info e s in
     record {
       more = f ∷ told q Opened ∷ [];
+      follow = refl;
       acts_are = ap (λ (v : List Act). v ++ told q Opened ∷ []) (append_assoc acts (a ∷ []) (f ∷ [])) ∙ append_assoc acts (a ∷ f ∷ []) (told q Opened ∷ []);
       ready = suits_rests n1 z stage.Opened (without_first (opens_on 1) hand) [] acts' (with_piece past (a ∷ f ∷ told q Opened ∷ [])) there;
       plain = inr (no_next (without_first (opens_on 1) hand) (suits_none n1 z stage.Opened (without_first (opens_on 1) hand) [] acts' (with_piece past (a ∷ f ∷ told q Opened ∷ [])) there));
@@ -92,6 +97,7 @@ arrive_one n1 z stage.Shut hand kept w acts past c p info s =
     let a = got Ua 1 c p info in
     record {
       more = [];
+      follow = refl;
       acts_are = refl;
       ready = ready_by n1 z stage.Shut hand kept w (acts ++ a ∷ []) (a ∷ past) (ua_idle_one n1 z stage.Shut hand kept w acts (acts ++ a ∷ []) past c p info refl s);
       plain = inl refl;
@@ -100,6 +106,7 @@ arrive_one n1 z stage.Opened hand kept w acts past c p info s =
     let a = got Ua 1 c p info in
     record {
       more = [];
+      follow = refl;
       acts_are = refl;
       ready = ready_by n1 z stage.Opened hand kept w (acts ++ a ∷ []) (a ∷ past) (ua_idle_one n1 z stage.Opened hand kept w acts (acts ++ a ∷ []) past c p info refl s);
       plain = inl refl;
@@ -120,6 +127,19 @@ given_words (Held d ∷ acts) h = absurd (let e : false ≡ true = h in cc)
 given_words (Freed d ∷ acts) h = absurd (let e : false ≡ true = h in cc)
 given_words (Given ∷ acts) h = absurd (let e : false ≡ true = h in cc)
 
+words_follow : (acts : List Act) → list_all is_word acts ≡ true → list_all follows acts ≡ true
+words_follow [] h = refl
+words_follow (Told o ∷ acts) h = words_follow acts h
+words_follow (Heard k d line ∷ acts) h = words_follow acts h
+words_follow (Took q ∷ acts) h = absurd (let e : false ≡ true = h in cc)
+words_follow (Got f ∷ acts) h = absurd (let e : false ≡ true = h in cc)
+words_follow (Sent f ∷ acts) h = absurd (let e : false ≡ true = h in cc)
+words_follow (Tick ∷ acts) h = absurd (let e : false ≡ true = h in cc)
+words_follow (Lost ∷ acts) h = absurd (let e : false ≡ true = h in cc)
+words_follow (Held d ∷ acts) h = absurd (let e : false ≡ true = h in cc)
+words_follow (Freed d ∷ acts) h = absurd (let e : false ≡ true = h in cc)
+words_follow (Given ∷ acts) h = absurd (let e : false ≡ true = h in cc)
+
 -- a piece of words after a frame
 said_step : (n1 : ℕ) (old mid : Served) (a : Act) (past said : List Act) → given_on (a ∷ said) ≡ given_on said → list_all is_word said ≡ true → mid.acts ≡ (old.acts ++ a ∷ []) ++ said
     → Ready n1 mid (after (a ∷ past) said) → ReadyStep n1 old mid a past
@@ -127,6 +147,7 @@ said_step n1 old mid a past said g h e r =
     let none : given_on (a ∷ said) ≡ [] = g ∙ given_words said h in
     record {
       more = said;
+      follow = words_follow said h;
       acts_are = e ∙ append_assoc old.acts (a ∷ []) said;
       ready = subst (λ (v : List Act). Ready n1 mid (after (after (a ∷ past) said) v)) (sym none) r;
       plain = inl none;
@@ -277,6 +298,7 @@ arrive_data n1 z stage.Shut hand kept w acts past c p info s =
     let a = got Uih 1 c p info in
     record {
       more = [];
+      follow = refl;
       acts_are = refl;
       ready = ready_by n1 z stage.Shut hand kept w (acts ++ a ∷ []) (a ∷ past) (data_unread n1 z stage.Shut hand kept w acts (acts ++ a ∷ []) past c p info refl s);
       plain = inl refl;
@@ -285,6 +307,7 @@ arrive_data n1 z stage.Opening hand kept w acts past c p info s =
     let a = got Uih 1 c p info in
     record {
       more = [];
+      follow = refl;
       acts_are = refl;
       ready = ready_by n1 z stage.Opening hand kept w (acts ++ a ∷ []) (a ∷ past) (data_unread n1 z stage.Opening hand kept w acts (acts ++ a ∷ []) past c p info refl s);
       plain = inl refl;

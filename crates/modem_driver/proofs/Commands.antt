@@ -184,7 +184,7 @@ takes_command n1 z hand past q served is_one free room apart lawful complete hol
     ∙ tolds_none z stage.Opened see now (Took q) hand rightly (now_zero n1 z stage.Opened z stage.Opened past (Took q ∷ []) holds.stands holds.stands) (now_one n1 z stage.Opened z stage.Opened past (Took q ∷ []) holds.stands holds.stands) in
     let called : calls (replaying n1) past (Took q) ≡ [] =
     calls_are n1 past (Took q) [] [] [] [] (alive n1 past (Took q) [] holds.live none) (ap (said_of q) once) refl still in
-    let good = goes_on_by n1 past (Took q) [] refl called lawful complete in
+    let good = goes_on_by n1 past (Took q) [] refl tt called lawful complete in
     let few : nat_lt (length (in_hand past)) 128 ≡ true = ap (λ (v : List Request). nat_lt (length v) 128) holds.hand_is ∙ lt_true (length hand) 128 room in
     record {
       lawful = good.0;

@@ -18,6 +18,9 @@ use Rattle.modem_driver.proofs.Opens.{kept_as, none_pass}
 use Rattle.modem_driver.proofs.Commands.{leave, rest_on, suits_rests}
 use Rattle.modem_driver.proofs.Answering.{first_found}
 use Rattle.modem_history.proofs.AfterActs.{after_both}
+use Rattle.std.proofs.lemmas.List.Folds.{list_all-append}
+use Rattle.std.proofs.lemmas.Bool.{and_from}
+use Rattle.modem_history.specs.Wholes.{follows}
 
 -- ## Pieces
 
@@ -71,6 +74,7 @@ ready_by n1 z o hand kept (Some w) acts past s = s
 -- the step up to there
 pub record ReadyStep (n1 : ℕ) (old mid : Served) (first : Act) (past : List Act) : Type 0 where
   pub more : List Act
+  pub follow : list_all follows more ≡ true
   pub acts_are : mid.acts ≡ old.acts ++ first ∷ more
   pub ready : Ready n1 mid (with_piece past (first ∷ more))
   pub plain : (given_on (first ∷ more) ≡ []) ⊎ (next_of mid ≡ None)
@@ -157,6 +161,13 @@ send_ready n1 z o hand kept (Some w) acts past new s r =
 none_chunks : (n1 : ℕ) (mid new : Served) (s : SendsNext n1 mid new) → next_of mid ≡ None → s.chunks ≡ []
 none_chunks n1 mid new s e = let sends : SendsOf None s.chunks mid new = subst (λ (o : Option Request). SendsOf o s.chunks mid new) e s.sends in sends.0
 
+data_follow : (chunks : List (List ℕ)) → list_all follows (data_frames chunks) ≡ true
+data_follow [] = refl
+data_follow (chunk ∷ chunks) = data_follow chunks
+
+both_follow : (xs ys : List Act) → list_all follows xs ≡ true → list_all follows ys ≡ true → list_all follows (xs ++ ys) ≡ true
+both_follow xs ys h k = list_all-append follows xs ys ∙ and_from (list_all follows xs) (list_all follows ys) h k
+
 -- the whole step
 pub step_on : (n1 : ℕ) (old mid new : Served) (first : Act) (past : List Act) → ReadyStep n1 old mid first past → SendsNext n1 mid new → StepsTo n1 old new first past
 step_on n1 old mid new first past r s =
@@ -167,6 +178,7 @@ step_on n1 old mid new first past r s =
     elim r.plain [ inl h ↦ piece_data past p s.chunks h | inr h ↦ piece_alone past p s.chunks (none_chunks n1 mid new s h) ] in
     record {
       more = r.more ++ data_frames s.chunks;
+      follow = both_follow r.more (data_frames s.chunks) r.follow (data_follow s.chunks);
       acts_are = s.acts_are ∙ (ap (λ (v : List Act). v ++ data_frames s.chunks) r.acts_are ∙ append_assoc old.acts p (data_frames s.chunks));
       suits = subst (λ (v : Served). Suits n1 v (with_piece past (p ++ data_frames s.chunks))) (sym (same_parts n1 mid new s)) (subst (Suits n1 (kept_as mid.zero mid.one mid.hand mid.kept new.window new.acts)) (sym whole) suits);
     }

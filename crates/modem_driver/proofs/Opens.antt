@@ -28,7 +28,8 @@ use Rattle.modem_driver.proofs.Calling.{now_zero, now_one, tolds_none, at_once_i
 use Rattle.modem_driver.proofs.Laning.{took_other, given_keeps, control_keeps}
 use Rattle.modem_history.proofs.Hands.{all_apart, distinct_more}
 use Rattle.modem_driver.proofs.Standing.{zero_asked, one_asked, given_on as given_stands}
-use Rattle.modem_driver.proofs.Steps.{calls_are, goes_on_by, given_lawful, alive, and_false}
+use Rattle.modem_driver.proofs.Steps.{calls_are, goes_on_by, given_lawful, waits_more, alive, and_false}
+use Rattle.mux_station.specs.Sending.{queue}
 
 -- what is kept, by its parts
 abbrev pub kept_as : Stage → Stage → List Request → List ℕ → Option window.OpenWindow → List Act → Served
@@ -210,10 +211,10 @@ opens_zero n1 o hand kept w acts acts' past q served asks free room apart s =
     ∙ tolds_none stage.Opening o see now (Took q) hand rightly (now_zero n1 stage.Shut o stage.Opening o past (Took q ∷ Sent f ∷ []) stands then_stands) (now_one n1 stage.Shut o stage.Opening o past (Took q ∷ Sent f ∷ []) stands then_stands) in
     let called : calls (replaying n1) past (Took q) ≡ Sent f ∷ [] =
     calls_are n1 past (Took q) (f ∷ []) [] [] [] (alive n1 past (Took q) (f ∷ []) s.holds.live one) (ap (said_of q) once) refl still in
-    let good = goes_on_by n1 past (Took q) (Sent f ∷ []) refl called s.lawful s.complete in
+    let good = goes_on_by n1 past (Took q) (Sent f ∷ []) refl tt called s.lawful s.complete in
     let none : commands_on 1 q ≡ false = no_command 0 q.ask asks in
     record {
-      lawful = given_lawful n1 (Sent f ∷ Took q ∷ past) good.0;
+      lawful = given_lawful n1 (Sent f ∷ Took q ∷ past) (waits_more (queue (wire past)) f) good.0;
       complete = good.1;
       holds = record {
         stands = given_stands stage.Opening o (wire (Sent f ∷ Took q ∷ past)) then_stands;
@@ -246,10 +247,10 @@ opens_one n1 z hand kept w acts acts' past q served asks free room apart s =
     ∙ tolds_none z stage.Opening see now (Took q) hand rightly (now_zero n1 z stage.Shut z stage.Opening past (Took q ∷ Sent f ∷ []) stands then_stands) (now_one n1 z stage.Shut z stage.Opening past (Took q ∷ Sent f ∷ []) stands then_stands) in
     let called : calls (replaying n1) past (Took q) ≡ Sent f ∷ [] =
     calls_are n1 past (Took q) (f ∷ []) [] [] [] (alive n1 past (Took q) (f ∷ []) s.holds.live one) (ap (said_of q) once) refl still in
-    let good = goes_on_by n1 past (Took q) (Sent f ∷ []) refl called s.lawful s.complete in
+    let good = goes_on_by n1 past (Took q) (Sent f ∷ []) refl tt called s.lawful s.complete in
     let none : commands_on 1 q ≡ false = no_command 1 q.ask asks in
     record {
-      lawful = given_lawful n1 (Sent f ∷ Took q ∷ past) good.0;
+      lawful = given_lawful n1 (Sent f ∷ Took q ∷ past) (waits_more (queue (wire past)) f) good.0;
       complete = good.1;
       holds = record {
         stands = given_stands z stage.Opening (wire (Sent f ∷ Took q ∷ past)) then_stands;

@@ -32,6 +32,7 @@ use Rattle.modem_driver.proofs.Taking.{take_ready}
 use Rattle.modem_driver.proofs.Arriving.{arrive_ready}
 use Rattle.modem_driver.proofs.Quieting.{quiet}
 use Rattle.modem_driver.proofs.Engining.{hand_same}
+use Rattle.modem_history.specs.Wholes.{follows}
 
 -- ## What is in hand then
 
@@ -125,7 +126,7 @@ past_more past (p ∷ ps) qs = past_more (with_piece past (acts_in p)) ps qs
 
 keeps_more : (n1 : ℕ) (past : List Act) (ps qs : List Piece) → KeepsAlong (replaying n1) past ps → KeepsAlong (replaying n1) (past_of past ps) qs → KeepsAlong (replaying n1) past (ps ++ qs)
 keeps_more n1 past [] qs h k = k
-keeps_more n1 past (p ∷ ps) qs h k = (h.0, keeps_more n1 (with_piece past (acts_in p)) ps qs h.1 k)
+keeps_more n1 past (p ∷ ps) qs h k = (h.0, (h.1.0, keeps_more n1 (with_piece past (acts_in p)) ps qs h.1.1 k))
 
 kept_by : (n1 : ℕ) (v : Served) (past : List Act) → Suits n1 v past → Keeps (replaying n1) past
 unfolding Complete
@@ -157,7 +158,7 @@ went_all n1 _ _ _ past h (one_more f fs old mid new first later) s =
       pieces = record { first = Got f; more = step.more } ∷ w.pieces;
       firsts_are = ap (λ (v : List Act). Got f ∷ v) w.firsts_are;
       acts_are = w.acts_are ∙ (ap (λ (v : List Act). v ++ flat_map acts_in w.pieces) step.acts_are ∙ append_assoc old.acts (Got f ∷ step.more) (flat_map acts_in w.pieces));
-      keeps = (kept_by n1 mid here step.suits, w.keeps);
+      keeps = (step.follow, (kept_by n1 mid here step.suits, w.keeps));
       suits = w.suits;
       within = then_within new.hand mid.hand old.hand w.within hand;
     }
@@ -165,6 +166,7 @@ went_all n1 _ _ _ past h (one_more f fs old mid new first later) s =
 -- a request's piece
 pub record WentTake (n1 : ℕ) (q : Request) (v v' : Served) (past : List Act) (among : List Request) : Type 0 where
   pub more : List Act
+  pub follow : list_all follows more ≡ true
   pub acts_are : v'.acts ≡ v.acts ++ Took q ∷ more
   pub keeps : Keeps (replaying n1) (with_piece past (Took q ∷ more))
   pub suits : Suits n1 v' (with_piece past (Took q ∷ more))
@@ -176,6 +178,7 @@ went_take n1 q v v' past among m h t s =
     let here = with_piece past (Took q ∷ step.more) in
     record {
       more = step.more;
+      follow = step.follow;
       acts_are = step.acts_are;
       keeps = kept_by n1 v' here step.suits;
       suits = step.suits;
@@ -224,7 +227,7 @@ runs_ask n1 done q v v' served few apart t r =
       pieces = r.pieces ++ p ∷ [];
       joins = flat_map-append acts_in r.pieces (p ∷ []) ∙ (ap (λ (a : List Act). a ++ (acts_in p ++ [])) r.joins ∙ (ap (λ (a : List Act). v.acts ++ a) (append-nil (acts_in p)) ∙ sym w.acts_are));
       begins = subst (Begins n1 [] (done ++ event.Ask q ∷ [])) (sym (map-append first_of r.pieces (p ∷ []))) (begins_ask n1 [] done (map first_of r.pieces) q r.begins);
-      keeps = keeps_more n1 [] r.pieces (p ∷ []) r.keeps (w.keeps, tt);
+      keeps = keeps_more n1 [] r.pieces (p ∷ []) r.keeps (w.follow, (w.keeps, tt));
       suits = subst (Suits n1 v') (sym (past_more [] r.pieces (p ∷ []))) w.suits;
       within = subst (IsWithin v'.hand) (sym (requests_more done (event.Ask q))) w.within;
     }

@@ -153,12 +153,16 @@ allowed n1 channel hand before later c ms kept s chunk rest past some fits joins
         some = le_true 1 (length chunk) some;
         fits = le_true (length chunk) n1 fits;
         behind = l.complete;
+        alone = l.holds.queued;
       };
       once = once;
       in_turn = le_true (reached_in (length (information_out Initiator 1 past ++ chunk)) (texts (accepted Initiator 1 past))) (answered (marks Initiator 1 past) + 1) order;
       controlled = tt;
       answered = tt;
       heard = tt;
+      prompt = tt;
+      held = tt;
+      marked = tt;
     }
 
 -- what else holds after data

@@ -25,6 +25,9 @@ use Rattle.modem_history.proofs.WholeLaws.{call_goes_on}
 use Rattle.modem_driver.proofs.Calling.{now_zero, now_one, tolds_none, at_once_is}
 use Rattle.modem_driver.proofs.Laning.{own_open, took_other, told_keeps}
 use Rattle.modem_history.proofs.Hands.{outcome_of, all_apart, without_apart, for_itself}
+use Rattle.mux_station.specs.Sending.{queue}
+use Rattle.modem_history.specs.Holding.{OnHeld}
+use Rattle.modem_history.specs.Lawful.{some_wait}
 
 -- ## Any call
 
@@ -43,17 +46,22 @@ calls_are n1 past a fs once lines later e h k m =
     ∙ ap (λ (x : List Act). map Sent fs ++ (once ++ (lines ++ x))) m))
 
 -- a call keeps a history lawful and complete
-pub goes_on_by : (n1 : ℕ) (past : List Act) (a : Act) (acts : List Act) → is_first a ≡ true → calls (replaying n1) past a ≡ acts → Lawful (replaying n1) past → owed (replaying n1) past ≡ []
+pub goes_on_by : (n1 : ℕ) (past : List Act) (a : Act) (acts : List Act) → is_first a ≡ true → OnHeld Initiator past a → calls (replaying n1) past a ≡ acts → Lawful (replaying n1) past → owed (replaying n1) past ≡ []
     → Lawful (replaying n1) (after (a ∷ past) acts) × (owed (replaying n1) (after (a ∷ past) acts) ≡ [])
 unfolding Complete CallGoesOn
-goes_on_by n1 past a acts f e l c =
-    let g = call_goes_on (replaying n1) past a f l c in
+goes_on_by n1 past a acts f h e l c =
+    let g = call_goes_on (replaying n1) past a f h l c in
     subst (λ (x : List Act). Lawful (replaying n1) (after (a ∷ past) x) × (owed (replaying n1) (after (a ∷ past) x) ≡ [])) e (g.lawful, g.complete)
 
 -- a frame is given on
-pub given_lawful : (n1 : ℕ) (past : List Act) → Lawful (replaying n1) past → Lawful (replaying n1) (Given ∷ past)
+pub given_lawful : (n1 : ℕ) (past : List Act) → some_wait (queue (wire past)) ≡ true → Lawful (replaying n1) past → Lawful (replaying n1) (Given ∷ past)
 unfolding Lawful
-given_lawful n1 past l = (record { gated = tt; once = tt; in_turn = tt; controlled = tt; answered = tt; heard = tt }, l)
+given_lawful n1 past w l = (record { gated = tt; once = tt; in_turn = tt; controlled = tt; answered = tt; heard = tt; prompt = tt; held = tt; marked = w }, l)
+
+-- a frame that is sent waits
+pub waits_more : (fs : List Frame) (f : Frame) → some_wait (fs ++ f ∷ []) ≡ true
+waits_more [] f = refl
+waits_more (g ∷ fs) f = refl
 
 pub alive : (n1 : ℕ) (past : List Act) (a : Act) (fs : List Frame) → (seen (replaying n1) past).lost ≡ false → frames_by (replaying n1) (seen (replaying n1) past) a ≡ fs
     → frames (replaying n1) (seen (replaying n1) past) a ≡ fs
@@ -96,7 +104,7 @@ told_once n1 v past q why served room apart refused s =
     ∙ tolds_none v.zero v.one see now (Took q) v.hand s.rightly (now_zero n1 v.zero v.one v.zero v.one past (Took q ∷ []) stands stands) (now_one n1 v.zero v.one v.zero v.one past (Took q ∷ []) stands stands) in
     let called : calls (replaying n1) past (Took q) ≡ told q why ∷ [] =
     calls_are n1 past (Took q) [] (told q why ∷ []) [] [] (alive n1 past (Took q) [] s.holds.live none) (ap (said_of q) once) refl still in
-    let good = goes_on_by n1 past (Took q) (told q why ∷ []) refl called s.lawful s.complete in
+    let good = goes_on_by n1 past (Took q) (told q why ∷ []) refl tt called s.lawful s.complete in
     let o = outcome_of q why in
     let away : without o (q ∷ []) ≡ [] = ap (λ (b : Bool). if not b then q ∷ [] else []) (for_itself q why) in
     let hand : in_hand (told q why ∷ Took q ∷ past) ≡ v.hand =

@@ -71,6 +71,7 @@ enter_zero n1 v q past n m e asks free shut s =
     = subst (λ (k : ℕ). Suits n1 (kept_as stage.Opening v.one (v.hand ++ q ∷ []) v.kept v.window acts') (with_piece past (Took q ∷ Sent (written Initiator Sabm k []) ∷ []))) (sym e) after_it in
     record {
       more = Sent (written Initiator Sabm n []) ∷ [];
+      follow = refl;
       acts_are = refl;
       ready = ready_by n1 stage.Opening v.one (v.hand ++ q ∷ []) v.kept v.window acts' (with_piece past (Took q ∷ Sent (written Initiator Sabm n []) ∷ [])) moved;
       plain = inr (next_none v.window (v.hand ++ q ∷ []) (λ w. filter_more (commands_on 1) v.hand q (no_command 0 q.ask asks) ∙ none_in n1 v.zero v.one v.hand v.kept v.window v.acts past s w));
@@ -89,6 +90,7 @@ enter_one n1 v q past n m e asks free shut s =
     = subst (λ (k : ℕ). Suits n1 (kept_as v.zero stage.Opening (v.hand ++ q ∷ []) v.kept v.window acts') (with_piece past (Took q ∷ Sent (written Initiator Sabm k []) ∷ []))) (sym e) after_it in
     record {
       more = Sent (written Initiator Sabm n []) ∷ [];
+      follow = refl;
       acts_are = refl;
       ready = ready_by n1 v.zero stage.Opening (v.hand ++ q ∷ []) v.kept v.window acts' (with_piece past (Took q ∷ Sent (written Initiator Sabm n []) ∷ [])) moved;
       plain = inr (next_none v.window (v.hand ++ q ∷ []) (λ w. filter_more (commands_on 1) v.hand q (no_command 1 q.ask asks) ∙ none_in n1 v.zero v.one v.hand v.kept v.window v.acts past s w));
@@ -110,6 +112,7 @@ enter_command n1 v q past m is_one free opened s =
     let now : Ready n1 (kept_as v.zero stage.Opened (v.hand ++ q ∷ []) v.kept v.window acts') (Took q ∷ past) = enter_by n1 v.zero v.hand v.kept v.window v.acts acts' past q m.served is_one unrefused m.room m.apart there in
     record {
       more = [];
+      follow = refl;
       acts_are = refl;
       ready = subst (λ (o : Stage). Ready n1 (kept_as v.zero o (v.hand ++ q ∷ []) v.kept v.window acts') (Took q ∷ past)) (sym opened) now;
       plain = inl refl;
@@ -158,6 +161,7 @@ take_by n1 v q past (Some why) e m s =
     let there : Suits n1 v (with_piece past (Took q ∷ told q why ∷ [])) = told_once n1 v past q why m.served m.room m.apart e s in
     record {
       more = told q why ∷ [];
+      follow = refl;
       acts_are = refl;
       ready = ready_by n1 v.zero v.one v.hand v.kept v.window acts' (with_piece past (Took q ∷ told q why ∷ [])) (suits_acts n1 v acts' (with_piece past (Took q ∷ told q why ∷ [])) there);
       plain = inl refl;

@@ -10,6 +10,7 @@ use Rattle.modem_driver.specs.declared.event.Event.TheVariants as event
 use Rattle.modem_history.specs.Acts.{Act, Took, Got}
 use Rattle.modem_history.specs.Calls.{Setting}
 use Rattle.modem_history.specs.Lawful.{Keeps}
+use Rattle.modem_history.specs.Wholes.{follows}
 use Rattle.modem_history.specs.Calls.{replaying}
 use Rattle.modem_driver.specs.Served.{Served, Suits, is_served, is_expected, with_piece}
 use Rattle.modem_history.specs.Requests.{is_apart, are_distinct}
@@ -72,7 +73,7 @@ pub data Begins (n1 : ℕ) : List ℕ → List Event → List Act → Type 0 whe
 -- after each piece the history so far is lawful, complete and quiet
 abbrev pub KeepsAlong : Setting → List Act → List Piece → Type 0
 KeepsAlong s past [] = Unit {0}
-KeepsAlong s past (p ∷ ps) = Keeps s (with_piece past (acts_in p)) × KeepsAlong s (with_piece past (acts_in p)) ps
+KeepsAlong s past (p ∷ ps) = (list_all follows p.more ≡ true) × (Keeps s (with_piece past (acts_in p)) × KeepsAlong s (with_piece past (acts_in p)) ps)
 
 -- the acts are one piece per request and frame, in the order of the events
 pub record Replays (n1 : ℕ) (events : List Event) (acts : List Act) : Type 0 where

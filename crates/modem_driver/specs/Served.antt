@@ -29,6 +29,7 @@ use Rattle.modem_history.specs.Lawful.{Lawful, owed}
 use Rattle.modem_driver.specs.Serving.{Holds}
 use Rattle.modem_history.specs.Calls.{replaying}
 use Rattle.modem_driver.specs.Lane.{LaneIs}
+use Rattle.modem_history.specs.Wholes.{follows}
 
 -- the stages of 0 and 1, the requests in hand, what is kept of 1's unfinished line, its window, and all acts so far
 pub record Served : Type 0 where
@@ -328,6 +329,7 @@ is_expected f = is_expected_of f.kind f.dlci
 -- a piece that begins with this act, after which what is kept suits the past again
 pub record StepsTo (n1 : ℕ) (old new : Served) (first : Act) (past : List Act) : Type 0 where
   pub more : List Act
+  pub follow : list_all follows more ≡ true
   pub acts_are : new.acts ≡ old.acts ++ first ∷ more
   pub suits : Suits n1 new (with_piece past (first ∷ more))
 

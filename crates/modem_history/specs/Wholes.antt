@@ -49,6 +49,13 @@ is_first (Heard kind d line) = false
 is_first Given = false
 is_first a = true
 
+-- an act that follows in a call: a frame sent, an outcome or a line
+abbrev pub follows : Act → Bool
+follows (Sent f) = true
+follows (Told o) = true
+follows (Heard kind d line) = true
+follows a = false
+
 -- what a call may be called for
 abbrev pub is_said : Act → Bool
 is_said (Sent f) = not (is_data_frame f)
