@@ -16,3 +16,4 @@ pub mod Engining
 pub mod Coming
 pub mod Running
 pub mod Replaying
+pub mod Brought

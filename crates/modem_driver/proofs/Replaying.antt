@@ -1,5 +1,5 @@
 -- The replay so far: before any event, after one more, and after the last.
-use Rattle.std.specs.Prelude.{◌≡◌, ℕ, ◌+◌, ◌<◌, true, List, [], ◌∷◌, ◌++◌, length, take, drop, get_or, map, refl, None}
+use Rattle.std.specs.Prelude.{◌≡◌, ℕ, ◌+◌, ◌<◌, ◌&&◌, true, false, List, [], ◌∷◌, ◌++◌, length, take, drop, get_or, map, refl, None}
 use Rattle.std.specs.List.{list_all}
 use Rattle.std.proofs.Common.{ap, sym, ◌∙◌, subst, append_assoc, append-nil}
 use Rattle.std.proofs.lemmas.Bool.{and_parts}
@@ -15,7 +15,7 @@ use Rattle.modem_history.specs.Lawful.{Lawful}
 use Rattle.modem_history.specs.Calls.{replaying}
 use Rattle.modem_driver.specs.Served.{Served, Suits, is_expected, none_yet}
 use Rattle.modem_driver.specs.Handles.{Handles}
-use Rattle.modem_driver.specs.Replays.{Begins, ends, IsFirstRun, Runs, SoFar, Replays, first_of, octets}
+use Rattle.modem_driver.specs.Replays.{is_plain, Begins, ends, IsFirstRun, Runs, SoFar, Replays, first_of, octets}
 use Rattle.modem_driver.proofs.Running.{asked_at, octets_more, runs_octets, same_within}
 
 nothing_lawful : (n1 : ℕ) → Lawful (replaying n1) []
@@ -88,6 +88,23 @@ event_at events k e h is =
 later_expected : (fs gs : List Frame) → list_all is_expected (fs ++ gs) ≡ true → list_all is_expected gs ≡ true
 later_expected fs gs h = (and_parts (list_all is_expected fs) (list_all is_expected gs) (sym (list_all-append is_expected fs gs) ∙ h)).1
 
+-- where an event is no request and brings no octets, it is no event of a first run
+unserved : (n1 : ℕ) (events : List Event) (k : ℕ) (e : Event) (v v' : Served) (d d' : Deframing)
+    → At events k e → SoFar n1 events k v d → d' ≡ d → octets (e ∷ []) ≡ [] → d'.next ≡ None → (is_plain e ≡ true → ⊥) → SoFar n1 events (k + 1) v' d'
+unserved n1 events k e v v' d d' at so unchanged none idle never =
+    let now = take k events in
+    let same : octets (take (k + 1) events) ≡ octets now = ap octets at.next ∙ (octets_more now e ∙ (ap (λ (t : List ℕ). octets now ++ t) none ∙ append-nil (octets now))) in
+    record {
+      frames = so.frames;
+      deframes = subst (λ (t : List ℕ). Deframes t so.frames d') (sym same) (subst (Deframes (octets now) so.frames) (sym unchanged) so.deframes);
+      idle = idle;
+      bound = ap (λ (x : Deframing). x.n1) unchanged ∙ so.bound;
+      runs = λ f.
+          let all : list_all is_plain (now ++ e ∷ drop (k + 1) events) ≡ true = ap (list_all is_plain) (sym at.whole) ∙ f.plain in
+          let parts = and_parts (list_all is_plain now) (is_plain e && list_all is_plain (drop (k + 1) events)) (sym (list_all-append is_plain now (e ∷ drop (k + 1) events)) ∙ all) in
+          absurd (never (and_parts (is_plain e) (list_all is_plain (drop (k + 1) events)) parts.1).0);
+    }
+
 after_event : (n1 : ℕ) (events : List Event) (k : ℕ) (e : Event) (v v' : Served) (d d' : Deframing)
     → At events k e → SoFar n1 events k v d → Handles n1 e d d' v v' → d'.next ≡ None → SoFar n1 events (k + 1) v' d'
 after_event n1 events k (event.Ask q) v v' d d' at so h idle =
@@ -119,6 +136,8 @@ after_event n1 events k (event.Octets x) v v' d d' at so h idle =
           let expected : list_all is_expected h.frames ≡ true = later_expected so.frames h.frames (f.expected (k + 1) (so.frames ++ h.frames) d'.undecided here) in
           subst (λ (es : List Event). Runs n1 es v') (sym at.next) (runs_octets n1 now x so.frames h.frames d.undecided d'.undecided v v' before reads expected h.arrive (so.runs f));
     }
+after_event n1 events k event.Tick v v' d d' at so h idle = unserved n1 events k event.Tick v v' d d' at so h.same refl idle (λ p. let x : false ≡ true = p in cc)
+after_event n1 events k event.Lost v v' d d' at so h idle = unserved n1 events k event.Lost v v' d d' at so h.same refl idle (λ p. let x : false ≡ true = p in cc)
 
 pub so_far_step : (n1 : ℕ) (events : List Event) (k : ℕ) (e : Event) (v v' : Served) (d d' : Deframing)
     → k < length events → e ≡ get_or events k e → SoFar n1 events k v d → Handles n1 e d d' v v' → d'.next ≡ None → SoFar n1 events (k + 1) v' d'

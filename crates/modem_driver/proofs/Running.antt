@@ -24,7 +24,7 @@ use Rattle.modem_history.specs.Lawful.{Complete}
 use Rattle.modem_history.specs.Calls.{replaying}
 use Rattle.modem_driver.specs.Served.{Served, Suits, MayTake, StepsTo, Takes, Arrives, ArriveAll, none_more, one_more, is_served, is_expected, with_piece, taken_by, entered, refusal, arrived, arrived_by, said_more, zero_answered, one_answered, data_read, told_opened, read_by, answered_now, octets_each_read, opens_on, is_none_open}
 use Rattle.modem_history.specs.Requests.{is_apart, are_distinct, without_first, commands_on}
-use Rattle.modem_driver.specs.Replays.{Piece, acts_in, first_of, past_of, Begins, ends, asks, hears, KeepsAlong, IsWithin, IsFirstRun, Runs, request_in, octets_in, requests, octets}
+use Rattle.modem_driver.specs.Replays.{Piece, acts_in, first_of, past_of, Begins, ends, asks, hears, ticks, loses, KeepsAlong, IsWithin, IsFirstRun, Runs, request_in, octets_in, requests, octets}
 use Rattle.modem_history.specs.Lawful.{Keeps}
 use Rattle.modem_history.proofs.Hands.{all_apart, all_first, length_first}
 use Rattle.modem_driver.proofs.Fares.{ReadyStep, step_on}
@@ -199,6 +199,8 @@ begins_ask n1 _ _ _ q (asks heard r events firsts b) = asks heard r (events ++ e
 begins_ask n1 _ _ _ q (hears heard x fs gs rest last events firsts h k b) =
     subst (Begins n1 heard (event.Octets x ∷ (events ++ event.Ask q ∷ []))) (sym (append_assoc (map Got gs) firsts (Took q ∷ [])))
     (hears heard x fs gs rest last (events ++ event.Ask q ∷ []) (firsts ++ Took q ∷ []) h k (begins_ask n1 (heard ++ x) events firsts q b))
+begins_ask n1 _ _ _ q (ticks heard events firsts b) = ticks heard (events ++ event.Ask q ∷ []) (firsts ++ Took q ∷ []) (begins_ask n1 heard events firsts q b)
+begins_ask n1 _ _ _ q (loses heard events firsts b) = loses heard (events ++ event.Ask q ∷ []) (firsts ++ Took q ∷ []) (begins_ask n1 heard events firsts q b)
 
 begins_octets : (n1 : ℕ) (heard : List ℕ) (done : List Event) (firsts : List Act) (x : List ℕ) (fs gs : List Frame) (rest last : List ℕ)
     → Begins n1 heard done firsts → Reads n1 (heard ++ octets done) fs rest → Reads n1 ((heard ++ octets done) ++ x) (fs ++ gs) last
@@ -213,6 +215,8 @@ begins_octets n1 _ _ _ x fs gs rest last (hears heard y fs' gs' rest' last' even
     subst (Begins n1 heard (event.Octets y ∷ (events ++ event.Octets x ∷ []))) (sym (append_assoc (map Got gs') firsts (map Got gs)))
     (hears heard y fs' gs' rest' last' (events ++ event.Octets x ∷ []) (firsts ++ map Got gs) h' k'
     (begins_octets n1 (heard ++ y) events firsts x fs gs rest last b (subst (λ (t : List ℕ). Reads n1 t fs rest) regroup h) (subst (λ (t : List ℕ). Reads n1 (t ++ x) (fs ++ gs) last) regroup k)))
+begins_octets n1 _ _ _ x fs gs rest last (ticks heard events firsts b) h k = ticks heard (events ++ event.Octets x ∷ []) (firsts ++ map Got gs) (begins_octets n1 heard events firsts x fs gs rest last b h k)
+begins_octets n1 _ _ _ x fs gs rest last (loses heard events firsts b) h k = loses heard (events ++ event.Octets x ∷ []) (firsts ++ map Got gs) (begins_octets n1 heard events firsts x fs gs rest last b h k)
 
 -- ## The whole run
 

@@ -4,3 +4,4 @@ pub mod Served
 pub mod Engines
 pub mod Replays
 pub mod Handles
+pub mod ReplayRows

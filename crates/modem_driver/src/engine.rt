@@ -82,6 +82,14 @@ impl Engine {
         }
     }
 
+    /// Notes an act of which nothing comes.
+    pub fn note(&mut self, act: Act) -> Result<(), AllocError>
+        ensures { OnOk result (served_of self.new ≡ said_more (served_of self.old) (act_of act ∷ [])) }
+    {
+        self.acts.push(act)?;
+        Ok(())
+    }
+
     /// What the ask is told at once, if anything.
     fn refuses(&self, ask: &Ask) -> Option<Answer>
         ensures { result ≡ refusal self.now.zero self.now.one ask.now }

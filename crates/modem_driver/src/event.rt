@@ -45,6 +45,12 @@ impl Octets {
 /// What comes to the driver.
 #[derive(Drop, Debug)]
 pub enum Event {
+    /// A caller's request.
     Ask(Request),
+    /// Octets come from the line.
     Octets(Octets),
+    /// One T1 has passed (3GPP TS 27.010, 5.7.1).
+    Tick,
+    /// The line is lost.
+    Lost,
 }

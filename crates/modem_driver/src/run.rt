@@ -62,6 +62,8 @@ fn handle(
     match event {
         Event::Ask(request) => engine.took(usize::from(n1), request.copy()?),
         Event::Octets(octets) => hear(deframer, n1, engine, octets.as_slice()),
+        Event::Tick => engine.note(Act::Tick),
+        Event::Lost => engine.note(Act::Lost),
     }
 }
 

@@ -43,6 +43,8 @@ IsScript n ([] ∷ lines) events = IsScript n lines events
 IsScript n ((c ∷ line) ∷ lines) [] = ⊥
 IsScript n ((c ∷ line) ∷ lines) (event.Ask q ∷ events) = Says (c ∷ line) (order.Ask q.ask) × (q.caller ≡ 0) × (q.number ≡ n) × IsScript (n + 1) lines events
 IsScript n ((c ∷ line) ∷ lines) (event.Octets x ∷ events) = Says (c ∷ line) (order.Octets x) × IsScript n lines events
+IsScript n ((c ∷ line) ∷ lines) (event.Tick ∷ events) = ⊥
+IsScript n ((c ∷ line) ∷ lines) (event.Lost ∷ events) = ⊥
 
 -- a text is a script
 abbrev pub IsScriptText : List ℕ → Type 0
