@@ -21,5 +21,7 @@ pub mod OwningTook
 pub mod OwningGot
 pub mod InSteps
 pub mod Owns
+pub mod Announcing
+pub mod Hearings
 pub mod Decided
 pub mod RowFacts

@@ -7,6 +7,7 @@ pub mod Begun
 pub mod Calls
 pub mod Lawful
 pub mod Wholes
+pub mod Hearing
 pub mod Rows
 pub mod GoodRows
 pub mod BadRows

@@ -6,6 +6,7 @@ ghost use Rattle.modem_history.specs.Lawful.{Lawful};
 ghost use Rattle.modem_history.specs.BadRows.{NotItsOwn, refused_rows, incomplete_rows, unquiet_rows};
 ghost use Rattle.modem_history.specs.GoodRows.{good_rows};
 ghost use Rattle.modem_history.specs.Rows.{AllAre, IsGood, IsIncomplete, IsRefused, IsUnquiet};
+ghost use Rattle.modem_history.specs.Hearing.{HearsAll, HearsInOrder};
 ghost use Rattle.modem_history.specs.Wholes.{AnswersOnce, BeginsInTurn, CallGoesOn, IsBeginning, LeavesOnce, NoneAfterLoss, StaysInStep, TellsAnswers, TellsOwn};
 
 /// Of all that a lawful history called for, what stands in it is the beginning; and a call that does just what
@@ -32,6 +33,15 @@ pub fn histories()
 pub fn commands()
     ensures steps { (s : Setting) (past : List Act) → Lawful s past → StaysInStep s past }
     ensures own { (s : Setting) (past : List Act) → Lawful s past → TellsOwn s past }
+{}
+
+/// What was heard on a connection is, in every lawful history, the beginning of what its lines announce to a listener,
+/// over all its openings in turn: of the lines placed on it those that are part of no answer and no echo, each once and
+/// in order, if their kind is listened to. The rest is owed; and where nothing is owed, all of it was heard.
+#[tactic(auto, using(crate::proofs::Hearings::hears_in_order, crate::proofs::Hearings::hears_all))]
+pub fn hearings()
+    ensures order { (s : Setting) (past : List Act) → Lawful s past → HearsInOrder s past }
+    ensures all { (s : Setting) (past : List Act) → Lawful s past → HearsAll s past }
 {}
 
 /// Worked histories, computed by the definitions: those of a right driver are kept, and those that a bad one would
