@@ -23,5 +23,10 @@ pub mod InSteps
 pub mod Owns
 pub mod Announcing
 pub mod Hearings
+pub mod Growing
+pub mod PlacedLines
+pub mod PlacedCommands
+pub mod MarksPlaced
+pub mod ConnectionRowFacts
 pub mod Decided
 pub mod RowFacts

@@ -1,11 +1,17 @@
 //! Laws of every history.
 ghost use Rattle.std.specs.Prelude.{List};
+ghost use Rattle.mux_station.specs.Acts.{Act as WireAct};
+ghost use Rattle.mux_station.specs.declared.role.Role.{Role};
 ghost use Rattle.modem_history.specs.Acts.{Act};
 ghost use Rattle.modem_history.specs.Calls.{Setting};
 ghost use Rattle.modem_history.specs.Lawful.{Lawful};
 ghost use Rattle.modem_history.specs.BadRows.{NotItsOwn, refused_rows, incomplete_rows, unquiet_rows};
 ghost use Rattle.modem_history.specs.GoodRows.{good_rows};
 ghost use Rattle.modem_history.specs.Rows.{AllAre, IsGood, IsIncomplete, IsRefused, IsUnquiet};
+ghost use Rattle.modem_history.specs.ConnectionRows.{CommandsAmongLines, InformationByOpenings, LinesInOrder, PlacedAgain};
+ghost use Rattle.modem_history.specs.Connections.{HasAllLines, PlacesAll};
+ghost use Rattle.modem_history.specs.HearingRows.{RingsOnce};
+ghost use Rattle.modem_history.specs.Placements.{AreMarksPlaced, HaveMarksAllLines};
 ghost use Rattle.modem_history.specs.Hearing.{HearsAll, HearsInOrder};
 ghost use Rattle.modem_history.specs.Wholes.{AnswersOnce, BeginsInTurn, CallGoesOn, IsBeginning, LeavesOnce, NoneAfterLoss, StaysInStep, TellsAnswers, TellsOwn};
 
@@ -44,6 +50,18 @@ pub fn hearings()
     ensures all { (s : Setting) (past : List Act) → Lawful s past → HearsAll s past }
 {}
 
+/// At either end of the line the lines of a connection, among those of all in the order in which they end, are the lines
+/// of its information over all its openings in turn; and what is placed on it since it opened are the lines of what came
+/// and the commands that are wholly sent. A history's own places are these, read off its frames and the commands that it
+/// accepted, and over all openings they have all lines.
+#[tactic(auto, using(crate::proofs::PlacedLines::has_all_lines, crate::proofs::PlacedCommands::places_all, crate::proofs::MarksPlaced::are_marks_placed, crate::proofs::MarksPlaced::have_marks_all_lines))]
+pub fn connections()
+    ensures lines { (r : Role) (past : List WireAct) → HasAllLines r past }
+    ensures places { (r : Role) (past : List WireAct) → PlacesAll r past }
+    ensures marks { (s : Setting) (past : List Act) → Lawful s past → AreMarksPlaced s past }
+    ensures all { (s : Setting) (past : List Act) → HaveMarksAllLines s past }
+{}
+
 /// Worked histories, computed by the definitions: those of a right driver are kept, and those that a bad one would
 /// make are refused, lack something, or leave a command waiting that could leave. Of two commands with the same text
 /// the answer of the first is not the second's own.
@@ -54,4 +72,15 @@ pub fn worked_examples()
     ensures incomplete { AllAre IsIncomplete incomplete_rows }
     ensures unquiet { AllAre IsUnquiet unquiet_rows }
     ensures own { NotItsOwn }
+{}
+
+/// Worked examples of lines and commands on two connections, and of what is heard over two openings, computed by the
+/// definitions.
+#[tactic(auto, using(crate::proofs::ConnectionRowFacts::lines_in_order, crate::proofs::ConnectionRowFacts::information_by_openings, crate::proofs::ConnectionRowFacts::commands_among_lines, crate::proofs::ConnectionRowFacts::placed_again, crate::proofs::ConnectionRowFacts::rings_once))]
+pub fn worked_connections()
+    ensures lines { LinesInOrder }
+    ensures information { InformationByOpenings }
+    ensures commands { CommandsAmongLines }
+    ensures again { PlacedAgain }
+    ensures heard { RingsOnce }
 {}
