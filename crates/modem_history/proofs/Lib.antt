@@ -28,5 +28,6 @@ pub mod PlacedLines
 pub mod PlacedCommands
 pub mod MarksPlaced
 pub mod ConnectionRowFacts
+pub mod WithoutCalls
 pub mod Decided
 pub mod RowFacts

@@ -8,6 +8,7 @@ use Rattle.mux_station.specs.declared.role.Role.{Role}
 use Rattle.mux_station.specs.Written.{is_on}
 use Rattle.mux_station.specs.Acts.{Act, Got, Sent}
 use Rattle.mux_station.specs.Opening.{since, is_open, opens_now}
+use Rattle.mux_station.specs.Traces.{without_calls}
 use Rattle.at_text.specs.Lines.{lines, kept_run}
 use Rattle.at_text.specs.Windows.{Mark, Line, Begun, Window, lines_of, windows}
 
@@ -140,3 +141,13 @@ pub record IsPlaced (r : Role) (d : ℕ) (commands : List (List ℕ)) (past : Li
 
 unfoldable pub PlacesAll : Role → List Act → Type 0
 PlacesAll r past = (d : ℕ) (commands : List (List ℕ)) → IsPlaced r d commands past
+
+-- all this is said alike where the calls of a station's user stand among the acts and where they don't
+pub record IsSaidAlike (r : Role) (past : List Act) : Type 0 where
+  pub got_same : (d : ℕ) → information_got r d (without_calls past) ≡ information_got r d past
+  pub sent_same : (d : ℕ) → information_sent r d (without_calls past) ≡ information_sent r d past
+  pub lines_same : lines_got r (without_calls past) ≡ lines_got r past
+  pub placed_same : (d : ℕ) (commands : List (List ℕ)) → placed r d commands (without_calls past) ≡ placed r d commands past
+
+unfoldable pub NeedsNoCalls : Role → List Act → Type 0
+NeedsNoCalls r past = IsSaidAlike r past

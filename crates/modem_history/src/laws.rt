@@ -9,7 +9,7 @@ ghost use Rattle.modem_history.specs.BadRows.{NotItsOwn, refused_rows, incomplet
 ghost use Rattle.modem_history.specs.GoodRows.{good_rows};
 ghost use Rattle.modem_history.specs.Rows.{AllAre, IsGood, IsIncomplete, IsRefused, IsUnquiet};
 ghost use Rattle.modem_history.specs.ConnectionRows.{CommandsAmongLines, InformationByOpenings, LinesInOrder, PlacedAgain};
-ghost use Rattle.modem_history.specs.Connections.{HasAllLines, PlacesAll};
+ghost use Rattle.modem_history.specs.Connections.{HasAllLines, NeedsNoCalls, PlacesAll};
 ghost use Rattle.modem_history.specs.HearingRows.{RingsOnce};
 ghost use Rattle.modem_history.specs.Placements.{AreMarksPlaced, HaveMarksAllLines};
 ghost use Rattle.modem_history.specs.Hearing.{HearsAll, HearsInOrder};
@@ -52,12 +52,13 @@ pub fn hearings()
 
 /// At either end of the line the lines of a connection, among those of all in the order in which they end, are the lines
 /// of its information over all its openings in turn; and what is placed on it since it opened are the lines of what came
-/// and the commands that are wholly sent. A history's own places are these, read off its frames and the commands that it
-/// accepted, and over all openings they have all lines.
-#[tactic(auto, using(crate::proofs::PlacedLines::has_all_lines, crate::proofs::PlacedCommands::places_all, crate::proofs::MarksPlaced::are_marks_placed, crate::proofs::MarksPlaced::have_marks_all_lines))]
+/// and the commands that are wholly sent. The calls of a station's user change nothing of it. A history's own places are
+/// these, read off its frames and the commands that it accepted, and over all openings they have all lines.
+#[tactic(auto, using(crate::proofs::PlacedLines::has_all_lines, crate::proofs::PlacedCommands::places_all, crate::proofs::WithoutCalls::needs_no_calls, crate::proofs::MarksPlaced::are_marks_placed, crate::proofs::MarksPlaced::have_marks_all_lines))]
 pub fn connections()
     ensures lines { (r : Role) (past : List WireAct) → HasAllLines r past }
     ensures places { (r : Role) (past : List WireAct) → PlacesAll r past }
+    ensures calls { (r : Role) (past : List WireAct) → NeedsNoCalls r past }
     ensures marks { (s : Setting) (past : List Act) → Lawful s past → AreMarksPlaced s past }
     ensures all { (s : Setting) (past : List Act) → HaveMarksAllLines s past }
 {}
