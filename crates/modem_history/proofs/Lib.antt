@@ -29,5 +29,6 @@ pub mod PlacedCommands
 pub mod MarksPlaced
 pub mod ConnectionRowFacts
 pub mod WithoutCalls
+pub mod ReadAsSent
 pub mod Decided
 pub mod RowFacts

@@ -30,7 +30,7 @@ use Rattle.modem_history.proofs.PlacedCommands.{placed_more}
 abbrev lines_of_commands : List Request → List (List ℕ)
 lines_of_commands qs = map line_of qs
 
-texts_are : (qs : List Request) → texts qs ≡ with_cr (map line_of qs)
+pub texts_are : (qs : List Request) → texts qs ≡ with_cr (map line_of qs)
 texts_are [] = refl
 texts_are (q ∷ qs) = ap (λ (v : List (List ℕ)). (line_of q ++ 13 ∷ []) ∷ v) (texts_are qs)
 

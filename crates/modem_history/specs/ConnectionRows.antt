@@ -34,7 +34,8 @@ at_a_modem =
 -- the lines of all connections, in the order in which they end
 abbrev pub LinesInOrder : Type 0
 LinesInOrder =
-    lines_got Responder (past_of [] at_a_modem) ≡ (2, codes "ATI") ∷ (1, codes "AT+CSQ") ∷ (1, codes "ATE0") ∷ []
+    lines_got Responder (past_of [] at_a_modem)
+    ≡ (2, codes "ATI") ∷ (1, codes "AT+CSQ") ∷ (1, codes "ATE0") ∷ []
 
 -- before it opened first, in the first opening and in the second
 abbrev pub InformationByOpenings : Type 0
@@ -54,7 +55,8 @@ at_a_driver =
     of_driver Sabm 0 [] ∷ of_modem Ua 0 [] ∷ of_driver Sabm 1 [] ∷ of_modem Ua 1 [] ∷
     of_driver Uih 1 (codes "AT+C") ∷ of_modem Uih 1 (codes "RI") ∷ of_driver Uih 1 (codes "SQ" ++ cr) ∷
     of_modem Uih 1 (codes "NG" ++ cr ++ framed (codes "+CSQ: 18,99") ++ framed (codes "OK")) ∷
-    of_driver Uih 1 (codes "AT") ∷ of_driver Uih 1 (codes "I" ++ cr) ∷ of_modem Uih 1 (framed (codes "OK")) ∷ []
+    of_driver Uih 1 (codes "AT") ∷ of_driver Uih 1 (codes "I" ++ cr) ∷
+    of_modem Uih 1 (framed (codes "OK")) ∷ []
 
 abbrev pub CommandsAmongLines : Type 0
 CommandsAmongLines =

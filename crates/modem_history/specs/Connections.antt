@@ -44,7 +44,8 @@ information_sent r d past = info_sent d (since r d past)
 -- the acts of each opening of d but the last, in turn; before the first there are none
 abbrev pub earlier_openings : Role → ℕ → List Act → List (List Act)
 earlier_openings r d [] = []
-earlier_openings r d (a ∷ past) = earlier_openings r d past ++ (if opens_now r d past a then since r d past ∷ [] else [])
+earlier_openings r d (a ∷ past) =
+    earlier_openings r d past ++ (if opens_now r d past a then since r d past ∷ [] else [])
 
 -- the acts of each of its openings, in turn
 abbrev pub openings : Role → ℕ → List Act → List (List Act)
@@ -70,7 +71,9 @@ lines_ended r d past f = lines (unfinished_on r d past ++ f.info)
 -- the lines that end in a frame that comes, each with its connection
 abbrev pub lines_with : Role → List Act → Frame → List (ℕ × List ℕ)
 lines_with r past f =
-    if carries f.dlci f && is_open r f.dlci past then map (λ l. (f.dlci, l)) (lines_ended r f.dlci past f) else []
+    if carries f.dlci f && is_open r f.dlci past
+    then map (λ l. (f.dlci, l)) (lines_ended r f.dlci past f)
+    else []
 
 -- the lines of all connections, over all their openings, each with its connection: in the order in which they end
 abbrev pub lines_got : Role → List Act → List (ℕ × List ℕ)
@@ -137,7 +140,8 @@ HasAllLines r past = (d : ℕ) → lines_on d (lines_got r past) ≡ flat_map li
 -- what is placed on d are the lines of its information since it opened, and the commands that are wholly sent since then
 pub record IsPlaced (r : Role) (d : ℕ) (commands : List (List ℕ)) (past : List Act) : Type 0 where
   pub lines_are : lines_of (placed r d commands past) ≡ lines (information_got r d past)
-  pub commands_are : begun_in (placed r d commands past) ≡ wholly_sent (length (information_sent r d past)) commands
+  pub commands_are : begun_in (placed r d commands past)
+      ≡ wholly_sent (length (information_sent r d past)) commands
 
 unfoldable pub PlacesAll : Role → List Act → Type 0
 PlacesAll r past = (d : ℕ) (commands : List (List ℕ)) → IsPlaced r d commands past
@@ -147,7 +151,8 @@ pub record IsSaidAlike (r : Role) (past : List Act) : Type 0 where
   pub got_same : (d : ℕ) → information_got r d (without_calls past) ≡ information_got r d past
   pub sent_same : (d : ℕ) → information_sent r d (without_calls past) ≡ information_sent r d past
   pub lines_same : lines_got r (without_calls past) ≡ lines_got r past
-  pub placed_same : (d : ℕ) (commands : List (List ℕ)) → placed r d commands (without_calls past) ≡ placed r d commands past
+  pub placed_same : (d : ℕ) (commands : List (List ℕ))
+      → placed r d commands (without_calls past) ≡ placed r d commands past
 
 unfoldable pub NeedsNoCalls : Role → List Act → Type 0
 NeedsNoCalls r past = IsSaidAlike r past

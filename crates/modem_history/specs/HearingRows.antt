@@ -21,7 +21,8 @@ rings =
     Heard Ring 1 (codes "RING") ∷ tells_done 4 (codes "OK" ∷ []) ∷ []
 
 pub record RingsOnce : Type 0 where
-  pub announced : listened_on (replaying 31) 1 (after [] rings) ≡ (Ring, codes "RING") ∷ (Ring, codes "RING") ∷ (Other, codes "OK") ∷ []
+  pub announced : listened_on (replaying 31) 1 (after [] rings)
+      ≡ (Ring, codes "RING") ∷ (Ring, codes "RING") ∷ (Other, codes "OK") ∷ []
   pub heard : was_heard 1 (after [] rings) ≡ (Ring, codes "RING") ∷ (Ring, codes "RING") ∷ []
   pub rest : to_be_heard 1 (owed (replaying 31) (after [] rings)) ≡ (Other, codes "OK") ∷ []
   pub elsewhere : listened_on (replaying 31) 2 (after [] rings) ≡ []

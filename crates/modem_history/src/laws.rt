@@ -1,5 +1,5 @@
 //! Laws of every history.
-ghost use Rattle.std.specs.Prelude.{List};
+ghost use Rattle.std.specs.Prelude.{ℕ, List};
 ghost use Rattle.mux_station.specs.Acts.{Act as WireAct};
 ghost use Rattle.mux_station.specs.declared.role.Role.{Role};
 ghost use Rattle.modem_history.specs.Acts.{Act};
@@ -11,7 +11,7 @@ ghost use Rattle.modem_history.specs.Rows.{AllAre, IsGood, IsIncomplete, IsRefus
 ghost use Rattle.modem_history.specs.ConnectionRows.{CommandsAmongLines, InformationByOpenings, LinesInOrder, PlacedAgain};
 ghost use Rattle.modem_history.specs.Connections.{HasAllLines, NeedsNoCalls, PlacesAll};
 ghost use Rattle.modem_history.specs.HearingRows.{RingsOnce};
-ghost use Rattle.modem_history.specs.Placements.{AreMarksPlaced, HaveMarksAllLines};
+ghost use Rattle.modem_history.specs.Placements.{AreMarksPlaced, AreReadAsSent, HaveMarksAllLines, ReadsAccepted};
 ghost use Rattle.modem_history.specs.Hearing.{HearsAll, HearsInOrder};
 ghost use Rattle.modem_history.specs.Wholes.{AnswersOnce, BeginsInTurn, CallGoesOn, IsBeginning, LeavesOnce, NoneAfterLoss, StaysInStep, TellsAnswers, TellsOwn};
 
@@ -61,6 +61,14 @@ pub fn connections()
     ensures calls { (r : Role) (past : List WireAct) → NeedsNoCalls r past }
     ensures marks { (s : Setting) (past : List Act) → Lawful s past → AreMarksPlaced s past }
     ensures all { (s : Setting) (past : List Act) → HaveMarksAllLines s past }
+{}
+
+/// Of command lines that go out the other end reads just those that are wholly sent, wherever they are cut; and so it
+/// does of the commands that were accepted on a connection since it opened.
+#[tactic(auto, using(crate::proofs::ReadAsSent::are_read_as_sent, crate::proofs::ReadAsSent::reads_accepted))]
+pub fn readings()
+    ensures texts { (commands : List (List ℕ)) (out : List ℕ) → AreReadAsSent commands out }
+    ensures commands { (s : Setting) (past : List Act) → Lawful s past → ReadsAccepted s past }
 {}
 
 /// Worked histories, computed by the definitions: those of a right driver are kept, and those that a bad one would

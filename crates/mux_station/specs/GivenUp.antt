@@ -27,7 +27,8 @@ gives_up_on s past d = gives_up_by (state_of s.role d past) (sends_disc s past d
 
 -- what a tick gives up: connections in rising order, then the probe
 abbrev pub noticed_of : Setting → List Act → List Up
-noticed_of s past = map UpChannel (filter (gives_up_on s past) (range_with_len 0 62)) ++ probe_up (probe_of s past)
+noticed_of s past =
+    map UpChannel (filter (gives_up_on s past) (range_with_len 0 62)) ++ probe_up (probe_of s past)
 
 -- what a station gives up at a tick is what each past that it fits says
 unfoldable pub SeesTheTick : Station → List Act → Type 0

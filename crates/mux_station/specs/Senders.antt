@@ -15,7 +15,8 @@ use Rattle.mux_station.specs.Giving.{next_sender}
 -- data may leave d: it is open and not stopped, and of what was offered on it since it opened some wasn't given on yet
 abbrev pub has_data : Role → List Act → ℕ → Bool
 has_data r past d =
-    is_open r d past && (not (is_stopped r d past) && nat_lt (length (given r d past)) (length (offered r d past)))
+    is_open r d past
+    && (not (is_stopped r d past) && nat_lt (length (given r d past)) (length (offered r d past)))
 
 -- in which order connections have their turn after one of them: those above it, then from 1 on
 abbrev pub turns_after : ℕ → List ℕ
