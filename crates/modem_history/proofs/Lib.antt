@@ -21,5 +21,14 @@ pub mod OwningTook
 pub mod OwningGot
 pub mod InSteps
 pub mod Owns
+pub mod Announcing
+pub mod Hearings
+pub mod Growing
+pub mod PlacedLines
+pub mod PlacedCommands
+pub mod MarksPlaced
+pub mod ConnectionRowFacts
+pub mod WithoutCalls
+pub mod ReadAsSent
 pub mod Decided
 pub mod RowFacts

@@ -1,42 +1,21 @@
 -- Information of a connection and the commands that were accepted on it, read over the past.
-use Rattle.std.specs.Prelude.{ℕ, ◌==◌, ◌&&◌, not, nat_lt, Bool, false, List, [], ◌∷◌, ◌++◌, length, map, Option, Some, None, if◌then◌else◌}
-use Rattle.mux_frame.specs.Frames.{Frame}
-use Rattle.mux_frame.specs.declared.frame.Kind.TheVariants.{Uih}
+use Rattle.std.specs.Prelude.{ℕ, ◌==◌, ◌&&◌, nat_lt, Bool, false, List, [], ◌∷◌, ◌++◌, length, map, Option, Some, None, if◌then◌else◌}
 use Rattle.mux_station.specs.declared.role.Role.{Role}
-use Rattle.mux_station.specs.Written.{is_on}
 use Rattle.mux_station.specs.Acts as station
-use Rattle.mux_station.specs.Opening.{since, is_open, opens_now}
+use Rattle.mux_station.specs.Opening.{is_open, opens_now}
 use Rattle.modem_desk.specs.declared.request.Ask.{Ask}
 use Rattle.modem_desk.specs.declared.request.Ask.TheVariants.{Command}
 use Rattle.modem_desk.specs.declared.request.Request.{Request}
 use Rattle.modem_history.specs.Acts.{Act, Took, wire_act, wire, in_hand}
-
--- the frame carries information on d; on 0 there is none
-abbrev pub carries : ℕ → Frame → Bool
-carries d f = not (d == 0) && is_on Uih d f
-
--- the information that it carries
-abbrev pub info_of : ℕ → Frame → List ℕ
-info_of d f = if carries d f then f.info else []
-
--- the information of the UIH frames on d that came among the acts (newest first), joined
-abbrev pub info_got : ℕ → List station.Act → List ℕ
-info_got d [] = []
-info_got d (station.Got f ∷ acts) = info_got d acts ++ info_of d f
-info_got d (_ ∷ acts) = info_got d acts
-
--- the same of those that were sent
-abbrev pub info_sent : ℕ → List station.Act → List ℕ
-info_sent d [] = []
-info_sent d (station.Sent f ∷ acts) = info_sent d acts ++ info_of d f
-info_sent d (_ ∷ acts) = info_sent d acts
+use Rattle.modem_history.specs.Connections.{information_got, information_sent}
+pub use Rattle.modem_history.specs.Connections.{carries, info_of, info_got, info_sent}
 
 -- information in, and out, of d since it opened
 abbrev pub information_in : Role → ℕ → List Act → List ℕ
-information_in r d past = info_got d (since r d (wire past))
+information_in r d past = information_got r d (wire past)
 
 abbrev pub information_out : Role → ℕ → List Act → List ℕ
-information_out r d past = info_sent d (since r d (wire past))
+information_out r d past = information_sent r d (wire past)
 
 -- the request is a command on d
 abbrev pub command_on : ℕ → Ask → Bool

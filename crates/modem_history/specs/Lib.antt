@@ -1,4 +1,5 @@
 pub mod Acts
+pub mod Connections
 pub mod Information
 pub mod Placing
 pub mod Requests
@@ -7,6 +8,10 @@ pub mod Begun
 pub mod Calls
 pub mod Lawful
 pub mod Wholes
+pub mod Hearing
+pub mod Placements
 pub mod Rows
+pub mod ConnectionRows
+pub mod HearingRows
 pub mod GoodRows
 pub mod BadRows

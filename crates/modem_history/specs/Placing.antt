@@ -1,27 +1,18 @@
 -- The lines that come and the commands that go out, each at its place.
-use Rattle.std.specs.Prelude.{ℕ, ◌+◌, ◌-◌, nat_le, nat_lt, ◌&&◌, List, [], ◌∷◌, ◌++◌, length, take, drop, map, if◌then◌else◌}
+use Rattle.std.specs.Prelude.{ℕ, ◌+◌, ◌&&◌, List, [], ◌∷◌, ◌++◌, length, take, drop, map, if◌then◌else◌}
 use Rattle.mux_frame.specs.Frames.{Frame}
 use Rattle.mux_station.specs.declared.role.Role.{Role}
 use Rattle.mux_station.specs.Opening.{is_open}
-use Rattle.at_text.specs.Lines.{lines, kept_run}
 use Rattle.at_text.specs.Windows.{Mark, Line, Begun}
 use Rattle.modem_desk.specs.declared.request.Request.{Request}
 use Rattle.modem_history.specs.Acts.{Act, Got, Sent, wire}
-use Rattle.modem_history.specs.Information.{carries, information_in, information_out, accepted, opens_here, line_of, texts}
-
--- how many of the texts are whole in their first n octets, joined
-abbrev pub whole_in : ℕ → List (List ℕ) → ℕ
-whole_in n [] = 0
-whole_in n (t ∷ ts) = if nat_le (length t) n then whole_in (n - length t) ts + 1 else 0
-
--- into how many of the texts the first n octets reach
-abbrev pub reached_in : ℕ → List (List ℕ) → ℕ
-reached_in n [] = 0
-reached_in n (t ∷ ts) = if nat_lt 0 n then reached_in (n - length t) ts + 1 else 0
+pub use Rattle.modem_history.specs.Connections.{whole_in, reached_in}
+use Rattle.modem_history.specs.Connections.{unfinished_on, lines_ended}
+use Rattle.modem_history.specs.Information.{carries, information_out, accepted, opens_here, line_of, texts}
 
 -- what is kept of the line that is unfinished at the end of what came on d since it opened
 abbrev pub run_on : Role → ℕ → List Act → List ℕ
-run_on r d past = kept_run (information_in r d past)
+run_on r d past = unfinished_on r d (wire past)
 
 -- the accepted commands that are wholly sent after n octets
 abbrev pub whole_after : ℕ → List Request → List Request
@@ -29,7 +20,7 @@ whole_after n qs = take (whole_in n (texts qs)) qs
 
 -- the lines that end in what comes: lines can be read on from what is kept of the unfinished one
 abbrev pub lines_placed : Role → ℕ → List Act → Frame → List Mark
-lines_placed r d past f = map Line (lines (run_on r d past ++ f.info))
+lines_placed r d past f = map Line (lines_ended r d (wire past) f)
 
 -- the commands that what goes out makes whole
 abbrev pub begun_placed : Role → ℕ → List Act → Frame → List Mark

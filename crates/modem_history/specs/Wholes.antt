@@ -7,12 +7,13 @@ use Rattle.mux_station.specs.declared.role.Role.TheVariants.{Initiator}
 use Rattle.mux_station.specs.Opening.{is_open}
 use Rattle.at_text.specs.declared.answer.AnswerLine.{AnswerLine}
 use Rattle.at_text.specs.Lines.{lines}
-use Rattle.at_text.specs.Windows.{Mark, Line, Window, IsInTurn, windows, answer_of, answered, is_answered, last_window, open_window}
+use Rattle.at_text.specs.Windows.{Line, Window, IsInTurn, answer_of, answered, is_answered, last_window, open_window}
 use Rattle.at_text.specs.Seeing.{answer_lines}
 use Rattle.modem_desk.specs.declared.request.Request.{Request}
 use Rattle.modem_desk.specs.declared.request.Answer.TheVariants.{Done}
 use Rattle.modem_desk.specs.declared.request.Outcome.{Outcome}
 use Rattle.modem_history.specs.Acts.{Act, Took, Got, Sent, Told, Heard, Lost, Given, is_for, after, wire, in_hand}
+pub use Rattle.modem_history.specs.Connections.{begun_in}
 use Rattle.modem_history.specs.Information.{information_out, accepted, command_on, texts, line_of}
 use Rattle.modem_history.specs.Placing.{marks, run_on, whole_after}
 use Rattle.modem_history.specs.Holding.{OnHeld}
@@ -78,10 +79,6 @@ pub record IsPrefixOf (xs ys : List ℕ) : Type 0 where
 -- what left since d opened is a prefix of the commands accepted since then, each as it goes out
 abbrev pub LeavesOnce : Setting → List Act → Type 0
 LeavesOnce s past = (d : ℕ) → IsPrefixOf (information_out s.role d past) (concat (texts (accepted s.role d past)))
-
--- the commands that began, in order
-abbrev pub begun_in : List Mark → List (List ℕ)
-begun_in ms = map (λ (w : Window). w.command) (windows ms)
 
 -- the commands that began since d opened are those of the accepted that are wholly sent, each where no window is open
 pub record AreInTurn (s : Setting) (d : ℕ) (past : List Act) : Type 0 where

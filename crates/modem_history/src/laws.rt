@@ -1,11 +1,18 @@
 //! Laws of every history.
-ghost use Rattle.std.specs.Prelude.{List};
+ghost use Rattle.std.specs.Prelude.{ℕ, List};
+ghost use Rattle.mux_station.specs.Acts.{Act as WireAct};
+ghost use Rattle.mux_station.specs.declared.role.Role.{Role};
 ghost use Rattle.modem_history.specs.Acts.{Act};
 ghost use Rattle.modem_history.specs.Calls.{Setting};
 ghost use Rattle.modem_history.specs.Lawful.{Lawful};
 ghost use Rattle.modem_history.specs.BadRows.{NotItsOwn, refused_rows, incomplete_rows, unquiet_rows};
 ghost use Rattle.modem_history.specs.GoodRows.{good_rows};
 ghost use Rattle.modem_history.specs.Rows.{AllAre, IsGood, IsIncomplete, IsRefused, IsUnquiet};
+ghost use Rattle.modem_history.specs.ConnectionRows.{CommandsAmongLines, InformationByOpenings, LinesInOrder, PlacedAgain};
+ghost use Rattle.modem_history.specs.Connections.{HasAllLines, NeedsNoCalls, PlacesAll};
+ghost use Rattle.modem_history.specs.HearingRows.{RingsOnce};
+ghost use Rattle.modem_history.specs.Placements.{AreMarksPlaced, AreReadAsSent, HaveMarksAllLines, ReadsAccepted};
+ghost use Rattle.modem_history.specs.Hearing.{HearsAll, HearsInOrder};
 ghost use Rattle.modem_history.specs.Wholes.{AnswersOnce, BeginsInTurn, CallGoesOn, IsBeginning, LeavesOnce, NoneAfterLoss, StaysInStep, TellsAnswers, TellsOwn};
 
 /// Of all that a lawful history called for, what stands in it is the beginning; and a call that does just what
@@ -34,6 +41,36 @@ pub fn commands()
     ensures own { (s : Setting) (past : List Act) → Lawful s past → TellsOwn s past }
 {}
 
+/// What was heard on a connection is, in every lawful history, the beginning of what its lines announce to a listener,
+/// over all its openings in turn: of the lines placed on it those that are part of no answer and no echo, each once and
+/// in order, if their kind is listened to. The rest is owed; and where nothing is owed, all of it was heard.
+#[tactic(auto, using(crate::proofs::Hearings::hears_in_order, crate::proofs::Hearings::hears_all))]
+pub fn hearings()
+    ensures order { (s : Setting) (past : List Act) → Lawful s past → HearsInOrder s past }
+    ensures all { (s : Setting) (past : List Act) → Lawful s past → HearsAll s past }
+{}
+
+/// At either end of the line the lines of a connection, among those of all in the order in which they end, are the lines
+/// of its information over all its openings in turn; and what is placed on it since it opened are the lines of what came
+/// and the commands that are wholly sent. The calls of a station's user change nothing of it. A history's own places are
+/// these, read off its frames and the commands that it accepted, and over all openings they have all lines.
+#[tactic(auto, using(crate::proofs::PlacedLines::has_all_lines, crate::proofs::PlacedCommands::places_all, crate::proofs::WithoutCalls::needs_no_calls, crate::proofs::MarksPlaced::are_marks_placed, crate::proofs::MarksPlaced::have_marks_all_lines))]
+pub fn connections()
+    ensures lines { (r : Role) (past : List WireAct) → HasAllLines r past }
+    ensures places { (r : Role) (past : List WireAct) → PlacesAll r past }
+    ensures calls { (r : Role) (past : List WireAct) → NeedsNoCalls r past }
+    ensures marks { (s : Setting) (past : List Act) → Lawful s past → AreMarksPlaced s past }
+    ensures all { (s : Setting) (past : List Act) → HaveMarksAllLines s past }
+{}
+
+/// Of command lines that go out the other end reads just those that are wholly sent, wherever they are cut; and so it
+/// does of the commands that were accepted on a connection since it opened.
+#[tactic(auto, using(crate::proofs::ReadAsSent::are_read_as_sent, crate::proofs::ReadAsSent::reads_accepted))]
+pub fn readings()
+    ensures texts { (commands : List (List ℕ)) (out : List ℕ) → AreReadAsSent commands out }
+    ensures commands { (s : Setting) (past : List Act) → Lawful s past → ReadsAccepted s past }
+{}
+
 /// Worked histories, computed by the definitions: those of a right driver are kept, and those that a bad one would
 /// make are refused, lack something, or leave a command waiting that could leave. Of two commands with the same text
 /// the answer of the first is not the second's own.
@@ -44,4 +81,15 @@ pub fn worked_examples()
     ensures incomplete { AllAre IsIncomplete incomplete_rows }
     ensures unquiet { AllAre IsUnquiet unquiet_rows }
     ensures own { NotItsOwn }
+{}
+
+/// Worked examples of lines and commands on two connections, and of what is heard over two openings, computed by the
+/// definitions.
+#[tactic(auto, using(crate::proofs::ConnectionRowFacts::lines_in_order, crate::proofs::ConnectionRowFacts::information_by_openings, crate::proofs::ConnectionRowFacts::commands_among_lines, crate::proofs::ConnectionRowFacts::placed_again, crate::proofs::ConnectionRowFacts::rings_once))]
+pub fn worked_connections()
+    ensures lines { LinesInOrder }
+    ensures information { InformationByOpenings }
+    ensures commands { CommandsAmongLines }
+    ensures again { PlacedAgain }
+    ensures heard { RingsOnce }
 {}

@@ -20,3 +20,5 @@ pub mod Handling
 pub mod Notings
 pub mod Traces
 pub mod Senders
+pub mod PastTicks
+pub mod PastTurns

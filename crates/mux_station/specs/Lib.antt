@@ -22,3 +22,5 @@ pub mod AnswersSent
 pub mod Noting
 pub mod Getting
 pub mod Traces
+pub mod GivenUp
+pub mod Senders

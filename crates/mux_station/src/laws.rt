@@ -7,6 +7,8 @@ ghost use Rattle.mux_station.specs.Acts.{Act, Call};
 ghost use Rattle.mux_station.specs.Stations.{Station};
 ghost use Rattle.mux_station.specs.Traces.{LeavesNoTrace};
 ghost use Rattle.mux_station.specs.Fitting.{SeesThePast, SeesTheFrame};
+ghost use Rattle.mux_station.specs.GivenUp.{SeesTheTick};
+ghost use Rattle.mux_station.specs.Senders.{SeesTheTurn};
 ghost use Rattle.mux_station.specs.Noting.{NotedTruly};
 ghost use Rattle.mux_station.specs.Opening.{IsOpenByPlaces};
 ghost use Rattle.mux_station.specs.States.{OpenedIsOpen};
@@ -49,4 +51,11 @@ pub fn notings()
 /// that it asks for.
 pub fn calls()
     ensures { (r : Role) (d : ℕ) (past : List Act) → LeavesNoTrace r d past }
+{}
+
+/// What a station gives up at a tick, and whose data is next at it, is what each past that it fits says.
+#[tactic(auto, using(crate::proofs::PastTicks::sees_the_tick, crate::proofs::PastTurns::sees_the_turn))]
+pub fn turns()
+    ensures ticks { (v : Station) (past : List Act) → SeesTheTick v past }
+    ensures sender { (v : Station) (past : List Act) → SeesTheTurn v past }
 {}
