@@ -5,7 +5,6 @@ use Rattle.at_text.specs.Commands.{refusal_of}
 use Rattle.modem_desk.specs.declared.request.Ask.TheVariants as ask
 use Rattle.modem_driver.specs.declared.act.Event.{Event}
 use Rattle.modem_driver.specs.declared.act.Event.TheVariants as event
-use Rattle.modemctl.specs.Input.{input_lines}
 use Rattle.modemctl.specs.declared.script.Order.{Order}
 use Rattle.modemctl.specs.declared.script.Order.TheVariants as order
 
@@ -43,7 +42,3 @@ IsScript n ([] ∷ lines) events = IsScript n lines events
 IsScript n ((c ∷ line) ∷ lines) [] = ⊥
 IsScript n ((c ∷ line) ∷ lines) (event.Ask q ∷ events) = Says (c ∷ line) (order.Ask q.ask) × (q.caller ≡ 0) × (q.number ≡ n) × IsScript (n + 1) lines events
 IsScript n ((c ∷ line) ∷ lines) (event.Octets x ∷ events) = Says (c ∷ line) (order.Octets x) × IsScript n lines events
-
--- a text is a script
-abbrev pub IsScriptText : List ℕ → Type 0
-IsScriptText text = (events : List Event) × IsScript 1 (input_lines text) events
