@@ -1,5 +1,5 @@
 -- Meanings of a registration status (27.007, 7.2).
-use Rattle.std.specs.Prelude.{ℕ, ◌==◌, if◌then◌else◌}
+use Rattle.std.specs.Prelude.{ℕ, List, ◌++◌, ◌==◌, if◌then◌else◌, codes, decimal}
 use Rattle.at_cmds.specs.declared.registration.RegistrationStatus.{RegistrationStatus}
 use Rattle.at_cmds.specs.declared.registration.RegistrationStatus.TheVariants.{NotRegistered, Home, Searching, Denied, Unknown, Roaming, Other}
 
@@ -12,3 +12,13 @@ status_of stat =
     else if stat == 4 then Unknown
     else if stat == 5 then Roaming
     else Other stat
+
+-- the printed name of a status
+abbrev pub status_name : RegistrationStatus → List ℕ
+status_name NotRegistered = codes "not registered"
+status_name Home = codes "registered at home"
+status_name Searching = codes "searching"
+status_name Denied = codes "denied"
+status_name Unknown = codes "unknown"
+status_name Roaming = codes "registered roaming"
+status_name (Other stat) = codes "status " ++ decimal stat

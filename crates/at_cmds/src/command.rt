@@ -86,6 +86,11 @@ impl Pdp {
 }
 
 impl fmt::Display for Pdp {
+    ghost use Rattle.std.specs.Prelude.{Some};
+    ghost use Rattle.at_cmds.specs.Commands.{pdp_text};
+
+    ghost output = { λ pdp. Some (pdp_text pdp) };
+
     fn fmt<W: fmt::Write>(&self, f: &mut fmt::Formatter<W>) -> fmt::Result {
         f.write_str(self.name())
     }

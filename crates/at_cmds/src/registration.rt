@@ -65,6 +65,11 @@ impl Registration {
 }
 
 impl fmt::Display for RegistrationStatus {
+    ghost use Rattle.std.specs.Prelude.{Some};
+    ghost use Rattle.at_cmds.specs.Statuses.{status_name};
+
+    ghost output = { λ status. Some (status_name status) };
+
     fn fmt<W: fmt::Write>(&self, f: &mut fmt::Formatter<W>) -> fmt::Result {
         match self {
             RegistrationStatus::NotRegistered => write!(f, "not registered"),

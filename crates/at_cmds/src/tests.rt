@@ -6,6 +6,8 @@ use at_text::{AnswerLine, Text};
 use std::alloc::{AllocError, Global};
 use std::test::Fail;
 
+mod no_memory;
+
 fn octets(alloc: Global, text: &str) -> Result<Vec<u8>, AllocError> {
     Vec::from_slice(alloc, text.as_bytes())
 }

@@ -5,6 +5,8 @@ use crate::{
 use std::alloc::{AllocError, Global};
 use std::test::Fail;
 
+mod no_memory;
+
 fn answer(alloc: Global, texts: &[&str]) -> Result<AnswerLines, AllocError> {
     let mut lines = Vec::new(alloc);
     for text in texts {
@@ -280,5 +282,17 @@ fn an_echo_after_another_line_is_part_of_the_answer(rt: HostRuntime) -> Result<(
         copy.see(b"ERROR")?,
         Seen::Done(answer(alloc, &["at+csq", "AT+CSQ", "ERROR"])?)
     );
+    Ok(())
+}
+
+#[test]
+fn a_line_of_512_octets_finds_memory_in_a_window(rt: HostRuntime) -> Result<(), Fail> {
+    let alloc = rt.alloc();
+    let line = vec![in alloc; b'x'; 512]?;
+    let mut window = waiting(alloc, "AT+CSQ")?;
+    assert_eq!(rt; window.see(line.as_slice())?, Seen::Kept);
+    let long = str::from_utf8(line.as_slice())?;
+    let want = Seen::Done(answer(alloc, &[long, "OK"])?);
+    assert_eq!(rt; window.see(b"OK")?, want);
     Ok(())
 }

@@ -28,18 +28,18 @@ dealt_more d e first cs c dealt is long queue number begins fresh i a at =
 -- one listener more
 pub seated_more : (d e : DeskId) (ls : List ListenerView) (l : ListenerView) (kind : UrcKind) → Seated d ls
     → e ≡ record d { kinds = d.kinds ++ kind ∷ []; ears = d.ears ++ l.ear.ring ∷ [] }
-    → length d.kinds ≡ length ls → length d.ears ≡ length ls → l.ear.place ≡ length ls → l.ear.kind ≡ kind → l.heard ≡ []
+    → length d.kinds ≡ length ls → length d.ears ≡ length ls → l.ear.place ≡ length ls → l.ear.kind ≡ kind → l.heard ≡ [] → l.seen ≡ []
     → Seated e (ls ++ l ∷ [])
-seated_more d e ls l kind seated is long ears place same fresh i a at =
-    let P = λ (f : DeskId). IsEarAt f a.ear × (a.ear.place ≡ i) × (a.heard ≡ []) in
+seated_more d e ls l kind seated is long ears place same fresh unseen i a at =
+    let P = λ (f : DeskId). IsEarAt f a.ear × (a.ear.place ≡ i) × (a.heard ≡ []) × (a.seen ≡ []) in
     subst P (sym is) (⊎_elim
     (λ (x : get_elem? ls i ≡ some a).
     let o = seated i a x in
-    ((at_longer d.kinds (kind ∷ []) a.ear.place a.ear.kind o.0.0, at_longer d.ears (l.ear.ring ∷ []) a.ear.place a.ear.ring o.0.1), o.1, o.2))
+    ((at_longer d.kinds (kind ∷ []) a.ear.place a.ear.kind o.0.0, at_longer d.ears (l.ear.ring ∷ []) a.ear.place a.ear.ring o.0.1), o.1, o.2, o.3))
     (λ (x : (i ≡ length ls) × (l ≡ a)).
-    subst (λ (y : ℕ × ListenerView). IsEarAt (record d { kinds = d.kinds ++ kind ∷ []; ears = d.ears ++ l.ear.ring ∷ [] }) y.1.ear × (y.1.ear.place ≡ y.0) × (y.1.heard ≡ []))
+    subst (λ (y : ℕ × ListenerView). IsEarAt (record d { kinds = d.kinds ++ kind ∷ []; ears = d.ears ++ l.ear.ring ∷ [] }) y.1.ear × (y.1.ear.place ≡ y.0) × (y.1.heard ≡ []) × (y.1.seen ≡ []))
     (λ k. (sym x.0 k, x.1 k))
-    ((at_last d.kinds kind l.ear.place (long ∙ sym place) ∙ ap some (sym same), at_last d.ears (l.ear.ring) l.ear.place (ears ∙ sym place)), place, fresh))
+    ((at_last d.kinds kind l.ear.place (long ∙ sym place) ∙ ap some (sym same), at_last d.ears (l.ear.ring) l.ear.place (ears ∙ sym place)), place, fresh, unseen))
     (at_end ls l a i at))
 
 -- the same queue and rings: the callers' places stay

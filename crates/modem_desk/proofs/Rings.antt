@@ -5,10 +5,10 @@ use lib.ListN.{get_elem?}
 use Rattle.std.proofs.lemmas.List.{map-set, get_or-map, length-map, get_or-set_same, get_or-set_other}
 use Rattle.std.proofs.Math.Seq.{map-set_same}
 use Rattle.std.specs.declared.alloc.Global.{Global}
-use Rattle.rtrb.specs.Ring.{sent, SameProducer, IsPair}
+use Rattle.rtrb.specs.Ring.{sent, known_free, SameProducer, IsPair}
 use Rattle.rtrb.specs.declared.producer.Producer.{Producer}
 use Rattle.rtrb.specs.declared.consumer.Consumer.{Consumer}
-use Rattle.modem_desk.specs.Ends.{RingId, Appends, ring_of_producer, ring_of_consumer}
+use Rattle.modem_desk.specs.Ends.{RingId, Appends, Changes, ring_of_producer, ring_of_consumer}
 use Rattle.modem_desk.proofs.Seats.{below_length}
 
 module _ {T P : Type 0} where
@@ -58,3 +58,23 @@ module _ {T P : Type 0} where
 
   pub sent_at : (ps : List (Producer T Global P)) (i : ℕ) (p : Producer T Global P) → i < length ps → p ≡ get_or ps i p → sent p ≡ get_or (map (sent {T = T} {A = Global} {P = P}) ps) i []
   sent_at ps i p lt at = ap (sent {T = T} {A = Global} {P = P}) at ∙ sym (get_or-map (sent {T = T} {A = Global} {P = P}) ps i p [] lt)
+
+  -- how many places of the ring at a place are known to be free
+  pub free_at : (ps : List (Producer T Global P)) (i : ℕ) (p : Producer T Global P) (old : List ℕ) → i < length ps → p ≡ get_or ps i p
+      → map (known_free {T = T} {A = Global} {P = P}) ps ≡ old → known_free p ≡ get_or old i 0
+  free_at ps i p old lt at was =
+      ap (known_free {T = T} {A = Global} {P = P}) at ∙ sym (get_or-map (known_free {T = T} {A = Global} {P = P}) ps i p 0 lt) ∙ ap (λ (l : List ℕ). get_or l i 0) was
+
+  -- the count of the ring that was pushed to changed, and no other
+  pub free_changes : (ps : List (Producer T Global P)) (i : ℕ) (p q : Producer T Global P) (place : ℕ → Type 0) (how : ℕ → ℕ → Type 0) (old : List ℕ) → i < length ps → p ≡ get_or ps i p
+      → map (known_free {T = T} {A = Global} {P = P}) ps ≡ old → ((k : ℕ) → place k → k ≡ i) → place i → how (known_free p) (known_free q)
+      → Changes place how old (map (known_free {T = T} {A = Global} {P = P}) (set ps i q))
+  free_changes ps i p q place how old lt at was one here changed =
+      let e : map (known_free {T = T} {A = Global} {P = P}) (set ps i q) ≡ set old i (known_free q) = map-set (known_free {T = T} {A = Global} {P = P}) ps i q ∙ ap (λ (l : List ℕ). set l i (known_free q)) was in
+      let within : i < length old = subst (λ (l : List ℕ). i < length l) was (subst (λ n. i < n) (sym (length-map ps (known_free {T = T} {A = Global} {P = P}))) lt) in
+      let after : get_or (map (known_free {T = T} {A = Global} {P = P}) (set ps i q)) i 0 ≡ known_free q = ap (λ (l : List ℕ). get_or l i 0) e ∙ get_or-set_same old i (known_free q) 0 within in
+      record {
+        here = λ k mine. subst (λ (j : ℕ). how (get_or old j 0) (get_or (map (known_free {T = T} {A = Global} {P = P}) (set ps i q)) j 0)) (sym (one k mine))
+            (subst (λ (x : ℕ × ℕ). how x.0 x.1) (λ j. (free_at ps i p old lt at was j, sym after j)) changed);
+        others = λ k apart. ap (λ (l : List ℕ). get_or l k 0) e ∙ get_or-set_other old i k (known_free q) 0 (λ same. apart (subst place (sym same) here));
+      }

@@ -34,11 +34,12 @@ pub record Place : Type 0 where
   pub ring : RingId
   pub first : ℕ
 
--- a caller: what it submitted, the outcomes that it took, and its count of untaken ones
+-- a caller: what it submitted, the outcomes that it took and those that it has seen to wait for it, and its count of untaken ones
 pub record CallerView : Type 0 where
   pub place : Place
   pub submitted : List Request
   pub got : List Outcome
+  pub seen : List Outcome
   pub untaken : ℕ
 
 -- a listener's place at a desk: which of its listeners it is, its kind, the ring of its lines
@@ -47,10 +48,11 @@ pub record Ear : Type 0 where
   pub kind : UrcKind
   pub ring : RingId
 
--- a listener: the lines that it took
+-- a listener: the lines that it took, and those that it has seen to wait for it
 pub record ListenerView : Type 0 where
   pub ear : Ear
   pub heard : List Urc
+  pub seen : List Urc
 
 -- which desk: its queue, a ring for each caller, and for each listener its kind and its ring
 pub record DeskId : Type 0 where
@@ -59,12 +61,14 @@ pub record DeskId : Type 0 where
   pub kinds : List UrcKind
   pub ears : List RingId
 
--- the driver's end: what it took, what it told each caller, and what it announced to each listener
+-- the driver's end: what it took, what it told each caller, and what it announced to each listener; and of each caller's and each listener's ring, how many places it knows to be free
 pub record DriverView : Type 0 where
   pub desk : DeskId
   pub taken : List Request
   pub told : List (List Outcome)
   pub announced : List (List Urc)
+  pub free : List ℕ
+  pub free_lines : List ℕ
 
 -- n numbers, one after the other
 abbrev pub count_from : ℕ → ℕ → List ℕ
@@ -83,7 +87,7 @@ ear_of l = l.ear
 
 -- a caller that has done nothing yet
 abbrev pub IsFresh : CallerView → Type 0
-IsFresh c = (c.submitted ≡ []) × (c.got ≡ []) × (c.untaken ≡ 0)
+IsFresh c = (c.submitted ≡ []) × (c.got ≡ []) × (c.untaken ≡ 0) × (c.seen ≡ [])
 
 -- no kind stands in the list twice
 abbrev pub EachOnce : List UrcKind → Type 0
@@ -108,6 +112,23 @@ pub record Announces (kinds : List UrcKind) (line : Urc) (old new : List (List U
   pub here : (k : ℕ) → get_elem? kinds k ≡ some line.kind → slice_index_or new k [] ≡ slice_index_or old k [] ++ line ∷ []
   pub others : (k : ℕ) → (get_elem? kinds k ≡ some line.kind → ⊥) → slice_index_or new k [] ≡ slice_index_or old k []
 
+-- of counts by place, those at these places changed in this way, and every other is the same
+pub record Changes (at : ℕ → Type 0) (how : ℕ → ℕ → Type 0) (old new : List ℕ) : Type 0 where
+  pub here : (k : ℕ) → at k → how (slice_index_or old k 0) (slice_index_or new k 0)
+  pub others : (k : ℕ) → (at k → ⊥) → slice_index_or new k 0 ≡ slice_index_or old k 0
+
+-- it fell by one at most
+abbrev pub FallsByOne : ℕ → ℕ → Type 0
+FallsByOne old new = old ≤ new + 1
+
+-- it is 0 now
+abbrev pub RunsOut : ℕ → ℕ → Type 0
+RunsOut old new = new ≡ 0
+
+-- the places of listeners of this kind
+abbrev pub Hears : List UrcKind → UrcKind → ℕ → Type 0
+Hears kinds kind k = get_elem? kinds k ≡ some kind
+
 -- P of each element and its index
 abbrev pub Each : {A : Type 0} → (ℕ → A → Type 0) → List A → Type 0
 Each {A} P xs = (i : ℕ) (a : A) → get_elem? xs i ≡ some a → P i a
@@ -118,7 +139,7 @@ Dealt d first = Each (λ i c. IsAt d c.place × (c.place.number ≡ i) × (c.pla
 
 -- the i-th listener has the i-th place of the desk, and has taken nothing yet
 abbrev pub Seated : DeskId → List ListenerView → Type 0
-Seated d = Each (λ i l. IsEarAt d l.ear × (l.ear.place ≡ i) × (l.heard ≡ []))
+Seated d = Each (λ i l. IsEarAt d l.ear × (l.ear.place ≡ i) × (l.heard ≡ []) × (l.seen ≡ []))
 
 -- a desk may be opened with so many callers, these kinds and this first number
 abbrev pub CanOpen : ℕ → List UrcKind → ℕ → Type 0
@@ -139,6 +160,7 @@ pub record Opened (count : ℕ) (listened : List UrcKind) (first : ℕ) (d : Dri
   pub taken : d.taken ≡ []
   pub told : d.told ≡ replicate count []
   pub announced : d.announced ≡ replicate (length listened) []
+  pub free : (d.free ≡ replicate count 8) × (d.free_lines ≡ replicate (length listened) 256)
   pub callers : (length cs ≡ count) × Dealt d.desk first cs
   pub listeners : (length ls ≡ length listened) × Seated d.desk ls
   pub whole : IsWhole d.desk (map place_of cs)

@@ -1,5 +1,6 @@
 //! A caller's end of the desk.
-ghost use Rattle.std.specs.Prelude.{◌≡◌, ◌+◌, ◌<◌, ◌≤◌, ◌^◌, ◌-◌, ◌++◌, ◌∷◌, [], length, IfOk, IfErr, ◌↔◌, MatchOption};
+ghost use Rattle.std.specs.Prelude.{◌≡◌, ◌+◌, ◌<◌, ◌≤◌, ◌^◌, ◌-◌, ◌++◌, ◌∷◌, [], length, IfOk, IfErr, ◌↔◌, IsSome, MatchOption};
+ghost use mathlib.Core.List.{IsPrefix};
 
 use crate::error::SubmitError;
 use crate::request::{Ask, Outcome, Request};
@@ -24,7 +25,7 @@ const UNTAKEN: u8 = 16;
 
 /// One user of the modem: it submits requests, and takes an outcome for each.
 ///
-/// Contracts see its place at the desk, the requests that it submitted, the outcomes that it took, and its count of untaken ones.
+/// Contracts see its place at the desk, the requests that it submitted, the outcomes that it took, those that it has seen to wait for it, and its count of untaken ones.
 #[derive(Drop)]
 pub struct Caller {
     queue: Arc<Queue, Global>,
@@ -40,7 +41,7 @@ impl Model for Caller {
     ghost use Rattle.std.specs.Prelude.{◌≡◌, ◌+◌, ◌≤◌, ◌^◌, true, length};
     ghost use Rattle.std.specs.Arc.{arc_value};
     ghost use Rattle.crossbeam_queue.specs.Passes.{view as knows, IsPassOf, ruled_capacity};
-    ghost use Rattle.rtrb.specs.Ring.{received, consumer_capacity};
+    ghost use Rattle.rtrb.specs.Ring.{received, known_items, consumer_capacity};
     ghost use Rattle.modem_desk.specs.Ends.{CallerView, IsNumbered, ring_of_consumer};
 
     ghost Value = { CallerView };
@@ -54,6 +55,7 @@ impl Model for Caller {
       };
       submitted = (knows c.pass).submitted;
       got = received c.outcomes;
+      seen = known_items c.outcomes;
       untaken = c.untaken;
     } };
 
@@ -68,7 +70,7 @@ impl Caller {
     ghost use Rattle.std.specs.Arc.{arc_value};
     ghost use Rattle.std.specs.Prelude.{true};
     ghost use Rattle.crossbeam_queue.specs.Passes.{view, IsPassOf, ruled_capacity};
-    ghost use Rattle.rtrb.specs.Ring.{received, consumer_capacity};
+    ghost use Rattle.rtrb.specs.Ring.{received, known_items, consumer_capacity};
     ghost use Rattle.modem_desk.specs.Rule.{caller};
     ghost use Rattle.modem_desk.specs.Ends.{IsNumbered, ring_of_consumer};
     ghost use Rattle.modem_desk.specs.declared.error.SubmitError.TheVariants.{TooMany, Exhausted};
@@ -82,7 +84,7 @@ impl Caller {
     ) -> Caller
         requires seat { IsPassOf (arc_value queue) pass × (ruled_capacity (arc_value queue) ≡ 64)
             × (view pass ≡ caller number []) }
-        requires fresh { (received outcomes ≡ []) × (consumer_capacity outcomes ≡ 8) × (1 ≤ first) }
+        requires fresh { (received outcomes ≡ []) × (known_items outcomes ≡ []) × (consumer_capacity outcomes ≡ 8) × (1 ≤ first) }
         ensures { result ≡ record {
           place = record {
             queue = pass.table_id;
@@ -92,6 +94,7 @@ impl Caller {
           };
           submitted = [];
           got = [];
+          seen = [];
           untaken = 0;
         } }
     {
@@ -131,7 +134,7 @@ impl Caller {
     ///
     /// Refused, in this order, with TooMany, Exhausted or Full, and the ask handed back. A refusal uses up no number.
     pub fn submit<R: Wait>(&mut self, rt: &R, ask: Ask) -> Result<u64, (SubmitError, Ask)>
-        ensures place { (self.new.place ≡ self.old.place) × (self.new.got ≡ self.old.got) }
+        ensures place { (self.new.place ≡ self.old.place) × (self.new.got ≡ self.old.got) × (self.new.seen ≡ self.old.seen) }
         ensures next { IfOk result (λ n. n ≡ self.old.place.first + length self.old.submitted) }
         ensures submitted { IfOk result (λ n. self.new.submitted ≡ self.old.submitted
             ++ record { caller = self.old.place.number; number = n; ask = ask } ∷ []) }
@@ -167,13 +170,16 @@ impl Caller {
         }
     }
 
-    /// The oldest outcome that waits for this caller.
+    /// The oldest outcome that waits for this caller. `None` only where it has seen none to wait.
     pub fn take(&mut self) -> Option<Outcome>
         ensures place { (self.new.place ≡ self.old.place) × (self.new.submitted ≡ self.old.submitted) }
         ensures got { MatchOption result (self.new.got ≡ self.old.got) (λ outcome. self.new.got ≡ self.old.got
             ++ outcome ∷ []) }
         ensures untaken { MatchOption result (self.new.untaken ≡ self.old.untaken) (λ _.
             self.new.untaken ≡ self.old.untaken - 1) }
+        ensures seen { MatchOption result (self.new.seen ≡ []) (λ outcome. IsPrefix self.old.seen (outcome
+            ∷ self.new.seen)) }
+        ensures finds { 0 < length self.old.seen → IsSome result }
     {
         let outcome = self.outcomes.pop().ok()?;
         self.untaken = self.untaken.saturating_sub(1);

@@ -69,7 +69,7 @@ fn are_each_once(kinds: &[UrcKind]) -> bool
 // A desk with nobody at it yet.
 fn vacant(alloc: Global) -> Result<DriverEnd, AllocError>
     ensures { IfOk result (λ d. (d.desk.rings ≡ []) × (d.desk.kinds ≡ []) × (d.desk.ears ≡ [])
-        × (d.taken ≡ []) × (d.told ≡ []) × (d.announced ≡ [])) }
+        × (d.taken ≡ []) × (d.told ≡ []) × (d.announced ≡ []) × (d.free ≡ []) × (d.free_lines ≡ [])) }
 {
     let (queue, pass) = Queue::ruled(alloc, QUEUED)?;
     let queue = Arc::new(alloc, queue)?;
@@ -89,10 +89,13 @@ fn enrol_all(
     callers: u8,
     first: u64,
 ) -> Result<Vec<Caller>, AllocError>
-    requires { (callers ≤ 8) × (1 ≤ first) × (driver.old.desk.rings ≡ []) × (driver.old.told ≡ []) }
+    requires { (callers ≤ 8) × (1 ≤ first) × (driver.old.desk.rings ≡ []) × (driver.old.told ≡ [])
+        × (driver.old.free ≡ []) }
     ensures driver { IfOk result (λ all. (driver.new.taken ≡ driver.old.taken)
         × (driver.new.told ≡ replicate callers [])
         × (driver.new.announced ≡ driver.old.announced)) }
+    ensures free { IfOk result (λ all. (driver.new.free ≡ replicate callers 8)
+        × (driver.new.free_lines ≡ driver.old.free_lines)) }
     ensures desk { IfOk result (λ all. (length driver.new.desk.rings ≡ callers)
         × (driver.new.desk.kinds ≡ driver.old.desk.kinds)
         × (driver.new.desk.ears ≡ driver.old.desk.ears)) }
@@ -113,10 +116,12 @@ fn seat_all(
     kinds: &[UrcKind],
 ) -> Result<Vec<Listener>, AllocError>
     requires { EachOnce kinds.now × (driver.old.desk.kinds ≡ []) × (driver.old.desk.ears ≡ [])
-        × (driver.old.announced ≡ []) }
+        × (driver.old.announced ≡ []) × (driver.old.free_lines ≡ []) }
     ensures driver { IfOk result (λ all. (driver.new.taken ≡ driver.old.taken)
         × (driver.new.told ≡ driver.old.told)
         × (driver.new.announced ≡ replicate (length kinds.now) [])) }
+    ensures free { IfOk result (λ all. (driver.new.free ≡ driver.old.free)
+        × (driver.new.free_lines ≡ replicate (length kinds.now) 256)) }
     ensures desk { IfOk result (λ all. (driver.new.desk.queue ≡ driver.old.desk.queue)
         × (driver.new.desk.rings ≡ driver.old.desk.rings) × (driver.new.desk.kinds ≡ kinds.now)) }
     ensures listeners { IfOk result (λ all. (length all.items ≡ length kinds.now)

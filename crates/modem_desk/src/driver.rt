@@ -1,5 +1,5 @@
 //! The driver's end of the desk.
-ghost use Rattle.std.specs.Prelude.{◌≡◌, ◌↔◌, ◌∷◌, [], ◌++◌, ◌<◌, ◌≤◌, map, IfOk, IfErr, IsTrue, Contains, length, MatchOption, MatchResult, slice_set, slice_index_or};
+ghost use Rattle.std.specs.Prelude.{◌≡◌, ◌↔◌, ℕ, ◌∷◌, [], ◌++◌, ◌<◌, ◌≤◌, map, IsOk, IfOk, IfErr, IsTrue, Contains, length, MatchOption, MatchResult, slice_set, slice_index_or};
 ghost use mathlib.Core.Option.{some};
 ghost use lib.ListN.{get_elem?};
 
@@ -16,7 +16,7 @@ use std::sync::{Arc, Wait};
 
 /// The end at which the driver takes requests, and gives outcomes and lines.
 ///
-/// Contracts see which desk it is of, the requests that it took, the outcomes that it told each caller, by the caller's number, and the lines that it announced to each listener, in the order of the desk's kinds.
+/// Contracts see which desk it is of, the requests that it took, the outcomes that it told each caller, by the caller's number, and the lines that it announced to each listener, in the order of the desk's kinds; and of each ring, how many places it knows to be free.
 #[derive(Drop)]
 pub struct DriverEnd {
     queue: Arc<Queue, Global>,
@@ -30,7 +30,7 @@ impl Model for DriverEnd {
     ghost use Rattle.std.specs.Prelude.{◌≡◌, ◌≤◌, map, length, []};
     ghost use Rattle.std.specs.Arc.{arc_value};
     ghost use Rattle.crossbeam_queue.specs.Passes.{view as knows, IsPassOf, ruled_capacity};
-    ghost use Rattle.rtrb.specs.Ring.{sent};
+    ghost use Rattle.rtrb.specs.Ring.{sent, known_free};
     ghost use Rattle.modem_desk.specs.Rule.{driver};
     ghost use Rattle.modem_desk.specs.Ends.{DriverView, ring_of_producer, EachOnce};
 
@@ -46,6 +46,8 @@ impl Model for DriverEnd {
       taken = (knows d.pass).taken;
       told = map sent d.rings.items;
       announced = map sent d.lines.items;
+      free = map known_free d.rings.items;
+      free_lines = map known_free d.lines.items;
     } };
 
     ghost invariant = { λ d. IsPassOf (arc_value d.queue) d.pass × (ruled_capacity (arc_value d.queue) ≡ 64)
@@ -59,7 +61,7 @@ impl DriverEnd {
     ghost use Rattle.crossbeam_queue.specs.Passes.{view, IsPassOf, ruled_capacity};
     ghost use Rattle.rtrb.specs.Ring.{sent};
     ghost use Rattle.modem_desk.specs.Rule.{driver};
-    ghost use Rattle.modem_desk.specs.Ends.{ring_of_producer, IsFresh, Appends, Announces};
+    ghost use Rattle.modem_desk.specs.Ends.{ring_of_producer, IsFresh, Appends, Announces, Changes, FallsByOne, RunsOut, Hears};
 
     pub(crate) fn new(
         queue: Arc<Queue, Global>,
@@ -81,6 +83,8 @@ impl DriverEnd {
           taken = [];
           told = [];
           announced = [];
+          free = [];
+          free_lines = [];
         } }
     {
         DriverEnd {
@@ -122,6 +126,8 @@ impl DriverEnd {
         requires { (length self.old.desk.rings < 8) × (1 ≤ first) }
         ensures driver { IfOk result (λ c. (self.new.taken ≡ self.old.taken) × (self.new.told ≡ self.old.told
             ++ [] ∷ []) × (self.new.announced ≡ self.old.announced)) }
+        ensures free { IfOk result (λ c. (self.new.free ≡ self.old.free ++ 8 ∷ [])
+            × (self.new.free_lines ≡ self.old.free_lines)) }
         ensures desk { IfOk result (λ c. self.new.desk ≡ record self.old.desk {
           rings = self.old.desk.rings
               ++ c.place.ring ∷ [];
@@ -143,13 +149,15 @@ impl DriverEnd {
         requires { ¬ Contains self.old.desk.kinds kind }
         ensures driver { IfOk result (λ l. (self.new.taken ≡ self.old.taken) × (self.new.told ≡ self.old.told)
             × (self.new.announced ≡ self.old.announced ++ [] ∷ [])) }
+        ensures free { IfOk result (λ l. (self.new.free ≡ self.old.free)
+            × (self.new.free_lines ≡ self.old.free_lines ++ 256 ∷ [])) }
         ensures desk { IfOk result (λ l. self.new.desk ≡ record self.old.desk {
           kinds = self.old.desk.kinds
               ++ kind ∷ [];
           ears = self.old.desk.ears ++ l.ear.ring ∷ [];
         }) }
         ensures listener { IfOk result (λ l. (l.ear.place ≡ length self.old.desk.kinds)
-            × (l.ear.place ≡ length self.old.desk.ears) × (l.ear.kind ≡ kind) × (l.heard ≡ [])) }
+            × (l.ear.place ≡ length self.old.desk.ears) × (l.ear.kind ≡ kind) × (l.heard ≡ []) × (l.seen ≡ [])) }
     {
         let (producer, consumer) = RingBuffer::new(alloc, LINES)?;
         let place = self.kinds.len();
@@ -173,10 +181,11 @@ impl DriverEnd {
         self.kinds.contains(&kind)
     }
 
-    /// The oldest request that waits, of whatever caller.
+    /// A request that waits, of whatever caller: of each caller in the order in which it submitted them.
     pub fn next<R: Wait>(&mut self, rt: &R) -> Option<Request>
         ensures desk { (self.new.desk ≡ self.old.desk) × (self.new.told ≡ self.old.told)
-            × (self.new.announced ≡ self.old.announced) }
+            × (self.new.announced ≡ self.old.announced) × (self.new.free ≡ self.old.free)
+            × (self.new.free_lines ≡ self.old.free_lines) }
         ensures taken { MatchOption result (self.new.taken ≡ self.old.taken) (λ request.
             (self.new.taken ≡ self.old.taken ++ request ∷ [])
             × (request.caller < length self.old.desk.rings)) }
@@ -184,13 +193,16 @@ impl DriverEnd {
         self.queue.pop_as::<Takes, R>(rt, &mut self.pass)
     }
 
-    /// Gives an outcome to its caller, or back where 8 wait for that caller.
+    /// Gives an outcome to its caller, or back where 8 wait for that caller: never where it knows of a free place.
     pub fn tell(&mut self, outcome: Outcome) -> Result<(), Outcome>
         requires { outcome.caller < length self.old.desk.rings }
         ensures desk { (self.new.desk ≡ self.old.desk) × (self.new.taken ≡ self.old.taken)
-            × (self.new.announced ≡ self.old.announced) }
+            × (self.new.announced ≡ self.old.announced) × (self.new.free_lines ≡ self.old.free_lines) }
         ensures told { IfOk result (λ _. Appends outcome.caller outcome self.old.told self.new.told) }
         ensures back { IfErr result (λ back. (back ≡ outcome) × (self.new.told ≡ self.old.told)) }
+        ensures free { IfOk result (λ _. Changes (λ k. k ≡ outcome.caller) FallsByOne self.old.free self.new.free) }
+        ensures full { IfErr result (λ _. Changes (λ k. k ≡ outcome.caller) RunsOut self.old.free self.new.free) }
+        ensures fits { 0 < slice_index_or self.old.free outcome.caller 0 → IsOk result }
     {
         let ring = &mut self.rings[outcome.caller as usize];
         let Err(refused) = ring.push(outcome) else {
@@ -200,13 +212,18 @@ impl DriverEnd {
         Err(back)
     }
 
-    /// Gives a line to the listener of its kind, or back where 256 wait for that listener.
+    /// Gives a line to the listener of its kind, or back where 256 wait for that listener: never where it knows of a free place.
     pub fn announce(&mut self, line: Urc) -> Result<(), Urc>
         requires { Contains self.old.desk.kinds line.kind }
         ensures desk { (self.new.desk ≡ self.old.desk) × (self.new.taken ≡ self.old.taken)
-            × (self.new.told ≡ self.old.told) }
+            × (self.new.told ≡ self.old.told) × (self.new.free ≡ self.old.free) }
         ensures announced { IfOk result (λ _. Announces self.old.desk.kinds line self.old.announced self.new.announced) }
         ensures back { IfErr result (λ back. (back ≡ line) × (self.new.announced ≡ self.old.announced)) }
+        ensures free { IfOk result (λ _. Changes (Hears self.old.desk.kinds line.kind) FallsByOne
+            self.old.free_lines self.new.free_lines) }
+        ensures full { IfErr result (λ _. Changes (Hears self.old.desk.kinds line.kind) RunsOut
+            self.old.free_lines self.new.free_lines) }
+        ensures fits { (k : ℕ) → Hears self.old.desk.kinds line.kind k → 0 < slice_index_or self.old.free_lines k 0 → IsOk result }
     {
         let place = place_in(&self.kinds, line.kind);
         let ring = &mut self.lines[place];

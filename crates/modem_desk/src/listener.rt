@@ -1,5 +1,6 @@
 //! A listener's end of the desk.
-ghost use Rattle.std.specs.Prelude.{◌≡◌, ◌++◌, ◌∷◌, [], MatchOption};
+ghost use Rattle.std.specs.Prelude.{◌≡◌, ◌<◌, ◌++◌, ◌∷◌, [], length, IsSome, MatchOption};
+ghost use mathlib.Core.List.{IsPrefix};
 
 use crate::request::Urc;
 use at_text::UrcKind;
@@ -11,7 +12,7 @@ pub(crate) const LINES: usize = 256;
 
 /// The one that hears the unsolicited lines of one kind.
 ///
-/// Contracts see its seat at the desk and the lines that it took.
+/// Contracts see its seat at the desk, the lines that it took, and those that it has seen to wait for it.
 #[derive(Drop)]
 pub struct Listener {
     lines: Consumer<Urc>,
@@ -21,7 +22,7 @@ pub struct Listener {
 
 impl Model for Listener {
     ghost use Rattle.std.specs.Prelude.{◌≡◌};
-    ghost use Rattle.rtrb.specs.Ring.{received, consumer_capacity};
+    ghost use Rattle.rtrb.specs.Ring.{received, known_items, consumer_capacity};
     ghost use Rattle.modem_desk.specs.Ends.{ListenerView, ring_of_consumer};
 
     ghost Value = { ListenerView };
@@ -33,17 +34,18 @@ impl Model for Listener {
         ring = ring_of_consumer l.lines;
       };
       heard = received l.lines;
+      seen = known_items l.lines;
     } };
 
     ghost invariant = { λ l. consumer_capacity l.lines ≡ 256 };
 }
 
 impl Listener {
-    ghost use Rattle.rtrb.specs.Ring.{received, consumer_capacity};
+    ghost use Rattle.rtrb.specs.Ring.{received, known_items, consumer_capacity};
     ghost use Rattle.modem_desk.specs.Ends.{ring_of_consumer};
 
     pub(crate) fn new(lines: Consumer<Urc>, kind: UrcKind, place: usize) -> Listener
-        requires { (received lines ≡ []) × (consumer_capacity lines ≡ 256) }
+        requires { (received lines ≡ []) × (known_items lines ≡ []) × (consumer_capacity lines ≡ 256) }
         ensures { result ≡ record {
           ear = record {
             place = place;
@@ -51,6 +53,7 @@ impl Listener {
             ring = ring_of_consumer lines;
           };
           heard = [];
+          seen = [];
         } }
     {
         Listener { lines, kind, place }
@@ -76,11 +79,14 @@ impl Listener {
         self.kind
     }
 
-    /// The oldest line that waits for this listener.
+    /// The oldest line that waits for this listener. `None` only where it has seen none to wait.
     pub fn take(&mut self) -> Option<Urc>
         ensures ear { self.new.ear ≡ self.old.ear }
         ensures heard { MatchOption result (self.new.heard ≡ self.old.heard) (λ line.
             self.new.heard ≡ self.old.heard ++ line ∷ []) }
+        ensures seen { MatchOption result (self.new.seen ≡ []) (λ line. IsPrefix self.old.seen (line
+            ∷ self.new.seen)) }
+        ensures finds { 0 < length self.old.seen → IsSome result }
     {
         self.lines.pop().ok()
     }

@@ -25,7 +25,7 @@ use std::sync::Wait;
 /// What a desk still held when it was settled.
 #[derive(Drop, Debug)]
 pub struct Settled {
-    /// The requests that were still queued, the oldest first.
+    /// The requests that were still queued: of each caller in the order in which it submitted them.
     pub left: Vec<Request>,
     /// For each caller, in the order handed in, the outcomes that waited for it.
     pub untaken: Vec<Vec<Outcome>>,

@@ -9,6 +9,7 @@ use std::process::Abort;
 use std::sync::Wait;
 use std::test::Fail;
 
+mod no_memory;
 mod threads;
 
 // So many Stops of a caller, numbered from 1.
@@ -224,6 +225,32 @@ fn a_line_waits_for_the_listener_of_its_kind(rt: HostRuntime) -> Result<(), Fail
 }
 
 #[test]
+fn eight_outcomes_wait_for_a_caller_and_the_ninth_comes_back(rt: HostRuntime) -> Result<(), Fail> {
+    let (mut driver, mut callers, _) = Desk::open(rt.alloc(), 1, &[])?;
+    for number in 1..=8 {
+        tell_stopped(&rt, &mut driver, 0, number);
+    }
+    assert!(rt; driver.callers() > 0);
+    let ninth = driver.tell(Outcome {
+        caller: 0,
+        number: 9,
+        answer: Answer::Shut,
+    });
+    let Err(back) = ninth else {
+        return Err(Fail::from("a full ring"));
+    };
+    assert_eq!(rt; (back.caller, back.number), (0, 9));
+    assert!(rt; matches!(back.answer, Answer::Shut));
+    for number in 1..=8 {
+        let taken = taken_by(&rt, &mut callers, 0).expect(&rt, "an outcome");
+        assert_eq!(rt; taken.number, number);
+    }
+    assert!(rt; taken_by(&rt, &mut callers, 0).is_none());
+    tell_stopped(&rt, &mut driver, 0, 9);
+    Ok(())
+}
+
+#[test]
 fn a_listener_has_room_for_256_lines(rt: HostRuntime) -> Result<(), Fail> {
     let alloc = rt.alloc();
     let (mut driver, _, mut listeners) = Desk::open(alloc, 1, &[UrcKind::Ring])?;
@@ -233,6 +260,33 @@ fn a_listener_has_room_for_256_lines(rt: HostRuntime) -> Result<(), Fail> {
     assert!(rt; !announce_line(&rt, alloc, &mut driver, UrcKind::Ring, b"RING"));
     assert!(rt; heard_by(&rt, &mut listeners, 0).is_some());
     assert!(rt; announce_line(&rt, alloc, &mut driver, UrcKind::Ring, b"RING"));
+    Ok(())
+}
+
+#[test]
+fn eight_callers_and_seven_kinds_find_memory(rt: HostRuntime) -> Result<(), Fail> {
+    let kinds = [
+        UrcKind::Ring,
+        UrcKind::Cring,
+        UrcKind::Creg,
+        UrcKind::Cgreg,
+        UrcKind::Cgev,
+        UrcKind::Ciev,
+        UrcKind::Other,
+    ];
+    let (driver, callers, listeners) = Desk::open(rt.alloc(), 8, &kinds)?;
+    assert_eq!(rt; driver.callers(), 8);
+    assert_eq!(rt; callers.len(), 8);
+    assert_eq!(rt; listeners.len(), 7);
+    for (listener, kind) in listeners.iter().zip(kinds) {
+        assert_eq!(rt; listener.kind(), kind);
+    }
+    let Ok(settled) = settle(&rt, rt.alloc(), driver, callers, listeners) else {
+        return Err(Fail::from("ample memory"));
+    };
+    assert_eq!(rt; settled.left.len(), 0);
+    assert_eq!(rt; settled.untaken.len(), 8);
+    assert_eq!(rt; settled.unheard.len(), 7);
     Ok(())
 }
 

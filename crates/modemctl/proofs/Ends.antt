@@ -1,6 +1,6 @@
 -- How a run ends, where the octets of its reader are known.
-use Rattle.std.specs.Prelude.{◌≡◌, ℕ, ◌≤◌, ◌⊎◌, List, Option, None, Some, Result, Ok, Err, IfOk, IfSome, IsErrOf, MatchResult, refl}
-use Rattle.std.proofs.Common.{arith, inl, inr, subst, ◌∙◌}
+use Rattle.std.specs.Prelude.{◌≡◌, ◌≢◌, ℕ, ◌≤◌, List, Option, None, Some, Result, Ok, Err, IfOk, IfSome, IsErrOf, MatchResult, refl}
+use Rattle.std.proofs.Common.{arith, subst, ◌∙◌}
 use Rattle.std.specs.Io.KnownBytes.{Appends}
 use Rattle.modemctl.specs.Printed.{IsPrinted}
 use Rattle.modemctl.specs.Input.{HasBad, IsFirstBad, input_lines}
@@ -16,19 +16,19 @@ has_bad : (IsBad : List ℕ → Type 0) (known : Option (List ℕ)) (place : ℕ
 has_bad IsBad None place h = tt
 has_bad IsBad (Some text) place h = (place, h)
 
--- status 2 is that of a bad N1 and of a bad line alone
-pub refused_for : {T : Type 0} (built : Result T Stop) (status : ℕ) (BadN1 : Type 0) (known : Option (List ℕ)) (IsBad IsText : List ℕ → Type 0)
+-- status 2 is that of a bad line alone
+pub refused_for : {T : Type 0} (built : Result T Stop) (status : ℕ) (known : Option (List ℕ)) (IsBad : List ℕ → Type 0)
     → MatchResult built (λ _. status ≤ 1) (λ stop. status ≡ status_of stop)
     → ((place : ℕ) → IsErrOf built (Stop.BadLine place) → IfSome known (λ text. IsFirstBad IsBad (input_lines text) place))
-    → (IsErrOf built Stop.BadN1 → BadN1 × IfSome known IsText)
+    → built ≢ Err Stop.BadN1
     → status ≡ 2
-    → BadN1 ⊎ IfSome known (λ text. HasBad IsBad (input_lines text))
-refused_for (Ok x) status BadN1 known IsBad IsText h line n1 e = absurd (omega (arith, h, e))
-refused_for (Err Stop.NoMemory) status BadN1 known IsBad IsText h line n1 e = absurd (omega (arith, h, e))
-refused_for (Err Stop.Input) status BadN1 known IsBad IsText h line n1 e = absurd (omega (arith, h, e))
-refused_for (Err Stop.Output) status BadN1 known IsBad IsText h line n1 e = absurd (omega (arith, h, e))
-refused_for (Err Stop.BadN1) status BadN1 known IsBad IsText h line n1 e = inl (n1 refl).0
-refused_for (Err (Stop.BadLine place)) status BadN1 known IsBad IsText h line n1 e = inr (has_bad IsBad known place (line place refl))
+    → IfSome known (λ text. HasBad IsBad (input_lines text))
+refused_for (Ok x) status known IsBad h line n1 e = absurd (omega (arith, h, e))
+refused_for (Err Stop.NoMemory) status known IsBad h line n1 e = absurd (omega (arith, h, e))
+refused_for (Err Stop.Input) status known IsBad h line n1 e = absurd (omega (arith, h, e))
+refused_for (Err Stop.Output) status known IsBad h line n1 e = absurd (omega (arith, h, e))
+refused_for (Err Stop.BadN1) status known IsBad h line n1 e = absurd (n1 refl)
+refused_for (Err (Stop.BadLine place)) status known IsBad h line n1 e = has_bad IsBad known place (line place refl)
 
 -- status 0 is that of an output that is written whole
 pub printed_for : {T : Type 0} (bytes : T → List ℕ) (built : Result T Stop) (status : ℕ) (Makes : List ℕ → List ℕ → Type 0) (known before after : Option (List ℕ))

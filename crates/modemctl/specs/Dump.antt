@@ -1,7 +1,6 @@
 -- Octets written as pairs of hexadecimal digits.
 use Rattle.std.specs.Prelude.{◌≡◌, ℕ, ◌+◌, ◌*◌, ◌==◌, List, [], ◌∷◌, ◌++◌, Option, Some, None, if◌then◌else◌}
 use Rattle.hex.specs.Hex.{hex_digit_value}
-use Rattle.modemctl.specs.Input.{input_lines}
 
 -- both, one behind the other, where there are both
 abbrev pub joined : Option (List ℕ) → Option (List ℕ) → Option (List ℕ)
@@ -31,7 +30,3 @@ dump_octets (line ∷ lines) = joined (line_octets line) (dump_octets lines)
 -- a line stands for no octets
 abbrev pub IsNoDump : List ℕ → Type 0
 IsNoDump line = line_octets line ≡ None
-
--- a text stands for octets
-abbrev pub IsDumpText : List ℕ → Type 0
-IsDumpText text = (octets : List ℕ) × (dump_octets (input_lines text) ≡ Some octets)

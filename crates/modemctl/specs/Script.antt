@@ -5,7 +5,6 @@ use Rattle.at_text.specs.Commands.{refusal_of}
 use Rattle.modem_desk.specs.declared.request.Ask.TheVariants as ask
 use Rattle.modem_driver.specs.declared.event.Event.{Event}
 use Rattle.modem_driver.specs.declared.event.Event.TheVariants as event
-use Rattle.modemctl.specs.Input.{input_lines}
 use Rattle.modemctl.specs.declared.script.Order.{Order}
 use Rattle.modemctl.specs.declared.script.Order.TheVariants as order
 
@@ -45,7 +44,3 @@ IsScript n ((c ∷ line) ∷ lines) (event.Ask q ∷ events) = Says (c ∷ line)
 IsScript n ((c ∷ line) ∷ lines) (event.Octets x ∷ events) = Says (c ∷ line) (order.Octets x) × IsScript n lines events
 IsScript n ((c ∷ line) ∷ lines) (event.Tick ∷ events) = ⊥
 IsScript n ((c ∷ line) ∷ lines) (event.Lost ∷ events) = ⊥
-
--- a text is a script
-abbrev pub IsScriptText : List ℕ → Type 0
-IsScriptText text = (events : List Event) × IsScript 1 (input_lines text) events

@@ -1,15 +1,15 @@
 //! The subcommands, each over a reader and two writers.
-ghost use Rattle.std.specs.Prelude.{◌≡◌, ℕ, ◌≤◌, ◌<◌, ◌↔◌, ◌⊎◌, map, Ok, IfOk, IfErr, IfSome, IsErr, IsErrOf, OnErr, MatchResult, true};
+ghost use Rattle.std.specs.Prelude.{◌≡◌, ◌≢◌, ℕ, ◌≤◌, ◌<◌, ◌⊎◌, map, Ok, Err, IfOk, IfSome, IsErrOf, OnErr, MatchResult, true, false};
 ghost use Rattle.std.specs.Io.KnownBytes.{Appends};
 ghost use Rattle.std.specs.String.{string_bytes};
 ghost use Rattle.mux_frame.specs.Frames.{kept_frame};
 ghost use Rattle.mux_frame.specs.Reading.{Reads};
 ghost use Rattle.modem_history.specs.Acts.{act_of};
 ghost use Rattle.modem_driver.specs.Replays.{IsFirstRun, Replays};
-ghost use Rattle.modemctl.specs.Dump.{IsDumpText, IsNoDump};
+ghost use Rattle.modemctl.specs.Dump.{IsNoDump};
 ghost use Rattle.modemctl.specs.Input.{HasBad, IsFirstBad, input_lines};
 ghost use Rattle.modemctl.specs.Printed.{IsFramed, IsPrinted, IsReplayed};
-ghost use Rattle.modemctl.specs.Script.{IsNoOrder, IsScriptText};
+ghost use Rattle.modemctl.specs.Script.{IsNoOrder};
 ghost use Rattle.modemctl.specs.Statuses.{status_of};
 ghost use Rattle.modemctl.specs.declared.stop.Stop.TheVariants as Stop;
 
@@ -21,7 +21,7 @@ use crate::stop::Stop;
 use crate::texts::{acts_text, frames_text};
 use modem_driver::{Act, CoreError, Event, replay};
 use mux_frame::{FrameBuf, FrameError};
-use std::alloc::Global;
+use std::alloc::{AllocError, Global};
 use std::io::{Read, Write};
 
 /// Writes the output whole, and says whether the writer took it.
@@ -57,40 +57,44 @@ fn finish<W: Write, E: Write>(output: &mut W, faults: &mut E, built: Result<Stri
     }
 }
 
+/// Whether frames may have so many octets of information.
+fn takes_n1(n1: u16) -> bool
+    ensures good { result ≡ true → (31 ≤ n1) × (n1 ≤ 32767) }
+    ensures bad { result ≡ false → (n1 < 31) ⊎ (32767 < n1) }
+{
+    (31..=32767).contains(&n1)
+}
+
 /// What events come to.
-fn acts_of(alloc: Global, n1: u16, events: &[Event]) -> Result<Vec<Act>, Stop>
-    ensures ok { IfOk result (λ acts. IsFirstRun n1 events.now → Replays n1 events.now (map act_of acts.items)) }
-    ensures bad_n1 { IsErrOf result Stop.BadN1 ↔ ((n1 < 31) ⊎ (32767 < n1)) }
-    ensures err { IfErr result (λ stop. (stop ≡ Stop.BadN1) ⊎ (stop ≡ Stop.NoMemory)) }
+fn acts_of(alloc: Global, n1: u16, events: &[Event]) -> Result<Vec<Act>, AllocError>
+    requires { (31 ≤ n1) × (n1 ≤ 32767) }
+    ensures { IfOk result (λ acts. IsFirstRun n1 events.now → Replays n1 events.now (map act_of acts.items)) }
 {
     match replay(alloc, n1, events) {
         Ok(acts) => Ok(acts),
-        Err(CoreError::BadN1) => Err(Stop::BadN1),
-        Err(CoreError::NoMemory) => Err(Stop::NoMemory),
-        Err(CoreError::NoRoom) => unreachable!(),
+        Err(CoreError::NoMemory) => Err(AllocError),
+        Err(CoreError::BadN1 | CoreError::NoRoom) => unreachable!(),
     }
 }
 
 /// What octets are read as: frames, and the octets of the rest.
-fn frames_of(alloc: Global, n1: u16, octets: &[u8]) -> Result<(Vec<FrameBuf>, Vec<u8>), Stop>
-    ensures ok { IfOk result (λ read. Reads n1 octets.now (map kept_frame read.0.items) read.1.items) }
-    ensures bad_n1 { IsErrOf result Stop.BadN1 ↔ ((n1 < 31) ⊎ (32767 < n1)) }
-    ensures err { IfErr result (λ stop. (stop ≡ Stop.BadN1) ⊎ (stop ≡ Stop.NoMemory)) }
+fn frames_of(alloc: Global, n1: u16, octets: &[u8]) -> Result<(Vec<FrameBuf>, Vec<u8>), AllocError>
+    requires { (31 ≤ n1) × (n1 ≤ 32767) }
+    ensures { IfOk result (λ read. Reads n1 octets.now (map kept_frame read.0.items) read.1.items) }
 {
     match read_frames(alloc, n1, octets) {
         Ok(read) => Ok(read),
-        Err(FrameError::BadN1) => Err(Stop::BadN1),
-        Err(FrameError::NoMemory) => Err(Stop::NoMemory),
-        Err(FrameError::TooLong) => unreachable!(),
+        Err(FrameError::NoMemory) => Err(AllocError),
+        Err(FrameError::BadN1 | FrameError::TooLong) => unreachable!(),
     }
 }
 
 /// The acts that a script comes to, as text.
 fn replayed<R: Read>(alloc: Global, input: &mut R, n1: u16) -> Result<String, Stop>
+    requires { (31 ≤ n1) × (n1 ≤ 32767) }
     ensures ok { IfOk result (λ text. IfSome (R.remaining input.old) (λ all. IsReplayed n1 all (string_bytes text))) }
     ensures bad_line { (place : ℕ) → IsErrOf result (Stop.BadLine place) → IfSome (R.remaining input.old) (λ text. IsFirstBad IsNoOrder (input_lines text) place) }
-    ensures bad_n1 { IsErrOf result Stop.BadN1 → ((n1 < 31) ⊎ (32767 < n1)) × IfSome (R.remaining input.old) IsScriptText }
-    ensures n1 { (n1 < 31) ⊎ (32767 < n1) → IsErr result }
+    ensures others { result ≢ Err Stop.BadN1 }
 {
     let script = read_whole(alloc, input)?;
     let events = read_script(alloc, script.as_slice())?;
@@ -101,10 +105,10 @@ fn replayed<R: Read>(alloc: Global, input: &mut R, n1: u16) -> Result<String, St
 
 /// The frames that octets are read as, and the rest, as text.
 fn framed<R: Read>(alloc: Global, input: &mut R, n1: u16) -> Result<String, Stop>
+    requires { (31 ≤ n1) × (n1 ≤ 32767) }
     ensures ok { IfOk result (λ text. IfSome (R.remaining input.old) (λ all. IsFramed n1 all (string_bytes text))) }
     ensures bad_line { (place : ℕ) → IsErrOf result (Stop.BadLine place) → IfSome (R.remaining input.old) (λ text. IsFirstBad IsNoDump (input_lines text) place) }
-    ensures bad_n1 { IsErrOf result Stop.BadN1 → ((n1 < 31) ⊎ (32767 < n1)) × IfSome (R.remaining input.old) IsDumpText }
-    ensures n1 { (n1 < 31) ⊎ (32767 < n1) → IsErr result }
+    ensures others { result ≢ Err Stop.BadN1 }
 {
     let dump = read_whole(alloc, input)?;
     let octets = read_dump(alloc, dump.as_slice())?;
@@ -114,7 +118,8 @@ fn framed<R: Read>(alloc: Global, input: &mut R, n1: u16) -> Result<String, Stop
 }
 
 /// Replays the script of `input`, and writes the acts to `output`. The status is 0 where all of them are
-/// written, 1 at a fault, 2 at a bad line or a bad N1; at 1 and 2 it says on `faults` why.
+/// written, 1 at a fault, 2 at a bad line; at 1 and 2 it says on `faults` why. It is 2 at a bad N1, one
+/// that isn't 31 to 32767, and then nothing is read.
 pub fn replay_run<R: Read, W: Write, E: Write>(
     alloc: Global,
     input: &mut R,
@@ -126,9 +131,12 @@ pub fn replay_run<R: Read, W: Write, E: Write>(
     ensures done { result ≡ 0 → IsPrinted (IsReplayed n1) (R.remaining input.old) (W.contents output.old) (W.contents output.new) }
     ensures refused { result ≡ 2 → ((n1 < 31) ⊎ (32767 < n1)) ⊎ IfSome (R.remaining input.old) (λ text. HasBad IsNoOrder (input_lines text)) }
     ensures bad { result ≡ 2 → output.new ≡ output.old }
-    ensures bad_n1 { (n1 < 31) ⊎ (32767 < n1) → 0 < result }
+    ensures bad_n1 { (n1 < 31) ⊎ (32767 < n1) → (result ≡ 2) × (input.new ≡ input.old) }
     ensures silent { result ≡ 0 → faults.new ≡ faults.old }
 {
+    if !takes_n1(n1) {
+        return give_up(faults, Stop::BadN1);
+    }
     let built = replayed(alloc, input, n1);
     finish(output, faults, built)
 }
@@ -146,9 +154,12 @@ pub fn frames_run<R: Read, W: Write, E: Write>(
     ensures done { result ≡ 0 → IsPrinted (IsFramed n1) (R.remaining input.old) (W.contents output.old) (W.contents output.new) }
     ensures refused { result ≡ 2 → ((n1 < 31) ⊎ (32767 < n1)) ⊎ IfSome (R.remaining input.old) (λ text. HasBad IsNoDump (input_lines text)) }
     ensures bad { result ≡ 2 → output.new ≡ output.old }
-    ensures bad_n1 { (n1 < 31) ⊎ (32767 < n1) → 0 < result }
+    ensures bad_n1 { (n1 < 31) ⊎ (32767 < n1) → (result ≡ 2) × (input.new ≡ input.old) }
     ensures silent { result ≡ 0 → faults.new ≡ faults.old }
 {
+    if !takes_n1(n1) {
+        return give_up(faults, Stop::BadN1);
+    }
     let built = framed(alloc, input, n1);
     finish(output, faults, built)
 }

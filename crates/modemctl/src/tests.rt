@@ -319,13 +319,101 @@ fn readers_and_writers_may_fail(rt: HostRuntime) {
     }
 }
 
+// Gives its octets one by one, and is interrupted once before the first.
+#[derive(Drop)]
+struct OneByOne<'a> {
+    interrupted: bool,
+    left: &'a [u8],
+}
+
+impl Read for OneByOne<'_> {
+    fn read(&mut self, buf: &mut [u8]) -> io::Result<usize> {
+        if !self.interrupted {
+            self.interrupted = true;
+            return Err(io::Error::from(ErrorKind::Interrupted));
+        }
+        let Some((first, rest)) = self.left.split_first() else {
+            return Ok(0);
+        };
+        if buf.is_empty() {
+            return Ok(0);
+        }
+        buf[0] = *first;
+        self.left = rest;
+        Ok(1)
+    }
+}
+
+// Takes all, and fails when it is flushed.
+#[derive(Drop)]
+struct Unflushed;
+
+impl Write for Unflushed {
+    fn write(&mut self, buf: &[u8]) -> io::Result<usize> {
+        Ok(buf.len())
+    }
+
+    fn flush(&mut self) -> io::Result<()> {
+        Err(io::Error::from(ErrorKind::BrokenPipe))
+    }
+}
+
+#[test]
+fn a_reader_may_give_octets_one_by_one_and_be_interrupted(rt: HostRuntime) {
+    let alloc = rt.alloc();
+    for interrupted in [false, true] {
+        let left = b"F9 03 73 01 D7 F9\r\nF9".as_slice();
+        let mut input = OneByOne { interrupted, left };
+        let mut output = Vec::new(alloc);
+        let mut faults = Vec::new(alloc);
+        let got = frames_run(alloc, &mut input, &mut output, &mut faults, 31);
+        assert_eq!(rt; output.as_slice(), b"0 UA 1 1 -\nrest f9\n".as_slice());
+        assert_eq!(rt; (got, faults.len()), (0, 0));
+    }
+}
+
+#[test]
+fn output_that_is_not_flushed_is_a_fault(rt: HostRuntime) {
+    let alloc = rt.alloc();
+    let mut faults = Vec::new(alloc);
+    let script = b"open 0\n".as_slice();
+    let got = replay_run(alloc, &mut &*script, &mut Unflushed, &mut faults, 31);
+    assert_eq!(rt; faults.as_slice(), b"fault: output\n".as_slice());
+    assert_eq!(rt; got, 1);
+}
+
+#[test]
+fn a_bad_n1_is_refused_before_anything_is_read(rt: HostRuntime) {
+    let alloc = rt.alloc();
+    for n1 in [0, 30, 32768, u16::MAX] {
+        for of_frames in [false, true] {
+            let mut input = b"x".as_slice();
+            let mut output = Vec::new(alloc);
+            let mut faults = Vec::new(alloc);
+            let got = if of_frames {
+                frames_run(alloc, &mut input, &mut output, &mut faults, n1)
+            } else {
+                replay_run(alloc, &mut input, &mut output, &mut faults, n1)
+            };
+            assert_eq!(rt; (got, input.len(), output.len()), (2, 1, 0), "{n1}");
+            assert_eq!(rt; faults.as_slice(), b"error: N1 is 31 to 32767\n".as_slice());
+        }
+    }
+}
+
 // The status of the program at these words, and how many octets it wrote to its output and beside it.
 fn status_at(alloc: Global, said: &[&str]) -> Result<(u8, usize, usize), Fail> {
+    let (status, output, faults) = program_at(alloc, said, b"")?;
+    Ok((status, output.len(), faults.len()))
+}
+
+// The status of the program at these words and this input, and what it wrote to its output and beside it.
+fn program_at(alloc: Global, said: &[&str], input: &[u8]) -> Result<(u8, Vec<u8>, Vec<u8>), Fail> {
     let mut words = Vec::new(alloc);
     for word in said {
         words.push(String::from_str(alloc, *word)?)?;
     }
-    let mut input = b"".as_slice();
+    let mut input = input;
     let mut output = Vec::new(alloc);
     let mut faults = Vec::new(alloc);
     let status = run(
@@ -335,7 +423,23 @@ fn status_at(alloc: Global, said: &[&str]) -> Result<(u8, usize, usize), Fail> {
         &mut output,
         &mut faults,
     );
-    Ok((status, output.len(), faults.len()))
+    Ok((status, output, faults))
+}
+
+#[test]
+fn frames_have_at_most_31_octets_where_no_word_says_more(rt: HostRuntime) -> Result<(), Fail> {
+    let alloc = rt.alloc();
+    let frame = dump_of_letters(alloc, "F905EF41", 32, "26F9")?;
+    let said = ["modemctl", "frames"];
+    let (status, output, _) = program_at(alloc, said.as_slice(), frame.as_bytes())?;
+    assert_eq!(rt; status, 0);
+    assert_eq!(rt; output.as_slice(), b"rest f9\n".as_slice());
+    let said = ["modemctl", "frames", "--n1", "32"];
+    let (status, output, _) = program_at(alloc, said.as_slice(), frame.as_bytes())?;
+    assert_eq!(rt; status, 0);
+    let whole = dump_of_letters(alloc, "1 UIH 0 0 ", 32, "\nrest f9\n")?;
+    assert_eq!(rt; output.as_slice(), whole.as_bytes());
+    Ok(())
 }
 
 #[test]

@@ -6,6 +6,8 @@ use crate::*;
 use std::alloc::Global;
 use std::test::*;
 
+mod no_memory;
+
 /// DLCI, kind, C/R, P/F, information, and the frame as it is spelled.
 type Row = (u8, Kind, bool, bool, &'static [u8], &'static [u8]);
 

@@ -17,3 +17,17 @@ fn frames_are_counted(rt: HostRuntime) {
     assert!(&rt; counts.frames == 2);
     assert!(&rt; counts.information == 2);
 }
+
+#[test]
+fn in_no_octets_there_are_no_frames(rt: HostRuntime) {
+    for n1 in [31, 32767] {
+        let mut counts = Counts {
+            frames: 7,
+            information: 7,
+        };
+        let status = mux_frame_c_count(rt.alloc(), n1, &[], &mut counts);
+        assert!(&rt; status == 0);
+        assert!(&rt; counts.frames == 0);
+        assert!(&rt; counts.information == 0);
+    }
+}

@@ -9,6 +9,7 @@ ghost use Rattle.mux_station.specs.Traces.{LeavesNoTrace};
 ghost use Rattle.mux_station.specs.Fitting.{SeesThePast, SeesTheFrame};
 ghost use Rattle.mux_station.specs.GivenUp.{SeesTheTick};
 ghost use Rattle.mux_station.specs.Senders.{SeesTheTurn};
+ghost use Rattle.mux_station.specs.Giving.{GivesOn};
 ghost use Rattle.mux_station.specs.Noting.{NotedTruly};
 ghost use Rattle.mux_station.specs.Opening.{IsOpenByPlaces};
 ghost use Rattle.mux_station.specs.States.{OpenedIsOpen};
@@ -59,3 +60,12 @@ pub fn turns()
     ensures ticks { (v : Station) (past : List Act) → SeesTheTick v past }
     ensures sender { (v : Station) (past : List Act) → SeesTheTurn v past }
 {}
+
+/// Whatever past a station fits, it fits that past with what `next_frame` gives on, and a past that is lawful
+/// and complete stays so. It takes the station, since the numbers that it keeps are in their ranges.
+#[tactic(auto, using(crate::proofs::Gives::gives_on))]
+pub fn givings(station: &crate::Station)
+    ensures { GivesOn station.now }
+{
+    let _n1 = station.n1;
+}

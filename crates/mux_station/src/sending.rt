@@ -5,7 +5,7 @@ ghost use Rattle.std.specs.Io.BufRead.{Rests};
 ghost use Rattle.mux_frame.specs.Frames.{frame_of};
 ghost use Rattle.mux_station.specs.Acts.{Act as Happened};
 ghost use Rattle.mux_station.specs.Fitting.{Fits};
-ghost use Rattle.mux_station.specs.Giving.{is_ready, first_ready, next_turn, next_sender, data_frame, data_given, next_given, given_on, GivesOn, SendsNext, Waits};
+ghost use Rattle.mux_station.specs.Giving.{is_ready, first_ready, next_turn, next_sender, data_frame, data_given, next_given, given_on, SendsNext, Waits};
 ghost use Rattle.mux_station.specs.Sending.{queue};
 ghost use Rattle.mux_station.specs.Stations.{channel_at};
 ghost use Rattle.mux_station.specs.GivenFrames.{given_frame, outgoing_of, with_freshness, dlci_of};
@@ -88,11 +88,10 @@ impl Station {
     }
 
     /// The next frame for the line, lent, which is then no longer kept: the first of the control
-    /// queue; where that is empty, data of the connection whose turn it is.
-    #[tactic(auto, using(crate::proofs::Gives::gives_on))]
+    /// queue; where that is empty, data of the connection whose turn it is. `laws::givings` says what that
+    /// comes to in each past that the station fits.
     pub fn next_frame(&mut self) -> Option<Outgoing<'_>>
         ensures frame { option_map outgoing_of result ≡ option_map (with_freshness (length self.old.queue == 0)) (next_given self.old self.old.queue) }
-        ensures past { GivesOn self.old }
         ensures* after { sem 𝓛 (Rests the_row self.entry (λ new. new ≡ given_on self.old self.old.queue)) }
     {
         let fresh = self.control.is_empty();

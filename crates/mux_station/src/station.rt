@@ -1,5 +1,5 @@
 //! One end of the line.
-ghost use Rattle.std.specs.Prelude.{◌≡◌, ◌↔◌, ◌⊎◌, ◌<◌, [], List, replicate, IfOk, IsErrOf};
+ghost use Rattle.std.specs.Prelude.{◌≡◌, ◌↔◌, ◌⊎◌, ◌<◌, [], List, replicate, IfOk, OnErr, IsErrOf};
 ghost use Rattle.mux_station.specs.Acts.{Act as Happened};
 ghost use Rattle.mux_station.specs.States.{state_of};
 ghost use Rattle.mux_station.specs.Stopping.{is_stopped};
@@ -73,6 +73,7 @@ impl Station {
         ensures ok { IfOk result (λ s. s ≡ new_station role n1) }
         ensures past { IfOk result (λ s. Fits s []) }
         ensures bad_n1 { IsErrOf result StationError.BadN1 ↔ ((n1 < 31) ⊎ (32767 < n1)) }
+        ensures others { OnErr result (IsErrOf result StationError.BadN1 ⊎ IsErrOf result StationError.NoMemory) }
     {
         if n1 < 31 || n1 > 32767 {
             return Err(StationError::BadN1);

@@ -6,6 +6,8 @@ use std::alloc::Global;
 use std::process::Abort;
 use std::test::*;
 
+mod no_memory;
+
 /// What is done to a station, and what has to come of it.
 #[derive(Clone, Copy)]
 enum Step {

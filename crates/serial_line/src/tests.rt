@@ -8,6 +8,8 @@ use std::test::Fail;
 use std::thread;
 use std::thread::Threads;
 
+mod no_memory;
+
 // Reads into the room and writes what came, so many times. Says how many octets came, and how many
 // of them went.
 fn echo<L: SerialLine>(
@@ -139,6 +141,21 @@ fn octets_past_the_room_are_left_out(rt: HostRuntime) -> Result<(), Fail> {
     expect_sent(&rt, &line, b"uvwx");
     let mut short = cut_line(rt.alloc(), b"abcdef", &[], &[], 4)?;
     expect_read(&rt, &mut short, Ok(b"abcd"));
+    Ok(())
+}
+
+#[test]
+fn a_line_of_thousands_of_octets_finds_memory(rt: HostRuntime) -> Result<(), Fail> {
+    let alloc = rt.alloc();
+    let text = long_text(alloc, 5000)?;
+    let front = long_text(alloc, 1500)?;
+    let cuts = vec![in alloc; Cut::Upto(1500); 4]?;
+    let mut line = cut_line(alloc, text.as_slice(), &cuts, &cuts, 5000)?;
+    expect_write(&rt, &mut line, text.as_slice(), Ok(1500));
+    expect_sent(&rt, &line, front.as_slice());
+    let mut buffer = [0; 1500];
+    assert_eq!(rt; line.try_read(&mut buffer)?, 1500);
+    assert_eq!(rt; buffer.as_slice(), front.as_slice());
     Ok(())
 }
 

@@ -14,6 +14,8 @@ loop-preserved c =
       ears = ap (λ (d : DeskId). d.ears) e.desk ∙ i.ears;
       taken = e.driver.0 ∙ i.taken;
       told = e.driver.1 ∙ ap (λ l. l ++ [] ∷ []) i.told ∙ replicate_more _ _;
+      free = e.free.0 ∙ ap (λ l. l ++ 8 ∷ []) i.free ∙ replicate_more _ _;
+      free_lines = e.free.1 ∙ i.free_lines;
       announced = e.driver.2 ∙ i.announced;
       length = ap (length {A = CallerView}) c.in_ok-push.ensures.items ∙ length_push c.loop.all.items c.in_ok-caller.caller ∙ ap (λ n. n + 1) i.length;
       dealt = subst (λ (l : List CallerView). Dealt c.enrol.new.self.desk c.args.first l) (sym c.in_ok-push.ensures.items)

@@ -9,6 +9,8 @@ invariant-loop l = record {
   ears : l.driver.desk.ears ≡ l.initial.driver.desk.ears;
   taken : l.driver.taken ≡ l.initial.driver.taken;
   told : l.driver.told ≡ replicate l.counter [];
+  free : l.driver.free ≡ replicate l.counter 8;
+  free_lines : l.driver.free_lines ≡ l.initial.driver.free_lines;
   announced : l.driver.announced ≡ l.initial.driver.announced;
   length : length l.all.items ≡ l.counter;
   dealt : Dealt l.driver.desk l.first l.all.items;

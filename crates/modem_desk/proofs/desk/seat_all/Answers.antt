@@ -27,8 +27,10 @@ loop-kind-preserved c =
       ears = ap (λ (d : DeskId). length d.ears) e.desk ∙ length_push c.loop-kind.driver.desk.ears c.in_ok-listener.listener.ear.ring ∙ ap (λ n. n + 1) i.ears;
       taken = e.driver.0 ∙ i.taken;
       told = e.driver.1 ∙ i.told;
+      free = e.free.0 ∙ i.free;
+      free_lines = e.free.1 ∙ ap (λ l. l ++ 256 ∷ []) i.free_lines ∙ replicate_more _ _;
       announced = e.driver.2 ∙ ap (λ l. l ++ [] ∷ []) i.announced ∙ replicate_more _ _;
       length = ap (length {A = ListenerView}) c.in_ok-push.ensures.items ∙ length_push c.loop-kind.all.items c.in_ok-listener.listener ∙ ap (λ n. n + 1) i.length;
       seated = subst (λ (l : List ListenerView). Seated c.seat.new.self.desk l) (sym c.in_ok-push.ensures.items)
-          (seated_more c.loop-kind.driver.desk _ _ _ _ i.seated e.desk (many ∙ sym i.length) (i.ears ∙ sym i.length) (e.listener.0 ∙ many ∙ sym i.length) e.listener.2 e.listener.3);
+          (seated_more c.loop-kind.driver.desk _ _ _ _ i.seated e.desk (many ∙ sym i.length) (i.ears ∙ sym i.length) (e.listener.0 ∙ many ∙ sym i.length) e.listener.2 e.listener.3 e.listener.4);
     }

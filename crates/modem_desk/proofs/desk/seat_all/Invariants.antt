@@ -10,6 +10,8 @@ invariant-loop-kind l = record {
   ears : length l.driver.desk.ears ≡ l.kind-index;
   taken : l.driver.taken ≡ l.initial.driver.taken;
   told : l.driver.told ≡ l.initial.driver.told;
+  free : l.driver.free ≡ l.initial.driver.free;
+  free_lines : l.driver.free_lines ≡ replicate l.kind-index 256;
   announced : l.driver.announced ≡ replicate l.kind-index [];
   length : length l.all.items ≡ l.kind-index;
   seated : Seated l.driver.desk l.all.items;

@@ -13,6 +13,6 @@ returns-clause-ok g c =
       frames = map kept_frame c.in_ok-frames.frames.items;
       rest = c.in_ok-frames.rest.items;
       dump = c.in_ok-octets.ensures;
-      reads = rw c.as_slice-2.ensures.value at c.in_ok-frames.ensures.ok;
+      reads = rw c.as_slice-2.ensures.value at c.in_ok-frames.ensures;
       printed = rw (c.as_slice-3.ensures.value, c.as_slice-4.ensures.value) at c.in_ok-text.ensures;
     })

@@ -1,6 +1,6 @@
-use Rattle.std.specs.Prelude.{◌<◌, ◌⊎◌}
+use Rattle.std.proofs.Common.{inr}
 use Rattle.std.specs.String.{string_bytes}
-use Rattle.modemctl.specs.Dump.{IsNoDump, IsDumpText}
+use Rattle.modemctl.specs.Dump.{IsNoDump}
 use Rattle.modemctl.specs.Printed.{IsFramed}
 use Rattle.modemctl.proofs.Ends.{printed_for, refused_for}
 use Rattle.modemctl.proofs.runs.frames_run.Goals as goal
@@ -11,6 +11,5 @@ returns-clause-done g c =
     c.finish.ensures.ended c.finish.ensures.written c.framed-built.ensures.ok
 
 pub returns-clause-refused : goal.returns-clause-refused
-returns-clause-refused g c =
-    refused_for c.framed-built.result c.finish.result ((c.args.n1 < 31) ⊎ (32767 < c.args.n1)) (g.R.Read.remaining c.args.input.now) IsNoDump IsDumpText
-    c.finish.ensures.ended c.framed-built.ensures.bad_line c.framed-built.ensures.bad_n1
+returns-clause-refused g c e =
+    inr (refused_for c.framed-built.result c.finish.result (g.R.Read.remaining c.args.input.now) IsNoDump c.finish.ensures.ended c.framed-built.ensures.bad_line c.framed-built.ensures.others e)

@@ -12,6 +12,6 @@ returns-clause-ok g c =
       events = c.in_ok-events.events.items;
       acts = map act_of c.in_ok-acts.acts.items;
       script = c.in_ok-events.ensures;
-      replays = rw c.as_slice-2.ensures.value at c.in_ok-acts.ensures.ok;
+      replays = rw c.as_slice-2.ensures.value at c.in_ok-acts.ensures;
       printed = rw c.as_slice-3.ensures.value at c.in_ok-text.ensures;
     })

@@ -16,6 +16,7 @@ returns-clause-opened c =
       taken = b.driver.0 ∙ a.driver.0 ∙ v.3;
       told = b.driver.1 ∙ a.driver.1;
       announced = b.driver.2;
+      free = (b.free.0 ∙ a.free.0, b.free.1);
       callers = (a.callers.0, dealt);
       listeners = b.listeners;
       whole = dealt_whole c.seat_all.new.driver.desk c.args.first c.in_ok-all.all.items (rings ∙ sym a.callers.0) dealt;

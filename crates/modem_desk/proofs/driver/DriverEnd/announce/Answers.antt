@@ -1,10 +1,10 @@
-use Rattle.std.proofs.Common.{rules, ◌≡◌, ap, ◌∙◌, ◌<◌, List, length, map, subst, arith}
+use Rattle.std.proofs.Common.{rules, ◌≡◌, sym, ap, ◌∙◌, ◌<◌, List, length, map, get_or, subst, arith}
 use mathlib.Core.Option.{some}
 use lib.ListN.{get_elem?}
 use Rattle.at_text.specs.declared.unsolicited.UrcKind.{UrcKind}
-use Rattle.modem_desk.specs.Ends.{DriverView, DeskId, RingId, ring_of_producer, EachOnce}
-use Rattle.modem_desk.proofs.Rings.{same_rings, sent_appends, sent_same}
-use Rattle.modem_desk.proofs.KindLemmas.{or_at, announces}
+use Rattle.modem_desk.specs.Ends.{DriverView, DeskId, RingId, FallsByOne, RunsOut, Hears, ring_of_producer, EachOnce}
+use Rattle.modem_desk.proofs.Rings.{same_rings, sent_appends, sent_same, free_at, free_changes}
+use Rattle.modem_desk.proofs.KindLemmas.{or_at, one_place, announces}
 use Rattle.modem_desk.proofs.driver.DriverEnd.announce.Goals as goal
 
 pub index_mut-ring-requires : goal.index_mut-ring-requires
@@ -16,13 +16,13 @@ pub returns-in_default-clause-desk : goal.returns-in_default-clause-desk
 returns-in_default-clause-desk c =
     let was = c.self.view_is in
     let rings = same_rings c.self.inside.lines.items c.place_in-place.result c.index_mut-ring.result.now c.push.new.self c.index_mut-ring.ensures.value c.push.ensures.ring in
-    (ap (λ (l : List RingId). let d : DeskId = record { queue = c.self.inside.pass.table_id; rings = map ring_of_producer c.self.inside.rings.items; kinds = c.self.inside.kinds.items; ears = l } in d) rings ∙ ap (λ (v : DriverView). v.desk) was, ap (λ (v : DriverView). v.taken) was, ap (λ (v : DriverView). v.told) was)
+    (ap (λ (l : List RingId). let d : DeskId = record { queue = c.self.inside.pass.table_id; rings = map ring_of_producer c.self.inside.rings.items; kinds = c.self.inside.kinds.items; ears = l } in d) rings ∙ ap (λ (v : DriverView). v.desk) was, ap (λ (v : DriverView). v.taken) was, ap (λ (v : DriverView). v.told) was, ap (λ (v : DriverView). v.free) was)
 
 pub returns-clause-desk : goal.returns-clause-desk
 returns-clause-desk c =
     let was = c.self.view_is in
     let rings = same_rings c.self.inside.lines.items c.place_in-place.result c.index_mut-ring.result.now c.push.new.self c.index_mut-ring.ensures.value c.push.ensures.ring in
-    (ap (λ (l : List RingId). let d : DeskId = record { queue = c.self.inside.pass.table_id; rings = map ring_of_producer c.self.inside.rings.items; kinds = c.self.inside.kinds.items; ears = l } in d) rings ∙ ap (λ (v : DriverView). v.desk) was, ap (λ (v : DriverView). v.taken) was, ap (λ (v : DriverView). v.told) was)
+    (ap (λ (l : List RingId). let d : DeskId = record { queue = c.self.inside.pass.table_id; rings = map ring_of_producer c.self.inside.rings.items; kinds = c.self.inside.kinds.items; ears = l } in d) rings ∙ ap (λ (v : DriverView). v.desk) was, ap (λ (v : DriverView). v.taken) was, ap (λ (v : DriverView). v.told) was, ap (λ (v : DriverView). v.free) was)
 
 pub returns-in_default-clause-announced : goal.returns-in_default-clause-announced
 returns-in_default-clause-announced c =
@@ -37,3 +37,34 @@ returns-in_default-clause-announced c =
 pub returns-clause-back : goal.returns-clause-back
 returns-clause-back c =
     (search rules, sent_same c.self.inside.lines.items c.place_in-place.result c.index_mut-ring.result.now c.push.new.self c.index_mut-ring.ensures.value c.in-Err.ensures.full.1 ∙ ap (λ (v : DriverView). v.announced) c.self.view_is)
+
+pub returns-in_default-clause-free : goal.returns-in_default-clause-free
+returns-in_default-clause-free c =
+    let kinds : c.deref.result.now ≡ c.args.self.now.desk.kinds = c.deref.ensures.value ∙ ap (λ (v : DriverView). v.desk.kinds) c.self.view_is in
+    let here : get_elem? c.args.self.now.desk.kinds c.place_in-place.result ≡ some c.args.line.kind = subst (λ (ks : List UrcKind). get_elem? ks c.place_in-place.result ≡ some c.args.line.kind) kinds c.place_in-place.ensures in
+    let once = subst EachOnce (ap (λ (v : DriverView). v.desk.kinds) c.self.view_is) c.self.invariant.5 in
+    let lt : c.place_in-place.result < length c.self.inside.lines.items = (let k = (or_at c.deref.result.now c.place_in-place.result c.args.line.kind c.args.line.kind c.place_in-place.ensures).0 in
+    let e = c.deref.ensures.len in let same = c.self.invariant.4 in omega arith) in
+    free_changes c.self.inside.lines.items c.place_in-place.result c.index_mut-ring.result.now c.push.new.self (Hears c.args.self.now.desk.kinds c.args.line.kind) FallsByOne c.args.self.now.free_lines lt c.index_mut-ring.ensures.value
+    (ap (λ (v : DriverView). v.free_lines) c.self.view_is) (λ k at. one_place c.args.self.now.desk.kinds k c.place_in-place.result c.args.line.kind once at here) here c.in_default.ensures.ok.1
+
+pub returns-clause-full : goal.returns-clause-full
+returns-clause-full c =
+    let kinds : c.deref.result.now ≡ c.args.self.now.desk.kinds = c.deref.ensures.value ∙ ap (λ (v : DriverView). v.desk.kinds) c.self.view_is in
+    let here : get_elem? c.args.self.now.desk.kinds c.place_in-place.result ≡ some c.args.line.kind = subst (λ (ks : List UrcKind). get_elem? ks c.place_in-place.result ≡ some c.args.line.kind) kinds c.place_in-place.ensures in
+    let once = subst EachOnce (ap (λ (v : DriverView). v.desk.kinds) c.self.view_is) c.self.invariant.5 in
+    let lt : c.place_in-place.result < length c.self.inside.lines.items = (let k = (or_at c.deref.result.now c.place_in-place.result c.args.line.kind c.args.line.kind c.place_in-place.ensures).0 in
+    let e = c.deref.ensures.len in let same = c.self.invariant.4 in omega arith) in
+    free_changes c.self.inside.lines.items c.place_in-place.result c.index_mut-ring.result.now c.push.new.self (Hears c.args.self.now.desk.kinds c.args.line.kind) RunsOut c.args.self.now.free_lines lt c.index_mut-ring.ensures.value
+    (ap (λ (v : DriverView). v.free_lines) c.self.view_is) (λ k at. one_place c.args.self.now.desk.kinds k c.place_in-place.result c.args.line.kind once at here) here c.in-Err.ensures.full.2
+
+pub returns-clause-fits : goal.returns-clause-fits
+returns-clause-fits c k at room =
+    let kinds : c.deref.result.now ≡ c.args.self.now.desk.kinds = c.deref.ensures.value ∙ ap (λ (v : DriverView). v.desk.kinds) c.self.view_is in
+    let here : get_elem? c.args.self.now.desk.kinds c.place_in-place.result ≡ some c.args.line.kind = subst (λ (ks : List UrcKind). get_elem? ks c.place_in-place.result ≡ some c.args.line.kind) kinds c.place_in-place.ensures in
+    let once = subst EachOnce (ap (λ (v : DriverView). v.desk.kinds) c.self.view_is) c.self.invariant.5 in
+    let lt : c.place_in-place.result < length c.self.inside.lines.items = (let k = (or_at c.deref.result.now c.place_in-place.result c.args.line.kind c.args.line.kind c.place_in-place.ensures).0 in
+    let e = c.deref.ensures.len in let same = c.self.invariant.4 in omega arith) in
+    let e = free_at c.self.inside.lines.items c.place_in-place.result c.index_mut-ring.result.now c.args.self.now.free_lines lt c.index_mut-ring.ensures.value (ap (λ (v : DriverView). v.free_lines) c.self.view_is) in
+    let same = one_place c.args.self.now.desk.kinds k c.place_in-place.result c.args.line.kind once at here in
+    c.in-Err.ensures.succeeds (subst (λ n. 0 < n) (ap (λ j. get_or c.args.self.now.free_lines j 0) same ∙ sym e) room)
