@@ -1,19 +1,18 @@
 -- What a replay of events is.
-use Rattle.std.specs.Prelude.{◌≡◌, ℕ, ◌≤◌, Bool, true, false, List, [], ◌∷◌, ◌++◌, length, take, map, filter, filter_map, Option, Some, None}
+use Rattle.std.specs.Prelude.{◌≡◌, ℕ, true, List, [], ◌∷◌, ◌++◌, map, filter, filter_map, Option, Some, None, if◌then◌else◌}
 use Rattle.std.specs.List.{list_all, flat_map}
 use Rattle.mux_frame.specs.Frames.{Frame}
 use Rattle.mux_frame.specs.Reading.{Reads}
-use Rattle.mux_frame.specs.Deframing.{Deframing, Deframes}
+use Rattle.mux_station.specs.Written.{is_data_frame}
+use Rattle.mux_station.specs.GivenFrames.{with_freshness}
 use Rattle.modem_desk.specs.declared.request.Request.{Request}
 use Rattle.modem_driver.specs.declared.event.Event.{Event}
 use Rattle.modem_driver.specs.declared.event.Event.TheVariants as event
-use Rattle.modem_history.specs.Acts.{Act, Took, Got, Tick, Lost}
-use Rattle.modem_history.specs.Calls.{Setting}
+use Rattle.modem_history.specs.Acts.{Act, Took, Got, Sent, Tick, Lost, Given, after}
+use Rattle.modem_history.specs.Calls.{Setting, replaying}
 use Rattle.modem_history.specs.Lawful.{Keeps}
-use Rattle.modem_history.specs.Wholes.{follows, is_first}
-use Rattle.modem_history.specs.Calls.{replaying}
-use Rattle.modem_driver.specs.Served.{Served, Suits, is_served, is_expected, with_piece}
-use Rattle.modem_history.specs.Requests.{is_apart, are_distinct}
+use Rattle.modem_history.specs.Wholes.{is_said, is_first}
+use Rattle.modem_driver.specs.GoingOut.{next_out}
 
 -- ## Events
 
@@ -33,39 +32,57 @@ octets_in _ = []
 abbrev pub octets : List Event → List ℕ
 octets events = flat_map octets_in events
 
--- a request, or octets
-abbrev pub is_plain : Event → Bool
-is_plain event.Tick = false
-is_plain event.Lost = false
-is_plain _ = true
-
--- a first run: requests and octets, no tick and no loss; at most 128 requests, to open 0 or 1 and commands on them,
--- no caller's number twice; and of the frames that are read in the octets of the first of the events each is a UA on
--- 0 or 1 or a UIH on 1
-pub record IsFirstRun (n1 : ℕ) (events : List Event) : Type 0 where
-  pub plain : list_all is_plain events ≡ true
-  pub few : length (requests events) ≤ 128
-  pub served : list_all (λ (q : Request). is_served q.ask) (requests events) ≡ true
-  pub distinct : are_distinct (requests events) ≡ true
-  pub expected : (k : ℕ) (fs : List Frame) (rest : List ℕ) → Reads n1 (octets (take k events)) fs rest → list_all is_expected fs ≡ true
-
 -- ## Pieces
 
--- one request, frame, tick or loss, and what follows it before the next
+-- one request, frame, tick or loss; the frames, outcomes and lines that follow it; and the data that goes out then
 pub record Piece : Type 0 where
   pub first : Act
   pub more : List Act
+  pub data_frames : List Frame
 
 abbrev pub acts_in : Piece → List Act
-acts_in p = p.first ∷ p.more
+acts_in p = p.first ∷ (p.more ++ map Sent p.data_frames)
 
 abbrev pub first_of : Piece → Act
 first_of p = p.first
 
+-- a mark for each control frame among the acts
+abbrev pub marks_for : List Act → List Act
+marks_for [] = []
+marks_for (Sent f ∷ acts) = if is_data_frame f then marks_for acts else Given ∷ marks_for acts
+marks_for (_ ∷ acts) = marks_for acts
+
+-- the past after the call, each control frame of which is then given on
+abbrev pub after_call : List Act → Piece → List Act
+after_call past p = after (after past (p.first ∷ p.more)) (marks_for p.more)
+
+-- and after the data that goes out then
+abbrev pub with_piece : List Act → Piece → List Act
+with_piece past p = after (after_call past p) (map Sent p.data_frames)
+
 -- the past after some pieces
 abbrev pub past_of : List Act → List Piece → List Act
 past_of past [] = past
-past_of past (p ∷ ps) = past_of (with_piece past (acts_in p)) ps
+past_of past (p ∷ ps) = past_of (with_piece past p) ps
+
+-- each data frame is the next that may go out, of the connection whose turn it is and with as many octets as wait
+-- there, at most N1; and at last there is none
+abbrev pub GoOutInTurn : Setting → List Act → List Frame → Type 0
+GoOutInTurn s past [] = next_out s past ≡ None
+GoOutInTurn s past (f ∷ fs) = (next_out s past ≡ Some (with_freshness true f)) × GoOutInTurn s (Sent f ∷ past) fs
+
+-- what follows the first act are frames that are no data, outcomes and lines; then all data that may go out, in turn;
+-- and after it the history so far is lawful, complete and quiet
+pub record IsPiece (s : Setting) (past : List Act) (p : Piece) : Type 0 where
+  pub follow : list_all is_said p.more ≡ true
+  pub goes_out : GoOutInTurn s (after_call past p) p.data_frames
+  pub keeps : Keeps s (with_piece past p)
+
+abbrev pub ArePieces : Setting → List Act → List Piece → Type 0
+ArePieces s past [] = Unit {0}
+ArePieces s past (p ∷ ps) = IsPiece s past p × ArePieces s (with_piece past p) ps
+
+-- ## What the events begin
 
 -- what the events begin pieces with, after these octets: each request, tick and loss where it comes, and each frame at
 -- the first event after which Reads gives it in the octets so far
@@ -80,42 +97,13 @@ pub data Begins (n1 : ℕ) : List ℕ → List Event → List Act → Type 0 whe
 
 -- ## The promise
 
--- after each piece the history so far is lawful, complete and quiet
-abbrev pub KeepsAlong : Setting → List Act → List Piece → Type 0
-KeepsAlong s past [] = Unit {0}
-KeepsAlong s past (p ∷ ps) = (list_all follows p.more ≡ true) × (Keeps s (with_piece past (acts_in p)) × KeepsAlong s (with_piece past (acts_in p)) ps)
-
--- the acts are one piece per request, frame, tick and loss, in the order of the events
+-- the acts are one piece for each request, frame, tick and loss, in the order of the events
 pub record Replays (n1 : ℕ) (events : List Event) (acts : List Act) : Type 0 where
   pub pieces : List Piece
   pub joins : flat_map acts_in pieces ≡ acts
   pub begins : Begins n1 [] events (map first_of pieces)
-  pub keeps : KeepsAlong (replaying n1) [] pieces
+  pub are_pieces : ArePieces (replaying n1) [] pieces
 
 -- the requests taken, frames got, ticks and losses are those that the events bring, in their order, and no others
 unfoldable pub Brought : ℕ → List Event → List Act → Type 0
 Brought n1 events acts = Begins n1 [] events (filter is_first acts)
-
--- ## On the way
-
--- a list of requests that is no longer than another, and apart from what that one is apart from
-pub record IsWithin (hand among : List Request) : Type 0 where
-  pub few : length hand ≤ length among
-  pub apart : (q : Request) → list_all (λ (r : Request). is_apart r q) among ≡ true → list_all (λ (r : Request). is_apart r q) hand ≡ true
-
--- the pieces of the events so far, and what is kept then
-pub record Runs (n1 : ℕ) (done : List Event) (v : Served) : Type 0 where
-  pub pieces : List Piece
-  pub joins : flat_map acts_in pieces ≡ v.acts
-  pub begins : Begins n1 [] done (map first_of pieces)
-  pub keeps : KeepsAlong (replaying n1) [] pieces
-  pub suits : Suits n1 v (past_of [] pieces)
-  pub within : IsWithin v.hand (requests done)
-
--- so far the deframer has handed out these frames, none is at hand, and a first run is run
-pub record SoFar (n1 : ℕ) (events : List Event) (k : ℕ) (v : Served) (d : Deframing) : Type 0 where
-  pub frames : List Frame
-  pub deframes : Deframes (octets (take k events)) frames d
-  pub idle : d.next ≡ None
-  pub bound : d.n1 ≡ n1
-  pub runs : IsFirstRun n1 events → Runs n1 (take k events) v

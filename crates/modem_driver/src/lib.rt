@@ -1,13 +1,23 @@
 //! The driver of a cellular modem: requests of callers in, frames out, and outcomes back.
 #![tactic(auto)]
 
-mod engine;
+mod act_list;
+mod driver;
 mod error;
 mod event;
+mod hand;
+mod lane;
 pub mod laws;
+mod receiving;
+mod reports;
 mod run;
-mod stage;
+mod sending;
+mod telling;
+mod tick;
+mod took;
+mod written;
 
+pub use driver::Core;
 pub use error::CoreError;
 pub use event::{Event, Octets};
 pub use modem_desk::{Answer, Ask, Outcome, Request, Urc};

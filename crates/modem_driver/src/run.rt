@@ -1,87 +1,206 @@
 //! A replay of what came to the driver.
-ghost use Rattle.std.specs.Prelude.{◌≡◌, ◌≢◌, ◌↔◌, ◌<◌, ◌⊎◌, [], map, None, OnOk, IfOk, IsErrOf, Err};
-ghost use Rattle.modem_history.specs.Acts.{act_of};
-ghost use Rattle.modem_driver.specs.Engines.{served_of};
-ghost use Rattle.modem_driver.specs.Handles.{Handles, Hears};
-ghost use Rattle.modem_driver.specs.Replays.{IsFirstRun, Replays};
+ghost use Rattle.std.specs.Prelude.{◌≡◌, ◌≢◌, ◌↔◌, ◌<◌, ◌≤◌, ◌⊎◌, ◌++◌, [], ◌∷◌, map, length, None, OnOk, IfOk, IsErrOf, Err};
+ghost use Rattle.mux_frame.specs.Frames.{frame_of};
+ghost use Rattle.mux_frame.specs.Spelling.{most_info};
+ghost use Rattle.modem_history.specs.Acts.{act_of, Took, Got, Tick, Lost};
+ghost use Rattle.modem_history.specs.Wholes.{UsesOnce};
+ghost use Rattle.modem_driver.specs.Cores.{Core as Kept};
+ghost use Rattle.modem_driver.specs.Running.{SendsAll, Steps, HandlesEvent, Hears, IsIdle, running_of};
+ghost use Rattle.modem_driver.specs.Replays.{Replays, requests};
 ghost use Rattle.modem_driver.specs.declared.error.CoreError.TheVariants as CoreError;
 
-use crate::engine::Engine;
+use crate::driver::Core;
 use crate::error::CoreError;
 use crate::event::Event;
+use at_text::UrcKind;
+use modem_desk::Request;
 use modem_history::Act;
-use mux_frame::{Deframer, FrameError};
+use mux_frame::{Deframer, FrameError, FrameView};
 use std::alloc::{AllocError, Global};
 
+/// Every kind of an unsolicited line.
+const KINDS: [UrcKind; 7] = [
+    UrcKind::Ring,
+    UrcKind::Cring,
+    UrcKind::Creg,
+    UrcKind::Cgreg,
+    UrcKind::Cgev,
+    UrcKind::Ciev,
+    UrcKind::Other,
+];
+
+/// Everything goes out that may.
+fn send_all(alloc: Global, core: &mut Core, acts: &mut Vec<Act>) -> Result<(), AllocError>
+    ensures sends { OnOk result (SendsAll core.old core.new (map act_of acts.old.items) (map act_of acts.new.items)) }
+    ensures idle { OnOk result (IsIdle core.new) }
+    ensures n1 { OnOk result (core.new.station.n1 ≡ core.old.station.n1) }
+{
+    while let Some(outgoing) = core.outgoing() {
+        if outgoing.fresh {
+            acts.push(Act::Sent(outgoing.frame.to_buf(alloc)?))?;
+        }
+    }
+    Ok(())
+}
+
+/// A replay under way: the driver, and all acts so far.
+#[derive(Drop)]
+struct Running {
+    alloc: Global,
+    core: Core,
+    acts: Vec<Act>,
+}
+
+impl Running {
+    /// The acts of a call, and then everything goes out that may.
+    fn go_on(&mut self, mut acts: Vec<Act>) -> Result<(), AllocError>
+        ensures sends { OnOk result (SendsAll self.old.core self.new.core (map act_of self.old.acts.items ++ map act_of acts.items) (map act_of self.new.acts.items)) }
+        ensures idle { OnOk result (IsIdle self.new.core) }
+        ensures n1 { OnOk result (self.new.core.station.n1 ≡ self.old.core.station.n1) }
+    {
+        self.acts.append(&mut acts)?;
+        send_all(self.alloc, &mut self.core, &mut self.acts)
+    }
+
+    /// A request comes.
+    #[tactic(auto, using(crate::proofs::CallPieces::steps))]
+    fn took(&mut self, request: Request) -> Result<(), CoreError>
+        ensures steps { OnOk result (Steps (Took request) (running_of self.old) (running_of self.new)) }
+        ensures idle { OnOk result (IsIdle self.new.core) }
+        ensures n1 { OnOk result (self.new.core.station.n1 ≡ self.old.core.station.n1) }
+        ensures no_room { result ≢ Err CoreError.NoRoom }
+        ensures n1_good { result ≢ Err CoreError.BadN1 }
+    {
+        match self.core.took(request) {
+            Ok(acts) => Ok(self.go_on(acts)?),
+            Err((error, _)) => Err(error),
+        }
+    }
+
+    /// A frame comes.
+    #[tactic(auto, using(crate::proofs::CallPieces::steps))]
+    fn got(&mut self, frame: FrameView<'_>) -> Result<(), CoreError>
+        requires idle { IsIdle self.old.core }
+        requires short { length frame.info.now ≤ most_info self.old.core.station.n1 frame.kind }
+        ensures steps { OnOk result (Steps (Got (frame_of frame.entry)) (running_of self.old) (running_of self.new)) }
+        ensures idle { OnOk result (IsIdle self.new.core) }
+        ensures n1 { OnOk result (self.new.core.station.n1 ≡ self.old.core.station.n1) }
+        ensures no_room { result ≢ Err CoreError.NoRoom }
+        ensures n1_good { result ≢ Err CoreError.BadN1 }
+    {
+        let acts = self.core.got(frame)?;
+        self.go_on(acts)?;
+        Ok(())
+    }
+
+    /// A tick comes.
+    #[tactic(auto, using(crate::proofs::CallPieces::steps))]
+    fn tick(&mut self) -> Result<(), CoreError>
+        ensures steps { OnOk result (Steps Tick (running_of self.old) (running_of self.new)) }
+        ensures idle { OnOk result (IsIdle self.new.core) }
+        ensures n1 { OnOk result (self.new.core.station.n1 ≡ self.old.core.station.n1) }
+        ensures no_room { result ≢ Err CoreError.NoRoom }
+        ensures n1_good { result ≢ Err CoreError.BadN1 }
+    {
+        let acts = self.core.tick()?;
+        self.go_on(acts)?;
+        Ok(())
+    }
+
+    /// The line is lost.
+    #[tactic(auto, using(crate::proofs::CallPieces::steps))]
+    fn lost(&mut self) -> Result<(), CoreError>
+        ensures steps { OnOk result (Steps Lost (running_of self.old) (running_of self.new)) }
+        ensures idle { OnOk result (IsIdle self.new.core) }
+        ensures n1 { OnOk result (self.new.core.station.n1 ≡ self.old.core.station.n1) }
+        ensures no_room { result ≢ Err CoreError.NoRoom }
+        ensures n1_good { result ≢ Err CoreError.BadN1 }
+    {
+        let acts = self.core.lost()?;
+        self.go_on(acts)?;
+        Ok(())
+    }
+}
+
 /// The frames at hand come, one after the other.
-fn handle_frames(deframer: &mut Deframer, n1: u16, engine: &mut Engine) -> Result<(), AllocError>
-    requires { 0 < n1 }
+fn handle_frames(deframer: &mut Deframer, running: &mut Running) -> Result<(), CoreError>
+    requires n1 { running.old.core.station.n1 ≡ deframer.old.n1 }
+    requires idle { IsIdle running.old.core }
     ensures all { OnOk result (deframer.new.next ≡ None) }
-    ensures come { OnOk result (Hears n1 [] deframer.old deframer.new (served_of engine.old) (served_of engine.new)) }
+    ensures come { OnOk result (Hears [] deframer.old deframer.new (running_of running.old) (running_of running.new)) }
+    ensures idle { OnOk result (IsIdle running.new.core) }
+    ensures n1 { OnOk result (running.new.core.station.n1 ≡ deframer.new.n1) }
+    ensures no_room { result ≢ Err CoreError.NoRoom }
+    ensures n1_good { result ≢ Err CoreError.BadN1 }
 {
     while let Some(frame) = deframer.peek() {
-        engine.got(usize::from(n1), frame)?;
+        running.got(frame)?;
         deframer.advance();
     }
     Ok(())
 }
 
 /// Octets come, as much at a time as there is room for.
-fn hear(
-    deframer: &mut Deframer,
-    n1: u16,
-    engine: &mut Engine,
-    octets: &[u8],
-) -> Result<(), AllocError>
-    requires n1 { 0 < n1 }
-    requires idle { deframer.old.next ≡ None }
+fn hear(deframer: &mut Deframer, running: &mut Running, octets: &[u8]) -> Result<(), CoreError>
+    requires n1 { running.old.core.station.n1 ≡ deframer.old.n1 }
+    requires idle { IsIdle running.old.core }
+    requires none { deframer.old.next ≡ None }
     ensures all { OnOk result (deframer.new.next ≡ None) }
-    ensures come { OnOk result (Hears n1 octets.now deframer.old deframer.new (served_of engine.old) (served_of engine.new)) }
+    ensures come { OnOk result (Hears octets.now deframer.old deframer.new (running_of running.old) (running_of running.new)) }
+    ensures idle { OnOk result (IsIdle running.new.core) }
+    ensures n1 { OnOk result (running.new.core.station.n1 ≡ deframer.new.n1) }
+    ensures no_room { result ≢ Err CoreError.NoRoom }
+    ensures n1_good { result ≢ Err CoreError.BadN1 }
 {
     let mut left = octets;
     while !left.is_empty() {
         let count = deframer.feed(left);
         (_, left) = left.split_at(count);
-        handle_frames(deframer, n1, engine)?;
+        handle_frames(deframer, running)?;
     }
     Ok(())
 }
 
 /// What one event comes to.
-fn handle(
-    deframer: &mut Deframer,
-    n1: u16,
-    engine: &mut Engine,
-    event: &Event,
-) -> Result<(), AllocError>
-    requires n1 { 0 < n1 }
-    requires idle { deframer.old.next ≡ None }
+fn handle(deframer: &mut Deframer, running: &mut Running, event: &Event) -> Result<(), CoreError>
+    requires n1 { running.old.core.station.n1 ≡ deframer.old.n1 }
+    requires idle { IsIdle running.old.core }
+    requires none { deframer.old.next ≡ None }
     ensures all { OnOk result (deframer.new.next ≡ None) }
-    ensures come { OnOk result (Handles n1 event.now deframer.old deframer.new (served_of engine.old) (served_of engine.new)) }
+    ensures come { OnOk result (HandlesEvent event.now deframer.old deframer.new (running_of running.old) (running_of running.new)) }
+    ensures idle { OnOk result (IsIdle running.new.core) }
+    ensures n1 { OnOk result (running.new.core.station.n1 ≡ deframer.new.n1) }
+    ensures no_room { result ≢ Err CoreError.NoRoom }
+    ensures n1_good { result ≢ Err CoreError.BadN1 }
 {
     match event {
-        Event::Ask(request) => engine.took(usize::from(n1), request.copy()?),
-        Event::Octets(octets) => hear(deframer, n1, engine, octets.as_slice()),
-        Event::Tick => engine.note(Act::Tick),
-        Event::Lost => engine.note(Act::Lost),
+        Event::Ask(request) => running.took(request.copy()?),
+        Event::Octets(octets) => hear(deframer, running, octets.as_slice()),
+        Event::Tick => running.tick(),
+        Event::Lost => running.lost(),
     }
 }
 
 /// The whole history of events, each handled in its turn: what was asked and got, what was sent,
-/// and what was told. N1 is 31 to 32767 octets (3GPP TS 27.010 5.7.2); NoRoom doesn't come.
+/// heard and told. After each request, frame, tick and loss everything goes out that may. N1 is 31 to
+/// 32767 octets (3GPP TS 27.010 5.7.2); NoRoom doesn't come.
 pub fn replay(alloc: Global, n1: u16, events: &[Event]) -> Result<Vec<Act>, CoreError>
     ensures bad_n1 { IsErrOf result CoreError.BadN1 ↔ ((n1 < 31) ⊎ (32767 < n1)) }
     ensures others { result ≢ Err CoreError.NoRoom }
-    ensures ok { IfOk result (λ acts. IsFirstRun n1 events.now → Replays n1 events.now (map act_of acts.items)) }
+    ensures ok { IfOk result (λ acts. UsesOnce (requests events.now) → Replays n1 events.now (map act_of acts.items)) }
 {
     let mut deframer = match Deframer::new(alloc, n1) {
         Ok(deframer) => deframer,
         Err(FrameError::BadN1) => return Err(CoreError::BadN1),
         Err(_) => return Err(CoreError::NoMemory),
     };
-    let mut engine = Engine::new(alloc);
+    let mut running = Running {
+        alloc,
+        core: Core::new(alloc, n1, &KINDS)?,
+        acts: Vec::new(alloc),
+    };
     for event in events {
-        handle(&mut deframer, n1, &mut engine, event)?;
+        handle(&mut deframer, &mut running, event)?;
     }
-    Ok(engine.acts)
+    Ok(running.acts)
 }

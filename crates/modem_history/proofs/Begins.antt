@@ -80,7 +80,7 @@ turns_begun ms c none t =
     let closed : IsNone w = subst (λ (o : Option Window). IsNone (option_map shown o)) (sym none) refl in
     record { in_turn = (begins w (Some (opened c)) ms c (fits_itself ms t) closed refl).in_turn; order = order_begun ms c none t.order }
 
-none_open : (o : Option Window) → open_count o ≡ 0 → o ≡ None
+pub none_open : (o : Option Window) → open_count o ≡ 0 → o ≡ None
 none_open None e = refl
 none_open (Some w) e = cc
 

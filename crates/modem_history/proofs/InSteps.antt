@@ -70,7 +70,7 @@ itself q = and_from (q.caller == q.caller) (q.number == q.number) (eq-eqb q.call
 abbrev pub Few : List Request → Type 0
 Few qs = (r : Request) → many r qs ≤ 1
 
-distinct_few : (qs : List Request) → Few qs → are_distinct qs ≡ true
+pub distinct_few : (qs : List Request) → Few qs → are_distinct qs ≡ true
 distinct_few [] h = refl
 distinct_few (q ∷ qs) h =
     let here = h q in
@@ -78,7 +78,7 @@ distinct_few (q ∷ qs) h =
     let none : many q qs ≡ 0 = omega (arith, here, first) in
     and_from (list_all (is_apart q) qs) (are_distinct qs) (none_same q qs none) (distinct_few qs (λ r. let x = h r in omega (arith, x)))
 
-few_hand : (past : List Act) → Few (taken past) → Few (in_hand past)
+pub few_hand : (past : List Act) → Few (taken past) → Few (in_hand past)
 few_hand past h r = let a = hand_few r past in let b = h r in omega (arith, a, b)
 
 pub few_before : (past : List Act) (q : Request) → Few (taken past ++ q ∷ []) → Few (taken past)
@@ -104,7 +104,7 @@ none_and : (b : Bool) → (false || (b && false)) ≡ false
 none_and true = refl
 none_and false = refl
 
-given_open : (r : Role) (d : ℕ) (w : List station.Act) → is_open r d (station.Given ∷ w) ≡ is_open r d w
+pub given_open : (r : Role) (d : ℕ) (w : List station.Act) → is_open r d (station.Given ∷ w) ≡ is_open r d w
 given_open r d w =
     let t = standings r d w in
     same_stand (opens r t.zero.is_open t.own.is_asked d station.Given) t.own.is_open (ends t.zero.is_open d station.Given) (opens_by_mark r t.zero.is_open t.own.is_asked d) (none_and (not (d == 0)))
@@ -135,13 +135,13 @@ kept_given s d past k =
     (if_false (opens_now s.role d (wire past) station.Given) [] (accepted s.role d past) (opens_by_mark s.role _ _ d)) refl refl k
 
 -- a command that begins has no answer yet
-answered_begun : (ms : List Mark) (c : List ℕ) → answered (ms ++ Begun c ∷ []) ≡ answered ms
+pub answered_begun : (ms : List Mark) (c : List ℕ) → answered (ms ++ Begun c ∷ []) ≡ answered ms
 answered_begun ms c =
     ap (λ (ws : List Window). length (filter has_final (map answer_of ws))) (windows-begun ms c)
     ∙ (ap (λ (v : List (List (List ℕ))). length (filter has_final v)) (map-append answer_of (windows ms) (record { command = c; after = [] } ∷ []))
     ∙ ap length (filter-append has_final (answers ms) ([] ∷ []) ∙ append-nil (filter has_final (answers ms))))
 
-answered_commands : (ms : List Mark) (qs : List Request) → answered (ms ++ marks_of qs) ≡ answered ms
+pub answered_commands : (ms : List Mark) (qs : List Request) → answered (ms ++ marks_of qs) ≡ answered ms
 answered_commands ms [] = ap answered (append-nil ms)
 answered_commands ms (q ∷ qs) =
     ap answered (sym (append_assoc ms (Begun (line_of q) ∷ []) (marks_of qs))) ∙ (answered_commands (ms ++ Begun (line_of q) ∷ []) qs ∙ answered_begun ms (line_of q))
@@ -150,7 +150,7 @@ sent_answered : (r : Role) (d : ℕ) (past : List Act) (f : Frame) (b : Bool) �
 sent_answered r d past f true = answered_commands (marks r d past) _
 sent_answered r d past f false = refl
 
-data_open : (r : Role) (d e : ℕ) (f : Frame) (w : List station.Act) → (e == 0) ≡ false → is_open r d (station.Sent (data_on e f) ∷ w) ≡ is_open r d w
+pub data_open : (r : Role) (d e : ℕ) (f : Frame) (w : List station.Act) → (e == 0) ≡ false → is_open r d (station.Sent (data_on e f) ∷ w) ≡ is_open r d w
 data_open r d e f w z =
     let t = standings r d w in
     same_stand (opens r t.zero.is_open t.own.is_asked d (station.Sent (data_on e f))) t.own.is_open (ends t.zero.is_open d (station.Sent (data_on e f)))
@@ -161,7 +161,7 @@ data_asked r d e f w z =
     let t = standings r d w in
     same_stand false t.own.is_asked (false || ends t.zero.is_open d (station.Sent (data_on e f))) refl (data_ends_none t.zero.is_open d e f z)
 
-not_on_zero : (f : Frame) → is_data_frame f ≡ true → (f.dlci == 0) ≡ false
+pub not_on_zero : (f : Frame) → is_data_frame f ≡ true → (f.dlci == 0) ≡ false
 not_on_zero f h = not_true (f.dlci == 0) (and_parts _ (not (f.dlci == 0)) h).1
 
 kept_data : (s : Setting) (d : ℕ) (past : List Act) (f : Frame) → is_data_frame f ≡ true → Kept s d past → Kept s d (Sent f ∷ past)

@@ -40,10 +40,10 @@ use Rattle.modem_history.proofs.Owning.{Kept, told_off_all, left_in, seen_open, 
 -- ## Lines and requests
 
 -- the lines of the frame close a window
-abbrev closes : List Mark → List (List ℕ) → Bool
+abbrev pub closes : List Mark → List (List ℕ) → Bool
 closes ms ls = is_some (open_window ms) && not (is_some (open_window (ms ++ map Line ls)))
 
-abbrev left_by : Bool → Option Request → List Request → List Request
+abbrev pub left_by : Bool → Option Request → List Request → List Request
 left_by c owner hand = if c then minus owner hand else hand
 
 lines_off : (s : Setting) (d : ℕ) (owner : Option Request) (ms : List Mark) (ls : List (List ℕ)) (hand : List Request) → taken_off (by_lines s d owner ms ls) hand ≡ left_by (closes ms ls) owner hand
@@ -62,11 +62,11 @@ left_swap acts false owner hand = refl
 left_swap acts true None hand = refl
 left_swap acts true (Some r) hand = off_swap acts (outcome_of r Opened) hand
 
-abbrev owner_of : List Act → ℕ → Option Request
+abbrev pub owner_of : List Act → ℕ → Option Request
 owner_of past d = first_on d (in_hand past)
 
 -- the requests in hand at the end, where the frame carries data
-data_hand : (s : Setting) (past : List Act) (f : Frame) → is_opened ((seen s past).state f.dlci) && is_data_frame f ≡ true → are_distinct (in_hand past) ≡ true
+pub data_hand : (s : Setting) (past : List Act) (f : Frame) → is_opened ((seen s past).state f.dlci) && is_data_frame f ≡ true → are_distinct (in_hand past) ≡ true
     → in_hand (ended s past (Got f)) ≡ left_by (closes (marks s.role f.dlci past) (lines (run_on s.role f.dlci past ++ f.info))) (owner_of past f.dlci) (left_in s past (Got f))
 data_hand s past f b h =
     let a = Got f in
@@ -126,7 +126,7 @@ commands_left d true hand left same = by_owner (first_on d hand) (first_head d h
     by_owner (Some r) e = left_commands d r left ∙ (ap (minus (Some r)) same ∙ ap (λ (x : Option Request). minus x (commands_for d hand)) e)
 
 -- how many commands have begun, before and after lines
-begun_same : (ms : List Mark) (ls : List (List ℕ)) → begun_count (ms ++ map Line ls) ≡ begun_count ms
+pub begun_same : (ms : List Mark) (ls : List (List ℕ)) → begun_count (ms ++ map Line ls) ≡ begun_count ms
 begun_same ms ls =
     sym (begun_counted (ms ++ map Line ls))
     ∙ (ap length (begun_append ms (map Line ls) ∙ (ap (λ (v : List (List ℕ)). begun_in ms ++ v) (begun_lines ls) ∙ append-nil (begun_in ms))) ∙ begun_counted ms)
@@ -182,7 +182,7 @@ data_answers s d past ls before cs left l h acc ans e = by_windows (open_window 
 
 -- ## The whole call
 
-opens_none : (r : Role) → r ≡ Initiator → (z k : Bool) (d : ℕ) (f : Frame) → is_data_frame f ≡ true → opens r z k d (station.Got f) ≡ false
+pub opens_none : (r : Role) → r ≡ Initiator → (z k : Bool) (d : ℕ) (f : Frame) → is_data_frame f ≡ true → opens r z k d (station.Got f) ≡ false
 opens_none Initiator e z k d f h = ap (λ (g : Frame). opens Initiator z k d (station.Got g)) (is_data f h)
 opens_none Responder e z k d f h = cc
 
@@ -196,16 +196,16 @@ shut_opens Initiator e d f w h k = opens_shut d f w h k
 shut_opens Responder e d f w h k = cc
 
 -- an open connection that this frame doesn't open was open before it
-got_was : (s : Setting) (d : ℕ) (past : List Act) (f : Frame) → opens_now s.role d (wire past) (station.Got f) ≡ false → is_open s.role d (wire (ended s past (Got f))) ≡ true → is_open s.role d (wire past) ≡ true
+pub got_was : (s : Setting) (d : ℕ) (past : List Act) (f : Frame) → opens_now s.role d (wire past) (station.Got f) ≡ false → is_open s.role d (wire (ended s past (Got f))) ≡ true → is_open s.role d (wire past) ≡ true
 got_was s d past f n o =
     let t = standings s.role d (wire past) in
     open_left t.own.is_open (not (ends t.zero.is_open d (station.Got f))) (or_right (opens_now s.role d (wire past) (station.Got f)) _ n (open_first s d past (Got f) o))
 
 -- a frame without data on an open connection
-abbrev is_read : Setting → List Act → Frame → Bool
+abbrev pub is_read : Setting → List Act → Frame → Bool
 is_read s past f = is_opened ((seen s past).state f.dlci) && is_data_frame f
 
-unread_hand : (s : Setting) (past : List Act) (f : Frame) → is_read s past f ≡ false → are_distinct (in_hand past) ≡ true → in_hand (ended s past (Got f)) ≡ left_in s past (Got f)
+pub unread_hand : (s : Setting) (past : List Act) (f : Frame) → is_read s past f ≡ false → are_distinct (in_hand past) ≡ true → in_hand (ended s past (Got f)) ≡ left_in s past (Got f)
 unread_hand s past f b h =
     let a = Got f in
     let v = seen s past in
@@ -214,7 +214,7 @@ unread_hand s past f b h =
     (end_of s past a 0).hand_is ∙ (ap (λ (acts : List Act). taken_off (tolds v (now_in s past a) a) (taken_off acts (in_hand past))) none ∙ told_off_all s past a h)
 
 -- it places no lines
-unread_marks : (s : Setting) (d : ℕ) (past : List Act) (f : Frame) → is_read s past f ≡ false → (b c : Bool) → carries d f ≡ b → is_open s.role d (wire past) ≡ c → (b && c) ≡ false
+pub unread_marks : (s : Setting) (d : ℕ) (past : List Act) (f : Frame) → is_read s past f ≡ false → (b c : Bool) → carries d f ≡ b → is_open s.role d (wire past) ≡ c → (b && c) ≡ false
 unread_marks s d past f n true true e g =
     let c = carried d f e in
     let there : is_opened ((seen s past).state f.dlci) ≡ true = seen_open s f.dlci past (ap (λ (m : ℕ). is_open s.role m (wire past)) c.same ∙ g) in
@@ -223,22 +223,22 @@ unread_marks s d past f n true false e g = refl
 unread_marks s d past f n false c e g = refl
 
 -- what a frame makes of what was accepted and placed, where it opens nothing
-got_accepted : (s : Setting) (d : ℕ) (past : List Act) (f : Frame) → opens_now s.role d (wire past) (station.Got f) ≡ false → accepted s.role d (Got f ∷ past) ≡ accepted s.role d past
+pub got_accepted : (s : Setting) (d : ℕ) (past : List Act) (f : Frame) → opens_now s.role d (wire past) (station.Got f) ≡ false → accepted s.role d (Got f ∷ past) ≡ accepted s.role d past
 got_accepted s d past f n = if_false (opens_now s.role d (wire past) (station.Got f)) [] (accepted s.role d past) n
 
-got_marks : (s : Setting) (d : ℕ) (past : List Act) (f : Frame) (b : Bool) → opens_now s.role d (wire past) (station.Got f) ≡ false → (carries d f && is_open s.role d (wire past)) ≡ b
+pub got_marks : (s : Setting) (d : ℕ) (past : List Act) (f : Frame) (b : Bool) → opens_now s.role d (wire past) (station.Got f) ≡ false → (carries d f && is_open s.role d (wire past)) ≡ b
     → marks s.role d (Got f ∷ past) ≡ (if b then marks s.role d past ++ map Line (lines (run_on s.role d past ++ f.info)) else marks s.role d past)
 got_marks s d past f b n e =
     let ms = marks s.role d past in
     let more = ms ++ map Line (lines (run_on s.role d past ++ f.info)) in
     if_false (opens_now s.role d (wire past) (station.Got f)) [] (if carries d f && is_open s.role d (wire past) then more else ms) n ∙ ap (λ (x : Bool). if x then more else ms) e
 
-data_carries : (d : ℕ) (f : Frame) → is_data_frame f ≡ true → (d == 0) ≡ false → f.dlci ≡ d → carries d f ≡ true
+pub data_carries : (d : ℕ) (f : Frame) → is_data_frame f ≡ true → (d == 0) ≡ false → f.dlci ≡ d → carries d f ≡ true
 data_carries d f h z e =
     let kind = (and_parts (is_kind f.kind Uih) (not (f.dlci == 0)) h).0 in
     and_from (not (d == 0)) (is_kind f.kind Uih && (f.dlci == d)) (ap not z) (and_from (is_kind f.kind Uih) (f.dlci == d) kind (eq-eqb f.dlci d e))
 
-carries_apart : (d : ℕ) (f : Frame) (o : Bool) → (d == f.dlci) ≡ false → (carries d f && o) ≡ false
+pub carries_apart : (d : ℕ) (f : Frame) (o : Bool) → (d == f.dlci) ≡ false → (carries d f && o) ≡ false
 carries_apart d f o e = by_carried (carries d f) refl
   where
     by_carried : (b : Bool) → carries d f ≡ b → (b && o) ≡ false

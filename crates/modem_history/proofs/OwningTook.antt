@@ -26,10 +26,10 @@ use Rattle.modem_history.proofs.Owning.{Kept, told_off, told_off_all, left_in, s
 
 -- ## Who is in hand then
 
-abbrev if_none : Option Answer → Request → List Request
+abbrev pub if_none : Option Answer → Request → List Request
 if_none o q = if is_none o then q ∷ [] else []
 
-took_hand : (s : Setting) (past : List Act) (q : Request) → are_distinct (in_hand past ++ q ∷ []) ≡ true → in_hand (ended s past (Took q)) ≡ left_in s past (Took q) ++ if_none (at_once s (seen s past) q) q
+pub took_hand : (s : Setting) (past : List Act) (q : Request) → are_distinct (in_hand past ++ q ∷ []) ≡ true → in_hand (ended s past (Took q)) ≡ left_in s past (Took q) ++ if_none (at_once s (seen s past) q) q
 took_hand s past q h = (end_of s past (Took q) 0).hand_is ∙ by_answer (at_once s (seen s past) q)
   where
     by_answer : (o : Option Answer)
@@ -49,7 +49,7 @@ if_full : (b : Bool) (rest : Option Answer) → (if false then Some LineLost els
 if_full b rest = refl
 
 -- while d is open it is accepted, but for want of a place
-command_once : (s : Setting) (v : Seen) (q : Request) (d : ℕ) → v.lost ≡ false → (d == 0) ≡ false → is_opened (v.state d) ≡ true → (ask : Ask) → q.ask ≡ ask → command_on d ask ≡ true
+pub command_once : (s : Setting) (v : Seen) (q : Request) (d : ℕ) → v.lost ≡ false → (d == 0) ≡ false → is_opened (v.state d) ≡ true → (ask : Ask) → q.ask ≡ ask → command_on d ask ≡ true
     → at_once s v q ≡ (if nat_le 128 (length v.hand) then Some Busy else None)
 command_once s v q d live z h (Command e line) k c =
     let same : e.number ≡ d = eqb-true e.number d c in
@@ -97,7 +97,7 @@ no_frame s past q d Stop k c = cc
 
 -- ## While d is open
 
-less_not : (n m : ℕ) → nat_lt n m ≡ not (nat_le m n)
+pub less_not : (n m : ℕ) → nat_lt n m ≡ not (nat_le m n)
 less_not n m = grind (arith, nat_tests)
 
 -- what is accepted more is what is in hand more

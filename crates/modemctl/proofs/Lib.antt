@@ -6,3 +6,4 @@ pub mod Inputs
 pub mod Orders
 pub mod Readings
 pub mod Scripts
+pub mod ScriptNumbers

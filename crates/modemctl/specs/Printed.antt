@@ -4,7 +4,7 @@ use Rattle.std.specs.Io.KnownBytes.{Appends}
 use Rattle.mux_frame.specs.Frames.{Frame}
 use Rattle.mux_frame.specs.Reading.{Reads}
 use Rattle.modem_history.specs.Acts.{Act}
-use Rattle.modem_driver.specs.Replays.{IsFirstRun, Replays}
+use Rattle.modem_driver.specs.Replays.{Replays}
 use Rattle.modem_driver.specs.declared.event.Event.{Event}
 use Rattle.modemctl.specs.Dump.{dump_octets}
 use Rattle.modemctl.specs.Input.{input_lines}
@@ -25,7 +25,7 @@ pub record IsReplayed (n1 : ℕ) (text shown : List ℕ) : Type 0 where
   pub events : List Event
   pub acts : List Act
   pub script : IsScript 1 (input_lines text) events
-  pub replays : IsFirstRun n1 events → Replays n1 events acts
+  pub replays : Replays n1 events acts
   pub printed : shown ≡ acts_text acts
 
 -- this was made of the input, where that is known, and appended to the output

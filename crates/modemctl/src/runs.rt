@@ -5,7 +5,8 @@ ghost use Rattle.std.specs.String.{string_bytes};
 ghost use Rattle.mux_frame.specs.Frames.{kept_frame};
 ghost use Rattle.mux_frame.specs.Reading.{Reads};
 ghost use Rattle.modem_history.specs.Acts.{act_of};
-ghost use Rattle.modem_driver.specs.Replays.{IsFirstRun, Replays};
+ghost use Rattle.modem_driver.specs.Replays.{Replays, requests};
+ghost use Rattle.modem_history.specs.Wholes.{UsesOnce};
 ghost use Rattle.modemctl.specs.Dump.{IsNoDump};
 ghost use Rattle.modemctl.specs.Input.{HasBad, IsFirstBad, input_lines};
 ghost use Rattle.modemctl.specs.Printed.{IsFramed, IsPrinted, IsReplayed};
@@ -68,7 +69,7 @@ fn takes_n1(n1: u16) -> bool
 /// What events come to.
 fn acts_of(alloc: Global, n1: u16, events: &[Event]) -> Result<Vec<Act>, AllocError>
     requires { (31 ≤ n1) × (n1 ≤ 32767) }
-    ensures { IfOk result (λ acts. IsFirstRun n1 events.now → Replays n1 events.now (map act_of acts.items)) }
+    ensures { IfOk result (λ acts. UsesOnce (requests events.now) → Replays n1 events.now (map act_of acts.items)) }
 {
     match replay(alloc, n1, events) {
         Ok(acts) => Ok(acts),

@@ -37,7 +37,7 @@ shut_fits r d = record { state_is = none r d; unasked = λ h. refl; stop_is = λ
     none : (r : Role) (d : ℕ) → state_of r d [] ≡ shut_channel.state
     none r d = refl
 
-new_past : (r : Role) (n1 : ℕ) → Fits (new_station r n1) []
+pub new_past : (r : Role) (n1 : ℕ) → Fits (new_station r n1) []
 new_past r n1 = record {
   live = refl;
   channels_are = λ d l. subst (λ (c : Channel). ChannelFits r d [] c) (sym (get_or-replicate 62 d shut_channel shut_channel l)) (shut_fits r d);

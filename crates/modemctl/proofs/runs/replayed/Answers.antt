@@ -1,8 +1,10 @@
 use Rattle.std.specs.Prelude.{map}
 use Rattle.std.specs.String.{string_bytes}
 use Rattle.modem_history.specs.Acts.{act_of}
+use Rattle.modemctl.specs.Input.{input_lines}
 use Rattle.modemctl.specs.Printed.{IsReplayed}
 use Rattle.modemctl.proofs.Ends.{at_known}
+use Rattle.modemctl.proofs.ScriptNumbers.{script_once}
 use Rattle.modemctl.proofs.runs.replayed.Goals as goal
 
 pub returns-clause-ok : goal.returns-clause-ok
@@ -12,6 +14,6 @@ returns-clause-ok g c =
       events = c.in_ok-events.events.items;
       acts = map act_of c.in_ok-acts.acts.items;
       script = c.in_ok-events.ensures;
-      replays = rw c.as_slice-2.ensures.value at c.in_ok-acts.ensures;
+      replays = (rw c.as_slice-2.ensures.value at c.in_ok-acts.ensures) (script_once (input_lines c.as_slice.result.now) 1 c.in_ok-events.events.items c.in_ok-events.ensures);
       printed = rw c.as_slice-3.ensures.value at c.in_ok-text.ensures;
     })

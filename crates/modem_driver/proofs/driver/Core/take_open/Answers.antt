@@ -1,0 +1,41 @@
+-- A SABM is sent, or the station refuses.
+use Rattle.std.specs.Prelude.{◌≡◌, ◌<◌, List, [], ◌∷◌, ◌++◌, length, map, refl}
+use Rattle.std.proofs.Common.{ap, sym, ◌∙◌, subst}
+use Rattle.mux_station.specs.Stations.{Station}
+use Rattle.modem_desk.specs.declared.request.Request.{Request}
+use Rattle.modem_history.specs.Acts.{Took, act_of}
+use Rattle.modem_driver.specs.Refusals.{answer_of, told_act}
+use Rattle.modem_driver.specs.Cores.{Core, Handles}
+use Rattle.modem_history.specs.declared.act.Act.TheVariants as code
+use Rattle.modem_driver.proofs.CoreAccepts.{pushed_on}
+use Rattle.modem_driver.proofs.CoreOpens.{Opens, open_handles, open_refused}
+use Rattle.modem_driver.proofs.driver.Core.take_open.Goals as goal
+
+-- src/took.rt:82:13
+pub returns-in-Err-clause-past : goal.returns-in-Err-clause-past
+returns-in-Err-clause-past c =
+    let q = c.args.request in
+    let v : Core = record { station = c.self.inside.station; lanes = c.self.inside.lanes.items; hand = c.self.inside.hand; kinds = c.self.inside.kinds.items; lost = c.self.inside.lost } in
+    let new : Core = record v { station = c.open.new.self } in
+    let same : new ≡ v = ap (λ (w : Station). record v { station = w }) c.in-Err.ensures.err in
+    let told : c.told.result ≡ told_act q (answer_of c.in-Err.why)
+    = c.told.ensures ∙ (ap (told_act c.in_ok-acts.copy) c.answer_of.ensures ∙ ap (λ (r : Request). told_act r (answer_of c.in-Err.why)) c.in_ok-acts.ensures.copy) in
+    let acts = pushed_on c.in_ok-acts.acts c.push.new.self (code.Took q ∷ []) c.into_vec.result.items c.told.result _ _ _ c.in_ok-acts.ensures.acts c.push.ensures told c.into_vec.ensures in
+    subst (λ (x : Core). Handles x new (Took q) (map act_of c.into_vec.result.items)) c.self.view_is
+    (open_refused v new q c.args.dlci c.in-Err.why c.into_vec.result.items c.self.invariant.role_is (ap (λ (x : Core). x.lost) c.self.view_is ∙ c.requires.live)
+    (subst (λ (x : Core). length x.hand < 128) (sym c.self.view_is) c.requires.few) c.requires.ask (sym c.in-Err.ensures.refusal) same acts)
+
+-- src/took.rt:66:5
+pub returns-clause-past : goal.returns-clause-past
+returns-clause-past c =
+    let q = c.args.request in
+    let w = c.open.new.self in
+    let v : Core = record { station = c.self.inside.station; lanes = c.self.inside.lanes.items; hand = c.self.inside.hand; kinds = c.self.inside.kinds.items; lost = c.self.inside.lost } in
+    let new : Core = record v { station = w; hand = c.push-3.new.self } in
+    let same : new ≡ record v { station = w; hand = v.hand ++ q ∷ [] }
+    = ap (λ (rs : List Request). record v { station = w; hand = rs }) (c.push-3.ensures ∙ ap (λ (r : Request). v.hand ++ r ∷ []) c.in_ok-acts.ensures.copy) in
+    let acts = pushed_on c.in_ok-acts.acts c.push-2.new.self (code.Took q ∷ []) c.into_vec-2.result.items (code.Sent c.bare.result) _ _ _ c.in_ok-acts.ensures.acts c.push-2.ensures refl c.into_vec-2.ensures in
+    let opens : Opens v w q c.args.dlci = record { asks = c.requires.ask; taken_on = sym c.in_default.ensures.refusal; goes_on = c.in_default.ensures.past } in
+    subst (λ (x : Core). Handles x new (Took q) (map act_of c.into_vec-2.result.items)) c.self.view_is
+    (open_handles v new w q c.args.dlci c.bare.result c.into_vec-2.result.items c.self.invariant.role_is (ap (λ (x : Core). x.lost) c.self.view_is ∙ c.requires.live)
+    (subst (λ (x : Core). length x.hand < 128) (sym c.self.view_is) c.requires.few) opens same c.bare.ensures acts)

@@ -1,0 +1,140 @@
+-- What a core keeps, and which histories it fits.
+use Rattle.std.specs.Prelude.{◌≡◌, ℕ, ◌+◌, ◌<◌, ◌==◌, ◌↔◌, Bool, true, false, List, [], ◌∷◌, take, Option, None, Some, if◌then◌else◌, slice_index_or, replicate}
+use Rattle.std.specs.List.{list_all, concat, Contains}
+use Rattle.at_text.specs.declared.unsolicited.UrcKind.{UrcKind}
+use Rattle.at_text.specs.OpenWindow.{FitsMarks}
+use Rattle.at_text.specs.Windows.{answered}
+use Rattle.mux_station.specs.declared.role.Role.TheVariants.{Initiator}
+use Rattle.mux_station.specs.declared.role.ChannelState.{ChannelState}
+use Rattle.mux_station.specs.declared.role.ChannelState.TheVariants as is
+use Rattle.mux_station.specs.Acts as station
+use Rattle.mux_station.specs.Opening.{is_open}
+use Rattle.mux_station.specs.Offering.{offered}
+use Rattle.mux_station.specs.Sending.{Waiting}
+use Rattle.mux_station.specs.Stages.{as_shown}
+use Rattle.mux_station.specs.Stations.{Station, new_station, channel_at}
+use Rattle.mux_station.specs.Fitting as station_fits
+use Rattle.mux_station.specs.Traces.{without_calls}
+use Rattle.modem_desk.specs.declared.request.Ask.{Ask}
+use Rattle.modem_desk.specs.declared.request.Ask.TheVariants.{OpenChannel, CloseChannel, Command, Probe, Stop}
+use Rattle.modem_desk.specs.declared.request.Request.{Request}
+use Rattle.modem_driver.specs.Lanes.{Lane, new_lane}
+use Rattle.modem_history.specs.Acts.{Act, wire, in_hand, after}
+use Rattle.modem_history.specs.Information.{accepted, texts}
+use Rattle.modem_history.specs.Placing.{marks, run_on}
+use Rattle.modem_history.specs.Calls.{Setting, calls, is_lost, ticks_since}
+use Rattle.modem_history.specs.Lawful.{Lawful, Complete}
+use Rattle.modem_history.specs.Wholes.{CompleteCalls, UsesOnce, taken}
+
+-- ## What is kept
+
+-- the station, the lanes of the connections 0 to 61, the requests in hand, the kinds that are listened to, and whether the line is lost
+pub record Core : Type 0 where
+  pub station : Station
+  pub lanes : List Lane
+  pub hand : List Request
+  pub kinds : List UrcKind
+  pub lost : Bool
+
+abbrev pub new_core : ℕ → List UrcKind → Core
+new_core n1 kinds = record { station = new_station Initiator n1; lanes = replicate 62 new_lane; hand = []; kinds = kinds; lost = false }
+
+abbrev pub lane_at : Core → ℕ → Lane
+lane_at v d = slice_index_or v.lanes d new_lane
+
+-- how a connection stands: all are Shut once the line is lost
+abbrev pub state_shown : Station → (lost : Bool) → ℕ → ChannelState
+state_shown v lost d = if lost then is.Shut else as_shown (channel_at v d).state
+
+-- ## Which histories it fits
+
+-- a request may wait while the connections stand so
+abbrev pub is_opening : ChannelState → Bool
+is_opening is.Opening = true
+is_opening _ = false
+
+abbrev pub is_closing : ChannelState → Bool
+is_closing is.Closing = true
+is_closing _ = false
+
+abbrev pub is_opened : ChannelState → Bool
+is_opened is.Opened = true
+is_opened _ = false
+
+abbrev pub is_stopping : ChannelState → Bool
+is_stopping is.Stopping = true
+is_stopping _ = false
+
+abbrev pub may_wait : (ℕ → ChannelState) → Ask → Bool
+may_wait now (OpenChannel d) = is_opening (now d.number)
+may_wait now (CloseChannel d) = is_closing (now d.number)
+may_wait now (Command d line) = is_opened (now d.number)
+may_wait now (Probe octets) = is_opened (now 0)
+may_wait now Stop = is_stopping (now 0)
+
+-- the probe among the requests: its octets, and how many ticks came since it was taken
+abbrev pub probe_or : List Act → Request → Ask → Option Waiting → Option Waiting
+probe_or past r (Probe octets) later = Some (record { data_octets = octets; ticks = ticks_since r past })
+probe_or past r _ later = later
+
+abbrev pub probe_in : List Act → List Request → Option Waiting
+probe_in past [] = None
+probe_in past (r ∷ rs) = probe_or past r r.ask (probe_in past rs)
+
+-- an open connection: what is kept of its unfinished line and of its window is what the past says, and its accepted commands
+-- were put into the station's ring as far as the first one whose answer isn't whole
+pub record LaneFits (d : ℕ) (seen : List station.Act) (past : List Act) (lane : Lane) : Type 0 where
+  pub kept_is : run_on Initiator d past ≡ lane.kept
+  pub window_fits : FitsMarks lane.window (marks Initiator d past)
+  pub offered_is : offered Initiator d seen ≡ concat (texts (take (answered (marks Initiator d past) + 1) (accepted Initiator d past)))
+
+-- the line isn't lost: the station has seen the same, and the calls that the core made of it
+pub record Runs (v : Core) (past : List Act) : Type 0 where
+  pub seen : List station.Act
+  pub fits : station_fits.Fits v.station seen
+  pub same : without_calls seen ≡ wire past
+  pub waits : list_all (λ (r : Request). may_wait (state_shown v.station false) r.ask) v.hand ≡ true
+  pub probe_is : probe_in past v.hand ≡ v.station.probe
+  pub lanes_fit : (d : ℕ) → d < 62 → (d == 0) ≡ false → is_open Initiator d (wire past) ≡ true → LaneFits d seen past (lane_at v d)
+
+abbrev pub RunsUnless : Bool → Core → List Act → Type 0
+RunsUnless true v past = v.hand ≡ []
+RunsUnless false v past = Runs v past
+
+pub record Fits (v : Core) (past : List Act) : Type 0 where
+  pub hand_is : in_hand past ≡ v.hand
+  pub lost_is : is_lost past ≡ v.lost
+  pub runs : RunsUnless v.lost v past
+
+-- ## What a call comes to
+
+-- a history of whole calls in which no caller uses a number twice
+pub record IsRun (s : Setting) (past : List Act) : Type 0 where
+  pub lawful : Lawful s past
+  pub complete : Complete s past
+  pub whole : CompleteCalls s past
+  pub numbers : UsesOnce (taken past)
+
+-- whose history it is: an initiator with the core's N1, which listens to its kinds
+pub record IsSettingOf (s : Setting) (v : Core) : Type 0 where
+  pub role_is : s.role ≡ Initiator
+  pub n1_is : s.n1 ≡ v.station.n1
+  pub listens_are : (kind : UrcKind) → (s.listens kind ≡ true) ↔ Contains v.kinds kind
+
+-- a call that begins with this act may come after a past
+pub record MayCome (s : Setting) (v : Core) (past : List Act) (a : Act) : Type 0 where
+  pub setting : IsSettingOf s v
+  pub fits : Fits v past
+  pub run : IsRun s past
+  pub numbers : UsesOnce (taken (a ∷ past))
+
+-- what is promised after it: the acts are the first one and all that it calls for, and the core fits them too
+pub record GoesOn (s : Setting) (new : Core) (past : List Act) (a : Act) (acts : List Act) : Type 0 where
+  pub called : acts ≡ a ∷ calls s past a
+  pub setting : IsSettingOf s new
+  pub fits : Fits new (after past acts)
+  pub run : IsRun s (after past acts)
+
+-- whatever the setting and the past
+unfoldable pub Handles : Core → Core → Act → List Act → Type 0
+Handles old new a acts = (s : Setting) (past : List Act) → MayCome s old past a → GoesOn s new past a acts

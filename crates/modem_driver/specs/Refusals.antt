@@ -1,0 +1,19 @@
+-- What a request is told that is refused at once.
+use Rattle.mux_station.specs.declared.error.StationError.{StationError}
+use Rattle.mux_station.specs.declared.error.StationError.TheVariants as station
+use Rattle.modem_desk.specs.declared.request.Request.{Request}
+use Rattle.modem_desk.specs.declared.request.Answer.{Answer}
+use Rattle.modem_desk.specs.declared.request.Answer.TheVariants.{NotOpen, AlreadyOpen, ControlChannel, Busy}
+use Rattle.modem_history.specs.declared.act.Act.{Act}
+use Rattle.modem_history.specs.declared.act.Act.TheVariants as act
+
+-- what a station's refusal is for the caller: want of room is Busy
+abbrev pub answer_of : StationError → Answer
+answer_of station.NotOpen = NotOpen
+answer_of station.AlreadyOpen = AlreadyOpen
+answer_of station.ControlChannel = ControlChannel
+answer_of _ = Busy
+
+-- the outcome of a request
+abbrev pub told_act : Request → Answer → Act
+told_act r answer = act.Told (record { caller = r.caller; number = r.number; answer = answer })

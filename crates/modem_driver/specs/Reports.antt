@@ -1,0 +1,78 @@
+-- What is said of the lines of a connection, as its octets are read.
+use Rattle.std.specs.Prelude.{◌≡◌, ℕ, ◌↔◌, Bool, true, List, [], ◌∷◌, ◌++◌, Option, None, Some, if◌then◌else◌}
+use Rattle.std.specs.List.{Contains}
+use Rattle.at_text.specs.declared.answer.AnswerLine.{AnswerLine}
+use Rattle.at_text.specs.declared.unsolicited.UrcKind.{UrcKind}
+use Rattle.at_text.specs.declared.unsolicited.UrcKind.TheVariants.{Other}
+use Rattle.at_text.specs.declared.window.Seen as line_is
+use Rattle.at_text.specs.declared.window.Seen.TheVariants.{Echo, Kept, Unsolicited}
+use Rattle.at_text.specs.Lines.{lines, kept_run}
+use Rattle.at_text.specs.OpenWindow.{OpenWindow, seen_by, after_line}
+use Rattle.modem_desk.specs.declared.request.Request.{Request}
+use Rattle.modem_desk.specs.declared.request.Answer.TheVariants.{Done}
+use Rattle.modem_driver.specs.declared.reports.Owner.{Owner}
+use Rattle.modem_driver.specs.declared.reports.Reading as code
+use Rattle.modem_history.specs.Acts.{Act, Told, Heard}
+
+-- these kinds are listened to
+unfoldable pub Listens : (UrcKind → Bool) → List UrcKind → Type 0
+Listens listens kinds = (kind : UrcKind) → (listens kind ≡ true) ↔ Contains kinds kind
+
+-- of the request whose command is under way
+abbrev pub owner_of : Request → Owner
+owner_of r = record { caller = r.caller; number = r.number }
+
+abbrev pub done_by : Option Owner → List AnswerLine → List Act
+done_by None ls = []
+done_by (Some o) ls = Told (record { caller = o.caller; number = o.number; answer = Done ls }) ∷ []
+
+abbrev pub heard_by : (UrcKind → Bool) → ℕ → UrcKind → List ℕ → List Act
+heard_by listens d kind line = if listens kind then Heard kind d line ∷ [] else []
+
+-- what is said of a line, by what it is at its place
+abbrev pub said_as : (UrcKind → Bool) → ℕ → Option Owner → List ℕ → line_is.Seen → List Act
+said_as listens d owner line Echo = []
+said_as listens d owner line Kept = []
+said_as listens d owner line (line_is.TheVariants.Done ls) = done_by owner ls
+said_as listens d owner line (Unsolicited kind) = heard_by listens d kind line
+said_as listens d owner line line_is.TheVariants.Other = heard_by listens d Other line
+
+-- and of lines, one after the other
+abbrev pub said_lines : (UrcKind → Bool) → ℕ → Option Owner → Option OpenWindow → List (List ℕ) → List Act
+said_lines listens d owner w [] = []
+said_lines listens d owner w (l ∷ ls) = said_as listens d owner l (seen_by w l) ++ said_lines listens d owner (after_line w l) ls
+
+-- what is read so far: what is kept of the unfinished line, the window, and what was said
+pub record Read : Type 0 where
+  pub kept : List ℕ
+  pub window : Option OpenWindow
+  pub acts : List Act
+
+-- the window after lines
+abbrev pub after_all : Option OpenWindow → List (List ℕ) → Option OpenWindow
+after_all w [] = w
+after_all w (l ∷ ls) = after_all (after_line w l) ls
+
+-- some octets more
+abbrev pub read_on : (UrcKind → Bool) → ℕ → Option Owner → Read → List ℕ → Read
+read_on listens d owner v octets = record {
+  kept = kept_run (v.kept ++ octets);
+  window = after_all v.window (lines (v.kept ++ octets));
+  acts = v.acts ++ said_lines listens d owner v.window (lines (v.kept ++ octets));
+}
+
+-- one after the other
+abbrev pub read_each : (UrcKind → Bool) → ℕ → Option Owner → Read → List ℕ → Read
+read_each listens d owner v [] = v
+read_each listens d owner v (c ∷ octets) = read_each listens d owner (read_on listens d owner v (c ∷ [])) octets
+
+-- whatever is listened to
+unfoldable pub ReadsOctet : List UrcKind → code.Reading → ℕ → Read → Read → Type 0
+ReadsOctet kinds r c old new = (listens : UrcKind → Bool) → Listens listens kinds → new ≡ read_on listens r.dlci.number r.owner old (c ∷ [])
+
+unfoldable pub ReadsAll : List UrcKind → code.Reading → List ℕ → Read → Read → Type 0
+ReadsAll kinds r octets old new = (listens : UrcKind → Bool) → Listens listens kinds → new ≡ read_each listens r.dlci.number r.owner old octets
+
+-- so much was said
+unfoldable pub Says : List UrcKind → code.Reading → ((UrcKind → Bool) → List Act) → List Act → List Act → Type 0
+Says kinds r said old new = (listens : UrcKind → Bool) → Listens listens kinds → new ≡ old ++ said listens

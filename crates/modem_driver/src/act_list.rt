@@ -1,0 +1,52 @@
+//! Acts with room for more.
+ghost use Rattle.std.specs.Prelude.{◌≡◌, ◌-◌, ◌<◌, ◌++◌, ◌∷◌, [], IfOk};
+
+use modem_history::Act;
+use std::alloc::{AllocError, Global};
+use std::marker::Model;
+
+/// Acts with room for so many more: to put one there takes no memory.
+#[derive(Drop)]
+pub(crate) struct ActList {
+    acts: Vec<Act>,
+    left: usize,
+}
+
+impl Model for ActList {
+    ghost use Rattle.std.specs.Prelude.{◌+◌, ◌≤◌};
+    ghost use Rattle.std.specs.Vec.{vec_capacity, vec_len};
+    ghost use Rattle.modem_driver.specs.ActLists.{ActList};
+
+    ghost Value = { ActList };
+
+    ghost view = { λ a. record { acts = a.acts.items; left = a.left } };
+
+    ghost invariant = { λ a. vec_len a.acts + a.left ≤ vec_capacity a.acts };
+}
+
+impl ActList {
+    /// No acts, with room for so many.
+    pub(crate) fn with_room(alloc: Global, left: usize) -> Result<ActList, AllocError>
+        ensures { IfOk result (λ a. a ≡ record { acts = []; left = left }) }
+    {
+        let acts = Vec::with_capacity(alloc, left)?;
+        Ok(ActList { acts, left })
+    }
+
+    /// Puts an act at the end.
+    pub(crate) fn push(&mut self, act: Act)
+        requires { 0 < self.old.left }
+        ensures { self.new ≡ record { acts = self.old.acts ++ act ∷ []; left = self.old.left - 1 } }
+    {
+        self.acts.push(act).unwrap();
+        self.left -= 1;
+    }
+
+    /// The acts, without taking memory.
+    pub(crate) fn into_vec(self) -> Vec<Act>
+        ensures { result.items ≡ self.acts }
+    {
+        let ActList { acts, .. } = self;
+        acts
+    }
+}

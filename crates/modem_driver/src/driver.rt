@@ -1,0 +1,121 @@
+//! The driver between its callers and the line.
+ghost use Rattle.std.specs.Prelude.{◌≡◌, ◌≢◌, ◌↔◌, ◌<◌, ◌⊎◌, List, [], replicate, map, IfOk, IsErrOf, OnErr};
+ghost use Rattle.modem_history.specs.Acts.{Act as Happening, act_of, Lost};
+ghost use Rattle.modem_driver.specs.Lanes.{new_lane};
+ghost use Rattle.modem_driver.specs.Cores.{new_core, state_shown, Fits, Handles};
+ghost use Rattle.modem_driver.specs.declared.error.CoreError.TheVariants as CoreError;
+
+use crate::act_list::ActList;
+use crate::error::CoreError;
+use crate::hand::Hand;
+use crate::lane::Lane;
+use crate::telling::{Happened, state_of, tell};
+use at_text::UrcKind;
+use modem_history::Act;
+use mux_frame::Dlci;
+use mux_station::{ChannelState, Role, Station, StationError};
+use std::alloc::{AllocError, Global};
+use std::marker::Model;
+
+/// How many connections there are, 0 among them.
+const CONNECTIONS: usize = 62;
+
+/// The driver: it takes requests, frames and ticks, and says what comes of them.
+#[derive(Drop)]
+pub struct Core {
+    pub(crate) alloc: Global,
+    pub(crate) station: Station,
+    pub(crate) n1: u16,
+    pub(crate) lanes: Vec<Lane>,
+    /// The requests that wait for their outcome, in the order taken.
+    pub(crate) hand: Hand,
+    /// The kinds that are listened to.
+    pub(crate) kinds: Vec<UrcKind>,
+    pub(crate) lost: bool,
+}
+
+impl Model for Core {
+    ghost use Rattle.modem_driver.specs.Cores.{Core};
+    ghost use Rattle.modem_driver.specs.CoreKeeping.{IsKept};
+
+    ghost Value = { Core };
+
+    ghost view = { λ c. record {
+      station = c.station;
+      lanes = c.lanes.items;
+      hand = c.hand;
+      kinds = c.kinds.items;
+      lost = c.lost;
+    } };
+
+    ghost invariant = { λ c. IsKept c.station c.n1 c.lanes.items };
+}
+
+/// The lanes of all connections.
+fn new_lanes(alloc: Global) -> Result<Vec<Lane>, AllocError>
+    ensures { IfOk result (λ ls. ls.items ≡ replicate 62 new_lane) }
+{
+    let mut lanes = Vec::with_capacity(alloc, CONNECTIONS)?;
+    for _ in 0..CONNECTIONS {
+        lanes.push(Lane::new(alloc))?;
+    }
+    Ok(lanes)
+}
+
+impl Core {
+    /// A driver with nothing open that listens to these kinds. N1 is how many octets of information a
+    /// frame may have. Refusals: 2 BadN1 where it isn't 31 to 32767, checked first; 1 NoMemory.
+    pub fn new(alloc: Global, n1: u16, kinds: &[UrcKind]) -> Result<Core, CoreError>
+        ensures ok { IfOk result (λ c. c ≡ new_core n1 kinds.now) }
+        ensures bad_n1 { IsErrOf result CoreError.BadN1 ↔ ((n1 < 31) ⊎ (32767 < n1)) }
+        ensures others { result ≢ Err CoreError.NoRoom }
+    {
+        let station = match Station::new(alloc, Role::Initiator, n1) {
+            Ok(station) => station,
+            Err(StationError::BadN1) => return Err(CoreError::BadN1),
+            Err(_) => return Err(CoreError::NoMemory),
+        };
+        let lanes = new_lanes(alloc)?;
+        let hand = Hand::new(alloc)?;
+        let kinds = kinds.to_vec(alloc)?;
+        Ok(Core {
+            alloc,
+            station,
+            n1,
+            lanes,
+            hand,
+            kinds,
+            lost: false,
+        })
+    }
+
+    /// How a connection stands. After a loss all are Shut.
+    pub fn state(&self, dlci: Dlci) -> ChannelState
+        ensures { result ≡ state_shown self.now.station self.now.lost dlci.number }
+    {
+        state_of(&self.station, self.lost, dlci)
+    }
+
+    /// The line is lost: every request in hand is told so, and nothing is sent any more. Refusal: 1
+    /// NoMemory, which changes nothing.
+    #[tactic(auto, using(crate::proofs::CoreLosses::lost_handles))]
+    pub fn lost(&mut self) -> Result<Vec<Act>, CoreError>
+        ensures past { IfOk result (λ acts. Handles self.old self.new Lost (map act_of acts.items)) }
+        ensures err { OnErr result (self.new ≡ self.old) }
+        ensures no_memory { OnErr result (result ≡ Err CoreError.NoMemory) }
+        ensures n1 { self.new.station.n1 ≡ self.old.station.n1 }
+    {
+        let mut acts = ActList::with_room(self.alloc, 1 + self.hand.len())?;
+        acts.push(Act::Lost);
+        self.lost = true;
+        tell(
+            &mut self.hand,
+            &self.station,
+            self.lost,
+            Happened::Lost,
+            false,
+            &mut acts,
+        );
+        Ok(acts.into_vec())
+    }
+}

@@ -1,0 +1,71 @@
+//! The requests in hand.
+ghost use Rattle.std.specs.Prelude.{◌≡◌, ◌≤◌, ◌<◌, ◌+◌, ◌++◌, ◌∷◌, [], length, remove, slice_index_or, IfOk};
+
+use modem_desk::Request;
+use std::alloc::{AllocError, Global};
+use std::marker::Model;
+
+/// How many requests may be in hand.
+pub(crate) const IN_HAND: usize = 128;
+
+/// At most 128 requests that wait for their outcome, in the order taken. Their room is taken when it
+/// is made.
+#[derive(Drop)]
+pub(crate) struct Hand {
+    requests: Vec<Request>,
+}
+
+impl Model for Hand {
+    ghost use Rattle.std.specs.Prelude.{List};
+    ghost use Rattle.modem_desk.specs.declared.request.Request.{Request};
+    ghost use Rattle.modem_driver.specs.Hands.{HasRoom};
+
+    ghost Value = { List Request };
+
+    ghost view = { λ h. h.requests.items };
+
+    ghost invariant = { λ h. HasRoom h.requests };
+}
+
+impl Hand {
+    /// No requests.
+    pub(crate) fn new(alloc: Global) -> Result<Hand, AllocError>
+        ensures { IfOk result (λ h. h ≡ []) }
+    {
+        let requests = Vec::with_capacity(alloc, IN_HAND)?;
+        Ok(Hand { requests })
+    }
+
+    /// How many there are.
+    pub(crate) fn len(&self) -> usize
+        ensures value { result ≡ length self.now }
+        ensures few { result ≤ 128 }
+    {
+        self.requests.len()
+    }
+
+    /// The requests, lent.
+    pub(crate) fn as_slice(&self) -> &[Request]
+        ensures { result.now ≡ self.now }
+    {
+        self.requests.as_slice()
+    }
+
+    /// Puts a request at the end.
+    pub(crate) fn push(&mut self, request: Request)
+        requires { length self.old < 128 }
+        ensures { self.new ≡ self.old ++ request ∷ [] }
+    {
+        self.requests.push(request).unwrap();
+    }
+
+    /// Takes the request at a place out.
+    pub(crate) fn remove(&mut self, place: usize) -> Request
+        requires { place < length self.old }
+        ensures value { result ≡ slice_index_or self.old place result }
+        ensures items { self.new ≡ remove self.old place }
+        ensures len { length self.new + 1 ≡ length self.old }
+    {
+        self.requests.remove(place)
+    }
+}

@@ -1,0 +1,34 @@
+//! What is kept of one connection.
+ghost use Rattle.std.specs.Prelude.{◌≡◌};
+ghost use Rattle.modem_driver.specs.Lanes.{new_lane};
+
+use at_text::{LineReader, Window};
+use std::alloc::Global;
+use std::marker::Model;
+
+/// The unfinished line of a connection, and the window of its command.
+#[derive(Drop)]
+pub(crate) struct Lane {
+    pub(crate) reader: LineReader,
+    pub(crate) window: Window,
+}
+
+impl Model for Lane {
+    ghost use Rattle.modem_driver.specs.Lanes.{Lane};
+
+    ghost Value = { Lane };
+
+    ghost view = { λ l. record { kept = l.reader; window = l.window } };
+}
+
+impl Lane {
+    /// Nothing has come, and no command is under way.
+    pub(crate) fn new(alloc: Global) -> Lane
+        ensures { result ≡ new_lane }
+    {
+        Lane {
+            reader: LineReader::new(),
+            window: Window::new(alloc),
+        }
+    }
+}

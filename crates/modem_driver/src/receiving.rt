@@ -1,0 +1,322 @@
+//! Frames that come.
+ghost use Rattle.std.specs.Prelude.{◌≡◌, ◌≢◌, ◌≤◌, ◌<◌, ◌+◌, ◌-◌, ◌++◌, ◌∷◌, ◌&&◌, not, [], true, false, length, map, slice_get, slice_set, position, option_map, is_some, is_none, IfOk, OnOk, OnErr, vec_capacity};
+ghost use Rattle.mux_frame.specs.Frames.{frame_of, kept_frame};
+ghost use Rattle.mux_frame.specs.Spelling.{most_info};
+ghost use Rattle.mux_station.specs.Noting.{says_open};
+ghost use Rattle.modem_history.specs.Acts.{act_of, Got};
+ghost use Rattle.modem_driver.specs.Running.{IsIdle};
+ghost use Rattle.modem_driver.specs.Cores.{Handles, is_opened, lane_at};
+ghost use Rattle.modem_driver.specs.Lanes.{new_lane};
+ghost use Rattle.modem_history.specs.Calls.{first_on};
+ghost use Rattle.modem_history.specs.Requests.{commands_on, without_first};
+ghost use Rattle.modem_driver.specs.Reports.{owner_of};
+ghost use Rattle.modem_driver.specs.Handing.{Offers, OffersLine, EndsCommand, EndedBy, ReadsFrame};
+ghost use Rattle.modem_driver.specs.Receiving.{HasRoom, cut_to, sent_in, afresh_if, reads_data};
+ghost use Rattle.modem_driver.specs.declared.error.CoreError.TheVariants as CoreError;
+
+use crate::act_list::ActList;
+use crate::driver::Core;
+use crate::error::CoreError;
+use crate::hand::Hand;
+use crate::lane::Lane;
+use crate::reports::{Owner, Reading, read_octets};
+use crate::sending::first_line;
+use crate::telling::{Happened, tell};
+use at_text::CommandLine;
+use modem_desk::{Ask, Request};
+use modem_history::Act;
+use mux_frame::{Dlci, FrameBuf, FrameView, Info, Kind};
+use mux_station::{ChannelState, Noted, Station};
+
+/// The control channel.
+const CONTROL: Dlci = Dlci { number: 0 };
+
+/// An MSC is a type octet, a length octet and two octets of value.
+const MSC_LEN: usize = 4;
+
+/// The frame, its information in room that was taken before: what has none is cut off.
+fn kept_in(spare: Vec<u8>, frame: FrameView<'_>) -> FrameBuf
+    requires { spare.items ≡ [] }
+    ensures { kept_frame result ≡ cut_to (vec_capacity spare) (frame_of frame.entry) }
+{
+    let mut octets = spare;
+    let most = frame.info.len().min(octets.capacity());
+    octets.extend_from_slice(&frame.info[..most]).unwrap();
+    FrameBuf {
+        dlci: frame.dlci,
+        kind: frame.kind,
+        cr: frame.cr,
+        pf: frame.pf,
+        info: Info::from_vec(octets),
+    }
+}
+
+/// The frame at this place of the control queue, if there is one, is sent.
+fn push_sent(station: &mut Station, place: usize, spare: Vec<u8>, acts: &mut ActList)
+    requires empty { spare.items ≡ [] }
+    requires room { 0 < acts.old.left }
+    ensures station { station.new ≡ station.old }
+    ensures acts { map act_of acts.new.acts ≡ map act_of acts.old.acts ++ sent_in (vec_capacity spare) (slice_get station.old.queue place) }
+    ensures left { acts.old.left ≤ acts.new.left + 1 }
+{
+    if let Some(frame) = station.queued(place) {
+        acts.push(Act::Sent(kept_in(spare, frame)));
+    }
+}
+
+/// Whether it was Opened and isn't any more.
+fn has_ended(before: ChannelState, now: ChannelState) -> bool
+    ensures { result ≡ is_opened before && not (is_opened now) }
+{
+    matches!(before, ChannelState::Opened) && !matches!(now, ChannelState::Opened)
+}
+
+/// Whether the frame opened its connection.
+fn opens(noted: Noted) -> bool
+    ensures { result ≡ says_open noted }
+{
+    matches!(noted, Noted::Opened | Noted::Reset)
+}
+
+impl Lane {
+    /// Everything starts afresh.
+    fn start(&mut self)
+        ensures { self.new ≡ new_lane }
+    {
+        self.reader.reset();
+        self.window.drop_command();
+    }
+}
+
+impl Core {
+    /// Where the frame opened its connection, everything of that starts afresh.
+    fn start_lane(&mut self, dlci: Dlci, opened: bool)
+        ensures { self.new ≡ record self.old { lanes = afresh_if opened dlci.number self.old.lanes } }
+    {
+        if opened {
+            let lane = &mut self.lanes[usize::from(dlci.number())];
+            lane.start();
+        }
+    }
+
+    /// A frame after a loss of the line: it came, and nothing else.
+    fn got_lost(&self, frame: FrameView<'_>) -> Result<Vec<Act>, CoreError>
+        requires { self.now.lost ≡ true }
+        ensures past { IfOk result (λ acts. Handles self.now self.now (Got (frame_of frame.entry)) (map act_of acts.items)) }
+        ensures room { OnOk result (HasRoom self.now (Got (frame_of frame.entry)) true) }
+        ensures no_memory { OnErr result (result ≡ Err CoreError.NoMemory) }
+    {
+        let copy = frame.to_buf(self.alloc)?;
+        let acts = vec![in self.alloc; Act::Got(copy)]?;
+        Ok(acts)
+    }
+
+    /// A frame that isn't data of an open connection.
+    fn got_word(&mut self, frame: FrameView<'_>) -> Result<Vec<Act>, CoreError>
+        requires short { length frame.info.now ≤ most_info self.old.station.n1 frame.kind }
+        requires live { self.old.lost ≡ false }
+        requires no_data { reads_data self.old (frame_of frame) ≡ false }
+        ensures past { IfOk result (λ acts. Handles self.old self.new (Got (frame_of frame.entry)) (map act_of acts.items)) }
+        ensures room { OnOk result (HasRoom self.old (Got (frame_of frame.entry)) true) }
+        ensures no_room { result ≡ Err CoreError.NoRoom → HasRoom self.old (Got (frame_of frame.entry)) false }
+        ensures good_n1 { result ≢ Err CoreError.BadN1 }
+        ensures err { OnErr result (self.new ≡ self.old) }
+        ensures n1 { self.new.station.n1 ≡ self.old.station.n1 }
+        ensures never_full { result ≡ Err CoreError.NoRoom → ¬ IsIdle self.old }
+    {
+        let mut acts = ActList::with_room(self.alloc, 2 + self.hand.len())?;
+        let spare = Vec::with_capacity(self.alloc, frame.info.len().max(MSC_LEN))?;
+        acts.push(Act::Got(frame.to_buf(self.alloc)?));
+        let before = self.station.state(CONTROL);
+        let place = self.station.queue_len();
+        let Ok(noted) = self.station.got(frame) else {
+            return Err(CoreError::NoRoom);
+        };
+        push_sent(&mut self.station, place, spare, &mut acts);
+        let ended = has_ended(before, self.station.state(CONTROL));
+        tell(
+            &mut self.hand,
+            &self.station,
+            self.lost,
+            Happened::Got(noted),
+            ended,
+            &mut acts,
+        );
+        self.start_lane(frame.dlci, opens(noted));
+        Ok(acts.into_vec())
+    }
+
+    /// Reads the information of a frame on copies of what is kept of its connection.
+    fn read(&self, frame: FrameView<'_>) -> Result<(Lane, Vec<Act>), CoreError>
+        ensures read { IfOk result (λ p. ReadsFrame self.now (frame_of frame.entry) p.0 (map act_of p.1.items)) }
+        ensures no_memory { OnErr result (result ≡ Err CoreError.NoMemory) }
+    {
+        let reading = Reading {
+            alloc: self.alloc,
+            dlci: frame.dlci,
+            owner: first_owner(self.hand.as_slice(), frame.dlci),
+        };
+        let lane = &self.lanes[usize::from(frame.dlci.number())];
+        let mut reader = lane.reader.copy();
+        let Ok(mut window) = lane.window.copy() else {
+            return Err(CoreError::NoMemory);
+        };
+        let mut acts = vec![in self.alloc; Act::Got(frame.to_buf(self.alloc)?)]?;
+        read_octets(
+            reading,
+            self.kinds.as_slice(),
+            frame.info,
+            &mut reader,
+            &mut window,
+            &mut acts,
+        )?;
+        Ok((Lane { reader, window }, acts))
+    }
+
+    /// The command under way on the connection has its answer: it is in hand no more, and the next one
+    /// is put into the send ring.
+    fn end_command(&mut self, dlci: Dlci)
+        ensures { EndsCommand self.old self.new dlci.number }
+    {
+        remove_command(&mut self.hand, dlci);
+        if let Some(line) = first_line(self.hand.as_slice(), dlci) {
+            offer_line(&mut self.station, dlci, line);
+        }
+    }
+
+    /// Keeps a lane, and says whether a command was under way there and is no more.
+    fn set_lane(&mut self, dlci: Dlci, lane: Lane) -> bool
+        ensures after { self.new ≡ record self.old { lanes = slice_set self.old.lanes dlci.number lane } }
+        ensures done { result ≡ (is_some (lane_at self.old dlci.number).window && is_none lane.window) }
+    {
+        let old = &mut self.lanes[usize::from(dlci.number())];
+        let done = !old.window.idle() && lane.window.idle();
+        *old = lane;
+        done
+    }
+
+    /// Keeps a lane. Where that answers its command, the next one goes out.
+    fn keep(&mut self, dlci: Dlci, lane: Lane)
+        ensures { EndedBy (is_some (lane_at self.old dlci.number).window && is_none lane.window) (record self.old { lanes = slice_set self.old.lanes dlci.number lane }) self.new dlci.number }
+    {
+        if !self.set_lane(dlci, lane) {
+            return;
+        }
+        self.end_command(dlci);
+    }
+
+    /// Data of an open connection.
+    fn got_data(&mut self, frame: FrameView<'_>) -> Result<Vec<Act>, CoreError>
+        requires short { length frame.info.now ≤ most_info self.old.station.n1 frame.kind }
+        requires live { self.old.lost ≡ false }
+        requires is_data { reads_data self.old (frame_of frame) ≡ true }
+        ensures past { IfOk result (λ acts. Handles self.old self.new (Got (frame_of frame.entry)) (map act_of acts.items)) }
+        ensures room { OnOk result (HasRoom self.old (Got (frame_of frame.entry)) true) }
+        ensures no_room { result ≡ Err CoreError.NoRoom → HasRoom self.old (Got (frame_of frame.entry)) false }
+        ensures good_n1 { result ≢ Err CoreError.BadN1 }
+        ensures err { OnErr result (self.new ≡ self.old) }
+        ensures n1 { self.new.station.n1 ≡ self.old.station.n1 }
+        ensures never_full { result ≡ Err CoreError.NoRoom → ¬ IsIdle self.old }
+    {
+        let (lane, acts) = self.read(frame)?;
+        let Ok(_noted) = self.station.got(frame) else {
+            return Err(CoreError::NoRoom);
+        };
+        self.keep(frame.dlci, lane);
+        Ok(acts)
+    }
+
+    /// Whether the frame is data of an open connection.
+    fn is_data(&self, frame: FrameView<'_>) -> bool
+        ensures { result ≡ reads_data self.now (frame_of frame.entry) }
+    {
+        frame.kind == Kind::Uih
+            && frame.dlci.number() != 0
+            && is_opened(self.station.state(frame.dlci))
+    }
+
+    /// Handles a frame that came. The condition is that its information is at most N1 octets, and empty
+    /// in a kind other than UIH. Refusals, which change nothing: 3 NoRoom where not all frames that it
+    /// calls for fit into the control queue; 1 NoMemory.
+    pub fn got(&mut self, frame: FrameView<'_>) -> Result<Vec<Act>, CoreError>
+        requires { length frame.info.now ≤ most_info self.old.station.n1 frame.kind }
+        ensures past { IfOk result (λ acts. Handles self.old self.new (Got (frame_of frame.entry)) (map act_of acts.items)) }
+        ensures room { OnOk result (HasRoom self.old (Got (frame_of frame.entry)) true) }
+        ensures no_room { result ≡ Err CoreError.NoRoom → HasRoom self.old (Got (frame_of frame.entry)) false }
+        ensures good_n1 { result ≢ Err CoreError.BadN1 }
+        ensures err { OnErr result (self.new ≡ self.old) }
+        ensures n1 { self.new.station.n1 ≡ self.old.station.n1 }
+        ensures never_full { result ≡ Err CoreError.NoRoom → ¬ IsIdle self.old }
+    {
+        if self.lost {
+            self.got_lost(frame)
+        } else if self.is_data(frame) {
+            self.got_data(frame)
+        } else {
+            self.got_word(frame)
+        }
+    }
+}
+
+fn is_opened(state: ChannelState) -> bool
+    ensures { result ≡ is_opened state }
+{
+    matches!(state, ChannelState::Opened)
+}
+
+/// The request whose command is the first on this connection.
+fn first_owner(hand: &[Request], dlci: Dlci) -> Option<Owner>
+    ensures { result ≡ option_map owner_of (first_on dlci.number hand.now) }
+{
+    for request in hand {
+        if is_command(request, dlci) {
+            return Some(Owner {
+                caller: request.caller,
+                number: request.number,
+            });
+        }
+    }
+    None
+}
+
+/// It is a command on this connection.
+fn is_command(request: &Request, dlci: Dlci) -> bool
+    ensures { result ≡ commands_on dlci.number request.now }
+{
+    match &request.ask {
+        Ask::Command(on, _) => on.number() == dlci.number(),
+        _ => false,
+    }
+}
+
+/// The place of the first command on this connection.
+fn command_at(hand: &[Request], dlci: Dlci) -> Option<usize>
+    ensures { result ≡ position (commands_on dlci.number) hand.now }
+{
+    hand.iter().position(|request| is_command(request, dlci))
+}
+
+/// Takes the first command on this connection out.
+#[tactic(auto, using(crate::proofs::LeftOut::left_at, crate::proofs::LeftOut::none_left))]
+fn remove_command(hand: &mut Hand, dlci: Dlci)
+    ensures { hand.new ≡ without_first (commands_on dlci.number) hand.old }
+{
+    if let Some(place) = command_at(hand.as_slice(), dlci) {
+        hand.remove(place);
+    }
+}
+
+/// Octets are put into the send ring.
+fn offer(station: &mut Station, dlci: Dlci, octets: &[u8])
+    ensures { Offers station.old station.new dlci.number octets.now }
+{
+    let _ = station.offer(dlci, octets);
+}
+
+/// A command goes out as its text and CR (V.250, 5.2.1).
+fn offer_line(station: &mut Station, dlci: Dlci, line: &CommandLine)
+    ensures { OffersLine station.old station.new dlci.number line.now }
+{
+    offer(station, dlci, line.text());
+    offer(station, dlci, b"\r");
+}

@@ -1,0 +1,126 @@
+//! What is said of the lines of a connection.
+ghost use Rattle.std.specs.Prelude.{◌≡◌, ◌↔◌, ℕ, List, [], ◌∷◌, ◌++◌, true, map, Some, None, OnOk, IfOk};
+ghost use Rattle.std.specs.List.{Contains};
+ghost use Rattle.modem_history.specs.Acts.{act_of};
+ghost use Rattle.modem_driver.specs.Reports.{done_by, heard_by, said_as, Says, ReadsOctet, ReadsAll};
+
+use at_text::{AnswerLines, LineReader, Seen, Text, UrcKind, Window};
+use modem_desk::{Answer, Outcome, Urc};
+use modem_history::Act;
+use mux_frame::Dlci;
+use std::alloc::{AllocError, Global};
+
+/// The request whose command is under way.
+#[derive(Clone, Copy)]
+pub struct Owner {
+    pub caller: u8,
+    pub number: u64,
+}
+
+/// The connection whose lines are read.
+#[derive(Clone, Copy)]
+pub struct Reading {
+    pub alloc: Global,
+    pub dlci: Dlci,
+    pub owner: Option<Owner>,
+}
+
+/// Whether this kind is listened to.
+fn is_heard(kinds: &[UrcKind], kind: UrcKind) -> bool
+    ensures { (result ≡ true) ↔ Contains kinds.now kind }
+{
+    kinds.contains(&kind)
+}
+
+/// A line that no command asked for is announced, where its kind is listened to.
+fn hear(
+    reading: Reading,
+    kinds: &[UrcKind],
+    kind: UrcKind,
+    line: &[u8],
+    acts: &mut Vec<Act>,
+) -> Result<(), AllocError>
+    ensures { OnOk result (Says kinds.now reading (λ listens. heard_by listens reading.dlci.number kind line.now) (map act_of acts.old.items) (map act_of acts.new.items)) }
+{
+    if !is_heard(kinds, kind) {
+        return Ok(());
+    }
+    let text = line.to_vec(reading.alloc)?;
+    acts.push(Act::Heard(Urc {
+        kind,
+        dlci: reading.dlci,
+        line: Text::from(text),
+    }))?;
+    Ok(())
+}
+
+/// The answer is whole: its request is told so.
+fn tell_done(reading: Reading, lines: AnswerLines, acts: &mut Vec<Act>) -> Result<(), AllocError>
+    ensures { OnOk result (map act_of acts.new.items ≡ map act_of acts.old.items ++ done_by reading.owner lines) }
+{
+    let Some(owner) = reading.owner else {
+        return Ok(());
+    };
+    acts.push(Act::Told(Outcome {
+        caller: owner.caller,
+        number: owner.number,
+        answer: Answer::Done(lines),
+    }))?;
+    Ok(())
+}
+
+/// A line, and what it is at its place.
+fn say(
+    reading: Reading,
+    kinds: &[UrcKind],
+    line: &[u8],
+    seen: Seen,
+    acts: &mut Vec<Act>,
+) -> Result<(), AllocError>
+    ensures { OnOk result (Says kinds.now reading (λ listens. said_as listens reading.dlci.number reading.owner line.now seen) (map act_of acts.old.items) (map act_of acts.new.items)) }
+{
+    match seen {
+        Seen::Echo | Seen::Kept => Ok(()),
+        Seen::Done(lines) => tell_done(reading, lines, acts),
+        Seen::Unsolicited(kind) => hear(reading, kinds, kind, line, acts),
+        Seen::Other => hear(reading, kinds, UrcKind::Other, line, acts),
+    }
+}
+
+/// Reads an octet.
+fn read_octet(
+    reading: Reading,
+    kinds: &[UrcKind],
+    octet: u8,
+    reader: &mut LineReader,
+    window: &mut Window,
+    acts: &mut Vec<Act>,
+) -> Result<(), AllocError>
+    ensures { OnOk result (ReadsOctet kinds.now reading octet (record { kept = reader.old; window = window.old; acts = map act_of acts.old.items }) (record { kept = reader.new; window = window.new; acts = map act_of acts.new.items })) }
+{
+    let Some(line) = reader.push(octet) else {
+        return Ok(());
+    };
+    let Ok(seen) = window.see(line.text) else {
+        return Err(AllocError);
+    };
+    say(reading, kinds, line.text, seen, acts)
+}
+
+#[tactic(auto, using(crate::proofs::Reporting::reads_first))]
+/// Reads the octets that came.
+pub(crate) fn read_octets(
+    reading: Reading,
+    kinds: &[UrcKind],
+    octets: &[u8],
+    reader: &mut LineReader,
+    window: &mut Window,
+    acts: &mut Vec<Act>,
+) -> Result<(), AllocError>
+    ensures { OnOk result (ReadsAll kinds.now reading octets.now (record { kept = reader.old; window = window.old; acts = map act_of acts.old.items }) (record { kept = reader.new; window = window.new; acts = map act_of acts.new.items })) }
+{
+    for octet in octets {
+        read_octet(reading, kinds, *octet, reader, window, acts)?;
+    }
+    Ok(())
+}

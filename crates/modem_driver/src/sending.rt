@@ -1,0 +1,79 @@
+//! Frames that go out.
+ghost use Rattle.std.specs.Prelude.{◌≡◌, option_map, IfNone};
+ghost use Rattle.modem_driver.specs.Running.{IsIdle};
+ghost use Rattle.std.specs.Option.{option_copied};
+ghost use Rattle.std.specs.Borrow.{sem};
+ghost use Rattle.std.specs.Io.BufRead.{Rests};
+ghost use Rattle.mux_station.specs.GivenFrames.{outgoing_of};
+ghost use Rattle.modem_history.specs.Information.{line_of};
+ghost use Rattle.modem_history.specs.Calls.{first_on};
+ghost use Rattle.modem_driver.specs.CoreGoing.{begun_by, begun_next, gone_on, GoesOut, GoesOn, LeavesLess, SendsTruly};
+
+use crate::driver::Core;
+use at_text::CommandLine;
+use modem_desk::{Ask, Request};
+use mux_frame::Dlci;
+use mux_station::Outgoing;
+use mux_station::laws::givings;
+
+/// The text of the first command on this connection.
+pub(crate) fn first_line(hand: &[Request], dlci: Dlci) -> Option<&CommandLine>
+    ensures { option_copied result ≡ option_map line_of (first_on dlci.number hand.now) }
+{
+    for request in hand {
+        if let Ask::Command(on, line) = &request.ask {
+            if on.number() == dlci.number() {
+                return Some(line);
+            }
+        }
+    }
+    None
+}
+
+impl Core {
+    ghost use Rattle.modem_driver.specs.contracts.driver.Core.{the_row};
+
+    /// The first command on the connection is whole: its window begins, where none is open.
+    fn begin_first(&mut self, dlci: Dlci)
+        ensures { self.new ≡ begun_by self.old dlci.number (option_map line_of (first_on dlci.number self.old.hand)) }
+    {
+        let Some(line) = first_line(self.hand.as_slice(), dlci) else {
+            return;
+        };
+        let lane = &mut self.lanes[usize::from(dlci.number())];
+        if lane.window.idle() {
+            lane.window.begin(line);
+        }
+    }
+
+    /// A command whose last octets go out next begins its window.
+    fn begin_next(&mut self)
+        ensures after { self.new ≡ begun_next self.old }
+        ensures sender { SendsTruly self.old.station }
+    {
+        let Some(dlci) = self.station.next_sender() else {
+            return;
+        };
+        if self.station.waiting(dlci) <= usize::from(self.n1) {
+            self.begin_first(dlci);
+        }
+    }
+
+    /// The next frame for the line, lent, which is then no longer kept: the first of the control
+    /// queue; where that is empty, data of the connection whose turn it is, as many octets as wait
+    /// there and at most N1. After a loss of the line there is none. It takes no memory.
+    pub fn outgoing(&mut self) -> Option<Outgoing<'_>>
+        ensures frame { GoesOut self.old (option_map outgoing_of result) }
+        ensures past { GoesOn self.old }
+        ensures less { LeavesLess self.old (option_map outgoing_of result) }
+        ensures idle { IfNone result (IsIdle self.old) }
+        ensures* after { sem 𝓛 (Rests the_row self.entry (λ new. new ≡ gone_on self.old)) }
+    {
+        if self.lost {
+            return None;
+        }
+        self.begin_next();
+        givings(&self.station);
+        self.station.next_frame()
+    }
+}

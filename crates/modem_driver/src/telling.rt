@@ -1,0 +1,133 @@
+//! What the requests in hand are told.
+ghost use Rattle.std.specs.Prelude.{◌≡◌, ◌≤◌, ◌++◌, length};
+ghost use Rattle.modem_driver.specs.Telling.{why_shut, probe_happened, stop_ended, told_by, told_to, left_by};
+ghost use Rattle.modem_driver.specs.Cores.{state_shown};
+
+use crate::act_list::ActList;
+use crate::hand::Hand;
+use modem_desk::{Answer, Ask, Outcome};
+use modem_history::Act;
+use mux_frame::Dlci;
+use mux_station::{ChannelState, Noted, Station};
+
+/// What happened, as far as it decides what the requests in hand are told.
+#[derive(Clone, Copy, PartialEq, Eq, Debug)]
+pub enum Happened {
+    Took,
+    Got(Noted),
+    /// A tick, and whether the probe that waited was given up at it.
+    Tick(bool),
+    Lost,
+}
+
+impl Happened {
+    /// Why a connection is Shut now, where nothing else is the cause.
+    fn why_shut(self, ended: bool, why: Answer) -> Answer
+        ensures { result ≡ why_shut self ended why }
+    {
+        match self {
+            Happened::Lost => Answer::LineLost,
+            Happened::Tick(_) if !ended => Answer::NoAnswer,
+            _ if ended => Answer::Closed,
+            _ => why,
+        }
+    }
+
+    /// What a probe that waits is told while 0 is Opened.
+    fn probe_told(self) -> Option<Answer>
+        ensures { result ≡ probe_happened self }
+    {
+        match self {
+            Happened::Got(Noted::ProbeBack) => Some(Answer::ProbeBack),
+            Happened::Got(Noted::ProbeRefused) => Some(Answer::Refused),
+            Happened::Tick(true) => Some(Answer::NoAnswer),
+            _ => None,
+        }
+    }
+
+    fn stop_ended(self) -> Answer
+        ensures { result ≡ stop_ended self }
+    {
+        match self {
+            Happened::Lost => Answer::LineLost,
+            Happened::Tick(_) => Answer::NoAnswer,
+            _ => Answer::Stopped,
+        }
+    }
+}
+
+/// How a connection stands: all are Shut once the line is lost.
+pub(crate) fn state_of(station: &Station, lost: bool, dlci: Dlci) -> ChannelState
+    ensures { result ≡ state_shown station.now lost dlci.number }
+{
+    if lost {
+        return ChannelState::Shut;
+    }
+    station.state(dlci)
+}
+
+/// What a request that waits is told by now, if anything. `ended` says whether 0 was Opened before
+/// and isn't any more.
+pub(crate) fn told_by(
+    station: &Station,
+    lost: bool,
+    happened: Happened,
+    ended: bool,
+    ask: &Ask,
+) -> Option<Answer>
+    ensures { result ≡ told_by happened ended (λ d. state_shown station.now lost d) ask.now }
+{
+    match ask {
+        Ask::OpenChannel(dlci) => match state_of(station, lost, *dlci) {
+            ChannelState::Opened => Some(Answer::Opened),
+            ChannelState::Opening => None,
+            _ => Some(happened.why_shut(ended, Answer::Refused)),
+        },
+        Ask::CloseChannel(dlci) => match state_of(station, lost, *dlci) {
+            ChannelState::Closing => None,
+            _ => Some(happened.why_shut(ended, Answer::Shut)),
+        },
+        Ask::Command(dlci, _) => match state_of(station, lost, *dlci) {
+            ChannelState::Opened => None,
+            _ => Some(happened.why_shut(ended, Answer::Closed)),
+        },
+        Ask::Probe(_) => match state_of(station, lost, Dlci { number: 0 }) {
+            ChannelState::Opened => happened.probe_told(),
+            _ => Some(happened.why_shut(ended, Answer::Closed)),
+        },
+        Ask::Stop => match state_of(station, lost, Dlci { number: 0 }) {
+            ChannelState::Stopping => None,
+            _ => Some(happened.stop_ended()),
+        },
+    }
+}
+
+/// Tells each request in hand what it is told by now, in the order taken. The others stay.
+#[tactic(auto, using(crate::proofs::Tells::begins, crate::proofs::Tells::waits_on, crate::proofs::Tells::told_on))]
+pub(crate) fn tell(
+    hand: &mut Hand,
+    station: &Station,
+    lost: bool,
+    happened: Happened,
+    ended: bool,
+    acts: &mut ActList,
+)
+    requires { length hand.old ≤ acts.old.left }
+    ensures hand { hand.new ≡ left_by (told_by happened ended (λ d. state_shown station.now lost d)) hand.old }
+    ensures acts { acts.new.acts ≡ acts.old.acts ++ told_to (told_by happened ended (λ d. state_shown station.now lost d)) hand.old }
+{
+    let mut place = 0;
+    while place < hand.len() {
+        match told_by(station, lost, happened, ended, &hand.as_slice()[place].ask) {
+            Some(answer) => {
+                let request = hand.remove(place);
+                acts.push(Act::Told(Outcome {
+                    caller: request.caller,
+                    number: request.number,
+                    answer,
+                }));
+            }
+            None => place += 1,
+        }
+    }
+}

@@ -1,0 +1,119 @@
+//! What a core does at a tick.
+ghost use Rattle.std.specs.Prelude.{◌≡◌, ◌+◌, ◌≤◌, ◌&&◌, ◌++◌, map, option_map, slice_get, IfOk, OnErr};
+ghost use Rattle.std.specs.List.{list_any};
+ghost use Rattle.mux_frame.specs.Frames.{kept_frame};
+ghost use Rattle.mux_station.specs.States.{is_opened};
+ghost use Rattle.mux_station.specs.Stations.{channel_at};
+ghost use Rattle.modem_history.specs.Acts.{Sent, Tick, act_of};
+ghost use Rattle.modem_driver.specs.Ticked.{bared, queued_from, shown_asking, asking_from, is_probe_given};
+ghost use Rattle.modem_driver.specs.Cores.{Handles};
+ghost use Rattle.modem_driver.specs.declared.error.CoreError.TheVariants as CoreError;
+
+use crate::act_list::ActList;
+use crate::driver::Core;
+use crate::error::CoreError;
+use crate::telling::{Happened, tell};
+use crate::written::CONTROL;
+use modem_history::Act;
+use mux_frame::{Dlci, FrameBuf, Info};
+use mux_station::{ChannelState, GivenUp, Station};
+use std::alloc::Global;
+
+impl Core {
+    /// A tick: SABM and DISC that weren't answered are sent again, and at the fourth tick what waits is given up.
+    /// Refusal: 1 NoMemory, which changes nothing.
+    pub fn tick(&mut self) -> Result<Vec<Act>, CoreError>
+        ensures past { IfOk result (λ acts. Handles self.old self.new Tick (map act_of acts.items)) }
+        ensures err { OnErr result (self.new ≡ self.old) }
+        ensures no_memory { OnErr result (result ≡ Err CoreError.NoMemory) }
+        ensures n1 { self.new.station.n1 ≡ self.old.station.n1 }
+    {
+        let most = count_asking(&self.station);
+        let mut acts = ActList::with_room(self.alloc, 1 + most + self.hand.len())?;
+        acts.push(Act::Tick);
+        if self.lost {
+            return Ok(acts.into_vec());
+        }
+        let ran = is_running(&self.station);
+        let place = self.station.queue_len();
+        let noticed = self.station.tick();
+        push_queued(self.alloc, &mut self.station, place, most, &mut acts);
+        let ended = ran && !is_running(&self.station);
+        let happened = Happened::Tick(has_probe(noticed.as_slice()));
+        tell(
+            &mut self.hand,
+            &self.station,
+            false,
+            happened,
+            ended,
+            &mut acts,
+        );
+        Ok(acts.into_vec())
+    }
+}
+
+/// Whether connection 0 is Opened.
+fn is_running(station: &Station) -> bool
+    ensures { result ≡ is_opened (channel_at station.now 0).state }
+{
+    station.state(CONTROL) == ChannelState::Opened
+}
+
+/// Whether a connection that stands so waits for an answer to its SABM or DISC.
+fn is_asking(state: ChannelState) -> bool
+    ensures { result ≡ shown_asking state }
+{
+    matches!(state, ChannelState::Opening | ChannelState::Closing)
+}
+
+/// How many connections wait for an answer to their SABM or DISC.
+fn count_asking(station: &Station) -> usize
+    ensures value { result ≡ asking_from station.now 0 62 }
+    ensures few { result ≤ 62 }
+{
+    let mut count = 0;
+    for number in 0..62u8 {
+        if is_asking(station.state(Dlci { number })) {
+            count += 1;
+        }
+    }
+    count
+}
+
+/// Whether the probe was given up.
+fn has_probe(noticed: &[GivenUp]) -> bool
+    ensures { result ≡ list_any is_probe_given noticed.now }
+{
+    noticed.iter().any(|up| matches!(up, GivenUp::Probe))
+}
+
+/// The frame at a place of the control queue, without its information.
+fn bare_at(alloc: Global, station: &mut Station, place: usize) -> Option<FrameBuf>
+    ensures frame { option_map kept_frame result ≡ option_map bared (slice_get station.old.queue place) }
+    ensures same { station.new ≡ station.old }
+{
+    let frame = station.queued(place)?;
+    Some(FrameBuf {
+        dlci: frame.dlci,
+        kind: frame.kind,
+        cr: frame.cr,
+        pf: frame.pf,
+        info: Info::from_vec(Vec::new(alloc)),
+    })
+}
+
+/// Puts the frames of the control queue from a place on behind the acts, at most so many. They have no
+/// information.
+fn push_queued(alloc: Global, station: &mut Station, place: usize, most: usize, acts: &mut ActList)
+    requires { most ≤ acts.old.left }
+    ensures same { station.new ≡ station.old }
+    ensures acts { map act_of acts.new.acts ≡ map act_of acts.old.acts ++ map Sent (queued_from station.old.queue place most) }
+    ensures left { acts.old.left ≤ acts.new.left + most }
+{
+    let count = most.min(station.queue_len().saturating_sub(place));
+    for i in 0..count {
+        if let Some(frame) = bare_at(alloc, station, place + i) {
+            acts.push(Act::Sent(frame));
+        }
+    }
+}

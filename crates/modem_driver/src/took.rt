@@ -1,0 +1,320 @@
+//! What comes of a request.
+ghost use Rattle.std.specs.Prelude.{◌≡◌, ◌∷◌, [], ◌<◌, ◌≤◌, ◌++◌, length, map, false, IfOk, IfErr, OnErr};
+ghost use Rattle.modem_history.specs.Acts.{act_of, Took};
+ghost use Rattle.std.specs.List.{list_any};
+ghost use Rattle.mux_station.specs.Stations.{setting_of};
+ghost use Rattle.modem_history.specs.Information.{command_on, line_in, line_of};
+ghost use Rattle.modem_history.specs.Requests.{commands_on};
+ghost use Rattle.modem_driver.specs.Offers.{refused_command, TakesLine, OffersFirst};
+ghost use Rattle.modem_driver.specs.Refusals.{answer_of, told_act};
+ghost use Rattle.modem_driver.specs.Telling.{told_by, told_to, left_by};
+ghost use Rattle.modem_driver.specs.Cores.{state_shown, Handles};
+ghost use Rattle.modem_driver.specs.declared.telling.Happened.TheVariants as happened;
+ghost use Rattle.modem_history.specs.declared.act.Act.TheVariants as act;
+ghost use Rattle.modem_driver.specs.declared.error.CoreError.TheVariants as CoreError;
+ghost use Rattle.modem_desk.specs.declared.request.Ask.TheVariants as Ask;
+
+use crate::act_list::ActList;
+use crate::driver::Core;
+use crate::error::CoreError;
+use crate::hand::Hand;
+use crate::telling::{Happened, tell};
+use crate::written::{CLD, TEST, bare, message};
+use modem_desk::{Answer, Ask, Outcome, Request};
+use modem_history::Act;
+use mux_frame::{Dlci, Kind, ProbeData};
+use mux_station::{ChannelState, Station, StationError};
+use std::alloc::Global;
+
+/// What a request is told that the station refuses: want of room is Busy.
+fn answer_of(why: StationError) -> Answer
+    ensures { result ≡ answer_of why }
+{
+    match why {
+        StationError::NotOpen => Answer::NotOpen,
+        StationError::AlreadyOpen => Answer::AlreadyOpen,
+        StationError::ControlChannel => Answer::ControlChannel,
+        _ => Answer::Busy,
+    }
+}
+
+fn told(request: &Request, answer: Answer) -> Act
+    ensures { result ≡ told_act request.now answer }
+{
+    Act::Told(Outcome {
+        caller: request.caller,
+        number: request.number,
+        answer,
+    })
+}
+
+/// The acts of a request, with room for so many more, and the request once more.
+fn begin(
+    alloc: Global,
+    request: Request,
+    more: usize,
+) -> Result<(ActList, Request), (CoreError, Request)>
+    requires { more < 1000 }
+    ensures acts { IfOk result (λ t. t.0 ≡ record { acts = act.Took request ∷ []; left = more }) }
+    ensures copy { IfOk result (λ t. t.1 ≡ request) }
+    ensures no_memory { IfErr result (λ e. e.0 ≡ CoreError.NoMemory) }
+    ensures back { IfErr result (λ e. e.1 ≡ request) }
+{
+    let Ok(mut acts) = ActList::with_room(alloc, more + 1) else {
+        return Err((CoreError::NoMemory, request));
+    };
+    let Ok(copy) = request.copy() else {
+        return Err((CoreError::NoMemory, request));
+    };
+    acts.push(Act::Took(request));
+    Ok((acts, copy))
+}
+
+/// A request that is told at once, whatever it asks.
+fn tell_once(
+    alloc: Global,
+    request: Request,
+    answer: Answer,
+) -> Result<Vec<Act>, (CoreError, Request)>
+    ensures acts { IfOk result (λ acts. acts.items ≡ act.Took request ∷ told_act request answer ∷ []) }
+    ensures no_memory { IfErr result (λ e. e.0 ≡ CoreError.NoMemory) }
+    ensures back { IfErr result (λ e. e.1 ≡ request) }
+{
+    let (mut acts, copy) = begin(alloc, request, 1)?;
+    acts.push(told(&copy, answer));
+    Ok(acts.into_vec())
+}
+
+impl Core {
+    /// A request is taken: it is told at once, or is in hand from then on. After a loss of the line it is
+    /// told LineLost, and Busy while 128 requests are in hand. Refusal: 1 NoMemory, which changes
+    /// nothing and hands the request back.
+    pub fn took(&mut self, request: Request) -> Result<Vec<Act>, (CoreError, Request)>
+        ensures past { IfOk result (λ acts. Handles self.old self.new (Took request) (map act_of acts.items)) }
+        ensures err { OnErr result (self.new ≡ self.old) }
+        ensures no_memory { IfErr result (λ e. e.0 ≡ CoreError.NoMemory) }
+        ensures back { IfErr result (λ e. e.1 ≡ request) }
+        ensures n1 { self.new.station.n1 ≡ self.old.station.n1 }
+    {
+        if self.lost {
+            return tell_once(self.alloc, request, Answer::LineLost);
+        }
+        if self.hand.len() >= 128 {
+            return tell_once(self.alloc, request, Answer::Busy);
+        }
+        match &request.ask {
+            Ask::OpenChannel(dlci) => {
+                let dlci = *dlci;
+                self.take_open(dlci, request)
+            }
+            Ask::CloseChannel(dlci) => {
+                let dlci = *dlci;
+                self.take_close(dlci, request)
+            }
+            Ask::Command(dlci, _) => {
+                let dlci = *dlci;
+                self.take_command(dlci, request)
+            }
+            Ask::Probe(octets) => {
+                let echo = ProbeData::new(octets.octets()).unwrap();
+                self.take_probe(echo, request)
+            }
+            Ask::Stop => self.take_stop(request),
+        }
+    }
+
+    /// A connection is to be opened.
+    fn take_open(&mut self, dlci: Dlci, request: Request) -> Result<Vec<Act>, (CoreError, Request)>
+        requires ask { request.ask ≡ Ask.OpenChannel dlci }
+        requires live { self.old.lost ≡ false }
+        requires few { length self.old.hand < 128 }
+        ensures past { IfOk result (λ acts. Handles self.old self.new (Took request) (map act_of acts.items)) }
+        ensures err { OnErr result (self.new ≡ self.old) }
+        ensures no_memory { IfErr result (λ e. e.0 ≡ CoreError.NoMemory) }
+        ensures back { IfErr result (λ e. e.1 ≡ request) }
+        ensures n1 { self.new.station.n1 ≡ self.old.station.n1 }
+    {
+        let (mut acts, copy) = begin(self.alloc, request, 1)?;
+        if let Err(why) = self.station.open(dlci) {
+            acts.push(told(&copy, answer_of(why)));
+            return Ok(acts.into_vec());
+        }
+        acts.push(Act::Sent(bare(self.alloc, Kind::Sabm, dlci)));
+        self.hand.push(copy);
+        Ok(acts.into_vec())
+    }
+    /// A connection is to be closed: its commands are told so.
+    fn take_close(&mut self, dlci: Dlci, request: Request) -> Result<Vec<Act>, (CoreError, Request)>
+        requires ask { request.ask ≡ Ask.CloseChannel dlci }
+        requires live { self.old.lost ≡ false }
+        requires few { length self.old.hand < 128 }
+        ensures past { IfOk result (λ acts. Handles self.old self.new (Took request) (map act_of acts.items)) }
+        ensures err { OnErr result (self.new ≡ self.old) }
+        ensures no_memory { IfErr result (λ e. e.0 ≡ CoreError.NoMemory) }
+        ensures back { IfErr result (λ e. e.1 ≡ request) }
+        ensures n1 { self.new.station.n1 ≡ self.old.station.n1 }
+    {
+        let (mut acts, copy) = begin(self.alloc, request, 1 + self.hand.len())?;
+        if let Err(why) = self.station.close(dlci) {
+            acts.push(told(&copy, answer_of(why)));
+            return Ok(acts.into_vec());
+        }
+        acts.push(Act::Sent(bare(self.alloc, Kind::Disc, dlci)));
+        tell_taken(&mut self.hand, &self.station, false, &mut acts);
+        self.hand.push(copy);
+        Ok(acts.into_vec())
+    }
+
+    /// A command is to be sent: it enters the send ring where no other of its connection is in hand.
+    fn take_command(
+        &mut self,
+        dlci: Dlci,
+        request: Request,
+    ) -> Result<Vec<Act>, (CoreError, Request)>
+        requires ask { request.ask ≡ Ask.Command dlci (line_of request) }
+        requires live { self.old.lost ≡ false }
+        requires few { length self.old.hand < 128 }
+        ensures past { IfOk result (λ acts. Handles self.old self.new (Took request) (map act_of acts.items)) }
+        ensures err { OnErr result (self.new ≡ self.old) }
+        ensures no_memory { IfErr result (λ e. e.0 ≡ CoreError.NoMemory) }
+        ensures back { IfErr result (λ e. e.1 ≡ request) }
+        ensures n1 { self.new.station.n1 ≡ self.old.station.n1 }
+    {
+        let (mut acts, copy) = begin(self.alloc, request, 1)?;
+        if let Some(why) = refuses_command(&self.station, dlci) {
+            acts.push(told(&copy, why));
+            return Ok(acts.into_vec());
+        }
+        let text = text_of(&copy.ask);
+        offer_first(&self.hand, &mut self.station, dlci, text);
+        self.hand.push(copy);
+        Ok(acts.into_vec())
+    }
+
+    /// A probe is to be sent.
+    fn take_probe(
+        &mut self,
+        echo: ProbeData,
+        request: Request,
+    ) -> Result<Vec<Act>, (CoreError, Request)>
+        requires ask { request.ask ≡ Ask.Probe echo }
+        requires live { self.old.lost ≡ false }
+        requires few { length self.old.hand < 128 }
+        ensures past { IfOk result (λ acts. Handles self.old self.new (Took request) (map act_of acts.items)) }
+        ensures err { OnErr result (self.new ≡ self.old) }
+        ensures no_memory { IfErr result (λ e. e.0 ≡ CoreError.NoMemory) }
+        ensures back { IfErr result (λ e. e.1 ≡ request) }
+        ensures n1 { self.new.station.n1 ≡ self.old.station.n1 }
+    {
+        let Ok(test) = message(self.alloc, TEST, echo.octets()) else {
+            return Err((CoreError::NoMemory, request));
+        };
+        let (mut acts, copy) = begin(self.alloc, request, 1)?;
+        if let Err(why) = self.station.probe(echo.octets()) {
+            acts.push(told(&copy, answer_of(why)));
+            return Ok(acts.into_vec());
+        }
+        acts.push(Act::Sent(test));
+        self.hand.push(copy);
+        Ok(acts.into_vec())
+    }
+
+    /// Everything else is to be ended: all requests in hand are told so.
+    fn take_stop(&mut self, request: Request) -> Result<Vec<Act>, (CoreError, Request)>
+        requires ask { request.ask ≡ Ask.Stop }
+        requires live { self.old.lost ≡ false }
+        requires few { length self.old.hand < 128 }
+        ensures past { IfOk result (λ acts. Handles self.old self.new (Took request) (map act_of acts.items)) }
+        ensures err { OnErr result (self.new ≡ self.old) }
+        ensures no_memory { IfErr result (λ e. e.0 ≡ CoreError.NoMemory) }
+        ensures back { IfErr result (λ e. e.1 ≡ request) }
+        ensures n1 { self.new.station.n1 ≡ self.old.station.n1 }
+    {
+        let Ok(cld) = message(self.alloc, CLD, &[]) else {
+            return Err((CoreError::NoMemory, request));
+        };
+        let (mut acts, copy) = begin(self.alloc, request, 1 + self.hand.len())?;
+        if let Err(why) = self.station.stop() {
+            acts.push(told(&copy, answer_of(why)));
+            return Ok(acts.into_vec());
+        }
+        acts.push(Act::Sent(cld));
+        tell_taken(&mut self.hand, &self.station, true, &mut acts);
+        self.hand.push(copy);
+        Ok(acts.into_vec())
+    }
+}
+
+/// Tells those in hand what the station's states say by now. `ended` says whether 0 is Opened no more.
+#[tactic(auto, using(crate::proofs::CoreAsks::few_left))]
+fn tell_taken(hand: &mut Hand, station: &Station, ended: bool, acts: &mut ActList)
+    requires { length hand.old ≤ acts.old.left }
+    ensures hand { hand.new ≡ left_by (told_by happened.Took ended (state_shown station.now false)) hand.old }
+    ensures few { length hand.new ≤ length hand.old }
+    ensures acts { acts.new.acts ≡ acts.old.acts ++ told_to (told_by happened.Took ended (state_shown station.now false)) hand.old }
+{
+    tell(hand, station, false, Happened::Took, ended, acts);
+}
+
+/// The text of a command, without its CR.
+#[tactic(auto, using(crate::proofs::CoreCommands::short_line))]
+fn text_of(ask: &Ask) -> &[u8]
+    ensures text { result.now ≡ line_in ask.now }
+    ensures short { length result.now ≤ 256 }
+{
+    match ask {
+        Ask::Command(_, line) => line.text(),
+        _ => &[],
+    }
+}
+
+/// What a command is told at once by how its connection stands.
+#[tactic(auto, using(crate::proofs::CoreCommands::shown_refused))]
+fn refuses_command(station: &Station, dlci: Dlci) -> Option<Answer>
+    ensures { result ≡ refused_command station.now dlci.number }
+{
+    if dlci.number() == 0 {
+        return Some(Answer::ControlChannel);
+    }
+    match station.state(dlci) {
+        ChannelState::Opened => None,
+        _ => Some(Answer::NotOpen),
+    }
+}
+
+/// Whether a command of the connection is in hand.
+fn has_command(hand: &Hand, dlci: Dlci) -> bool
+    ensures { result ≡ list_any (commands_on dlci.number) hand.now }
+{
+    hand.as_slice()
+        .iter()
+        .any(|request| is_command_on(dlci, &request.ask))
+}
+
+fn is_command_on(dlci: Dlci, ask: &Ask) -> bool
+    ensures { result ≡ command_on dlci.number ask.now }
+{
+    match ask {
+        Ask::Command(other, _) => other.number() == dlci.number(),
+        _ => false,
+    }
+}
+
+/// Offers a command's text and its CR.
+#[tactic(auto, using(crate::proofs::CoreCommands::both_setting, crate::proofs::CoreCommands::line_taken))]
+fn offer_line(station: &mut Station, dlci: Dlci, text: &[u8])
+    ensures setting { setting_of station.new ≡ setting_of station.old }
+    ensures takes { TakesLine station.old station.new dlci.number text.now }
+{
+    let _ = station.offer(dlci, text);
+    let _ = station.offer(dlci, b"\r");
+}
+
+/// The same, where no other command of the connection is in hand.
+fn offer_first(hand: &Hand, station: &mut Station, dlci: Dlci, text: &[u8])
+    ensures { OffersFirst hand.now station.old station.new dlci.number text.now }
+{
+    if !has_command(hand, dlci) {
+        offer_line(station, dlci, text);
+    }
+}
