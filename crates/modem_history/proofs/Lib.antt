@@ -23,3 +23,5 @@ pub mod InSteps
 pub mod Owns
 pub mod Decided
 pub mod RowFacts
+pub mod SessionTests
+pub mod SessionRowFacts

@@ -10,3 +10,10 @@ pub mod Wholes
 pub mod Rows
 pub mod GoodRows
 pub mod BadRows
+pub mod Kinds
+pub mod Sessions
+pub mod Turns
+pub mod Entering
+pub mod SessionRows
+pub mod GoodSessions
+pub mod BadSessions

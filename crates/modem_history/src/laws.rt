@@ -5,6 +5,9 @@ ghost use Rattle.modem_history.specs.Calls.{Setting};
 ghost use Rattle.modem_history.specs.Lawful.{Lawful};
 ghost use Rattle.modem_history.specs.BadRows.{NotItsOwn, refused_rows, incomplete_rows, unquiet_rows};
 ghost use Rattle.modem_history.specs.GoodRows.{good_rows};
+ghost use Rattle.modem_history.specs.SessionRows.{Each, IsRight, IsWrong};
+ghost use Rattle.modem_history.specs.GoodSessions.{right_sessions};
+ghost use Rattle.modem_history.specs.BadSessions.{wrong_sessions};
 ghost use Rattle.modem_history.specs.Rows.{AllAre, IsGood, IsIncomplete, IsRefused, IsUnquiet};
 ghost use Rattle.modem_history.specs.Wholes.{AnswersOnce, BeginsInTurn, CallGoesOn, IsBeginning, LeavesOnce, NoneAfterLoss, StaysInStep, TellsAnswers, TellsOwn};
 
@@ -44,4 +47,11 @@ pub fn worked_examples()
     ensures incomplete { AllAre IsIncomplete incomplete_rows }
     ensures unquiet { AllAre IsUnquiet unquiet_rows }
     ensures own { NotItsOwn }
+{}
+
+/// Worked sessions, computed by the definitions: those that fit what happened, and those that don't.
+#[tactic(auto, using(crate::proofs::SessionRowFacts::all_right, crate::proofs::SessionRowFacts::all_wrong))]
+pub fn session_examples()
+    ensures right { Each IsRight right_sessions }
+    ensures wrong { Each IsWrong wrong_sessions }
 {}
