@@ -25,3 +25,7 @@ pub mod Decided
 pub mod RowFacts
 pub mod SessionTests
 pub mod SessionRowFacts
+pub mod TurnTests
+pub mod GoodTurnFacts
+pub mod BadTurnFacts
+pub mod EntryRowFacts

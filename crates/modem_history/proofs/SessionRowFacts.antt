@@ -23,11 +23,11 @@ nothing_yet_right : IsRight nothing_yet
 unfolding check_octet_of body_of verdict_on by_header by_end
 nothing_yet_right = fits_none nothing_yet [] [] 0 refl refl refl (read_in [] refl) (read_in [] refl) refl
 
-sabm_queued_right : IsRight sabm_queued
+pub sabm_queued_right : IsRight sabm_queued
 unfolding check_octet_of body_of verdict_on by_header by_end
 sabm_queued_right = fits_none sabm_queued lf_octet [] 0 refl refl refl (read_in lf_octet refl) (read_in [] refl) refl
 
-sabm_half_sent_right : IsRight sabm_half_sent
+pub sabm_half_sent_right : IsRight sabm_half_sent
 unfolding check_octet_of body_of verdict_on by_header by_end
 sabm_half_sent_right = fits_none sabm_half_sent lf_octet [] 2 refl refl refl (read_in lf_octet refl) (read_in [] refl) refl
 
@@ -35,11 +35,11 @@ ua_unfed_right : IsRight ua_unfed
 unfolding check_octet_of body_of verdict_on by_header by_end
 ua_unfed_right = fits_none ua_unfed lf_octet [] 6 refl refl refl (read_in lf_octet refl) (read_in [] refl) refl
 
-zero_opened_right : IsRight zero_opened
+pub zero_opened_right : IsRight zero_opened
 unfolding check_octet_of body_of verdict_on by_header by_end
 zero_opened_right = fits_none zero_opened zero_came last_flag 6 refl refl refl (read_in zero_came refl) (read_in last_flag refl) refl
 
-outcome_waits_right : IsRight outcome_waits
+pub outcome_waits_right : IsRight outcome_waits
 unfolding check_octet_of body_of verdict_on by_header by_end
 outcome_waits_right = fits_none outcome_waits zero_came last_flag 6 refl refl refl (read_in zero_came refl) (read_in last_flag refl) refl
 
@@ -47,7 +47,7 @@ request_aside_right : IsRight request_aside
 unfolding check_octet_of body_of verdict_on by_header by_end
 request_aside_right = fits_none request_aside zero_came last_flag 6 refl refl refl (read_in zero_came refl) (read_in last_flag refl) refl
 
-csq_sent_right : IsRight csq_sent
+pub csq_sent_right : IsRight csq_sent
 unfolding check_octet_of body_of verdict_on by_header by_end
 csq_sent_right = fits_none csq_sent one_came last_flag 13 refl refl refl (read_in one_came refl) (read_in last_flag refl) refl
 
@@ -55,7 +55,7 @@ ring_announced_right : IsRight ring_announced
 unfolding check_octet_of body_of verdict_on by_header by_end
 ring_announced_right = fits_none ring_announced (one_came ++ ring_one) last_flag 10 refl refl refl (read_in (one_came ++ ring_one) refl) (read_in last_flag refl) refl
 
-ring_waits_right : IsRight ring_waits
+pub ring_waits_right : IsRight ring_waits
 unfolding check_octet_of body_of verdict_on by_header by_end
 ring_waits_right = fits_none ring_waits (one_came ++ ring_one) last_flag 10 refl refl refl (read_in (one_came ++ ring_one) refl) (read_in last_flag refl) refl
 
@@ -69,7 +69,7 @@ ua_next = record {
   spells = record { indicator = 1 ∷ []; octets = refl; dlci = lit< tt; indicates = short 0 (lit< tt); room = lit≤ tt };
 }
 
-ua_at_hand_right : IsRight ua_at_hand
+pub ua_at_hand_right : IsRight ua_at_hand
 unfolding check_octet_of body_of verdict_on by_header by_end
 ua_at_hand_right = fits_by ua_at_hand zero_came 6 refl refl (record {
   reads = λ x gs rest more. reads_on 31 lf_octet (ua_zero ++ x) [] gs [] rest (read_in lf_octet refl) more;

@@ -17,3 +17,7 @@ pub mod Entering
 pub mod SessionRows
 pub mod GoodSessions
 pub mod BadSessions
+pub mod GoodTurns
+pub mod BadTurns
+pub mod EntryRows
+pub mod FinishRows

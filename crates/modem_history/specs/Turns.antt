@@ -51,10 +51,16 @@ abbrev pub request_given : Option (Option Request) → List Request
 request_given None = []
 request_given (Some q) = option_to_list q
 
--- a write offers the first octets that wait, some of them; without one none wait
+-- a write offers the first octets that wait, some of them, of which the line takes some or none
+pub record IsOffer (w : Write) (unwritten : List ℕ) : Type 0 where
+  pub some : 1 ≤ length w.offered
+  pub bound : w.count ≤ length w.offered
+  pub first : IsPrefixOf w.offered (take w.count w.offered ++ unwritten)
+
+-- without a write no octets wait
 abbrev pub Offers : Option Write → List ℕ → Type 0
 Offers None unwritten = unwritten ≡ []
-Offers (Some w) unwritten = (1 ≤ length w.offered) × (w.count ≤ length w.offered) × IsPrefixOf w.offered (take w.count w.offered ++ unwritten)
+Offers (Some w) unwritten = IsOffer w unwritten
 
 -- no more comes than there is room for
 abbrev pub HasRoom : Option Read → Type 0

@@ -5,7 +5,11 @@ ghost use Rattle.modem_history.specs.Calls.{Setting};
 ghost use Rattle.modem_history.specs.Lawful.{Lawful};
 ghost use Rattle.modem_history.specs.BadRows.{NotItsOwn, refused_rows, incomplete_rows, unquiet_rows};
 ghost use Rattle.modem_history.specs.GoodRows.{good_rows};
-ghost use Rattle.modem_history.specs.SessionRows.{Each, IsRight, IsWrong};
+ghost use Rattle.modem_history.specs.SessionRows.{Each, IsRight, IsWrong, IsWrongTurn};
+ghost use Rattle.modem_history.specs.GoodTurns.{AreRightTurns};
+ghost use Rattle.modem_history.specs.BadTurns.{wrong_turns};
+ghost use Rattle.modem_history.specs.EntryRows.{IsRightEntry, IsWrongEntry, right_entries, wrong_entries};
+ghost use Rattle.modem_history.specs.FinishRows.{IsRightEnd, IsWrongEnd, right_ends, wrong_ends};
 ghost use Rattle.modem_history.specs.GoodSessions.{right_sessions};
 ghost use Rattle.modem_history.specs.BadSessions.{wrong_sessions};
 ghost use Rattle.modem_history.specs.Rows.{AllAre, IsGood, IsIncomplete, IsRefused, IsUnquiet};
@@ -49,9 +53,16 @@ pub fn worked_examples()
     ensures own { NotItsOwn }
 {}
 
-/// Worked sessions, computed by the definitions: those that fit what happened, and those that don't.
-#[tactic(auto, using(crate::proofs::SessionRowFacts::all_right, crate::proofs::SessionRowFacts::all_wrong))]
+/// Worked sessions, turns, entries and ends, computed by the definitions: those of a right driver, and those that don't
+/// fit what happened or don't mean what they say.
+#[tactic(auto, using(crate::proofs::SessionRowFacts::all_right, crate::proofs::SessionRowFacts::all_wrong, crate::proofs::GoodTurnFacts::are_right, crate::proofs::BadTurnFacts::all_wrong_turns, crate::proofs::EntryRowFacts::all_right_entries, crate::proofs::EntryRowFacts::all_wrong_entries, crate::proofs::EntryRowFacts::all_right_ends, crate::proofs::EntryRowFacts::all_wrong_ends))]
 pub fn session_examples()
-    ensures right { Each IsRight right_sessions }
-    ensures wrong { Each IsWrong wrong_sessions }
+    ensures fit { Each IsRight right_sessions }
+    ensures unfit { Each IsWrong wrong_sessions }
+    ensures turns { AreRightTurns }
+    ensures wrong_turns { Each IsWrongTurn wrong_turns }
+    ensures entries { Each IsRightEntry right_entries }
+    ensures wrong_entries { Each IsWrongEntry wrong_entries }
+    ensures ends { Each IsRightEnd right_ends }
+    ensures wrong_ends { Each IsWrongEnd wrong_ends }
 {}
