@@ -159,7 +159,7 @@ loss_in_a_turn_wrong : IsWrongTurn loss_in_a_turn
 loss_in_a_turn_wrong t turn = never turn.acts_may
 
 failed_and_moved_wrong : IsWrongTurn failed_and_moved
-failed_and_moved_wrong t turn = numbers_differ 1 0 refl turn.deals.sound
+failed_and_moved_wrong t turn = numbers_differ 1 0 refl turn.sound
 
 at_most_two : {A B : Type 0} (w : Option A) (r : Option B) → 43 ≡ counted 40 (calls_made w + calls_made r) → ⊥
 at_most_two None None e = omega arith

@@ -11,7 +11,7 @@ use Rattle.modem_history.specs.Wholes.{IsPrefixOf}
 use Rattle.modem_history.specs.SessionRows.{Each}
 use Rattle.modem_history.specs.Sessions.{LineView, EndView, at_place}
 use Rattle.modem_history.specs.Entering.{IsEntry, EndsWithFinal, entry_text}
-use Rattle.modem_history.specs.EntryRows.{EntryRow, IsRightEntry, IsWrongEntry, line_before, right_entries, wrong_entries, entered, entered_after_ring, refused_plainly, refused_by_number, unanswered, no_turns, failed_midway, failed_reading, entered_on_error, refused_on_ok, read_on, entered_at_second, entered_by_old_ok, entered_half_sent, sent_more, sent_another, gave_up_too_soon, gave_up_on_ok, called_too_often, failed_without_fault, fault_passed_over}
+use Rattle.modem_history.specs.EntryRows.{EntryRow, IsRightEntry, IsWrongEntry, line_before, right_entries, wrong_entries, entered, entered_after_ring, refused_plainly, refused_by_number, unanswered, no_turns, failed_midway, failed_reading, entered_on_error, refused_on_ok, read_on, entered_at_second, entered_by_old_ok, entered_half_sent, read_before, sent_more, sent_another, gave_up_too_soon, gave_up_on_ok, called_too_often, failed_without_fault, fault_passed_over}
 use Rattle.modem_history.specs.FinishRows.{IsRightEnd, IsWrongEnd, right_ends, wrong_ends, both_handed_back, outcome_handed_back, line_handed_back, hand_left_out, aside_left_out, aside_first, told_in_hand, outcome_left_out, line_left_out, line_called, told_at_end}
 use Rattle.modem_history.proofs.SessionTests.{octets_differ, outcomes_differ, requests_differ}
 
@@ -24,6 +24,7 @@ entered_right = record {
   beginning = record { rest = []; joins = refl };
   read = codes "AT+CMUX=0\r\r\nOK\r";
   read_are = refl;
+  in_turn = inr refl;
   bounded = lit≤ tt;
   failed = refl;
   means = record {
@@ -39,6 +40,7 @@ entered_after_ring_right = record {
   beginning = record { rest = []; joins = refl };
   read = codes "\r\nRING\r\nOK\r";
   read_are = refl;
+  in_turn = inr refl;
   bounded = lit≤ tt;
   failed = refl;
   means = record {
@@ -54,6 +56,7 @@ refused_plainly_right = record {
   beginning = record { rest = []; joins = refl };
   read = codes "\r\nERROR\r";
   read_are = refl;
+  in_turn = inr refl;
   bounded = lit≤ tt;
   failed = refl;
   means = record {
@@ -71,6 +74,7 @@ refused_by_number_right = record {
   beginning = record { rest = []; joins = refl };
   read = codes "\r\n+CME ERROR: 4\r";
   read_are = refl;
+  in_turn = inr refl;
   bounded = lit≤ tt;
   failed = refl;
   means = record {
@@ -88,6 +92,7 @@ unanswered_right = record {
   beginning = record { rest = []; joins = refl };
   read = [];
   read_are = refl;
+  in_turn = inr refl;
   bounded = lit≤ tt;
   failed = refl;
   means = record { all_made = inl refl; none = refl };
@@ -100,6 +105,7 @@ no_turns_right = record {
   beginning = record { rest = entry_text; joins = refl };
   read = [];
   read_are = refl;
+  in_turn = inl refl;
   bounded = lit≤ tt;
   failed = refl;
   means = record { all_made = inl refl; none = refl };
@@ -112,6 +118,7 @@ failed_midway_right = record {
   beginning = record { rest = codes "MUX=0\r"; joins = refl };
   read = [];
   read_are = refl;
+  in_turn = inl refl;
   bounded = lit≤ tt;
   failed = refl;
   means = refl;
@@ -124,6 +131,7 @@ failed_reading_right = record {
   beginning = record { rest = []; joins = refl };
   read = codes "\r\nO";
   read_are = refl;
+  in_turn = inr refl;
   bounded = lit≤ tt;
   failed = refl;
   means = refl;
@@ -154,6 +162,10 @@ never e = cc
 
 never_back : true ≡ false → ⊥
 never_back e = cc
+
+neither : {A B : Type 0} → (A → ⊥) → (B → ⊥) → A ⊎ B → ⊥
+neither f g (inl a) = f a
+neither f g (inr b) = g b
 
 -- what an entry sent and read, where that is known
 sent_is : (row : EntryRow) (sent : List ℕ) → row.after.sent ≡ line_before.sent ++ sent → (i : IsEntry row.turns line_before row.after row.says) → i.sent ≡ sent
@@ -229,6 +241,12 @@ take_own : (xs ys : List ℕ) → take (length xs) (xs ++ ys) ≡ xs
 take_own [] ys = refl
 take_own (x ∷ xs) ys = ap (λ zs. x ∷ zs) (take_own xs ys)
 
+read_before_wrong : IsWrongEntry read_before
+read_before_wrong i =
+    let sent = sent_is read_before (codes "AT+CM") refl i in
+    let read = read_is read_before (codes "\r\n") refl i in
+    neither (λ e. octets_differ (codes "\r\n") [] refl (sym read ∙ e)) (λ e. octets_differ (codes "AT+CM") entry_text refl (sym sent ∙ e)) i.in_turn
+
 -- a list that isn't a beginning
 no_beginning : (xs ys : List ℕ) → bytes_eq xs (take (length xs) ys) ≡ false → IsPrefixOf xs ys → ⊥
 no_beginning xs ys h p = octets_differ xs (take (length xs) ys) h (sym (take_own xs p.rest) ∙ ap (take (length xs)) p.joins)
@@ -245,10 +263,6 @@ sent_another_wrong i =
 
 numbers_differ : (n m : ℕ) → (n == m) ≡ false → n ≡ m → ⊥
 numbers_differ n m h e = never_back (sym (eq-eqb n m e) ∙ h)
-
-neither : {A B : Type 0} → (A → ⊥) → (B → ⊥) → A ⊎ B → ⊥
-neither f g (inl a) = f a
-neither f g (inr b) = g b
 
 gave_up_too_soon_wrong : IsWrongEntry gave_up_too_soon
 gave_up_too_soon_wrong i = neither (numbers_differ 102 103 refl) (numbers_differ 102 (2 ^ 64 - 1) refl) i.means.all_made
@@ -268,37 +282,7 @@ fault_passed_over_wrong : IsWrongEntry fault_passed_over
 fault_passed_over_wrong i = numbers_differ 1 0 refl i.failed
 
 pub all_wrong_entries : Each IsWrongEntry wrong_entries
-all_wrong_entries = (
-  entered_on_error_wrong,
-  (
-    refused_on_ok_wrong,
-    (
-      read_on_wrong,
-      (
-        entered_at_second_wrong,
-        (
-          entered_by_old_ok_wrong,
-          (
-            entered_half_sent_wrong,
-            (
-              sent_more_wrong,
-              (
-                sent_another_wrong,
-                (
-                  gave_up_too_soon_wrong,
-                  (
-                    gave_up_on_ok_wrong,
-                    (called_too_often_wrong, (failed_without_fault_wrong, (fault_passed_over_wrong, tt))),
-                  ),
-                ),
-              ),
-            ),
-          ),
-        ),
-      ),
-    ),
-  ),
-)
+all_wrong_entries = (entered_on_error_wrong, (refused_on_ok_wrong, (read_on_wrong, (entered_at_second_wrong, (entered_by_old_ok_wrong, (entered_half_sent_wrong, (read_before_wrong, (sent_more_wrong, (sent_another_wrong, (gave_up_too_soon_wrong, (gave_up_on_ok_wrong, (called_too_often_wrong, (failed_without_fault_wrong, (fault_passed_over_wrong, tt))))))))))))))
 
 -- ## Ends
 

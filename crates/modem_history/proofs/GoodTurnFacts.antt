@@ -20,13 +20,14 @@ use Rattle.modem_history.proofs.SessionRowFacts.{sabm_queued_right, sabm_half_se
 use Rattle.modem_history.proofs.TurnTests.{of_kinds, one_back, none_held, turn_by}
 
 -- what a session fits doesn't hang on the count of calls
-still_fits : (n : ℕ) (v : SessionView) (past : List Act) → SessionFits beginning v past → SessionFits beginning (at_calls n v) past
+pub still_fits : (n : ℕ) (v : SessionView) (past : List Act) → SessionFits beginning v past → SessionFits beginning (at_calls n v) past
 still_fits n v past f = record {
   history = f.history;
-  requests = record { taken_are = f.requests.taken_are; once = f.requests.once; few = f.requests.few };
+  loss = record { one = f.loss.one; by_fault = f.loss.by_fault };
+  requests = record { taken_are = f.requests.taken_are; once = f.requests.once; callers = f.requests.callers; few = f.requests.few };
   received = record { fed = f.received.fed; received_are = f.received.received_are; bound = f.received.bound; deframes = f.received.deframes };
   sent = record { sent_are = f.sent.sent_are; written = f.sent.written; of_last = f.sent.of_last };
-  told = f.told;
+  told = record { outcomes_are = f.told.outcomes_are; callers = f.told.callers };
   heard = record { lines_are = f.heard.lines_are; listened = f.heard.listened };
 }
 

@@ -29,3 +29,4 @@ pub mod TurnTests
 pub mod GoodTurnFacts
 pub mod BadTurnFacts
 pub mod EntryRowFacts
+pub mod FaultRowFacts

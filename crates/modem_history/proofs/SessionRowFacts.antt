@@ -1,6 +1,6 @@
 -- The rows of sessions, computed.
 use Rattle.std.proofs.Common.{ap, sym, ◌∙◌, subst, arith, lit<, lit≤, length-drop}
-use Rattle.std.specs.Prelude.{◌≡◌, ℕ, ◌-◌, ◌<◌, ◌==◌, ◌&&◌, nat_lt, Bool, true, false, List, [], ◌∷◌, ◌++◌, length, take, drop, Some, None, refl}
+use Rattle.std.specs.Prelude.{◌≡◌, ℕ, ◌-◌, ◌<◌, ◌≤◌, ◌==◌, ◌&&◌, nat_lt, Bool, true, false, List, [], ◌∷◌, ◌++◌, length, take, drop, Some, None, refl}
 use Rattle.std.proofs.lemmas.Bool.{ltb-true, eq-eqb}
 use Rattle.mux_frame.specs.declared.frame.Kind.TheVariants.{Ua}
 use Rattle.mux_frame.specs.CheckOctet.{check_octet_of}
@@ -14,8 +14,8 @@ use Rattle.at_text.specs.declared.unsolicited.UrcKind.TheVariants.{Ring, Creg}
 use Rattle.modem_history.specs.Acts.{after}
 use Rattle.modem_history.specs.Sessions.{driving, gots, given_on, last_octets}
 use Rattle.modem_history.specs.SessionRows.{SessionRow, IsRight, IsWrong, Each, beginning, entry_answer, lf_octet, zero_came, one_came, ua_zero, broken_ua_zero, ring_one, last_flag}
-use Rattle.modem_history.specs.GoodSessions.{right_sessions, nothing_yet, sabm_queued, sabm_half_sent, ua_unfed, ua_at_hand, zero_opened, outcome_waits, request_aside, csq_sent, ring_announced, ring_waits}
-use Rattle.modem_history.specs.BadSessions.{wrong_sessions, written_twice, octet_left_out, octet_waits_again, marked_too_early, marked_too_late, two_marked, data_overtakes_octets, data_overtakes_frame, broken_frame_got, got_too_soon, got_unfed, frame_dropped, flag_dropped, other_n1, request_dropped, aside_and_taken, request_invented, number_twice, told_and_kept, outcome_dropped, told_to_another, told_in_other_order, not_told_at_all, announced_out_of_order, announced_elsewhere, announced_twice, unheard_line_waits}
+use Rattle.modem_history.specs.GoodSessions.{right_sessions, nothing_yet, sabm_queued, sabm_half_sent, ua_unfed, ua_at_hand, zero_opened, outcome_waits, request_aside, csq_sent, ring_announced, ring_waits, line_lost}
+use Rattle.modem_history.specs.BadSessions.{wrong_sessions, written_twice, octet_left_out, octet_waits_again, marked_too_early, marked_too_late, two_marked, data_overtakes_octets, data_overtakes_frame, broken_frame_got, got_too_soon, got_unfed, frame_dropped, flag_dropped, other_n1, request_dropped, aside_and_taken, request_invented, number_twice, caller_unknown, sound_line_lost, lost_twice, told_and_kept, outcome_dropped, told_to_another, told_in_other_order, not_told_at_all, announced_out_of_order, announced_elsewhere, announced_twice, unheard_line_waits}
 use Rattle.modem_history.proofs.Decided.{refused, incomplete}
 use Rattle.modem_history.proofs.SessionTests.{all_small, small_octets, frames_in, rest_of, read_in, is_read, fed_is, fits_by, fits_none, octets_differ, acts_differ, outcomes_differ, requests_differ}
 
@@ -43,7 +43,7 @@ pub outcome_waits_right : IsRight outcome_waits
 unfolding check_octet_of body_of verdict_on by_header by_end
 outcome_waits_right = fits_none outcome_waits zero_came last_flag 6 refl refl refl (read_in zero_came refl) (read_in last_flag refl) refl
 
-request_aside_right : IsRight request_aside
+pub request_aside_right : IsRight request_aside
 unfolding check_octet_of body_of verdict_on by_header by_end
 request_aside_right = fits_none request_aside zero_came last_flag 6 refl refl refl (read_in zero_came refl) (read_in last_flag refl) refl
 
@@ -77,26 +77,12 @@ ua_at_hand_right = fits_by ua_at_hand zero_came 6 refl refl (record {
   octets = small_octets ua_zero refl;
 })
 
+pub line_lost_right : IsRight line_lost
+unfolding check_octet_of body_of verdict_on by_header by_end
+line_lost_right = fits_none line_lost zero_came last_flag 2 refl refl refl (read_in zero_came refl) (read_in last_flag refl) refl
+
 pub all_right : Each IsRight right_sessions
-all_right = (
-  nothing_yet_right,
-  (
-    sabm_queued_right,
-    (
-      sabm_half_sent_right,
-      (
-        ua_unfed_right,
-        (
-          ua_at_hand_right,
-          (
-            zero_opened_right,
-            (outcome_waits_right, (request_aside_right, (csq_sent_right, (ring_announced_right, (ring_waits_right, tt))))),
-          ),
-        ),
-      ),
-    ),
-  ),
-)
+all_right = (nothing_yet_right, (sabm_queued_right, (sabm_half_sent_right, (ua_unfed_right, (ua_at_hand_right, (zero_opened_right, (outcome_waits_right, (request_aside_right, (csq_sent_right, (ring_announced_right, (ring_waits_right, (line_lost_right, tt))))))))))))
 
 never : false ≡ true → ⊥
 never e = cc
@@ -203,16 +189,16 @@ number_twice_wrong f = never f.requests.once
 -- ## Outcomes
 
 told_and_kept_wrong : IsWrong told_and_kept
-told_and_kept_wrong f = outcomes_differ _ _ refl (f.told 0)
+told_and_kept_wrong f = outcomes_differ _ _ refl (f.told.outcomes_are 0)
 
 outcome_dropped_wrong : IsWrong outcome_dropped
-outcome_dropped_wrong f = outcomes_differ _ _ refl (f.told 0)
+outcome_dropped_wrong f = outcomes_differ _ _ refl (f.told.outcomes_are 0)
 
 told_to_another_wrong : IsWrong told_to_another
-told_to_another_wrong f = outcomes_differ _ _ refl (f.told 0)
+told_to_another_wrong f = outcomes_differ _ _ refl (f.told.outcomes_are 0)
 
 told_in_other_order_wrong : IsWrong told_in_other_order
-told_in_other_order_wrong f = outcomes_differ _ _ refl (f.told 0)
+told_in_other_order_wrong f = outcomes_differ _ _ refl (f.told.outcomes_are 0)
 
 not_told_at_all_wrong : IsWrong not_told_at_all
 not_told_at_all_wrong f = incomplete (driving beginning) (after [] not_told_at_all.acts) refl f.history.complete
@@ -231,86 +217,16 @@ announced_twice_wrong f = acts_differ _ _ refl (f.heard.lines_are 0 Ring refl)
 unheard_line_waits_wrong : IsWrong unheard_line_waits
 unheard_line_waits_wrong f = never f.heard.listened
 
+caller_unknown_wrong : IsWrong caller_unknown
+caller_unknown_wrong f = never f.requests.callers
+
+-- ## The line
+
+sound_line_lost_wrong : IsWrong sound_line_lost
+sound_line_lost_wrong f = let failed : 0 < 0 = f.loss.by_fault refl in omega arith
+
+lost_twice_wrong : IsWrong lost_twice
+lost_twice_wrong f = let few : 2 ≤ 1 = f.loss.one in omega arith
+
 pub all_wrong : Each IsWrong wrong_sessions
-all_wrong = (
-  written_twice_wrong,
-  (
-    octet_left_out_wrong,
-    (
-      octet_waits_again_wrong,
-      (
-        marked_too_early_wrong,
-        (
-          marked_too_late_wrong,
-          (
-            two_marked_wrong,
-            (
-              data_overtakes_octets_wrong,
-              (
-                data_overtakes_frame_wrong,
-                (
-                  broken_frame_got_wrong,
-                  (
-                    got_too_soon_wrong,
-                    (
-                      got_unfed_wrong,
-                      (
-                        frame_dropped_wrong,
-                        (
-                          flag_dropped_wrong,
-                          (
-                            other_n1_wrong,
-                            (
-                              request_dropped_wrong,
-                              (
-                                aside_and_taken_wrong,
-                                (
-                                  request_invented_wrong,
-                                  (
-                                    number_twice_wrong,
-                                    (
-                                      told_and_kept_wrong,
-                                      (
-                                        outcome_dropped_wrong,
-                                        (
-                                          told_to_another_wrong,
-                                          (
-                                            told_in_other_order_wrong,
-                                            (
-                                              not_told_at_all_wrong,
-                                              (
-                                                announced_out_of_order_wrong,
-                                                (
-                                                  announced_elsewhere_wrong,
-                                                  (
-                                                    announced_twice_wrong,
-                                                    (
-                                                      unheard_line_waits_wrong,
-                                                      tt,
-                                                    ),
-                                                  ),
-                                                ),
-                                              ),
-                                            ),
-                                          ),
-                                        ),
-                                      ),
-                                    ),
-                                  ),
-                                ),
-                              ),
-                            ),
-                          ),
-                        ),
-                      ),
-                    ),
-                  ),
-                ),
-              ),
-            ),
-          ),
-        ),
-      ),
-    ),
-  ),
-)
+all_wrong = (written_twice_wrong, (octet_left_out_wrong, (octet_waits_again_wrong, (marked_too_early_wrong, (marked_too_late_wrong, (two_marked_wrong, (data_overtakes_octets_wrong, (data_overtakes_frame_wrong, (broken_frame_got_wrong, (got_too_soon_wrong, (got_unfed_wrong, (frame_dropped_wrong, (flag_dropped_wrong, (other_n1_wrong, (request_dropped_wrong, (aside_and_taken_wrong, (request_invented_wrong, (number_twice_wrong, (caller_unknown_wrong, (sound_line_lost_wrong, (lost_twice_wrong, (told_and_kept_wrong, (outcome_dropped_wrong, (told_to_another_wrong, (told_in_other_order_wrong, (not_told_at_all_wrong, (announced_out_of_order_wrong, (announced_elsewhere_wrong, (announced_twice_wrong, (unheard_line_waits_wrong, tt))))))))))))))))))))))))))))))

@@ -1,6 +1,6 @@
 -- Whether a session fits a history, by tests that compute.
 use Rattle.std.proofs.Common.{ap, sym, ◌∙◌, subst, arith, lit<, eqb-true}
-use Rattle.std.specs.Prelude.{◌≡◌, ℕ, zero, suc, ◌+◌, ◌<◌, ◌≤◌, ◌==◌, ◌&&◌, ◌||◌, nat_lt, nat_le, Bool, true, false, List, [], ◌∷◌, ◌++◌, length, drop, filter, flat_map, map, refl, None, option_to_list}
+use Rattle.std.specs.Prelude.{◌≡◌, ℕ, zero, suc, ◌+◌, ◌<◌, ◌≤◌, ◌==◌, ◌&&◌, ◌||◌, not, nat_lt, nat_le, Bool, true, false, List, [], ◌∷◌, ◌++◌, length, drop, filter, flat_map, map, refl, None, option_to_list}
 use Rattle.std.specs.List.{list_all}
 use Rattle.std.specs.Str.{bytes_eq}
 use Rattle.std.proofs.lemmas.Bool.{and_parts, ltb-true, leb-true}
@@ -23,7 +23,7 @@ use Rattle.modem_desk.specs.declared.request.Request.{Request}
 use Rattle.modem_desk.specs.declared.request.Outcome.{Outcome}
 use Rattle.modem_desk.specs.declared.request.Urc.{Urc}
 use Rattle.modem_history.specs.Acts.{Act, Took, Got, Sent, Told, Heard, Tick, Lost, Held, Freed, Given, after, in_hand}
-use Rattle.modem_history.specs.Calls.{Setting}
+use Rattle.modem_history.specs.Calls.{Setting, is_loss, is_lost}
 use Rattle.modem_history.specs.Lawful.{owed}
 use Rattle.modem_history.specs.Wholes.{CompleteCalls, is_said, taken, outcomes}
 use Rattle.modem_history.specs.Requests.{are_distinct}
@@ -235,12 +235,14 @@ row_test row =
     steps_test (driving beginning) [] (steps_of row.acts)
     && (quiet_test (driving beginning) past
     && ((calls_test (driving beginning) past && room_test past)
-    && (are_distinct (taken past ++ option_to_list v.aside)
+    && ((nat_le (length (filter is_loss past)) 1 && (not (is_lost past) || nat_lt 0 v.line.failures))
+    && (are_distinct v.desk.taken
+    && (list_all (λ (q : Request). nat_lt q.caller 2) v.desk.taken
     && (nat_le (length (in_hand past) + length (option_to_list v.aside) + length v.unplaced) 128
     && (list_all (λ (u : Urc). is_listened beginning.kinds u.kind) v.unannounced
     && (nat_le (length v.desk.told) 2
     && (list_all (λ (o : Outcome). nat_lt o.caller 2) v.unplaced
-    && list_all (λ (o : Outcome). nat_lt o.caller 2) (outcomes past))))))))
+    && list_all (λ (o : Outcome). nat_lt o.caller 2) (outcomes past))))))))))
 
 -- what two sides have of a session
 pub record Sides : Type 0 where
@@ -289,6 +291,10 @@ told_side row fed written =
       cregs = heards Creg past;
     }
 
+lost_by : (lost : Bool) (failures : ℕ) → (not lost || nat_lt 0 failures) ≡ true → lost ≡ true → 0 < failures
+lost_by true failures h e = ltb-true 0 failures h
+lost_by false failures h e = cc
+
 pub fits_by : (row : SessionRow) (fed : List ℕ) (written : ℕ) → row_test row ≡ true → seen_side row ≡ told_side row fed written
     → Deframes fed (gots (after [] row.acts)) row.view.deframer → IsRight row
 fits_by row fed written h e deframes =
@@ -300,22 +306,29 @@ fits_by row fed written h e deframes =
     let p6 = and_parts _ _ p5.1 in
     let p7 = and_parts _ _ p6.1 in
     let p8 = and_parts _ _ p7.1 in
+    let p9 = and_parts _ _ p8.1 in
+    let p10 = and_parts _ _ p9.1 in
+    let lost = and_parts _ _ p4.0 in
     record {
       history = history_is beginning row.acts p1.0 (sym (ap (λ (x : Sides). x.acts) e)) p2.0 p3.0;
-      requests = record { taken_are = ap (λ (x : Sides). x.requests) e; once = p4.0; few = leb-true _ 128 p5.0 };
+      loss = record { one = leb-true _ 1 lost.0; by_fault = λ gone. lost_by (is_lost (after [] row.acts)) row.view.line.failures lost.1 gone };
+      requests = record { taken_are = ap (λ (x : Sides). x.requests) e; once = p5.0; callers = p6.0; few = leb-true _ 128 p7.0 };
       received = record { fed = fed; received_are = ap (λ (x : Sides). x.received) e; bound = ap (λ (x : Sides). x.bound) e; deframes = deframes };
       sent = record { sent_are = ap (λ (x : Sides). x.sent) e; written = written; of_last = ap (λ (x : Sides). x.unwritten) e };
-      told = told_is row.view.desk.told ([] ∷ [] ∷ []) row.view.unplaced (outcomes (after [] row.acts)) (record {
-        zero = ap (λ (x : Sides). x.told_zero) e;
-        one = ap (λ (x : Sides). x.told_one) e;
-        told_two = p7.0;
-        before_two = refl;
-        waiting_two = p8.0;
-        said_two = p8.1;
-      });
+      told = record {
+        outcomes_are = told_is row.view.desk.told ([] ∷ [] ∷ []) row.view.unplaced (outcomes (after [] row.acts)) (record {
+          zero = ap (λ (x : Sides). x.told_zero) e;
+          one = ap (λ (x : Sides). x.told_one) e;
+          told_two = p9.0;
+          before_two = refl;
+          waiting_two = p10.0;
+          said_two = p10.1;
+        });
+        callers = p10.0;
+      };
       heard = record {
         lines_are = at_each (λ i k. map heard_as (at_place i row.view.desk.announced ++ of_kind k row.view.unannounced) ≡ map heard_as (at_place i beginning.desk.announced) ++ heards k (after [] row.acts)) (Ring ∷ Creg ∷ []) (ap (λ (x : Sides). x.rings) e, (ap (λ (x : Sides). x.cregs) e, tt));
-        listened = p6.0;
+        listened = p8.0;
       };
     }
 

@@ -4,9 +4,11 @@ use Rattle.mux_frame.specs.declared.frame.Kind.TheVariants.{Sabm, Ua, Uih}
 use Rattle.at_text.specs.declared.unsolicited.UrcKind.TheVariants.{Cring, Creg}
 use Rattle.modem_desk.specs.declared.request.Ask.TheVariants.{OpenChannel, Command}
 use Rattle.modem_desk.specs.declared.request.Answer.TheVariants.{Opened, AlreadyOpen}
-use Rattle.modem_history.specs.Acts.{Act, Heard, Given}
+use Rattle.modem_history.specs.Acts.{Act, Took, Told, Heard, Lost, Given}
+use Rattle.modem_history.specs.Entering.{entry_text}
+use Rattle.modem_desk.specs.declared.request.Request.{Request}
 use Rattle.modem_history.specs.Rows.{zero, one, two, takes, tells, sends, comes, cr, framed, opening_zero, opening_one}
-use Rattle.modem_history.specs.SessionRows.{SessionRow, settled, zero_came, one_came, one_left, lf_octet, sabm_zero, ua_zero, broken_ua_zero, sabm_one, sabm_two, test_command, test_response, csq_one, ring_one, creg_one, first_request, second_request, third_request, fourth_request, opened_zero, opened_both, outcome_of, ring, line_on_one, last_flag}
+use Rattle.modem_history.specs.SessionRows.{SessionRow, entry_answer, settled, zero_came, one_came, one_left, lf_octet, sabm_zero, ua_zero, broken_ua_zero, sabm_one, sabm_two, test_command, test_response, csq_one, ring_one, creg_one, first_request, second_request, third_request, fourth_request, opened_zero, opened_both, outcome_of, ring, line_on_one, last_flag}
 use Rattle.modem_history.specs.GoodSessions.{asked_zero, left_zero, ring_came}
 
 -- ## Octets that leave
@@ -126,11 +128,41 @@ aside_and_taken = record {
 abbrev pub request_invented : SessionRow
 request_invented = record { view = settled lf_octet sabm_zero [] [] [] [] []; acts = left_zero }
 
+abbrev pub third_caller : Request
+third_caller = record { caller = 2; number = 1; ask = OpenChannel zero }
+
 -- a caller used a number twice
 abbrev pub number_twice : SessionRow
 number_twice = record {
   view = settled zero_came sabm_zero (first_request ∷ first_request ∷ []) (opened_zero ++ outcome_of 1 AlreadyOpen ∷ []) [] [] last_flag;
   acts = opening_zero ++ takes 1 (OpenChannel zero) ∷ tells 1 AlreadyOpen ∷ [];
+}
+
+-- a request was taken of a caller that the desk hasn't
+abbrev pub caller_unknown : SessionRow
+caller_unknown = record {
+  view = record (settled zero_came sabm_zero (first_request ∷ third_caller ∷ []) opened_zero [] [] last_flag) {
+    unplaced = record { caller = 2; number = 1; answer = AlreadyOpen } ∷ [];
+  };
+  acts = opening_zero ++ Took third_caller ∷ Told (record { caller = 2; number = 1; answer = AlreadyOpen }) ∷ [];
+}
+
+-- ## The line
+
+-- a sound line is taken for lost
+abbrev pub sound_line_lost : SessionRow
+sound_line_lost = record {
+  view = settled zero_came sabm_zero (first_request ∷ []) opened_zero [] [] last_flag;
+  acts = opening_zero ++ Lost ∷ [];
+}
+
+-- the line is lost twice
+abbrev pub lost_twice : SessionRow
+lost_twice = record {
+  view = record (settled zero_came sabm_zero (first_request ∷ []) opened_zero [] [] last_flag) {
+    line = record { received = entry_answer ++ zero_came; sent = entry_text ++ sabm_zero; calls = 40; failures = 1 };
+  };
+  acts = opening_zero ++ Lost ∷ Lost ∷ [];
 }
 
 -- ## Outcomes
@@ -213,6 +245,6 @@ abbrev pub wrong_sessions : List SessionRow
 wrong_sessions =
     written_twice ∷ octet_left_out ∷ octet_waits_again ∷ marked_too_early ∷ marked_too_late ∷ two_marked ∷
     data_overtakes_octets ∷ data_overtakes_frame ∷ broken_frame_got ∷ got_too_soon ∷ got_unfed ∷ frame_dropped ∷
-    flag_dropped ∷ other_n1 ∷ request_dropped ∷ aside_and_taken ∷ request_invented ∷ number_twice ∷ told_and_kept ∷
+    flag_dropped ∷ other_n1 ∷ request_dropped ∷ aside_and_taken ∷ request_invented ∷ number_twice ∷ caller_unknown ∷ sound_line_lost ∷ lost_twice ∷ told_and_kept ∷
     outcome_dropped ∷ told_to_another ∷ told_in_other_order ∷ not_told_at_all ∷ announced_out_of_order ∷
     announced_elsewhere ∷ announced_twice ∷ unheard_line_waits ∷ []

@@ -54,14 +54,15 @@ abbrev pub FailsBy : LineView → LineView → EntryAnswer → Type 0
 FailsBy old new LineFailed = new.failures ≡ old.failures + 1
 FailsBy old new _ = new.failures ≡ old.failures
 
--- An entry of so many turns, from the one to the other: it sent a beginning of the text, made no more calls, and its
--- answer means what it says.
+-- An entry of so many turns, from the one to the other: it sent a beginning of the text, read nothing unless it sent
+-- the whole, made no more calls, and its answer means what it says.
 pub record IsEntry (turns : ℕ) (old new : LineView) (says : EntryAnswer) : Type 0 where
   pub sent : List ℕ
   pub sent_are : new.sent ≡ old.sent ++ sent
   pub beginning : IsPrefixOf sent entry_text
   pub read : List ℕ
   pub read_are : new.received ≡ old.received ++ read
+  pub in_turn : (read ≡ []) ⊎ (sent ≡ entry_text)
   pub bounded : new.calls ≤ old.calls + turns
   pub failed : FailsBy old new says
   pub means : EntryMeans turns sent read old new says

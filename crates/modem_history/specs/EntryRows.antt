@@ -93,6 +93,10 @@ entered_by_old_ok = record { turns = 100; after = line_after entry_text [] 20 0;
 abbrev pub entered_half_sent : EntryRow
 entered_half_sent = record { turns = 100; after = line_after (codes "AT+CM") (codes "\r\nOK\r") 20 0; says = Entered }
 
+-- octets were read before the text was sent
+abbrev pub read_before : EntryRow
+read_before = record { turns = 100; after = line_after (codes "AT+CM") (codes "\r\n") 103 0; says = NoAnswer }
+
 -- more than the text was sent
 abbrev pub sent_more : EntryRow
 sent_more = record { turns = 100; after = line_after (entry_text ++ codes "A") [] 103 0; says = NoAnswer }
@@ -123,5 +127,5 @@ fault_passed_over = record { turns = 100; after = line_after entry_text (codes "
 
 abbrev pub wrong_entries : List EntryRow
 wrong_entries =
-    entered_on_error ∷ refused_on_ok ∷ read_on ∷ entered_at_second ∷ entered_by_old_ok ∷ entered_half_sent ∷ sent_more ∷
+    entered_on_error ∷ refused_on_ok ∷ read_on ∷ entered_at_second ∷ entered_by_old_ok ∷ entered_half_sent ∷ read_before ∷ sent_more ∷
     sent_another ∷ gave_up_too_soon ∷ gave_up_on_ok ∷ called_too_often ∷ failed_without_fault ∷ fault_passed_over ∷ []

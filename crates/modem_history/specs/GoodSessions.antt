@@ -5,9 +5,11 @@ use Rattle.mux_station.specs.declared.role.Role.TheVariants.{Responder}
 use Rattle.mux_station.specs.Written.{written}
 use Rattle.at_text.specs.declared.unsolicited.UrcKind.TheVariants.{Ring}
 use Rattle.modem_desk.specs.declared.request.Ask.TheVariants.{OpenChannel, Command}
-use Rattle.modem_history.specs.Acts.{Act, Heard, Given}
-use Rattle.modem_history.specs.Rows.{zero, one, takes, sends, comes, cr, framed, opening_zero, opening_one}
-use Rattle.modem_history.specs.SessionRows.{SessionRow, settled, zero_came, one_came, one_left, lf_octet, sabm_zero, ua_zero, csq_one, ring_one, first_request, second_request, third_request, opened_zero, opened_both, ring, last_flag}
+use Rattle.modem_history.specs.Acts.{Act, Heard, Lost, Given}
+use Rattle.modem_history.specs.Entering.{entry_text}
+use Rattle.modem_desk.specs.declared.request.Answer.TheVariants.{LineLost}
+use Rattle.modem_history.specs.Rows.{tells, zero, one, takes, sends, comes, cr, framed, opening_zero, opening_one}
+use Rattle.modem_history.specs.SessionRows.{SessionRow, entry_answer, sabm_one, outcome_of, settled, zero_came, one_came, one_left, lf_octet, sabm_zero, ua_zero, csq_one, ring_one, first_request, second_request, third_request, opened_zero, opened_both, ring, last_flag}
 
 -- a request to open 0 was taken, and its SABM waits in the control queue
 abbrev pub asked_zero : List Act
@@ -97,7 +99,23 @@ ring_waits = record {
   acts = ring_came;
 }
 
+-- the line is lost while 1 is being opened
+abbrev pub loss_told : List Act
+loss_told =
+    opening_zero ++ takes 2 (OpenChannel one) ∷ sends Sabm 1 [] ∷ Given ∷ Lost ∷ tells 2 LineLost ∷ []
+
+-- a call failed, and LineLost waits for a place; the SABM isn't sent any more
+abbrev pub line_lost : SessionRow
+line_lost = record {
+  view = record (settled zero_came (sabm_zero ++ take 2 sabm_one) (first_request ∷ second_request ∷ []) opened_zero [] [] last_flag) {
+    line = record { received = entry_answer ++ zero_came; sent = entry_text ++ sabm_zero ++ take 2 sabm_one; calls = 40; failures = 1 };
+    unwritten = drop 2 sabm_one;
+    unplaced = outcome_of 2 LineLost ∷ [];
+  };
+  acts = loss_told;
+}
+
 abbrev pub right_sessions : List SessionRow
 right_sessions =
     nothing_yet ∷ sabm_queued ∷ sabm_half_sent ∷ ua_unfed ∷ ua_at_hand ∷ zero_opened ∷ outcome_waits ∷ request_aside ∷
-    csq_sent ∷ ring_announced ∷ ring_waits ∷ []
+    csq_sent ∷ ring_announced ∷ ring_waits ∷ line_lost ∷ []

@@ -21,3 +21,4 @@ pub mod GoodTurns
 pub mod BadTurns
 pub mod EntryRows
 pub mod FinishRows
+pub mod FaultRows

@@ -1,6 +1,6 @@
 -- What a session fits: of what its line and its desk's end did since it began, and of what it still has, one history
 -- tells all.
-use Rattle.std.specs.Prelude.{◌≡◌, ℕ, ◌+◌, ◌<◌, ◌≤◌, ◌==◌, true, List, [], ◌∷◌, ◌++◌, length, take, drop, map, filter, flat_map, Option, option_to_list, slice_index_or, if◌then◌else◌}
+use Rattle.std.specs.Prelude.{◌≡◌, ℕ, ◌+◌, ◌<◌, ◌≤◌, ◌==◌, true, List, [], ◌∷◌, ◌++◌, length, take, drop, map, filter, flat_map, Option, option_to_list, slice_index_or, if◌then◌else◌, nat_lt}
 use Rattle.std.specs.List.{list_all}
 use mathlib.Core.Option.{some}
 use lib.ListN.{get_elem?}
@@ -17,7 +17,7 @@ use Rattle.modem_desk.specs.declared.request.Urc.{Urc}
 use Rattle.modem_history.specs.Acts.{Act, Took, Got, Sent, Heard, Given, after, wire, in_hand}
 use Rattle.modem_history.specs.Requests.{are_distinct}
 use Rattle.modem_history.specs.Kinds.{is_same_kind, is_listened, of_kind, on_channel}
-use Rattle.modem_history.specs.Calls.{Setting}
+use Rattle.modem_history.specs.Calls.{Setting, is_loss, is_lost}
 use Rattle.modem_history.specs.Lawful.{Lawful, Complete}
 use Rattle.modem_history.specs.Wholes.{taken, outcomes, CompleteCalls}
 
@@ -124,11 +124,25 @@ pub record IsHistory (b : Beginning) (past : List Act) : Type 0 where
   pub calls : CompleteCalls (driving b) past
   pub room : TakesWithRoom past
 
+-- a loss of the line: the history has one at most, and only where a call on the line has failed since the session began
+pub record FitsLoss (b : Beginning) (v : SessionView) (past : List Act) : Type 0 where
+  pub one : length (filter is_loss past) ≤ 1
+  pub by_fault : is_lost past ≡ true → b.line.failures < v.line.failures
+
+-- the requests that its desk's end took since it began
+abbrev pub taken_since : Beginning → SessionView → List Request
+taken_since b v = drop (length b.desk.taken) v.desk.taken
+
+-- no caller used a number twice among them
+abbrev pub AreOnce : Beginning → SessionView → Type 0
+AreOnce b v = are_distinct (taken_since b v) ≡ true
+
 -- Requests: what its desk's end took is what the history took, and then what is kept aside. No caller used a number
--- twice, and those in hand, the one aside and the outcomes that wait are 128 at most.
+-- twice, each is a caller of the desk, and those in hand, the one aside and the outcomes that wait are 128 at most.
 pub record FitsRequests (b : Beginning) (v : SessionView) (past : List Act) : Type 0 where
   pub taken_are : v.desk.taken ≡ b.desk.taken ++ taken past ++ option_to_list v.aside
-  pub once : are_distinct (taken past ++ option_to_list v.aside) ≡ true
+  pub once : AreOnce b v
+  pub callers : list_all (λ (q : Request). nat_lt q.caller (length b.desk.told)) (taken_since b v) ≡ true
   pub few : length (in_hand past) + length (option_to_list v.aside) + length v.unplaced ≤ 128
 
 -- Octets that came: those received are those that the deframer took, and then those not fed yet; of the former it has
@@ -146,9 +160,11 @@ pub record FitsSent (b : Beginning) (v : SessionView) (past : List Act) : Type 0
   pub written : ℕ
   pub of_last : v.unwritten ≡ drop written (last_octets (given_on past))
 
--- outcomes: what each caller was told at the desk, and then what waits for it, are those of the history
-abbrev pub FitsTold : Beginning → SessionView → List Act → Type 0
-FitsTold b v past = (c : ℕ) → at_place c v.desk.told ++ of_caller c v.unplaced ≡ at_place c b.desk.told ++ of_caller c (outcomes past)
+-- what each caller was told at the desk, and then what waits for it, are its outcomes of the history; and none waits for
+-- a caller that the desk hasn't
+pub record FitsTold (b : Beginning) (v : SessionView) (past : List Act) : Type 0 where
+  pub outcomes_are : (c : ℕ) → at_place c v.desk.told ++ of_caller c v.unplaced ≡ at_place c b.desk.told ++ of_caller c (outcomes past)
+  pub callers : list_all (λ (o : Outcome). nat_lt o.caller (length b.desk.told)) v.unplaced ≡ true
 
 -- what each listener was announced, and then what waits of its kind, are the lines of that kind that the history
 -- heard; and no line waits that nobody listens to
@@ -160,6 +176,7 @@ pub record FitsHeard (b : Beginning) (v : SessionView) (past : List Act) : Type 
 -- the session fits the history
 pub record SessionFits (b : Beginning) (v : SessionView) (past : List Act) : Type 0 where
   pub history : IsHistory b past
+  pub loss : FitsLoss b v past
   pub requests : FitsRequests b v past
   pub received : FitsReceived b v past
   pub sent : FitsSent b v past
@@ -171,9 +188,9 @@ pub record HasHistory (b : Beginning) (v : SessionView) : Type 0 where
   pub past : List Act
   pub fits : SessionFits b v past
 
--- by these acts a call led from the one to the other, whatever history it had before
+-- by these acts a call led from the one to the other, whatever history it had before, where no caller used a number twice
 abbrev pub GoesBy : Beginning → SessionView → SessionView → List Act → Type 0
-GoesBy b old new acts = (past : List Act) → SessionFits b old past → SessionFits b new (after past acts)
+GoesBy b old new acts = (past : List Act) → AreOnce b new → SessionFits b old past → SessionFits b new (after past acts)
 
 -- ## Backlogs
 

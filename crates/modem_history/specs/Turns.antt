@@ -1,4 +1,4 @@
--- What the answers of a turn mean: Moved, WriterFull, Waiting, Blocked and Idle.
+-- What the answers of a turn mean: Moved, WriterFull, Waiting, Blocked and Idle, and its faults; and what a tick does.
 use Rattle.std.specs.Prelude.{◌≡◌, ◌≢◌, ℕ, ◌+◌, ◌-◌, ◌^◌, ◌<◌, ◌≤◌, ◌==◌, ◌||◌, not, nat_le, nat_lt, min, ◌⊎◌, Bool, true, false, List, [], ◌∷◌, ◌++◌, length, take, map, flat_map, Option, Some, None, option_to_list}
 use Rattle.std.specs.List.{list_all, list_any}
 use Rattle.mux_frame.specs.Reading.{Reads}
@@ -12,7 +12,8 @@ use Rattle.modem_history.specs.Acts.{Act, Told, Heard, Tick, Lost, Held, Freed, 
 use Rattle.modem_history.specs.Kinds.{of_kind}
 use Rattle.modem_history.specs.Holding.{is_held}
 use Rattle.modem_history.specs.Lawful.{Quiet}
-use Rattle.modem_history.specs.Wholes.{IsPrefixOf}
+use Rattle.modem_history.specs.Wholes.{IsPrefixOf, follows}
+use Rattle.modem_history.specs.Calls.{is_lost}
 use Rattle.modem_history.specs.Sessions.{Beginning, SessionView, driving, gots, sents, octets_of_frames, heard_as, of_caller, backlog, backlog_in}
 
 -- ## A turn's calls on the line and on the desk
@@ -96,9 +97,7 @@ pub record Deals (old new : SessionView) (t : Dealings) (acts : List Act) : Type
   pub came : new.line.received ≡ old.line.received ++ octets_read t.read
   pub room : HasRoom t.read
   pub went : new.line.sent ≡ old.line.sent ++ octets_written t.write
-  pub offers : Offers t.write new.unwritten
   pub calls : new.line.calls ≡ counted old.line.calls (calls_made t.write + calls_made t.read)
-  pub sound : new.line.failures ≡ old.line.failures
   pub taken : new.desk.taken ≡ old.desk.taken ++ request_given t.next
   pub hands_back : HandsBack t
   pub outcomes_wait : new.unplaced ≡ t.still_told ++ outcomes_told acts
@@ -220,10 +219,63 @@ Means b v t past Idle = IsIdle b v t past
 -- ## A turn
 
 -- A turn that ends in this answer, after a past, by these acts: Moved is the answer exactly where something moved, no
--- request stays aside, and any other answer means what it says.
+-- call on the line has failed since the session began, no request stays aside, and any other answer means what it says.
 pub record IsTurn (b : Beginning) (old new : SessionView) (t : Dealings) (past acts : List Act) (says : TurnAnswer) : Type 0 where
   pub deals : Deals old new t acts
+  pub offers : Offers t.write new.unwritten
+  pub sound : new.line.failures ≡ b.line.failures
   pub acts_may : list_all (may_act t.still_heard) acts ≡ true
   pub moved : has_moved old new acts ≡ says_moved says
   pub none_aside : new.aside ≡ None
   pub means : Means b new t (after past acts) says
+
+-- ## Faults
+
+pub data TurnFault : Type 0 where
+  NoMemory : TurnFault
+  LineFailed : TurnFault
+  Failed : TurnFault
+
+-- the line is lost in this turn, since a call on it has failed since the session began, and no request is in hand
+pub record LosesLine (b : Beginning) (new : SessionView) (past acts : List Act) : Type 0 where
+  pub live : is_lost past ≡ false
+  pub gone : is_lost (after past acts) ≡ true
+  pub by_fault : b.line.failures < new.line.failures
+  pub none_in_hand : in_hand (after past acts) ≡ []
+
+-- the line was lost before: what waits is still placed, and nothing else is done
+pub record HasFailed (old new : SessionView) (past acts : List Act) : Type 0 where
+  pub gone : is_lost past ≡ true
+  pub no_acts : acts ≡ []
+  pub line_stays : new.line ≡ old.line
+  pub none_taken : new.desk.taken ≡ old.desk.taken
+
+-- want of memory: the line isn't lost yet
+abbrev pub FaultMeans : Beginning → SessionView → SessionView → List Act → List Act → TurnFault → Type 0
+FaultMeans b old new past acts NoMemory = is_lost (after past acts) ≡ false
+FaultMeans b old new past acts LineFailed = LosesLine b new past acts
+FaultMeans b old new past acts Failed = HasFailed old new past acts
+
+-- the line may be lost too
+abbrev pub may_fail : List Urc → Act → Bool
+may_fail waiting Lost = true
+may_fail waiting a = may_act waiting a
+
+-- a turn that ends in this fault
+pub record IsFault (b : Beginning) (old new : SessionView) (t : Dealings) (past acts : List Act) (says : TurnFault) : Type 0 where
+  pub deals : Deals old new t acts
+  pub acts_may : list_all (may_fail t.still_heard) acts ≡ true
+  pub means : FaultMeans b old new past acts says
+
+-- ## Ticks
+
+-- a tick: the acts are the tick and what follows it; line and desk's end stay, and nothing is placed, fed or taken
+pub record IsTick (old new : SessionView) (past acts : List Act) : Type 0 where
+  pub live : is_lost past ≡ false
+  pub more : List Act
+  pub acts_are : acts ≡ Tick ∷ more
+  pub follow : list_all follows more ≡ true
+  pub line_stays : new.line ≡ old.line
+  pub desk_stays : new.desk ≡ old.desk
+  pub aside_stays : new.aside ≡ old.aside
+  pub unfed_stay : new.unfed ≡ old.unfed

@@ -8,6 +8,7 @@ ghost use Rattle.modem_history.specs.GoodRows.{good_rows};
 ghost use Rattle.modem_history.specs.SessionRows.{Each, IsRight, IsWrong, IsWrongTurn};
 ghost use Rattle.modem_history.specs.GoodTurns.{AreRightTurns};
 ghost use Rattle.modem_history.specs.BadTurns.{wrong_turns};
+ghost use Rattle.modem_history.specs.FaultRows.{AreRightFaults, IsRightTick, IsWrongFault, IsWrongTick, right_ticks, wrong_faults, wrong_ticks};
 ghost use Rattle.modem_history.specs.EntryRows.{IsRightEntry, IsWrongEntry, right_entries, wrong_entries};
 ghost use Rattle.modem_history.specs.FinishRows.{IsRightEnd, IsWrongEnd, right_ends, wrong_ends};
 ghost use Rattle.modem_history.specs.GoodSessions.{right_sessions};
@@ -53,14 +54,18 @@ pub fn worked_examples()
     ensures own { NotItsOwn }
 {}
 
-/// Worked sessions, turns, entries and ends, computed by the definitions: those of a right driver, and those that don't
-/// fit what happened or don't mean what they say.
-#[tactic(auto, using(crate::proofs::SessionRowFacts::all_right, crate::proofs::SessionRowFacts::all_wrong, crate::proofs::GoodTurnFacts::are_right, crate::proofs::BadTurnFacts::all_wrong_turns, crate::proofs::EntryRowFacts::all_right_entries, crate::proofs::EntryRowFacts::all_wrong_entries, crate::proofs::EntryRowFacts::all_right_ends, crate::proofs::EntryRowFacts::all_wrong_ends))]
+/// Worked sessions, turns, faults, ticks, entries and ends, computed by the definitions: those of a right driver, and
+/// those that don't fit what happened or don't mean what they say.
+#[tactic(auto, using(crate::proofs::SessionRowFacts::all_right, crate::proofs::SessionRowFacts::all_wrong, crate::proofs::GoodTurnFacts::are_right, crate::proofs::BadTurnFacts::all_wrong_turns, crate::proofs::EntryRowFacts::all_right_entries, crate::proofs::EntryRowFacts::all_wrong_entries, crate::proofs::EntryRowFacts::all_right_ends, crate::proofs::EntryRowFacts::all_wrong_ends, crate::proofs::FaultRowFacts::are_right_faults, crate::proofs::FaultRowFacts::all_wrong_faults, crate::proofs::FaultRowFacts::all_right_ticks, crate::proofs::FaultRowFacts::all_wrong_ticks))]
 pub fn session_examples()
     ensures fit { Each IsRight right_sessions }
     ensures unfit { Each IsWrong wrong_sessions }
     ensures turns { AreRightTurns }
     ensures wrong_turns { Each IsWrongTurn wrong_turns }
+    ensures faults { AreRightFaults }
+    ensures wrong_faults { Each IsWrongFault wrong_faults }
+    ensures ticks { Each IsRightTick right_ticks }
+    ensures wrong_ticks { Each IsWrongTick wrong_ticks }
     ensures entries { Each IsRightEntry right_entries }
     ensures wrong_entries { Each IsWrongEntry wrong_entries }
     ensures ends { Each IsRightEnd right_ends }
