@@ -30,3 +30,6 @@ pub mod GoodTurnFacts
 pub mod BadTurnFacts
 pub mod EntryRowFacts
 pub mod FaultRowFacts
+pub mod LineOrder
+pub mod SessionLawFacts
+pub mod Untold

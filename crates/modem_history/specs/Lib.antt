@@ -22,3 +22,4 @@ pub mod BadTurns
 pub mod EntryRows
 pub mod FinishRows
 pub mod FaultRows
+pub mod SessionLaws

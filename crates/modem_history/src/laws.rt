@@ -5,6 +5,8 @@ ghost use Rattle.modem_history.specs.Calls.{Setting};
 ghost use Rattle.modem_history.specs.Lawful.{Lawful};
 ghost use Rattle.modem_history.specs.BadRows.{NotItsOwn, refused_rows, incomplete_rows, unquiet_rows};
 ghost use Rattle.modem_history.specs.GoodRows.{good_rows};
+ghost use Rattle.modem_history.specs.Sessions.{Beginning, SessionView};
+ghost use Rattle.modem_history.specs.SessionLaws.{BeginsFitting, FitsSays};
 ghost use Rattle.modem_history.specs.SessionRows.{Each, IsRight, IsWrong, IsWrongTurn};
 ghost use Rattle.modem_history.specs.GoodTurns.{AreRightTurns};
 ghost use Rattle.modem_history.specs.BadTurns.{wrong_turns};
@@ -52,6 +54,16 @@ pub fn worked_examples()
     ensures incomplete { AllAre IsIncomplete incomplete_rows }
     ensures unquiet { AllAre IsUnquiet unquiet_rows }
     ensures own { NotItsOwn }
+{}
+
+/// A new session fits the empty history. Of every session and each history that it fits: the frames got are the first
+/// that are read in the octets received since it began; the octets sent are the first of the spellings of the frames
+/// sent, in order; those frames that are wholly among them were given on; and the requests in hand are those taken and
+/// not told.
+#[tactic(auto, using(crate::proofs::SessionLawFacts::begins_fitting, crate::proofs::SessionLawFacts::fits_says))]
+pub fn sessions()
+    ensures begins { (b : Beginning) → BeginsFitting b }
+    ensures says { (b : Beginning) (v : SessionView) (past : List Act) → FitsSays b v past }
 {}
 
 /// Worked sessions, turns, faults, ticks, entries and ends, computed by the definitions: those of a right driver, and

@@ -1,0 +1,138 @@
+-- What it says of a session that it fits a history.
+use Rattle.std.proofs.Common.{ap, sym, ◌∙◌, subst, arith, lit≤}
+use Rattle.std.proofs.lemmas.List.{append-nil, append_assoc, append_cancel_left}
+use Rattle.std.proofs.lemmas.List.Concat.{flat_map-append}
+use Rattle.std.specs.Prelude.{◌≡◌, option_to_list, true, false, nat_lt, map, ℕ, List, [], ◌∷◌, ◌++◌, length, drop, refl}
+use Rattle.mux_frame.specs.Frames.{Frame}
+use Rattle.mux_frame.specs.Spelling.{spelled}
+use Rattle.mux_frame.specs.Laws.{AreOctets}
+use Rattle.mux_frame.specs.Reading.{Reads}
+use Rattle.mux_frame.proofs.Slow.{found_in, found_reads, octets_both}
+use Rattle.mux_frame.proofs.Pasts.{past_none}
+use Rattle.modem_desk.specs.declared.request.Request.{Request}
+use Rattle.std.proofs.Math.Seq.{drop-append_seam}
+use Rattle.modem_history.specs.Acts.{Act, in_hand}
+use Rattle.modem_history.specs.Wholes.{taken}
+use Rattle.modem_history.proofs.Untold.{hand_is}
+use Rattle.modem_history.proofs.Stays.{distinct_front}
+use Rattle.modem_history.specs.Requests.{are_distinct}
+use Rattle.std.specs.List.{list_all}
+use Rattle.modem_history.specs.Lawful.{Lawful, Complete}
+use Rattle.modem_history.specs.Sessions.{Beginning, SessionView, SessionFits, driving, taken_since, gots, given_on, octets_of_frames, heard_as, at_place}
+use Rattle.modem_history.specs.SessionLaws.{BeginsFitting, GotAreRead, SendsSpellings, HasMarks, FitsSays, untold}
+use Rattle.modem_history.proofs.LineOrder.{gives_in_order}
+
+never : false ≡ true → ⊥
+never e = cc
+
+-- ## Octets that leave
+
+pub sends_spellings : (b : Beginning) (v : SessionView) (past : List Act) → SessionFits b v past → SendsSpellings b v past
+sends_spellings b v past f =
+    let order = gives_in_order (driving b) past f.history.lawful in
+    let later = octets_of_frames order.later in
+    let given = octets_of_frames (given_on past) in
+    record {
+      rest = v.unwritten ++ later;
+      joins =
+          sym (append_assoc v.line.sent v.unwritten later)
+          ∙ (ap (λ (xs : List ℕ). xs ++ later) f.sent.sent_are
+          ∙ (append_assoc b.line.sent given later
+          ∙ (ap (λ (xs : List ℕ). b.line.sent ++ xs) (sym (flat_map-append spelled (given_on past) order.later))
+          ∙ ap (λ (fs : List Frame). b.line.sent ++ octets_of_frames fs) (sym order.sent_are))));
+    }
+
+record AreFirst (fs gs : List Frame) : Type 0 where
+  more : List Frame
+  are : gs ≡ fs ++ more
+
+first_same : (g w : Frame) (gs ws : List Frame) → g ∷ gs ≡ w ∷ ws → g ≡ w
+first_same g w gs ws e = cc
+
+-- frames of which no more is spelled than of others, where both begin one list
+spelled_first : (whole given later other : List Frame) (x : List ℕ) → given ++ other ≡ whole ++ later → octets_of_frames given ≡ octets_of_frames whole ++ x → AreFirst whole given
+spelled_first [] given later other x e h = record { more = given; are = refl }
+spelled_first (w ∷ whole) [] later other x e h = absurd (no_octets h)
+  where
+    no_octets : {a : ℕ} {xs : List ℕ} → [] ≡ a ∷ xs → ⊥
+    no_octets e = cc
+spelled_first (w ∷ whole) (g ∷ given) later other x e h =
+    let tails : given ++ other ≡ whole ++ later = ap (drop 1) e in
+    let octets : spelled g ++ octets_of_frames given ≡ spelled g ++ (octets_of_frames whole ++ x) =
+    h ∙ (ap (λ (f : Frame). spelled f ++ octets_of_frames whole ++ x) (sym (first_same g w (given ++ other) (whole ++ later) e)) ∙ append_assoc (spelled g) (octets_of_frames whole) x) in
+    let k = spelled_first whole given later other x tails (append_cancel_left (spelled g) (octets_of_frames given) (octets_of_frames whole ++ x) octets) in
+    record { more = k.more; are = ap (λ (fs : List Frame). g ∷ fs) k.are ∙ ap (λ (f : Frame). f ∷ (whole ++ k.more)) (first_same g w (given ++ other) (whole ++ later) e) }
+
+pub has_marks : (b : Beginning) (v : SessionView) (past : List Act) → SessionFits b v past → HasMarks b v past
+has_marks b v past f whole later rest e h =
+    let order = gives_in_order (driving b) past f.history.lawful in
+    let wholes = octets_of_frames whole in
+    let both : b.line.sent ++ octets_of_frames (given_on past) ≡ b.line.sent ++ (wholes ++ (rest ++ v.unwritten)) =
+    sym f.sent.sent_are
+    ∙ (ap (λ (xs : List ℕ). xs ++ v.unwritten) h
+    ∙ (append_assoc (b.line.sent ++ wholes) rest v.unwritten
+    ∙ append_assoc b.line.sent wholes (rest ++ v.unwritten))) in
+    let k = spelled_first whole (given_on past) later order.later (rest ++ v.unwritten) (sym order.sent_are ∙ e) (append_cancel_left b.line.sent (octets_of_frames (given_on past)) (wholes ++ (rest ++ v.unwritten)) both) in
+    record { more = k.more; given_are = k.are }
+
+-- ## Octets that come
+
+pub got_are_read : (b : Beginning) (v : SessionView) (past : List Act) → SessionFits b v past → AreOctets v.unfed → GotAreRead b v past
+got_are_read b v past f octets =
+    let r = f.received in
+    let left = v.deframer.undecided ++ v.unfed in
+    let found = found_in v.deframer.n1 (length left) left in
+    let on = found_reads v.deframer.n1 (length left) left (omega arith) (octets_both v.deframer.undecided v.unfed r.deframes.octets octets) in
+    record {
+      octets = r.fed ++ v.unfed;
+      since = r.received_are ∙ append_assoc b.line.received r.fed v.unfed;
+      later = found.frames;
+      rest = found.rest;
+      reads = subst (λ n. Reads n (r.fed ++ v.unfed) (gots past ++ found.frames) found.rest) r.bound (r.deframes.reads v.unfed found.frames found.rest on);
+    }
+
+-- ## The beginning
+
+drop_own : (qs : List Request) → drop (length qs) qs ≡ []
+drop_own [] = refl
+drop_own (q ∷ qs) = drop_own qs
+
+pub begins_fitting : (b : Beginning) → BeginsFitting b
+unfolding BeginsFitting Lawful Complete
+begins_fitting b = record {
+  history = record { lawful = tt; complete = refl; calls = tt; room = tt };
+  loss = record { one = lit≤ tt; by_fault = λ gone. absurd (never gone) };
+  requests = record {
+    taken_are = sym (append-nil (b.desk.taken ++ []) ∙ append-nil b.desk.taken);
+    once = ap are_distinct (drop_own b.desk.taken);
+    callers = ap (list_all (λ (q : Request). nat_lt q.caller (length b.desk.told))) (drop_own b.desk.taken);
+    few = lit≤ tt;
+  };
+  received = record { fed = []; received_are = sym (append-nil (b.line.received ++ []) ∙ append-nil b.line.received); bound = refl; deframes = past_none b.n1 };
+  sent = record { sent_are = refl; written = 0; of_last = refl };
+  told = record { outcomes_are = λ c. refl; callers = refl };
+  heard = record { lines_are = λ i k at. ap (map heard_as) (append-nil (at_place i b.desk.announced)) ∙ sym (append-nil (map heard_as (at_place i b.desk.announced))); listened = refl };
+}
+
+-- ## Requests
+
+-- what was taken since the session began is what the history took, and then what is kept aside
+since_are : (b : Beginning) (v : SessionView) (past : List Act) → SessionFits b v past → taken_since b v ≡ taken past ++ option_to_list v.aside
+since_are b v past f =
+    ap (drop (length b.desk.taken)) (f.requests.taken_are ∙ append_assoc b.desk.taken (taken past) (option_to_list v.aside))
+    ∙ drop-append_seam b.desk.taken (taken past ++ option_to_list v.aside)
+
+pub hand_is_untold : (b : Beginning) (v : SessionView) (past : List Act) → SessionFits b v past → in_hand past ≡ untold past
+hand_is_untold b v past f =
+    let once : are_distinct (taken past ++ option_to_list v.aside) ≡ true = sym (ap are_distinct (since_are b v past f)) ∙ f.requests.once in
+    hand_is (driving b) past f.history.lawful (distinct_front (taken past) (option_to_list v.aside) once).0
+
+pub fits_says : (b : Beginning) (v : SessionView) (past : List Act) → FitsSays b v past
+unfolding FitsSays
+fits_says b v past f = record {
+  read = got_are_read b v past f;
+  order = gives_in_order (driving b) past f.history.lawful;
+  spelled = sends_spellings b v past f;
+  marked = has_marks b v past f;
+  in_hand = hand_is_untold b v past f;
+}
