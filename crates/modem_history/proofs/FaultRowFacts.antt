@@ -3,7 +3,7 @@ use Rattle.std.proofs.Common.{ap, sym, ◌∙◌, lit<, lit≤, arith}
 use Rattle.std.specs.Prelude.{◌≡◌, ℕ, ◌<◌, ◌==◌, true, false, List, [], ◌∷◌, length, drop, refl, Some, None}
 use Rattle.std.specs.List.{list_all}
 use Rattle.std.proofs.lemmas.Bool.{eq-eqb}
-use Rattle.modem_history.specs.Wholes.{follows}
+use Rattle.modem_history.specs.Wholes.{is_said}
 use Rattle.mux_frame.specs.CheckOctet.{check_octet_of}
 use Rattle.mux_frame.specs.Spelling.{body_of}
 use Rattle.mux_frame.specs.Judging.{verdict_on, by_header, by_end}
@@ -13,7 +13,7 @@ use Rattle.modem_history.specs.SessionRows.{IsRight, Each, zero_came, sabm_one, 
 use Rattle.modem_history.specs.GoodSessions.{loss_told}
 use Rattle.modem_history.specs.Rows.{opening_zero}
 use Rattle.modem_history.specs.GoodTurns.{dealt, offers}
-use Rattle.modem_history.specs.FaultRows.{AreRightFaults, IsRightFault, IsWrongFault, IsRightTick, IsWrongTick, wrong_faults, right_ticks, wrong_ticks, asked_one, one_half_sent, fails, fails_again, keeps_aside, fails_unfailed, lost_before, failed_too_soon, calls_lost_line, memory_for_loss, loss_untold, sends_again, only_ticks, tick_left_out, two_ticks, places_at_tick, ticks_when_lost}
+use Rattle.modem_history.specs.FaultRows.{AreRightFaults, IsRightFault, IsWrongFault, IsRightTick, IsWrongTick, wrong_faults, right_ticks, wrong_ticks, asked_one, one_half_sent, fails, fails_again, keeps_aside, fails_unfailed, lost_before, failed_too_soon, calls_lost_line, memory_for_loss, loss_untold, sends_again, only_ticks, tick_left_out, two_ticks, data_at_tick, places_at_tick, ticks_when_lost}
 use Rattle.modem_history.proofs.SessionTests.{read_in, fits_none, outcomes_differ}
 use Rattle.modem_history.proofs.SessionRowFacts.{zero_opened_right, request_aside_right, line_lost_right}
 use Rattle.modem_history.proofs.GoodTurnFacts.{still_fits}
@@ -125,7 +125,7 @@ tick_left_out_wrong k = empty_not k.acts_are
     empty_not e = cc
 
 two_ticks_wrong : IsWrongTick two_ticks
-two_ticks_wrong k = never (ap (list_all follows) (ap (drop 1) k.acts_are) ∙ k.follow)
+two_ticks_wrong k = never (ap (list_all is_said) (ap (drop 1) k.acts_are) ∙ k.follow)
 
 places_at_tick_wrong : IsWrongTick places_at_tick
 places_at_tick_wrong k = outcomes_differ _ _ refl (ap (λ (d : EndView). at_place 0 d.told) k.desk_stays)
@@ -133,5 +133,8 @@ places_at_tick_wrong k = outcomes_differ _ _ refl (ap (λ (d : EndView). at_plac
 ticks_when_lost_wrong : IsWrongTick ticks_when_lost
 ticks_when_lost_wrong k = never_back k.live
 
+data_at_tick_wrong : IsWrongTick data_at_tick
+data_at_tick_wrong k = never (ap (list_all is_said) (ap (drop 1) k.acts_are) ∙ k.follow)
+
 pub all_wrong_ticks : Each IsWrongTick wrong_ticks
-all_wrong_ticks = (tick_left_out_wrong, (two_ticks_wrong, (places_at_tick_wrong, (ticks_when_lost_wrong, tt))))
+all_wrong_ticks = (tick_left_out_wrong, (two_ticks_wrong, (data_at_tick_wrong, (places_at_tick_wrong, (ticks_when_lost_wrong, tt)))))

@@ -11,15 +11,16 @@ use Rattle.mux_frame.proofs.Slow.{found_in, found_reads, octets_both}
 use Rattle.mux_frame.proofs.Pasts.{past_none}
 use Rattle.modem_desk.specs.declared.request.Request.{Request}
 use Rattle.std.proofs.Math.Seq.{drop-append_seam}
-use Rattle.modem_history.specs.Acts.{Act, in_hand}
+use Rattle.modem_history.specs.Acts.{Act, after, in_hand}
 use Rattle.modem_history.specs.Wholes.{taken}
+use Rattle.modem_history.proofs.AfterActs.{after_both}
 use Rattle.modem_history.proofs.Untold.{hand_is}
 use Rattle.modem_history.proofs.Stays.{distinct_front}
 use Rattle.modem_history.specs.Requests.{are_distinct}
 use Rattle.std.specs.List.{list_all}
 use Rattle.modem_history.specs.Lawful.{Lawful, Complete}
-use Rattle.modem_history.specs.Sessions.{Beginning, SessionView, SessionFits, driving, taken_since, gots, given_on, octets_of_frames, heard_as, at_place}
-use Rattle.modem_history.specs.SessionLaws.{BeginsFitting, GotAreRead, SendsSpellings, HasMarks, FitsSays, untold}
+use Rattle.modem_history.specs.Sessions.{Beginning, SessionView, SessionFits, AreOnce, driving, taken_since, gots, given_on, octets_of_frames, heard_as, at_place}
+use Rattle.modem_history.specs.SessionLaws.{BeginsFitting, GotAreRead, SendsSpellings, HasMarks, FitsSays, RunsOn, KeepsHistory, untold}
 use Rattle.modem_history.proofs.LineOrder.{gives_in_order}
 
 never : false ≡ true → ⊥
@@ -136,3 +137,41 @@ fits_says b v past f = record {
   marked = has_marks b v past f;
   in_hand = hand_is_untold b v past f;
 }
+
+-- ## Calls
+
+-- what was taken since the session began grows by what is taken more
+since_more : (b : Beginning) (old new : SessionView) (past : List Act) (more : List Request) → SessionFits b old past → new.desk.taken ≡ old.desk.taken ++ more → taken_since b new ≡ taken_since b old ++ more
+since_more b old new past more f e =
+    let since = taken past ++ option_to_list old.aside in
+    let whole : old.desk.taken ≡ b.desk.taken ++ since = f.requests.taken_are ∙ append_assoc b.desk.taken (taken past) (option_to_list old.aside) in
+    ap (drop (length b.desk.taken)) (e ∙ (ap (λ (qs : List Request). qs ++ more) whole ∙ append_assoc b.desk.taken since more))
+    ∙ (drop-append_seam b.desk.taken (since ++ more)
+    ∙ ap (λ (qs : List Request). qs ++ more) (sym (since_are b old past f)))
+
+-- so no number was used twice between two calls
+once_between : (b : Beginning) (old mid new : SessionView) (past : List Act) (xs ys : List Request) → SessionFits b old past → mid.desk.taken ≡ old.desk.taken ++ xs → new.desk.taken ≡ mid.desk.taken ++ ys
+    → AreOnce b new → AreOnce b mid
+once_between b old mid new past xs ys f e h once =
+    let all : new.desk.taken ≡ old.desk.taken ++ (xs ++ ys) = h ∙ (ap (λ (qs : List Request). qs ++ ys) e ∙ append_assoc old.desk.taken xs ys) in
+    let since : taken_since b new ≡ taken_since b mid ++ ys =
+    since_more b old new past (xs ++ ys) f all
+    ∙ (sym (append_assoc (taken_since b old) xs ys)
+    ∙ ap (λ (qs : List Request). qs ++ ys) (sym (since_more b old mid past xs f e))) in
+    (distinct_front (taken_since b mid) ys (sym (ap are_distinct since) ∙ once)).0
+
+pub runs_on : (b : Beginning) (old mid new : SessionView) → RunsOn b old mid new
+unfolding RunsOn
+runs_on b old mid new first second = record {
+  acts = first.acts ++ second.acts;
+  more = first.more ++ second.more;
+  takes_more = second.takes_more ∙ (ap (λ (qs : List Request). qs ++ second.more) first.takes_more ∙ append_assoc old.desk.taken first.more second.more);
+  goes = λ past once f.
+      let between = once_between b old mid new past first.more second.more f first.takes_more second.takes_more once in
+      let there = second.goes (after past first.acts) once (first.goes past between f) in
+      subst (SessionFits b new) (sym (after_both first.acts second.acts past)) there;
+}
+
+pub keeps_history : (b : Beginning) (old new : SessionView) → KeepsHistory b old new
+unfolding KeepsHistory
+keeps_history b old new h g once = record { past = after h.past g.acts; fits = g.goes h.past once h.fits }

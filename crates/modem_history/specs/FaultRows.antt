@@ -1,14 +1,14 @@
 -- Faults of turns, and ticks, right and wrong.
-use Rattle.std.specs.Prelude.{List, [], ◌∷◌, ◌++◌, Some, None, take, drop}
-use Rattle.mux_frame.specs.declared.frame.Kind.TheVariants.{Sabm}
+use Rattle.std.specs.Prelude.{List, [], ◌∷◌, ◌++◌, Some, None, take, drop, codes}
+use Rattle.mux_frame.specs.declared.frame.Kind.TheVariants.{Sabm, Uih}
 use Rattle.modem_desk.specs.declared.request.Ask.TheVariants.{OpenChannel}
 use Rattle.modem_desk.specs.declared.request.Answer.TheVariants.{LineLost}
 use Rattle.modem_history.specs.Acts.{Act, Tick, Lost, Given, after}
 use Rattle.modem_history.specs.Sessions.{SessionView, SessionFits}
 use Rattle.modem_history.specs.Turns.{Dealings, TurnFault, NoMemory, LineFailed, Failed, IsFault, IsTick}
-use Rattle.modem_history.specs.Rows.{one, takes, tells, sends, opening_zero}
+use Rattle.modem_history.specs.Rows.{one, cr, takes, tells, sends, opening_zero}
 use Rattle.modem_history.specs.SessionRows.{beginning, settled, zero_came, sabm_zero, sabm_one, first_request, second_request, opened_zero, outcome_of, last_flag}
-use Rattle.modem_history.specs.GoodSessions.{zero_opened, outcome_waits, request_aside, line_lost, loss_told}
+use Rattle.modem_history.specs.GoodSessions.{csq_sent, asked_csq, zero_opened, outcome_waits, request_aside, line_lost, loss_told}
 use Rattle.modem_history.specs.GoodTurns.{at_calls, dealt, offers}
 
 -- a session before and after a turn, what happened before it and in it, and its fault
@@ -126,6 +126,15 @@ tick_left_out = record { old = zero_opened.view; new = zero_opened.view; before 
 abbrev pub two_ticks : TickRow
 two_ticks = record { old = zero_opened.view; new = zero_opened.view; before = opening_zero; acts = Tick ∷ Tick ∷ [] }
 
+-- data leaves
+abbrev pub data_at_tick : TickRow
+data_at_tick = record {
+  old = csq_sent.view;
+  new = csq_sent.view;
+  before = asked_csq;
+  acts = Tick ∷ sends Uih 1 (codes "AT" ++ cr) ∷ [];
+}
+
 -- an outcome is placed
 abbrev pub places_at_tick : TickRow
 places_at_tick = record { old = outcome_waits.view; new = zero_opened.view; before = opening_zero; acts = Tick ∷ [] }
@@ -135,4 +144,4 @@ abbrev pub ticks_when_lost : TickRow
 ticks_when_lost = record { old = line_lost.view; new = line_lost.view; before = loss_told; acts = Tick ∷ [] }
 
 abbrev pub wrong_ticks : List TickRow
-wrong_ticks = tick_left_out ∷ two_ticks ∷ places_at_tick ∷ ticks_when_lost ∷ []
+wrong_ticks = tick_left_out ∷ two_ticks ∷ data_at_tick ∷ places_at_tick ∷ ticks_when_lost ∷ []

@@ -9,7 +9,7 @@ use Rattle.modem_desk.specs.declared.request.Request.{Request}
 use Rattle.modem_history.specs.Acts.{Act, wire, is_for, in_hand}
 use Rattle.modem_history.specs.Calls.{is_lost}
 use Rattle.modem_history.specs.Wholes.{taken, outcomes}
-use Rattle.modem_history.specs.Sessions.{Beginning, SessionView, SessionFits, gots, sents, given_on, octets_of_frames}
+use Rattle.modem_history.specs.Sessions.{Beginning, SessionView, SessionFits, HasHistory, AreOnce, Goes, gots, sents, given_on, octets_of_frames}
 
 -- a session that has done nothing yet
 abbrev pub fresh : Beginning → SessionView
@@ -81,3 +81,13 @@ pub record Says (b : Beginning) (v : SessionView) (past : List Act) : Type 0 whe
 
 unfoldable pub FitsSays : Beginning → SessionView → List Act → Type 0
 FitsSays b v past = SessionFits b v past → Says b v past
+
+-- ## Calls
+
+-- one call after another is as one call
+unfoldable pub RunsOn : Beginning → SessionView → SessionView → SessionView → Type 0
+RunsOn b old mid new = Goes b old mid → Goes b mid new → Goes b old new
+
+-- what had a history has one after a call, where no caller used a number twice
+unfoldable pub KeepsHistory : Beginning → SessionView → SessionView → Type 0
+KeepsHistory b old new = HasHistory b old → Goes b old new → AreOnce b new → HasHistory b new

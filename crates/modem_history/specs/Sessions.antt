@@ -192,6 +192,13 @@ pub record HasHistory (b : Beginning) (v : SessionView) : Type 0 where
 abbrev pub GoesBy : Beginning → SessionView → SessionView → List Act → Type 0
 GoesBy b old new acts = (past : List Act) → AreOnce b new → SessionFits b old past → SessionFits b new (after past acts)
 
+-- a call led from the one to the other by some acts, the same whatever history it had, and took these requests more
+pub record Goes (b : Beginning) (old new : SessionView) : Type 0 where
+  pub acts : List Act
+  pub more : List Request
+  pub takes_more : new.desk.taken ≡ old.desk.taken ++ more
+  pub goes : GoesBy b old new acts
+
 -- ## Backlogs
 
 -- the backlog of d: the number of its lines that wait in the session for a place at a listener

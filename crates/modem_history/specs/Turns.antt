@@ -12,9 +12,9 @@ use Rattle.modem_history.specs.Acts.{Act, Told, Heard, Tick, Lost, Held, Freed, 
 use Rattle.modem_history.specs.Kinds.{of_kind}
 use Rattle.modem_history.specs.Holding.{is_held}
 use Rattle.modem_history.specs.Lawful.{Quiet}
-use Rattle.modem_history.specs.Wholes.{IsPrefixOf, follows}
+use Rattle.modem_history.specs.Wholes.{IsPrefixOf, is_said}
 use Rattle.modem_history.specs.Calls.{is_lost}
-use Rattle.modem_history.specs.Sessions.{Beginning, SessionView, driving, gots, sents, octets_of_frames, heard_as, of_caller, backlog, backlog_in}
+use Rattle.modem_history.specs.Sessions.{Beginning, SessionView, SessionFits, AreOnce, GoesBy, driving, gots, sents, octets_of_frames, heard_as, of_caller, backlog, backlog_in}
 
 -- ## A turn's calls on the line and on the desk
 
@@ -229,6 +229,13 @@ pub record IsTurn (b : Beginning) (old new : SessionView) (t : Dealings) (past a
   pub none_aside : new.aside ≡ None
   pub means : Means b new t (after past acts) says
 
+-- a turn: some acts and dealings, the same whatever history the session had, by which it ends in this answer
+pub record GoesTurn (b : Beginning) (old new : SessionView) (says : TurnAnswer) : Type 0 where
+  pub acts : List Act
+  pub dealings : Dealings
+  pub goes : GoesBy b old new acts
+  pub turn : (past : List Act) → AreOnce b new → SessionFits b old past → IsTurn b old new dealings past acts says
+
 -- ## Faults
 
 pub data TurnFault : Type 0 where
@@ -267,15 +274,28 @@ pub record IsFault (b : Beginning) (old new : SessionView) (t : Dealings) (past 
   pub acts_may : list_all (may_fail t.still_heard) acts ≡ true
   pub means : FaultMeans b old new past acts says
 
+-- a turn by which it ends in this fault
+pub record GoesFault (b : Beginning) (old new : SessionView) (says : TurnFault) : Type 0 where
+  pub acts : List Act
+  pub dealings : Dealings
+  pub goes : GoesBy b old new acts
+  pub fault : (past : List Act) → AreOnce b new → SessionFits b old past → IsFault b old new dealings past acts says
+
 -- ## Ticks
 
--- a tick: the acts are the tick and what follows it; line and desk's end stay, and nothing is placed, fed or taken
+-- a tick: the acts are the tick and what it calls for; line and desk's end stay, and nothing is placed, fed or taken
 pub record IsTick (old new : SessionView) (past acts : List Act) : Type 0 where
   pub live : is_lost past ≡ false
   pub more : List Act
   pub acts_are : acts ≡ Tick ∷ more
-  pub follow : list_all follows more ≡ true
+  pub follow : list_all is_said more ≡ true
   pub line_stays : new.line ≡ old.line
   pub desk_stays : new.desk ≡ old.desk
   pub aside_stays : new.aside ≡ old.aside
   pub unfed_stay : new.unfed ≡ old.unfed
+
+-- a tick, whatever history the session had
+pub record GoesTick (b : Beginning) (old new : SessionView) : Type 0 where
+  pub acts : List Act
+  pub goes : GoesBy b old new acts
+  pub tick : (past : List Act) → SessionFits b old past → IsTick old new past acts
