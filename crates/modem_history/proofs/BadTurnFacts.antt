@@ -13,7 +13,7 @@ use Rattle.modem_history.specs.Acts.{Act, after}
 use Rattle.modem_history.specs.Sessions.{driving, gots, heard_as, backlog_in}
 use Rattle.modem_history.specs.SessionRows.{TurnRow, IsWrongTurn, Each, beginning, entry_answer, zero_came, ring}
 use Rattle.modem_history.specs.Turns.{counted, calls_made, octets_read, AllAreGot, Read}
-use Rattle.modem_history.specs.BadTurns.{wrong_turns, idle_with_frame, idle_with_unfed, idle_with_unsent, idle_with_queued, idle_with_aside, idle_with_outcome, idle_with_line, idle_with_command, idle_after_read, idle_without_read, moved_by_nothing, moved_by_a_mark, unfed_grows, full_unoffered, full_but_taken, full_of_nothing, waiting_but_told, waiting_for_another, waiting_for_the_greater, waiting_with_unsent, blocked_by_none, blocked_by_a_later, blocked_and_not_held, blocked_and_still_held, tick_in_a_turn, loss_in_a_turn, failed_and_moved, three_calls, held_too_early, moved_with_aside}
+use Rattle.modem_history.specs.BadTurns.{wrong_turns, idle_with_frame, idle_with_unfed, idle_with_unsent, idle_with_queued, idle_with_aside, idle_with_outcome, idle_with_line, idle_with_command, idle_after_read, idle_without_read, moved_by_nothing, moved_by_a_mark, unfed_grows, full_unoffered, full_but_taken, full_of_nothing, waiting_but_told, waiting_for_another, waiting_for_the_greater, waiting_with_unsent, waiting_with_frame, waiting_without_read, blocked_by_none, blocked_by_a_later, blocked_with_command, blocked_and_not_held, blocked_and_still_held, tick_in_a_turn, loss_in_a_turn, failed_and_moved, three_calls, held_too_early, moved_with_aside}
 use Rattle.modem_history.specs.Kinds.{kind_place}
 use Rattle.modem_history.proofs.Decided.{unquiet}
 use Rattle.modem_history.proofs.TurnTests.{no_more}
@@ -42,19 +42,19 @@ unread row octets e small h g =
 
 idle_with_frame_wrong : IsWrongTurn idle_with_frame
 unfolding check_octet_of verdict_on by_header by_end
-idle_with_frame_wrong t turn = unread idle_with_frame zero_came refl refl refl turn.means.all_got
+idle_with_frame_wrong t turn = unread idle_with_frame zero_came refl refl refl turn.means.rest.all_got
 
 idle_with_unfed_wrong : IsWrongTurn idle_with_unfed
 unfolding check_octet_of verdict_on by_header by_end
-idle_with_unfed_wrong t turn = unread idle_with_unfed zero_came refl refl refl turn.means.all_got
+idle_with_unfed_wrong t turn = unread idle_with_unfed zero_came refl refl refl turn.means.rest.all_got
 
 idle_with_unsent_wrong : IsWrongTurn idle_with_unsent
 unfolding check_octet_of body_of
-idle_with_unsent_wrong t turn = octets_differ _ _ refl turn.means.sent
+idle_with_unsent_wrong t turn = octets_differ _ _ refl turn.means.rest.sent
 
 idle_with_queued_wrong : IsWrongTurn idle_with_queued
 unfolding check_octet_of body_of
-idle_with_queued_wrong t turn = octets_differ _ _ refl turn.means.sent
+idle_with_queued_wrong t turn = octets_differ _ _ refl turn.means.rest.sent
 
 some_none : {A : Type 0} {a : A} → Some a ≡ None → ⊥
 some_none e = cc
@@ -75,7 +75,7 @@ idle_with_line_wrong : IsWrongTurn idle_with_line
 idle_with_line_wrong t turn = not_empty turn.means.announced
 
 idle_with_command_wrong : IsWrongTurn idle_with_command
-idle_with_command_wrong t turn = unquiet (driving beginning) (after [] idle_with_command.before) 1 (lit< tt) refl turn.means.quiet
+idle_with_command_wrong t turn = unquiet (driving beginning) (after [] idle_with_command.before) 1 (lit< tt) refl turn.means.rest.quiet
 
 idle_after_read_wrong : IsWrongTurn idle_after_read
 idle_after_read_wrong t turn = never_back turn.moved
@@ -86,7 +86,7 @@ uncounted w r n e some h = omega arith
 
 idle_without_read_wrong : IsWrongTurn idle_without_read
 idle_without_read_wrong t turn =
-    let made : calls_made t.read ≡ 1 = ap calls_made turn.means.nothing_came.nothing in
+    let made : calls_made t.read ≡ 1 = ap calls_made turn.means.rest.nothing_came.nothing in
     uncounted (calls_made t.write) (calls_made t.read) (calls_made t.write + calls_made t.read) refl (omega arith) turn.deals.calls
 
 -- ## Moved
@@ -135,6 +135,15 @@ waiting_for_the_greater_wrong t turn = never turn.means.least
 waiting_with_unsent_wrong : IsWrongTurn waiting_with_unsent
 waiting_with_unsent_wrong t turn = not_empty turn.means.written
 
+waiting_with_frame_wrong : IsWrongTurn waiting_with_frame
+unfolding check_octet_of verdict_on by_header by_end
+waiting_with_frame_wrong t turn = unread waiting_with_frame zero_came refl refl refl turn.means.rest.all_got
+
+waiting_without_read_wrong : IsWrongTurn waiting_without_read
+waiting_without_read_wrong t turn =
+    let made : calls_made t.read ≡ 1 = ap calls_made turn.means.rest.nothing_came.nothing in
+    uncounted (calls_made t.write) (calls_made t.read) (calls_made t.write + calls_made t.read) refl (omega arith) turn.deals.calls
+
 -- ## Blocked
 
 blocked_by_none_wrong : IsWrongTurn blocked_by_none
@@ -144,11 +153,14 @@ blocked_by_a_later_wrong : IsWrongTurn blocked_by_a_later
 blocked_by_a_later_wrong t turn =
     octets_differ (2 ∷ []) (0 ∷ []) refl (ap (map (λ (u : Urc). kind_place u.kind)) turn.means.waits ∙ ap (λ k. kind_place k ∷ []) turn.means.is_of)
 
+blocked_with_command_wrong : IsWrongTurn blocked_with_command
+blocked_with_command_wrong t turn = unquiet (driving beginning) (after [] blocked_with_command.before) 1 (lit< tt) refl turn.means.rest.quiet
+
 blocked_and_not_held_wrong : IsWrongTurn blocked_and_not_held
-blocked_and_not_held_wrong t turn = never (turn.means.held.many 1 (lit< tt) refl refl (lit≤ tt))
+blocked_and_not_held_wrong t turn = never (turn.means.rest.held.many 1 (lit< tt) refl refl (lit≤ tt))
 
 blocked_and_still_held_wrong : IsWrongTurn blocked_and_still_held
-blocked_and_still_held_wrong t turn = never_back (turn.means.held.few 1 (lit< tt) (lit< tt))
+blocked_and_still_held_wrong t turn = never_back (turn.means.rest.held.few 1 (lit< tt) (lit< tt))
 
 -- ## Acts of a turn
 
@@ -186,94 +198,4 @@ moved_with_aside_wrong : IsWrongTurn moved_with_aside
 moved_with_aside_wrong t turn = some_none turn.none_aside
 
 pub all_wrong_turns : Each IsWrongTurn wrong_turns
-all_wrong_turns = (
-  idle_with_frame_wrong,
-  (
-    idle_with_unfed_wrong,
-    (
-      idle_with_unsent_wrong,
-      (
-        idle_with_queued_wrong,
-        (
-          idle_with_aside_wrong,
-          (
-            idle_with_outcome_wrong,
-            (
-              idle_with_line_wrong,
-              (
-                idle_with_command_wrong,
-                (
-                  idle_after_read_wrong,
-                  (
-                    idle_without_read_wrong,
-                    (
-                      moved_by_nothing_wrong,
-                      (
-                        moved_by_a_mark_wrong,
-                        (
-                          unfed_grows_wrong,
-                          (
-                            full_unoffered_wrong,
-                            (
-                              full_but_taken_wrong,
-                              (
-                                full_of_nothing_wrong,
-                                (
-                                  waiting_but_told_wrong,
-                                  (
-                                    waiting_for_another_wrong,
-                                    (
-                                      waiting_for_the_greater_wrong,
-                                      (
-                                        waiting_with_unsent_wrong,
-                                        (
-                                          blocked_by_none_wrong,
-                                          (
-                                            blocked_by_a_later_wrong,
-                                            (
-                                              blocked_and_not_held_wrong,
-                                              (
-                                                blocked_and_still_held_wrong,
-                                                (
-                                                  tick_in_a_turn_wrong,
-                                                  (
-                                                    loss_in_a_turn_wrong,
-                                                    (
-                                                      failed_and_moved_wrong,
-                                                      (
-                                                        three_calls_wrong,
-                                                        (
-                                                          held_too_early_wrong,
-                                                          (
-                                                            moved_with_aside_wrong,
-                                                            tt,
-                                                          ),
-                                                        ),
-                                                      ),
-                                                    ),
-                                                  ),
-                                                ),
-                                              ),
-                                            ),
-                                          ),
-                                        ),
-                                      ),
-                                    ),
-                                  ),
-                                ),
-                              ),
-                            ),
-                          ),
-                        ),
-                      ),
-                    ),
-                  ),
-                ),
-              ),
-            ),
-          ),
-        ),
-      ),
-    ),
-  ),
-)
+all_wrong_turns = (idle_with_frame_wrong, (idle_with_unfed_wrong, (idle_with_unsent_wrong, (idle_with_queued_wrong, (idle_with_aside_wrong, (idle_with_outcome_wrong, (idle_with_line_wrong, (idle_with_command_wrong, (idle_after_read_wrong, (idle_without_read_wrong, (moved_by_nothing_wrong, (moved_by_a_mark_wrong, (unfed_grows_wrong, (full_unoffered_wrong, (full_but_taken_wrong, (full_of_nothing_wrong, (waiting_but_told_wrong, (waiting_for_another_wrong, (waiting_for_the_greater_wrong, (waiting_with_unsent_wrong, (waiting_with_frame_wrong, (waiting_without_read_wrong, (blocked_by_none_wrong, (blocked_by_a_later_wrong, (blocked_with_command_wrong, (blocked_and_not_held_wrong, (blocked_and_still_held_wrong, (tick_in_a_turn_wrong, (loss_in_a_turn_wrong, (failed_and_moved_wrong, (three_calls_wrong, (held_too_early_wrong, (moved_with_aside_wrong, tt)))))))))))))))))))))))))))))))))

@@ -100,35 +100,97 @@ unfolding check_octet_of body_of verdict_on by_header by_end
 two_lines_right = fits_none (record { view = two_lines_wait; acts = both_came }) (one_came ++ creg_one 0x31 ++ ring_one) last_flag 10 refl refl refl (read_in (one_came ++ creg_one 0x31 ++ ring_one) refl) (read_in last_flag refl) refl
 
 waits_zero_right : IsRightTurn waits_for_zero (outcome_back (outcome_of 1 Opened))
+unfolding check_octet_of body_of verdict_on by_header by_end
 waits_zero_right = record {
   fitted = outcome_waits_right;
   fits = still_fits 41 _ (after [] opening_zero) outcome_waits_right;
   turn = turn_by waits_for_zero.old waits_for_zero.new (outcome_back (outcome_of 1 Opened)) (after [] waits_for_zero.before) waits_for_zero.acts waits_for_zero.says refl refl (lit≤ tt)
-      refl (record { outcomes = one_back (outcome_of 1 Opened); lines = λ k. refl }) refl (record { written = refl; outcome = outcome_of 1 Opened; waits = refl; handed_back = refl; least = refl; held = none_held waits_for_zero.new (after [] waits_for_zero.before) refl refl });
+      refl (record { outcomes = one_back (outcome_of 1 Opened); lines = λ k. refl }) refl (record {
+        written = refl;
+        outcome = outcome_of 1 Opened;
+        waits = refl;
+        handed_back = refl;
+        least = refl;
+        rest = record {
+          quiet = (good (driving beginning) waits_for_zero.before refl refl refl).quiet;
+          sent = refl;
+          nothing_came = record { room = 64; some = lit≤ tt; nothing = refl };
+          all_got = record { octets = zero_came; since = refl; rest = last_flag; reads = read_in zero_came refl };
+          no_request = inl refl;
+          held = none_held waits_for_zero.new (after [] waits_for_zero.before) refl refl;
+        };
+      });
 }
 
 waits_one_right : IsRightTurn waits_for_one (outcome_back other_outcome)
+unfolding check_octet_of body_of verdict_on by_header by_end
 waits_one_right = record {
   fitted = one_waits_right;
   fits = still_fits 41 _ (after [] other_told) one_waits_right;
   turn = turn_by waits_for_one.old waits_for_one.new (outcome_back other_outcome) (after [] waits_for_one.before) waits_for_one.acts waits_for_one.says refl refl (lit≤ tt)
-      refl (record { outcomes = one_back other_outcome; lines = λ k. refl }) refl (record { written = refl; outcome = other_outcome; waits = refl; handed_back = refl; least = refl; held = none_held waits_for_one.new (after [] waits_for_one.before) refl refl });
+      refl (record { outcomes = one_back other_outcome; lines = λ k. refl }) refl (record {
+        written = refl;
+        outcome = other_outcome;
+        waits = refl;
+        handed_back = refl;
+        least = refl;
+        rest = record {
+          quiet = (good (driving beginning) waits_for_one.before refl refl refl).quiet;
+          sent = refl;
+          nothing_came = record { room = 64; some = lit≤ tt; nothing = refl };
+          all_got = record { octets = zero_came; since = refl; rest = last_flag; reads = read_in zero_came refl };
+          no_request = inl refl;
+          held = none_held waits_for_one.new (after [] waits_for_one.before) refl refl;
+        };
+      });
 }
 
 ring_waits_turn : IsRightTurn blocked_by_ring (lines_back (ring ∷ []))
+unfolding check_octet_of body_of verdict_on by_header by_end
 ring_waits_turn = record {
   fitted = ring_waits_right;
   fits = still_fits 41 _ (after [] ring_came) ring_waits_right;
   turn = turn_by blocked_by_ring.old blocked_by_ring.new (lines_back (ring ∷ [])) (after [] blocked_by_ring.before) blocked_by_ring.acts blocked_by_ring.says refl refl (lit≤ tt)
-      refl (record { outcomes = λ c. refl; lines = of_kinds (λ k. of_kind k (ring ∷ []) ≡ take 1 (of_kind k (ring ∷ []))) (record { ring = refl; cring = refl; creg = refl; cgreg = refl; cgev = refl; ciev = refl; other = refl }) }) refl (record { written = refl; placed = refl; line = ring; waits = refl; is_of = refl; handed_back = refl; held = none_held blocked_by_ring.new (after [] blocked_by_ring.before) refl refl });
+      refl (record { outcomes = λ c. refl; lines = of_kinds (λ k. of_kind k (ring ∷ []) ≡ take 1 (of_kind k (ring ∷ []))) (record { ring = refl; cring = refl; creg = refl; cgreg = refl; cgev = refl; ciev = refl; other = refl }) }) refl (record {
+        written = refl;
+        placed = refl;
+        line = ring;
+        waits = refl;
+        is_of = refl;
+        handed_back = refl;
+        rest = record {
+          quiet = (good (driving beginning) blocked_by_ring.before refl refl refl).quiet;
+          sent = refl;
+          nothing_came = record { room = 64; some = lit≤ tt; nothing = refl };
+          all_got = record { octets = (one_came ++ ring_one); since = refl; rest = last_flag; reads = read_in (one_came ++ ring_one) refl };
+          no_request = inl refl;
+          held = none_held blocked_by_ring.new (after [] blocked_by_ring.before) refl refl;
+        };
+      });
 }
 
 both_wait_right : IsRightTurn blocked_by_the_first (lines_back (creg ∷ ring ∷ []))
+unfolding check_octet_of body_of verdict_on by_header by_end
 both_wait_right = record {
   fitted = two_lines_right;
   fits = still_fits 41 _ (after [] both_came) two_lines_right;
   turn = turn_by blocked_by_the_first.old blocked_by_the_first.new (lines_back (creg ∷ ring ∷ [])) (after [] blocked_by_the_first.before) blocked_by_the_first.acts blocked_by_the_first.says refl refl (lit≤ tt)
-      refl (record { outcomes = λ c. refl; lines = of_kinds (λ k. of_kind k (creg ∷ ring ∷ []) ≡ take 1 (of_kind k (creg ∷ ring ∷ []))) (record { ring = refl; cring = refl; creg = refl; cgreg = refl; cgev = refl; ciev = refl; other = refl }) }) refl (record { written = refl; placed = refl; line = creg; waits = refl; is_of = refl; handed_back = refl; held = none_held blocked_by_the_first.new (after [] blocked_by_the_first.before) refl refl });
+      refl (record { outcomes = λ c. refl; lines = of_kinds (λ k. of_kind k (creg ∷ ring ∷ []) ≡ take 1 (of_kind k (creg ∷ ring ∷ []))) (record { ring = refl; cring = refl; creg = refl; cgreg = refl; cgev = refl; ciev = refl; other = refl }) }) refl (record {
+        written = refl;
+        placed = refl;
+        line = creg;
+        waits = refl;
+        is_of = refl;
+        handed_back = refl;
+        rest = record {
+          quiet = (good (driving beginning) blocked_by_the_first.before refl refl refl).quiet;
+          sent = refl;
+          nothing_came = record { room = 64; some = lit≤ tt; nothing = refl };
+          all_got = record { octets = (one_came ++ creg_one 0x31 ++ ring_one); since = refl; rest = last_flag; reads = read_in (one_came ++ creg_one 0x31 ++ ring_one) refl };
+          no_request = inl refl;
+          held = none_held blocked_by_the_first.new (after [] blocked_by_the_first.before) refl refl;
+        };
+      });
 }
 
 idles_right : IsRightTurn idle_at_first (dealt None None)
@@ -138,15 +200,18 @@ idles_right = record {
   fits = still_fits 41 _ (after [] []) none_blank;
   turn = turn_by idle_at_first.old idle_at_first.new (dealt None None) (after [] idle_at_first.before) idle_at_first.acts idle_at_first.says refl refl (lit≤ tt)
       refl (nothing_back _ _) refl (record {
-        quiet = (good (driving beginning) idle_at_first.before refl refl refl).quiet;
-        sent = refl;
-        nothing_came = record { room = 64; some = lit≤ tt; nothing = refl };
-        all_got = record { octets = lf_octet; since = refl; rest = []; reads = read_in lf_octet refl };
-        no_request = inl refl;
+        written = refl;
         placed = refl;
         announced = refl;
         none_aside = refl;
-        held = none_held idle_at_first.new (after [] idle_at_first.before) refl refl;
+        rest = record {
+          quiet = (good (driving beginning) idle_at_first.before refl refl refl).quiet;
+          sent = refl;
+          nothing_came = record { room = 64; some = lit≤ tt; nothing = refl };
+          all_got = record { octets = lf_octet; since = refl; rest = []; reads = read_in lf_octet refl };
+          no_request = inl refl;
+          held = none_held idle_at_first.new (after [] idle_at_first.before) refl refl;
+        };
       });
 }
 
@@ -157,15 +222,18 @@ idles_on_right = record {
   fits = still_fits 41 _ (after [] asked_csq) csq_sent_right;
   turn = turn_by idle_under_way.old idle_under_way.new (dealt None None) (after [] idle_under_way.before) idle_under_way.acts idle_under_way.says refl refl (lit≤ tt)
       refl (nothing_back _ _) refl (record {
-        quiet = (good (driving beginning) idle_under_way.before refl refl refl).quiet;
-        sent = refl;
-        nothing_came = record { room = 64; some = lit≤ tt; nothing = refl };
-        all_got = record { octets = one_came; since = refl; rest = last_flag; reads = read_in one_came refl };
-        no_request = inl refl;
+        written = refl;
         placed = refl;
         announced = refl;
         none_aside = refl;
-        held = none_held idle_under_way.new (after [] idle_under_way.before) refl refl;
+        rest = record {
+          quiet = (good (driving beginning) idle_under_way.before refl refl refl).quiet;
+          sent = refl;
+          nothing_came = record { room = 64; some = lit≤ tt; nothing = refl };
+          all_got = record { octets = one_came; since = refl; rest = last_flag; reads = read_in one_came refl };
+          no_request = inl refl;
+          held = none_held idle_under_way.new (after [] idle_under_way.before) refl refl;
+        };
       });
 }
 

@@ -146,6 +146,14 @@ waiting_for_the_greater = nothing_but both_wait other_told (Waiting 1)
 abbrev pub waiting_with_unsent : TurnRow
 waiting_with_unsent = nothing_but (record outcome_waits.view { unwritten = last_flag }) opening_zero (Waiting 0)
 
+-- a frame is at hand, which the outcome holds up
+abbrev pub waiting_with_frame : TurnRow
+waiting_with_frame = nothing_but (record ua_at_hand.view { unplaced = opened_zero }) left_zero (Waiting 0)
+
+-- the line was not read
+abbrev pub waiting_without_read : TurnRow
+waiting_without_read = record { old = outcome_waits.view; new = outcome_waits.view; before = opening_zero; acts = []; says = Waiting 0 }
+
 -- ## Blocked
 
 -- no line of this kind waits
@@ -155,6 +163,12 @@ blocked_by_none = nothing_but zero_opened.view opening_zero (Blocked Ring)
 -- a line of another kind was heard before it
 abbrev pub blocked_by_a_later : TurnRow
 blocked_by_a_later = nothing_but two_lines_wait both_came (Blocked Ring)
+
+-- a command could leave, which the line holds up
+abbrev pub blocked_with_command : TurnRow
+blocked_with_command =
+    nothing_but (record (settled one_came one_left (first_request ∷ second_request ∷ third_request ∷ []) opened_both [] [] last_flag) { unannounced = ring ∷ [] })
+    command_stays (Blocked Ring)
 
 -- so many lines wait that the connection had to be held, and it isn't
 abbrev pub blocked_and_not_held : TurnRow
@@ -231,6 +245,6 @@ wrong_turns =
     idle_with_frame ∷ idle_with_unfed ∷ idle_with_unsent ∷ idle_with_queued ∷ idle_with_aside ∷ idle_with_outcome ∷
     idle_with_line ∷ idle_with_command ∷ idle_after_read ∷ idle_without_read ∷ moved_by_nothing ∷ moved_by_a_mark ∷
     unfed_grows ∷ full_unoffered ∷ full_but_taken ∷ full_of_nothing ∷ waiting_but_told ∷ waiting_for_another ∷
-    waiting_for_the_greater ∷ waiting_with_unsent ∷ blocked_by_none ∷ blocked_by_a_later ∷ blocked_and_not_held ∷
+    waiting_for_the_greater ∷ waiting_with_unsent ∷ waiting_with_frame ∷ waiting_without_read ∷ blocked_by_none ∷ blocked_by_a_later ∷ blocked_with_command ∷ blocked_and_not_held ∷
     blocked_and_still_held ∷ tick_in_a_turn ∷ loss_in_a_turn ∷ failed_and_moved ∷ three_calls ∷ held_too_early ∷
     moved_with_aside ∷ []

@@ -154,34 +154,6 @@ pub record HoldsByBacklog (v : SessionView) (past : List Act) : Type 0 where
   pub many : (d : ℕ) → d < 62 → (d == 0) ≡ false → is_open Initiator d (wire past) ≡ true → 256 ≤ backlog d v → is_held Initiator d past ≡ true
   pub few : (d : ℕ) → d < 62 → backlog d v < 128 → is_held Initiator d past ≡ false
 
--- octets wait, the line was offered some of them in this turn and took none
-pub record IsWriterFull (v : SessionView) (t : Dealings) : Type 0 where
-  pub waits : v.unwritten ≢ []
-  pub offered : List ℕ
-  pub some : offered ≢ []
-  pub took_none : t.write ≡ Some (record { offered = offered; count = 0 })
-
--- no octets wait, and an outcome for this caller does, which the desk handed back in this turn; for no lesser caller does
--- one wait
-pub record IsWaiting (v : SessionView) (t : Dealings) (past : List Act) (c : ℕ) : Type 0 where
-  pub written : v.unwritten ≡ []
-  pub outcome : Outcome
-  pub waits : take 1 (of_caller c v.unplaced) ≡ outcome ∷ []
-  pub handed_back : of_caller c t.told_back ≡ outcome ∷ []
-  pub least : list_all (λ (o : Outcome). nat_le c o.caller) v.unplaced ≡ true
-  pub held : HoldsByBacklog v past
-
--- no octets and no outcomes wait, and of the lines that wait the first is of this kind, which the desk handed back in
--- this turn
-pub record IsBlocked (v : SessionView) (t : Dealings) (past : List Act) (k : UrcKind) : Type 0 where
-  pub written : v.unwritten ≡ []
-  pub placed : v.unplaced ≡ []
-  pub line : Urc
-  pub waits : take 1 v.unannounced ≡ line ∷ []
-  pub is_of : line.kind ≡ k
-  pub handed_back : of_kind k t.heard_back ≡ line ∷ []
-  pub held : HoldsByBacklog v past
-
 -- every frame that is read in the octets received since the session began was got
 pub record AllAreGot (b : Beginning) (v : SessionView) (past : List Act) : Type 0 where
   pub octets : List ℕ
@@ -195,25 +167,59 @@ pub record ReadsNothing (t : Dealings) : Type 0 where
   pub some : 1 ≤ room
   pub nothing : t.read ≡ Some (record { room = room; octets = [] })
 
--- The history is quiet; the octets sent are all of the frames sent; nothing came, and all that came was got; no request
--- waits at the desk, or 128 are in hand; nothing waits for a place, and no request is kept aside.
-pub record IsIdle (b : Beginning) (v : SessionView) (t : Dealings) (past : List Act) : Type 0 where
+-- Nothing is left to do but to place outcomes and lines: the history is quiet; the octets sent are all of the frames
+-- sent; nothing came, and all that came was got; no request waits at the desk, or those in hand and the outcomes that
+-- wait are 128; each connection is held by its backlog.
+pub record IsAtRest (b : Beginning) (v : SessionView) (t : Dealings) (past : List Act) : Type 0 where
   pub quiet : Quiet (driving b) past
   pub sent : v.line.sent ≡ b.line.sent ++ octets_of_frames (sents past)
   pub nothing_came : ReadsNothing t
   pub all_got : AllAreGot b v past
-  pub no_request : (t.next ≡ Some None) ⊎ (length (in_hand past) ≡ 128)
+  pub no_request : (t.next ≡ Some None) ⊎ (length (in_hand past) + length v.unplaced ≡ 128)
+  pub held : HoldsByBacklog v past
+
+-- octets wait, the line was offered some of them in this turn and took none
+pub record IsWriterFull (v : SessionView) (t : Dealings) : Type 0 where
+  pub waits : v.unwritten ≢ []
+  pub offered : List ℕ
+  pub some : offered ≢ []
+  pub took_none : t.write ≡ Some (record { offered = offered; count = 0 })
+
+-- no octets wait, and an outcome for this caller does, which the desk handed back in this turn; for no lesser caller does
+-- one wait; and nothing else is held up by it
+pub record IsWaiting (b : Beginning) (v : SessionView) (t : Dealings) (past : List Act) (c : ℕ) : Type 0 where
+  pub written : v.unwritten ≡ []
+  pub outcome : Outcome
+  pub waits : take 1 (of_caller c v.unplaced) ≡ outcome ∷ []
+  pub handed_back : of_caller c t.told_back ≡ outcome ∷ []
+  pub least : list_all (λ (o : Outcome). nat_le c o.caller) v.unplaced ≡ true
+  pub rest : IsAtRest b v t past
+
+-- no octets and no outcomes wait, and of the lines that wait the first is of this kind, which the desk handed back in
+-- this turn; and nothing else is held up by it
+pub record IsBlocked (b : Beginning) (v : SessionView) (t : Dealings) (past : List Act) (k : UrcKind) : Type 0 where
+  pub written : v.unwritten ≡ []
+  pub placed : v.unplaced ≡ []
+  pub line : Urc
+  pub waits : take 1 v.unannounced ≡ line ∷ []
+  pub is_of : line.kind ≡ k
+  pub handed_back : of_kind k t.heard_back ≡ line ∷ []
+  pub rest : IsAtRest b v t past
+
+-- nothing waits for the line or for a place, no request is kept aside, and nothing is left to do
+pub record IsIdle (b : Beginning) (v : SessionView) (t : Dealings) (past : List Act) : Type 0 where
+  pub written : v.unwritten ≡ []
   pub placed : v.unplaced ≡ []
   pub announced : v.unannounced ≡ []
   pub none_aside : v.aside ≡ None
-  pub held : HoldsByBacklog v past
+  pub rest : IsAtRest b v t past
 
 -- what an answer says of the session, of the turn's calls and of the history
 abbrev pub Means : Beginning → SessionView → Dealings → List Act → TurnAnswer → Type 0
 Means b v t past Moved = Unit {0}
 Means b v t past WriterFull = IsWriterFull v t
-Means b v t past (Waiting c) = IsWaiting v t past c
-Means b v t past (Blocked k) = IsBlocked v t past k
+Means b v t past (Waiting c) = IsWaiting b v t past c
+Means b v t past (Blocked k) = IsBlocked b v t past k
 Means b v t past Idle = IsIdle b v t past
 
 -- ## A turn
