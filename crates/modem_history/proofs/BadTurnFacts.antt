@@ -7,13 +7,16 @@ use Rattle.mux_frame.specs.CheckOctet.{check_octet_of}
 use Rattle.mux_frame.specs.Spelling.{body_of}
 use Rattle.mux_frame.specs.Judging.{verdict_on, by_header, by_end}
 use Rattle.mux_frame.specs.Reading.{Reads}
+use Rattle.mux_frame.specs.declared.frame.Kind.TheVariants.{Ua}
+use Rattle.mux_station.specs.declared.role.Role.TheVariants.{Responder}
+use Rattle.mux_station.specs.Written.{written}
 use Rattle.mux_frame.proofs.Readings.{one_reading}
 use Rattle.modem_desk.specs.declared.request.Urc.{Urc}
 use Rattle.modem_history.specs.Acts.{Act, after}
 use Rattle.modem_history.specs.Sessions.{driving, gots, heard_as, backlog_in}
 use Rattle.modem_history.specs.SessionRows.{TurnRow, IsWrongTurn, Each, beginning, entry_answer, zero_came, ring}
 use Rattle.modem_history.specs.Turns.{counted, calls_made, octets_read, AllAreGot, Read}
-use Rattle.modem_history.specs.BadTurns.{wrong_turns, idle_with_frame, idle_with_unfed, idle_with_unsent, idle_with_queued, idle_with_aside, idle_with_outcome, idle_with_line, idle_with_command, idle_after_read, idle_without_read, moved_by_nothing, moved_by_a_mark, unfed_grows, full_unoffered, full_but_taken, full_of_nothing, waiting_but_told, waiting_for_another, waiting_for_the_greater, waiting_with_unsent, waiting_with_frame, waiting_without_read, blocked_by_none, blocked_by_a_later, blocked_with_command, blocked_and_not_held, blocked_and_still_held, tick_in_a_turn, loss_in_a_turn, failed_and_moved, three_calls, held_too_early, moved_with_aside}
+use Rattle.modem_history.specs.BadTurns.{wrong_turns, idle_with_frame, idle_with_unfed, idle_with_unsent, idle_with_queued, idle_with_aside, idle_with_outcome, idle_with_line, idle_with_command, idle_after_read, idle_without_read, moved_by_nothing, moved_by_a_mark, unfed_grows, full_unoffered, full_but_taken, full_of_nothing, full_without_read, full_with_frame, waiting_but_told, waiting_for_another, waiting_for_the_greater, waiting_with_unsent, waiting_with_frame, waiting_without_read, blocked_by_none, blocked_by_a_later, blocked_with_command, blocked_and_not_held, blocked_and_still_held, tick_in_a_turn, loss_in_a_turn, failed_and_moved, three_calls, held_too_early, moved_with_aside}
 use Rattle.modem_history.specs.Kinds.{kind_place}
 use Rattle.modem_history.proofs.Decided.{unquiet}
 use Rattle.modem_history.proofs.TurnTests.{no_more}
@@ -121,6 +124,18 @@ full_but_taken_wrong t turn = never_back turn.moved
 full_of_nothing_wrong : IsWrongTurn full_of_nothing
 full_of_nothing_wrong t turn = turn.means.waits refl
 
+full_without_read_wrong : IsWrongTurn full_without_read
+full_without_read_wrong t turn =
+    let wrote : calls_made t.write ≡ 1 = ap calls_made turn.means.took_none in
+    let read : calls_made t.read ≡ 1 = ap calls_made (turn.means.reads refl).nothing in
+    two_calls (calls_made t.write) (calls_made t.read) wrote read turn.deals.calls
+  where
+    two_calls : (w r : ℕ) → w ≡ 1 → r ≡ 1 → 41 ≡ counted 40 (w + r) → ⊥
+    two_calls w r x y e = omega arith
+
+full_with_frame_wrong : IsWrongTurn full_with_frame
+full_with_frame_wrong t turn = never_back (turn.means.no_room (written Responder Ua 0 []) refl)
+
 -- ## Waiting
 
 waiting_but_told_wrong : IsWrongTurn waiting_but_told
@@ -198,4 +213,4 @@ moved_with_aside_wrong : IsWrongTurn moved_with_aside
 moved_with_aside_wrong t turn = some_none turn.none_aside
 
 pub all_wrong_turns : Each IsWrongTurn wrong_turns
-all_wrong_turns = (idle_with_frame_wrong, (idle_with_unfed_wrong, (idle_with_unsent_wrong, (idle_with_queued_wrong, (idle_with_aside_wrong, (idle_with_outcome_wrong, (idle_with_line_wrong, (idle_with_command_wrong, (idle_after_read_wrong, (idle_without_read_wrong, (moved_by_nothing_wrong, (moved_by_a_mark_wrong, (unfed_grows_wrong, (full_unoffered_wrong, (full_but_taken_wrong, (full_of_nothing_wrong, (waiting_but_told_wrong, (waiting_for_another_wrong, (waiting_for_the_greater_wrong, (waiting_with_unsent_wrong, (waiting_with_frame_wrong, (waiting_without_read_wrong, (blocked_by_none_wrong, (blocked_by_a_later_wrong, (blocked_with_command_wrong, (blocked_and_not_held_wrong, (blocked_and_still_held_wrong, (tick_in_a_turn_wrong, (loss_in_a_turn_wrong, (failed_and_moved_wrong, (three_calls_wrong, (held_too_early_wrong, (moved_with_aside_wrong, tt)))))))))))))))))))))))))))))))))
+all_wrong_turns = (idle_with_frame_wrong, (idle_with_unfed_wrong, (idle_with_unsent_wrong, (idle_with_queued_wrong, (idle_with_aside_wrong, (idle_with_outcome_wrong, (idle_with_line_wrong, (idle_with_command_wrong, (idle_after_read_wrong, (idle_without_read_wrong, (moved_by_nothing_wrong, (moved_by_a_mark_wrong, (unfed_grows_wrong, (full_unoffered_wrong, (full_but_taken_wrong, (full_of_nothing_wrong, (full_without_read_wrong, (full_with_frame_wrong, (waiting_but_told_wrong, (waiting_for_another_wrong, (waiting_for_the_greater_wrong, (waiting_with_unsent_wrong, (waiting_with_frame_wrong, (waiting_without_read_wrong, (blocked_by_none_wrong, (blocked_by_a_later_wrong, (blocked_with_command_wrong, (blocked_and_not_held_wrong, (blocked_and_still_held_wrong, (tick_in_a_turn_wrong, (loss_in_a_turn_wrong, (failed_and_moved_wrong, (three_calls_wrong, (held_too_early_wrong, (moved_with_aside_wrong, tt)))))))))))))))))))))))))))))))))))

@@ -1,6 +1,7 @@
 -- The rows of right turns, computed.
 use Rattle.std.proofs.Common.{inl, lit≤}
 use Rattle.std.specs.Prelude.{◌≡◌, ◌≢◌, ℕ, List, [], ◌∷◌, ◌++◌, take, drop, refl, Option, Some, None}
+use Rattle.mux_frame.specs.Frames.{Frame}
 use Rattle.mux_frame.specs.CheckOctet.{check_octet_of}
 use Rattle.mux_frame.specs.Spelling.{body_of}
 use Rattle.mux_frame.specs.Judging.{verdict_on, by_header, by_end}
@@ -33,6 +34,9 @@ still_fits n v past f = record {
 
 not_empty : {x : ℕ} {xs : List ℕ} → x ∷ xs ≢ []
 not_empty e = cc
+
+none_at_hand : {f : Frame} → None ≡ Some f → ⊥
+none_at_hand e = cc
 
 nothing_back : (write : Option Write) (next : Option Request) → HandsBack (dealt write next)
 nothing_back write next = record { outcomes = λ c. refl; lines = λ k. refl }
@@ -79,7 +83,7 @@ full_right = record {
   fitted = sabm_half_sent_right;
   fits = still_fits 42 _ (after [] left_zero) sabm_half_sent_right;
   turn = turn_by writes_nothing.old writes_nothing.new (dealt (offers (drop 2 sabm_zero) 0) None) (after [] writes_nothing.before) writes_nothing.acts writes_nothing.says refl refl (lit≤ tt)
-      (record { some = lit≤ tt; bound = lit≤ tt; first = record { rest = []; joins = refl } }) (nothing_back _ _) refl (record { waits = not_empty; offered = drop 2 sabm_zero; some = not_empty; took_none = refl });
+      (record { some = lit≤ tt; bound = lit≤ tt; first = record { rest = []; joins = refl } }) (nothing_back _ _) refl (record { waits = not_empty; offered = drop 2 sabm_zero; some = not_empty; took_none = refl; reads = λ e. record { room = 64; some = lit≤ tt; nothing = refl }; no_room = λ f e. absurd (none_at_hand e); no_request = inl refl });
 }
 
 gives_right : IsRightTurn gives_on_in_vain (dealt (offers sabm_zero 0) None)
@@ -88,7 +92,7 @@ gives_right = record {
   fitted = sabm_queued_right;
   fits = fits_none (record { view = gives_on_in_vain.new; acts = left_zero }) lf_octet [] 0 refl refl refl (read_in lf_octet refl) (read_in [] refl) refl;
   turn = turn_by gives_on_in_vain.old gives_on_in_vain.new (dealt (offers sabm_zero 0) None) (after [] gives_on_in_vain.before) gives_on_in_vain.acts gives_on_in_vain.says refl refl (lit≤ tt)
-      (record { some = lit≤ tt; bound = lit≤ tt; first = record { rest = []; joins = refl } }) (nothing_back _ _) refl (record { waits = not_empty; offered = sabm_zero; some = not_empty; took_none = refl });
+      (record { some = lit≤ tt; bound = lit≤ tt; first = record { rest = []; joins = refl } }) (nothing_back _ _) refl (record { waits = not_empty; offered = sabm_zero; some = not_empty; took_none = refl; reads = λ e. record { room = 64; some = lit≤ tt; nothing = refl }; no_room = λ f e. absurd (none_at_hand e); no_request = inl refl });
 }
 
 one_waits_right : IsRight (record { view = one_waits; acts = other_told })

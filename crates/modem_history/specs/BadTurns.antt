@@ -118,6 +118,20 @@ full_but_taken = record {
 abbrev pub full_of_nothing : TurnRow
 full_of_nothing = nothing_but zero_opened.view opening_zero WriterFull
 
+-- the line was not read
+abbrev pub full_without_read : TurnRow
+full_without_read = nothing_but sabm_half_sent.view left_zero WriterFull
+
+-- a frame is at hand that calls for nothing
+abbrev pub full_with_frame : TurnRow
+full_with_frame = record {
+  old = record ua_at_hand.view { unwritten = drop 2 sabm_zero };
+  new = at_calls 42 (record ua_at_hand.view { unwritten = drop 2 sabm_zero });
+  before = left_zero;
+  acts = [];
+  says = WriterFull;
+}
+
 -- ## Waiting
 
 -- the caller's ring took the outcome
@@ -244,7 +258,7 @@ abbrev pub wrong_turns : List TurnRow
 wrong_turns =
     idle_with_frame ∷ idle_with_unfed ∷ idle_with_unsent ∷ idle_with_queued ∷ idle_with_aside ∷ idle_with_outcome ∷
     idle_with_line ∷ idle_with_command ∷ idle_after_read ∷ idle_without_read ∷ moved_by_nothing ∷ moved_by_a_mark ∷
-    unfed_grows ∷ full_unoffered ∷ full_but_taken ∷ full_of_nothing ∷ waiting_but_told ∷ waiting_for_another ∷
+    unfed_grows ∷ full_unoffered ∷ full_but_taken ∷ full_of_nothing ∷ full_without_read ∷ full_with_frame ∷ waiting_but_told ∷ waiting_for_another ∷
     waiting_for_the_greater ∷ waiting_with_unsent ∷ waiting_with_frame ∷ waiting_without_read ∷ blocked_by_none ∷ blocked_by_a_later ∷ blocked_with_command ∷ blocked_and_not_held ∷
     blocked_and_still_held ∷ tick_in_a_turn ∷ loss_in_a_turn ∷ failed_and_moved ∷ three_calls ∷ held_too_early ∷
     moved_with_aside ∷ []

@@ -1,7 +1,11 @@
 -- What the answers of a turn mean: Moved, WriterFull, Waiting, Blocked and Idle, and its faults; and what a tick does.
 use Rattle.std.specs.Prelude.{◌≡◌, ◌≢◌, ℕ, ◌+◌, ◌-◌, ◌^◌, ◌<◌, ◌≤◌, ◌==◌, ◌||◌, not, nat_le, nat_lt, min, ◌⊎◌, Bool, true, false, List, [], ◌∷◌, ◌++◌, length, take, map, flat_map, Option, Some, None, option_to_list}
 use Rattle.std.specs.List.{list_all, list_any}
+use Rattle.mux_frame.specs.Frames.{Frame}
 use Rattle.mux_frame.specs.Reading.{Reads}
+use Rattle.mux_station.specs.States.{state_of}
+use Rattle.mux_station.specs.Tables.{by_frame, have_room, octets_of}
+use Rattle.mux_station.specs.Sending.{queue}
 use Rattle.mux_station.specs.declared.role.Role.TheVariants.{Initiator}
 use Rattle.mux_station.specs.Opening.{is_open}
 use Rattle.at_text.specs.declared.unsolicited.UrcKind.{UrcKind}
@@ -167,6 +171,10 @@ pub record ReadsNothing (t : Dealings) : Type 0 where
   pub some : 1 ≤ room
   pub nothing : t.read ≡ Some (record { room = room; octets = [] })
 
+-- the frames that this one calls for fit into the control queue
+abbrev pub has_room_for : Beginning → List Act → Frame → Bool
+has_room_for b past f = have_room b.n1 (octets_of (queue (wire past))) (by_frame Initiator (λ d. state_of Initiator d (wire past)) f)
+
 -- Nothing is left to do but to place outcomes and lines: the history is quiet; the octets sent are all of the frames
 -- sent; nothing came, and all that came was got; no request waits at the desk, or those in hand and the outcomes that
 -- wait are 128; each connection is held by its backlog.
@@ -178,12 +186,17 @@ pub record IsAtRest (b : Beginning) (v : SessionView) (t : Dealings) (past : Lis
   pub no_request : (t.next ≡ Some None) ⊎ (length (in_hand past) + length v.unplaced ≡ 128)
   pub held : HoldsByBacklog v past
 
--- octets wait, the line was offered some of them in this turn and took none
-pub record IsWriterFull (v : SessionView) (t : Dealings) : Type 0 where
+-- octets wait, the line was offered some of them in this turn and took none; and meanwhile nothing came, or octets that
+-- came before wait; a frame at hand finds no room for what it calls for; no request waits at the desk, or those in hand
+-- and the outcomes that wait are 128
+pub record IsWriterFull (b : Beginning) (v : SessionView) (t : Dealings) (past : List Act) : Type 0 where
   pub waits : v.unwritten ≢ []
   pub offered : List ℕ
   pub some : offered ≢ []
   pub took_none : t.write ≡ Some (record { offered = offered; count = 0 })
+  pub reads : v.unfed ≡ [] → ReadsNothing t
+  pub no_room : (f : Frame) → v.deframer.next ≡ Some f → has_room_for b past f ≡ false
+  pub no_request : (t.next ≡ Some None) ⊎ (length (in_hand past) + length v.unplaced ≡ 128)
 
 -- no octets wait, and an outcome for this caller does, which the desk handed back in this turn; for no lesser caller does
 -- one wait; and nothing else is held up by it
@@ -217,7 +230,7 @@ pub record IsIdle (b : Beginning) (v : SessionView) (t : Dealings) (past : List 
 -- what an answer says of the session, of the turn's calls and of the history
 abbrev pub Means : Beginning → SessionView → Dealings → List Act → TurnAnswer → Type 0
 Means b v t past Moved = Unit {0}
-Means b v t past WriterFull = IsWriterFull v t
+Means b v t past WriterFull = IsWriterFull b v t past
 Means b v t past (Waiting c) = IsWaiting b v t past c
 Means b v t past (Blocked k) = IsBlocked b v t past k
 Means b v t past Idle = IsIdle b v t past
