@@ -27,9 +27,9 @@ still_fits n v past f = record {
   loss = record { one = f.loss.one; by_fault = f.loss.by_fault };
   requests = record { taken_are = f.requests.taken_are; once = f.requests.once; callers = f.requests.callers; few = f.requests.few };
   received = record { fed = f.received.fed; received_are = f.received.received_are; bound = f.received.bound; deframes = f.received.deframes };
-  sent = record { sent_are = f.sent.sent_are; written = f.sent.written; of_last = f.sent.of_last };
-  told = record { outcomes_are = f.told.outcomes_are; callers = f.told.callers };
-  heard = record { lines_are = f.heard.lines_are; listened = f.heard.listened };
+  sent = record { since = f.sent.since; sent_are = f.sent.sent_are; frames_are = f.sent.frames_are; written = f.sent.written; of_last = f.sent.of_last };
+  told = record { each = λ c. let g = f.told.each c in record { since = g.since; told_are = g.told_are; outcomes_are = g.outcomes_are }; callers = f.told.callers };
+  heard = record { each = λ i k at. let g = f.heard.each i k at in record { since = g.since; announced_are = g.announced_are; lines_are = g.lines_are }; listened = f.heard.listened };
 }
 
 not_empty : {x : ℕ} {xs : List ℕ} → x ∷ xs ≢ []

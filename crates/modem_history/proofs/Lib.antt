@@ -33,3 +33,4 @@ pub mod FaultRowFacts
 pub mod LineOrder
 pub mod SessionLawFacts
 pub mod Untold
+pub mod ToldOnce

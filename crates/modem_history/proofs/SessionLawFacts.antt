@@ -19,7 +19,7 @@ use Rattle.modem_history.proofs.Stays.{distinct_front}
 use Rattle.modem_history.specs.Requests.{are_distinct}
 use Rattle.std.specs.List.{list_all}
 use Rattle.modem_history.specs.Lawful.{Lawful, Complete}
-use Rattle.modem_history.specs.Sessions.{Beginning, SessionView, SessionFits, AreOnce, driving, taken_since, gots, given_on, octets_of_frames, heard_as, at_place}
+use Rattle.modem_history.specs.Sessions.{Beginning, SessionView, SessionFits, FitsSent, AreOnce, driving, taken_since, gots, given_on, octets_of_frames, heard_as, at_place}
 use Rattle.modem_history.specs.SessionLaws.{BeginsFitting, GotAreRead, SendsSpellings, HasMarks, FitsSays, RunsOn, KeepsHistory, untold}
 use Rattle.modem_history.proofs.LineOrder.{gives_in_order}
 
@@ -27,6 +27,12 @@ never : false ≡ true → ⊥
 never e = cc
 
 -- ## Octets that leave
+
+-- what was sent in all, and what waits
+sent_whole : (b : Beginning) (v : SessionView) (past : List Act) → FitsSent b v past → v.line.sent ++ v.unwritten ≡ b.line.sent ++ octets_of_frames (given_on past)
+sent_whole b v past f =
+    ap (λ (xs : List ℕ). xs ++ v.unwritten) f.sent_are
+    ∙ (append_assoc b.line.sent f.since v.unwritten ∙ ap (λ (xs : List ℕ). b.line.sent ++ xs) f.frames_are)
 
 pub sends_spellings : (b : Beginning) (v : SessionView) (past : List Act) → SessionFits b v past → SendsSpellings b v past
 sends_spellings b v past f =
@@ -37,7 +43,7 @@ sends_spellings b v past f =
       rest = v.unwritten ++ later;
       joins =
           sym (append_assoc v.line.sent v.unwritten later)
-          ∙ (ap (λ (xs : List ℕ). xs ++ later) f.sent.sent_are
+          ∙ (ap (λ (xs : List ℕ). xs ++ later) (sent_whole b v past f.sent)
           ∙ (append_assoc b.line.sent given later
           ∙ (ap (λ (xs : List ℕ). b.line.sent ++ xs) (sym (flat_map-append spelled (given_on past) order.later))
           ∙ ap (λ (fs : List Frame). b.line.sent ++ octets_of_frames fs) (sym order.sent_are))));
@@ -69,7 +75,7 @@ has_marks b v past f whole later rest e h =
     let order = gives_in_order (driving b) past f.history.lawful in
     let wholes = octets_of_frames whole in
     let both : b.line.sent ++ octets_of_frames (given_on past) ≡ b.line.sent ++ (wholes ++ (rest ++ v.unwritten)) =
-    sym f.sent.sent_are
+    sym (sent_whole b v past f.sent)
     ∙ (ap (λ (xs : List ℕ). xs ++ v.unwritten) h
     ∙ (append_assoc (b.line.sent ++ wholes) rest v.unwritten
     ∙ append_assoc b.line.sent wholes (rest ++ v.unwritten))) in
@@ -110,9 +116,9 @@ begins_fitting b = record {
     few = lit≤ tt;
   };
   received = record { fed = []; received_are = sym (append-nil (b.line.received ++ []) ∙ append-nil b.line.received); bound = refl; deframes = past_none b.n1 };
-  sent = record { sent_are = refl; written = 0; of_last = refl };
-  told = record { outcomes_are = λ c. refl; callers = refl };
-  heard = record { lines_are = λ i k at. ap (map heard_as) (append-nil (at_place i b.desk.announced)) ∙ sym (append-nil (map heard_as (at_place i b.desk.announced))); listened = refl };
+  sent = record { since = []; sent_are = sym (append-nil b.line.sent); frames_are = refl; written = 0; of_last = refl };
+  told = record { each = λ c. record { since = []; told_are = sym (append-nil (at_place c b.desk.told)); outcomes_are = refl }; callers = refl };
+  heard = record { each = λ i k at. record { since = []; announced_are = sym (append-nil (at_place i b.desk.announced)); lines_are = refl }; listened = refl };
 }
 
 -- ## Requests

@@ -1,6 +1,6 @@
 -- The rows of sessions, computed.
 use Rattle.std.proofs.Common.{ap, sym, ◌∙◌, subst, arith, lit<, lit≤, length-drop}
-use Rattle.std.specs.Prelude.{◌≡◌, ℕ, ◌-◌, ◌<◌, ◌≤◌, ◌==◌, ◌&&◌, nat_lt, Bool, true, false, List, [], ◌∷◌, ◌++◌, length, take, drop, Some, None, refl}
+use Rattle.std.specs.Prelude.{◌≡◌, ℕ, ◌-◌, ◌<◌, ◌≤◌, ◌==◌, ◌&&◌, nat_lt, Bool, true, false, List, [], ◌∷◌, ◌++◌, length, map, take, drop, Some, None, refl}
 use Rattle.std.proofs.lemmas.Bool.{ltb-true, eq-eqb}
 use Rattle.mux_frame.specs.declared.frame.Kind.TheVariants.{Ua}
 use Rattle.mux_frame.specs.CheckOctet.{check_octet_of}
@@ -11,8 +11,14 @@ use Rattle.mux_frame.proofs.ReadingOn.{reads_on}
 use Rattle.mux_station.specs.declared.role.Role.TheVariants.{Responder}
 use Rattle.mux_station.specs.Written.{written}
 use Rattle.at_text.specs.declared.unsolicited.UrcKind.TheVariants.{Ring, Creg}
-use Rattle.modem_history.specs.Acts.{after}
-use Rattle.modem_history.specs.Sessions.{driving, gots, given_on, last_octets}
+use Rattle.modem_history.specs.Acts.{Act, after}
+use Rattle.std.proofs.lemmas.List.{append_assoc}
+use Rattle.at_text.specs.declared.unsolicited.UrcKind.{UrcKind}
+use Rattle.modem_desk.specs.declared.request.Outcome.{Outcome}
+use Rattle.modem_desk.specs.declared.request.Urc.{Urc}
+use Rattle.modem_history.specs.Kinds.{of_kind}
+use Rattle.modem_history.specs.Wholes.{outcomes}
+use Rattle.modem_history.specs.Sessions.{Beginning, SessionView, FitsSent, ToldTo, AnnouncedTo, octets_of_frames, of_caller, at_place, heards, heard_as, driving, gots, given_on, last_octets}
 use Rattle.modem_history.specs.SessionRows.{SessionRow, IsRight, IsWrong, Each, beginning, entry_answer, lf_octet, zero_came, one_came, ua_zero, broken_ua_zero, ring_one, last_flag}
 use Rattle.modem_history.specs.GoodSessions.{right_sessions, nothing_yet, sabm_queued, sabm_half_sent, ua_unfed, ua_at_hand, zero_opened, outcome_waits, request_aside, csq_sent, ring_announced, ring_waits, line_lost}
 use Rattle.modem_history.specs.BadSessions.{wrong_sessions, written_twice, octet_left_out, octet_waits_again, marked_too_early, marked_too_late, two_marked, data_overtakes_octets, data_overtakes_frame, broken_frame_got, got_too_soon, got_unfed, frame_dropped, flag_dropped, other_n1, request_dropped, aside_and_taken, request_invented, number_twice, caller_unknown, sound_line_lost, lost_twice, told_and_kept, outcome_dropped, told_to_another, told_in_other_order, not_told_at_all, announced_out_of_order, announced_elsewhere, announced_twice, unheard_line_waits}
@@ -87,31 +93,47 @@ all_right = (nothing_yet_right, (sabm_queued_right, (sabm_half_sent_right, (ua_u
 never : false ≡ true → ⊥
 never e = cc
 
+-- what was sent in all, and what waits
+sent_whole : (b : Beginning) (v : SessionView) (past : List Act) → FitsSent b v past → v.line.sent ++ v.unwritten ≡ b.line.sent ++ octets_of_frames (given_on past)
+sent_whole b v past f =
+    ap (λ (xs : List ℕ). xs ++ v.unwritten) f.sent_are
+    ∙ (append_assoc b.line.sent f.since v.unwritten ∙ ap (λ (xs : List ℕ). b.line.sent ++ xs) f.frames_are)
+
+-- what caller 0 was told, and what waits for it
+told_whole : (v : SessionView) (past : List Act) → ToldTo beginning v past 0 → at_place 0 v.desk.told ++ of_caller 0 v.unplaced ≡ of_caller 0 (outcomes past)
+told_whole v past f = ap (λ (os : List Outcome). os ++ of_caller 0 v.unplaced) f.told_are ∙ f.outcomes_are
+
+-- what a listener was announced, and what waits for it
+heard_whole : (v : SessionView) (past : List Act) (i : ℕ) (k : UrcKind) → at_place i beginning.desk.announced ≡ [] → AnnouncedTo beginning v past i k
+    → map heard_as (at_place i v.desk.announced ++ of_kind k v.unannounced) ≡ heards k past
+heard_whole v past i k none f =
+    ap (λ (us : List Urc). map heard_as (us ++ of_kind k v.unannounced)) (f.announced_are ∙ ap (λ (us : List Urc). us ++ f.since) none) ∙ f.lines_are
+
 -- ## Octets that leave
 
 written_twice_wrong : IsWrong written_twice
 unfolding check_octet_of body_of
-written_twice_wrong f = octets_differ _ _ refl f.sent.sent_are
+written_twice_wrong f = octets_differ _ _ refl (sent_whole _ _ _ f.sent)
 
 octet_left_out_wrong : IsWrong octet_left_out
 unfolding check_octet_of body_of
-octet_left_out_wrong f = octets_differ _ _ refl f.sent.sent_are
+octet_left_out_wrong f = octets_differ _ _ refl (sent_whole _ _ _ f.sent)
 
 octet_waits_again_wrong : IsWrong octet_waits_again
 unfolding check_octet_of body_of
-octet_waits_again_wrong f = octets_differ _ _ refl f.sent.sent_are
+octet_waits_again_wrong f = octets_differ _ _ refl (sent_whole _ _ _ f.sent)
 
 marked_too_early_wrong : IsWrong marked_too_early
 unfolding check_octet_of body_of
-marked_too_early_wrong f = octets_differ _ _ refl f.sent.sent_are
+marked_too_early_wrong f = octets_differ _ _ refl (sent_whole _ _ _ f.sent)
 
 marked_too_late_wrong : IsWrong marked_too_late
 unfolding check_octet_of body_of
-marked_too_late_wrong f = octets_differ _ _ refl f.sent.sent_are
+marked_too_late_wrong f = octets_differ _ _ refl (sent_whole _ _ _ f.sent)
 
 data_overtakes_octets_wrong : IsWrong data_overtakes_octets
 unfolding check_octet_of body_of
-data_overtakes_octets_wrong f = octets_differ _ _ refl f.sent.sent_are
+data_overtakes_octets_wrong f = octets_differ _ _ refl (sent_whole _ _ _ f.sent)
 
 data_overtakes_frame_wrong : IsWrong data_overtakes_frame
 data_overtakes_frame_wrong f = refused (driving beginning) (after [] data_overtakes_frame.acts) refl f.history.lawful
@@ -189,16 +211,16 @@ number_twice_wrong f = never f.requests.once
 -- ## Outcomes
 
 told_and_kept_wrong : IsWrong told_and_kept
-told_and_kept_wrong f = outcomes_differ _ _ refl (f.told.outcomes_are 0)
+told_and_kept_wrong f = outcomes_differ _ _ refl (told_whole _ _ (f.told.each 0))
 
 outcome_dropped_wrong : IsWrong outcome_dropped
-outcome_dropped_wrong f = outcomes_differ _ _ refl (f.told.outcomes_are 0)
+outcome_dropped_wrong f = outcomes_differ _ _ refl (told_whole _ _ (f.told.each 0))
 
 told_to_another_wrong : IsWrong told_to_another
-told_to_another_wrong f = outcomes_differ _ _ refl (f.told.outcomes_are 0)
+told_to_another_wrong f = outcomes_differ _ _ refl (told_whole _ _ (f.told.each 0))
 
 told_in_other_order_wrong : IsWrong told_in_other_order
-told_in_other_order_wrong f = outcomes_differ _ _ refl (f.told.outcomes_are 0)
+told_in_other_order_wrong f = outcomes_differ _ _ refl (told_whole _ _ (f.told.each 0))
 
 not_told_at_all_wrong : IsWrong not_told_at_all
 not_told_at_all_wrong f = incomplete (driving beginning) (after [] not_told_at_all.acts) refl f.history.complete
@@ -206,13 +228,13 @@ not_told_at_all_wrong f = incomplete (driving beginning) (after [] not_told_at_a
 -- ## Lines
 
 announced_out_of_order_wrong : IsWrong announced_out_of_order
-announced_out_of_order_wrong f = acts_differ _ _ refl (f.heard.lines_are 1 Creg refl)
+announced_out_of_order_wrong f = acts_differ _ _ refl (heard_whole _ _ 1 Creg refl (f.heard.each 1 Creg refl))
 
 announced_elsewhere_wrong : IsWrong announced_elsewhere
-announced_elsewhere_wrong f = acts_differ _ _ refl (f.heard.lines_are 0 Ring refl)
+announced_elsewhere_wrong f = acts_differ _ _ refl (heard_whole _ _ 0 Ring refl (f.heard.each 0 Ring refl))
 
 announced_twice_wrong : IsWrong announced_twice
-announced_twice_wrong f = acts_differ _ _ refl (f.heard.lines_are 0 Ring refl)
+announced_twice_wrong f = acts_differ _ _ refl (heard_whole _ _ 0 Ring refl (f.heard.each 0 Ring refl))
 
 unheard_line_waits_wrong : IsWrong unheard_line_waits
 unheard_line_waits_wrong f = never f.heard.listened

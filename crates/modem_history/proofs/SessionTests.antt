@@ -29,7 +29,7 @@ use Rattle.modem_history.specs.Wholes.{CompleteCalls, is_said, taken, outcomes}
 use Rattle.modem_history.specs.Requests.{are_distinct}
 use Rattle.modem_history.specs.Kinds.{is_listened, of_kind}
 use Rattle.modem_history.specs.Entering.{entry_text}
-use Rattle.modem_history.specs.Sessions.{Beginning, driving, gots, given_on, octets_of_frames, last_octets, heards, heard_as, IsHistory, TakesWithRoom, of_caller, at_place}
+use Rattle.modem_history.specs.Sessions.{Beginning, AnnouncedTo, driving, gots, given_on, octets_of_frames, last_octets, heards, heard_as, IsHistory, TakesWithRoom, of_caller, at_place}
 use Rattle.modem_history.specs.SessionRows.{SessionRow, IsRight, beginning, entry_answer}
 use Rattle.modem_history.proofs.Decided.{good, steps_of, steps_test, run, quiet_test, is_nil, act_code}
 
@@ -184,11 +184,10 @@ other_callers n c (o ∷ os) le h =
     passed_over (λ (o : Outcome). o.caller == c) o os (other_caller n o.caller c (o.caller == c) refl (ltb-true o.caller n parts.0) le) (other_callers n c os le parts.1)
 
 -- told, waiting and said to two callers
-pub record OfTwo (told before : List (List Outcome)) (waiting said : List Outcome) : Type 0 where
-  pub zero : at_place 0 told ++ of_caller 0 waiting ≡ at_place 0 before ++ of_caller 0 said
-  pub one : at_place 1 told ++ of_caller 1 waiting ≡ at_place 1 before ++ of_caller 1 said
+pub record OfTwo (told : List (List Outcome)) (waiting said : List Outcome) : Type 0 where
+  pub zero : at_place 0 told ++ of_caller 0 waiting ≡ of_caller 0 said
+  pub one : at_place 1 told ++ of_caller 1 waiting ≡ of_caller 1 said
   pub told_two : nat_le (length told) 2 ≡ true
-  pub before_two : nat_le (length before) 2 ≡ true
   pub waiting_two : list_all (λ (o : Outcome). nat_lt o.caller 2) waiting ≡ true
   pub said_two : list_all (λ (o : Outcome). nat_lt o.caller 2) said ≡ true
 
@@ -200,12 +199,18 @@ nothing_beyond xss os c few le h =
     rw e f
 
 -- is all that is told to any caller
-pub told_is : (told before : List (List Outcome)) (waiting said : List Outcome) → OfTwo told before waiting said → (c : ℕ) → at_place c told ++ of_caller c waiting ≡ at_place c before ++ of_caller c said
-told_is told before waiting said two zero = two.zero
-told_is told before waiting said two (suc zero) = two.one
-told_is told before waiting said two (suc (suc c)) =
+pub told_is : (told : List (List Outcome)) (waiting said : List Outcome) → OfTwo told waiting said → (c : ℕ) → at_place c told ++ of_caller c waiting ≡ of_caller c said
+told_is told waiting said two zero = two.zero
+told_is told waiting said two (suc zero) = two.one
+told_is told waiting said two (suc (suc c)) =
     nothing_beyond told waiting (suc (suc c)) two.told_two (omega arith) two.waiting_two
-    ∙ sym (nothing_beyond before said (suc (suc c)) two.before_two (omega arith) two.said_two)
+    ∙ sym (other_callers 2 (suc (suc c)) said (omega arith) two.said_two)
+
+-- nothing was told before
+pub nothing_before : (c : ℕ) → at_place c beginning.desk.told ≡ []
+nothing_before zero = refl
+nothing_before (suc zero) = refl
+nothing_before (suc (suc c)) = get_or_past beginning.desk.told (suc (suc c)) [] (omega arith)
 
 -- ## Listeners
 
@@ -251,6 +256,7 @@ pub record Sides : Type 0 where
   pub received : List ℕ
   pub bound : ℕ
   pub sent : List ℕ
+  pub left : List ℕ
   pub unwritten : List ℕ
   pub told_zero : List Outcome
   pub told_one : List Outcome
@@ -266,7 +272,8 @@ seen_side row =
       requests = v.desk.taken;
       received = v.line.received;
       bound = v.deframer.n1;
-      sent = v.line.sent ++ v.unwritten;
+      sent = v.line.sent;
+      left = drop (length entry_text) v.line.sent ++ v.unwritten;
       unwritten = v.unwritten;
       told_zero = at_place 0 v.desk.told ++ of_caller 0 v.unplaced;
       told_one = at_place 1 v.desk.told ++ of_caller 1 v.unplaced;
@@ -283,7 +290,8 @@ told_side row fed written =
       requests = taken past ++ option_to_list row.view.aside;
       received = entry_answer ++ fed ++ row.view.unfed;
       bound = 31;
-      sent = entry_text ++ octets_of_frames (given_on past);
+      sent = entry_text ++ drop (length entry_text) row.view.line.sent;
+      left = octets_of_frames (given_on past);
       unwritten = drop written (last_octets (given_on past));
       told_zero = of_caller 0 (outcomes past);
       told_one = of_caller 1 (outcomes past);
@@ -314,20 +322,32 @@ fits_by row fed written h e deframes =
       loss = record { one = leb-true _ 1 lost.0; by_fault = λ gone. lost_by (is_lost (after [] row.acts)) row.view.line.failures lost.1 gone };
       requests = record { taken_are = ap (λ (x : Sides). x.requests) e; once = p5.0; callers = p6.0; few = leb-true _ 128 p7.0 };
       received = record { fed = fed; received_are = ap (λ (x : Sides). x.received) e; bound = ap (λ (x : Sides). x.bound) e; deframes = deframes };
-      sent = record { sent_are = ap (λ (x : Sides). x.sent) e; written = written; of_last = ap (λ (x : Sides). x.unwritten) e };
+      sent = record {
+        since = drop (length entry_text) row.view.line.sent;
+        sent_are = ap (λ (x : Sides). x.sent) e;
+        frames_are = ap (λ (x : Sides). x.left) e;
+        written = written;
+        of_last = ap (λ (x : Sides). x.unwritten) e;
+      };
       told = record {
-        outcomes_are = told_is row.view.desk.told ([] ∷ [] ∷ []) row.view.unplaced (outcomes (after [] row.acts)) (record {
-          zero = ap (λ (x : Sides). x.told_zero) e;
-          one = ap (λ (x : Sides). x.told_one) e;
-          told_two = p9.0;
-          before_two = refl;
-          waiting_two = p10.0;
-          said_two = p10.1;
-        });
+        each = λ c. record {
+          since = at_place c row.view.desk.told;
+          told_are = sym (ap (λ (xs : List Outcome). xs ++ at_place c row.view.desk.told) (nothing_before c));
+          outcomes_are = told_is row.view.desk.told row.view.unplaced (outcomes (after [] row.acts)) (record {
+            zero = ap (λ (x : Sides). x.told_zero) e;
+            one = ap (λ (x : Sides). x.told_one) e;
+            told_two = p9.0;
+            waiting_two = p10.0;
+            said_two = p10.1;
+          }) c;
+        };
         callers = p10.0;
       };
       heard = record {
-        lines_are = at_each (λ i k. map heard_as (at_place i row.view.desk.announced ++ of_kind k row.view.unannounced) ≡ map heard_as (at_place i beginning.desk.announced) ++ heards k (after [] row.acts)) (Ring ∷ Creg ∷ []) (ap (λ (x : Sides). x.rings) e, (ap (λ (x : Sides). x.cregs) e, tt));
+        each = at_each (AnnouncedTo beginning row.view (after [] row.acts)) (Ring ∷ Creg ∷ []) (
+          record { since = at_place 0 row.view.desk.announced; announced_are = refl; lines_are = ap (λ (x : Sides). x.rings) e },
+          (record { since = at_place 1 row.view.desk.announced; announced_are = refl; lines_are = ap (λ (x : Sides). x.cregs) e }, tt),
+        );
         listened = p8.0;
       };
     }

@@ -153,24 +153,36 @@ pub record FitsReceived (b : Beginning) (v : SessionView) (past : List Act) : Ty
   pub bound : v.deframer.n1 ≡ b.n1
   pub deframes : Deframes fed (gots past) v.deframer
 
--- Octets that leave: those sent, and then those that wait, are the frames given on, each spelled between its two flags;
--- what waits is of the last of them alone.
+-- Octets that leave: those sent since the session began, and then those that wait, are the frames given on, each spelled
+-- between its two flags; what waits is of the last of them alone.
 pub record FitsSent (b : Beginning) (v : SessionView) (past : List Act) : Type 0 where
-  pub sent_are : v.line.sent ++ v.unwritten ≡ b.line.sent ++ octets_of_frames (given_on past)
+  pub since : List ℕ
+  pub sent_are : v.line.sent ≡ b.line.sent ++ since
+  pub frames_are : since ++ v.unwritten ≡ octets_of_frames (given_on past)
   pub written : ℕ
   pub of_last : v.unwritten ≡ drop written (last_octets (given_on past))
 
--- what each caller was told at the desk, and then what waits for it, are its outcomes of the history; and none waits for
--- a caller that the desk hasn't
+-- what a caller was told since the session began, and then what waits for it, are its outcomes of the history
+pub record ToldTo (b : Beginning) (v : SessionView) (past : List Act) (c : ℕ) : Type 0 where
+  pub since : List Outcome
+  pub told_are : at_place c v.desk.told ≡ at_place c b.desk.told ++ since
+  pub outcomes_are : since ++ of_caller c v.unplaced ≡ of_caller c (outcomes past)
+
+-- that is so of each caller, and none waits for a caller that the desk hasn't
 pub record FitsTold (b : Beginning) (v : SessionView) (past : List Act) : Type 0 where
-  pub outcomes_are : (c : ℕ) → at_place c v.desk.told ++ of_caller c v.unplaced ≡ at_place c b.desk.told ++ of_caller c (outcomes past)
+  pub each : (c : ℕ) → ToldTo b v past c
   pub callers : list_all (λ (o : Outcome). nat_lt o.caller (length b.desk.told)) v.unplaced ≡ true
 
--- what each listener was announced, and then what waits of its kind, are the lines of that kind that the history
--- heard; and no line waits that nobody listens to
+-- what the i-th listener, that of kind k, was announced since the session began, and then what waits of its kind, are the
+-- lines of that kind that the history heard
+pub record AnnouncedTo (b : Beginning) (v : SessionView) (past : List Act) (i : ℕ) (k : UrcKind) : Type 0 where
+  pub since : List Urc
+  pub announced_are : at_place i v.desk.announced ≡ at_place i b.desk.announced ++ since
+  pub lines_are : map heard_as (since ++ of_kind k v.unannounced) ≡ heards k past
+
+-- that is so of each listener, and no line waits that nobody listens to
 pub record FitsHeard (b : Beginning) (v : SessionView) (past : List Act) : Type 0 where
-  pub lines_are : (i : ℕ) (k : UrcKind) → get_elem? b.kinds i ≡ some k
-      → map heard_as (at_place i v.desk.announced ++ of_kind k v.unannounced) ≡ map heard_as (at_place i b.desk.announced) ++ heards k past
+  pub each : (i : ℕ) (k : UrcKind) → get_elem? b.kinds i ≡ some k → AnnouncedTo b v past i k
   pub listened : list_all (λ (u : Urc). is_listened b.kinds u.kind) v.unannounced ≡ true
 
 -- the session fits the history
