@@ -2,7 +2,7 @@
 use Rattle.std.proofs.Common.{ap, sym, ◌∙◌, subst, arith, lit≤}
 use Rattle.std.proofs.lemmas.List.{append-nil, append_assoc, append_cancel_left}
 use Rattle.std.proofs.lemmas.List.Concat.{flat_map-append}
-use Rattle.std.specs.Prelude.{◌≡◌, option_to_list, true, false, nat_lt, map, ℕ, List, [], ◌∷◌, ◌++◌, length, drop, refl}
+use Rattle.std.specs.Prelude.{◌≡◌, option_to_list, true, false, nat_lt, ℕ, List, [], ◌∷◌, ◌++◌, length, drop, refl, filter, ◌≤◌}
 use Rattle.mux_frame.specs.Frames.{Frame}
 use Rattle.mux_frame.specs.Spelling.{spelled}
 use Rattle.mux_frame.specs.Laws.{AreOctets}
@@ -11,16 +11,21 @@ use Rattle.mux_frame.proofs.Slow.{found_in, found_reads, octets_both}
 use Rattle.mux_frame.proofs.Pasts.{past_none}
 use Rattle.modem_desk.specs.declared.request.Request.{Request}
 use Rattle.std.proofs.Math.Seq.{drop-append_seam}
-use Rattle.modem_history.specs.Acts.{Act, after, in_hand}
-use Rattle.modem_history.specs.Wholes.{taken}
+use Rattle.modem_history.specs.Acts.{Act, after, is_for, in_hand}
+use Rattle.modem_history.specs.Wholes.{taken, outcomes}
+use Rattle.modem_desk.specs.declared.request.Outcome.{Outcome}
+use Rattle.modem_history.proofs.Outcomes.{answers_once}
+use Rattle.modem_history.proofs.ToldOnce.{of_its_caller, uses_once}
 use Rattle.modem_history.proofs.AfterActs.{after_both}
 use Rattle.modem_history.proofs.Untold.{hand_is}
 use Rattle.modem_history.proofs.Stays.{distinct_front}
 use Rattle.modem_history.specs.Requests.{are_distinct}
 use Rattle.std.specs.List.{list_all}
 use Rattle.modem_history.specs.Lawful.{Lawful, Complete}
-use Rattle.modem_history.specs.Sessions.{Beginning, SessionView, SessionFits, FitsSent, AreOnce, driving, taken_since, gots, given_on, octets_of_frames, heard_as, at_place}
-use Rattle.modem_history.specs.SessionLaws.{BeginsFitting, GotAreRead, SendsSpellings, HasMarks, FitsSays, RunsOn, KeepsHistory, untold}
+use Rattle.modem_history.specs.Sessions.{Beginning, SessionView, SessionFits, FitsSent, AreOnce, driving, taken_since, gots, given_on, octets_of_frames, at_place, of_caller}
+use Rattle.modem_history.specs.SessionLaws.{BeginsFitting, GotAreRead, SendsSpellings, HasMarks, TellsOnce, FitsSays, RunsOn, KeepsHistory, untold}
+use Rattle.modem_history.specs.SessionRows.{HasNone, beginning, first_request, opened_zero}
+use Rattle.modem_history.specs.BadSessions.{told_and_kept}
 use Rattle.modem_history.proofs.LineOrder.{gives_in_order}
 
 never : false ≡ true → ⊥
@@ -134,6 +139,16 @@ hand_is_untold b v past f =
     let once : are_distinct (taken past ++ option_to_list v.aside) ≡ true = sym (ap are_distinct (since_are b v past f)) ∙ f.requests.once in
     hand_is (driving b) past f.history.lawful (distinct_front (taken past) (option_to_list v.aside) once).0
 
+pub tells_once : (b : Beginning) (v : SessionView) (past : List Act) → SessionFits b v past → TellsOnce b v
+tells_once b v past f r since e =
+    let to = f.told.each r.caller in
+    let same : since ≡ to.since = append_cancel_left (at_place r.caller b.desk.told) since to.since (sym e ∙ to.told_are) in
+    let whole : since ++ of_caller r.caller v.unplaced ≡ of_caller r.caller (outcomes past) = ap (λ (os : List Outcome). os ++ of_caller r.caller v.unplaced) same ∙ to.outcomes_are in
+    let theirs : filter (λ o. is_for r o) (since ++ of_caller r.caller v.unplaced) ≡ filter (λ o. is_for r o) (outcomes past) = ap (filter (λ o. is_for r o)) whole ∙ of_its_caller r (outcomes past) in
+    let distinct : are_distinct (taken past ++ option_to_list v.aside) ≡ true = sym (ap are_distinct (since_are b v past f)) ∙ f.requests.once in
+    let few = (answers_once (driving b) past f.history.lawful).once (uses_once (taken past) (distinct_front (taken past) (option_to_list v.aside) distinct).0) r in
+    subst (λ (os : List Outcome). length os ≤ 1) (sym theirs) few
+
 pub fits_says : (b : Beginning) (v : SessionView) (past : List Act) → FitsSays b v past
 unfolding FitsSays
 fits_says b v past f = record {
@@ -142,6 +157,7 @@ fits_says b v past f = record {
   spelled = sends_spellings b v past f;
   marked = has_marks b v past f;
   in_hand = hand_is_untold b v past f;
+  once = tells_once b v past f;
 }
 
 -- ## Calls
@@ -181,3 +197,9 @@ runs_on b old mid new first second = record {
 pub keeps_history : (b : Beginning) (old new : SessionView) → KeepsHistory b old new
 unfolding KeepsHistory
 keeps_history b old new h g once = record { past = after h.past g.acts; fits = g.goes h.past once h.fits }
+
+-- an outcome that was told and waits again has no history
+pub kept_has_none : HasNone told_and_kept
+kept_has_none h =
+    let few : 2 ≤ 1 = tells_once beginning told_and_kept.view h.past h.fits first_request opened_zero refl in
+    omega arith

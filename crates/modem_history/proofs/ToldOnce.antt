@@ -1,12 +1,11 @@
 -- No session tells an outcome twice.
-use Rattle.std.proofs.Common.{ap, sym, ◌∙◌, subst, arith, eqb-true}
+use Rattle.std.proofs.Common.{ap, sym, ◌∙◌, arith, eqb-true}
 use Rattle.std.proofs.lemmas.Bool.{and_parts, eq-eqb}
-use Rattle.std.proofs.Math.Seq.{drop-append_seam}
-use Rattle.std.specs.Prelude.{◌≡◌, ℕ, ◌≤◌, ◌==◌, ◌&&◌, not, Bool, true, false, List, [], ◌∷◌, ◌++◌, length, drop, filter, refl, if◌then◌else◌}
+use Rattle.std.specs.Prelude.{◌≡◌, ◌≤◌, ◌==◌, ◌&&◌, not, Bool, true, false, List, [], ◌∷◌, length, filter, refl, if◌then◌else◌}
 use Rattle.std.specs.List.{list_all}
 use Rattle.modem_desk.specs.declared.request.Request.{Request}
 use Rattle.modem_desk.specs.declared.request.Outcome.{Outcome}
-use Rattle.modem_history.specs.Acts.{Act, is_for}
+use Rattle.modem_history.specs.Acts.{is_for}
 use Rattle.modem_history.specs.Requests.{is_apart, are_distinct}
 use Rattle.modem_history.specs.Wholes.{UsesOnce, is_same}
 use Rattle.modem_history.specs.Sessions.{of_caller}
@@ -56,7 +55,7 @@ uses_once (q ∷ qs) d r =
     by_test false e apart few = let same : length (filter (is_same r) (q ∷ qs)) ≡ length (filter (is_same r) qs) = ap length (passed (is_same r) q qs e) in omega arith
 
 -- the outcomes of a request are among those of its caller
-of_its_caller : (r : Request) (os : List Outcome) → filter (λ o. is_for r o) (of_caller r.caller os) ≡ filter (λ o. is_for r o) os
+pub of_its_caller : (r : Request) (os : List Outcome) → filter (λ o. is_for r o) (of_caller r.caller os) ≡ filter (λ o. is_for r o) os
 of_its_caller r [] = refl
 of_its_caller r (o ∷ os) = by_tests (o.caller == r.caller) (is_for r o) refl refl (of_its_caller r os)
   where

@@ -1,15 +1,16 @@
 -- What it says of a session that it fits a history.
-use Rattle.std.specs.Prelude.{◌≡◌, ℕ, not, false, List, [], ◌++◌, filter, None}
+use Rattle.std.specs.Prelude.{◌≡◌, ℕ, not, false, List, [], ◌++◌, filter, None, length, ◌≤◌}
 use Rattle.std.specs.List.{list_any}
 use Rattle.mux_frame.specs.Frames.{Frame}
 use Rattle.mux_frame.specs.Reading.{Reads}
 use Rattle.mux_frame.specs.Laws.{AreOctets}
 use Rattle.mux_station.specs.Sending.{queue}
 use Rattle.modem_desk.specs.declared.request.Request.{Request}
+use Rattle.modem_desk.specs.declared.request.Outcome.{Outcome}
 use Rattle.modem_history.specs.Acts.{Act, wire, is_for, in_hand}
 use Rattle.modem_history.specs.Calls.{is_lost}
 use Rattle.modem_history.specs.Wholes.{taken, outcomes}
-use Rattle.modem_history.specs.Sessions.{Beginning, SessionView, SessionFits, HasHistory, AreOnce, Goes, gots, sents, given_on, octets_of_frames}
+use Rattle.modem_history.specs.Sessions.{Beginning, SessionView, SessionFits, HasHistory, AreOnce, Goes, gots, sents, given_on, octets_of_frames, of_caller, at_place}
 
 -- a session that has done nothing yet
 abbrev pub fresh : Beginning → SessionView
@@ -71,6 +72,12 @@ untold past = filter (λ r. not (list_any (λ o. is_for r o) (outcomes past))) (
 abbrev pub HandIsUntold : List Act → Type 0
 HandIsUntold past = in_hand past ≡ untold past
 
+-- no request has two outcomes among those that its caller was told since the session began and those that wait for it
+abbrev pub TellsOnce : Beginning → SessionView → Type 0
+TellsOnce b v =
+    (r : Request) (since : List Outcome)
+    → at_place r.caller v.desk.told ≡ at_place r.caller b.desk.told ++ since → length (filter (λ o. is_for r o) (since ++ of_caller r.caller v.unplaced)) ≤ 1
+
 -- what it says that a session fits a history
 pub record Says (b : Beginning) (v : SessionView) (past : List Act) : Type 0 where
   pub read : AreOctets v.unfed → GotAreRead b v past
@@ -78,6 +85,7 @@ pub record Says (b : Beginning) (v : SessionView) (past : List Act) : Type 0 whe
   pub spelled : SendsSpellings b v past
   pub marked : HasMarks b v past
   pub in_hand : HandIsUntold past
+  pub once : TellsOnce b v
 
 unfoldable pub FitsSays : Beginning → SessionView → List Act → Type 0
 FitsSays b v past = SessionFits b v past → Says b v past

@@ -7,14 +7,14 @@ ghost use Rattle.modem_history.specs.BadRows.{NotItsOwn, refused_rows, incomplet
 ghost use Rattle.modem_history.specs.GoodRows.{good_rows};
 ghost use Rattle.modem_history.specs.Sessions.{Beginning, SessionView};
 ghost use Rattle.modem_history.specs.SessionLaws.{BeginsFitting, FitsSays, KeepsHistory, RunsOn};
-ghost use Rattle.modem_history.specs.SessionRows.{Each, IsRight, IsWrong, IsWrongTurn};
+ghost use Rattle.modem_history.specs.SessionRows.{Each, HasNone, IsRight, IsWrong, IsWrongTurn};
 ghost use Rattle.modem_history.specs.GoodTurns.{AreRightTurns};
 ghost use Rattle.modem_history.specs.BadTurns.{wrong_turns};
 ghost use Rattle.modem_history.specs.FaultRows.{AreRightFaults, IsRightTick, IsWrongFault, IsWrongTick, right_ticks, wrong_faults, wrong_ticks};
 ghost use Rattle.modem_history.specs.EntryRows.{IsRightEntry, IsWrongEntry, right_entries, wrong_entries};
 ghost use Rattle.modem_history.specs.FinishRows.{IsRightEnd, IsWrongEnd, right_ends, wrong_ends};
 ghost use Rattle.modem_history.specs.GoodSessions.{right_sessions};
-ghost use Rattle.modem_history.specs.BadSessions.{wrong_sessions};
+ghost use Rattle.modem_history.specs.BadSessions.{told_and_kept, wrong_sessions};
 ghost use Rattle.modem_history.specs.Rows.{AllAre, IsGood, IsIncomplete, IsRefused, IsUnquiet};
 ghost use Rattle.modem_history.specs.Wholes.{AnswersOnce, BeginsInTurn, CallGoesOn, IsBeginning, LeavesOnce, NoneAfterLoss, StaysInStep, TellsAnswers, TellsOwn};
 
@@ -59,7 +59,7 @@ pub fn worked_examples()
 /// A new session fits the empty history. Of every session and each history that it fits: the frames got are the first
 /// that are read in the octets received since it began; the octets sent are the first of the spellings of the frames
 /// sent, in order; those frames that are wholly among them were given on; and the requests in hand are those taken and
-/// not told. Calls that go on one after the other are as one call, and after a call there is a history where there was
+/// not told; and no caller is told an outcome twice. Calls that go on one after the other are as one call, and after a call there is a history where there was
 /// one before it.
 #[tactic(auto, using(crate::proofs::SessionLawFacts::begins_fitting, crate::proofs::SessionLawFacts::fits_says, crate::proofs::SessionLawFacts::runs_on, crate::proofs::SessionLawFacts::keeps_history))]
 pub fn sessions()
@@ -71,10 +71,11 @@ pub fn sessions()
 
 /// Worked sessions, turns, faults, ticks, entries and ends, computed by the definitions: those of a right driver, and
 /// those that don't fit what happened or don't mean what they say.
-#[tactic(auto, using(crate::proofs::SessionRowFacts::all_right, crate::proofs::SessionRowFacts::all_wrong, crate::proofs::GoodTurnFacts::are_right, crate::proofs::BadTurnFacts::all_wrong_turns, crate::proofs::EntryRowFacts::all_right_entries, crate::proofs::EntryRowFacts::all_wrong_entries, crate::proofs::EntryRowFacts::all_right_ends, crate::proofs::EntryRowFacts::all_wrong_ends, crate::proofs::FaultRowFacts::are_right_faults, crate::proofs::FaultRowFacts::all_wrong_faults, crate::proofs::FaultRowFacts::all_right_ticks, crate::proofs::FaultRowFacts::all_wrong_ticks))]
+#[tactic(auto, using(crate::proofs::SessionRowFacts::all_right, crate::proofs::SessionRowFacts::all_wrong, crate::proofs::SessionLawFacts::kept_has_none, crate::proofs::GoodTurnFacts::are_right, crate::proofs::BadTurnFacts::all_wrong_turns, crate::proofs::EntryRowFacts::all_right_entries, crate::proofs::EntryRowFacts::all_wrong_entries, crate::proofs::EntryRowFacts::all_right_ends, crate::proofs::EntryRowFacts::all_wrong_ends, crate::proofs::FaultRowFacts::are_right_faults, crate::proofs::FaultRowFacts::all_wrong_faults, crate::proofs::FaultRowFacts::all_right_ticks, crate::proofs::FaultRowFacts::all_wrong_ticks))]
 pub fn session_examples()
     ensures fit { Each IsRight right_sessions }
     ensures unfit { Each IsWrong wrong_sessions }
+    ensures none { HasNone told_and_kept }
     ensures turns { AreRightTurns }
     ensures wrong_turns { Each IsWrongTurn wrong_turns }
     ensures faults { AreRightFaults }
