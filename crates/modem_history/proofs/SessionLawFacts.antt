@@ -22,7 +22,7 @@ use Rattle.modem_history.proofs.Stays.{distinct_front}
 use Rattle.modem_history.specs.Requests.{are_distinct}
 use Rattle.std.specs.List.{list_all}
 use Rattle.modem_history.specs.Lawful.{Lawful, Complete}
-use Rattle.modem_history.specs.Sessions.{Beginning, SessionView, SessionFits, FitsSent, AreOnce, driving, taken_since, gots, given_on, octets_of_frames, at_place, of_caller}
+use Rattle.modem_history.specs.Sessions.{Beginning, SessionView, SessionFits, FitsSent, FitsWith, AreOnce, driving, taken_since, gots, given_on, octets_of_frames, at_place, of_caller}
 use Rattle.modem_history.specs.SessionLaws.{BeginsFitting, GotAreRead, SendsSpellings, HasMarks, TellsOnce, FitsSays, RunsOn, KeepsHistory, untold}
 use Rattle.modem_history.specs.SessionRows.{HasNone, beginning, first_request, opened_zero}
 use Rattle.modem_history.specs.BadSessions.{told_and_kept}
@@ -182,24 +182,22 @@ once_between b old mid new past xs ys f e h once =
     ∙ ap (λ (qs : List Request). qs ++ ys) (sym (since_more b old mid past xs f e))) in
     (distinct_front (taken_since b mid) ys (sym (ap are_distinct since) ∙ once)).0
 
-pub runs_on : (b : Beginning) (old mid new : SessionView) → RunsOn b old mid new
-unfolding RunsOn
-runs_on b old mid new first second = record {
-  acts = first.acts ++ second.acts;
-  more = first.more ++ second.more;
-  takes_more = second.takes_more ∙ (ap (λ (qs : List Request). qs ++ second.more) first.takes_more ∙ append_assoc old.desk.taken first.more second.more);
+pub runs_on : (b : Beginning) (old mid new : SessionView) (first second third : List Act → Type 0) → RunsOn b old mid new first second third
+runs_on b old mid new first second third one other = record {
+  acts = one.acts ++ other.acts;
+  more = one.more ++ other.more;
+  takes_more = other.takes_more ∙ (ap (λ (qs : List Request). qs ++ other.more) one.takes_more ∙ append_assoc old.desk.taken one.more other.more);
   goes = λ past once f.
-      let between = once_between b old mid new past first.more second.more f first.takes_more second.takes_more once in
-      let there = second.goes (after past first.acts) once (first.goes past between f) in
-      subst (SessionFits b new) (sym (after_both first.acts second.acts past)) there;
+      let between = once_between b old mid new past one.more other.more f.session one.takes_more other.takes_more once in
+      let there = other.goes (after past one.acts) once (one.goes past between f) in
+      subst (FitsWith b new third) (sym (after_both one.acts other.acts past)) there;
 }
 
-pub keeps_history : (b : Beginning) (old new : SessionView) → KeepsHistory b old new
-unfolding KeepsHistory
-keeps_history b old new h g once = record { past = after h.past g.acts; fits = g.goes h.past once h.fits }
+pub keeps_history : (b : Beginning) (old new : SessionView) (core later : List Act → Type 0) → KeepsHistory b old new core later
+keeps_history b old new core later h g once = record { past = after h.past g.acts; fits = g.goes h.past once h.fits }
 
 -- an outcome that was told and waits again has no history
 pub kept_has_none : HasNone told_and_kept
-kept_has_none h =
-    let few : 2 ≤ 1 = tells_once beginning told_and_kept.view h.past h.fits first_request opened_zero refl in
+kept_has_none past fits =
+    let few : 2 ≤ 1 = tells_once beginning told_and_kept.view past fits first_request opened_zero refl in
     omega arith

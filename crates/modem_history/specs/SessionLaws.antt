@@ -93,9 +93,9 @@ FitsSays b v past = SessionFits b v past → Says b v past
 -- ## Calls
 
 -- one call after another is as one call
-unfoldable pub RunsOn : Beginning → SessionView → SessionView → SessionView → Type 0
-RunsOn b old mid new = Goes b old mid → Goes b mid new → Goes b old new
+abbrev pub RunsOn : Beginning → (old mid new : SessionView) → (first second third : List Act → Type 0) → Type 0
+RunsOn b old mid new first second third = Goes b old mid first second → Goes b mid new second third → Goes b old new first third
 
 -- what had a history has one after a call, where no caller used a number twice
-unfoldable pub KeepsHistory : Beginning → SessionView → SessionView → Type 0
-KeepsHistory b old new = HasHistory b old → Goes b old new → AreOnce b new → HasHistory b new
+abbrev pub KeepsHistory : Beginning → (old new : SessionView) → (core later : List Act → Type 0) → Type 0
+KeepsHistory b old new core later = HasHistory b old core → Goes b old new core later → AreOnce b new → HasHistory b new later

@@ -11,7 +11,7 @@ use Rattle.modem_desk.specs.declared.request.Outcome.{Outcome}
 use Rattle.modem_desk.specs.declared.request.Urc.{Urc}
 use Rattle.modem_history.specs.Acts.{Act, after}
 use Rattle.modem_history.specs.Entering.{entry_text}
-use Rattle.modem_history.specs.Sessions.{Beginning, SessionView, SessionFits, HasHistory}
+use Rattle.modem_history.specs.Sessions.{Beginning, SessionView, SessionFits}
 use Rattle.modem_history.specs.Turns.{Dealings, TurnAnswer, IsTurn}
 use Rattle.modem_history.specs.Rows.{zero, one, two, asks}
 
@@ -151,7 +151,7 @@ IsWrong row = ¬ SessionFits beginning row.view (after [] row.acts)
 
 -- whatever its history
 abbrev pub HasNone : SessionRow → Type 0
-HasNone row = ¬ HasHistory beginning row.view
+HasNone row = (past : List Act) → ¬ SessionFits beginning row.view past
 
 -- ## Turns
 

@@ -195,21 +195,27 @@ pub record SessionFits (b : Beginning) (v : SessionView) (past : List Act) : Typ
   pub told : FitsTold b v past
   pub heard : FitsHeard b v past
 
--- there is one
-pub record HasHistory (b : Beginning) (v : SessionView) : Type 0 where
+-- The session fits the history, and so does what else it keeps, of which nothing is seen here: which histories its core
+-- fits. (Ticks since a probe was sent leave no trace in what is seen.)
+pub record FitsWith (b : Beginning) (v : SessionView) (core : List Act → Type 0) (past : List Act) : Type 0 where
+  pub session : SessionFits b v past
+  pub inside : core past
+
+-- there is such a history
+pub record HasHistory (b : Beginning) (v : SessionView) (core : List Act → Type 0) : Type 0 where
   pub past : List Act
-  pub fits : SessionFits b v past
+  pub fits : FitsWith b v core past
 
 -- by these acts a call led from the one to the other, whatever history it had before, where no caller used a number twice
-abbrev pub GoesBy : Beginning → SessionView → SessionView → List Act → Type 0
-GoesBy b old new acts = (past : List Act) → AreOnce b new → SessionFits b old past → SessionFits b new (after past acts)
+abbrev pub GoesBy : Beginning → (old new : SessionView) → (core later : List Act → Type 0) → List Act → Type 0
+GoesBy b old new core later acts = (past : List Act) → AreOnce b new → FitsWith b old core past → FitsWith b new later (after past acts)
 
 -- a call led from the one to the other by some acts, the same whatever history it had, and took these requests more
-pub record Goes (b : Beginning) (old new : SessionView) : Type 0 where
+pub record Goes (b : Beginning) (old new : SessionView) (core later : List Act → Type 0) : Type 0 where
   pub acts : List Act
   pub more : List Request
   pub takes_more : new.desk.taken ≡ old.desk.taken ++ more
-  pub goes : GoesBy b old new acts
+  pub goes : GoesBy b old new core later acts
 
 -- ## Backlogs
 

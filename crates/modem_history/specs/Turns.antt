@@ -18,7 +18,7 @@ use Rattle.modem_history.specs.Holding.{is_held}
 use Rattle.modem_history.specs.Lawful.{Quiet}
 use Rattle.modem_history.specs.Wholes.{IsPrefixOf, is_said}
 use Rattle.modem_history.specs.Calls.{is_lost}
-use Rattle.modem_history.specs.Sessions.{Beginning, SessionView, SessionFits, AreOnce, GoesBy, driving, gots, sents, octets_of_frames, heard_as, of_caller, backlog, backlog_in}
+use Rattle.modem_history.specs.Sessions.{Beginning, SessionView, FitsWith, AreOnce, GoesBy, driving, gots, sents, octets_of_frames, heard_as, of_caller, backlog, backlog_in}
 
 -- ## A turn's calls on the line and on the desk
 
@@ -249,11 +249,11 @@ pub record IsTurn (b : Beginning) (old new : SessionView) (t : Dealings) (past a
   pub means : Means b new t (after past acts) says
 
 -- a turn: some acts and dealings, the same whatever history the session had, by which it ends in this answer
-pub record GoesTurn (b : Beginning) (old new : SessionView) (says : TurnAnswer) : Type 0 where
+pub record GoesTurn (b : Beginning) (old new : SessionView) (core later : List Act → Type 0) (says : TurnAnswer) : Type 0 where
   pub acts : List Act
   pub dealings : Dealings
-  pub goes : GoesBy b old new acts
-  pub turn : (past : List Act) → AreOnce b new → SessionFits b old past → IsTurn b old new dealings past acts says
+  pub goes : GoesBy b old new core later acts
+  pub turn : (past : List Act) → AreOnce b new → FitsWith b old core past → IsTurn b old new dealings past acts says
 
 -- ## Faults
 
@@ -294,11 +294,11 @@ pub record IsFault (b : Beginning) (old new : SessionView) (t : Dealings) (past 
   pub means : FaultMeans b old new past acts says
 
 -- a turn by which it ends in this fault
-pub record GoesFault (b : Beginning) (old new : SessionView) (says : TurnFault) : Type 0 where
+pub record GoesFault (b : Beginning) (old new : SessionView) (core later : List Act → Type 0) (says : TurnFault) : Type 0 where
   pub acts : List Act
   pub dealings : Dealings
-  pub goes : GoesBy b old new acts
-  pub fault : (past : List Act) → AreOnce b new → SessionFits b old past → IsFault b old new dealings past acts says
+  pub goes : GoesBy b old new core later acts
+  pub fault : (past : List Act) → AreOnce b new → FitsWith b old core past → IsFault b old new dealings past acts says
 
 -- ## Ticks
 
@@ -314,7 +314,7 @@ pub record IsTick (old new : SessionView) (past acts : List Act) : Type 0 where
   pub unfed_stay : new.unfed ≡ old.unfed
 
 -- a tick, whatever history the session had
-pub record GoesTick (b : Beginning) (old new : SessionView) : Type 0 where
+pub record GoesTick (b : Beginning) (old new : SessionView) (core later : List Act → Type 0) : Type 0 where
   pub acts : List Act
-  pub goes : GoesBy b old new acts
-  pub tick : (past : List Act) → SessionFits b old past → IsTick old new past acts
+  pub goes : GoesBy b old new core later acts
+  pub tick : (past : List Act) → FitsWith b old core past → IsTick old new past acts

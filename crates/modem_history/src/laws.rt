@@ -6,7 +6,7 @@ ghost use Rattle.modem_history.specs.Lawful.{Lawful};
 ghost use Rattle.modem_history.specs.BadRows.{NotItsOwn, refused_rows, incomplete_rows, unquiet_rows};
 ghost use Rattle.modem_history.specs.GoodRows.{good_rows};
 ghost use Rattle.modem_history.specs.Sessions.{Beginning, SessionView};
-ghost use Rattle.modem_history.specs.SessionLaws.{BeginsFitting, FitsSays, KeepsHistory, RunsOn};
+ghost use Rattle.modem_history.specs.SessionLaws.{BeginsFitting, FitsSays};
 ghost use Rattle.modem_history.specs.SessionRows.{Each, HasNone, IsRight, IsWrong, IsWrongTurn};
 ghost use Rattle.modem_history.specs.GoodTurns.{AreRightTurns};
 ghost use Rattle.modem_history.specs.BadTurns.{wrong_turns};
@@ -58,15 +58,12 @@ pub fn worked_examples()
 
 /// A new session fits the empty history. Of every session and each history that it fits: the frames got are the first
 /// that are read in the octets received since it began; the octets sent are the first of the spellings of the frames
-/// sent, in order; those frames that are wholly among them were given on; and the requests in hand are those taken and
-/// not told; and no caller is told an outcome twice. Calls that go on one after the other are as one call, and after a call there is a history where there was
-/// one before it.
-#[tactic(auto, using(crate::proofs::SessionLawFacts::begins_fitting, crate::proofs::SessionLawFacts::fits_says, crate::proofs::SessionLawFacts::runs_on, crate::proofs::SessionLawFacts::keeps_history))]
+/// sent, in order; those frames that are wholly among them were given on; the requests in hand are those taken and not
+/// told; and no caller is told an outcome twice.
+#[tactic(auto, using(crate::proofs::SessionLawFacts::begins_fitting, crate::proofs::SessionLawFacts::fits_says))]
 pub fn sessions()
     ensures begins { (b : Beginning) → BeginsFitting b }
     ensures says { (b : Beginning) (v : SessionView) (past : List Act) → FitsSays b v past }
-    ensures runs { (b : Beginning) (old mid new : SessionView) → RunsOn b old mid new }
-    ensures keeps { (b : Beginning) (old new : SessionView) → KeepsHistory b old new }
 {}
 
 /// Worked sessions, turns, faults, ticks, entries and ends, computed by the definitions: those of a right driver, and
