@@ -32,3 +32,14 @@ pub mod WithoutCalls
 pub mod ReadAsSent
 pub mod Decided
 pub mod RowFacts
+pub mod SessionTests
+pub mod SessionRowFacts
+pub mod TurnTests
+pub mod GoodTurnFacts
+pub mod BadTurnFacts
+pub mod EntryRowFacts
+pub mod FaultRowFacts
+pub mod LineOrder
+pub mod SessionLawFacts
+pub mod Untold
+pub mod ToldOnce

@@ -15,3 +15,16 @@ pub mod ConnectionRows
 pub mod HearingRows
 pub mod GoodRows
 pub mod BadRows
+pub mod Kinds
+pub mod Sessions
+pub mod Turns
+pub mod Entering
+pub mod SessionRows
+pub mod GoodSessions
+pub mod BadSessions
+pub mod GoodTurns
+pub mod BadTurns
+pub mod EntryRows
+pub mod FinishRows
+pub mod FaultRows
+pub mod SessionLaws

@@ -7,6 +7,16 @@ ghost use Rattle.modem_history.specs.Calls.{Setting};
 ghost use Rattle.modem_history.specs.Lawful.{Lawful};
 ghost use Rattle.modem_history.specs.BadRows.{NotItsOwn, refused_rows, incomplete_rows, unquiet_rows};
 ghost use Rattle.modem_history.specs.GoodRows.{good_rows};
+ghost use Rattle.modem_history.specs.Sessions.{Beginning, SessionView};
+ghost use Rattle.modem_history.specs.SessionLaws.{BeginsFitting, FitsSays};
+ghost use Rattle.modem_history.specs.SessionRows.{Each, HasNone, IsRight, IsWrong, IsWrongTurn};
+ghost use Rattle.modem_history.specs.GoodTurns.{AreRightTurns};
+ghost use Rattle.modem_history.specs.BadTurns.{wrong_turns};
+ghost use Rattle.modem_history.specs.FaultRows.{AreRightFaults, IsRightTick, IsWrongFault, IsWrongTick, right_ticks, wrong_faults, wrong_ticks};
+ghost use Rattle.modem_history.specs.EntryRows.{IsRightEntry, IsWrongEntry, right_entries, wrong_entries};
+ghost use Rattle.modem_history.specs.FinishRows.{IsRightEnd, IsWrongEnd, right_ends, wrong_ends};
+ghost use Rattle.modem_history.specs.GoodSessions.{right_sessions};
+ghost use Rattle.modem_history.specs.BadSessions.{told_and_kept, wrong_sessions};
 ghost use Rattle.modem_history.specs.Rows.{AllAre, IsGood, IsIncomplete, IsRefused, IsUnquiet};
 ghost use Rattle.modem_history.specs.ConnectionRows.{CommandsAmongLines, InformationByOpenings, LinesInOrder, PlacedAgain};
 ghost use Rattle.modem_history.specs.Connections.{HasAllLines, NeedsNoCalls, PlacesAll};
@@ -92,4 +102,33 @@ pub fn worked_connections()
     ensures commands { CommandsAmongLines }
     ensures again { PlacedAgain }
     ensures heard { RingsOnce }
+{}
+
+/// A new session fits the empty history. Of every session and each history that it fits: the frames got are the first
+/// that are read in the octets received since it began; the octets sent are the first of the spellings of the frames
+/// sent, in order; those frames that are wholly among them were given on; the requests in hand are those taken and not
+/// told; and no caller is told an outcome twice.
+#[tactic(auto, using(crate::proofs::SessionLawFacts::begins_fitting, crate::proofs::SessionLawFacts::fits_says))]
+pub fn sessions()
+    ensures begins { (b : Beginning) → BeginsFitting b }
+    ensures says { (b : Beginning) (v : SessionView) (past : List Act) → FitsSays b v past }
+{}
+
+/// Worked sessions, turns, faults, ticks, entries and ends, computed by the definitions: those of a right driver, and
+/// those that don't fit what happened or don't mean what they say.
+#[tactic(auto, using(crate::proofs::SessionRowFacts::all_right, crate::proofs::SessionRowFacts::all_wrong, crate::proofs::SessionLawFacts::kept_has_none, crate::proofs::GoodTurnFacts::are_right, crate::proofs::BadTurnFacts::all_wrong_turns, crate::proofs::EntryRowFacts::all_right_entries, crate::proofs::EntryRowFacts::all_wrong_entries, crate::proofs::EntryRowFacts::all_right_ends, crate::proofs::EntryRowFacts::all_wrong_ends, crate::proofs::FaultRowFacts::are_right_faults, crate::proofs::FaultRowFacts::all_wrong_faults, crate::proofs::FaultRowFacts::all_right_ticks, crate::proofs::FaultRowFacts::all_wrong_ticks))]
+pub fn session_examples()
+    ensures fit { Each IsRight right_sessions }
+    ensures unfit { Each IsWrong wrong_sessions }
+    ensures none { HasNone told_and_kept }
+    ensures turns { AreRightTurns }
+    ensures wrong_turns { Each IsWrongTurn wrong_turns }
+    ensures faults { AreRightFaults }
+    ensures wrong_faults { Each IsWrongFault wrong_faults }
+    ensures ticks { Each IsRightTick right_ticks }
+    ensures wrong_ticks { Each IsWrongTick wrong_ticks }
+    ensures entries { Each IsRightEntry right_entries }
+    ensures wrong_entries { Each IsWrongEntry wrong_entries }
+    ensures ends { Each IsRightEnd right_ends }
+    ensures wrong_ends { Each IsWrongEnd wrong_ends }
 {}

@@ -1,0 +1,216 @@
+-- The rows of wrong turns, computed.
+use Rattle.std.proofs.Common.{append-nil, ap, sym, ◌∙◌, subst, arith, lit<, lit≤}
+use Rattle.std.proofs.lemmas.List.{append_cancel_left, length-map}
+use Rattle.std.proofs.lemmas.Bool.{and_parts, leb-true, eq-eqb}
+use Rattle.std.specs.Prelude.{◌≡◌, ℕ, ◌+◌, ◌<◌, ◌≤◌, ◌==◌, nat_le, true, false, List, [], ◌∷◌, ◌++◌, length, map, refl, Option, Some, None}
+use Rattle.mux_frame.specs.CheckOctet.{check_octet_of}
+use Rattle.mux_frame.specs.Spelling.{body_of}
+use Rattle.mux_frame.specs.Judging.{verdict_on, by_header, by_end}
+use Rattle.mux_frame.specs.Reading.{Reads}
+use Rattle.mux_frame.specs.declared.frame.Kind.TheVariants.{Ua}
+use Rattle.mux_station.specs.declared.role.Role.TheVariants.{Responder}
+use Rattle.mux_station.specs.Written.{written}
+use Rattle.mux_frame.proofs.Readings.{one_reading}
+use Rattle.modem_desk.specs.declared.request.Urc.{Urc}
+use Rattle.modem_history.specs.Acts.{Act, after}
+use Rattle.modem_history.specs.Sessions.{driving, gots, heard_as, backlog_in}
+use Rattle.modem_history.specs.SessionRows.{TurnRow, IsWrongTurn, Each, beginning, entry_answer, zero_came, ring}
+use Rattle.modem_history.specs.Turns.{counted, calls_made, octets_read, AllAreGot, Read}
+use Rattle.modem_history.specs.BadTurns.{wrong_turns, idle_with_frame, idle_with_unfed, idle_with_unsent, idle_with_queued, idle_with_aside, idle_with_outcome, idle_with_line, idle_with_command, idle_after_read, idle_without_read, moved_by_nothing, moved_by_a_mark, unfed_grows, full_unoffered, full_but_taken, full_of_nothing, full_without_read, full_with_frame, waiting_but_told, waiting_for_another, waiting_for_the_greater, waiting_with_unsent, waiting_with_frame, waiting_without_read, blocked_by_none, blocked_by_a_later, blocked_with_command, blocked_and_not_held, blocked_and_still_held, tick_in_a_turn, loss_in_a_turn, failed_and_moved, three_calls, held_too_early, moved_with_aside}
+use Rattle.modem_history.specs.Kinds.{kind_place}
+use Rattle.modem_history.proofs.Decided.{unquiet}
+use Rattle.modem_history.proofs.TurnTests.{no_more}
+use Rattle.modem_history.proofs.SessionTests.{all_small, frames_in, rest_of, read_in, octets_differ}
+
+never : false ≡ true → ⊥
+never e = cc
+
+never_back : true ≡ false → ⊥
+never_back e = cc
+
+-- numbers differ
+numbers_differ : (n m : ℕ) → (n == m) ≡ false → n ≡ m → ⊥
+numbers_differ n m h e = never_back (sym (eq-eqb n m e) ∙ h)
+
+-- ## Idle
+
+-- the octets received aren't read as what was got
+unread : (row : TurnRow) (octets : List ℕ) → row.new.line.received ≡ entry_answer ++ octets → all_small octets ≡ true
+    → (length (frames_in octets) == length (gots (after (after [] row.before) row.acts))) ≡ false → AllAreGot beginning row.new (after (after [] row.before) row.acts) → ⊥
+unread row octets e small h g =
+    let same : octets ≡ g.octets = append_cancel_left entry_answer octets g.octets (sym e ∙ g.since) in
+    let reads = subst (λ x. Reads 31 x (gots (after (after [] row.before) row.acts)) g.rest) (sym same) g.reads in
+    let one = one_reading 31 octets (frames_in octets) (gots (after (after [] row.before) row.acts)) (rest_of octets) g.rest (read_in octets small) reads in
+    numbers_differ (length (frames_in octets)) (length (gots (after (after [] row.before) row.acts))) h (ap length one.0)
+
+idle_with_frame_wrong : IsWrongTurn idle_with_frame
+unfolding check_octet_of verdict_on by_header by_end
+idle_with_frame_wrong t turn = unread idle_with_frame zero_came refl refl refl turn.means.rest.all_got
+
+idle_with_unfed_wrong : IsWrongTurn idle_with_unfed
+unfolding check_octet_of verdict_on by_header by_end
+idle_with_unfed_wrong t turn = unread idle_with_unfed zero_came refl refl refl turn.means.rest.all_got
+
+idle_with_unsent_wrong : IsWrongTurn idle_with_unsent
+unfolding check_octet_of body_of
+idle_with_unsent_wrong t turn = octets_differ _ _ refl turn.means.rest.sent
+
+idle_with_queued_wrong : IsWrongTurn idle_with_queued
+unfolding check_octet_of body_of
+idle_with_queued_wrong t turn = octets_differ _ _ refl turn.means.rest.sent
+
+some_none : {A : Type 0} {a : A} → Some a ≡ None → ⊥
+some_none e = cc
+
+idle_with_aside_wrong : IsWrongTurn idle_with_aside
+idle_with_aside_wrong t turn = some_none turn.none_aside
+
+not_empty : {A : Type 0} {x : A} {xs : List A} → x ∷ xs ≡ [] → ⊥
+not_empty e = cc
+
+empty_not : {A : Type 0} {x : A} {xs : List A} → [] ≡ x ∷ xs → ⊥
+empty_not e = cc
+
+idle_with_outcome_wrong : IsWrongTurn idle_with_outcome
+idle_with_outcome_wrong t turn = not_empty turn.means.placed
+
+idle_with_line_wrong : IsWrongTurn idle_with_line
+idle_with_line_wrong t turn = not_empty turn.means.announced
+
+idle_with_command_wrong : IsWrongTurn idle_with_command
+idle_with_command_wrong t turn = unquiet (driving beginning) (after [] idle_with_command.before) 1 (lit< tt) refl turn.means.rest.quiet
+
+idle_after_read_wrong : IsWrongTurn idle_after_read
+idle_after_read_wrong t turn = never_back turn.moved
+
+-- a call was made, and isn't counted
+uncounted : (w r n : ℕ) → n ≡ w + r → 1 ≤ n → 40 ≡ counted 40 n → ⊥
+uncounted w r n e some h = omega arith
+
+idle_without_read_wrong : IsWrongTurn idle_without_read
+idle_without_read_wrong t turn =
+    let made : calls_made t.read ≡ 1 = ap calls_made turn.means.rest.nothing_came.nothing in
+    uncounted (calls_made t.write) (calls_made t.read) (calls_made t.write + calls_made t.read) refl (omega arith) turn.deals.calls
+
+-- ## Moved
+
+moved_by_nothing_wrong : IsWrongTurn moved_by_nothing
+moved_by_nothing_wrong t turn = never turn.moved
+
+moved_by_a_mark_wrong : IsWrongTurn moved_by_a_mark
+moved_by_a_mark_wrong t turn = never turn.moved
+
+nothing_read : (read : Option Read) (before : List ℕ) → before ≡ before ++ octets_read read → octets_read read ≡ []
+nothing_read read before e = sym (append_cancel_left before [] (octets_read read) (append-nil before ∙ e))
+
+unfed_grows_wrong : IsWrongTurn unfed_grows
+unfed_grows_wrong t turn =
+    let none = nothing_read t.read unfed_grows.old.line.received turn.deals.came in
+    let few : 6 ≤ 0 + length (octets_read t.read) = turn.deals.unfed in
+    let zero_read : length (octets_read t.read) ≡ 0 = ap length none in
+    let x : ⊥ = omega arith in
+    x
+
+-- ## WriterFull
+
+full_unoffered_wrong : IsWrongTurn full_unoffered
+full_unoffered_wrong t turn =
+    let made : calls_made t.write ≡ 1 = ap calls_made turn.means.took_none in
+    uncounted (calls_made t.write) (calls_made t.read) (calls_made t.write + calls_made t.read) refl (omega arith) turn.deals.calls
+
+full_but_taken_wrong : IsWrongTurn full_but_taken
+full_but_taken_wrong t turn = never_back turn.moved
+
+full_of_nothing_wrong : IsWrongTurn full_of_nothing
+full_of_nothing_wrong t turn = turn.means.waits refl
+
+full_without_read_wrong : IsWrongTurn full_without_read
+full_without_read_wrong t turn =
+    let wrote : calls_made t.write ≡ 1 = ap calls_made turn.means.took_none in
+    let read : calls_made t.read ≡ 1 = ap calls_made (turn.means.reads refl).nothing in
+    two_calls (calls_made t.write) (calls_made t.read) wrote read turn.deals.calls
+  where
+    two_calls : (w r : ℕ) → w ≡ 1 → r ≡ 1 → 41 ≡ counted 40 (w + r) → ⊥
+    two_calls w r x y e = omega arith
+
+full_with_frame_wrong : IsWrongTurn full_with_frame
+full_with_frame_wrong t turn = never_back (turn.means.no_room (written Responder Ua 0 []) refl)
+
+-- ## Waiting
+
+waiting_but_told_wrong : IsWrongTurn waiting_but_told
+waiting_but_told_wrong t turn = never_back turn.moved
+
+waiting_for_another_wrong : IsWrongTurn waiting_for_another
+waiting_for_another_wrong t turn = empty_not turn.means.waits
+
+waiting_for_the_greater_wrong : IsWrongTurn waiting_for_the_greater
+waiting_for_the_greater_wrong t turn = never turn.means.least
+
+waiting_with_unsent_wrong : IsWrongTurn waiting_with_unsent
+waiting_with_unsent_wrong t turn = not_empty turn.means.written
+
+waiting_with_frame_wrong : IsWrongTurn waiting_with_frame
+unfolding check_octet_of verdict_on by_header by_end
+waiting_with_frame_wrong t turn = unread waiting_with_frame zero_came refl refl refl turn.means.rest.all_got
+
+waiting_without_read_wrong : IsWrongTurn waiting_without_read
+waiting_without_read_wrong t turn =
+    let made : calls_made t.read ≡ 1 = ap calls_made turn.means.rest.nothing_came.nothing in
+    uncounted (calls_made t.write) (calls_made t.read) (calls_made t.write + calls_made t.read) refl (omega arith) turn.deals.calls
+
+-- ## Blocked
+
+blocked_by_none_wrong : IsWrongTurn blocked_by_none
+blocked_by_none_wrong t turn = empty_not turn.means.waits
+
+blocked_by_a_later_wrong : IsWrongTurn blocked_by_a_later
+blocked_by_a_later_wrong t turn =
+    octets_differ (2 ∷ []) (0 ∷ []) refl (ap (map (λ (u : Urc). kind_place u.kind)) turn.means.waits ∙ ap (λ k. kind_place k ∷ []) turn.means.is_of)
+
+blocked_with_command_wrong : IsWrongTurn blocked_with_command
+blocked_with_command_wrong t turn = unquiet (driving beginning) (after [] blocked_with_command.before) 1 (lit< tt) refl turn.means.rest.quiet
+
+blocked_and_not_held_wrong : IsWrongTurn blocked_and_not_held
+blocked_and_not_held_wrong t turn = never (turn.means.rest.held.many 1 (lit< tt) refl refl (lit≤ tt))
+
+blocked_and_still_held_wrong : IsWrongTurn blocked_and_still_held
+blocked_and_still_held_wrong t turn = never_back (turn.means.rest.held.few 1 (lit< tt) (lit< tt))
+
+-- ## Acts of a turn
+
+tick_in_a_turn_wrong : IsWrongTurn tick_in_a_turn
+tick_in_a_turn_wrong t turn = never turn.acts_may
+
+loss_in_a_turn_wrong : IsWrongTurn loss_in_a_turn
+loss_in_a_turn_wrong t turn = never turn.acts_may
+
+failed_and_moved_wrong : IsWrongTurn failed_and_moved
+failed_and_moved_wrong t turn = numbers_differ 1 0 refl turn.sound
+
+at_most_two : {A B : Type 0} (w : Option A) (r : Option B) → 43 ≡ counted 40 (calls_made w + calls_made r) → ⊥
+at_most_two None None e = omega arith
+at_most_two None (Some r) e = omega arith
+at_most_two (Some w) None e = omega arith
+at_most_two (Some w) (Some r) e = omega arith
+
+three_calls_wrong : IsWrongTurn three_calls
+three_calls_wrong t turn = at_most_two t.write t.read turn.deals.calls
+
+few_wait : (waiting : List Urc) (n : ℕ) (lines : List Act) → length lines ≡ n → n < 256 → lines ≡ map heard_as waiting ++ [] → nat_le 256 (backlog_in 1 waiting) ≡ true → ⊥
+few_wait waiting n lines len few e h =
+    let all : length (map heard_as waiting ++ []) ≡ length waiting = ap length (append-nil (map heard_as waiting)) ∙ length-map waiting heard_as in
+    let same : length lines ≡ length waiting = ap length e ∙ all in
+    let le : backlog_in 1 waiting ≤ length waiting = no_more (λ (u : Urc). u.dlci.number == 1) waiting in
+    let many : 256 ≤ backlog_in 1 waiting = leb-true 256 (backlog_in 1 waiting) h in
+    omega arith
+
+held_too_early_wrong : IsWrongTurn held_too_early
+held_too_early_wrong t turn =
+    few_wait t.still_heard 1 (heard_as ring ∷ []) refl (lit< tt) turn.deals.lines_wait (and_parts (nat_le 256 (backlog_in 1 t.still_heard)) true turn.acts_may).0
+
+moved_with_aside_wrong : IsWrongTurn moved_with_aside
+moved_with_aside_wrong t turn = some_none turn.none_aside
+
+pub all_wrong_turns : Each IsWrongTurn wrong_turns
+all_wrong_turns = (idle_with_frame_wrong, (idle_with_unfed_wrong, (idle_with_unsent_wrong, (idle_with_queued_wrong, (idle_with_aside_wrong, (idle_with_outcome_wrong, (idle_with_line_wrong, (idle_with_command_wrong, (idle_after_read_wrong, (idle_without_read_wrong, (moved_by_nothing_wrong, (moved_by_a_mark_wrong, (unfed_grows_wrong, (full_unoffered_wrong, (full_but_taken_wrong, (full_of_nothing_wrong, (full_without_read_wrong, (full_with_frame_wrong, (waiting_but_told_wrong, (waiting_for_another_wrong, (waiting_for_the_greater_wrong, (waiting_with_unsent_wrong, (waiting_with_frame_wrong, (waiting_without_read_wrong, (blocked_by_none_wrong, (blocked_by_a_later_wrong, (blocked_with_command_wrong, (blocked_and_not_held_wrong, (blocked_and_still_held_wrong, (tick_in_a_turn_wrong, (loss_in_a_turn_wrong, (failed_and_moved_wrong, (three_calls_wrong, (held_too_early_wrong, (moved_with_aside_wrong, tt)))))))))))))))))))))))))))))))))))

@@ -1,0 +1,30 @@
+-- Kinds of lines, compared and listened to.
+use Rattle.std.specs.Prelude.{ℕ, ◌==◌, Bool, List, filter}
+use Rattle.std.specs.List.{list_any}
+use Rattle.at_text.specs.declared.unsolicited.UrcKind.{UrcKind}
+use Rattle.at_text.specs.declared.unsolicited.UrcKind.TheVariants.{Ring, Cring, Creg, Cgreg, Cgev, Ciev, Other}
+use Rattle.modem_desk.specs.declared.request.Urc.{Urc}
+
+-- the place of a kind in its list
+abbrev pub kind_place : UrcKind → ℕ
+kind_place Ring = 0
+kind_place Cring = 1
+kind_place Creg = 2
+kind_place Cgreg = 3
+kind_place Cgev = 4
+kind_place Ciev = 5
+kind_place Other = 6
+
+abbrev pub is_same_kind : UrcKind → UrcKind → Bool
+is_same_kind k m = kind_place k == kind_place m
+
+-- it is among the kinds
+abbrev pub is_listened : List UrcKind → UrcKind → Bool
+is_listened kinds k = list_any (is_same_kind k) kinds
+
+-- the lines of this kind, and those that came on d
+abbrev pub of_kind : UrcKind → List Urc → List Urc
+of_kind k lines = filter (λ (u : Urc). is_same_kind k u.kind) lines
+
+abbrev pub on_channel : ℕ → List Urc → List Urc
+on_channel d lines = filter (λ (u : Urc). u.dlci.number == d) lines

@@ -1,0 +1,246 @@
+-- What a session fits: of what its line and its desk's end did since it began, and of what it still has, one history
+-- tells all.
+use Rattle.std.specs.Prelude.{◌≡◌, ℕ, ◌+◌, ◌<◌, ◌≤◌, ◌==◌, true, List, [], ◌∷◌, ◌++◌, length, take, drop, map, filter, flat_map, Option, option_to_list, slice_index_or, if◌then◌else◌, nat_lt}
+use Rattle.std.specs.List.{list_all}
+use mathlib.Core.Option.{some}
+use lib.ListN.{get_elem?}
+use Rattle.mux_frame.specs.Frames.{Frame}
+use Rattle.mux_frame.specs.Spelling.{spelled}
+use Rattle.mux_frame.specs.Deframing.{Deframing, Deframes}
+use Rattle.mux_station.specs.declared.role.Role.TheVariants.{Initiator}
+use Rattle.mux_station.specs.Written.{is_data_frame}
+use Rattle.mux_station.specs.Sending.{queue}
+use Rattle.at_text.specs.declared.unsolicited.UrcKind.{UrcKind}
+use Rattle.modem_desk.specs.declared.request.Request.{Request}
+use Rattle.modem_desk.specs.declared.request.Outcome.{Outcome}
+use Rattle.modem_desk.specs.declared.request.Urc.{Urc}
+use Rattle.modem_history.specs.Acts.{Act, Took, Got, Sent, Heard, Given, after, wire, in_hand}
+use Rattle.modem_history.specs.Requests.{are_distinct}
+use Rattle.modem_history.specs.Kinds.{is_same_kind, is_listened, of_kind, on_channel}
+use Rattle.modem_history.specs.Calls.{Setting, is_loss, is_lost}
+use Rattle.modem_history.specs.Lawful.{Lawful, Complete}
+use Rattle.modem_history.specs.Wholes.{taken, outcomes, CompleteCalls}
+
+-- ## What is seen of a session
+
+-- a line: the octets that it gave and took, its calls, and those that failed
+pub record LineView : Type 0 where
+  pub received : List ℕ
+  pub sent : List ℕ
+  pub calls : ℕ
+  pub failures : ℕ
+
+-- the desk's end: the requests that it took, what it told each caller, and what it announced to each listener
+pub record EndView : Type 0 where
+  pub taken : List Request
+  pub told : List (List Outcome)
+  pub announced : List (List Urc)
+
+-- how a session began: its N1, the kinds that its desk listens to, and what its line and its desk's end had by then
+pub record Beginning : Type 0 where
+  pub n1 : ℕ
+  pub kinds : List UrcKind
+  pub line : LineView
+  pub desk : EndView
+
+-- a session between two calls
+pub record SessionView : Type 0 where
+  pub line : LineView
+  pub desk : EndView
+  -- the request that is kept aside, since there was no memory for it
+  pub aside : Option Request
+  -- the octets read and not yet given to the deframer
+  pub unfed : List ℕ
+  pub deframer : Deframing
+  -- the octets that wait for the line, the outcomes that wait for their callers and the lines that wait for their
+  -- listeners, each in its order
+  pub unwritten : List ℕ
+  pub unplaced : List Outcome
+  pub unannounced : List Urc
+
+-- its history is an initiator's, which listens to these kinds
+abbrev pub driving : Beginning → Setting
+driving b = record { role = Initiator; n1 = b.n1; listens = is_listened b.kinds }
+
+-- ## Words for a history
+
+-- the frames that were got, and those that were sent, in order
+abbrev pub gots : List Act → List Frame
+gots [] = []
+gots (Got f ∷ past) = gots past ++ f ∷ []
+gots (_ ∷ past) = gots past
+
+abbrev pub sents : List Act → List Frame
+sents [] = []
+sents (Sent f ∷ past) = sents past ++ f ∷ []
+sents (_ ∷ past) = sents past
+
+-- the frames given on, in the order of the line: a control frame at its mark, data where it is sent
+abbrev pub given_on : List Act → List Frame
+given_on [] = []
+given_on (Given ∷ past) = given_on past ++ take 1 (queue (wire past))
+given_on (Sent f ∷ past) = if is_data_frame f then given_on past ++ f ∷ [] else given_on past
+given_on (_ ∷ past) = given_on past
+
+-- their octets, each frame between its two flags
+abbrev pub octets_of_frames : List Frame → List ℕ
+octets_of_frames fs = flat_map spelled fs
+
+-- the octets of the last of them
+abbrev pub last_octets : List Frame → List ℕ
+last_octets [] = []
+last_octets (f ∷ []) = spelled f
+last_octets (f ∷ g ∷ fs) = last_octets (g ∷ fs)
+
+-- the lines of this kind that were heard, in order
+abbrev pub heards : UrcKind → List Act → List Act
+heards k [] = []
+heards k (Heard m d line ∷ past) = if is_same_kind k m then heards k past ++ Heard m d line ∷ [] else heards k past
+heards k (_ ∷ past) = heards k past
+
+abbrev pub heard_as : Urc → Act
+heard_as u = Heard u.kind u.dlci.number u.line
+
+-- the outcomes of this caller
+abbrev pub of_caller : ℕ → List Outcome → List Outcome
+of_caller c os = filter (λ (o : Outcome). o.caller == c) os
+
+-- what stands at this place
+abbrev pub at_place : {A : Type 0} → ℕ → List (List A) → List A
+at_place i xss = slice_index_or xss i []
+
+-- each request was taken where fewer than 128 were in hand
+abbrev pub TakesWithRoom : List Act → Type 0
+TakesWithRoom [] = Unit {0}
+TakesWithRoom (Took r ∷ past) = length (in_hand past) < 128 × TakesWithRoom past
+TakesWithRoom (_ ∷ past) = TakesWithRoom past
+
+-- ## What it fits
+
+-- the history of a session: lawful, each of its calls complete, and no request taken where 128 are in hand
+pub record IsHistory (b : Beginning) (past : List Act) : Type 0 where
+  pub lawful : Lawful (driving b) past
+  pub complete : Complete (driving b) past
+  pub calls : CompleteCalls (driving b) past
+  pub room : TakesWithRoom past
+
+-- a loss of the line: the history has one at most, and only where a call on the line has failed since the session began
+pub record FitsLoss (b : Beginning) (v : SessionView) (past : List Act) : Type 0 where
+  pub one : length (filter is_loss past) ≤ 1
+  pub by_fault : is_lost past ≡ true → b.line.failures < v.line.failures
+
+-- the requests that its desk's end took since it began
+abbrev pub taken_since : Beginning → SessionView → List Request
+taken_since b v = drop (length b.desk.taken) v.desk.taken
+
+-- no caller used a number twice among them
+abbrev pub AreOnce : Beginning → SessionView → Type 0
+AreOnce b v = are_distinct (taken_since b v) ≡ true
+
+-- Requests: what its desk's end took is what the history took, and then what is kept aside. No caller used a number
+-- twice, each is a caller of the desk, and those in hand, the one aside and the outcomes that wait are 128 at most.
+pub record FitsRequests (b : Beginning) (v : SessionView) (past : List Act) : Type 0 where
+  pub taken_are : v.desk.taken ≡ b.desk.taken ++ taken past ++ option_to_list v.aside
+  pub once : AreOnce b v
+  pub callers : list_all (λ (q : Request). nat_lt q.caller (length b.desk.told)) (taken_since b v) ≡ true
+  pub few : length (in_hand past) + length (option_to_list v.aside) + length v.unplaced ≤ 128
+
+-- Octets that came: those received are those that the deframer took, and then those not fed yet; of the former it has
+-- handed out what the history got.
+pub record FitsReceived (b : Beginning) (v : SessionView) (past : List Act) : Type 0 where
+  pub fed : List ℕ
+  pub received_are : v.line.received ≡ b.line.received ++ fed ++ v.unfed
+  pub bound : v.deframer.n1 ≡ b.n1
+  pub deframes : Deframes fed (gots past) v.deframer
+
+-- Octets that leave: those sent since the session began, and then those that wait, are the frames given on, each spelled
+-- between its two flags; what waits is of the last of them alone.
+pub record FitsSent (b : Beginning) (v : SessionView) (past : List Act) : Type 0 where
+  pub since : List ℕ
+  pub sent_are : v.line.sent ≡ b.line.sent ++ since
+  pub frames_are : since ++ v.unwritten ≡ octets_of_frames (given_on past)
+  pub written : ℕ
+  pub of_last : v.unwritten ≡ drop written (last_octets (given_on past))
+
+-- what a caller was told since the session began, and then what waits for it, are its outcomes of the history
+pub record ToldTo (b : Beginning) (v : SessionView) (past : List Act) (c : ℕ) : Type 0 where
+  pub since : List Outcome
+  pub told_are : at_place c v.desk.told ≡ at_place c b.desk.told ++ since
+  pub outcomes_are : since ++ of_caller c v.unplaced ≡ of_caller c (outcomes past)
+
+-- that is so of each caller, and none waits for a caller that the desk hasn't
+pub record FitsTold (b : Beginning) (v : SessionView) (past : List Act) : Type 0 where
+  pub each : (c : ℕ) → ToldTo b v past c
+  pub callers : list_all (λ (o : Outcome). nat_lt o.caller (length b.desk.told)) v.unplaced ≡ true
+
+-- what the i-th listener, that of kind k, was announced since the session began, and then what waits of its kind, are the
+-- lines of that kind that the history heard
+pub record AnnouncedTo (b : Beginning) (v : SessionView) (past : List Act) (i : ℕ) (k : UrcKind) : Type 0 where
+  pub since : List Urc
+  pub announced_are : at_place i v.desk.announced ≡ at_place i b.desk.announced ++ since
+  pub lines_are : map heard_as (since ++ of_kind k v.unannounced) ≡ heards k past
+
+-- that is so of each listener, and no line waits that nobody listens to
+pub record FitsHeard (b : Beginning) (v : SessionView) (past : List Act) : Type 0 where
+  pub each : (i : ℕ) (k : UrcKind) → get_elem? b.kinds i ≡ some k → AnnouncedTo b v past i k
+  pub listened : list_all (λ (u : Urc). is_listened b.kinds u.kind) v.unannounced ≡ true
+
+-- the session fits the history
+pub record SessionFits (b : Beginning) (v : SessionView) (past : List Act) : Type 0 where
+  pub history : IsHistory b past
+  pub loss : FitsLoss b v past
+  pub requests : FitsRequests b v past
+  pub received : FitsReceived b v past
+  pub sent : FitsSent b v past
+  pub told : FitsTold b v past
+  pub heard : FitsHeard b v past
+
+-- The session fits the history, and so does what else it keeps, of which nothing is seen here: which histories its core
+-- fits. (Ticks since a probe was sent leave no trace in what is seen.)
+pub record FitsWith (b : Beginning) (v : SessionView) (core : List Act → Type 0) (past : List Act) : Type 0 where
+  pub session : SessionFits b v past
+  pub inside : core past
+
+-- there is such a history
+pub record HasHistory (b : Beginning) (v : SessionView) (core : List Act → Type 0) : Type 0 where
+  pub past : List Act
+  pub fits : FitsWith b v core past
+
+-- by these acts a call led from the one to the other, whatever history it had before, where no caller used a number twice
+abbrev pub GoesBy : Beginning → (old new : SessionView) → (core later : List Act → Type 0) → List Act → Type 0
+GoesBy b old new core later acts = (past : List Act) → AreOnce b new → FitsWith b old core past → FitsWith b new later (after past acts)
+
+-- a call led from the one to the other by some acts, the same whatever history it had, and took these requests more
+pub record Goes (b : Beginning) (old new : SessionView) (core later : List Act → Type 0) : Type 0 where
+  pub acts : List Act
+  pub more : List Request
+  pub takes_more : new.desk.taken ≡ old.desk.taken ++ more
+  pub goes : GoesBy b old new core later acts
+
+-- ## Backlogs
+
+-- the backlog of d: the number of its lines that wait in the session for a place at a listener
+abbrev pub backlog_in : ℕ → List Urc → ℕ
+backlog_in d lines = length (on_channel d lines)
+
+abbrev pub backlog : ℕ → SessionView → ℕ
+backlog d v = backlog_in d v.unannounced
+
+-- ## Its end
+
+-- what `finish` gives
+pub record Leftovers : Type 0 where
+  pub line : LineView
+  pub desk : EndView
+  pub in_hand : List Request
+  pub unplaced : List Outcome
+  pub unannounced : List Urc
+
+-- line and desk's end as they are; each request taken and not told, in order, and then the one kept aside; all outcomes
+-- and all lines that wait
+pub record Finishes (v : SessionView) (past : List Act) (f : Leftovers) : Type 0 where
+  pub line_stays : f.line ≡ v.line
+  pub desk_stays : f.desk ≡ v.desk
+  pub hand_is : f.in_hand ≡ in_hand past ++ option_to_list v.aside
+  pub unplaced_are : f.unplaced ≡ v.unplaced
+  pub unannounced_are : f.unannounced ≡ v.unannounced

@@ -1,0 +1,320 @@
+-- What the answers of a turn mean: Moved, WriterFull, Waiting, Blocked and Idle, and its faults; and what a tick does.
+use Rattle.std.specs.Prelude.{◌≡◌, ◌≢◌, ℕ, ◌+◌, ◌-◌, ◌^◌, ◌<◌, ◌≤◌, ◌==◌, ◌||◌, not, nat_le, nat_lt, min, ◌⊎◌, Bool, true, false, List, [], ◌∷◌, ◌++◌, length, take, map, flat_map, Option, Some, None, option_to_list}
+use Rattle.std.specs.List.{list_all, list_any}
+use Rattle.mux_frame.specs.Frames.{Frame}
+use Rattle.mux_frame.specs.Reading.{Reads}
+use Rattle.mux_station.specs.States.{state_of}
+use Rattle.mux_station.specs.Tables.{by_frame, have_room, octets_of}
+use Rattle.mux_station.specs.Sending.{queue}
+use Rattle.mux_station.specs.declared.role.Role.TheVariants.{Initiator}
+use Rattle.mux_station.specs.Opening.{is_open}
+use Rattle.at_text.specs.declared.unsolicited.UrcKind.{UrcKind}
+use Rattle.modem_desk.specs.declared.request.Request.{Request}
+use Rattle.modem_desk.specs.declared.request.Outcome.{Outcome}
+use Rattle.modem_desk.specs.declared.request.Urc.{Urc}
+use Rattle.modem_history.specs.Acts.{Act, Told, Heard, Tick, Lost, Held, Freed, Given, after, wire, in_hand}
+use Rattle.modem_history.specs.Kinds.{of_kind}
+use Rattle.modem_history.specs.Holding.{is_held}
+use Rattle.modem_history.specs.Lawful.{Quiet}
+use Rattle.modem_history.specs.Wholes.{IsPrefixOf, is_said}
+use Rattle.modem_history.specs.Calls.{is_lost}
+use Rattle.modem_history.specs.Sessions.{Beginning, SessionView, FitsWith, AreOnce, GoesBy, driving, gots, sents, octets_of_frames, heard_as, of_caller, backlog, backlog_in}
+
+-- ## A turn's calls on the line and on the desk
+
+-- octets were offered to the line, and it took so many of them
+pub record Write : Type 0 where
+  pub offered : List ℕ
+  pub count : ℕ
+
+-- the line was given so much room, and these octets came
+pub record Read : Type 0 where
+  pub room : ℕ
+  pub octets : List ℕ
+
+-- what a turn asked of its line and its desk, and what they answered
+pub record Dealings : Type 0 where
+  -- the outcomes and lines that still waited once the desk had been offered what waited, and those that it handed back
+  pub still_told : List Outcome
+  pub still_heard : List Urc
+  pub told_back : List Outcome
+  pub heard_back : List Urc
+  pub write : Option Write
+  pub read : Option Read
+  -- what the desk gave where it was asked for a request
+  pub next : Option (Option Request)
+
+abbrev pub octets_written : Option Write → List ℕ
+octets_written None = []
+octets_written (Some w) = take w.count w.offered
+
+abbrev pub octets_read : Option Read → List ℕ
+octets_read None = []
+octets_read (Some r) = r.octets
+
+abbrev pub request_given : Option (Option Request) → List Request
+request_given None = []
+request_given (Some q) = option_to_list q
+
+-- a write offers the first octets that wait, some of them, of which the line takes some or none
+pub record IsOffer (w : Write) (unwritten : List ℕ) : Type 0 where
+  pub some : 1 ≤ length w.offered
+  pub bound : w.count ≤ length w.offered
+  pub first : IsPrefixOf w.offered (take w.count w.offered ++ unwritten)
+
+-- without a write no octets wait
+abbrev pub Offers : Option Write → List ℕ → Type 0
+Offers None unwritten = unwritten ≡ []
+Offers (Some w) unwritten = IsOffer w unwritten
+
+-- no more comes than there is room for
+abbrev pub HasRoom : Option Read → Type 0
+HasRoom None = Unit {0}
+HasRoom (Some r) = length r.octets ≤ r.room
+
+abbrev pub calls_made : {A : Type 0} → Option A → ℕ
+calls_made o = length (option_to_list o)
+
+-- a count of calls, which ends at u64::MAX
+abbrev pub counted : ℕ → ℕ → ℕ
+counted n made = min (n + made) (2 ^ 64 - 1)
+
+-- the outcomes that the acts told, and the lines that they heard, in order
+abbrev pub outcomes_told : List Act → List Outcome
+outcomes_told [] = []
+outcomes_told (Told o ∷ acts) = o ∷ outcomes_told acts
+outcomes_told (_ ∷ acts) = outcomes_told acts
+
+abbrev pub lines_heard : List Act → List Act
+lines_heard [] = []
+lines_heard (Heard k d line ∷ acts) = Heard k d line ∷ lines_heard acts
+lines_heard (_ ∷ acts) = lines_heard acts
+
+-- of each caller and of each kind the desk handed back the first that still waited, and no other: a full ring holds up
+-- only its own
+pub record HandsBack (t : Dealings) : Type 0 where
+  pub outcomes : (c : ℕ) → of_caller c t.told_back ≡ take 1 (of_caller c t.still_told)
+  pub lines : (k : UrcKind) → of_kind k t.heard_back ≡ take 1 (of_kind k t.still_heard)
+
+-- so the turn dealt with its line and its desk
+pub record Deals (old new : SessionView) (t : Dealings) (acts : List Act) : Type 0 where
+  pub came : new.line.received ≡ old.line.received ++ octets_read t.read
+  pub room : HasRoom t.read
+  pub went : new.line.sent ≡ old.line.sent ++ octets_written t.write
+  pub calls : new.line.calls ≡ counted old.line.calls (calls_made t.write + calls_made t.read)
+  pub taken : new.desk.taken ≡ old.desk.taken ++ request_given t.next
+  pub hands_back : HandsBack t
+  pub outcomes_wait : new.unplaced ≡ t.still_told ++ outcomes_told acts
+  pub lines_wait : map heard_as new.unannounced ≡ map heard_as t.still_heard ++ lines_heard acts
+  pub unfed : length new.unfed ≤ length old.unfed + length (octets_read t.read)
+
+-- ## Its acts
+
+-- an act of a turn: no tick and no loss of the line; a connection is held where its backlog was 256 or more once what
+-- waited was offered to the desk, and freed where it was below 128
+abbrev pub may_act : List Urc → Act → Bool
+may_act waiting Tick = false
+may_act waiting Lost = false
+may_act waiting (Held d) = nat_le 256 (backlog_in d waiting)
+may_act waiting (Freed d) = nat_lt (backlog_in d waiting) 128
+may_act waiting _ = true
+
+abbrev pub is_mark : Act → Bool
+is_mark Given = true
+is_mark _ = false
+
+-- ## Moved
+
+-- how much there is in all
+abbrev pub amount : {A : Type 0} → List (List A) → ℕ
+amount xss = length (flat_map (λ xs. xs) xss)
+
+-- the history, the octets received, the octets sent or what the desk was given grew, or the octets read and not yet fed
+-- became fewer; that a control frame was given on alone doesn't count
+abbrev pub has_moved : SessionView → SessionView → List Act → Bool
+has_moved old new acts =
+    list_any (λ a. not (is_mark a)) acts
+    || (nat_lt (length old.line.received) (length new.line.received)
+    || (nat_lt (length old.line.sent) (length new.line.sent)
+    || (nat_lt (amount old.desk.told) (amount new.desk.told)
+    || (nat_lt (amount old.desk.announced) (amount new.desk.announced)
+    || nat_lt (length new.unfed) (length old.unfed)))))
+
+-- ## The other answers
+
+pub data TurnAnswer : Type 0 where
+  Moved : TurnAnswer
+  WriterFull : TurnAnswer
+  Waiting : (caller : ℕ) → TurnAnswer
+  Blocked : UrcKind → TurnAnswer
+  Idle : TurnAnswer
+
+abbrev pub says_moved : TurnAnswer → Bool
+says_moved Moved = true
+says_moved _ = false
+
+-- each open connection but 0 whose backlog is 256 or more is held, and none whose backlog is below 128 is
+pub record HoldsByBacklog (v : SessionView) (past : List Act) : Type 0 where
+  pub many : (d : ℕ) → d < 62 → (d == 0) ≡ false → is_open Initiator d (wire past) ≡ true → 256 ≤ backlog d v → is_held Initiator d past ≡ true
+  pub few : (d : ℕ) → d < 62 → backlog d v < 128 → is_held Initiator d past ≡ false
+
+-- every frame that is read in the octets received since the session began was got
+pub record AllAreGot (b : Beginning) (v : SessionView) (past : List Act) : Type 0 where
+  pub octets : List ℕ
+  pub since : v.line.received ≡ b.line.received ++ octets
+  pub rest : List ℕ
+  pub reads : Reads b.n1 octets (gots past) rest
+
+-- the line was read in this turn with room for at least one octet, and gave none
+pub record ReadsNothing (t : Dealings) : Type 0 where
+  pub room : ℕ
+  pub some : 1 ≤ room
+  pub nothing : t.read ≡ Some (record { room = room; octets = [] })
+
+-- the frames that this one calls for fit into the control queue
+abbrev pub has_room_for : Beginning → List Act → Frame → Bool
+has_room_for b past f = have_room b.n1 (octets_of (queue (wire past))) (by_frame Initiator (λ d. state_of Initiator d (wire past)) f)
+
+-- Nothing is left to do but to place outcomes and lines: the history is quiet; the octets sent are all of the frames
+-- sent; nothing came, and all that came was got; no request waits at the desk, or those in hand and the outcomes that
+-- wait are 128; each connection is held by its backlog.
+pub record IsAtRest (b : Beginning) (v : SessionView) (t : Dealings) (past : List Act) : Type 0 where
+  pub quiet : Quiet (driving b) past
+  pub sent : v.line.sent ≡ b.line.sent ++ octets_of_frames (sents past)
+  pub nothing_came : ReadsNothing t
+  pub all_got : AllAreGot b v past
+  pub no_request : (t.next ≡ Some None) ⊎ (length (in_hand past) + length v.unplaced ≡ 128)
+  pub held : HoldsByBacklog v past
+
+-- octets wait, the line was offered some of them in this turn and took none; and meanwhile nothing came, or octets that
+-- came before wait; a frame at hand finds no room for what it calls for; no request waits at the desk, or those in hand
+-- and the outcomes that wait are 128
+pub record IsWriterFull (b : Beginning) (v : SessionView) (t : Dealings) (past : List Act) : Type 0 where
+  pub waits : v.unwritten ≢ []
+  pub offered : List ℕ
+  pub some : offered ≢ []
+  pub took_none : t.write ≡ Some (record { offered = offered; count = 0 })
+  pub reads : v.unfed ≡ [] → ReadsNothing t
+  pub no_room : (f : Frame) → v.deframer.next ≡ Some f → has_room_for b past f ≡ false
+  pub no_request : (t.next ≡ Some None) ⊎ (length (in_hand past) + length v.unplaced ≡ 128)
+
+-- no octets wait, and an outcome for this caller does, which the desk handed back in this turn; for no lesser caller does
+-- one wait; and nothing else is held up by it
+pub record IsWaiting (b : Beginning) (v : SessionView) (t : Dealings) (past : List Act) (c : ℕ) : Type 0 where
+  pub written : v.unwritten ≡ []
+  pub outcome : Outcome
+  pub waits : take 1 (of_caller c v.unplaced) ≡ outcome ∷ []
+  pub handed_back : of_caller c t.told_back ≡ outcome ∷ []
+  pub least : list_all (λ (o : Outcome). nat_le c o.caller) v.unplaced ≡ true
+  pub rest : IsAtRest b v t past
+
+-- no octets and no outcomes wait, and of the lines that wait the first is of this kind, which the desk handed back in
+-- this turn; and nothing else is held up by it
+pub record IsBlocked (b : Beginning) (v : SessionView) (t : Dealings) (past : List Act) (k : UrcKind) : Type 0 where
+  pub written : v.unwritten ≡ []
+  pub placed : v.unplaced ≡ []
+  pub line : Urc
+  pub waits : take 1 v.unannounced ≡ line ∷ []
+  pub is_of : line.kind ≡ k
+  pub handed_back : of_kind k t.heard_back ≡ line ∷ []
+  pub rest : IsAtRest b v t past
+
+-- nothing waits for the line or for a place, no request is kept aside, and nothing is left to do
+pub record IsIdle (b : Beginning) (v : SessionView) (t : Dealings) (past : List Act) : Type 0 where
+  pub written : v.unwritten ≡ []
+  pub placed : v.unplaced ≡ []
+  pub announced : v.unannounced ≡ []
+  pub none_aside : v.aside ≡ None
+  pub rest : IsAtRest b v t past
+
+-- what an answer says of the session, of the turn's calls and of the history
+abbrev pub Means : Beginning → SessionView → Dealings → List Act → TurnAnswer → Type 0
+Means b v t past Moved = Unit {0}
+Means b v t past WriterFull = IsWriterFull b v t past
+Means b v t past (Waiting c) = IsWaiting b v t past c
+Means b v t past (Blocked k) = IsBlocked b v t past k
+Means b v t past Idle = IsIdle b v t past
+
+-- ## A turn
+
+-- A turn that ends in this answer, after a past, by these acts: Moved is the answer exactly where something moved, no
+-- call on the line has failed since the session began, no request stays aside, and any other answer means what it says.
+pub record IsTurn (b : Beginning) (old new : SessionView) (t : Dealings) (past acts : List Act) (says : TurnAnswer) : Type 0 where
+  pub deals : Deals old new t acts
+  pub offers : Offers t.write new.unwritten
+  pub sound : new.line.failures ≡ b.line.failures
+  pub acts_may : list_all (may_act t.still_heard) acts ≡ true
+  pub moved : has_moved old new acts ≡ says_moved says
+  pub none_aside : new.aside ≡ None
+  pub means : Means b new t (after past acts) says
+
+-- a turn: some acts and dealings, the same whatever history the session had, by which it ends in this answer
+pub record GoesTurn (b : Beginning) (old new : SessionView) (core later : List Act → Type 0) (says : TurnAnswer) : Type 0 where
+  pub acts : List Act
+  pub dealings : Dealings
+  pub goes : GoesBy b old new core later acts
+  pub turn : (past : List Act) → AreOnce b new → FitsWith b old core past → IsTurn b old new dealings past acts says
+
+-- ## Faults
+
+pub data TurnFault : Type 0 where
+  NoMemory : TurnFault
+  LineFailed : TurnFault
+  Failed : TurnFault
+
+-- the line is lost in this turn, since a call on it has failed since the session began, and no request is in hand
+pub record LosesLine (b : Beginning) (new : SessionView) (past acts : List Act) : Type 0 where
+  pub live : is_lost past ≡ false
+  pub gone : is_lost (after past acts) ≡ true
+  pub by_fault : b.line.failures < new.line.failures
+  pub none_in_hand : in_hand (after past acts) ≡ []
+
+-- the line was lost before: what waits is still placed, and nothing else is done
+pub record HasFailed (old new : SessionView) (past acts : List Act) : Type 0 where
+  pub gone : is_lost past ≡ true
+  pub no_acts : acts ≡ []
+  pub line_stays : new.line ≡ old.line
+  pub none_taken : new.desk.taken ≡ old.desk.taken
+
+-- want of memory: the line isn't lost yet
+abbrev pub FaultMeans : Beginning → SessionView → SessionView → List Act → List Act → TurnFault → Type 0
+FaultMeans b old new past acts NoMemory = is_lost (after past acts) ≡ false
+FaultMeans b old new past acts LineFailed = LosesLine b new past acts
+FaultMeans b old new past acts Failed = HasFailed old new past acts
+
+-- the line may be lost too
+abbrev pub may_fail : List Urc → Act → Bool
+may_fail waiting Lost = true
+may_fail waiting a = may_act waiting a
+
+-- a turn that ends in this fault
+pub record IsFault (b : Beginning) (old new : SessionView) (t : Dealings) (past acts : List Act) (says : TurnFault) : Type 0 where
+  pub deals : Deals old new t acts
+  pub acts_may : list_all (may_fail t.still_heard) acts ≡ true
+  pub means : FaultMeans b old new past acts says
+
+-- a turn by which it ends in this fault
+pub record GoesFault (b : Beginning) (old new : SessionView) (core later : List Act → Type 0) (says : TurnFault) : Type 0 where
+  pub acts : List Act
+  pub dealings : Dealings
+  pub goes : GoesBy b old new core later acts
+  pub fault : (past : List Act) → AreOnce b new → FitsWith b old core past → IsFault b old new dealings past acts says
+
+-- ## Ticks
+
+-- a tick: the acts are the tick and what it calls for; line and desk's end stay, and nothing is placed, fed or taken
+pub record IsTick (old new : SessionView) (past acts : List Act) : Type 0 where
+  pub live : is_lost past ≡ false
+  pub more : List Act
+  pub acts_are : acts ≡ Tick ∷ more
+  pub follow : list_all is_said more ≡ true
+  pub line_stays : new.line ≡ old.line
+  pub desk_stays : new.desk ≡ old.desk
+  pub aside_stays : new.aside ≡ old.aside
+  pub unfed_stay : new.unfed ≡ old.unfed
+
+-- a tick, whatever history the session had
+pub record GoesTick (b : Beginning) (old new : SessionView) (core later : List Act → Type 0) : Type 0 where
+  pub acts : List Act
+  pub goes : GoesBy b old new core later acts
+  pub tick : (past : List Act) → FitsWith b old core past → IsTick old new past acts
