@@ -5,3 +5,4 @@ pub mod Printed
 pub mod Script
 pub mod Statuses
 pub mod Texts
+pub mod Words

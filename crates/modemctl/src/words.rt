@@ -1,5 +1,9 @@
 //! The words of the program.
-ghost use Rattle.std.specs.Prelude.{◌≡◌, ◌≤◌};
+ghost use Rattle.std.specs.Prelude.{◌≡◌, ◌≢◌, ℕ, ◌<◌, ◌≤◌, [], map, Some, None, IfOk, false, codes};
+ghost use Rattle.std.specs.String.{string_bytes};
+ghost use Rattle.clap.specs.Words.{app_of, rule_of, kind_of, found_of, one_text, subcommand_name_of};
+ghost use Rattle.modemctl.specs.Printed.{IsFramed, IsPrinted, IsReplayed};
+ghost use Rattle.modemctl.specs.Words.{n1_rule, program_app, fault_in, AreFor, AsksNoHelp};
 
 use crate::runs::{frames_run, give_up, replay_run};
 use crate::stop::Stop;
@@ -11,29 +15,29 @@ use std::io::{Read, Write};
 /// N1 where no word gives it.
 const DEFAULT_N1: u16 = 31;
 
-/// A subcommand with the option `--n1`.
-fn subcommand<'a>(alloc: Global, name: &'a str, about: &'a str) -> Result<Command<'a>, AllocError> {
-    let n1 = Arg::new(alloc, "n1")
+/// The option `--n1`.
+fn n1_option<'a>(alloc: Global) -> Arg<'a>
+    ensures rule { rule_of result ≡ n1_rule }
+    ensures own { result.global ≡ false }
+{
+    Arg::new(alloc, "n1")
         .long("n1")
         .value_name("N")
         .help("Octets of information that a frame may have, 31 to 32767")
         .action(ArgAction::Set)
         .default_value("31")
-        .value_parser(value_parser!(u16).range(31..=32767));
-    Command::new(alloc, name).about(about).arg(n1)
+        .value_parser(value_parser!(u16).range(31..=32767))
 }
 
-fn program<'a>(alloc: Global) -> Result<Command<'a>, AllocError> {
-    let frames = subcommand(
-        alloc,
-        "frames",
-        "Reads octets, written in hexadecimal, as frames",
-    )?;
-    let replay = subcommand(
-        alloc,
-        "replay",
-        "Says what the driver of a modem does with the events of a script",
-    )?;
+fn program<'a>(alloc: Global) -> Result<Command<'a>, AllocError>
+    ensures { IfOk result (λ c. app_of c ≡ program_app) }
+{
+    let frames = Command::new(alloc, "frames")
+        .about("Reads octets, written in hexadecimal, as frames")
+        .arg(n1_option(alloc))?;
+    let replay = Command::new(alloc, "replay")
+        .about("Says what the driver of a modem does with the events of a script")
+        .arg(n1_option(alloc))?;
     Command::new(alloc, "modemctl")
         .about("The driver of a cellular modem, on the basic option of 3GPP TS 27.010")
         .subcommand_required(true)
@@ -41,13 +45,19 @@ fn program<'a>(alloc: Global) -> Result<Command<'a>, AllocError> {
         .subcommand(replay)
 }
 
-fn n1_of(matches: &ArgMatches<'_>) -> u16 {
+fn n1_of(matches: &ArgMatches<'_>) -> u16
+    ensures none { one_text (found_of matches.now) (codes "n1") ≡ None → result ≡ 31 }
+{
     matches.get_one::<u16>("n1").unwrap_or(DEFAULT_N1)
 }
 
 /// Says what is wrong with the words, or the help that they ask for; and gives the status.
 fn explain<W: Write, E: Write>(output: &mut W, faults: &mut E, error: &Error) -> u8
-    ensures { result ≤ 2 }
+    ensures status { result ≤ 2 }
+    ensures memory { kind_of error.now ≡ ErrorKind.OutOfMemory → result ≡ 1 }
+    ensures wrong { kind_of error.now ≢ ErrorKind.DisplayHelp
+        → kind_of error.now ≢ ErrorKind.DisplayVersion → 0 < result }
+    ensures bad { result ≡ 2 → output.new ≡ output.old }
 {
     if matches!(error.kind(), ErrorKind::OutOfMemory) {
         return give_up(faults, Stop::NoMemory);
@@ -62,6 +72,30 @@ fn explain<W: Write, E: Write>(output: &mut W, faults: &mut E, error: &Error) ->
     }
 }
 
+/// Runs the subcommand that a parse met.
+fn run_named<R: Read, W: Write, E: Write>(
+    alloc: Global,
+    matches: &ArgMatches<'_>,
+    input: &mut R,
+    output: &mut W,
+    faults: &mut E,
+) -> u8
+    ensures status { result ≤ 2 }
+    ensures bad { result ≡ 2 → output.new ≡ output.old }
+    ensures frames { result ≡ 0 → subcommand_name_of matches.now ≡ Some (codes "frames") → (n1 : ℕ)
+        × IsPrinted (IsFramed n1) (R.remaining input.old) (W.contents output.old) (W.contents output.new) }
+    ensures replay { result ≡ 0 → subcommand_name_of matches.now ≡ Some (codes "replay") → (n1 : ℕ)
+        × IsPrinted (IsReplayed n1) (R.remaining input.old) (W.contents output.old) (W.contents output.new) }
+{
+    if let Some(matches) = matches.subcommand_matches("frames") {
+        return frames_run(alloc, input, output, faults, n1_of(matches));
+    }
+    match matches.subcommand_matches("replay") {
+        Some(matches) => replay_run(alloc, input, output, faults, n1_of(matches)),
+        None => 2,
+    }
+}
+
 /// Runs the subcommand that the words name, the program's own name before them, and gives the exit
 /// status: 0 where it is done, 1 at a fault, 2 at bad words or a bad line.
 pub fn run<R: Read, W: Write, E: Write>(
@@ -71,21 +105,22 @@ pub fn run<R: Read, W: Write, E: Write>(
     output: &mut W,
     faults: &mut E,
 ) -> u8
-    ensures { result ≤ 2 }
+    ensures status { result ≤ 2 }
+    ensures bad { result ≡ 2 → output.new ≡ output.old }
+    ensures wrong { fault_in (map string_bytes words.now) ≢ []
+        → AsksNoHelp (fault_in (map string_bytes words.now)) → 0 < result }
+    ensures unread { fault_in (map string_bytes words.now) ≢ [] → input.new ≡ input.old }
+    ensures frames { result ≡ 0 → AreFor (codes "frames") (map string_bytes words.now) → (n1 : ℕ)
+        × IsPrinted (IsFramed n1) (R.remaining input.old) (W.contents output.old) (W.contents output.new) }
+    ensures replay { result ≡ 0 → AreFor (codes "replay") (map string_bytes words.now) → (n1 : ℕ)
+        × IsPrinted (IsReplayed n1) (R.remaining input.old) (W.contents output.old) (W.contents output.new) }
 {
     let command = match program(alloc) {
         Ok(command) => command,
         Err(_) => return give_up(faults, Stop::NoMemory),
     };
-    let matches = match command.try_get_matches_from(words) {
-        Ok(matches) => matches,
-        Err(error) => return explain(output, faults, &error),
-    };
-    if let Some(matches) = matches.subcommand_matches("frames") {
-        return frames_run(alloc, input, output, faults, n1_of(matches));
-    }
-    match matches.subcommand_matches("replay") {
-        Some(matches) => replay_run(alloc, input, output, faults, n1_of(matches)),
-        None => 2,
+    match command.try_get_matches_from(words) {
+        Ok(matches) => run_named(alloc, &matches, input, output, faults),
+        Err(error) => explain(output, faults, &error),
     }
 }

@@ -1,0 +1,44 @@
+-- The words of the program.
+use Rattle.std.specs.Prelude.{◌≡◌, pos, true, List, [], ◌∷◌, Option, Some, option_map, codes}
+use Rattle.clap.specs.Words.{App, IsAmong, Kinds, Rule, Text, fault_of, new_app, new_rule, subcommand_of, with_rule, with_subcommand}
+use Rattle.clap.specs.declared.builder.ArgAction.TheVariants.{Set}
+use Rattle.clap.specs.declared.error.ErrorKind.TheVariants.{DisplayHelp, DisplayVersion}
+use Rattle.clap.specs.declared.builder.ValueParser.TheVariants.{Signed}
+
+-- the option `--n1`: a number from 31 to 32767, and 31 where it isn't there
+abbrev pub n1_rule : Rule
+n1_rule = record (new_rule (codes "n1")) {
+  long = Some (codes "n1");
+  action = Some Set;
+  value_names = 1;
+  defaults = codes "31" ∷ [];
+  parser = Some (Signed (pos 31) (pos 32767));
+}
+
+-- a subcommand with that option
+abbrev pub subcommand_app : Text → App
+subcommand_app name = with_rule (new_app name) n1_rule
+
+-- the program's own name, which wants a subcommand behind it
+abbrev pub wanting_one : App
+wanting_one = record (new_app (codes "modemctl")) { top = record (new_app (codes "modemctl")).top { subcommand_required = true } }
+
+-- the program, with its two subcommands
+abbrev pub program_app : App
+program_app = with_subcommand (with_subcommand wanting_one (subcommand_app (codes "frames")).top) (subcommand_app (codes "replay")).top
+
+-- what is wrong with words, or the help that they ask for; nothing where they name a subcommand to run
+abbrev pub fault_in : List Text → Kinds
+fault_in words = fault_of program_app words
+
+-- none of it is a wish for help or for the version
+abbrev pub AsksNoHelp : Kinds → Type 0
+AsksNoHelp kinds = (IsAmong DisplayHelp kinds → ⊥) × (IsAmong DisplayVersion kinds → ⊥)
+
+-- the subcommand that words name
+abbrev pub named_in : List Text → Option Text
+named_in words = option_map (λ p. p.0) (subcommand_of program_app words)
+
+-- they name this subcommand, and nothing is wrong with them
+abbrev pub AreFor : Text → List Text → Type 0
+AreFor name words = (fault_in words ≡ []) × (named_in words ≡ Some name)
