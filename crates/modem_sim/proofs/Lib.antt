@@ -1,0 +1,4 @@
+pub mod ContextLemmas
+pub mod AnswerLemmas
+pub mod ReadingLemmas
+pub mod StepLemmas

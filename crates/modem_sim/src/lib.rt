@@ -1,0 +1,13 @@
+//! A modem (3GPP TS 27.007, clauses 5 to 10, in the line syntax of ITU-T V.250, clause 5), to test its users with.
+#![tactic(auto)]
+
+mod answers;
+mod contexts;
+mod error;
+mod modem;
+mod state;
+#[cfg(test)]
+mod tests;
+
+pub use error::SimError;
+pub use modem::{Modem, ModemStart};
