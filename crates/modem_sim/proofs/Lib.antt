@@ -2,3 +2,9 @@ pub mod ContextLemmas
 pub mod AnswerLemmas
 pub mod ReadingLemmas
 pub mod StepLemmas
+pub mod NumberLemmas
+pub mod KeptLemmas
+pub mod ReplyLemmas
+pub mod EndLemmas
+pub mod OrderLemmas
+pub mod Computed

@@ -1,3 +1,6 @@
 pub mod Contexts
 pub mod Reading
 pub mod Steps
+pub mod Meanings
+pub mod Laws
+pub mod Rows

@@ -4,6 +4,7 @@
 mod answers;
 mod contexts;
 mod error;
+pub mod laws;
 mod modem;
 mod state;
 #[cfg(test)]
