@@ -19,7 +19,7 @@ use Rattle.modem_sim.specs.declared.state.Lock.TheVariants.{Ready, NeedPin, Need
 use Rattle.modem_sim.specs.declared.state.ModemState.{ModemState}
 use Rattle.modem_sim.specs.Reading.{is_attention, command_of}
 use Rattle.modem_sim.specs.Steps.{Step, line_of, error_text, refusal_of, pin_text, cell_text, reg_text, oper_text, context_text, attached_text, told_texts, good_answer, is_registered, obeyed_unless, step_by}
-use Rattle.modem_sim.specs.Laws.{EndsOnce, AnswersWell, IsStart, reached}
+use Rattle.modem_sim.specs.Laws.{EndsOnce, AnswersWell, AnswersWellAlways, IsStart, reached}
 use Rattle.modem_sim.specs.declared.modem.ModemStart.{ModemStart}
 use Rattle.modem_sim.proofs.AnswerLemmas.{registered_text}
 use Rattle.modem_sim.proofs.NumberLemmas.{decimal_digits}
@@ -178,5 +178,5 @@ answers_well s line kept = record {
   read_back = λ c is. read_back s line c kept is;
 }
 
-pub reached_answers_well : (start : ModemStart) (lines : List (List ℕ)) (line : List ℕ) → IsStart start → AnswersWell (reached start lines) line
-reached_answers_well start lines line is = answers_well (reached start lines) line (reached_kept start lines is)
+pub reached_answers_well : (start : ModemStart) → IsStart start → AnswersWellAlways start
+reached_answers_well start is lines line = answers_well (reached start lines) line (reached_kept start lines is)

@@ -37,12 +37,16 @@ pub record EndsOnce (answer : List AnswerLine) : Type 0 where
   pub before : list_any (λ line. is_final line.text) front ≡ false
   pub last : is_final code.text ≡ true
 
--- what a modem in this state answers to a line: it ends once, nothing in it is unsolicited, and to a command it is read back as the
--- reply that the state says
+-- what a modem in this state answers to a line: it ends once, nothing in it is unsolicited, and to a command
+-- it is read back as the reply that the state says
 pub record AnswersWell (s : ModemState) (line : List ℕ) : Type 0 where
   pub ends : EndsOnce (step s line).answer
   pub solicited : list_all (λ answer. is_solicited answer.text) (step s line).answer ≡ true
   pub read_back : (c : Command) → IsTextOf line c → reply_of c (step s line).answer ≡ meant s c
+
+-- whatever lines a modem was given since it started so, it answers the next one well
+abbrev pub AnswersWellAlways : ModemStart → Type 0
+AnswersWellAlways start = (lines : List (List ℕ)) (line : List ℕ) → AnswersWell (reached start lines) line
 
 -- the context of a number
 abbrev pub context_of : ℕ → List PdpContext → Option PdpContext
@@ -50,7 +54,8 @@ context_of n contexts = find (λ c. c.cid == n) contexts
 
 -- a context that is set is that of its number, and the others are as before
 abbrev pub SetsOne : PdpContext → List PdpContext → ℕ → Type 0
-SetsOne new contexts n = context_of n (with_context new contexts) ≡ (if new.cid == n then Some new else context_of n contexts)
+SetsOne new contexts n =
+    context_of n (with_context new contexts) ≡ (if new.cid == n then Some new else context_of n contexts)
 
 -- contexts have numbers of their own, in rising order
 abbrev pub AreInOrder : List PdpContext → Type 0

@@ -1,10 +1,12 @@
--- The modem: what it answers to a command line, and its state afterwards (V.250, 5.2 and 5.7; 27.007, 7.2, 7.3, 8.3, 8.5, 9.1, 9.2, 10.1.1, 10.1.9).
+-- The modem: what it answers to a command line, and its state afterwards
+-- (V.250, 5.2 and 5.7; 27.007, 7.2, 7.3, 8.3, 8.5, 9.1, 9.2, 10.1.1, 10.1.9).
 use Rattle.std.specs.Prelude.{ℕ, ◌-◌, ◌==◌, nat_lt, Bool, true, false, List, [], ◌∷◌, ◌++◌, map, Option, Some, None, unwrap_or, if◌then◌else◌, codes}
 use Rattle.std.specs.Fmt.{decimal}
 use Rattle.std.specs.Str.{bytes_eq}
 use Rattle.at_text.specs.declared.answer.AnswerLine.{AnswerLine}
 use Rattle.at_cmds.specs.declared.command.Command.{Command}
 use Rattle.at_cmds.specs.declared.command.Command.TheVariants.{PinQuery, PinEnter, RegReport, RegQuery, Signal, OperQuery, OperChoose, ContextSet, ContextQuery, AttachSet, AttachQuery, ErrorMode, Multiplex}
+use Rattle.at_cmds.specs.declared.command.Pdp.{Pdp}
 use Rattle.at_cmds.specs.declared.command.OperChoice.{OperChoice}
 use Rattle.at_cmds.specs.declared.command.OperChoice.TheVariants.{Automatic, Deregister, Manual}
 use Rattle.at_cmds.specs.Cme.{cme_text}
@@ -36,7 +38,8 @@ started start = record {
   ber = start.ber;
 }
 
--- what commands that need the SIM are refused with before it is ready: 11 SIM PIN required, 12 SIM PUK required (27.007, 9.2.1)
+-- what commands that need the SIM are refused with before it is ready (27.007, 9.2.1): 11 SIM PIN required,
+-- 12 SIM PUK required
 abbrev pub lock_error : Lock → Option ℕ
 lock_error Ready = None
 lock_error (NeedPin pin tries) = Some 11
@@ -60,7 +63,8 @@ is_registered Ready oper = is_on_network oper
 is_registered (NeedPin pin tries) oper = false
 is_registered NeedPuk oper = false
 
--- what attaching is refused with: before the SIM is ready that, else 30 no network service where the modem isn't registered
+-- what attaching is refused with: before the SIM is ready that, else 30 no network service where the modem
+-- isn't registered
 abbrev pub attach_error : Option ℕ → Bool → Option ℕ
 attach_error (Some number) registered = Some number
 attach_error None true = None
@@ -90,6 +94,9 @@ abbrev pub after_refusal : ModemState → Command → ModemState
 after_refusal s (PinEnter pin) = record s { lock = after_wrong_pin s.lock }
 after_refusal s _ = s
 
+abbrev pub context_made : ℕ → Pdp → List ℕ → PdpContext
+context_made cid pdp apn = record { cid = cid; pdp = pdp; apn = apn }
+
 -- the state after a command that was carried out
 abbrev pub after_command : ModemState → Command → ModemState
 after_command s (PinEnter pin) = record s { lock = Ready }
@@ -97,7 +104,7 @@ after_command s (RegReport n) = record s { reports = n }
 after_command s (OperChoose Automatic) = record s { oper = Automatic }
 after_command s (OperChoose (Manual oper)) = record s { oper = Manual oper }
 after_command s (OperChoose Deregister) = record s { oper = Deregister; attached = false }
-after_command s (ContextSet cid pdp apn) = record s { contexts = with_context (record { cid = cid; pdp = pdp; apn = apn }) s.contexts }
+after_command s (ContextSet cid pdp apn) = record s { contexts = with_context (context_made cid pdp apn) s.contexts }
 after_command s (AttachSet on) = record s { attached = on }
 after_command s (ErrorMode n) = record s { errors = n }
 after_command s _ = s
@@ -129,7 +136,8 @@ oper_text Deregister = codes "+COPS: 2"
 
 -- a context (27.007, 10.1.1)
 abbrev pub context_text : PdpContext → List ℕ
-context_text c = codes "+CGDCONT: " ++ decimal c.cid ++ codes "," ++ in_quotes (pdp_text c.pdp) ++ codes "," ++ in_quotes c.apn
+context_text c =
+    codes "+CGDCONT: " ++ decimal c.cid ++ codes "," ++ in_quotes (pdp_text c.pdp) ++ codes "," ++ in_quotes c.apn
 
 -- whether the modem is attached (27.007, 10.1.9)
 abbrev pub attached_text : Bool → List ℕ
@@ -167,7 +175,8 @@ pub record Step : Type 0 where
 
 abbrev pub obeyed_unless : Option ℕ → ModemState → Command → Step
 obeyed_unless None s c = record { state = after_command s c; answer = good_answer (told_texts s c) }
-obeyed_unless (Some number) s c = record { state = after_refusal s c; answer = line_of (error_text s.errors number) ∷ [] }
+obeyed_unless (Some number) s c =
+    record { state = after_refusal s c; answer = line_of (error_text s.errors number) ∷ [] }
 
 -- what a command does: it is refused, or carried out
 abbrev pub obeyed : ModemState → Command → Step
@@ -180,4 +189,6 @@ step_by s (Some c) = obeyed s c
 
 -- what a line does
 abbrev pub step : ModemState → List ℕ → Step
-step s line = if is_attention line then record { state = s; answer = good_answer [] } else step_by s (command_of line)
+step s line =
+    if is_attention line then record { state = s; answer = good_answer [] }
+    else step_by s (command_of line)

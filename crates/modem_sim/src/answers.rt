@@ -136,7 +136,8 @@ fn push_contexts(
     contexts: &[PdpContext],
     answer: &mut Vec<AnswerLine>,
 ) -> Result<(), AllocError>
-    ensures { OnOk result (answer.new.items ≡ answer.old.items ++ map line_of (map context_text contexts.now)) }
+    ensures { OnOk result
+        (answer.new.items ≡ answer.old.items ++ map line_of (map context_text contexts.now)) }
 {
     for context in contexts {
         push_line(answer, context_line(alloc, context)?)?;

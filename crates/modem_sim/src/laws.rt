@@ -4,22 +4,24 @@ ghost use Rattle.at_cmds.specs.Commands.{IsTextOf, Reads};
 ghost use Rattle.modem_sim.specs.declared.contexts.PdpContext.{PdpContext};
 ghost use Rattle.modem_sim.specs.declared.modem.ModemStart.{ModemStart};
 ghost use Rattle.modem_sim.specs.Reading.{command_of};
-ghost use Rattle.modem_sim.specs.Laws.{IsStart, AnswersWell, SetsOne, AreInOrder, reached};
+ghost use Rattle.modem_sim.specs.Laws.{IsStart, AnswersWellAlways, SetsOne, AreInOrder, reached};
 ghost use Rattle.modem_sim.specs.Rows.{PinEntered, ThreeWrongPins, ErrorInWords, NetworkLeft};
 
-/// The command that the step takes a line for is the only one whose text it is, and there is none where it is no command's.
+/// The command that the step takes a line for is the only one whose text it is, and there is none where it is
+/// no command's.
 #[tactic(auto, using(crate::proofs::ReadingLemmas::command_reads))]
 pub fn commands()
     ensures { (line : List ℕ) → Reads (IsTextOf line) (Ok (command_of line)) }
 {}
 
-/// Whatever lines a modem was given, it answers the next one well: with one final code, at the end; with no line that reads as
-/// unsolicited; and a command with lines that are read back as the reply that its state says.
+/// Whatever lines a modem was given, it answers the next one well: with one final code, at the end; with no line
+/// that reads as unsolicited; and a command with lines that are read back as the reply that its state says.
 pub fn answers()
-    ensures { (start : ModemStart) (lines : List (List ℕ)) (line : List ℕ) → IsStart start → AnswersWell (reached start lines) line }
+    ensures { (start : ModemStart) → IsStart start → AnswersWellAlways start }
 {}
 
-/// A context that is set is found by its number and the others as before; a modem's contexts have numbers of their own, which rise.
+/// A context that is set is found by its number and the others as before; a modem's contexts have numbers of their
+/// own, which rise.
 #[tactic(auto, using(crate::proofs::OrderLemmas::sets_one, crate::proofs::OrderLemmas::reached_in_order))]
 pub fn contexts()
     ensures sets { (new : PdpContext) (contexts : List PdpContext) (n : ℕ) → SetsOne new contexts n }

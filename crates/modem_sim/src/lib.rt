@@ -1,4 +1,4 @@
-//! A modem (3GPP TS 27.007, clauses 5 to 10, in the line syntax of ITU-T V.250, clause 5), to test its users with.
+//! A modem, to test its users with (3GPP TS 27.007, clauses 5 to 10, in the line syntax of ITU-T V.250, clause 5).
 #![tactic(auto)]
 
 mod answers;

@@ -79,8 +79,8 @@ impl Modem {
         Modem { alloc, state }
     }
 
-    /// Does what a command line says, without its CR, and answers it: lines, the last one a final code. At 1 NoMemory the
-    /// modem is as it was.
+    /// Does what a command line says, without its CR, and answers it: lines, the last one a final code. At
+    /// 1 NoMemory the modem is as it was.
     pub fn execute(&mut self, line: &[u8]) -> Result<Vec<AnswerLine>, SimError>
         ensures answer { IfOk result (λ answer. answer.items ≡ (step self.old line.now).answer) }
         ensures state { OnOk result (self.new ≡ (step self.old line.now).state) }
