@@ -8,3 +8,7 @@ pub mod ReplyLemmas
 pub mod EndLemmas
 pub mod OrderLemmas
 pub mod Computed
+pub mod OutboxLemmas
+pub mod HistoryLemmas
+pub mod HistoryFacts
+pub mod RefusedFacts

@@ -6,9 +6,11 @@ mod contexts;
 mod error;
 pub mod laws;
 mod modem;
+mod script;
 mod state;
 #[cfg(test)]
 mod tests;
 
 pub use error::SimError;
 pub use modem::{Modem, ModemStart};
+pub use script::{Script, Step, StepAct, Steps};
