@@ -15,11 +15,11 @@ use Rattle.modem_sim.specs.declared.script.Step.{Step}
 use Rattle.modem_sim.specs.declared.script.StepAct.TheVariants.{Announce, Flow, Hold, Disconnect, CloseDown}
 use Rattle.modem_sim.specs.Acts.{Act, Wire, Did, End, wire, setting}
 use Rattle.modem_sim.specs.Pieces.{Piece, Announced, octets_of, spelled}
-use Rattle.modem_sim.specs.Outboxes.{Outbox, empty_box, outbox, say, said_by, hold_on, is_holding}
+use Rattle.modem_sim.specs.Outboxes.{Outbox, empty_box, outbox, say, said_after, dropped, replies_by, hold_on, is_holding}
 use Rattle.modem_sim.specs.Doing.{acts, done}
 use Rattle.modem_sim.specs.Histories.{Lawful, Allows, EachAllowed, IsOffer, IsPrefixOf, LeavesInPieces, DoesInOrder}
 
-spelled-append : (a b : List Piece) → spelled (a ++ b) ≡ spelled a ++ spelled b
+pub spelled-append : (a b : List Piece) → spelled (a ++ b) ≡ spelled a ++ spelled b
 spelled-append [] b = refl
 spelled-append (p ∷ a) b = ap (λ x. octets_of p ++ x) (spelled-append a b) ∙ sym (append_assoc (octets_of p) (spelled a) (spelled b))
 
@@ -37,11 +37,19 @@ said_further xs false b pieces p = further xs b.said (b.held ++ pieces) p
 none : (ys : List ℕ) → IsPrefixOf [] ys
 none ys = record { rest = ys; joins = refl }
 
+said_on : (xs : List ℕ) (e : End) (d : ℕ) (past : List Act) (a : station.Act) (b : Outbox) → IsPrefixOf xs (spelled b.said) → IsPrefixOf xs (spelled (said_after e d past a b).said)
+said_on xs e d past (station.Got f) b p = said_further xs (is_holding (hold_on d (Wire (station.Got f) ∷ past))) b (replies_by e d past f) p
+said_on xs e d past (station.Called call) b p = p
+said_on xs e d past (station.Sent f) b p = p
+said_on xs e d past station.Tick b p = p
+said_on xs e d past station.Lost b p = p
+said_on xs e d past station.Given b p = p
+
 -- what was offered, after one more act
-offered_box : (d : ℕ) (a : station.Act) (rest : List station.Act) (b : Outbox) (opens there holds : Bool) (pieces : List Piece) → IsPrefixOf (joined_octets (octets_offered d) rest) (spelled b.said) → IsPrefixOf (joined_octets (octets_offered d) rest ++ octets_offered d a) (spelled b.said) → IsPrefixOf (joined_octets (octets_offered d) (since_after opens there a rest)) (spelled (if opens then empty_box else if there && not opens then say holds b pieces else record { said = b.said; held = [] }).said)
-offered_box d a rest b true there holds pieces old more = none []
-offered_box d a rest b false true holds pieces old more = said_further (joined_octets (octets_offered d) rest ++ octets_offered d a) holds b pieces more
-offered_box d a rest b false false holds pieces old more = old
+offered_box : (e : End) (d : ℕ) (past : List Act) (a : station.Act) (rest : List station.Act) (b : Outbox) (opens there : Bool) → IsPrefixOf (joined_octets (octets_offered d) rest) (spelled b.said) → IsPrefixOf (joined_octets (octets_offered d) rest ++ octets_offered d a) (spelled b.said) → IsPrefixOf (joined_octets (octets_offered d) (since_after opens there a rest)) (spelled (if opens then empty_box else if there && not opens then said_after e d past a b else dropped b).said)
+offered_box e d past a rest b true there old more = none []
+offered_box e d past a rest b false true old more = said_on (joined_octets (octets_offered d) rest ++ octets_offered d a) e d past a b more
+offered_box e d past a rest b false false old more = old
 
 nothing_more : (xs ys : List ℕ) → IsPrefixOf xs ys → IsPrefixOf (xs ++ []) ys
 nothing_more xs ys p = record { rest = p.rest; joins = ap (λ x. x ++ p.rest) (append-nil xs) ∙ p.joins }
@@ -83,8 +91,8 @@ offers_said e (Did (Disconnect x) ∷ past) may d = offers_said e past may.1 d
 offers_said e (Did CloseDown ∷ past) may d = offers_said e past may.1 d
 offers_said e (Wire a ∷ past) may d =
     let old = offers_said e past may.1 d in
-    offered_box d a (since Responder d (wire past)) (outbox e d past) (opens_now Responder d (wire past) a) (belongs Responder d (wire past) a)
-    (is_holding (hold_on d (Wire a ∷ past))) (said_by e d past a) old (act_more e d past a may.0 old)
+    offered_box e d past a (since Responder d (wire past)) (outbox e d past) (opens_now Responder d (wire past) a) (belongs Responder d (wire past) a) old
+    (act_more e d past a may.0 old)
 
 -- so is what left
 pub leaves_in_pieces : (e : End) (past : List Act) → Lawful e past → LeavesInPieces e past

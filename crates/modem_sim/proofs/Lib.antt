@@ -12,3 +12,5 @@ pub mod OutboxLemmas
 pub mod HistoryLemmas
 pub mod HistoryFacts
 pub mod RefusedFacts
+pub mod ReplyingLemmas
+pub mod BoxLemmas

@@ -2,6 +2,7 @@
 use Rattle.std.specs.Prelude.{◌≡◌, ℕ, ◌==◌, ◌&&◌, ◌||◌, not, Bool, true, false, List, [], ◌∷◌, ◌++◌, refl, if◌then◌else◌}
 use Rattle.std.proofs.Common.{sym, ap, ◌∙◌, append_assoc, append-nil}
 use Rattle.at_text.specs.declared.answer.AnswerLine.{AnswerLine}
+use Rattle.mux_frame.specs.Frames.{Frame}
 use Rattle.mux_station.specs.declared.role.Role.TheVariants.{Responder}
 use Rattle.mux_station.specs.Acts as station
 use Rattle.mux_station.specs.Opening.{opens_now, belongs}
@@ -11,7 +12,7 @@ use Rattle.modem_sim.specs.Steps.{step}
 use Rattle.modem_sim.specs.Acts.{Act, Wire, Did, End, wire, is_open}
 use Rattle.modem_sim.specs.Heard.{lines_ended, modem_after}
 use Rattle.modem_sim.specs.Pieces.{Piece, Echo, Answer, Announced, answers, reply, replies, asked_for}
-use Rattle.modem_sim.specs.Outboxes.{Outbox, empty_box, outbox, say, said_by, hold_on, is_holding, replies_since}
+use Rattle.modem_sim.specs.Outboxes.{Outbox, empty_box, outbox, say, said_after, dropped, replies_by, replies_after, hold_on, is_holding, replies_since}
 use Rattle.modem_sim.specs.Histories.{SaysReplies}
 
 asked_for-append : (a b : List Piece) → asked_for (a ++ b) ≡ asked_for a ++ asked_for b
@@ -40,13 +41,8 @@ chosen_asked : (b : Bool) (pieces : List Piece) → asked_for pieces ≡ pieces 
 chosen_asked true pieces is = is
 chosen_asked false pieces is = refl
 
-said_asked : (e : End) (d : ℕ) (past : List Act) (a : station.Act) → asked_for (said_by e d past a) ≡ said_by e d past a
-said_asked e d past (station.Got f) = chosen_asked (f.dlci == d) (replies e.echo (modem_after e past) (lines_ended past f)) (asked_replies e.echo (modem_after e past) (lines_ended past f))
-said_asked e d past (station.Called call) = refl
-said_asked e d past (station.Sent f) = refl
-said_asked e d past station.Tick = refl
-said_asked e d past station.Lost = refl
-said_asked e d past station.Given = refl
+replies_asked : (e : End) (d : ℕ) (past : List Act) (f : Frame) → asked_for (replies_by e d past f) ≡ replies_by e d past f
+replies_asked e d past f = chosen_asked (f.dlci == d) (replies e.echo (modem_after e past) (lines_ended past f)) (asked_replies e.echo (modem_after e past) (lines_ended past f))
 
 -- all that is asked for in an outbox
 abbrev asked_in : Outbox → List Piece
@@ -61,11 +57,20 @@ say_asked false b pieces =
     ∙ ap (λ x. asked_for b.said ++ x) (asked_for-append b.held pieces)
     ∙ sym (append_assoc (asked_for b.said) (asked_for b.held) (asked_for pieces))
 
-box_asked : (e : End) (d : ℕ) (past : List Act) (a : station.Act) (b : Outbox) (old : List Piece) (opens there holds : Bool) (new : List Piece) → (opens || there) ≡ true → (there ≡ true → asked_in b ≡ old) → asked_for new ≡ new → asked_in (if opens then empty_box else if there && not opens then say holds b new else record { said = b.said; held = [] }) ≡ (if opens then [] else old ++ new)
-box_asked e d past a b old true there holds new is before asked = refl
-box_asked e d past a b old false true holds new is before asked =
-    say_asked holds b new ∙ ap (λ x. x ++ asked_for new) (before refl) ∙ ap (λ x. old ++ x) asked
-box_asked e d past a b old false false holds new is before asked = cc
+after_asked : (e : End) (d : ℕ) (past : List Act) (a : station.Act) (b : Outbox) (old : List Piece) → asked_in b ≡ old → asked_in (said_after e d past a b) ≡ replies_after e d past a old
+after_asked e d past (station.Got f) b old before =
+    let new = replies_by e d past f in
+    say_asked (is_holding (hold_on d (Wire (station.Got f) ∷ past))) b new ∙ ap (λ x. x ++ asked_for new) before ∙ ap (λ x. old ++ x) (replies_asked e d past f)
+after_asked e d past (station.Called call) b old before = before
+after_asked e d past (station.Sent f) b old before = before
+after_asked e d past station.Tick b old before = before
+after_asked e d past station.Lost b old before = before
+after_asked e d past station.Given b old before = before
+
+box_asked : (e : End) (d : ℕ) (past : List Act) (a : station.Act) (b : Outbox) (old : List Piece) (opens there : Bool) → (opens || there) ≡ true → (there ≡ true → asked_in b ≡ old) → asked_in (if opens then empty_box else if there && not opens then said_after e d past a b else dropped b) ≡ (if opens then [] else replies_after e d past a old)
+box_asked e d past a b old true there is before = refl
+box_asked e d past a b old false true is before = after_asked e d past a b old (before refl)
+box_asked e d past a b old false false is before = cc
 
 announced_box : (e : End) (d : ℕ) (past : List Act) (here : Bool) (line : List ℕ) (b : Outbox) → asked_in (if here then record { said = b.said ++ Announced line ∷ []; held = b.held } else b) ≡ asked_in b
 announced_box e d past true line b = ap (λ x. x ++ asked_for b.held) (asked_for-append b.said (Announced line ∷ []) ∙ append-nil (asked_for b.said))
@@ -84,7 +89,5 @@ says_replies e (Did (Hold x y) ∷ past) d there_open = says_replies e past d th
 says_replies e (Did (Disconnect x) ∷ past) d there_open = says_replies e past d there_open
 says_replies e (Did CloseDown ∷ past) d there_open = says_replies e past d there_open
 says_replies e (Wire a ∷ past) d there_open =
-    box_asked e d past a (outbox e d past) (replies_since e d past) (opens_now Responder d (wire past) a) (belongs Responder d (wire past) a)
-    (is_holding (hold_on d (Wire a ∷ past))) (said_by e d past a) there_open
+    box_asked e d past a (outbox e d past) (replies_since e d past) (opens_now Responder d (wire past) a) (belongs Responder d (wire past) a) there_open
     (λ there. says_replies e past d (still_open (is_open d past) _ there))
-    (said_asked e d past a)

@@ -11,3 +11,4 @@ pub mod Outboxes
 pub mod Doing
 pub mod Histories
 pub mod HistoryRows
+pub mod Boxes

@@ -1,5 +1,6 @@
 -- What a simulated modem has to write on a connection since it opened, and what of it is held back.
 use Rattle.std.specs.Prelude.{ℕ, ◌==◌, ◌&&◌, not, Bool, true, false, List, [], ◌∷◌, ◌++◌, Option, Some, None, is_none, if◌then◌else◌}
+use Rattle.mux_frame.specs.Frames.{Frame}
 use Rattle.mux_station.specs.declared.role.Role.TheVariants.{Responder}
 use Rattle.mux_station.specs.Acts as station
 use Rattle.mux_station.specs.Opening.{opens_now, belongs}
@@ -41,25 +42,35 @@ pub record Outbox : Type 0 where
 abbrev pub empty_box : Outbox
 empty_box = record { said = []; held = [] }
 
--- what the act makes the modem say on d: the replies to the lines that end in it
-abbrev pub said_by : End → ℕ → List Act → station.Act → List Piece
-said_by e d past (station.Got f) = if f.dlci == d then replies e.echo (modem_after e past) (lines_ended past f) else []
-said_by e d past _ = []
+-- the replies to the lines on d that end in a frame
+abbrev pub replies_by : End → ℕ → List Act → Frame → List Piece
+replies_by e d past f =
+    if f.dlci == d then replies e.echo (modem_after e past) (lines_ended past f) else []
+
+abbrev pub is_holding : Option ℕ → Bool
+is_holding h = not (is_none h)
 
 -- more is said: behind what is held back, if a hold lasts, else it all goes out
 abbrev pub say : Bool → Outbox → List Piece → Outbox
 say true b pieces = record { said = b.said; held = b.held ++ pieces }
 say false b pieces = record { said = b.said ++ (b.held ++ pieces); held = [] }
 
-abbrev pub is_holding : Option ℕ → Bool
-is_holding h = not (is_none h)
+-- what a frame that comes makes of d's outbox while d stays open; no other act says anything
+abbrev pub said_after : End → ℕ → List Act → station.Act → Outbox → Outbox
+said_after e d past (station.Got f) b =
+    say (is_holding (hold_on d (Wire (station.Got f) ∷ past))) b (replies_by e d past f)
+said_after e d past _ b = b
 
--- what an act makes of d's outbox: it starts afresh where d opens, what is held back is dropped where d closes
+-- what is held back is dropped
+abbrev pub dropped : Outbox → Outbox
+dropped b = record { said = b.said; held = [] }
+
+-- what an act makes of d's outbox: it starts afresh where d opens, and what is held back is dropped where d closes
 abbrev pub box_after : End → ℕ → List Act → station.Act → Outbox → Outbox
 box_after e d past a b =
     if opens_now Responder d (wire past) a then empty_box
-    else if stays d past a then say (is_holding (hold_on d (Wire a ∷ past))) b (said_by e d past a)
-    else record { said = b.said; held = [] }
+    else if stays d past a then said_after e d past a b
+    else dropped b
 
 -- d's outbox
 abbrev pub outbox : End → ℕ → List Act → Outbox
@@ -71,8 +82,12 @@ outbox e d (Did _ ∷ past) = outbox e d past
 outbox e d (Wire a ∷ past) = box_after e d past a (outbox e d past)
 
 -- the replies to all lines that came on d since it opened
+abbrev pub replies_after : End → ℕ → List Act → station.Act → List Piece → List Piece
+replies_after e d past (station.Got f) before = before ++ replies_by e d past f
+replies_after e d past _ before = before
+
 abbrev pub replies_since : End → ℕ → List Act → List Piece
 replies_since e d [] = []
 replies_since e d (Did step ∷ past) = replies_since e d past
 replies_since e d (Wire a ∷ past) =
-    if opens_now Responder d (wire past) a then [] else replies_since e d past ++ said_by e d past a
+    if opens_now Responder d (wire past) a then [] else replies_after e d past a (replies_since e d past)

@@ -28,9 +28,13 @@ spelled pieces = flat_map octets_of pieces
 abbrev pub answers : List AnswerLine → List Piece
 answers ls = map (λ l. Answer l.text) ls
 
+-- the command line repeated, where that is on
+abbrev pub echoed : Bool → List ℕ → List Piece
+echoed echo line = if echo then Echo line ∷ [] else []
+
 -- what a modem writes for a command line: the line repeated, where that is on, and the answer
 abbrev pub reply : Bool → ModemState → List ℕ → List Piece
-reply echo m line = (if echo then Echo line ∷ [] else []) ++ answers (step m line).answer
+reply echo m line = echoed echo line ++ answers (step m line).answer
 
 -- and for lines, one after the other
 abbrev pub replies : Bool → ModemState → List (List ℕ) → List Piece

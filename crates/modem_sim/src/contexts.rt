@@ -1,5 +1,5 @@
 //! Packet contexts by their numbers.
-ghost use Rattle.std.specs.Prelude.{◌≡◌, OnOk, OnErr, nat_le};
+ghost use Rattle.std.specs.Prelude.{◌≡◌, IfOk, OnOk, OnErr, nat_le};
 ghost use Rattle.std.specs.List.{position_from};
 
 use at_cmds::{Apn, Pdp};
@@ -13,6 +13,19 @@ pub(crate) struct PdpContext {
     pub(crate) cid: u8,
     pub(crate) pdp: Pdp,
     pub(crate) apn: Apn,
+}
+
+impl PdpContext {
+    /// The same context once more.
+    fn copy(&self) -> Result<PdpContext, AllocError>
+        ensures { IfOk result (λ copy. copy ≡ self.now) }
+    {
+        Ok(PdpContext {
+            cid: self.cid,
+            pdp: self.pdp,
+            apn: self.apn.copy()?,
+        })
+    }
 }
 
 /// The contexts in rising order of their numbers, which contracts see as a list.
@@ -46,6 +59,17 @@ impl PdpContexts {
         ensures { result.now ≡ self.now }
     {
         self.contexts.as_slice()
+    }
+
+    /// The same contexts once more.
+    pub(crate) fn copy(&self) -> Result<PdpContexts, AllocError>
+        ensures { IfOk result (λ copy. copy ≡ self.now) }
+    {
+        let mut contexts = Vec::with_capacity(*self.contexts.allocator(), self.contexts.len())?;
+        for context in &self.contexts {
+            contexts.push(context.copy()?)?;
+        }
+        Ok(PdpContexts { contexts })
     }
 
     /// Sets a context, or replaces the one of its number. Want of memory leaves the contexts as they were.

@@ -6,6 +6,7 @@ mod contexts;
 mod error;
 pub mod laws;
 mod modem;
+mod replying;
 mod script;
 mod state;
 #[cfg(test)]

@@ -79,6 +79,17 @@ impl Modem {
         Modem { alloc, state }
     }
 
+    /// The same modem once more.
+    pub fn copy(&self) -> Result<Modem, AllocError>
+        ensures { IfOk result (λ copy. copy ≡ self.now) }
+    {
+        let state = self.state.copy()?;
+        Ok(Modem {
+            alloc: self.alloc,
+            state,
+        })
+    }
+
     /// Does what a command line says, without its CR, and answers it: lines, the last one a final code. At
     /// 1 NoMemory the modem is as it was.
     pub fn execute(&mut self, line: &[u8]) -> Result<Vec<AnswerLine>, SimError>

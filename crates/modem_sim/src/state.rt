@@ -1,5 +1,5 @@
 //! What a modem keeps, and how commands change it.
-ghost use Rattle.std.specs.Prelude.{◌≡◌, true, OnOk, OnErr};
+ghost use Rattle.std.specs.Prelude.{◌≡◌, true, IfOk, OnOk, OnErr};
 
 use crate::contexts::{PdpContext, PdpContexts};
 use at_cmds::{Command, OperChoice, Pin};
@@ -70,6 +70,20 @@ impl Lock {
         }
     }
 
+    /// The same once more.
+    fn copy(&self) -> Result<Lock, AllocError>
+        ensures { IfOk result (λ copy. copy ≡ self.now) }
+    {
+        match self {
+            Lock::Ready => Ok(Lock::Ready),
+            Lock::NeedPin { pin, tries } => Ok(Lock::NeedPin {
+                pin: pin.copy()?,
+                tries: *tries,
+            }),
+            Lock::NeedPuk => Ok(Lock::NeedPuk),
+        }
+    }
+
     /// Takes a try off.
     fn miss(&mut self)
         ensures { self.new ≡ after_wrong_pin self.old }
@@ -86,6 +100,22 @@ impl Lock {
 
 impl ModemState {
     ghost use Rattle.modem_sim.specs.Steps.{is_registered, refusal_of, after_refusal, after_command};
+
+    /// The same state once more.
+    pub(crate) fn copy(&self) -> Result<ModemState, AllocError>
+        ensures { IfOk result (λ copy. copy ≡ self.now) }
+    {
+        Ok(ModemState {
+            lock: self.lock.copy()?,
+            reports: self.reports,
+            errors: self.errors,
+            oper: oper_copy(&self.oper)?,
+            contexts: self.contexts.copy()?,
+            attached: self.attached,
+            rssi: self.rssi,
+            ber: self.ber,
+        })
+    }
 
     /// Whether the modem is on a network.
     pub(crate) fn is_registered(&self) -> bool
@@ -171,5 +201,16 @@ impl ModemState {
             self.attached = false;
         }
         self.oper = choice;
+    }
+}
+
+/// The same choice once more.
+fn oper_copy(oper: &OperChoice) -> Result<OperChoice, AllocError>
+    ensures { IfOk result (λ copy. copy ≡ oper.now) }
+{
+    match oper {
+        OperChoice::Automatic => Ok(OperChoice::Automatic),
+        OperChoice::Deregister => Ok(OperChoice::Deregister),
+        OperChoice::Manual(number) => Ok(OperChoice::Manual(number.copy()?)),
     }
 }

@@ -201,3 +201,23 @@ fn names_are_read_in_either_case_and_nothing_else_is_a_command(
     assert_eq!(rt; first_other(&mut modem, &rows)?, None);
     Ok(())
 }
+
+#[test]
+fn a_copy_goes_its_own_way(rt: HostRuntime) -> Result<(), Fail> {
+    let mut modem = locked(rt.alloc())?;
+    let entered: [Row; 3] = [
+        ("AT+CPIN=\"1234\"", &["OK"]),
+        ("AT+COPS=1,2,\"26201\"", &["OK"]),
+        ("AT+CGDCONT=1,\"IP\",\"a\"", &["OK"]),
+    ];
+    assert_eq!(rt; first_other(&mut modem, &entered)?, None);
+    let mut copy = modem.copy()?;
+    let left: [Row; 1] = [("AT+COPS=2", &["OK"])];
+    assert_eq!(rt; first_other(&mut modem, &left)?, None);
+    let kept: [Row; 2] = [
+        ("AT+COPS?", &["+COPS: 1,2,\"26201\",7", "OK"]),
+        ("AT+CGDCONT?", &["+CGDCONT: 1,\"IP\",\"a\"", "OK"]),
+    ];
+    assert_eq!(rt; first_other(&mut copy, &kept)?, None);
+    Ok(())
+}
