@@ -1,5 +1,5 @@
 -- Replies to the lines that octets bring, octet by octet.
-use Rattle.std.specs.Prelude.{◌≡◌, ℕ, ◌+◌, ◌<◌, ◌≤◌, Bool, true, false, List, [], ◌∷◌, ◌++◌, length, take, drop, map, filter, refl}
+use Rattle.std.specs.Prelude.{◌≡◌, ℕ, ◌+◌, ◌<◌, ◌≤◌, Bool, false, List, [], ◌∷◌, ◌++◌, length, drop, map, filter, refl}
 use Rattle.std.specs.List.{list_any}
 use Rattle.std.proofs.Common.{arith, sym, ap, ◌∙◌, subst, append_assoc, append-nil, add-one, drop-cons, get_or}
 use Rattle.std.proofs.lemmas.List.{length-append}
@@ -8,7 +8,7 @@ use Rattle.at_text.proofs.LineLemmas.{no_run, has_end-take, has_end-unfinished, 
 use Rattle.modem_sim.specs.declared.state.ModemState.{ModemState}
 use Rattle.modem_sim.specs.Steps.{step}
 use Rattle.modem_sim.specs.Laws.{after_lines}
-use Rattle.modem_sim.specs.Pieces.{Piece, octets_of, spelled, reply, replies}
+use Rattle.modem_sim.specs.Pieces.{spelled, reply, replies}
 use Rattle.modem_sim.proofs.HistoryLemmas.{spelled-append}
 
 pub after_lines-append : (m : ModemState) (a b : List (List ℕ)) → after_lines m (a ++ b) ≡ after_lines (after_lines m a) b

@@ -2,6 +2,7 @@
 #![tactic(auto)]
 
 mod answers;
+mod channel;
 mod contexts;
 mod error;
 pub mod laws;
