@@ -14,3 +14,4 @@ pub mod HistoryFacts
 pub mod RefusedFacts
 pub mod ReplyingLemmas
 pub mod BoxLemmas
+pub mod CoreLemmas

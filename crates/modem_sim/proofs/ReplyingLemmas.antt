@@ -26,7 +26,7 @@ pub kept_again : (text : List ℕ) → kept_run (kept_run text) ≡ kept_run tex
 kept_again text = ap kept_run (sym (append-nil (kept_run text))) ∙ sym (reads_on text []).keeps ∙ ap kept_run (append-nil text)
 
 -- and no line has ended in it
-no_lines : (run : List ℕ) → kept_run run ≡ run → lines run ≡ []
+pub no_lines : (run : List ℕ) → kept_run run ≡ run → lines run ≡ []
 no_lines run kept =
     let plain : list_any is_line_end (kept_run run) ≡ false = has_end-take 512 (unfinished run) (has_end-unfinished run) in
     ap lines (sym kept) ∙ ap (λ runs. map cut (filter is_filled runs)) (no_run (kept_run run) plain)

@@ -12,3 +12,4 @@ pub mod Doing
 pub mod Histories
 pub mod HistoryRows
 pub mod Boxes
+pub mod Cores
