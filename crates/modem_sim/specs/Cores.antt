@@ -1,14 +1,13 @@
 -- What a simulated modem's end keeps, and the pasts that it fits.
-use Rattle.std.specs.Prelude.{◌≡◌, ℕ, ◌<◌, ◌&&◌, Bool, true, List, [], ◌∷◌, ◌++◌, None, slice_index_or, slice_set, if◌then◌else◌}
+use Rattle.std.specs.Prelude.{◌≡◌, ℕ, ◌<◌, ◌==◌, ◌&&◌, ◌||◌, Bool, true, List, [], ◌∷◌, ◌++◌, None, slice_index_or, slice_set, if◌then◌else◌}
 use Rattle.mux_frame.specs.Frames.{Frame}
 use Rattle.mux_station.specs.Acts as station
 use Rattle.mux_station.specs.Stations as stations
 use Rattle.mux_station.specs.Fitting as fitting
 use Rattle.mux_station.specs.Sending as sending
-use Rattle.mux_station.specs.declared.role.Role.TheVariants.{Responder}
-use Rattle.mux_station.specs.Opening.{opens_now}
 use Rattle.mux_station.specs.States.{is_opened}
-use Rattle.mux_station.specs.Written.{is_data_frame}
+use Rattle.mux_frame.specs.declared.frame.Kind.TheVariants.{Sabm}
+use Rattle.mux_station.specs.Written.{is_on, is_data_frame}
 use Rattle.at_text.specs.Lines.{lines, kept_run}
 use Rattle.modem_sim.specs.Laws.{after_lines}
 use Rattle.modem_sim.specs.Pieces.{spelled, replies}
@@ -69,11 +68,18 @@ brought c f = record {
   said = spelled (replies c.echo c.modem (lines_in c f));
 }
 
+-- another modem, and another box of this connection
+abbrev pub kept_in : Core → ℕ → ModemState → Box → Core
+kept_in c d m b = record c { modem = m; boxes = slice_set c.boxes d b }
+
+-- the frame opens its connection: a SABM on 0, or while 0 is open
+abbrev pub opens_in : Core → Frame → Bool
+opens_in c f = is_on Sabm f.dlci f && ((f.dlci == 0) || is_opened (stations.channel_at c.station 0).state)
+
 -- an end takes a frame: its station does, its modem executes the lines, and its connection keeps what it brought
 pub record Takes (old new : Core) (f : Frame) : Type 0 where
   pub at_station : fitting.Handles old.station new.station (station.Got f)
   pub modem_is : new.modem ≡ after_lines old.modem (lines_in old f)
   pub echo_is : new.echo ≡ old.echo
-  pub opens : Bool
-  pub opens_is : (past : List station.Act) → fitting.Fits old.station past → opens ≡ opens_now Responder f.dlci past (station.Got f)
-  pub boxes_are : new.boxes ≡ slice_set old.boxes f.dlci (box_turned opens true (brought old f) (box_at old f.dlci))
+  pub boxes_are :
+      new.boxes ≡ slice_set old.boxes f.dlci (box_turned (opens_in old f) true (brought old f) (box_at old f.dlci))

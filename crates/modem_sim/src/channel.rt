@@ -32,7 +32,8 @@ pub(crate) struct Channel {
 }
 
 impl Model for Channel {
-    ghost use Rattle.std.specs.Prelude.{option_map};
+    ghost use Rattle.std.specs.Prelude.{◌≡◌, option_map};
+    ghost use Rattle.at_text.specs.Lines.{kept_run};
     ghost use Rattle.modem_sim.specs.Boxes.{Box, waited_of};
 
     ghost Value = { Box };
@@ -43,6 +44,8 @@ impl Model for Channel {
       held = c.held.items;
       hold = option_map waited_of c.hold;
     } };
+
+    ghost invariant = { λ c. kept_run c.reader ≡ c.reader };
 }
 
 /// What a frame brings to its connection: what is said to its lines stands behind what was said before.
@@ -84,7 +87,7 @@ impl Channel {
         echo: bool,
         octets: &[u8],
     ) -> Result<Answered, SimError>
-        requires { kept_run self.now.run ≡ self.now.run }
+        ensures run { kept_run self.now.run ≡ self.now.run }
         ensures kept { IfOk result (λ a. a.reader ≡ kept_run (self.now.run ++ octets.now)) }
         ensures said { IfOk result
             (λ a. a.said.items ≡ queue_of self.now ++ spelled (replies echo modem.old (lines (self.now.run ++ octets.now)))) }
@@ -106,6 +109,7 @@ impl Channel {
 
     /// Keeps what a frame brought.
     pub(crate) fn take(&mut self, answered: Answered)
+        requires { kept_run answered.reader ≡ answered.reader }
         ensures { (octets : List ℕ) → answered.said.items ≡ queue_of self.old ++ octets
             → self.new ≡ box_taken (record { run = answered.reader; said = octets }) self.old }
     {

@@ -9,6 +9,7 @@ pub mod laws;
 mod modem;
 mod replying;
 mod script;
+mod sim_core;
 mod state;
 #[cfg(test)]
 mod tests;
