@@ -22,12 +22,12 @@ use Rattle.modem_sim.specs.declared.state.ModemState.{ModemState}
 use Rattle.modem_sim.specs.Laws.{after_lines}
 use Rattle.modem_sim.specs.Pieces.{spelled, replies}
 use Rattle.modem_sim.proofs.ReplyingLemmas.{no_lines, kept_again}
-use Rattle.modem_sim.specs.Acts.{Act, Wire, Did, End, setting, wire, is_open}
+use Rattle.modem_sim.specs.Acts.{Act, Wire, End, setting, wire, is_open}
 use Rattle.modem_sim.specs.Heard.{heard, texts_of, modem_after, run_on, lines_ended}
 use Rattle.modem_sim.specs.Boxes.{Box, FitsOpen, fresh_box, queue_of, box_turned}
 use Rattle.modem_sim.specs.Doing.{call_owed}
 use Rattle.modem_sim.specs.Histories.{EachAllowed}
-use Rattle.modem_sim.specs.Cores.{Core, kept_in, opens_in, Fits, GoesOn, Takes, box_at, brought, lines_in, octets_in, sent_after, answered}
+use Rattle.modem_sim.specs.Cores.{Core, kept_in, opens_in, Fits, GoesOn, Takes, box_at, brought, lines_in, octets_in, sent_after}
 use Rattle.modem_sim.proofs.BoxLemmas.{IsBrought, box_goes_on, modem_goes_on, box_still, sent_still}
 
 wire-sent_after : (fs : List Frame) (past : List Act) → wire (sent_after fs past) ≡ sending.sent_after fs (wire past)
