@@ -1,0 +1,17 @@
+pub mod ContextLemmas
+pub mod AnswerLemmas
+pub mod ReadingLemmas
+pub mod StepLemmas
+pub mod NumberLemmas
+pub mod KeptLemmas
+pub mod ReplyLemmas
+pub mod EndLemmas
+pub mod OrderLemmas
+pub mod Computed
+pub mod OutboxLemmas
+pub mod HistoryLemmas
+pub mod HistoryFacts
+pub mod RefusedFacts
+pub mod ReplyingLemmas
+pub mod BoxLemmas
+pub mod CoreLemmas

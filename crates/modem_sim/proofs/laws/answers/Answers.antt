@@ -1,0 +1,5 @@
+use Rattle.modem_sim.proofs.EndLemmas.{reached_answers_well}
+use Rattle.modem_sim.proofs.laws.answers.Goals as goal
+
+pub returns : goal.returns
+returns c = reached_answers_well

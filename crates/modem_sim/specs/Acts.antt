@@ -1,0 +1,40 @@
+-- What happens at a simulated modem's end of the line. A past is written with its newest act first.
+use Rattle.std.specs.Prelude.{ℕ, Bool, List, [], ◌∷◌}
+use Rattle.mux_station.specs.Acts as station
+use Rattle.mux_station.specs.declared.role.Role.TheVariants.{Responder}
+use Rattle.mux_station.specs.Opening as opening
+use Rattle.mux_station.specs.Sending.{Setting}
+use Rattle.modem_sim.specs.declared.script.Step.{Step}
+use Rattle.modem_sim.specs.declared.script.StepAct.{StepAct}
+use Rattle.modem_sim.specs.declared.state.ModemState.{ModemState}
+
+pub data Act : Type 0 where
+  -- at its station
+  Wire : station.Act → Act
+  -- a step of its script is done
+  Did : StepAct → Act
+
+-- whose history it is: N1, whether commands are repeated, the steps of its script, and the modem as it was handed in
+pub record End : Type 0 where
+  pub n1 : ℕ
+  pub echo : Bool
+  pub steps : List Step
+  pub modem : ModemState
+
+-- it is the responder
+abbrev pub setting : End → Setting
+setting e = record { role = Responder; n1 = e.n1 }
+
+-- the past of its station
+abbrev pub wire : List Act → List station.Act
+wire [] = []
+wire (Wire a ∷ past) = a ∷ wire past
+wire (Did step ∷ past) = wire past
+
+abbrev pub is_open : ℕ → List Act → Bool
+is_open d past = opening.is_open Responder d (wire past)
+
+-- the past, and then these acts, of which the first comes first
+abbrev pub after : List Act → List Act → List Act
+after past [] = past
+after past (a ∷ acts) = after (a ∷ past) acts

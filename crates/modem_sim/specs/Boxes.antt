@@ -1,0 +1,87 @@
+-- What a simulated modem keeps of a connection, and what acts make of it.
+use Rattle.std.specs.Prelude.{◌≡◌, ℕ, ◌≤◌, ◌==◌, Bool, true, List, [], ◌++◌, length, filter, Option, Some, None, if◌then◌else◌}
+use Rattle.mux_station.specs.declared.role.Role.TheVariants.{Responder}
+use Rattle.mux_station.specs.Offering.{offered}
+use Rattle.modem_sim.specs.declared.channel.Wanted.{Wanted}
+use Rattle.modem_sim.specs.Acts.{Act, End, wire, is_open}
+use Rattle.modem_sim.specs.Heard.{Heard, heard, run_on}
+use Rattle.modem_sim.specs.Pieces.{spelled}
+use Rattle.modem_sim.specs.Outboxes.{outbox, hold_on, is_holding}
+
+-- how many lines have come on d, over all its openings
+abbrev pub count_on : ℕ → List Act → ℕ
+count_on d past = length (filter (λ (h : Heard). h.dlci == d) (heard past))
+
+-- a hold: the connection on which a command is waited for, and how many lines had come there when it began
+pub record Waited : Type 0 where
+  pub dlci : ℕ
+  pub come : ℕ
+
+abbrev pub waited_of : Wanted → Waited
+waited_of w = record { dlci = w.dlci.number; come = w.come }
+
+-- The line that hasn't ended; the octets said that the station wasn't handed; those that a hold holds back, which are kept apart
+-- also once it is over, until they are moved; and the hold.
+pub record Box : Type 0 where
+  pub run : List ℕ
+  pub unsent : List ℕ
+  pub held : List ℕ
+  pub hold : Option Waited
+
+abbrev pub fresh_box : Box
+fresh_box = record { run = []; unsent = []; held = []; hold = None }
+
+-- a hold lasts while no line has come on the connection that it names
+abbrev pub lasting : List Act → Option Waited → Option ℕ
+lasting past None = None
+lasting past (Some w) = if count_on w.dlci past == w.come then Some w.dlci else None
+
+-- a hold began before
+abbrev pub IsBegun : List Act → Option Waited → Type 0
+IsBegun past None = Unit {0}
+IsBegun past (Some w) = w.come ≤ count_on w.dlci past
+
+-- while the connection is open, each of them is what the past says
+pub record BoxFits (e : End) (d : ℕ) (past : List Act) (b : Box) : Type 0 where
+  pub run_is : run_on d past ≡ b.run
+  pub hold_is : hold_on d past ≡ lasting past b.hold
+  pub begun : IsBegun past b.hold
+  -- what is said and held back, all together
+  pub all_is :
+      spelled (outbox e d past).said ++ spelled (outbox e d past).held
+      ≡ offered Responder d (wire past) ++ (b.unsent ++ b.held)
+  -- while a hold lasts, what it holds back
+  pub held_is : is_holding (hold_on d past) ≡ true → spelled (outbox e d past).held ≡ b.held
+  -- without a hold nothing is kept apart
+  pub apart : b.hold ≡ None → b.held ≡ []
+
+abbrev pub FitsOpen : End → ℕ → List Act → Box → Type 0
+FitsOpen e d past b = is_open d past ≡ true → BoxFits e d past b
+
+-- what is said next goes behind this
+abbrev pub queue_by : Option Waited → Box → List ℕ
+queue_by None b = b.unsent
+queue_by (Some w) b = b.held
+
+abbrev pub queue_of : Box → List ℕ
+queue_of b = queue_by b.hold b
+
+-- more is said: behind what is kept apart, where there is a hold or was one
+abbrev pub said_with : Option Waited → Box → List ℕ → Box
+said_with None b octets = record b { unsent = b.unsent ++ octets }
+said_with (Some w) b octets = record b { held = b.held ++ octets }
+
+-- what a frame brings to its connection: the line that is unfinished after it, and what is said to the lines that ended
+pub record Brought : Type 0 where
+  pub run : List ℕ
+  pub said : List ℕ
+
+abbrev pub box_taken : Brought → Box → Box
+box_taken x b = record (said_with b.hold b x.said) { run = x.run }
+
+-- what a frame makes of a box: it starts afresh where the connection opens, and another connection's isn't touched
+abbrev pub box_turned : (opens here : Bool) → Brought → Box → Box
+box_turned opens here x b =
+    if opens then fresh_box
+    else if here then box_taken x b
+    else b

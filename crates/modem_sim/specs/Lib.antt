@@ -1,0 +1,15 @@
+pub mod Contexts
+pub mod Reading
+pub mod Steps
+pub mod Meanings
+pub mod Laws
+pub mod Rows
+pub mod Acts
+pub mod Pieces
+pub mod Heard
+pub mod Outboxes
+pub mod Doing
+pub mod Histories
+pub mod HistoryRows
+pub mod Boxes
+pub mod Cores

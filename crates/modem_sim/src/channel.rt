@@ -1,0 +1,123 @@
+//! What a simulated modem keeps of a connection.
+ghost use Rattle.std.specs.Prelude.{◌≡◌, ◌++◌, ℕ, List, length, OnOk, IfOk};
+ghost use Rattle.at_text.specs.Lines.{lines, kept_run};
+ghost use Rattle.modem_sim.specs.Boxes.{fresh_box, box_taken, queue_of};
+ghost use Rattle.modem_sim.specs.Pieces.{spelled, replies};
+ghost use Rattle.modem_sim.specs.Laws.{after_lines};
+
+use crate::error::SimError;
+use crate::modem::Modem;
+use crate::replying::reply_to;
+use at_text::LineReader;
+use mux_frame::Dlci;
+use std::alloc::Global;
+use std::marker::Model;
+
+/// The connection on which a command is waited for, and how many lines had come there when that began.
+#[derive(Clone, Copy, Debug)]
+pub(crate) struct Wanted {
+    pub(crate) dlci: Dlci,
+    pub(crate) come: u64,
+}
+
+/// What is kept of a connection.
+#[derive(Drop, Debug)]
+pub(crate) struct Channel {
+    reader: LineReader,
+    /// What was said and not handed to the station yet.
+    unsent: Vec<u8>,
+    /// What a hold holds back; once the hold is over it is moved behind the rest.
+    held: Vec<u8>,
+    hold: Option<Wanted>,
+}
+
+impl Model for Channel {
+    ghost use Rattle.std.specs.Prelude.{◌≡◌, option_map};
+    ghost use Rattle.at_text.specs.Lines.{kept_run};
+    ghost use Rattle.modem_sim.specs.Boxes.{Box, waited_of};
+
+    ghost Value = { Box };
+
+    ghost view = { λ c. record {
+      run = c.reader;
+      unsent = c.unsent.items;
+      held = c.held.items;
+      hold = option_map waited_of c.hold;
+    } };
+
+    ghost invariant = { λ c. kept_run c.reader ≡ c.reader };
+}
+
+/// What a frame brings to its connection: what is said to its lines stands behind what was said before.
+#[derive(Drop, Debug)]
+pub(crate) struct Answered {
+    pub(crate) reader: LineReader,
+    pub(crate) said: Vec<u8>,
+    /// How many lines ended.
+    pub(crate) ended: usize,
+}
+
+impl Channel {
+    pub(crate) fn new(alloc: Global) -> Channel
+        ensures { result ≡ fresh_box }
+    {
+        Channel {
+            reader: LineReader::new(),
+            unsent: Vec::new(alloc),
+            held: Vec::new(alloc),
+            hold: None,
+        }
+    }
+
+    /// All starts afresh.
+    pub(crate) fn start(&mut self)
+        ensures { self.new ≡ fresh_box }
+    {
+        self.reader.reset();
+        self.unsent.clear();
+        self.held.clear();
+        self.hold = None;
+    }
+
+    /// What octets that come bring: the replies to the lines that end in them, behind what was said before, and how many
+    /// lines those are. The modem is to be a copy; after an error nothing is said of it.
+    pub(crate) fn answered(
+        &self,
+        modem: &mut Modem,
+        echo: bool,
+        octets: &[u8],
+    ) -> Result<Answered, SimError>
+        ensures run { kept_run self.now.run ≡ self.now.run }
+        ensures kept { IfOk result (λ a. a.reader ≡ kept_run (self.now.run ++ octets.now)) }
+        ensures said { IfOk result
+            (λ a. a.said.items ≡ queue_of self.now ++ spelled (replies echo modem.old (lines (self.now.run ++ octets.now)))) }
+        ensures ended { IfOk result (λ a. a.ended ≡ length (lines (self.now.run ++ octets.now))) }
+        ensures state { OnOk result (modem.new ≡ after_lines modem.old (lines (self.now.run ++ octets.now))) }
+    {
+        let mut reader = self.reader.copy();
+        let mut said = match self.hold {
+            Some(_) => self.held.clone()?,
+            None => self.unsent.clone()?,
+        };
+        let ended = reply_to(modem, &mut reader, echo, octets, &mut said)?;
+        Ok(Answered {
+            reader,
+            said,
+            ended,
+        })
+    }
+
+    /// Keeps what a frame brought.
+    pub(crate) fn take(&mut self, answered: Answered)
+        requires { kept_run answered.reader ≡ answered.reader }
+        ensures { (octets : List ℕ) → answered.said.items ≡ queue_of self.old ++ octets
+            → self.new ≡ box_taken (record { run = answered.reader; said = octets }) self.old }
+    {
+        let Answered { reader, said, .. } = answered;
+        self.reader = reader;
+        match self.hold {
+            Some(_) => self.held = said,
+            None => self.unsent = said,
+        }
+    }
+}

@@ -1,0 +1,62 @@
+//! Laws of the modem's step and of a simulated modem's histories, as contracts of functions that do nothing.
+ghost use Rattle.std.specs.Prelude.{ℕ, List, Ok};
+ghost use Rattle.at_cmds.specs.Commands.{IsTextOf, Reads};
+ghost use Rattle.modem_sim.specs.declared.contexts.PdpContext.{PdpContext};
+ghost use Rattle.modem_sim.specs.declared.modem.ModemStart.{ModemStart};
+ghost use Rattle.modem_sim.specs.Reading.{command_of};
+ghost use Rattle.modem_sim.specs.Laws.{IsStart, AnswersWellAlways, SetsOne, AreInOrder, reached};
+ghost use Rattle.modem_sim.specs.Rows.{PinEntered, ThreeWrongPins, ErrorInWords, NetworkLeft};
+ghost use Rattle.modem_sim.specs.Acts.{Act, End};
+ghost use Rattle.modem_sim.specs.Histories.{Lawful, LeavesInPieces, SaysReplies, DoesInOrder};
+ghost use Rattle.modem_sim.specs.HistoryRows.{GoodRows, WrongAnswers, WrongSteps, WrongOtherwise};
+
+/// The command that the step takes a line for is the only one whose text it is, and there is none where it is
+/// no command's.
+#[tactic(auto, using(crate::proofs::ReadingLemmas::command_reads))]
+pub fn commands()
+    ensures { (line : List ℕ) → Reads (IsTextOf line) (Ok (command_of line)) }
+{}
+
+/// Whatever lines a modem was given, it answers the next one well: with one final code, at the end; with no line
+/// that reads as unsolicited; and a command with lines that are read back as the reply that its state says.
+pub fn answers()
+    ensures { (start : ModemStart) → IsStart start → AnswersWellAlways start }
+{}
+
+/// A context that is set is found by its number and the others as before; a modem's contexts have numbers of their
+/// own, which rise.
+#[tactic(auto, using(crate::proofs::OrderLemmas::sets_one, crate::proofs::OrderLemmas::reached_in_order))]
+pub fn contexts()
+    ensures sets { (new : PdpContext) (contexts : List PdpContext) (n : ℕ) → SetsOne new contexts n }
+    ensures rise { (start : ModemStart) (lines : List (List ℕ)) → AreInOrder (reached start lines).contexts }
+{}
+
+/// Worked examples, computed by the step.
+#[tactic(auto, using(crate::proofs::Computed::pin_entered, crate::proofs::Computed::three_wrong_pins, crate::proofs::Computed::error_in_words, crate::proofs::Computed::network_left))]
+pub fn worked_examples()
+    ensures pin_entered { PinEntered }
+    ensures three_wrong_pins { ThreeWrongPins }
+    ensures error_in_words { ErrorInWords }
+    ensures network_left { NetworkLeft }
+{}
+
+/// What left a simulated modem on a connection since it opened is the beginning of what is said there, piece by piece.
+/// What is said and held back there is, but for lines that no command asked for, the replies to the lines that came on
+/// it since it opened, each from the one modem after all lines before it. The steps of a script are done in their order,
+/// each once.
+#[tactic(auto, using(crate::proofs::HistoryLemmas::leaves_in_pieces, crate::proofs::HistoryLemmas::keeps_order, crate::proofs::OutboxLemmas::says_replies))]
+pub fn histories()
+    ensures leaves { (e : End) (past : List Act) → Lawful e past → LeavesInPieces e past }
+    ensures replies { (e : End) (past : List Act) → SaysReplies e past }
+    ensures steps { (e : End) (past : List Act) → Lawful e past → DoesInOrder e past }
+{}
+
+/// Worked histories, computed by the definitions: those of a right simulated modem are kept, and those that a wrong one
+/// would make are refused.
+#[tactic(auto, using(crate::proofs::HistoryFacts::good_rows, crate::proofs::RefusedFacts::wrong_answers, crate::proofs::RefusedFacts::wrong_steps, crate::proofs::RefusedFacts::wrong_otherwise))]
+pub fn worked_histories()
+    ensures good { GoodRows }
+    ensures answers { WrongAnswers }
+    ensures steps { WrongSteps }
+    ensures otherwise { WrongOtherwise }
+{}

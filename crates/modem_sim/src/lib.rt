@@ -1,0 +1,19 @@
+//! A modem, to test its users with (3GPP TS 27.007, clauses 5 to 10, in the line syntax of ITU-T V.250, clause 5).
+#![tactic(auto)]
+
+mod answers;
+mod channel;
+mod contexts;
+mod error;
+pub mod laws;
+mod modem;
+mod replying;
+mod script;
+mod sim_core;
+mod state;
+#[cfg(test)]
+mod tests;
+
+pub use error::SimError;
+pub use modem::{Modem, ModemStart};
+pub use script::{Script, Step, StepAct, Steps};

@@ -1,0 +1,127 @@
+//! The modem.
+ghost use Rattle.std.specs.Prelude.{◌≡◌, IfOk, OnOk, OnErr};
+
+use crate::answers::{answer_of, error_answer, told};
+use crate::contexts::PdpContexts;
+use crate::error::SimError;
+use crate::state::{Lock, ModemState};
+use at_cmds::{Command, OperChoice, Pin};
+use at_text::AnswerLine;
+use std::alloc::{AllocError, Global};
+use std::marker::Model;
+
+/// How often a PIN may be tried.
+const TRIES: u8 = 3;
+
+/// How a modem starts.
+#[derive(Drop, Debug, PartialEq, Eq)]
+pub struct ModemStart {
+    /// The PIN that its SIM wants, if it wants one.
+    pub pin: Option<Pin>,
+    /// The strength of its signal, as `+CSQ:` tells it (27.007, 8.5).
+    pub rssi: u8,
+    /// The bit error rate of its signal.
+    pub ber: u8,
+}
+
+impl Default for ModemStart {
+    ghost use Rattle.std.specs.Prelude.{◌≡◌, None};
+
+    /// No PIN, a signal of strength 18, and an error rate that isn't known.
+    fn default() -> ModemStart
+        ensures { result ≡ record { pin = None; rssi = 18; ber = 99 } }
+    {
+        ModemStart {
+            pin: None,
+            rssi: 18,
+            ber: 99,
+        }
+    }
+}
+
+/// A modem, which contracts see as its state.
+#[derive(Drop, Debug)]
+pub struct Modem {
+    alloc: Global,
+    state: ModemState,
+}
+
+impl Model for Modem {
+    ghost use Rattle.modem_sim.specs.declared.state.ModemState.{ModemState};
+
+    ghost Value = { ModemState };
+
+    ghost view = { λ m. m.state };
+}
+
+impl Modem {
+    ghost use Rattle.modem_sim.specs.Steps.{started, step, obeyed};
+
+    /// A modem that was just started. It takes no memory.
+    pub fn new(alloc: Global, start: ModemStart) -> Modem
+        ensures { result ≡ started start }
+    {
+        let ModemStart { pin, rssi, ber } = start;
+        let lock = match pin {
+            Some(pin) => Lock::NeedPin { pin, tries: TRIES },
+            None => Lock::Ready,
+        };
+        let state = ModemState {
+            lock,
+            reports: 0,
+            errors: 0,
+            oper: OperChoice::Automatic,
+            contexts: PdpContexts::new(alloc),
+            attached: false,
+            rssi,
+            ber,
+        };
+        Modem { alloc, state }
+    }
+
+    /// The same modem once more.
+    pub fn copy(&self) -> Result<Modem, AllocError>
+        ensures { IfOk result (λ copy. copy ≡ self.now) }
+    {
+        let state = self.state.copy()?;
+        Ok(Modem {
+            alloc: self.alloc,
+            state,
+        })
+    }
+
+    /// Does what a command line says, without its CR, and answers it: lines, the last one a final code. At
+    /// 1 NoMemory the modem is as it was.
+    pub fn execute(&mut self, line: &[u8]) -> Result<Vec<AnswerLine>, SimError>
+        ensures answer { IfOk result (λ answer. answer.items ≡ (step self.old line.now).answer) }
+        ensures state { OnOk result (self.new ≡ (step self.old line.now).state) }
+        ensures err { OnErr result (self.new ≡ self.old) }
+    {
+        if line.eq_ignore_ascii_case(b"AT") {
+            return Ok(answer_of(self.alloc, b"OK")?);
+        }
+        let Ok(command) = Command::read(self.alloc, line) else {
+            return Err(SimError::NoMemory);
+        };
+        let Some(command) = command else {
+            return Ok(answer_of(self.alloc, b"ERROR")?);
+        };
+        Ok(self.obey(command)?)
+    }
+
+    /// Refuses a command, or carries it out.
+    fn obey(&mut self, command: Command) -> Result<Vec<AnswerLine>, AllocError>
+        ensures answer { IfOk result (λ answer. answer.items ≡ (obeyed self.old command).answer) }
+        ensures state { OnOk result (self.new ≡ (obeyed self.old command).state) }
+        ensures err { OnErr result (self.new ≡ self.old) }
+    {
+        if let Some(number) = self.state.refusal_of(&command) {
+            let answer = error_answer(self.alloc, self.state.errors, number)?;
+            self.state.refuse(&command);
+            return Ok(answer);
+        }
+        let answer = told(self.alloc, &self.state, &command)?;
+        self.state.carry_out(command)?;
+        Ok(answer)
+    }
+}

@@ -1,0 +1,97 @@
+//! Command lines that come on a connection, and the replies to them.
+ghost use Rattle.std.specs.Prelude.{◌≡◌, ◌≤◌, ◌++◌, ◌∷◌, [], length, OnOk, IfOk};
+ghost use Rattle.at_text.specs.Lines.{lines, kept_run};
+ghost use Rattle.modem_sim.specs.Steps.{step};
+ghost use Rattle.modem_sim.specs.Laws.{after_lines};
+ghost use Rattle.modem_sim.specs.Pieces.{framed, echoed, answers, spelled, reply, replies};
+
+use crate::error::SimError;
+use crate::modem::Modem;
+use at_text::{AnswerLine, LineReader};
+use std::alloc::AllocError;
+
+/// A line as a modem writes it: CR LF, text, CR LF (V.250, 5.7.1).
+fn push_framed(text: &[u8], out: &mut Vec<u8>) -> Result<(), AllocError>
+    ensures { OnOk result (out.new.items ≡ out.old.items ++ framed text.now) }
+{
+    out.extend_from_slice(b"\r\n")?;
+    out.extend_from_slice(text)?;
+    out.extend_from_slice(b"\r\n")?;
+    Ok(())
+}
+
+/// A command line repeated, where that is on (V.250, 5.2.3).
+fn push_echo(echo: bool, line: &[u8], out: &mut Vec<u8>) -> Result<(), AllocError>
+    ensures { OnOk result (out.new.items ≡ out.old.items ++ spelled (echoed echo line.now)) }
+{
+    if echo {
+        out.extend_from_slice(line)?;
+        out.push(b'\r')?;
+    }
+    Ok(())
+}
+
+fn push_answer(answer: &[AnswerLine], out: &mut Vec<u8>) -> Result<(), AllocError>
+    ensures { OnOk result (out.new.items ≡ out.old.items ++ spelled (answers answer.now)) }
+{
+    for line in answer {
+        push_framed(line.text.as_slice(), out)?;
+    }
+    Ok(())
+}
+
+/// Does what a command line says, and writes the reply behind other octets. After an error nothing is said of either.
+fn reply(modem: &mut Modem, echo: bool, line: &[u8], out: &mut Vec<u8>) -> Result<(), SimError>
+    ensures reply { OnOk result (out.new.items ≡ out.old.items ++ spelled (reply echo modem.old line.now)) }
+    ensures state { OnOk result (modem.new ≡ (step modem.old line.now).state) }
+{
+    push_echo(echo, line, out)?;
+    let answer = modem.execute(line)?;
+    push_answer(&answer, out)?;
+    Ok(())
+}
+
+/// Reads an octet, and writes the reply to the line that it ends, if it ends one; says how many lines it ends.
+fn reply_to_octet(
+    modem: &mut Modem,
+    reader: &mut LineReader,
+    echo: bool,
+    octet: u8,
+    out: &mut Vec<u8>,
+) -> Result<usize, SimError>
+    ensures count { IfOk result (λ n. n ≡ length (lines (reader.old ++ octet ∷ []))) }
+    ensures one { IfOk result (λ n. n ≤ 1) }
+    ensures replies { OnOk result
+        (out.new.items ≡ out.old.items ++ spelled (replies echo modem.old (lines (reader.old ++ octet ∷ [])))) }
+    ensures state { OnOk result (modem.new ≡ after_lines modem.old (lines (reader.old ++ octet ∷ []))) }
+    ensures kept { OnOk result (reader.new ≡ kept_run (reader.old ++ octet ∷ [])) }
+{
+    let Some(line) = reader.push(octet) else {
+        return Ok(0);
+    };
+    reply(modem, echo, line.text, out)?;
+    Ok(1)
+}
+
+/// Reads octets that come on a connection, and writes the replies to the lines that end in them behind other octets; says
+/// how many lines those are. After an error nothing is said of modem, reader and octets: they are to be copies.
+pub(crate) fn reply_to(
+    modem: &mut Modem,
+    reader: &mut LineReader,
+    echo: bool,
+    octets: &[u8],
+    out: &mut Vec<u8>,
+) -> Result<usize, SimError>
+    requires { kept_run reader.old ≡ reader.old }
+    ensures count { IfOk result (λ n. n ≡ length (lines (reader.old ++ octets.now))) }
+    ensures replies { OnOk result
+        (out.new.items ≡ out.old.items ++ spelled (replies echo modem.old (lines (reader.old ++ octets.now)))) }
+    ensures state { OnOk result (modem.new ≡ after_lines modem.old (lines (reader.old ++ octets.now))) }
+    ensures kept { OnOk result (reader.new ≡ kept_run (reader.old ++ octets.now)) }
+{
+    let mut count = 0;
+    for octet in octets {
+        count += reply_to_octet(modem, reader, echo, *octet, out)?;
+    }
+    Ok(count)
+}
