@@ -1,5 +1,5 @@
 -- A request that the station's call accepts is in hand from then on.
-use Rattle.std.specs.Prelude.{◌≡◌, ℕ, ◌+◌, ◌<◌, ◌==◌, ◌&&◌, nat_le, nat_lt, Bool, true, false, List, [], ◌∷◌, ◌++◌, length, map, filter, filter_map, take, refl, Option, Some, None, if◌then◌else◌, ◌≤◌, Result, Ok, Err, IfOk}
+use Rattle.std.specs.Prelude.{◌≡◌, ℕ, ◌+◌, ◌<◌, ◌==◌, ◌&&◌, nat_le, nat_lt, Bool, true, false, List, [], ◌∷◌, ◌++◌, length, map, filter, filter_map, take, refl, Option, Some, None, if◌then◌else◌, Result, Ok, Err, IfOk}
 use Rattle.std.specs.List.{concat}
 use Rattle.std.proofs.Common.{ap, sym, ◌∙◌, subst, arith, append-nil}
 use Rattle.std.proofs.lemmas.Bool.Decides.{nat_tests}
@@ -218,6 +218,3 @@ pushed_on start pushed begun items a b n m s p e i =
 pub ok_too : {X E : Type 0} (P Q : X → Type 0) (r : Result X E) → ((x : X) → P x → Q x) → IfOk r P → IfOk r Q
 ok_too P Q (Ok x) h k = h x k
 ok_too P Q (Err e) h k = k
-
-pub full_so : (n : ℕ) → 128 ≤ n → nat_le 128 n ≡ true
-full_so n h = grind (arith, nat_tests)

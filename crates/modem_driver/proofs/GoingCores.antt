@@ -226,7 +226,7 @@ begun_of past d size = begun_between (accepted Initiator d past) (length (inform
 record BegunAt (v : Core) (d : ℕ) (b : Bool) (c : Request) : Type 0 where
   lanes : List Lane
   is : begun_on v (Some d) ≡ record v { lanes = lanes }
-  here : slice_index_or lanes d new_lane ≡ record { kept = (lane_at v d).kept; window = window_then b c (lane_at v d).window }
+  here : slice_index_or lanes d new_lane ≡ record (lane_at v d) { window = window_then b c (lane_at v d).window }
   there : (e : ℕ) → (d == e) ≡ false → slice_index_or lanes e new_lane ≡ lane_at v e
 
 begun_at : (v : Core) (d : ℕ) (c : Request) → first_on d v.hand ≡ Some c → (lane_at v d).window ≡ None → d < length v.lanes → BegunAt v d (nat_le (length (channel_at v.station d).waiting) v.station.n1) c

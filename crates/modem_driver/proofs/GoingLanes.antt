@@ -118,7 +118,7 @@ answered_same false c ms = ap answered (append-nil ms)
 pub lane_own : (d : ℕ) (info : List ℕ) (b : Bool) (c : Request) (seen : List station.Act) (past : List Act) (lane : Lane) → (d == 0) ≡ false → is_open Initiator d (wire past) ≡ true
     → open_window (marks Initiator d past) ≡ None
     → begun_between (accepted Initiator d past) (length (information_out Initiator d past)) (length (information_out Initiator d past) + length info) ≡ begins_at b c → LaneFits d seen past lane
-    → LaneFits d (station.Sent (written Initiator Uih d info) ∷ seen) (Sent (written Initiator Uih d info) ∷ past) (record { kept = lane.kept; window = window_then b c lane.window })
+    → LaneFits d (station.Sent (written Initiator Uih d info) ∷ seen) (Sent (written Initiator Uih d info) ∷ past) (record lane { window = window_then b c lane.window })
 lane_own d info b c seen past lane z o none begun f =
     let g = written Initiator Uih d info in
     let ms = marks Initiator d past in

@@ -45,3 +45,6 @@ pub mod DataLines
 pub mod DataLanes
 pub mod CoreData
 pub mod NeverFull
+pub mod CoreFlows
+pub mod CoreHolds
+pub mod CoreBegins

@@ -147,10 +147,11 @@ all_dropped zero (x ∷ xs) h = absurd (let e : suc (length xs) ≤ 0 = h in ome
 all_dropped (suc n) (x ∷ xs) h = all_dropped n xs (let e : suc (length xs) ≤ suc n = h in omega (arith, e))
 
 -- a frame is read from what is kept of its connection
-pub reads_frame : (v : Core) (f : Frame) (kinds : List UrcKind) (r : Reading) (first last : Read) → kinds ≡ v.kinds → r.dlci.number ≡ f.dlci → r.owner ≡ option_map owner_of (first_on f.dlci v.hand)
-    → first ≡ record { kept = (lane_at v f.dlci).kept; window = (lane_at v f.dlci).window; acts = Got f ∷ [] } → ReadsAll kinds r f.info first last → ReadsFrame v f (record { kept = last.kept; window = last.window }) last.acts
+pub reads_frame : (v : Core) (f : Frame) (kinds : List UrcKind) (r : Reading) (first last : Read) (held : Bool) → kinds ≡ v.kinds → r.dlci.number ≡ f.dlci → r.owner ≡ option_map owner_of (first_on f.dlci v.hand)
+    → first ≡ record { kept = (lane_at v f.dlci).kept; window = (lane_at v f.dlci).window; acts = Got f ∷ [] } → ReadsAll kinds r f.info first last
+    → ReadsFrame v f (record { kept = last.kept; window = last.window; held = held }) last.acts
 unfolding ReadsAll ReadsFrame
-reads_frame v f kinds r first last k d o e reads listens h =
+reads_frame v f kinds r first last held k d o e reads listens h =
     reads listens (subst (λ (x : List UrcKind). Listens listens x) (sym k) h)
     ∙ (ap (λ (n : ℕ). read_each listens n r.owner first f.info) d
     ∙ (ap (λ (x : Option Owner). read_each listens f.dlci x first f.info) o ∙ ap (λ (x : Read). read_each listens f.dlci (option_map owner_of (first_on f.dlci v.hand)) x f.info) e))

@@ -16,3 +16,4 @@ pub mod ReplayRows
 pub mod Ticked
 pub mod Reports
 pub mod Handing
+pub mod Holding

@@ -3,6 +3,7 @@ ghost use Rattle.std.specs.Prelude.{◌≡◌, ◌≢◌, ◌↔◌, ◌<◌, �
 ghost use Rattle.modem_history.specs.Acts.{Act as Happening, act_of, Lost};
 ghost use Rattle.modem_driver.specs.Lanes.{new_lane};
 ghost use Rattle.modem_driver.specs.Cores.{new_core, state_shown, Fits, Handles};
+ghost use Rattle.modem_driver.specs.Holding.{HoldsFit, KeepsHeld};
 ghost use Rattle.modem_driver.specs.declared.error.CoreError.TheVariants as CoreError;
 
 use crate::act_list::ActList;
@@ -65,8 +66,11 @@ fn new_lanes(alloc: Global) -> Result<Vec<Lane>, AllocError>
 impl Core {
     /// A driver with nothing open that listens to these kinds. N1 is how many octets of information a
     /// frame may have. Refusals: 2 BadN1 where it isn't 31 to 32767, checked first; 1 NoMemory.
+    #[tactic(auto, using(crate::proofs::CoreBegins::new_fits, crate::proofs::CoreHolds::nothing_held))]
     pub fn new(alloc: Global, n1: u16, kinds: &[UrcKind]) -> Result<Core, CoreError>
         ensures ok { IfOk result (λ c. c ≡ new_core n1 kinds.now) }
+        ensures past { IfOk result (λ c. Fits c []) }
+        ensures held { IfOk result (λ c. HoldsFit c []) }
         ensures bad_n1 { IsErrOf result CoreError.BadN1 ↔ ((n1 < 31) ⊎ (32767 < n1)) }
         ensures others { result ≢ Err CoreError.NoRoom }
     {
@@ -101,6 +105,7 @@ impl Core {
     #[tactic(auto, using(crate::proofs::CoreLosses::lost_handles))]
     pub fn lost(&mut self) -> Result<Vec<Act>, CoreError>
         ensures past { IfOk result (λ acts. Handles self.old self.new Lost (map act_of acts.items)) }
+        ensures holds { IfOk result (λ acts. KeepsHeld self.old self.new Lost (map act_of acts.items)) }
         ensures err { OnErr result (self.new ≡ self.old) }
         ensures no_memory { OnErr result (result ≡ Err CoreError.NoMemory) }
         ensures n1 { self.new.station.n1 ≡ self.old.station.n1 }

@@ -1,5 +1,5 @@
 //! The requests in hand.
-ghost use Rattle.std.specs.Prelude.{◌≡◌, ◌≤◌, ◌<◌, ◌+◌, ◌++◌, ◌∷◌, [], length, remove, slice_index_or, IfOk};
+ghost use Rattle.std.specs.Prelude.{◌≡◌, ◌≤◌, ◌<◌, ◌+◌, ◌++◌, ◌∷◌, [], length, remove, slice_index_or, IfOk, nat_le};
 
 use modem_desk::Request;
 use std::alloc::{AllocError, Global};
@@ -42,6 +42,13 @@ impl Hand {
         ensures few { result ≤ 128 }
     {
         self.requests.len()
+    }
+
+    /// Whether there are as many as may be.
+    pub(crate) fn is_full(&self) -> bool
+        ensures { result ≡ nat_le 128 (length self.now) }
+    {
+        self.requests.len() >= IN_HAND
     }
 
     /// The requests, lent.

@@ -6,11 +6,13 @@ use at_text::{LineReader, Window};
 use std::alloc::Global;
 use std::marker::Model;
 
-/// The unfinished line of a connection, and the window of its command.
+/// The unfinished line of a connection, the window of its command, and whether the other end is held from
+/// sending on it.
 #[derive(Drop)]
 pub(crate) struct Lane {
     pub(crate) reader: LineReader,
     pub(crate) window: Window,
+    pub(crate) held: bool,
 }
 
 impl Model for Lane {
@@ -18,7 +20,7 @@ impl Model for Lane {
 
     ghost Value = { Lane };
 
-    ghost view = { λ l. record { kept = l.reader; window = l.window } };
+    ghost view = { λ l. record { kept = l.reader; window = l.window; held = l.held } };
 }
 
 impl Lane {
@@ -29,6 +31,7 @@ impl Lane {
         Lane {
             reader: LineReader::new(),
             window: Window::new(alloc),
+            held: false,
         }
     }
 }

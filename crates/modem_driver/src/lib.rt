@@ -2,6 +2,7 @@
 #![tactic(auto)]
 
 mod act_list;
+mod backlog;
 mod driver;
 mod error;
 mod event;
@@ -23,3 +24,6 @@ pub use event::{Event, Octets};
 pub use modem_desk::{Answer, Ask, Outcome, Request, Urc};
 pub use modem_history::Act;
 pub use run::replay;
+
+#[cfg(test)]
+mod tests;

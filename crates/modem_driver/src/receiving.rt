@@ -85,6 +85,7 @@ impl Lane {
     {
         self.reader.reset();
         self.window.drop_command();
+        self.held = false;
     }
 }
 
@@ -149,6 +150,7 @@ impl Core {
     /// Reads the information of a frame on copies of what is kept of its connection.
     fn read(&self, frame: FrameView<'_>) -> Result<(Lane, Vec<Act>), CoreError>
         ensures read { IfOk result (λ p. ReadsFrame self.now (frame_of frame.entry) p.0 (map act_of p.1.items)) }
+        ensures held { IfOk result (λ p. p.0.held ≡ (lane_at self.now (frame_of frame.entry).dlci).held) }
         ensures no_memory { OnErr result (result ≡ Err CoreError.NoMemory) }
     {
         let reading = Reading {
@@ -170,7 +172,15 @@ impl Core {
             &mut window,
             &mut acts,
         )?;
-        Ok((Lane { reader, window }, acts))
+        let held = lane.held;
+        Ok((
+            Lane {
+                reader,
+                window,
+                held,
+            },
+            acts,
+        ))
     }
 
     /// The command under way on the connection has its answer: it is in hand no more, and the next one

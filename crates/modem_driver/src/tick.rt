@@ -7,6 +7,7 @@ ghost use Rattle.mux_station.specs.Stations.{channel_at};
 ghost use Rattle.modem_history.specs.Acts.{Sent, Tick, act_of};
 ghost use Rattle.modem_driver.specs.Ticked.{bared, queued_from, shown_asking, asking_from, is_probe_given};
 ghost use Rattle.modem_driver.specs.Cores.{Handles};
+ghost use Rattle.modem_driver.specs.Holding.{KeepsHeld};
 ghost use Rattle.modem_driver.specs.declared.error.CoreError.TheVariants as CoreError;
 
 use crate::act_list::ActList;
@@ -24,6 +25,7 @@ impl Core {
     /// Refusal: 1 NoMemory, which changes nothing.
     pub fn tick(&mut self) -> Result<Vec<Act>, CoreError>
         ensures past { IfOk result (λ acts. Handles self.old self.new Tick (map act_of acts.items)) }
+        ensures holds { IfOk result (λ acts. KeepsHeld self.old self.new Tick (map act_of acts.items)) }
         ensures err { OnErr result (self.new ≡ self.old) }
         ensures no_memory { OnErr result (result ≡ Err CoreError.NoMemory) }
         ensures n1 { self.new.station.n1 ≡ self.old.station.n1 }

@@ -9,6 +9,7 @@ ghost use Rattle.modem_driver.specs.Offers.{refused_command, TakesLine, OffersFi
 ghost use Rattle.modem_driver.specs.Refusals.{answer_of, told_act};
 ghost use Rattle.modem_driver.specs.Telling.{told_by, told_to, left_by};
 ghost use Rattle.modem_driver.specs.Cores.{state_shown, Handles};
+ghost use Rattle.modem_driver.specs.Holding.{KeepsHeld};
 ghost use Rattle.modem_driver.specs.declared.telling.Happened.TheVariants as happened;
 ghost use Rattle.modem_history.specs.declared.act.Act.TheVariants as act;
 ghost use Rattle.modem_driver.specs.declared.error.CoreError.TheVariants as CoreError;
@@ -89,8 +90,10 @@ impl Core {
     /// A request is taken: it is told at once, or is in hand from then on. After a loss of the line it is
     /// told LineLost, and Busy while 128 requests are in hand. Refusal: 1 NoMemory, which changes
     /// nothing and hands the request back.
+    #[tactic(auto, using(crate::proofs::CoreHolds::keeps_took))]
     pub fn took(&mut self, request: Request) -> Result<Vec<Act>, (CoreError, Request)>
         ensures past { IfOk result (λ acts. Handles self.old self.new (Took request) (map act_of acts.items)) }
+        ensures holds { IfOk result (λ acts. KeepsHeld self.old self.new (Took request) (map act_of acts.items)) }
         ensures err { OnErr result (self.new ≡ self.old) }
         ensures no_memory { IfErr result (λ e. e.0 ≡ CoreError.NoMemory) }
         ensures back { IfErr result (λ e. e.1 ≡ request) }
@@ -99,7 +102,7 @@ impl Core {
         if self.lost {
             return tell_once(self.alloc, request, Answer::LineLost);
         }
-        if self.hand.len() >= 128 {
+        if self.hand.is_full() {
             return tell_once(self.alloc, request, Answer::Busy);
         }
         match &request.ask {
@@ -129,6 +132,7 @@ impl Core {
         requires live { self.old.lost ≡ false }
         requires few { length self.old.hand < 128 }
         ensures past { IfOk result (λ acts. Handles self.old self.new (Took request) (map act_of acts.items)) }
+        ensures lanes { self.new.lanes ≡ self.old.lanes }
         ensures err { OnErr result (self.new ≡ self.old) }
         ensures no_memory { IfErr result (λ e. e.0 ≡ CoreError.NoMemory) }
         ensures back { IfErr result (λ e. e.1 ≡ request) }
@@ -149,6 +153,7 @@ impl Core {
         requires live { self.old.lost ≡ false }
         requires few { length self.old.hand < 128 }
         ensures past { IfOk result (λ acts. Handles self.old self.new (Took request) (map act_of acts.items)) }
+        ensures lanes { self.new.lanes ≡ self.old.lanes }
         ensures err { OnErr result (self.new ≡ self.old) }
         ensures no_memory { IfErr result (λ e. e.0 ≡ CoreError.NoMemory) }
         ensures back { IfErr result (λ e. e.1 ≡ request) }
@@ -175,6 +180,7 @@ impl Core {
         requires live { self.old.lost ≡ false }
         requires few { length self.old.hand < 128 }
         ensures past { IfOk result (λ acts. Handles self.old self.new (Took request) (map act_of acts.items)) }
+        ensures lanes { self.new.lanes ≡ self.old.lanes }
         ensures err { OnErr result (self.new ≡ self.old) }
         ensures no_memory { IfErr result (λ e. e.0 ≡ CoreError.NoMemory) }
         ensures back { IfErr result (λ e. e.1 ≡ request) }
@@ -201,6 +207,7 @@ impl Core {
         requires live { self.old.lost ≡ false }
         requires few { length self.old.hand < 128 }
         ensures past { IfOk result (λ acts. Handles self.old self.new (Took request) (map act_of acts.items)) }
+        ensures lanes { self.new.lanes ≡ self.old.lanes }
         ensures err { OnErr result (self.new ≡ self.old) }
         ensures no_memory { IfErr result (λ e. e.0 ≡ CoreError.NoMemory) }
         ensures back { IfErr result (λ e. e.1 ≡ request) }
@@ -225,6 +232,7 @@ impl Core {
         requires live { self.old.lost ≡ false }
         requires few { length self.old.hand < 128 }
         ensures past { IfOk result (λ acts. Handles self.old self.new (Took request) (map act_of acts.items)) }
+        ensures lanes { self.new.lanes ≡ self.old.lanes }
         ensures err { OnErr result (self.new ≡ self.old) }
         ensures no_memory { IfErr result (λ e. e.0 ≡ CoreError.NoMemory) }
         ensures back { IfErr result (λ e. e.1 ≡ request) }

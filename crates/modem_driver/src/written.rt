@@ -15,6 +15,11 @@ pub(crate) const CLD: u8 = 0xC3;
 
 pub(crate) const MSC: u8 = 0xE3;
 
+/// Signals of an MSC (27.010, 5.4.6.3.7): DV, RTR, RTC and EA, and the same with FC.
+pub(crate) const READY: u8 = 0x8D;
+
+pub(crate) const HELD_UP: u8 = 0x8F;
+
 pub(crate) const CONTROL: Dlci = Dlci { number: 0 };
 
 /// A frame as the initiator writes it.

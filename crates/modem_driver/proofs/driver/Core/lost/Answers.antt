@@ -9,6 +9,7 @@ use Rattle.modem_driver.specs.Telling.{told_by, told_to, left_by}
 use Rattle.modem_history.specs.declared.act.Act.TheVariants as code
 use Rattle.modem_driver.specs.declared.telling.Happened.TheVariants as happened
 use Rattle.modem_driver.proofs.CoreLosses.{lost_handles}
+use Rattle.modem_driver.proofs.CoreHolds.{keeps_lost}
 use Rattle.modem_driver.proofs.driver.Core.lost.Goals as goal
 
 -- src/driver.rt:99:5
@@ -24,3 +25,6 @@ returns-clause-past c =
     let acts : c.into_vec.result.items ≡ code.Lost ∷ told_to says hand
     = c.into_vec.ensures ∙ (c.tell.ensures.acts ∙ ap (λ (v : List code.the_data). v ++ told_to says hand) pushed) in
     subst (λ (v : Core). Handles v new Lost (map act_of c.into_vec.result.items)) c.self.view_is (lost_handles old new false c.into_vec.result.items same acts)
+
+pub returns-clause-holds : goal.returns-clause-holds
+returns-clause-holds c = keeps_lost c.args.self.now _ (map act_of c.into_vec.result.items) (returns-clause-past c)

@@ -23,12 +23,12 @@ returns-clause-read c =
     let first : Read = record { kept = c.copy-reader.result; window = c.in-Ok.window; acts = map act_of c.in_ok-acts.acts.items } in
     let last : Read = record { kept = c.read_octets.new.reader; window = c.read_octets.new.window; acts = map act_of c.read_octets.new.acts.items } in
     let reads : ReadsAll c.as_slice-2.result.now reading f.info first last = c.in_ok-read_octets.ensures in
-    let shown : record { kept = c.lane.inside.reader; window = c.lane.inside.window } ≡ c.index-lane.result.now = c.lane.view_is in
+    let shown : record { kept = c.lane.inside.reader; window = c.lane.inside.window; held = c.lane.inside.held } ≡ c.index-lane.result.now = c.lane.view_is in
     let place : c.index-lane.result.now ≡ lane_at old f.dlci
     = c.index-lane.ensures
     ∙ (ap (λ (n : ℕ). slice_index_or old.lanes n c.index-lane.result.now) (c.from.ensures ∙ c.number.ensures.number)
     ∙ get_or_default old.lanes f.dlci c.index-lane.result.now new_lane (subst (λ (n : ℕ). f.dlci < n) (sym c.self.invariant.all) c.args.frame.dlci.in_range)) in
-    let lane : record { kept = c.lane.inside.reader; window = c.lane.inside.window } ≡ lane_at old f.dlci = shown ∙ place in
+    let lane : record { kept = c.lane.inside.reader; window = c.lane.inside.window; held = c.lane.inside.held } ≡ lane_at old f.dlci = shown ∙ place in
     let kept : c.copy-reader.result ≡ (lane_at old f.dlci).kept = c.copy-reader.ensures ∙ ap (λ (x : Lane). x.kept) lane in
     let window : c.in-Ok.window ≡ (lane_at old f.dlci).window = c.in-Ok.ensures.copy ∙ ap (λ (x : Lane). x.window) lane in
     let acts : map act_of c.in_ok-acts.acts.items ≡ Got f ∷ [] = ap (map act_of) c.in_ok-acts.ensures.items ∙ ap (λ (g : Frame). Got g ∷ []) c.in_ok-to_buf.ensures in
@@ -38,5 +38,16 @@ returns-clause-read c =
     ∙ ap (λ (x : List Act). let v : Read = record { kept = (lane_at old f.dlci).kept; window = (lane_at old f.dlci).window; acts = x } in v) acts) in
     let owner : c.first_owner.result ≡ option_map owner_of (first_on f.dlci old.hand) = c.first_owner.ensures ∙ ap (λ (q : List Request). option_map owner_of (first_on f.dlci q)) c.as_slice.ensures in
     let kinds : c.as_slice-2.result.now ≡ old.kinds = c.as_slice-2.ensures.value in
-    subst (λ (v : Core). ReadsFrame v f (record { kept = c.read_octets.new.reader; window = c.read_octets.new.window }) (map act_of c.read_octets.new.acts.items)) c.self.view_is
-    (reads_frame old f c.as_slice-2.result.now reading first last kinds refl owner first_is reads)
+    subst (λ (v : Core). ReadsFrame v f (record { kept = c.read_octets.new.reader; window = c.read_octets.new.window; held = c.lane.inside.held }) (map act_of c.read_octets.new.acts.items)) c.self.view_is
+    (reads_frame old f c.as_slice-2.result.now reading first last c.lane.inside.held kinds refl owner first_is reads)
+
+pub returns-clause-held : goal.returns-clause-held
+returns-clause-held c =
+    let old : Core = record { station = c.self.inside.station; lanes = c.self.inside.lanes.items; hand = c.self.inside.hand; kinds = c.self.inside.kinds.items; lost = c.self.inside.lost } in
+    let f = frame_of c.args.frame in
+    let shown : record { kept = c.lane.inside.reader; window = c.lane.inside.window; held = c.lane.inside.held } ≡ c.index-lane.result.now = c.lane.view_is in
+    let place : c.index-lane.result.now ≡ lane_at old f.dlci
+    = c.index-lane.ensures
+    ∙ (ap (λ (n : ℕ). slice_index_or old.lanes n c.index-lane.result.now) (c.from.ensures ∙ c.number.ensures.number)
+    ∙ get_or_default old.lanes f.dlci c.index-lane.result.now new_lane (subst (λ (n : ℕ). f.dlci < n) (sym c.self.invariant.all) c.args.frame.dlci.in_range)) in
+    subst (λ (v : Core). c.lane.inside.held ≡ (lane_at v f.dlci).held) c.self.view_is (ap (λ (x : Lane). x.held) (shown ∙ place))

@@ -16,6 +16,7 @@ use Rattle.modem_driver.specs.Cores.{Core, Handles, state_shown}
 use Rattle.modem_history.specs.declared.act.Act.TheVariants as code
 use Rattle.modem_driver.specs.declared.telling.Happened.TheVariants as happened
 use Rattle.modem_driver.proofs.CoreTicks.{Ticks, tick_handles, tick_lost}
+use Rattle.modem_driver.proofs.CoreHolds.{keeps_tick}
 use Rattle.modem_driver.proofs.driver.Core.tick.Goals as goal
 use Rattle.modem_driver.proofs.driver.Core.tick.Goals.{then-ran, else-ran}
 
@@ -58,3 +59,9 @@ returns-clause-past c =
     } in
     subst (λ (x : Core). Handles x new Tick (map act_of c.into_vec-2.result.items)) c.self.view_is
     (tick_handles v new w c.tick-noticed.result.items g e c.into_vec-2.result.items c.self.invariant.role_is c.if-self.false ticks same acts)
+
+pub returns-then-self-clause-holds : goal.returns-then-self-clause-holds
+returns-then-self-clause-holds c = keeps_tick c.args.self.now c.args.self.now (map act_of c.into_vec.result.items) refl (returns-then-self-clause-past c)
+
+pub returns-clause-holds : goal.returns-clause-holds
+returns-clause-holds c = keeps_tick c.args.self.now _ (map act_of c.into_vec-2.result.items) (ap (λ (x : Core). x.lanes) c.self.view_is) (returns-clause-past c)

@@ -1,6 +1,6 @@
 -- What is told at once, whatever is asked.
-use Rattle.std.specs.Prelude.{◌≡◌, ◌≤◌, [], ◌∷◌, length, map, refl, IfOk, ℕ}
-use Rattle.std.proofs.Common.{subst}
+use Rattle.std.specs.Prelude.{◌≡◌, [], ◌∷◌, map, refl, IfOk}
+use Rattle.std.proofs.Common.{sym, ◌∙◌, subst}
 use Rattle.std.specs.Global.{Vec}
 use Rattle.modem_desk.specs.declared.request.Answer.TheVariants.{LineLost, Busy}
 use Rattle.modem_history.specs.Acts.{Took, act_of}
@@ -8,7 +8,8 @@ use Rattle.modem_driver.specs.Refusals.{told_act}
 use Rattle.modem_driver.specs.Cores.{Core, Handles}
 use Rattle.modem_history.specs.declared.act.Act.{Act}
 use Rattle.modem_history.specs.declared.act.Act.TheVariants as code
-use Rattle.modem_driver.proofs.CoreAccepts.{lost_told, full_handles, ok_too, full_so}
+use Rattle.modem_driver.proofs.CoreAccepts.{lost_told, full_handles, ok_too}
+use Rattle.modem_driver.proofs.CoreHolds.{keeps_took}
 use Rattle.modem_driver.proofs.driver.Core.took.Goals as goal
 
 pub returns-then-self-clause-past : goal.returns-then-self-clause-past
@@ -19,11 +20,17 @@ returns-then-self-clause-past c =
     (ok_too (λ (acts : Vec Act). acts.items ≡ code.Took q ∷ told_act q LineLost ∷ []) (λ (acts : Vec Act). Handles v v (Took q) (map act_of acts.items)) c.tell_once.result
     (λ acts h. lost_told v v q acts.items c.if-self.true refl h) c.tell_once.ensures.acts)
 
-pub returns-then-len-ge128-clause-past : goal.returns-then-len-ge128-clause-past
-returns-then-len-ge128-clause-past c =
+pub returns-then-is_full-clause-past : goal.returns-then-is_full-clause-past
+returns-then-is_full-clause-past c =
     let q = c.args.request in
     let v : Core = record { station = c.self.inside.station; lanes = c.self.inside.lanes.items; hand = c.self.inside.hand; kinds = c.self.inside.kinds.items; lost = c.self.inside.lost } in
-    let full = full_so (length v.hand) (subst (λ (n : ℕ). 128 ≤ n) c.len.ensures.value c.if-len-ge128.true) in
-    subst (λ (x : Core). IfOk c.tell_once-then-len-ge128.result (λ acts. Handles x x (Took q) (map act_of acts.items))) c.self.view_is
-    (ok_too (λ (acts : Vec Act). acts.items ≡ code.Took q ∷ told_act q Busy ∷ []) (λ (acts : Vec Act). Handles v v (Took q) (map act_of acts.items)) c.tell_once-then-len-ge128.result
-    (λ acts h. full_handles v v q acts.items c.self.invariant.role_is c.if-self.false full refl h) c.tell_once-then-len-ge128.ensures.acts)
+    let full = sym c.is_full.ensures ∙ c.if-is_full.true in
+    subst (λ (x : Core). IfOk c.tell_once-then-is_full.result (λ acts. Handles x x (Took q) (map act_of acts.items))) c.self.view_is
+    (ok_too (λ (acts : Vec Act). acts.items ≡ code.Took q ∷ told_act q Busy ∷ []) (λ (acts : Vec Act). Handles v v (Took q) (map act_of acts.items)) c.tell_once-then-is_full.result
+    (λ acts h. full_handles v v q acts.items c.self.invariant.role_is c.if-self.false full refl h) c.tell_once-then-is_full.ensures.acts)
+
+pub returns-then-self-clause-holds : goal.returns-then-self-clause-holds
+returns-then-self-clause-holds c = keeps_took c.tell_once.result c.args.self.now c.args.self.now c.args.request refl (returns-then-self-clause-past c)
+
+pub returns-then-is_full-clause-holds : goal.returns-then-is_full-clause-holds
+returns-then-is_full-clause-holds c = keeps_took c.tell_once-then-is_full.result c.args.self.now c.args.self.now c.args.request refl (returns-then-is_full-clause-past c)

@@ -1,0 +1,65 @@
+-- What a backlog of lines calls for, and that a core knows which connections are held.
+use Rattle.std.specs.Prelude.{◌≡◌, ℕ, ◌<◌, ◌==◌, ◌&&◌, ◌||◌, not, nat_le, nat_lt, Bool, true, false, List, [], Option, Some, None, if◌then◌else◌}
+use Rattle.mux_station.specs.declared.role.Role.TheVariants.{Initiator}
+use Rattle.mux_station.specs.Opening.{is_open}
+use Rattle.mux_station.specs.Tables.{by_flow, ready, held_up}
+use Rattle.modem_history.specs.Acts.{Act, Held, Freed, wire, after}
+use Rattle.modem_history.specs.Holding.{last_held, is_held}
+use Rattle.modem_history.specs.Calls.{Setting, seen, is_lost, all_have_room}
+use Rattle.modem_driver.specs.Cores.{Core, Fits, IsRun, IsSettingOf, MayCome, GoesOn, lane_at}
+
+-- so many lines wait for their listener: a connection is held from 256 on, and freed below 128
+abbrev pub flow_due : (opened : Bool) → (held : Bool) → (lines : ℕ) → Option Bool
+flow_due opened held lines =
+    if not opened then None
+    else if not held && nat_le 256 lines then Some false
+    else if held && nat_lt lines 128 then Some true
+    else None
+
+-- the act that it is then
+abbrev pub flow_act : ℕ → (go : Bool) → Act
+flow_act d true = Freed d
+flow_act d false = Held d
+
+-- what a backlog calls for; after a loss of the line, and of connection 0, nothing
+abbrev pub due_by : Setting → List Act → ℕ → (lines : ℕ) → Option Bool
+due_by s past d lines = if is_lost past || (d == 0) then None else flow_due (is_open s.role d (wire past)) (is_held s.role d past) lines
+
+-- the lanes know which connections are held
+pub record HoldsFit (v : Core) (past : List Act) : Type 0 where
+  pub held_are : (d : ℕ) → d < 62 → (d == 0) ≡ false → is_open Initiator d (wire past) ≡ true → last_held Initiator d past ≡ (lane_at v d).held
+
+-- a past after which a core may be asked
+pub record MayAsk (s : Setting) (v : Core) (past : List Act) : Type 0 where
+  pub setting : IsSettingOf s v
+  pub fits : Fits v past
+  pub holds : HoldsFit v past
+  pub run : IsRun s past
+
+-- the acts that are called for, and the core fits them
+abbrev pub FlowsOn : Setting → Core → Core → List Act → ℕ → Option Bool → List Act → Type 0
+FlowsOn s old new past d None acts = (acts ≡ []) × (new ≡ old)
+FlowsOn s old new past d (Some go) acts = GoesOn s new past (flow_act d go) acts × HoldsFit new (after past acts)
+
+-- whatever the setting and the past
+unfoldable pub Flows : Core → Core → ℕ → (lines : ℕ) → List Act → Type 0
+Flows old new d lines acts = (s : Setting) (past : List Act) → MayAsk s old past → FlowsOn s old new past d (due_by s past d lines) acts
+
+-- the frame that is called for has no place in the control queue
+abbrev pub LacksRoom : Setting → List Act → ℕ → Option Bool → Type 0
+LacksRoom s past d None = ⊥
+LacksRoom s past d (Some go) = all_have_room s (seen s past) (by_flow s.role (seen s past).state d (if go then ready else held_up)) ≡ false
+
+unfoldable pub HasNoRoom : Core → ℕ → (lines : ℕ) → Type 0
+HasNoRoom v d lines = (s : Setting) (past : List Act) → MayAsk s v past → LacksRoom s past d (due_by s past d lines)
+
+-- the same of the act that it is
+unfoldable pub Turns : Core → Core → ℕ → (go : Bool) → List Act → Type 0
+Turns old new d go acts = (s : Setting) (past : List Act) → MayAsk s old past → GoesOn s new past (flow_act d go) acts × HoldsFit new (after past acts)
+
+unfoldable pub CannotTurn : Core → ℕ → (go : Bool) → Type 0
+CannotTurn v d go = (s : Setting) (past : List Act) → MayAsk s v past → LacksRoom s past d (Some go)
+
+-- a call on another matter keeps what is held
+unfoldable pub KeepsHeld : Core → Core → Act → List Act → Type 0
+KeepsHeld old new a acts = (s : Setting) (past : List Act) → MayCome s old past a → HoldsFit old past → HoldsFit new (after past acts)

@@ -1,0 +1,105 @@
+//! What a core does about lines that wait for their listener.
+ghost use Rattle.std.specs.Prelude.{◌≡◌, ◌≢◌, ◌==◌, ◌||◌, [], ◌∷◌, false, true, length, map, Some, None, if◌then◌else◌, IfOk, OnErr, OnOk};
+ghost use Rattle.std.specs.Result.{result_err};
+ghost use Rattle.mux_station.specs.States.{is_opened};
+ghost use Rattle.mux_station.specs.Stations.{channel_at};
+ghost use Rattle.modem_history.specs.Acts.{act_of};
+ghost use Rattle.mux_station.specs.Tables.{ready, held_up};
+ghost use Rattle.modem_driver.specs.Lanes.{turned};
+ghost use Rattle.modem_driver.specs.Cores.{lane_at};
+ghost use Rattle.modem_history.specs.declared.act.Act.TheVariants as act;
+ghost use Rattle.modem_driver.specs.Holding.{flow_due, Flows, HasNoRoom, Turns, CannotTurn};
+ghost use Rattle.modem_driver.specs.declared.error.CoreError.TheVariants as CoreError;
+
+use crate::act_list::ActList;
+use crate::driver::Core;
+use crate::error::CoreError;
+use crate::lane::Lane;
+use crate::written::{HELD_UP, MSC, READY, message};
+use modem_history::Act;
+use mux_frame::Dlci;
+use mux_station::ChannelState;
+
+impl Core {
+    /// So many lines of a connection wait for a place at their listener: from 256 on the other end is asked to stop
+    /// sending on it, and below 128 to go on, by an MSC (27.010, 5.4.6.3.7). Refusals: 3 NoRoom in the control queue;
+    /// 1 NoMemory. Both change nothing.
+    pub fn backlog(&mut self, dlci: Dlci, lines: usize) -> Result<Vec<Act>, CoreError>
+        ensures past { IfOk result (λ acts. Flows self.old self.new dlci.number lines (map act_of acts.items)) }
+        ensures err { OnErr result (self.new ≡ self.old) }
+        ensures no_room { result ≡ Err CoreError.NoRoom → HasNoRoom self.old dlci.number lines }
+        ensures others { result ≢ Err CoreError.BadN1 }
+    {
+        match self.due(dlci, lines) {
+            None => Ok(Vec::new(self.alloc)),
+            Some(go) => self.turn_flow(dlci, go),
+        }
+    }
+
+    /// Whether the connection is to go on or to stop, if either.
+    fn due(&self, dlci: Dlci, lines: usize) -> Option<bool>
+        ensures { result ≡ (if self.now.lost || (dlci.number == 0) then None else flow_due (is_opened (channel_at self.now.station dlci.number).state) (lane_at self.now dlci.number).held lines) }
+    {
+        if self.lost || dlci.number() == 0 {
+            return None;
+        }
+        if self.station.state(dlci) != ChannelState::Opened {
+            return None;
+        }
+        let held = self.lanes[usize::from(dlci.number())].held;
+        if !held && lines >= 256 {
+            Some(false)
+        } else if held && lines < 128 {
+            Some(true)
+        } else {
+            None
+        }
+    }
+
+    /// Asks the other end to go on, or to stop.
+    fn turn_flow(&mut self, dlci: Dlci, go: bool) -> Result<Vec<Act>, CoreError>
+        requires live { self.old.lost ≡ false }
+        requires not_zero { (dlci.number == 0) ≡ false }
+        requires opened { is_opened (channel_at self.old.station dlci.number).state ≡ true }
+        requires held { (lane_at self.old dlci.number).held ≡ go }
+        ensures past { IfOk result (λ acts. Turns self.old self.new dlci.number go (map act_of acts.items)) }
+        ensures err { OnErr result (self.new ≡ self.old) }
+        ensures no_room { result ≡ Err CoreError.NoRoom → CannotTurn self.old dlci.number go }
+        ensures others { result ≢ Err CoreError.BadN1 }
+    {
+        let msc = message(self.alloc, MSC, &[4 * dlci.number() + 3, signals_of(go)])?;
+        let mut acts = ActList::with_room(self.alloc, 2)?;
+        acts.push(flow_act(dlci, go));
+        acts.push(Act::Sent(msc));
+        if let Err(_why) = self.station.flow(dlci, go) {
+            return Err(CoreError::NoRoom);
+        }
+        turn_lane(&mut self.lanes, dlci, !go);
+        Ok(acts.into_vec())
+    }
+}
+
+fn signals_of(go: bool) -> u8
+    ensures { result ≡ (if go then ready else held_up) }
+{
+    if go { READY } else { HELD_UP }
+}
+
+fn flow_act(dlci: Dlci, go: bool) -> Act
+    ensures { result ≡ (if go then act.Freed dlci else act.Held dlci) }
+{
+    if go {
+        Act::Freed(dlci)
+    } else {
+        Act::Held(dlci)
+    }
+}
+
+fn turn_lane(lanes: &mut Vec<Lane>, dlci: Dlci, held: bool)
+    requires { length lanes.old.items ≡ 62 }
+    ensures lanes { lanes.new.items ≡ turned lanes.old.items dlci.number held }
+    ensures all { length lanes.new.items ≡ 62 }
+{
+    let lane = &mut lanes[usize::from(dlci.number())];
+    lane.held = held;
+}
