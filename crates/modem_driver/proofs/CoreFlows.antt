@@ -44,7 +44,7 @@ use Rattle.modem_driver.specs.Telling.{told_to, left_by}
 use Rattle.modem_history.specs.Wholes.{taken, is_first, is_said, UsesOnce}
 use Rattle.modem_driver.specs.Cores.{Core, Fits, Runs, RunsUnless, LaneFits, IsRun, MayCome, GoesOn, lane_at, may_wait, state_shown, probe_or, probe_in}
 use Rattle.modem_history.specs.Holding.{last_held, is_held, OnHeld}
-use Rattle.modem_driver.specs.Holding.{flow_due, flow_act, due_by, HoldsFit, MayAsk, FlowsOn, Flows, LacksRoom, HasNoRoom, Turns, CannotTurn}
+use Rattle.modem_driver.specs.Holding.{due_in, flow_due, flow_act, due_by, HoldsFit, MayAsk, FlowsOn, Flows, LacksRoom, HasNoRoom, Turns, CannotTurn}
 use Rattle.modem_history.proofs.Said.{calls_said}
 use Rattle.modem_history.proofs.Begins.{opens_by_sent}
 use Rattle.modem_history.proofs.Ending.{frames_in, now_in, now_is, ended, end_of}
@@ -394,9 +394,6 @@ cannot_turn v d go x role lost b z o h s past m =
     ∙ (ap (λ (r : Role). has_room st.n1 (octets_of st.queue) (flow_frame d go r) && true) l.same_role ∙ none)))
 
 -- ## Whether it is due
-
-abbrev pub due_in : Core → ℕ → ℕ → Option Bool
-due_in v d lines = if v.lost || (d == 0) then None else flow_due (is_opened (channel_at v.station d).state) (lane_at v d).held lines
 
 due_same : (s : Setting) (v : Core) (past : List Act) (d lines : ℕ) → v.station.role ≡ Initiator → d < 62 → MayAsk s v past → due_by s past d lines ≡ due_in v d lines
 due_same s v past d lines role b m = by_lost v.lost refl (d == 0) refl

@@ -203,11 +203,11 @@ other_lane v l past r f d lane n o was k =
     plain_lane v l past r f d lane (unread_marks (own v l) d past f n (carries d f) (is_open Initiator d (wire past)) refl refl) o was k
 
 -- the lanes once the one that opens is afresh
-afresh_here : (opens : Bool) (d : ℕ) (lanes : List Lane) → opens ≡ true → d < length lanes → slice_index_or (afresh_if opens d lanes) d new_lane ≡ new_lane
+pub afresh_here : (opens : Bool) (d : ℕ) (lanes : List Lane) → opens ≡ true → d < length lanes → slice_index_or (afresh_if opens d lanes) d new_lane ≡ new_lane
 afresh_here true d lanes e l = get_or-set_same lanes d new_lane new_lane l
 afresh_here false d lanes e l = cc
 
-afresh_same : (opens : Bool) (d e : ℕ) (lanes : List Lane) → ((d == e) ≡ true → opens ≡ false) → slice_index_or (afresh_if opens d lanes) e new_lane ≡ slice_index_or lanes e new_lane
+pub afresh_same : (opens : Bool) (d e : ℕ) (lanes : List Lane) → ((d == e) ≡ true → opens ≡ false) → slice_index_or (afresh_if opens d lanes) e new_lane ≡ slice_index_or lanes e new_lane
 afresh_same false d e lanes h = refl
 afresh_same true d e lanes h = by_same (d == e) refl
   where

@@ -48,3 +48,4 @@ pub mod NeverFull
 pub mod CoreFlows
 pub mod CoreHolds
 pub mod CoreBegins
+pub mod FrameHolds

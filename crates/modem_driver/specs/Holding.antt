@@ -2,10 +2,14 @@
 use Rattle.std.specs.Prelude.{◌≡◌, ℕ, ◌<◌, ◌==◌, ◌&&◌, ◌||◌, not, nat_le, nat_lt, Bool, true, false, List, [], Option, Some, None, if◌then◌else◌}
 use Rattle.mux_station.specs.declared.role.Role.TheVariants.{Initiator}
 use Rattle.mux_station.specs.Opening.{is_open}
+use Rattle.mux_station.specs.States.{is_opened}
 use Rattle.mux_station.specs.Tables.{by_flow, ready, held_up}
+use Rattle.mux_station.specs.Stations.{channel_at}
 use Rattle.modem_history.specs.Acts.{Act, Held, Freed, wire, after}
 use Rattle.modem_history.specs.Holding.{last_held, is_held}
 use Rattle.modem_history.specs.Calls.{Setting, seen, is_lost, all_have_room}
+use Rattle.modem_driver.specs.CoreGoing.{StandsIn, gone_on}
+use Rattle.modem_driver.specs.GoingOut.{after_out}
 use Rattle.modem_driver.specs.Cores.{Core, Fits, IsRun, IsSettingOf, MayCome, GoesOn, lane_at}
 
 -- so many lines wait for their listener: a connection is held from 256 on, and freed below 128
@@ -24,6 +28,10 @@ flow_act d false = Held d
 -- what a backlog calls for; after a loss of the line, and of connection 0, nothing
 abbrev pub due_by : Setting → List Act → ℕ → (lines : ℕ) → Option Bool
 due_by s past d lines = if is_lost past || (d == 0) then None else flow_due (is_open s.role d (wire past)) (is_held s.role d past) lines
+
+-- the same by what a core keeps
+abbrev pub due_in : Core → ℕ → ℕ → Option Bool
+due_in v d lines = if v.lost || (d == 0) then None else flow_due (is_opened (channel_at v.station d).state) (lane_at v d).held lines
 
 -- the lanes know which connections are held
 pub record HoldsFit (v : Core) (past : List Act) : Type 0 where
@@ -63,3 +71,7 @@ CannotTurn v d go = (s : Setting) (past : List Act) → MayAsk s v past → Lack
 -- a call on another matter keeps what is held
 unfoldable pub KeepsHeld : Core → Core → Act → List Act → Type 0
 KeepsHeld old new a acts = (s : Setting) (past : List Act) → MayCome s old past a → HoldsFit old past → HoldsFit new (after past acts)
+
+-- and so does what goes out
+unfoldable pub KeepsHeldOut : Core → Type 0
+KeepsHeldOut v = (s : Setting) (past : List Act) → StandsIn s v past → HoldsFit v past → HoldsFit (gone_on v) (after_out s past)

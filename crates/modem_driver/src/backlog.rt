@@ -8,7 +8,7 @@ ghost use Rattle.mux_station.specs.Tables.{ready, held_up};
 ghost use Rattle.modem_driver.specs.Lanes.{turned};
 ghost use Rattle.modem_driver.specs.Cores.{lane_at};
 ghost use Rattle.modem_history.specs.declared.act.Act.TheVariants as act;
-ghost use Rattle.modem_driver.specs.Holding.{flow_due, Flows, HasNoRoom, Turns, CannotTurn};
+ghost use Rattle.modem_driver.specs.Holding.{due_in, Flows, HasNoRoom, Turns, CannotTurn};
 ghost use Rattle.modem_driver.specs.declared.error.CoreError.TheVariants as CoreError;
 
 use crate::act_list::ActList;
@@ -21,14 +21,15 @@ use mux_frame::Dlci;
 use mux_station::ChannelState;
 
 impl Core {
-    /// So many lines of a connection wait for a place at their listener: from 256 on the other end is asked to stop
-    /// sending on it, and below 128 to go on, by an MSC (27.010, 5.4.6.3.7). Refusals: 3 NoRoom in the control queue;
-    /// 1 NoMemory. Both change nothing.
+    /// So many lines of a connection wait for a place at their listener: from 256 on the other end is
+    /// asked to stop sending on it, and below 128 to go on, by an MSC (27.010, 5.4.6.3.7). Refusals: 3
+    /// NoRoom in the control queue; 1 NoMemory. Both change nothing.
     pub fn backlog(&mut self, dlci: Dlci, lines: usize) -> Result<Vec<Act>, CoreError>
         ensures past { IfOk result (λ acts. Flows self.old self.new dlci.number lines (map act_of acts.items)) }
         ensures err { OnErr result (self.new ≡ self.old) }
         ensures no_room { result ≡ Err CoreError.NoRoom → HasNoRoom self.old dlci.number lines }
         ensures others { result ≢ Err CoreError.BadN1 }
+        ensures n1 { self.new.station.n1 ≡ self.old.station.n1 }
     {
         match self.due(dlci, lines) {
             None => Ok(Vec::new(self.alloc)),
@@ -38,7 +39,7 @@ impl Core {
 
     /// Whether the connection is to go on or to stop, if either.
     fn due(&self, dlci: Dlci, lines: usize) -> Option<bool>
-        ensures { result ≡ (if self.now.lost || (dlci.number == 0) then None else flow_due (is_opened (channel_at self.now.station dlci.number).state) (lane_at self.now dlci.number).held lines) }
+        ensures { result ≡ due_in self.now dlci.number lines }
     {
         if self.lost || dlci.number() == 0 {
             return None;
@@ -66,6 +67,7 @@ impl Core {
         ensures err { OnErr result (self.new ≡ self.old) }
         ensures no_room { result ≡ Err CoreError.NoRoom → CannotTurn self.old dlci.number go }
         ensures others { result ≢ Err CoreError.BadN1 }
+        ensures n1 { self.new.station.n1 ≡ self.old.station.n1 }
     {
         let msc = message(self.alloc, MSC, &[4 * dlci.number() + 3, signals_of(go)])?;
         let mut acts = ActList::with_room(self.alloc, 2)?;

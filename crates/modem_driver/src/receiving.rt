@@ -12,6 +12,7 @@ ghost use Rattle.modem_history.specs.Requests.{commands_on, without_first};
 ghost use Rattle.modem_driver.specs.Reports.{owner_of};
 ghost use Rattle.modem_driver.specs.Handing.{Offers, OffersLine, EndsCommand, EndedBy, ReadsFrame};
 ghost use Rattle.modem_driver.specs.Receiving.{HasRoom, cut_to, sent_in, afresh_if, reads_data};
+ghost use Rattle.modem_driver.specs.Holding.{KeepsHeld};
 ghost use Rattle.modem_driver.specs.declared.error.CoreError.TheVariants as CoreError;
 
 use crate::act_list::ActList;
@@ -104,6 +105,8 @@ impl Core {
     fn got_lost(&self, frame: FrameView<'_>) -> Result<Vec<Act>, CoreError>
         requires { self.now.lost ≡ true }
         ensures past { IfOk result (λ acts. Handles self.now self.now (Got (frame_of frame.entry)) (map act_of acts.items)) }
+        ensures holds { IfOk result (λ acts.
+            KeepsHeld self.now self.now (Got (frame_of frame.entry)) (map act_of acts.items)) }
         ensures room { OnOk result (HasRoom self.now (Got (frame_of frame.entry)) true) }
         ensures no_memory { OnErr result (result ≡ Err CoreError.NoMemory) }
     {
@@ -118,6 +121,8 @@ impl Core {
         requires live { self.old.lost ≡ false }
         requires no_data { reads_data self.old (frame_of frame) ≡ false }
         ensures past { IfOk result (λ acts. Handles self.old self.new (Got (frame_of frame.entry)) (map act_of acts.items)) }
+        ensures holds { IfOk result (λ acts.
+            KeepsHeld self.old self.new (Got (frame_of frame.entry)) (map act_of acts.items)) }
         ensures room { OnOk result (HasRoom self.old (Got (frame_of frame.entry)) true) }
         ensures no_room { result ≡ Err CoreError.NoRoom → HasRoom self.old (Got (frame_of frame.entry)) false }
         ensures good_n1 { result ≢ Err CoreError.BadN1 }
@@ -221,6 +226,8 @@ impl Core {
         requires live { self.old.lost ≡ false }
         requires is_data { reads_data self.old (frame_of frame) ≡ true }
         ensures past { IfOk result (λ acts. Handles self.old self.new (Got (frame_of frame.entry)) (map act_of acts.items)) }
+        ensures holds { IfOk result (λ acts.
+            KeepsHeld self.old self.new (Got (frame_of frame.entry)) (map act_of acts.items)) }
         ensures room { OnOk result (HasRoom self.old (Got (frame_of frame.entry)) true) }
         ensures no_room { result ≡ Err CoreError.NoRoom → HasRoom self.old (Got (frame_of frame.entry)) false }
         ensures good_n1 { result ≢ Err CoreError.BadN1 }
@@ -251,6 +258,8 @@ impl Core {
     pub fn got(&mut self, frame: FrameView<'_>) -> Result<Vec<Act>, CoreError>
         requires { length frame.info.now ≤ most_info self.old.station.n1 frame.kind }
         ensures past { IfOk result (λ acts. Handles self.old self.new (Got (frame_of frame.entry)) (map act_of acts.items)) }
+        ensures holds { IfOk result (λ acts.
+            KeepsHeld self.old self.new (Got (frame_of frame.entry)) (map act_of acts.items)) }
         ensures room { OnOk result (HasRoom self.old (Got (frame_of frame.entry)) true) }
         ensures no_room { result ≡ Err CoreError.NoRoom → HasRoom self.old (Got (frame_of frame.entry)) false }
         ensures good_n1 { result ≢ Err CoreError.BadN1 }

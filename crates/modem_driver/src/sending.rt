@@ -8,6 +8,7 @@ ghost use Rattle.mux_station.specs.GivenFrames.{outgoing_of};
 ghost use Rattle.modem_history.specs.Information.{line_of};
 ghost use Rattle.modem_history.specs.Calls.{first_on};
 ghost use Rattle.modem_driver.specs.CoreGoing.{begun_by, begun_next, gone_on, GoesOut, GoesOn, LeavesLess, SendsTruly};
+ghost use Rattle.modem_driver.specs.Holding.{KeepsHeldOut};
 
 use crate::driver::Core;
 use at_text::CommandLine;
@@ -65,6 +66,7 @@ impl Core {
     pub fn outgoing(&mut self) -> Option<Outgoing<'_>>
         ensures frame { GoesOut self.old (option_map outgoing_of result) }
         ensures past { GoesOn self.old }
+        ensures holds { KeepsHeldOut self.old }
         ensures less { LeavesLess self.old (option_map outgoing_of result) }
         ensures idle { IfNone result (IsIdle self.old) }
         ensures* after { sem 𝓛 (Rests the_row self.entry (λ new. new ≡ gone_on self.old)) }

@@ -5,12 +5,15 @@ use Rattle.mux_frame.specs.Frames.{frame_of}
 use Rattle.mux_station.specs.Sending.{got_refused}
 use Rattle.mux_station.specs.Stations.{setting_of, seen_in}
 use Rattle.modem_history.specs.Acts.{Got, act_of}
-use Rattle.modem_driver.specs.Cores.{Core, Handles}
+use Rattle.modem_driver.specs.Cores.{Core, Handles, lane_at}
 use Rattle.modem_driver.specs.Receiving.{HasRoom, reads_data}
 use Rattle.modem_driver.specs.Handing.{ReadsFrame}
 use Rattle.modem_driver.proofs.GoingCores.{sound}
 use Rattle.modem_driver.proofs.CoreWords.{taken_room}
 use Rattle.mux_station.specs.Sending as station_sending
+use Rattle.std.proofs.lemmas.Bool.{and_parts}
+use Rattle.modem_driver.specs.Holding.{KeepsHeld}
+use Rattle.modem_driver.proofs.FrameHolds.{data_holds}
 use Rattle.modem_driver.proofs.Handed.{ended_n1}
 use Rattle.modem_driver.proofs.CoreData.{DataCame, data_handles}
 use Rattle.modem_driver.proofs.driver.Core.got_data.Goals as goal
@@ -44,3 +47,14 @@ pub returns-clause-n1 : goal.returns-clause-n1
 returns-clause-n1 c =
     ended_n1 _ _ c.keep.new.self c.args.frame.dlci.number c.keep.ensures
     ∙ (ap (λ (s : station_sending.Setting). s.n1) c.in-Ok.ensures.past.setting ∙ ap (λ (v : Core). v.station.n1) c.self.view_is)
+
+pub returns-clause-holds : goal.returns-clause-holds
+returns-clause-holds c =
+    let old : Core = record { station = c.self.inside.station; lanes = c.self.inside.lanes.items; hand = c.self.inside.hand; kinds = c.self.inside.kinds.items; lost = c.self.inside.lost } in
+    let f = frame_of c.args.frame in
+    let new = c.keep.new.self in
+    let acts = map act_of c.in_ok-lane.acts.items in
+    let quiet = (and_parts _ _ (ap (λ (v : Core). reads_data v f) c.self.view_is ∙ c.requires.is_data)).1 in
+    let held = subst (λ (v : Core). c.in_ok-lane.lane.held ≡ (lane_at v f.dlci).held) (sym c.self.view_is) c.in_ok-lane.ensures.held in
+    let handled = subst (λ (v : Core). Handles v new (Got f) acts) (sym c.self.view_is) (returns-clause-past c) in
+    subst (λ (v : Core). KeepsHeld v new (Got f) acts) c.self.view_is (data_holds old new f c.in_ok-lane.lane c.got.new.self _ acts quiet held c.keep.ensures handled)

@@ -21,6 +21,8 @@ use Rattle.modem_driver.specs.Telling.{told_by, told_to, left_by}
 use Rattle.modem_driver.specs.Receiving.{HasRoom, sent_in, answer_room, afresh_if, reads_data}
 use Rattle.mux_frame.specs.Spelling.{most_info}
 use Rattle.modem_driver.specs.Running.{IsIdle}
+use Rattle.modem_driver.specs.Holding.{KeepsHeld}
+use Rattle.modem_driver.proofs.FrameHolds.{word_holds}
 use Rattle.modem_driver.proofs.NeverFull.{never_full}
 use Rattle.modem_driver.proofs.GoingCores.{sound}
 use Rattle.modem_driver.proofs.CoreWords.{WordCame, word_handles, taken_room, refused_room}
@@ -99,3 +101,16 @@ returns-clause-room c =
     let taken : None ≡ got_refused (setting_of old.station) (seen_in old.station) f = c.in-Ok.ensures.refusal in
     subst (λ (v : Core). HasRoom v (Got f) true) c.self.view_is
     (taken_room old f (sound old c.self.inside.n1 c.self.invariant) (ap (λ (v : Core). v.lost) c.self.view_is ∙ c.requires.live) c.args.frame.dlci.in_range taken)
+
+pub returns-clause-holds : goal.returns-clause-holds
+returns-clause-holds c =
+    let old : Core = record { station = c.self.inside.station; lanes = c.self.inside.lanes.items; hand = c.self.inside.hand; kinds = c.self.inside.kinds.items; lost = c.self.inside.lost } in
+    let f = frame_of c.args.frame in
+    let n = c.in-Ok.noted in
+    let new = c.start_lane.new.self in
+    let acts = map act_of c.into_vec.result.items in
+    let live : old.lost ≡ false = ap (λ (v : Core). v.lost) c.self.view_is ∙ c.requires.live in
+    let lanes : new.lanes ≡ afresh_if (says_open n) f.dlci old.lanes = ap (λ (v : Core). v.lanes) c.start_lane.ensures ∙ ap (λ (b : Bool). afresh_if b f.dlci old.lanes) c.opens.ensures in
+    let handled = subst (λ (v : Core). Handles v new (Got f) acts) (sym c.self.view_is) (returns-clause-past c) in
+    subst (λ (v : Core). KeepsHeld v new (Got f) acts) c.self.view_is
+    (word_holds old new f n acts (sound old c.self.inside.n1 c.self.invariant) live c.args.frame.dlci.in_range c.in-Ok.ensures.noted_past lanes handled)

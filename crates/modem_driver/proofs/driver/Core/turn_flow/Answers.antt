@@ -4,6 +4,7 @@ use Rattle.std.proofs.Common.{ap, sym, ◌∙◌, subst}
 use Rattle.mux_frame.specs.Frames.{kept_frame}
 use Rattle.mux_station.specs.declared.role.Role.TheVariants.{Initiator}
 use Rattle.mux_station.specs.Messages.{msc}
+use Rattle.mux_station.specs.Sending as station_sending
 use Rattle.mux_station.specs.States.{is_opened}
 use Rattle.mux_station.specs.Tables.{message_frame}
 use Rattle.mux_station.specs.Stations.{channel_at}
@@ -51,3 +52,6 @@ returns-clause-past c =
     } in
     subst (λ (x : Core). Turns x new d.number go (map act_of c.into_vec.result.items)) c.self.view_is
     (turn_handles v new w d go c.in_ok-msc.msc c.into_vec.result.items c.self.invariant.role_is (ap (λ (x : Core). x.lost) c.self.view_is ∙ c.requires.live) c.self.invariant.all flowing same frame acts)
+
+pub returns-clause-n1 : goal.returns-clause-n1
+returns-clause-n1 c = ap (λ (s : station_sending.Setting). s.n1) c.in_default.ensures.past.setting ∙ ap (λ (v : Core). v.station.n1) c.self.view_is
