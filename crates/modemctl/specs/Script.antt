@@ -20,8 +20,10 @@ ArePairsOf octets pairs = (decode_of pairs ≡ Ok octets) × (octets ≢ [])
 abbrev pub Says : List ℕ → Order → Type 0
 Says line (order.Ask (ask.OpenChannel d)) = line ≡ codes "open " ++ number_text d.number
 Says line (order.Ask (ask.CloseChannel d)) = line ≡ codes "close " ++ number_text d.number
-Says line (order.Ask (ask.Command d text)) = (refusal_of text ≡ None) × (line ≡ codes "cmd " ++ number_text d.number ++ 32 ∷ text)
-Says line (order.Ask (ask.Probe octets)) = (pairs : List ℕ) × (line ≡ codes "probe " ++ pairs) × ArePairsOf octets pairs × (length octets ≤ 16)
+Says line (order.Ask (ask.Command d text)) =
+    (refusal_of text ≡ None) × (line ≡ codes "cmd " ++ number_text d.number ++ 32 ∷ text)
+Says line (order.Ask (ask.Probe octets)) =
+    (pairs : List ℕ) × (line ≡ codes "probe " ++ pairs) × ArePairsOf octets pairs × (length octets ≤ 16)
 Says line (order.Ask ask.Stop) = line ≡ codes "stop"
 Says line (order.Octets octets) = (pairs : List ℕ) × (line ≡ codes "in " ++ pairs) × ArePairsOf octets pairs
 Says line order.Tick = line ≡ codes "tick"
@@ -46,7 +48,8 @@ IsScript n [] [] = Unit {0}
 IsScript n [] (e ∷ events) = ⊥
 IsScript n ([] ∷ lines) events = IsScript n lines events
 IsScript n ((c ∷ line) ∷ lines) [] = ⊥
-IsScript n ((c ∷ line) ∷ lines) (event.Ask q ∷ events) = Says (c ∷ line) (order.Ask q.ask) × (q.caller ≡ 0) × (q.number ≡ n) × IsScript (n + 1) lines events
+IsScript n ((c ∷ line) ∷ lines) (event.Ask q ∷ events) =
+    Says (c ∷ line) (order.Ask q.ask) × (q.caller ≡ 0) × (q.number ≡ n) × IsScript (n + 1) lines events
 IsScript n ((c ∷ line) ∷ lines) (event.Octets x ∷ events) = Says (c ∷ line) (order.Octets x) × IsScript n lines events
 IsScript n ((c ∷ line) ∷ lines) (event.Tick ∷ events) = Says (c ∷ line) order.Tick × IsScript n lines events
 IsScript n ((c ∷ line) ∷ lines) (event.Lost ∷ events) = Says (c ∷ line) order.Lost × IsScript n lines events

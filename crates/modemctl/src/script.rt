@@ -37,14 +37,18 @@ fn dlci_of(word: &[u8]) -> Option<Dlci>
 
 /// The same, and every other word is refused.
 fn connection_of(word: &[u8]) -> Result<Dlci, Refusal>
-    ensures { MatchResult result (λ dlci. word.now ≡ number_text dlci.number) (λ why. (why ≡ Refusal.Bad) × ((n : ℕ) → n < 62 → word.now ≢ number_text n)) }
+    ensures { MatchResult result
+        (λ dlci. word.now ≡ number_text dlci.number)
+        (λ why. (why ≡ Refusal.Bad) × ((n : ℕ) → n < 62 → word.now ≢ number_text n)) }
 {
     dlci_of(word).ok_or(Refusal::Bad)
 }
 
 /// Pairs of hexadecimal digits, at least one.
 fn octets_of(alloc: Global, word: &[u8]) -> Result<Octets, Refusal>
-    ensures { MatchResult result (λ octets. ArePairsOf octets word.now) (λ why. why ≡ Refusal.Bad → (x : List ℕ) → ArePairsOf x word.now → ⊥) }
+    ensures { MatchResult result
+        (λ octets. ArePairsOf octets word.now)
+        (λ why. why ≡ Refusal.Bad → (x : List ℕ) → ArePairsOf x word.now → ⊥) }
 {
     let octets = hex::decode(alloc, word)?;
     if octets.is_empty() {
@@ -55,7 +59,9 @@ fn octets_of(alloc: Global, word: &[u8]) -> Result<Octets, Refusal>
 
 /// The same, at most 16.
 fn probe_of(alloc: Global, word: &[u8]) -> Result<ProbeData, Refusal>
-    ensures { MatchResult result (λ octets. ArePairsOf octets word.now × (length octets ≤ 16)) (λ why. why ≡ Refusal.Bad → (x : List ℕ) → ArePairsOf x word.now → length x ≤ 16 → ⊥) }
+    ensures { MatchResult result
+        (λ octets. ArePairsOf octets word.now × (length octets ≤ 16))
+        (λ why. why ≡ Refusal.Bad → (x : List ℕ) → ArePairsOf x word.now → length x ≤ 16 → ⊥) }
 {
     let octets = octets_of(alloc, word)?;
     ProbeData::new(octets.as_slice()).ok_or(Refusal::Bad)
