@@ -1,6 +1,6 @@
 -- A script's requests are numbered one after the other, so no number comes twice.
-use Rattle.std.specs.Prelude.{◌≡◌, ℕ, ◌+◌, ◌≤◌, ◌==◌, ◌&&◌, Bool, true, false, List, [], ◌∷◌, length, filter, refl, if◌then◌else◌}
-use Rattle.std.proofs.Common.{ap, sym, ◌∙◌, arith, eqb-true}
+use Rattle.std.specs.Prelude.{◌≡◌, ℕ, ◌+◌, ◌≤◌, ◌==◌, Bool, true, false, List, [], ◌∷◌, length, filter, refl, if◌then◌else◌}
+use Rattle.std.proofs.Common.{ap, ◌∙◌, arith, eqb-true}
 use Rattle.std.proofs.lemmas.Bool.{and_parts}
 use Rattle.modem_desk.specs.declared.request.Request.{Request}
 use Rattle.modem_history.specs.Wholes.{is_same, UsesOnce}
@@ -25,8 +25,8 @@ from_script ([] ∷ lines) n events h = from_script lines n events h
 from_script ((c ∷ line) ∷ lines) n [] h = absurd h
 from_script ((c ∷ line) ∷ lines) n (event.Ask q ∷ events) h = let x = h.2 in (omega (arith, x), lower n (n + 1) (requests events) (omega arith) (from_script lines (n + 1) events h.3))
 from_script ((c ∷ line) ∷ lines) n (event.Octets x ∷ events) h = from_script lines n events h.1
-from_script ((c ∷ line) ∷ lines) n (event.Tick ∷ events) h = absurd h
-from_script ((c ∷ line) ∷ lines) n (event.Lost ∷ events) h = absurd h
+from_script ((c ∷ line) ∷ lines) n (event.Tick ∷ events) h = from_script lines n events h.1
+from_script ((c ∷ line) ∷ lines) n (event.Lost ∷ events) h = from_script lines n events h.1
 
 -- none of the later ones has the number of an earlier one
 none_same : (r : Request) (n : ℕ) (qs : List Request) → r.number ≡ n → AllFrom (n + 1) qs → filter (is_same r) qs ≡ []
@@ -57,5 +57,5 @@ script_once ((c ∷ line) ∷ lines) n [] h r = absurd h
 script_once ((c ∷ line) ∷ lines) n (event.Ask q ∷ events) h r =
     at_most_once r q n (requests events) (is_same r q) refl h.2 (from_script lines (n + 1) events h.3) (script_once lines (n + 1) events h.3 r)
 script_once ((c ∷ line) ∷ lines) n (event.Octets x ∷ events) h r = script_once lines n events h.1 r
-script_once ((c ∷ line) ∷ lines) n (event.Tick ∷ events) h r = absurd h
-script_once ((c ∷ line) ∷ lines) n (event.Lost ∷ events) h r = absurd h
+script_once ((c ∷ line) ∷ lines) n (event.Tick ∷ events) h r = script_once lines n events h.1 r
+script_once ((c ∷ line) ∷ lines) n (event.Lost ∷ events) h r = script_once lines n events h.1 r

@@ -48,6 +48,14 @@ says_octets : (line : List ℕ) (lines : List (List ℕ)) (x : List ℕ) (events
 says_octets [] lines x events n f s h = absurd (f refl)
 says_octets (c ∷ line) lines x events n f s h = (s, h)
 
+says_tick : (line : List ℕ) (lines : List (List ℕ)) (events : List Event) (n : ℕ) → line ≢ [] → Says line order.Tick → IsScript n lines events → IsScript n (line ∷ lines) (event.Tick ∷ events)
+says_tick [] lines events n f s h = absurd (f refl)
+says_tick (c ∷ line) lines events n f s h = (s, h)
+
+says_lost : (line : List ℕ) (lines : List (List ℕ)) (events : List Event) (n : ℕ) → line ≢ [] → Says line order.Lost → IsScript n lines events → IsScript n (line ∷ lines) (event.Lost ∷ events)
+says_lost [] lines events n f s h = absurd (f refl)
+says_lost (c ∷ line) lines events n f s h = (s, h)
+
 -- a line with a request
 pub asked_next : (script left line rest : List ℕ) (events later : List Event) (asked place : ℕ) (q : Request) → AreEvents script left events asked place → input_lines left ≡ line ∷ input_lines rest → length rest < length left → line ≢ [] → Says line (order.Ask q.ask) → q.caller ≡ 0 → q.number ≡ asked + 1 → later ≡ events ++ event.Ask q ∷ [] → AreEvents script rest later (asked + 1) (place + 1)
 asked_next script left line rest events later asked place q h e l f s c m n = record {
@@ -65,5 +73,25 @@ heard_next script left line rest events later asked place x h e l f s n = record
   said = λ more i.
       rw (n, append_assoc events (event.Octets x ∷ []) more)
       (h.said (event.Octets x ∷ more) (rw e (says_octets line (input_lines rest) x more (asked + 1) f s i)));
+  few = let g = h.few in omega (arith, g);
+}
+
+-- a tick
+pub ticked_next : (script left line rest : List ℕ) (events later : List Event) (asked place : ℕ) → AreEvents script left events asked place → input_lines left ≡ line ∷ input_lines rest → length rest < length left → line ≢ [] → Says line order.Tick → later ≡ events ++ event.Tick ∷ [] → AreEvents script rest later asked (place + 1)
+ticked_next script left line rest events later asked place h e l f s n = record {
+  read = read_more IsNoOrder script left line rest place h.read e l (λ b. b.1 order.Tick s);
+  said = λ more i.
+      rw (n, append_assoc events (event.Tick ∷ []) more)
+      (h.said (event.Tick ∷ more) (rw e (says_tick line (input_lines rest) more (asked + 1) f s i)));
+  few = let g = h.few in omega (arith, g);
+}
+
+-- a loss
+pub lost_next : (script left line rest : List ℕ) (events later : List Event) (asked place : ℕ) → AreEvents script left events asked place → input_lines left ≡ line ∷ input_lines rest → length rest < length left → line ≢ [] → Says line order.Lost → later ≡ events ++ event.Lost ∷ [] → AreEvents script rest later asked (place + 1)
+lost_next script left line rest events later asked place h e l f s n = record {
+  read = read_more IsNoOrder script left line rest place h.read e l (λ b. b.1 order.Lost s);
+  said = λ more i.
+      rw (n, append_assoc events (event.Lost ∷ []) more)
+      (h.said (event.Lost ∷ more) (rw e (says_lost line (input_lines rest) more (asked + 1) f s i)));
   few = let g = h.few in omega (arith, g);
 }

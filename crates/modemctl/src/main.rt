@@ -7,6 +7,8 @@ mod framing;
 #[cfg(test)]
 mod hostile;
 mod input;
+#[cfg(test)]
+mod rows;
 mod runs;
 mod script;
 mod stop;

@@ -1,8 +1,7 @@
 //! The script that `replay` reads: a line for each event.
-ghost use Rattle.std.specs.Prelude.{◌≡◌, ◌≢◌, ℕ, ◌<◌, ◌++◌, List, [], Ok, MatchOption, MatchResult, codes};
-ghost use Rattle.hex.specs.Hex.{decode_of};
+ghost use Rattle.std.specs.Prelude.{◌≡◌, ◌≢◌, ℕ, ◌<◌, ◌≤◌, ◌++◌, List, length, MatchOption, MatchResult, codes};
 ghost use Rattle.modemctl.specs.Input.{IsReason, input_lines};
-ghost use Rattle.modemctl.specs.Script.{IsNoOrder, IsScript, IsServed, Says, SaysNothing, number_text};
+ghost use Rattle.modemctl.specs.Script.{ArePairsOf, IsNoOrder, IsNoWord, IsScript, Says, SaysNothing, number_text};
 ghost use Rattle.modemctl.specs.declared.stop.Refusal.TheVariants as Refusal;
 
 use crate::input::{next_line, split_once};
@@ -10,7 +9,7 @@ use crate::stop::{Refusal, Stop};
 use at_text::CommandLine;
 use modem_desk::{Ask, Request};
 use modem_driver::{Event, Octets};
-use mux_frame::Dlci;
+use mux_frame::{Dlci, ProbeData};
 use std::alloc::Global;
 
 /// What a line says.
@@ -18,6 +17,8 @@ use std::alloc::Global;
 enum Order {
     Ask(Ask),
     Octets(Octets),
+    Tick,
+    Lost,
 }
 
 /// The number of a connection in decimal without leading zeros: 0 to 61.
@@ -34,25 +35,36 @@ fn dlci_of(word: &[u8]) -> Option<Dlci>
     Dlci::new(number)
 }
 
-/// A connection that is served: 0 and 1 are.
-fn served(word: &[u8]) -> Result<Dlci, Refusal>
-    ensures { MatchResult result (λ dlci. IsServed dlci.number × (word.now ≡ number_text dlci.number)) (λ why. (why ≡ Refusal.Bad) × ((n : ℕ) → IsServed n → word.now ≢ number_text n)) }
+/// The same, and every other word is refused.
+fn connection_of(word: &[u8]) -> Result<Dlci, Refusal>
+    ensures { MatchResult result
+        (λ dlci. word.now ≡ number_text dlci.number)
+        (λ why. (why ≡ Refusal.Bad) × ((n : ℕ) → n < 62 → word.now ≢ number_text n)) }
 {
-    match dlci_of(word) {
-        Some(dlci) if dlci.number() < 2 => Ok(dlci),
-        _ => Err(Refusal::Bad),
-    }
+    dlci_of(word).ok_or(Refusal::Bad)
 }
 
 /// Pairs of hexadecimal digits, at least one.
 fn octets_of(alloc: Global, word: &[u8]) -> Result<Octets, Refusal>
-    ensures { MatchResult result (λ octets. (decode_of word.now ≡ Ok octets) × (octets ≢ [])) (λ why. why ≡ Refusal.Bad → (x : List ℕ) → decode_of word.now ≡ Ok x → x ≡ []) }
+    ensures { MatchResult result
+        (λ octets. ArePairsOf octets word.now)
+        (λ why. why ≡ Refusal.Bad → (x : List ℕ) → ArePairsOf x word.now → ⊥) }
 {
     let octets = hex::decode(alloc, word)?;
     if octets.is_empty() {
         return Err(Refusal::Bad);
     }
     Ok(Octets::from_vec(octets))
+}
+
+/// The same, at most 16.
+fn probe_of(alloc: Global, word: &[u8]) -> Result<ProbeData, Refusal>
+    ensures { MatchResult result
+        (λ octets. ArePairsOf octets word.now × (length octets ≤ 16))
+        (λ why. why ≡ Refusal.Bad → (x : List ℕ) → ArePairsOf x word.now → length x ≤ 16 → ⊥) }
+{
+    let octets = octets_of(alloc, word)?;
+    ProbeData::new(octets.as_slice()).ok_or(Refusal::Bad)
 }
 
 /// The words after `cmd`: a connection, one blank and a command line.
@@ -62,9 +74,21 @@ fn command_of(alloc: Global, words: &[u8]) -> Result<Order, Refusal>
     let Some((word, text)) = split_once(words, b' ') else {
         return Err(Refusal::Bad);
     };
-    let dlci = served(word)?;
+    let dlci = connection_of(word)?;
     let line = CommandLine::new(alloc, text)?;
     Ok(Order::Ask(Ask::Command(dlci, line)))
+}
+
+/// A line of one word.
+fn word_of(line: &[u8]) -> Option<Order>
+    ensures { MatchOption result (IsNoWord line.now) (Says line.now) }
+{
+    match line {
+        b"stop" => Some(Order::Ask(Ask::Stop)),
+        b"tick" => Some(Order::Tick),
+        b"lost" => Some(Order::Lost),
+        _ => None,
+    }
 }
 
 /// A line that isn't empty.
@@ -72,15 +96,21 @@ fn order_of(alloc: Global, line: &[u8]) -> Result<Order, Refusal>
     ensures { MatchResult result (Says line.now) (λ why. why ≡ Refusal.Bad → SaysNothing line.now) }
 {
     if let Some(word) = line.strip_prefix(b"open ") {
-        return Ok(Order::Ask(Ask::OpenChannel(served(word)?)));
+        return Ok(Order::Ask(Ask::OpenChannel(connection_of(word)?)));
+    }
+    if let Some(word) = line.strip_prefix(b"close ") {
+        return Ok(Order::Ask(Ask::CloseChannel(connection_of(word)?)));
     }
     if let Some(words) = line.strip_prefix(b"cmd ") {
         return command_of(alloc, words);
     }
+    if let Some(word) = line.strip_prefix(b"probe ") {
+        return Ok(Order::Ask(Ask::Probe(probe_of(alloc, word)?)));
+    }
     if let Some(word) = line.strip_prefix(b"in ") {
         return Ok(Order::Octets(octets_of(alloc, word)?));
     }
-    Err(Refusal::Bad)
+    word_of(line).ok_or(Refusal::Bad)
 }
 
 /// The events of a script. Requests are caller 0's and have the numbers from 1 in order. Refusals: the first bad
@@ -100,6 +130,8 @@ pub fn read_script(alloc: Global, script: &[u8]) -> Result<Vec<Event>, Stop>
         }
         match order_of(alloc, line) {
             Ok(Order::Octets(octets)) => events.push(Event::Octets(octets))?,
+            Ok(Order::Tick) => events.push(Event::Tick)?,
+            Ok(Order::Lost) => events.push(Event::Lost)?,
             Ok(Order::Ask(ask)) => {
                 asked += 1;
                 events.push(Event::Ask(Request {

@@ -12,9 +12,9 @@ use std::io::{ErrorKind, Read, Write};
 use std::process::Abort;
 use std::test::Fail;
 
-const P: &str = "open 0\nin f9037301d7f9\nopen 1\nin f907730115f9\n";
+pub const P: &str = "open 0\nin f9037301d7f9\nopen 1\nin f907730115f9\n";
 
-const P_ACTS: &str = "took 1 open 0\nsent f9033f011cf9\ngot 0 UA 1 1 -\ntold 1 opened\n\
+pub const P_ACTS: &str = "took 1 open 0\nsent f9033f011cf9\ngot 0 UA 1 1 -\ntold 1 opened\n\
     took 2 open 1\nsent f9073f01def9\ngot 1 UA 1 1 -\nsent f903ef09e305078dfbf9\ntold 2 opened\n";
 
 const CSQ_SENT: &str = "took 3 cmd 1 AT+CSQ\nsent f907ef0f41542b4353510dddf9\n";
@@ -32,7 +32,14 @@ const OK_FRAME: &str = "f905ef0d0d0a4f4b0d0a5ff9";
 
 const OK_FRAME_WITHOUT_FLAG: &str = "05ef0d0d0a4f4b0d0a5ff9";
 
-fn expect_replay(rt: &impl Abort, alloc: Global, script: &str, status: u8, acts: &str, said: &str) {
+pub fn expect_replay(
+    rt: &impl Abort,
+    alloc: Global,
+    script: &str,
+    status: u8,
+    acts: &str,
+    said: &str,
+) {
     let mut input = script.as_bytes();
     let mut output = Vec::new(alloc);
     let mut faults = Vec::new(alloc);
@@ -69,19 +76,6 @@ fn cut_script(alloc: Global, frames: &str) -> Result<String, Fail> {
         writeln!(script, "in {octet:02X}")?;
     }
     Ok(script)
-}
-
-#[test]
-fn the_control_channel_opens_once(rt: HostRuntime) {
-    expect_replay(
-        &rt,
-        rt.alloc(),
-        "open 0\nin f9037301d7f9\nopen 0",
-        0,
-        "took 1 open 0\nsent f9033f011cf9\ngot 0 UA 1 1 -\ntold 1 opened\n\
-            took 2 open 0\ntold 2 alreadyopen\n",
-        "",
-    );
 }
 
 #[test]
@@ -158,6 +152,17 @@ fn the_first_bad_line_is_named_and_nothing_runs(rt: HostRuntime) -> Result<(), F
         "open",
         "open ",
         "open 0 ",
+        "close 62",
+        "close 1 ",
+        "cmd 62 AT",
+        "probe",
+        "probe ",
+        "probe 4",
+        "probe 000102030405060708090a0b0c0d0e0f10",
+        "stop ",
+        "tick 1",
+        " lost",
+        "Lost",
         "open  0",
         " open 0",
         "open 0\r\r",

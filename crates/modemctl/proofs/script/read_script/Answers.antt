@@ -1,7 +1,7 @@
 use Rattle.std.proofs.Common.{◌+◌, refl}
 use Rattle.modemctl.specs.Script.{IsNoOrder}
 use Rattle.modemctl.proofs.Readings.{refused}
-use Rattle.modemctl.proofs.Scripts.{all_events, asked_next, heard_next, no_line, skipped, some_line}
+use Rattle.modemctl.proofs.Scripts.{all_events, asked_next, heard_next, lost_next, no_line, skipped, some_line, ticked_next}
 use Rattle.modemctl.proofs.script.read_script.Goals as goal
 
 pub loop-line-preserved-then-is_empty : goal.loop-line-preserved-then-is_empty
@@ -14,6 +14,18 @@ loop-line-preserved-in-Continue-1 c =
     heard_next c.args.script.now c.loop-line.left.now c.in-Some.line.now c.in-Some.rest.now c.loop-line.events.items _ c.loop-line.asked c.loop-line.place c.in-Ok-Octets.octets
     c.loop-line.invariant c.in-Some.ensures.cut c.in-Some.ensures.shorter (some_line c.in-Some.line.now c.if-is_empty.ensures)
     (rw c.in-Ok-Octets.field-0-is at c.in-Ok-Octets.ensures) c.in_ok-push-in-Ok-Octets.ensures.items
+
+pub loop-line-preserved-in-Continue-branch-2 : goal.loop-line-preserved-in-Continue-branch-2
+loop-line-preserved-in-Continue-branch-2 c =
+    ticked_next c.args.script.now c.loop-line.left.now c.in-Some.line.now c.in-Some.rest.now c.loop-line.events.items _ c.loop-line.asked c.loop-line.place
+    c.loop-line.invariant c.in-Some.ensures.cut c.in-Some.ensures.shorter (some_line c.in-Some.line.now c.if-is_empty.ensures)
+    (rw c.in-Ok-Tick.field-0-is at c.in-Ok-Tick.ensures) c.in_ok-push-in-Ok-Tick.ensures.items
+
+pub loop-line-preserved-in-Continue-branch-3 : goal.loop-line-preserved-in-Continue-branch-3
+loop-line-preserved-in-Continue-branch-3 c =
+    lost_next c.args.script.now c.loop-line.left.now c.in-Some.line.now c.in-Some.rest.now c.loop-line.events.items _ c.loop-line.asked c.loop-line.place
+    c.loop-line.invariant c.in-Some.ensures.cut c.in-Some.ensures.shorter (some_line c.in-Some.line.now c.if-is_empty.ensures)
+    (rw c.in-Ok-Lost.field-0-is at c.in-Ok-Lost.ensures) c.in_ok-push-in-Ok-Lost.ensures.items
 
 pub loop-line-preserved : goal.loop-line-preserved
 loop-line-preserved c =
