@@ -22,3 +22,4 @@ pub mod Traces
 pub mod Senders
 pub mod PastTicks
 pub mod PastTurns
+pub mod StepRowFacts

@@ -24,3 +24,6 @@ pub mod Getting
 pub mod Traces
 pub mod GivenUp
 pub mod Senders
+pub mod StepRows
+pub mod ResponderSteps
+pub mod InitiatorSteps
