@@ -49,3 +49,7 @@ pub mod CoreFlows
 pub mod CoreHolds
 pub mod CoreBegins
 pub mod FrameHolds
+pub mod SubmittedOrder
+pub mod NumbersOnce
+pub mod RequestPlaces
+pub mod Headlines

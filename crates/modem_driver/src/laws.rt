@@ -1,5 +1,6 @@
-//! Laws of replays.
+//! Laws of replays, and the headline.
 ghost use Rattle.std.specs.Prelude.{ℕ, List};
+ghost use Rattle.modem_driver.specs.Headline.{IsHeadline, Run};
 ghost use Rattle.modem_driver.specs.Replays.{Brought, Replays};
 ghost use Rattle.modem_driver.specs.ReplayRows.{NoReplay, frame_invented, lost_by_itself, one_request, request_dropped, two_requests};
 ghost use Rattle.modem_driver.specs.declared.event.Event.{Event};
@@ -13,4 +14,13 @@ pub fn replays()
     ensures no_loss { NoReplay two_requests lost_by_itself }
     ensures no_invention { NoReplay one_request frame_invented }
     ensures none_dropped { NoReplay two_requests request_dropped }
+{}
+
+/// The headline, of every run whose desk was settled with the driver's end that `finish` gave and with all its callers:
+/// what left on a connection since it opened is a prefix of its callers' command lines taken since then, each once, each
+/// caller's in its submitted order, none after a close; each answered command has just its solicited lines up to its final
+/// code; each subscribed unsolicited line was announced once; and every caller holds each of its outcomes once.
+#[tactic(auto, using(crate::proofs::Headlines::headline))]
+pub fn headlines()
+    ensures headline { (run : Run) → IsHeadline run }
 {}

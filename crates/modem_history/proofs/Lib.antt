@@ -1,3 +1,4 @@
+pub mod Filters
 pub mod Said
 pub mod WholeLaws
 pub mod Leaving

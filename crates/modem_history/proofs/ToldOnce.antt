@@ -9,6 +9,7 @@ use Rattle.modem_history.specs.Acts.{is_for}
 use Rattle.modem_history.specs.Requests.{is_apart, are_distinct}
 use Rattle.modem_history.specs.Wholes.{UsesOnce, is_same}
 use Rattle.modem_history.specs.Sessions.{of_caller}
+use Rattle.modem_history.proofs.Filters.{passed, taken_too}
 
 both_true : (a b : Bool) → a ≡ true → b ≡ true → (a && b) ≡ true
 both_true true b h k = k
@@ -21,12 +22,6 @@ off false h k = cc
 clash : (b : Bool) → b ≡ false → b ≡ true → ⊥
 clash true h k = cc
 clash false h k = cc
-
-passed : {A : Type 0} (t : A → Bool) (x : A) (xs : List A) → t x ≡ false → filter t (x ∷ xs) ≡ filter t xs
-passed t x xs h = ap (λ (b : Bool). if b then x ∷ filter t xs else filter t xs) h
-
-taken_too : {A : Type 0} (t : A → Bool) (x : A) (xs : List A) → t x ≡ true → filter t (x ∷ xs) ≡ x ∷ filter t xs
-taken_too t x xs h = ap (λ (b : Bool). if b then x ∷ filter t xs else filter t xs) h
 
 -- by caller and number one request, so not apart
 not_apart : (r q s : Request) (b : Bool) → is_same r s ≡ b → is_same r q ≡ true → is_apart q s ≡ true → b ≡ false

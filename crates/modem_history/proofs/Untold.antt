@@ -13,6 +13,7 @@ use Rattle.modem_history.specs.Calls.{Setting}
 use Rattle.modem_history.specs.Lawful.{Lawful}
 use Rattle.modem_history.specs.Wholes.{taken, outcomes}
 use Rattle.modem_history.specs.SessionLaws.{untold}
+use Rattle.modem_history.proofs.Filters.{passed, taken_too}
 use Rattle.modem_history.proofs.Hands.{all_apart}
 use Rattle.modem_history.proofs.Stays.{distinct_ends}
 use Rattle.modem_history.proofs.Outcomes.{answers_once}
@@ -66,7 +67,7 @@ still_all qs r (o ∷ os) h =
     both_true _ _ (list_any-append (λ q. is_for q o) qs (r ∷ []) ∙ or_more _ _ parts.0) (still_all qs r os parts.1)
 
 -- each outcome is that of a request that was taken
-all_answer : (s : Setting) (past : List Act) → Lawful s past → list_all (λ o. list_any (λ q. is_for q o) (taken past)) (outcomes past) ≡ true
+pub all_answer : (s : Setting) (past : List Act) → Lawful s past → list_all (λ o. list_any (λ q. is_for q o) (taken past)) (outcomes past) ≡ true
 unfolding Lawful
 all_answer s [] l = refl
 all_answer s (Told o ∷ past) l =
@@ -85,12 +86,6 @@ all_answer s (Given ∷ past) l = all_answer s past l.1
 abbrev waits_yet : List Outcome → Request → Bool
 waits_yet os r = not (list_any (λ o. is_for r o) os)
 
-kept : (t : Request → Bool) (q : Request) (qs : List Request) → t q ≡ true → filter t (q ∷ qs) ≡ q ∷ filter t qs
-kept t q qs h = ap (λ (b : Bool). if b then q ∷ filter t qs else filter t qs) h
-
-gone : (t : Request → Bool) (q : Request) (qs : List Request) → t q ≡ false → filter t (q ∷ qs) ≡ filter t qs
-gone t q qs h = ap (λ (b : Bool). if b then q ∷ filter t qs else filter t qs) h
-
 -- two tests one after the other
 twice : (p q r : Request → Bool) → ((x : Request) → r x ≡ (q x && p x)) → (xs : List Request) → filter p (filter q xs) ≡ filter r xs
 twice p q r h [] = refl
@@ -98,13 +93,13 @@ twice p q r h (x ∷ xs) = by_tests (q x) (p x) refl refl (twice p q r h xs)
   where
     by_tests : (a b : Bool) → q x ≡ a → p x ≡ b → filter p (filter q xs) ≡ filter r xs → filter p (filter q (x ∷ xs)) ≡ filter r (x ∷ xs)
     by_tests true true e k rest =
-        ap (filter p) (kept q x xs e) ∙ (kept p x (filter q xs) k ∙ (ap (λ (ys : List Request). x ∷ ys) rest
-        ∙ sym (kept r x xs (h x ∙ both_true (q x) (p x) e k))))
+        ap (filter p) (taken_too q x xs e) ∙ (taken_too p x (filter q xs) k ∙ (ap (λ (ys : List Request). x ∷ ys) rest
+        ∙ sym (taken_too r x xs (h x ∙ both_true (q x) (p x) e k))))
     by_tests true false e k rest =
-        ap (filter p) (kept q x xs e) ∙ (gone p x (filter q xs) k ∙ (rest
-        ∙ sym (gone r x xs (h x ∙ (ap (λ (b : Bool). b && p x) e ∙ k)))))
+        ap (filter p) (taken_too q x xs e) ∙ (passed p x (filter q xs) k ∙ (rest
+        ∙ sym (passed r x xs (h x ∙ (ap (λ (b : Bool). b && p x) e ∙ k)))))
     by_tests false b e k rest =
-        ap (filter p) (gone q x xs e) ∙ (rest ∙ sym (gone r x xs (h x ∙ ap (λ (b : Bool). b && p x) e)))
+        ap (filter p) (passed q x xs e) ∙ (rest ∙ sym (passed r x xs (h x ∙ ap (λ (b : Bool). b && p x) e)))
 
 neither : (a b : Bool) → not (a || (b || false)) ≡ (not a && not b)
 neither true b = refl
