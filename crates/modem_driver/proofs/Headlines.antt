@@ -1,14 +1,13 @@
 -- What a session and its desk come to, from their opening to their settlement.
 use Rattle.std.proofs.Common.{ap, sym, subst, ◌∙◌, arith, eqb-true}
-use Rattle.std.proofs.lemmas.Bool.{and_parts, and_from, eq-eqb, ltb-true}
-use Rattle.std.proofs.lemmas.List.{append-nil, append_assoc}
+use Rattle.std.proofs.lemmas.Bool.{and_parts, and_from, ltb-true}
+use Rattle.std.proofs.lemmas.List.{append_assoc}
 use Rattle.std.proofs.lemmas.List.Elements.{filter-append, All-nil, All-cons, All-contains}
 use Rattle.std.proofs.lemmas.List.Folds.{list_any-append}
-use Rattle.std.specs.Prelude.{◌≡◌, ℕ, zero, suc, ◌+◌, ◌≤◌, ◌<◌, ◌==◌, ◌&&◌, ◌||◌, nat_lt, Bool, true, false, List, [], ◌∷◌, ◌++◌, length, map, drop, filter, option_to_list, slice_index_or, refl, if◌then◌else◌, All, Contains}
+use Rattle.std.specs.Prelude.{◌≡◌, ℕ, zero, suc, ◌+◌, ◌≤◌, ◌<◌, ◌==◌, ◌||◌, nat_lt, Bool, true, false, List, [], ◌∷◌, ◌++◌, length, map, drop, filter, option_to_list, slice_index_or, refl, if◌then◌else◌, All, Contains}
 use Rattle.std.specs.List.{list_all, list_any}
 use mathlib.Core.Option.{some, some-injective, some-ne-none}
 use lib.ListN.{get_elem?}
-use Rattle.mux_frame.specs.Frames.{Frame}
 use Rattle.mux_station.specs.Written.{is_data_frame}
 use Rattle.mux_station.specs.Opening.{is_open}
 use Rattle.mux_station.specs.declared.role.Role.TheVariants.{Initiator}
@@ -16,11 +15,11 @@ use Rattle.modem_desk.specs.declared.request.Request.{Request}
 use Rattle.modem_desk.specs.declared.request.Outcome.{Outcome}
 use Rattle.modem_desk.specs.declared.request.Urc.{Urc}
 use Rattle.modem_desk.specs.Rule.{of_caller}
-use Rattle.modem_desk.specs.Ends.{CallerView, Each, IsEarAt, ListenerView, Place, ear_of, place_of}
+use Rattle.modem_desk.specs.Ends.{CallerView, Each, ListenerView, Place, ear_of, place_of}
 use Rattle.modem_desk.proofs.Places.{map_at}
 use Rattle.at_text.specs.declared.unsolicited.UrcKind.{UrcKind}
-use Rattle.modem_history.specs.Acts.{Act, Sent, is_for, wire, in_hand}
-use Rattle.modem_history.specs.Information.{accepted, command_on}
+use Rattle.modem_history.specs.Acts.{Act, Sent, is_for, wire}
+use Rattle.modem_history.specs.Information.{command_on}
 use Rattle.modem_history.specs.Kinds.{of_kind}
 use Rattle.modem_history.specs.Lawful.{Gated, Lawful, When, owed}
 use Rattle.modem_history.specs.Requests.{are_distinct}
@@ -37,7 +36,7 @@ use Rattle.modem_history.proofs.Owns.{tells_own}
 use Rattle.modem_history.proofs.Stays.{distinct_front}
 use Rattle.modem_history.proofs.ToldOnce.{of_its_caller, uses_once}
 use Rattle.modem_history.proofs.Untold.{all_answer, hand_is}
-use Rattle.modem_driver.specs.Headline.{AnswersOwn, Announces, HasEnd, HasOnePlace, Headline, HearsEach, Holds, InSubmittedOrder, IsHeadline, IsSettled, Leaves, NoneAfterClose, Run, outcomes_of}
+use Rattle.modem_driver.specs.Headline.{AnswersOwn, Announces, HasEnd, HasOnePlace, HearsEach, Holds, InSubmittedOrder, IsHeadline, IsSettled, NoneAfterClose, Run, outcomes_of}
 use Rattle.modem_driver.proofs.NumbersOnce.{all_once, none_beyond, numbered_once}
 use Rattle.modem_driver.proofs.RequestPlaces.{counted_own, is_counted, one_place}
 use Rattle.modem_driver.proofs.SubmittedOrder.{Stretch, stretch_of}
@@ -86,7 +85,7 @@ submitted_are run s past f i c at =
     ∙ (ap (λ (qs : List Request). qs ++ of_caller n run.settlement.left) (filter-append (λ (q : Request). q.caller == n) (taken past) (aside_of run))
     ∙ append_assoc (of_caller n (taken past)) (of_caller n (aside_of run)) (of_caller n run.settlement.left)))
 
-in_order : (run : Run) (s : IsSettled run) (past : List Act) → SessionFits run.start run.session past → (d : ℕ) → Each (λ i c. InSubmittedOrder d past c) run.callers
+in_order : (run : Run) (s : IsSettled run) (past : List Act) → SessionFits run.start run.session past → (d : ℕ) → Each (λ i c. InSubmittedOrder d past c.place.number c.submitted) run.callers
 in_order run s past f d i c at =
     let n = c.place.number in
     let own = λ (q : Request). q.caller == n in
@@ -184,7 +183,7 @@ stands_once run s past f i c at r own in_it =
     let l = counted_own r run.settlement.left in
     omega (arith, few, some, whole, t, a, l)
 
-has_one_place : (run : Run) (s : IsSettled run) (e : HasEnd run) (i : ℕ) (c : CallerView) → get_elem? run.callers i ≡ some c → (r : Request) → Contains c.submitted r → HasOnePlace run (outcomes_of run i c) r
+has_one_place : (run : Run) (s : IsSettled run) (e : HasEnd run) (i : ℕ) (c : CallerView) → get_elem? run.callers i ≡ some c → (r : Request) → Contains c.submitted r → HasOnePlace (outcomes_of run i c) run.leftovers.in_hand run.settlement.left r
 has_one_place run s e i c at r in_it =
     let n = c.place.number in
     let f = e.fits in
@@ -229,6 +228,7 @@ own_answers n qs more (o ∷ os) h =
   where
     test : Outcome → Bool
     test p = list_any (λ q. is_for q p) (of_caller n qs ++ more)
+
     by_caller : (b : Bool) → (o.caller == n) ≡ b → list_any (λ q. is_for q o) qs ≡ true → list_all test (session.of_caller n os) ≡ true
         → list_all test (if b then o ∷ session.of_caller n os else session.of_caller n os) ≡ true
     by_caller true e here rest =

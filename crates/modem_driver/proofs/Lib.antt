@@ -53,3 +53,4 @@ pub mod SubmittedOrder
 pub mod NumbersOnce
 pub mod RequestPlaces
 pub mod Headlines
+pub mod HeadlineRowFacts

@@ -1,7 +1,7 @@
 -- At a desk no caller uses a number twice: its books number each caller's requests one after the other.
-use Rattle.std.proofs.Common.{ap, sym, subst, ◌∙◌, arith, eqb-true}
+use Rattle.std.proofs.Common.{ap, sym, ◌∙◌, arith, eqb-true}
 use Rattle.std.proofs.lemmas.Bool.{and_parts, and_from, eq-eqb}
-use Rattle.std.specs.Prelude.{◌≡◌, ℕ, zero, suc, ◌+◌, ◌<◌, ◌==◌, ◌&&◌, not, nat_lt, Bool, true, false, List, [], ◌∷◌, ◌++◌, length, map, drop, filter, refl, if◌then◌else◌}
+use Rattle.std.specs.Prelude.{◌≡◌, ℕ, zero, suc, ◌+◌, ◌<◌, ◌==◌, ◌&&◌, not, nat_lt, Bool, true, false, List, [], ◌∷◌, ◌++◌, length, map, drop, refl}
 use Rattle.std.specs.List.{list_all}
 use Rattle.modem_desk.specs.declared.request.Request.{Request}
 use Rattle.modem_desk.specs.Rule.{of_caller}
@@ -71,6 +71,7 @@ apart_from_own q (r ∷ qs) h = by_caller (r.caller == q.caller) refl (apart_fro
     by_test : (b : Bool) → (r.caller == q.caller) ≡ false → (q.caller == r.caller) ≡ b → not (b && (q.number == r.number)) ≡ true
     by_test false e k = refl
     by_test true e k = let g : false ≡ true = sym e ∙ eq-eqb r.caller q.caller (sym (eqb-true q.caller r.caller k)) in cc
+
     by_caller : (b : Bool) → (r.caller == q.caller) ≡ b → (list_all (is_apart q) (of_caller q.caller qs) ≡ true → list_all (is_apart q) qs ≡ true) → list_all (is_apart q) (r ∷ qs) ≡ true
     by_caller true e more =
         let parts = and_parts (is_apart q r) (list_all (is_apart q) (of_caller q.caller qs)) (sym (ap (list_all (is_apart q)) (taken_too (is_of q.caller) r qs e)) ∙ h) in

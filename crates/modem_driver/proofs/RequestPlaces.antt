@@ -1,5 +1,5 @@
 -- Each request that was submitted stands in one place: it has an outcome, it is in hand, or it was left.
-use Rattle.std.proofs.Common.{ap, sym, subst, ◌∙◌, arith, zero-add, eqb-true}
+use Rattle.std.proofs.Common.{ap, sym, ◌∙◌, arith, zero-add, eqb-true}
 use Rattle.std.proofs.lemmas.Bool.{and_parts, eq-eqb}
 use Rattle.std.proofs.lemmas.List.Elements.{All-nil, All-cons, All-contains}
 use Rattle.std.specs.Prelude.{◌≡◌, ℕ, suc, ◌+◌, ◌≤◌, ◌==◌, ◌&&◌, ◌||◌, not, Bool, true, false, List, [], ◌∷◌, ◌++◌, length, filter, refl, if◌then◌else◌, All, Contains}
@@ -8,12 +8,9 @@ use Rattle.modem_desk.specs.declared.request.Request.{Request}
 use Rattle.modem_desk.specs.declared.request.Outcome.{Outcome}
 use Rattle.modem_desk.specs.Rule.{of_caller}
 use Rattle.modem_history.specs.Acts.{is_for}
-use Rattle.modem_history.specs.Requests.{are_distinct}
-use Rattle.modem_history.specs.Sessions as session
 use Rattle.modem_history.specs.Wholes.{is_same}
-use Rattle.modem_history.proofs.Outcomes.{one, many, many_append, many_filtered}
+use Rattle.modem_history.proofs.Outcomes.{one, many, many_append}
 use Rattle.modem_history.proofs.Filters.{passed, taken_too}
-use Rattle.modem_history.proofs.ToldOnce.{uses_once}
 
 -- ## Requests of one caller
 
@@ -72,6 +69,7 @@ many_untold r os (q ∷ qs) = by_tests (is_same r q) (is_told os q) (is_told os 
   where
     rest : List Request
     rest = filter (λ (x : Request). not (is_told os x)) qs
+
     by_tests : (same mine own : Bool) → is_same r q ≡ same → is_told os q ≡ mine → is_told os r ≡ own → many r rest ≡ (if own then 0 else many r qs)
         → many r (if not mine then q ∷ rest else rest) ≡ (if own then 0 else one same + many r qs)
     by_tests true true true s m o k = k

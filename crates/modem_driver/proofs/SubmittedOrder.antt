@@ -3,12 +3,11 @@ use Rattle.std.proofs.Common.{ap, sym, ◌∙◌}
 use Rattle.std.proofs.lemmas.Bool.{lt-ltb}
 use Rattle.std.proofs.lemmas.List.{append-nil, append_assoc}
 use Rattle.std.proofs.lemmas.List.Elements.{filter-append}
-use Rattle.std.specs.Prelude.{◌≡◌, ℕ, ◌<◌, ◌==◌, ◌&&◌, ◌||◌, nat_lt, not, Bool, true, false, List, [], ◌∷◌, ◌++◌, length, filter, refl, if◌then◌else◌, Option, None, Some}
+use Rattle.std.specs.Prelude.{◌≡◌, ℕ, ◌&&◌, ◌||◌, nat_lt, Bool, true, false, List, [], ◌∷◌, ◌++◌, length, refl, if◌then◌else◌}
 use Rattle.mux_station.specs.Acts as station
 use Rattle.mux_station.specs.Opening.{is_open, opens_now}
 use Rattle.mux_station.specs.declared.role.Role.TheVariants.{Initiator}
 use Rattle.modem_desk.specs.declared.request.Request.{Request}
-use Rattle.modem_desk.specs.Rule.{of_caller}
 use Rattle.modem_history.specs.Acts.{Act, Took, Got, Sent, Told, Heard, Tick, Lost, Held, Freed, Given, wire, in_hand}
 use Rattle.modem_history.specs.Information.{accepted, is_accepted, command_on}
 use Rattle.modem_history.specs.Sessions.{TakesWithRoom}
@@ -45,8 +44,8 @@ on_wire : (d : ℕ) (past newer : List Act) (a : station.Act) → wire newer ≡
     → accepted Initiator d newer ≡ (if opens_now Initiator d (wire past) a then [] else accepted Initiator d past) → Stretch d past → Stretch d newer
 on_wire d past newer a w t e k =
     by_opening d past newer (opens_now Initiator d (wire past) a) t e
-        (λ shut h. still_open (opens_now Initiator d (wire past) a) (is_open Initiator d (wire past)) _ shut (sym (ap (is_open Initiator d) w) ∙ h))
-        k
+    (λ shut h. still_open (opens_now Initiator d (wire past) a) (is_open Initiator d (wire past)) _ shut (sym (ap (is_open Initiator d) w) ∙ h))
+    k
 
 commands_more : (d : ℕ) (xs : List Request) (q : Request) (b : Bool) → command_on d q.ask ≡ b → commands_for d (xs ++ q ∷ []) ≡ (if b then commands_for d xs ++ q ∷ [] else commands_for d xs)
 commands_more d xs q true e = filter-append (λ (r : Request). command_on d r.ask) xs (q ∷ []) ∙ ap (λ (b : Bool). commands_for d xs ++ (if b then q ∷ [] else [])) e

@@ -1,5 +1,5 @@
 -- The headline: what a session and its desk come to, from their opening to their settlement.
-use Rattle.std.specs.Prelude.{◌≡◌, ℕ, ◌+◌, ◌==◌, true, false, List, [], ◌∷◌, ◌++◌, length, map, filter, slice_index_or, nat_lt, Contains}
+use Rattle.std.specs.Prelude.{◌≡◌, ℕ, ◌+◌, true, List, [], ◌∷◌, ◌++◌, length, map, filter, slice_index_or, nat_lt, Contains}
 use Rattle.std.specs.List.{concat, list_all, list_any}
 use Rattle.mux_frame.specs.Frames.{Frame}
 use Rattle.mux_station.specs.Written.{is_data_frame}
@@ -69,18 +69,18 @@ pub record IsSettled (run : Run) : Type 0 where
 
 -- a caller's commands among those accepted on d since it opened are those on d in a stretch of what it submitted, in its
 -- order
-pub record InSubmittedOrder (d : ℕ) (past : List Act) (c : CallerView) : Type 0 where
+pub record InSubmittedOrder (d : ℕ) (past : List Act) (caller : ℕ) (submitted : List Request) : Type 0 where
   pub before : List Request
   pub stretch : List Request
   pub later : List Request
-  pub submitted_are : c.submitted ≡ before ++ stretch ++ later
-  pub commands_are : of_caller c.place.number (accepted Initiator d past) ≡ commands_for d stretch
+  pub submitted_are : submitted ≡ before ++ stretch ++ later
+  pub commands_are : of_caller caller (accepted Initiator d past) ≡ commands_for d stretch
 
 -- what left on d since it opened is a prefix of the command lines accepted since then, each with its CR and once, each
 -- caller's in its submitted order
 pub record Leaves (d : ℕ) (past : List Act) (callers : List CallerView) : Type 0 where
   pub is_prefix : IsPrefixOf (information_out Initiator d past) (concat (texts (accepted Initiator d past)))
-  pub order : Each (λ i c. InSubmittedOrder d past c) callers
+  pub order : Each (λ i c. InSubmittedOrder d past c.place.number c.submitted) callers
 
 -- data leaves only while its connection is open
 abbrev pub NoneAfterClose : List Act → Type 0
@@ -110,14 +110,13 @@ abbrev pub outcomes_of : Run → ℕ → CallerView → List Outcome
 outcomes_of run i c = c.got ++ slice_index_or run.settlement.untaken i [] ++ session.of_caller c.place.number run.leftovers.unplaced
 
 -- the request has one outcome among these; or it is in hand; or it was left: just one of the three
-abbrev pub HasOnePlace : Run → List Outcome → Request → Type 0
-HasOnePlace run outcomes r =
-    length (filter (λ o. is_for r o) outcomes)
-    + (length (filter (is_same r) run.leftovers.in_hand) + length (filter (is_same r) run.settlement.left)) ≡ 1
+abbrev pub HasOnePlace : List Outcome → (in_hand left : List Request) → Request → Type 0
+HasOnePlace outcomes in_hand left r =
+    length (filter (λ o. is_for r o) outcomes) + (length (filter (is_same r) in_hand) + length (filter (is_same r) left)) ≡ 1
 
 -- each request that the caller submitted has one place, and each outcome answers one of them
 pub record Holds (run : Run) (i : ℕ) (c : CallerView) : Type 0 where
-  pub each : (r : Request) → Contains c.submitted r → HasOnePlace run (outcomes_of run i c) r
+  pub each : (r : Request) → Contains c.submitted r → HasOnePlace (outcomes_of run i c) run.leftovers.in_hand run.settlement.left r
   pub own : list_all (λ o. list_any (λ r. is_for r o) c.submitted) (outcomes_of run i c) ≡ true
 
 -- ## The headline

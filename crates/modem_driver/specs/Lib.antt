@@ -18,3 +18,4 @@ pub mod Reports
 pub mod Handing
 pub mod Holding
 pub mod Headline
+pub mod HeadlineRows

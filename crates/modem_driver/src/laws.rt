@@ -1,6 +1,7 @@
 //! Laws of replays, and the headline.
 ghost use Rattle.std.specs.Prelude.{ℕ, List};
 ghost use Rattle.modem_driver.specs.Headline.{IsHeadline, Run};
+ghost use Rattle.modem_driver.specs.HeadlineRows.{AreRight, AreWrong, right_places, wrong_places};
 ghost use Rattle.modem_driver.specs.Replays.{Brought, Replays};
 ghost use Rattle.modem_driver.specs.ReplayRows.{NoReplay, frame_invented, lost_by_itself, one_request, request_dropped, two_requests};
 ghost use Rattle.modem_driver.specs.declared.event.Event.{Event};
@@ -19,8 +20,11 @@ pub fn replays()
 /// The headline, of every run whose desk was settled with the driver's end that `finish` gave and with all its callers:
 /// what left on a connection since it opened is a prefix of its callers' command lines taken since then, each once, each
 /// caller's in its submitted order, none after a close; each answered command has just its solicited lines up to its final
-/// code; each subscribed unsolicited line was announced once; and every caller holds each of its outcomes once.
-#[tactic(auto, using(crate::proofs::Headlines::headline))]
+/// code; each subscribed unsolicited line was announced once; and every caller holds each of its outcomes once. A request
+/// that has two places, or none, is refused.
+#[tactic(auto, using(crate::proofs::Headlines::headline, crate::proofs::HeadlineRowFacts::all_right_places, crate::proofs::HeadlineRowFacts::all_wrong_places))]
 pub fn headlines()
     ensures headline { (run : Run) → IsHeadline run }
+    ensures right { AreRight right_places }
+    ensures wrong { AreWrong wrong_places }
 {}

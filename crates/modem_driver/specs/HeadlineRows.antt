@@ -1,0 +1,71 @@
+-- Places of a request at the end of a run, worked by hand: right ones and wrong ones.
+use Rattle.std.specs.Prelude.{ℕ, List, [], ◌∷◌}
+use Rattle.modem_desk.specs.declared.request.Ask.TheVariants.{Stop}
+use Rattle.modem_desk.specs.declared.request.Answer.TheVariants.{NotOpen, Stopped}
+use Rattle.modem_desk.specs.declared.request.Outcome.{Outcome}
+use Rattle.modem_desk.specs.declared.request.Request.{Request}
+use Rattle.modem_history.specs.Rows.{asks}
+use Rattle.modem_driver.specs.Headline.{HasOnePlace}
+
+-- the outcomes that a caller holds, the requests in hand, and those that were left
+pub record Places : Type 0 where
+  pub outcomes : List Outcome
+  pub in_hand : List Request
+  pub left : List Request
+
+abbrev pub places : List Outcome → (in_hand left : List Request) → Places
+places os hand left = record { outcomes = os; in_hand = hand; left = left }
+
+-- caller 0's requests 3 and 4
+abbrev pub third : Request
+third = asks 3 Stop
+
+abbrev pub fourth : Request
+fourth = asks 4 Stop
+
+abbrev pub outcome : (caller number : ℕ) → Outcome
+outcome c n = record { caller = c; number = n; answer = NotOpen }
+
+abbrev pub stopped : (caller number : ℕ) → Outcome
+stopped c n = record { caller = c; number = n; answer = Stopped }
+
+abbrev pub right_places : List Places
+right_places =
+    -- it has its outcome
+    places (outcome 0 2 ∷ outcome 0 3 ∷ []) (fourth ∷ []) []
+    -- it is in hand
+    ∷ places (outcome 0 2 ∷ []) (third ∷ fourth ∷ []) []
+    -- it was left, and another caller's request of that number has its outcome
+    ∷ places (outcome 1 3 ∷ []) [] (third ∷ fourth ∷ [])
+    ∷ []
+
+abbrev pub wrong_places : List Places
+wrong_places =
+    -- it is nowhere
+    places (outcome 0 2 ∷ []) (fourth ∷ []) []
+    -- another caller has its outcome
+    ∷ places (outcome 1 3 ∷ []) (fourth ∷ []) []
+    -- it has the same outcome twice
+    ∷ places (outcome 0 3 ∷ outcome 0 3 ∷ []) [] []
+    -- it has two outcomes
+    ∷ places (outcome 0 3 ∷ stopped 0 3 ∷ []) [] []
+    -- it has its outcome, and is in hand
+    ∷ places (outcome 0 3 ∷ []) (third ∷ []) []
+    -- it has its outcome, and was left
+    ∷ places (outcome 0 3 ∷ []) [] (third ∷ [])
+    -- it is in hand, and was left
+    ∷ places [] (third ∷ []) (third ∷ [])
+    -- it is in hand twice
+    ∷ places [] (third ∷ fourth ∷ third ∷ []) []
+    ∷ []
+
+abbrev pub Has : Places → Type 0
+Has p = HasOnePlace p.outcomes p.in_hand p.left third
+
+abbrev pub AreRight : List Places → Type 0
+AreRight [] = Unit {0}
+AreRight (p ∷ ps) = Has p × AreRight ps
+
+abbrev pub AreWrong : List Places → Type 0
+AreWrong [] = Unit {0}
+AreWrong (p ∷ ps) = (¬ Has p) × AreWrong ps
