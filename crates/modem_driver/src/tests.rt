@@ -4,6 +4,9 @@ use crate::*;
 use mux_frame::{Dlci, Kind};
 use std::test::*;
 
+mod no_memory;
+mod steps;
+
 /// What an act is, as a test compares it.
 #[derive(Clone, Copy, PartialEq, Eq, Debug)]
 enum Shape {
