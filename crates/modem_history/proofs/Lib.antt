@@ -44,3 +44,5 @@ pub mod LineOrder
 pub mod SessionLawFacts
 pub mod Untold
 pub mod ToldOnce
+pub mod FramesOnLine
+pub mod CommandsSent

@@ -28,3 +28,4 @@ pub mod EntryRows
 pub mod FinishRows
 pub mod FaultRows
 pub mod SessionLaws
+pub mod TwoEnds

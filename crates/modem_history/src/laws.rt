@@ -23,6 +23,7 @@ ghost use Rattle.modem_history.specs.Connections.{HasAllLines, NeedsNoCalls, Pla
 ghost use Rattle.modem_history.specs.HearingRows.{RingsOnce};
 ghost use Rattle.modem_history.specs.Placements.{AreMarksPlaced, AreReadAsSent, HaveMarksAllLines, ReadsAccepted};
 ghost use Rattle.modem_history.specs.Hearing.{HearsAll, HearsInOrder};
+ghost use Rattle.modem_history.specs.TwoEnds.{ReadsInOrder};
 ghost use Rattle.modem_history.specs.Wholes.{AnswersOnce, BeginsInTurn, CallGoesOn, IsBeginning, LeavesOnce, NoneAfterLoss, StaysInStep, TellsAnswers, TellsOwn};
 
 /// Of all that a lawful history called for, what stands in it is the beginning; and a call that does just what
@@ -79,6 +80,14 @@ pub fn connections()
 pub fn readings()
     ensures texts { (commands : List (List ℕ)) (out : List ℕ) → AreReadAsSent commands out }
     ensures commands { (s : Setting) (past : List Act) → Lawful s past → ReadsAccepted s past }
+{}
+
+/// Where a responder got the first frames that an initiator sent, and each connection is asked for once, the lines that it
+/// reads, over all connections, are commands that the initiator was given, each on its connection, in the order in which
+/// they were wholly sent.
+#[tactic(auto, using(crate::proofs::CommandsSent::reads_in_order))]
+pub fn two_ends()
+    ensures order { (s : Setting) (past : List Act) (responder : List WireAct) → ReadsInOrder s past responder }
 {}
 
 /// Worked histories, computed by the definitions: those of a right driver are kept, and those that a bad one would
