@@ -17,3 +17,4 @@ pub mod Ticked
 pub mod Reports
 pub mod Handing
 pub mod Holding
+pub mod Entries
