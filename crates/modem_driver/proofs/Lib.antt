@@ -54,3 +54,4 @@ pub mod NumbersOnce
 pub mod RequestPlaces
 pub mod Headlines
 pub mod HeadlineRowFacts
+pub mod Entries

@@ -19,3 +19,4 @@ pub mod Handing
 pub mod Holding
 pub mod Headline
 pub mod HeadlineRows
+pub mod Entries

@@ -4,6 +4,7 @@
 mod act_list;
 mod backlog;
 mod driver;
+mod entering;
 mod error;
 mod event;
 mod hand;
@@ -19,6 +20,7 @@ mod took;
 mod written;
 
 pub use driver::Core;
+pub use entering::{EntryError, enter};
 pub use error::CoreError;
 pub use event::{Event, Octets};
 pub use modem_desk::{Answer, Ask, Outcome, Request, Urc};

@@ -4,6 +4,7 @@ use crate::*;
 use mux_frame::{Dlci, Kind};
 use std::test::*;
 
+mod entering;
 mod no_memory;
 mod steps;
 

@@ -4,6 +4,7 @@ use crate::*;
 use at_text::{CommandLine, UrcKind};
 use mux_frame::{Dlci, FrameView, Kind};
 use mux_station::ChannelState;
+use serial_line::CutLine;
 use std::alloc::Global;
 use std::io::Print;
 use std::process::Abort;
@@ -91,6 +92,10 @@ fn calls_that_take_no_memory(rt: HostRuntime) -> Result<(), Fail> {
     begin(&rt, "Core::outgoing, Core::state");
     assert_eq!(&rt; core.state(dlci(1)?), ChannelState::Opened);
     assert_eq!(&rt; all_goes_out(&mut core), 2);
+    end(&rt);
+    let mut line = CutLine::new(alloc, b"AT+CMUX=0\r\r\nOK\r\n", &[], &[], 64)?;
+    begin(&rt, "enter");
+    enter(&mut line, 100)?;
     end(&rt);
     Ok(())
 }

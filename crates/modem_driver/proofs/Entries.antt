@@ -1,0 +1,300 @@
+-- An entry goes on by one call on the line, or is over with it.
+use Rattle.std.specs.Prelude.{◌≡◌, ℕ, ◌+◌, ◌-◌, ◌^◌, ◌≤◌, ◌<◌, ◌⊎◌, ◌||◌, Bool, true, false, List, [], ◌∷◌, ◌++◌, length, take, drop, refl, Option, None, Some, is_some, Result, Ok, Err, OnErr, OnOk, IfErr, nat_eq, codes, if◌then◌else◌}
+use Rattle.std.proofs.Common.{inl, inr, ⊎_elim, ap, sym, ◌∙◌, subst, arith, append_assoc, append-nil, lit≤, true≢false}
+use Rattle.std.proofs.Math.Nat.{min-le_left, min-eq_left, min-eq_right}
+use Rattle.std.proofs.Math.Seq.{take-add}
+use Rattle.std.proofs.lemmas.Bool.{cases_lt}
+use Rattle.std.proofs.lemmas.List.{take-append-drop, take-take, length-take}
+use Rattle.std.proofs.lemmas.List.Folds.{list_any-append}
+use Rattle.std.proofs.lemmas.Slice.Eq.{bytes_eq-Decides}
+use Rattle.std.specs.List.{list_any, starts_with}
+use Rattle.std.specs.Str.{bytes_eq}
+use Rattle.at_text.specs.Finals.{is_final, final_of}
+use Rattle.at_text.specs.Lines.{lines}
+use Rattle.at_text.specs.Reading.{HasRead}
+use Rattle.at_text.specs.declared.finals.Final.{Final}
+use Rattle.at_text.specs.declared.finals.Final.TheVariants.{Good, Error, Cme}
+use Rattle.at_text.proofs.ReaderLemmas.{has_read-push}
+use Rattle.serial_line.specs.Counts.{one_more}
+use Rattle.modem_history.specs.Sessions.{LineView}
+use Rattle.modem_history.specs.Entering.{EntryAnswer, Entered, Refused, NoAnswer, LineFailed, IsEntry, EndsWithFinal, EntryMeans, FailsBy, entry_text}
+use Rattle.modem_driver.specs.Entries.{Entry, IsUnderWay, Ends, Comes, GoesOn, Fails, SeesCode, answer_by, code_in, octets_in, entry_begun, answer_of}
+use Rattle.modem_driver.specs.declared.entering.EntryError.{EntryError}
+
+-- ## Counts
+
+counted : (made a b c : ℕ) → (b ≡ a + made) ⊎ (b ≡ 2 ^ 64 - 1) → c ≡ one_more b → (c ≡ a + (made + 1)) ⊎ (c ≡ 2 ^ 64 - 1)
+counted made a b c (inl was) is = ⊎_elim
+    (λ (q : b + 1 < 2 ^ 64 - 1). inl (is ∙ min-eq_left (omega (arith, q)) ∙ omega (arith, was)))
+    (λ (q : 2 ^ 64 - 1 ≤ b + 1). inr (is ∙ min-eq_right q))
+    (cases_lt (b + 1) (2 ^ 64 - 1))
+counted made a b c (inr was) is = inr (is ∙ min-eq_right (omega (arith, was)))
+
+no_more : (made a b c : ℕ) → b ≤ a + made → c ≡ one_more b → c ≤ a + (made + 1)
+no_more made a b c was is = omega (arith, was, is, min-le_left (b + 1) (2 ^ 64 - 1))
+
+bounded : (made turns a b c : ℕ) → b ≤ a + made → c ≡ one_more b → made + 1 ≤ turns → c ≤ a + turns
+bounded made turns a b c was is few = omega (arith, no_more made a b c was is, few)
+
+-- ## The text goes out
+
+wrote_more : (first old new text : List ℕ) (written n : ℕ) → old ≡ first ++ take written text → new ≡ old ++ take n (drop written text) → new ≡ first ++ take (written + n) text
+wrote_more first old new text written n was is =
+    is ∙ ap (λ (x : List ℕ). x ++ take n (drop written text)) was ∙ append_assoc first (take written text) (take n (drop written text))
+    ∙ ap (λ (x : List ℕ). first ++ x) (sym (take-add written n text))
+
+pub wrote : (old new : LineView) (was now : Entry) (n : ℕ) → was.written < 10 → n ≤ length (take (10 - was.written) (drop was.written entry_text))
+    → new.sent ≡ old.sent ++ take n (take (10 - was.written) (drop was.written entry_text)) → new.received ≡ old.received
+    → new.calls ≡ one_more old.calls → new.failures ≡ old.failures
+    → now ≡ record { written = was.written + n; kept = was.kept } → GoesOn old new was now None
+unfolding GoesOn
+wrote old new was now n few short sent received calls failures is made first h =
+    let fits : n ≤ 10 - was.written = omega (arith, short, length-take {A = ℕ}) in
+    subst (λ (e : Entry). IsUnderWay (made + 1) first new e) (sym is) record {
+      read = h.read;
+      sent_are =
+          wrote_more first.sent old.sent new.sent entry_text was.written n h.sent_are
+          (sent ∙ ap (λ (x : List ℕ). old.sent ++ x) (take-take n (10 - was.written) (drop was.written entry_text) fits));
+      few = omega (arith, few, fits);
+      read_are = received ∙ h.read_are;
+      kept = h.kept;
+      none = h.none;
+      in_turn = ⊎_elim (λ (q : h.read ≡ []). inl q) (λ (q : was.written ≡ 10). inl (absurd (omega (arith, few, q)))) h.in_turn;
+      counted = counted made first.calls old.calls new.calls h.counted calls;
+      bounded = no_more made first.calls old.calls new.calls h.bounded calls;
+      sound = failures ∙ h.sound;
+    }
+
+pub wrote_as : (old new : LineView) (seen was now : Entry) (n : ℕ) → seen ≡ was → was.written < 10
+    → n ≤ length (take (10 - seen.written) (drop seen.written entry_text))
+    → new.sent ≡ old.sent ++ take n (take (10 - seen.written) (drop seen.written entry_text)) → new.received ≡ old.received
+    → new.calls ≡ one_more old.calls → new.failures ≡ old.failures
+    → now ≡ record { written = seen.written + n; kept = seen.kept } → GoesOn old new was now None
+wrote_as old new seen was now n same few short sent received calls failures is =
+    subst (λ (e : Entry). GoesOn old new e now None) same
+    (wrote old new seen now n (subst (λ (e : Entry). e.written < 10) (sym same) few) short sent received calls failures is)
+
+-- ## The line fails
+
+said_whole : (written : ℕ) (read : List ℕ) → (read ≡ []) ⊎ (written ≡ 10) → (read ≡ []) ⊎ (take written entry_text ≡ entry_text)
+said_whole written read (inl none) = inl none
+said_whole written read (inr all) = inr (subst (λ (n : ℕ). take n entry_text ≡ entry_text) (sym all) refl)
+
+pub failed : (old new : LineView) (was : Entry) → new.sent ≡ old.sent → new.received ≡ old.received
+    → new.calls ≡ one_more old.calls → new.failures ≡ old.failures + 1 → Fails old new was
+unfolding Fails
+failed old new was sent received calls failures made first h turns few = record {
+  sent = take was.written entry_text;
+  sent_are = sent ∙ h.sent_are;
+  beginning = record { rest = drop was.written entry_text; joins = take-append-drop was.written entry_text };
+  read = h.read;
+  read_are = received ∙ h.read_are;
+  in_turn = said_whole was.written h.read h.in_turn;
+  bounded = bounded made turns first.calls old.calls new.calls h.bounded calls few;
+  failed = failures ∙ ap (λ (n : ℕ). n + 1) h.sound;
+  means = h.none;
+}
+
+pub on_err : {T E P : Type 0} (r : Result T E) → P → OnErr r P
+on_err (Ok value) p = tt
+on_err (Err why) p = p
+
+-- ## Octets come
+
+pub sees_line : (kept : List ℕ) (octet : ℕ) (line : List ℕ) (code : Option Final) → ((octets : List ℕ) → HasRead kept octets → lines (octets ++ octet ∷ []) ≡ lines octets ++ line ∷ [])
+    → code ≡ final_of line → SeesCode kept octet code
+sees_line kept octet line code past is = record { given = line ∷ []; one = inr (line, refl); past = past; code_is = is }
+
+pub none_came : (old new : LineView) (was : Entry) (o : Option ℕ) → o ≡ None → new.sent ≡ old.sent → new.received ≡ old.received ++ octets_in o
+    → new.calls ≡ one_more old.calls → new.failures ≡ old.failures → GoesOn old new was was None
+unfolding GoesOn
+none_came old new was o is sent received calls failures made first h = record {
+  read = h.read;
+  sent_are = sent ∙ h.sent_are;
+  few = h.few;
+  read_are = received ∙ ap (λ (x : Option ℕ). old.received ++ octets_in x) is ∙ append-nil old.received ∙ h.read_are;
+  kept = h.kept;
+  none = h.none;
+  in_turn = h.in_turn;
+  counted = counted made first.calls old.calls new.calls h.counted calls;
+  bounded = no_more made first.calls old.calls new.calls h.bounded calls;
+  sound = failures ∙ h.sound;
+}
+
+-- an octet came on a line that took the whole text
+pub record OneCame (old new : LineView) (was now : Entry) (octet : ℕ) (given : List (List ℕ)) : Type 0 where
+  pub whole : was.written ≡ 10
+  pub written : now.written ≡ was.written
+  pub sent : new.sent ≡ old.sent
+  pub came : new.received ≡ old.received ++ octet ∷ []
+  pub calls : new.calls ≡ one_more old.calls
+  pub failures : new.failures ≡ old.failures
+  pub keeps : HasRead now.kept (was.kept ++ octet ∷ [])
+  pub past : (octets : List ℕ) → HasRead was.kept octets → lines (octets ++ octet ∷ []) ≡ lines octets ++ given
+
+on_from : (old new : LineView) (was now : Entry) (octet : ℕ) (given : List (List ℕ)) → OneCame old new was now octet given
+    → list_any is_final given ≡ false → (made : ℕ) (first : LineView) → IsUnderWay made first old was → IsUnderWay (made + 1) first new now
+on_from old new was now octet given k none made first h = record {
+  read = h.read ++ octet ∷ [];
+  sent_are = k.sent ∙ h.sent_are ∙ ap (λ (n : ℕ). first.sent ++ take n entry_text) (sym k.written);
+  few = subst (λ (n : ℕ). n ≤ 10) (sym k.written) h.few;
+  read_are = k.came ∙ ap (λ (x : List ℕ). x ++ octet ∷ []) h.read_are ∙ append_assoc first.received h.read (octet ∷ []);
+  kept = has_read-push was.kept now.kept h.read octet h.kept k.keeps;
+  none =
+      ap (list_any is_final) (k.past h.read h.kept) ∙ list_any-append is_final (lines h.read) given
+      ∙ ap (λ (b : Bool). b || list_any is_final given) h.none ∙ none;
+  in_turn = inr (k.written ∙ k.whole);
+  counted = counted made first.calls old.calls new.calls h.counted k.calls;
+  bounded = no_more made first.calls old.calls new.calls h.bounded k.calls;
+  sound = k.failures ∙ h.sound;
+}
+
+pub no_line : (old new : LineView) (was now : Entry) (octet : ℕ) → OneCame old new was now octet [] → GoesOn old new was now None
+unfolding GoesOn
+no_line old new was now octet k made first h = on_from old new was now octet [] k refl made first h
+
+abbrev is_good : Option Final → Bool
+is_good (Some Good) = true
+is_good (Some Error) = false
+is_good (Some (Cme n)) = false
+is_good None = false
+
+good_by : (b : Bool) (behind : Option Final) → is_good behind ≡ false → is_good (if b then Some Good else behind) ≡ b
+good_by true behind other = refl
+good_by false behind other = other
+
+other_by : (b : Bool) (behind : Option Final) → is_good behind ≡ false → is_good (if b then Some Error else behind) ≡ false
+other_by true behind other = refl
+other_by false behind other = other
+
+number_by : (b : Bool) (n : Option ℕ) → is_good (if b then Some (Cme n) else None) ≡ false
+number_by true n = refl
+number_by false n = refl
+
+good_is : (line : List ℕ) → is_good (final_of line) ≡ bytes_eq line (codes "OK")
+good_is line = good_by (bytes_eq line (codes "OK")) _ (other_by (bytes_eq line (codes "ERROR")) _ (number_by (starts_with nat_eq line (codes "+CME ERROR:")) _))
+
+ends : (line : List ℕ) (read before : List ℕ) (line_end : ℕ) → read ≡ before ++ line_end ∷ [] → lines read ≡ lines before ++ line ∷ []
+    → list_any is_final (lines before) ≡ false → is_final line ≡ true → EndsWithFinal read line
+ends line read before line_end is ended none final = record {
+  before = before;
+  line_end = line_end;
+  octets_are = is;
+  ended = ended;
+  none_before = none;
+  final = final;
+}
+
+over : (old new : LineView) (was now : Entry) (octet : ℕ) (line : List ℕ) (says : EntryAnswer) → OneCame old new was now octet (line ∷ [])
+    → ((read : List ℕ) → EndsWithFinal read line → (turns : ℕ) (first : LineView) → EntryMeans turns entry_text read first new says)
+    → ((first : LineView) → new.failures ≡ first.failures → FailsBy first new says) → is_final line ≡ true
+    → (made : ℕ) (first : LineView) → IsUnderWay made first old was → Ends made first new says
+over old new was now octet line says k means sound final made first h turns few = record {
+  sent = entry_text;
+  sent_are = k.sent ∙ h.sent_are ∙ ap (λ (n : ℕ). first.sent ++ take n entry_text) k.whole;
+  beginning = record { rest = []; joins = refl };
+  read = h.read ++ octet ∷ [];
+  read_are = k.came ∙ ap (λ (x : List ℕ). x ++ octet ∷ []) h.read_are ∙ append_assoc first.received h.read (octet ∷ []);
+  in_turn = inr refl;
+  bounded = bounded made turns first.calls old.calls new.calls h.bounded k.calls few;
+  failed = sound first (k.failures ∙ h.sound);
+  means = means (h.read ++ octet ∷ []) (ends line (h.read ++ octet ∷ []) h.read octet refl (k.past h.read h.kept) h.none final) turns first;
+}
+
+comes_by : (old new : LineView) (was now : Entry) (octet : ℕ) (line : List ℕ) (code : Option Final) → final_of line ≡ code
+    → OneCame old new was now octet (line ∷ []) → (made : ℕ) (first : LineView) → IsUnderWay made first old was → Comes made first new now code
+comes_by old new was now octet line None e k made first h =
+    on_from old new was now octet (line ∷ []) k (ap (λ (o : Option Final). is_some o || false) e) made first h
+comes_by old new was now octet line (Some Good) e k made first h =
+    over old new was now octet line Entered k
+    (λ read q turns f. record { whole = refl; ok = subst (EndsWithFinal read) ((bytes_eq-Decides line (codes "OK")).0 (sym (good_is line) ∙ ap is_good e)) q })
+    (λ f q. q) (ap is_some e) made first h
+comes_by old new was now octet line (Some Error) e k made first h =
+    over old new was now octet line Refused k
+    (λ read q turns f. record { whole = refl; line = line; other = λ ok. true≢false (ap (λ (l : List ℕ). is_good (final_of l)) (sym ok) ∙ ap is_good e); ended = q })
+    (λ f q. q) (ap is_some e) made first h
+comes_by old new was now octet line (Some (Cme n)) e k made first h =
+    over old new was now octet line Refused k
+    (λ read q turns f. record { whole = refl; line = line; other = λ ok. true≢false (ap (λ (l : List ℕ). is_good (final_of l)) (sym ok) ∙ ap is_good e); ended = q })
+    (λ f q. q) (ap is_some e) made first h
+
+pub one_line : (old new : LineView) (was now : Entry) (octet : ℕ) (line : List ℕ) → OneCame old new was now octet (line ∷ []) → GoesOn old new was now (final_of line)
+unfolding GoesOn
+one_line old new was now octet line k made first h = comes_by old new was now octet line (final_of line) refl k made first h
+
+comes_from : (old new : LineView) (was now : Entry) (octet : ℕ) (given : List (List ℕ)) → (given ≡ []) ⊎ ((line : List ℕ) × (given ≡ line ∷ []))
+    → OneCame old new was now octet given → GoesOn old new was now (code_in given)
+comes_from old new was now octet given (inl none) k =
+    subst (λ (g : List (List ℕ)). OneCame old new was now octet g → GoesOn old new was now (code_in g)) (sym none) (no_line old new was now octet) k
+comes_from old new was now octet given (inr one) k =
+    subst (λ (g : List (List ℕ)). OneCame old new was now octet g → GoesOn old new was now (code_in g)) (sym one.1) (one_line old new was now octet one.0) k
+
+pub one_came : (old new : LineView) (seen was now : Entry) (o : Option ℕ) (octet : ℕ) (code : Option Final) → seen ≡ was → o ≡ Some octet → was.written ≡ 10
+    → now.written ≡ seen.written → new.sent ≡ old.sent → new.received ≡ old.received ++ octets_in o → new.calls ≡ one_more old.calls → new.failures ≡ old.failures
+    → HasRead now.kept (seen.kept ++ octet ∷ []) → SeesCode seen.kept octet code → GoesOn old new was now code
+one_came old new seen was now o octet code same is whole written sent came calls failures keeps sees =
+    subst (λ (e : Entry). GoesOn old new e now code) same
+    (subst (GoesOn old new seen now) (sym sees.code_is) (comes_from old new seen now octet sees.given sees.one record {
+      whole = ap (λ (e : Entry). e.written) same ∙ whole;
+      written = written;
+      sent = sent;
+      came = came ∙ ap (λ (x : Option ℕ). old.received ++ octets_in x) is;
+      calls = calls;
+      failures = failures;
+      keeps = keeps;
+      past = sees.past;
+    }))
+
+-- ## From the beginning to the end
+
+pub begun : (first : LineView) → IsUnderWay 0 first first entry_begun
+begun first = record {
+  read = [];
+  sent_are = sym (append-nil first.sent);
+  few = lit≤ tt;
+  read_are = sym (append-nil first.received);
+  kept = refl;
+  none = refl;
+  in_turn = inl refl;
+  counted = inl (omega (arith));
+  bounded = omega (arith);
+  sound = refl;
+}
+
+pub none_answered : (made turns : ℕ) (first now : LineView) (entry : Entry) → IsUnderWay made first now entry → made ≡ turns → IsEntry turns first now NoAnswer
+none_answered made turns first now entry h all = subst (λ (n : ℕ). IsEntry n first now NoAnswer) all record {
+  sent = take entry.written entry_text;
+  sent_are = h.sent_are;
+  beginning = record { rest = drop entry.written entry_text; joins = take-append-drop entry.written entry_text };
+  read = h.read;
+  read_are = h.read_are;
+  in_turn = said_whole entry.written h.read h.in_turn;
+  bounded = h.bounded;
+  failed = h.sound;
+  means = record { all_made = h.counted; none = h.none };
+}
+
+pub goes_on : (made : ℕ) (first old new : LineView) (was now : Entry) (code : Option Final) → IsUnderWay made first old was
+    → GoesOn old new was now code → code ≡ None → IsUnderWay (made + 1) first new now
+unfolding GoesOn
+goes_on made first old new was now code h goes is = subst (Comes made first new now) is (goes made first h)
+
+pub ends_by : (made turns : ℕ) (first old new : LineView) (was now : Entry) (o : Option Final) (code : Final) → IsUnderWay made first old was
+    → GoesOn old new was now o → o ≡ Some code → made < turns → IsEntry turns first new (answer_by code)
+unfolding GoesOn
+ends_by made turns first old new was now o code h goes is few = subst (Comes made first new now) is (goes made first h) turns (omega (arith, few))
+
+pub ends_failed : (made turns : ℕ) (first old new : LineView) (was : Entry) → IsUnderWay made first old was
+    → Fails old new was → made < turns → IsEntry turns first new LineFailed
+unfolding Fails
+ends_failed made turns first old new was h fails few = fails made first h turns (omega (arith, few))
+
+pub says_entered : {T E : Type 0} (turns : ℕ) (first now : LineView) (said : EntryAnswer) (r : Result T E) → IsEntry turns first now said
+    → OnOk r (said ≡ Entered) → OnOk r (IsEntry turns first now Entered)
+says_entered turns first now said (Ok x) h is = subst (IsEntry turns first now) is h
+says_entered turns first now said (Err why) h is = tt
+
+pub says_why : {T : Type 0} (turns : ℕ) (first now : LineView) (said : EntryAnswer) (r : Result T EntryError) → IsEntry turns first now said
+    → IfErr r (λ why. said ≡ answer_of why) → IfErr r (λ why. IsEntry turns first now (answer_of why))
+says_why turns first now said (Ok x) h is = tt
+says_why turns first now said (Err why) h is = subst (IsEntry turns first now) is h

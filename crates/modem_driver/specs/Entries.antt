@@ -1,0 +1,86 @@
+-- An entry into the multiplexer, call by call on the line (27.007, 5.7; V.250, 5.2.1).
+use Rattle.std.specs.Prelude.{◌≡◌, ℕ, ◌+◌, ◌-◌, ◌^◌, ◌≤◌, ◌⊎◌, false, List, [], ◌∷◌, ◌++◌, take, Option, Some, None}
+use Rattle.std.specs.List.{list_any}
+use Rattle.at_text.specs.Finals.{is_final, final_of}
+use Rattle.at_text.specs.Lines.{lines}
+use Rattle.at_text.specs.Reading.{HasRead}
+use Rattle.at_text.specs.declared.finals.Final.{Final}
+use Rattle.at_text.specs.declared.finals.Final.TheVariants.{Good, Error, Cme}
+use Rattle.modem_history.specs.Sessions.{LineView}
+use Rattle.modem_history.specs.Entering.{EntryAnswer, Entered, Refused, NoAnswer, LineFailed, IsEntry, entry_text}
+use Rattle.modem_driver.specs.declared.entering.EntryError.{EntryError}
+use Rattle.modem_driver.specs.declared.entering.EntryError.TheVariants as error
+
+-- what is seen of a line
+abbrev pub line_seen : {X : Type 0} → (received sent : X → List ℕ) → (calls failures : X → ℕ) → X → LineView
+line_seen received sent calls failures line = record {
+  received = received line;
+  sent = sent line;
+  calls = calls line;
+  failures = failures line;
+}
+
+abbrev pub answer_of : EntryError → EntryAnswer
+answer_of error.Refused = Refused
+answer_of error.NoAnswer = NoAnswer
+answer_of error.Line = LineFailed
+
+abbrev pub answer_by : Final → EntryAnswer
+answer_by Good = Entered
+answer_by Error = Refused
+answer_by (Cme number) = Refused
+
+-- how many octets of the text were sent, and what is kept of the unfinished line
+pub record Entry : Type 0 where
+  pub written : ℕ
+  pub kept : List ℕ
+
+-- nothing is sent or read yet
+abbrev pub entry_begun : Entry
+entry_begun = record { written = 0; kept = [] }
+
+-- the octet that came, if one did
+abbrev pub octets_in : Option ℕ → List ℕ
+octets_in None = []
+octets_in (Some octet) = octet ∷ []
+
+-- the final code that a line is, if there is a line
+abbrev pub code_in : List (List ℕ) → Option Final
+code_in [] = None
+code_in (line ∷ behind) = final_of line
+
+-- the lines that end with an octet, one at most, and the final code that one is
+pub record SeesCode (kept : List ℕ) (octet : ℕ) (code : Option Final) : Type 0 where
+  pub given : List (List ℕ)
+  pub one : (given ≡ []) ⊎ ((line : List ℕ) × (given ≡ line ∷ []))
+  pub past : (octets : List ℕ) → HasRead kept octets → lines (octets ++ octet ∷ []) ≡ lines octets ++ given
+  pub code_is : code ≡ code_in given
+
+-- so many calls were made since the line was as at first, and no final code has come
+pub record IsUnderWay (made : ℕ) (first now : LineView) (entry : Entry) : Type 0 where
+  pub read : List ℕ
+  pub sent_are : now.sent ≡ first.sent ++ take entry.written entry_text
+  pub few : entry.written ≤ 10
+  pub read_are : now.received ≡ first.received ++ read
+  pub kept : HasRead entry.kept read
+  pub none : list_any is_final (lines read) ≡ false
+  pub in_turn : (read ≡ []) ⊎ (entry.written ≡ 10)
+  pub counted : (now.calls ≡ first.calls + made) ⊎ (now.calls ≡ 2 ^ 64 - 1)
+  pub bounded : now.calls ≤ first.calls + made
+  pub sound : now.failures ≡ first.failures
+
+-- an entry is over with the call behind so many
+abbrev pub Ends : ℕ → LineView → LineView → EntryAnswer → Type 0
+Ends made first now answer = (turns : ℕ) → made + 1 ≤ turns → IsEntry turns first now answer
+
+-- one call further: on from there, or over where a final code came
+abbrev pub Comes : ℕ → LineView → LineView → Entry → Option Final → Type 0
+Comes made first now entry None = IsUnderWay (made + 1) first now entry
+Comes made first now entry (Some code) = Ends made first now (answer_by code)
+
+-- one call, whatever went before
+unfoldable pub GoesOn : LineView → LineView → Entry → Entry → Option Final → Type 0
+GoesOn old new was entry code = (made : ℕ) → (first : LineView) → IsUnderWay made first old was → Comes made first new entry code
+
+unfoldable pub Fails : LineView → LineView → Entry → Type 0
+Fails old new was = (made : ℕ) → (first : LineView) → IsUnderWay made first old was → Ends made first new LineFailed
