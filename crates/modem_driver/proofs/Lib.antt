@@ -49,3 +49,4 @@ pub mod CoreFlows
 pub mod CoreHolds
 pub mod CoreBegins
 pub mod FrameHolds
+pub mod sessions

@@ -17,3 +17,5 @@ pub mod Ticked
 pub mod Reports
 pub mod Handing
 pub mod Holding
+pub mod WaitingLists
+pub mod SessionStates
