@@ -55,3 +55,4 @@ pub mod RequestPlaces
 pub mod Headlines
 pub mod HeadlineRowFacts
 pub mod Entries
+pub mod sessions

@@ -20,3 +20,5 @@ pub mod Holding
 pub mod Headline
 pub mod HeadlineRows
 pub mod Entries
+pub mod WaitingLists
+pub mod SessionStates

@@ -1,5 +1,5 @@
 //! The driver between its callers and the line.
-ghost use Rattle.std.specs.Prelude.{◌≡◌, ◌≢◌, ◌↔◌, ◌<◌, ◌⊎◌, List, [], replicate, map, IfOk, IsErrOf, OnErr};
+ghost use Rattle.std.specs.Prelude.{◌≡◌, ◌≢◌, ◌↔◌, ◌<◌, ◌≤◌, ◌⊎◌, List, [], replicate, map, vec_capacity, IfOk, IsErrOf, OnErr};
 ghost use Rattle.modem_history.specs.Acts.{Act as Happening, act_of, Lost};
 ghost use Rattle.modem_driver.specs.Lanes.{new_lane};
 ghost use Rattle.modem_driver.specs.Cores.{new_core, state_shown, Fits, Handles};
@@ -12,6 +12,7 @@ use crate::hand::Hand;
 use crate::lane::Lane;
 use crate::telling::{Happened, state_of, tell};
 use at_text::UrcKind;
+use modem_desk::Request;
 use modem_history::Act;
 use mux_frame::Dlci;
 use mux_station::{ChannelState, Role, Station, StationError};
@@ -122,5 +123,14 @@ impl Core {
             &mut acts,
         );
         Ok(acts.into_vec())
+    }
+
+    /// The requests in hand, without taking memory, with room for 128.
+    pub(crate) fn into_hand(self) -> Vec<Request>
+        ensures items { result.items ≡ self.hand }
+        ensures room { 128 ≤ vec_capacity result }
+    {
+        let Core { hand, .. } = self;
+        hand.into_vec()
     }
 }

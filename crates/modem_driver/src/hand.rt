@@ -1,5 +1,5 @@
 //! The requests in hand.
-ghost use Rattle.std.specs.Prelude.{◌≡◌, ◌≤◌, ◌<◌, ◌+◌, ◌++◌, ◌∷◌, [], length, remove, slice_index_or, IfOk, nat_le};
+ghost use Rattle.std.specs.Prelude.{◌≡◌, ◌≤◌, ◌<◌, ◌+◌, ◌++◌, ◌∷◌, [], length, remove, slice_index_or, IfOk, nat_le, vec_capacity};
 
 use modem_desk::Request;
 use std::alloc::{AllocError, Global};
@@ -74,5 +74,14 @@ impl Hand {
         ensures len { length self.new + 1 ≡ length self.old }
     {
         self.requests.remove(place)
+    }
+
+    /// The requests, without taking memory, with room for 128.
+    pub(crate) fn into_vec(self) -> Vec<Request>
+        ensures items { result.items ≡ self }
+        ensures room { 128 ≤ vec_capacity result }
+    {
+        let Hand { requests } = self;
+        requests
     }
 }

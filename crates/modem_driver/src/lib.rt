@@ -14,6 +14,7 @@ mod receiving;
 mod reports;
 mod run;
 mod sending;
+mod session;
 mod telling;
 mod tick;
 mod took;
@@ -26,6 +27,7 @@ pub use event::{Event, Octets};
 pub use modem_desk::{Answer, Ask, Outcome, Request, Urc};
 pub use modem_history::Act;
 pub use run::replay;
+pub use session::{Finished, Session, SessionError, SessionFault, SessionRefused};
 
 #[cfg(test)]
 mod tests;

@@ -19,7 +19,7 @@ use mux_frame::{Deframer, FrameError, FrameView};
 use std::alloc::{AllocError, Global};
 
 /// Every kind of an unsolicited line.
-const KINDS: [UrcKind; 7] = [
+pub(crate) const KINDS: [UrcKind; 7] = [
     UrcKind::Ring,
     UrcKind::Cring,
     UrcKind::Creg,

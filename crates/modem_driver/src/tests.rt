@@ -1,5 +1,7 @@
 //! Tests of a core.
 
+mod session;
+
 use crate::*;
 use mux_frame::{Dlci, Kind};
 use std::test::*;

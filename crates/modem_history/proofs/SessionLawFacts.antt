@@ -117,7 +117,7 @@ begins_fitting b = record {
   requests = record {
     taken_are = sym (append-nil (b.desk.taken ++ []) ∙ append-nil b.desk.taken);
     once = ap are_distinct (drop_own b.desk.taken);
-    callers = ap (list_all (λ (q : Request). nat_lt q.caller (length b.desk.told))) (drop_own b.desk.taken);
+    callers = ap (list_all (λ (q : Request). nat_lt q.caller b.callers)) (drop_own b.desk.taken);
     few = lit≤ tt;
   };
   received = record { fed = []; received_are = sym (append-nil (b.line.received ++ []) ∙ append-nil b.line.received); bound = refl; deframes = past_none b.n1 };
@@ -129,7 +129,7 @@ begins_fitting b = record {
 -- ## Requests
 
 -- what was taken since the session began is what the history took, and then what is kept aside
-since_are : (b : Beginning) (v : SessionView) (past : List Act) → SessionFits b v past → taken_since b v ≡ taken past ++ option_to_list v.aside
+pub since_are : (b : Beginning) (v : SessionView) (past : List Act) → SessionFits b v past → taken_since b v ≡ taken past ++ option_to_list v.aside
 since_are b v past f =
     ap (drop (length b.desk.taken)) (f.requests.taken_are ∙ append_assoc b.desk.taken (taken past) (option_to_list v.aside))
     ∙ drop-append_seam b.desk.taken (taken past ++ option_to_list v.aside)
@@ -163,7 +163,7 @@ fits_says b v past f = record {
 -- ## Calls
 
 -- what was taken since the session began grows by what is taken more
-since_more : (b : Beginning) (old new : SessionView) (past : List Act) (more : List Request) → SessionFits b old past → new.desk.taken ≡ old.desk.taken ++ more → taken_since b new ≡ taken_since b old ++ more
+pub since_more : (b : Beginning) (old new : SessionView) (past : List Act) (more : List Request) → SessionFits b old past → new.desk.taken ≡ old.desk.taken ++ more → taken_since b new ≡ taken_since b old ++ more
 since_more b old new past more f e =
     let since = taken past ++ option_to_list old.aside in
     let whole : old.desk.taken ≡ b.desk.taken ++ since = f.requests.taken_are ∙ append_assoc b.desk.taken (taken past) (option_to_list old.aside) in
@@ -172,7 +172,7 @@ since_more b old new past more f e =
     ∙ ap (λ (qs : List Request). qs ++ more) (sym (since_are b old past f)))
 
 -- so no number was used twice between two calls
-once_between : (b : Beginning) (old mid new : SessionView) (past : List Act) (xs ys : List Request) → SessionFits b old past → mid.desk.taken ≡ old.desk.taken ++ xs → new.desk.taken ≡ mid.desk.taken ++ ys
+pub once_between : (b : Beginning) (old mid new : SessionView) (past : List Act) (xs ys : List Request) → SessionFits b old past → mid.desk.taken ≡ old.desk.taken ++ xs → new.desk.taken ≡ mid.desk.taken ++ ys
     → AreOnce b new → AreOnce b mid
 once_between b old mid new past xs ys f e h once =
     let all : new.desk.taken ≡ old.desk.taken ++ (xs ++ ys) = h ∙ (ap (λ (qs : List Request). qs ++ ys) e ∙ append_assoc old.desk.taken xs ys) in

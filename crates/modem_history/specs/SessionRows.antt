@@ -24,6 +24,7 @@ entry_answer = entry_text ++ codes "\r\nOK\r"
 abbrev pub beginning : Beginning
 beginning = record {
   n1 = 31;
+  callers = 2;
   kinds = Ring ∷ Creg ∷ [];
   line = record { received = entry_answer; sent = entry_text; calls = 20; failures = 0 };
   desk = record { taken = []; told = [] ∷ [] ∷ []; announced = [] ∷ [] ∷ [] };

@@ -36,9 +36,11 @@ pub record EndView : Type 0 where
   pub told : List (List Outcome)
   pub announced : List (List Urc)
 
--- how a session began: its N1, the kinds that its desk listens to, and what its line and its desk's end had by then
+-- how a session began: its N1, how many callers its desk has and which kinds of lines it listens to, and what its line
+-- and its desk's end had by then
 pub record Beginning : Type 0 where
   pub n1 : ℕ
+  pub callers : ℕ
   pub kinds : List UrcKind
   pub line : LineView
   pub desk : EndView
@@ -142,7 +144,7 @@ AreOnce b v = are_distinct (taken_since b v) ≡ true
 pub record FitsRequests (b : Beginning) (v : SessionView) (past : List Act) : Type 0 where
   pub taken_are : v.desk.taken ≡ b.desk.taken ++ taken past ++ option_to_list v.aside
   pub once : AreOnce b v
-  pub callers : list_all (λ (q : Request). nat_lt q.caller (length b.desk.told)) (taken_since b v) ≡ true
+  pub callers : list_all (λ (q : Request). nat_lt q.caller b.callers) (taken_since b v) ≡ true
   pub few : length (in_hand past) + length (option_to_list v.aside) + length v.unplaced ≤ 128
 
 -- Octets that came: those received are those that the deframer took, and then those not fed yet; of the former it has
@@ -171,7 +173,7 @@ pub record ToldTo (b : Beginning) (v : SessionView) (past : List Act) (c : ℕ) 
 -- that is so of each caller, and none waits for a caller that the desk hasn't
 pub record FitsTold (b : Beginning) (v : SessionView) (past : List Act) : Type 0 where
   pub each : (c : ℕ) → ToldTo b v past c
-  pub callers : list_all (λ (o : Outcome). nat_lt o.caller (length b.desk.told)) v.unplaced ≡ true
+  pub callers : list_all (λ (o : Outcome). nat_lt o.caller b.callers) v.unplaced ≡ true
 
 -- what the i-th listener, that of kind k, was announced since the session began, and then what waits of its kind, are the
 -- lines of that kind that the history heard

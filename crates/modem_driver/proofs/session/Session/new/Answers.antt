@@ -1,0 +1,9 @@
+-- The history is empty.
+use Rattle.modem_driver.specs.SessionStates.{line_by}
+use Rattle.modem_driver.proofs.sessions.Ticking.{begins_over}
+use Rattle.modem_driver.proofs.session.Session.new.Goals as goal
+
+pub returns-in-Ok-clause-begins : goal.returns-in-Ok-clause-begins
+returns-in-Ok-clause-begins g c =
+    let l = line_by g.L.SerialLine.received g.L.SerialLine.sent g.L.SerialLine.calls g.L.SerialLine.failures c.args.line in
+    begins_over c.args.n1 c.in-Ok.kept.core.kinds c.in-Ok.kept l c.args.driver c.in-Ok.ensures.fresh (c.in-Ok.ensures.begins l)

@@ -1,0 +1,11 @@
+-- What sessions fit, call by call.
+pub mod Afters
+pub mod Counting
+pub mod Listening
+pub mod Parts
+pub mod Kinds
+pub mod Keeping
+pub mod Calls
+pub mod Ticking
+pub mod Lines
+pub mod Losing

@@ -1,0 +1,130 @@
+-- What contracts see of a session, and which histories it fits.
+use Rattle.std.specs.Prelude.{◌≡◌, ℕ, ◌<◌, Bool, true, false, List, [], length, Option, None}
+use Rattle.mux_frame.specs.Deframing.{Deframing}
+use Rattle.at_text.specs.declared.unsolicited.UrcKind.{UrcKind}
+use Rattle.modem_desk.specs.declared.request.Request.{Request}
+use Rattle.modem_desk.specs.declared.request.Outcome.{Outcome}
+use Rattle.modem_desk.specs.declared.request.Urc.{Urc}
+use Rattle.modem_desk.specs.Ends.{DriverView}
+use Rattle.modem_history.specs.Acts.{Act}
+use Rattle.modem_history.specs.Sessions.{LineView, EndView, Beginning, SessionView, Leftovers, FitsWith, Finishes, AreOnce, GoesBy, driving}
+use Rattle.modem_history.specs.Turns.{GoesTick, LosesLine}
+use Rattle.modem_driver.specs.Cores.{Core, Fits, IsSettingOf, new_core}
+use Rattle.modem_driver.specs.Holding.{HoldsFit}
+
+-- ## What is kept
+
+-- beside its line and its desk's end: the core, the request kept aside, the octets read and not yet fed, the deframer, the
+-- octets, outcomes and lines that wait, and whether a call on the line has failed
+pub record Kept : Type 0 where
+  pub core : Core
+  pub aside : Option Request
+  pub unfed : List ℕ
+  pub deframer : Deframing
+  pub unwritten : List ℕ
+  pub unplaced : List Outcome
+  pub unannounced : List Urc
+  pub faulty : Bool
+
+-- nothing has happened yet
+abbrev pub new_kept : ℕ → List UrcKind → Kept
+new_kept n1 kinds = record {
+  core = new_core n1 kinds;
+  aside = None;
+  unfed = [];
+  deframer = record { n1 = n1; undecided = []; next = None };
+  unwritten = [];
+  unplaced = [];
+  unannounced = [];
+  faulty = false;
+}
+
+-- a session over a line of any type
+pub record SessionState (X : Type 0) : Type 0 where
+  pub line : X
+  pub driver : DriverView
+  pub kept : Kept
+
+-- ## What a history speaks of
+
+-- a line of any type, by its trait's words
+abbrev pub line_by : {X : Type 0} → (received sent : X → List ℕ) → (calls failures : X → ℕ) → X → LineView
+line_by received sent calls failures x = record { received = received x; sent = sent x; calls = calls x; failures = failures x }
+
+-- the desk's end
+abbrev pub end_of : DriverView → EndView
+end_of d = record { taken = d.taken; told = d.told; announced = d.announced }
+
+abbrev pub seen_by : LineView → EndView → Kept → SessionView
+seen_by l e k = record {
+  line = l;
+  desk = e;
+  aside = k.aside;
+  unfed = k.unfed;
+  deframer = k.deframer;
+  unwritten = k.unwritten;
+  unplaced = k.unplaced;
+  unannounced = k.unannounced;
+}
+
+abbrev pub seen : {X : Type 0} → (X → LineView) → SessionState X → SessionView
+seen look s = seen_by (look s.line) (end_of s.driver) s.kept
+
+-- ## Which histories it fits
+
+-- What isn't seen there: the core fits the history of this N1, this desk's kinds and callers, and knows which connections
+-- are held; and a call on the line has failed since the session began just where the session knows of one.
+pub record KeptFits (b : Beginning) (l : LineView) (d : DriverView) (k : Kept) (past : List Act) : Type 0 where
+  pub setting : IsSettingOf (driving b) k.core
+  pub fits : Fits k.core past
+  pub holds : HoldsFit k.core past
+  pub kinds_are : d.desk.kinds ≡ b.kinds
+  pub callers_are : length d.desk.rings ≡ b.callers
+  pub sound : k.faulty ≡ false → l.failures ≡ b.line.failures
+  pub by_fault : k.faulty ≡ true → b.line.failures < l.failures
+
+abbrev pub FitsInside : {X : Type 0} → Beginning → (X → LineView) → SessionState X → List Act → Type 0
+FitsInside b look s past = KeptFits b (look s.line) s.driver s.kept past
+
+-- the session fits the history
+abbrev pub FitsAll : {X : Type 0} → Beginning → (X → LineView) → SessionState X → List Act → Type 0
+FitsAll b look s past = FitsWith b (seen look s) (FitsInside b look s) past
+
+-- a session that begins over a line and a desk's end
+abbrev pub beginning_of : ℕ → LineView → DriverView → Beginning
+beginning_of n1 l d = record { n1 = n1; callers = length d.desk.rings; kinds = d.desk.kinds; line = l; desk = end_of d }
+
+-- ## Calls
+
+-- a tick, whatever the session began with
+unfoldable pub Ticks : {X : Type 0} → (X → LineView) → (old new : SessionState X) → Type 0
+Ticks look old new = (b : Beginning) → GoesTick b (seen look old) (seen look new) (FitsInside b look old) (FitsInside b look new)
+
+-- the same of what is kept beside the line and the desk's end
+unfoldable pub KeptTicks : (old new : Kept) → Type 0
+KeptTicks old new =
+    (b : Beginning) (l : LineView) (d : DriverView)
+    → GoesTick b (seen_by l (end_of d) old) (seen_by l (end_of d) new) (KeptFits b l d old) (KeptFits b l d new)
+
+-- what is left of a session that ended is what each history that it fits says
+abbrev pub Ends : {X : Type 0} → (X → LineView) → SessionState X → Leftovers → Type 0
+Ends look s f = (b : Beginning) (past : List Act) → FitsAll b look s past → Finishes (seen look s) past f
+
+-- ## Steps of a turn
+
+-- what is kept goes on by these acts, whatever history it had, over the same line and the same desk's end
+unfoldable pub KeptGoes : (old new : Kept) → List Act → Type 0
+KeptGoes old new acts =
+    (b : Beginning) (l : LineView) (d : DriverView) → GoesBy b (seen_by l (end_of d) old) (seen_by l (end_of d) new) (KeptFits b l d old) (KeptFits b l d new) acts
+
+-- what is kept goes on by a call on the line, without an act
+unfoldable pub KeptMoves : (before later : LineView) → (old new : Kept) → Type 0
+KeptMoves before later old new =
+    (b : Beginning) (d : DriverView) → GoesBy b (seen_by before (end_of d) old) (seen_by later (end_of d) new) (KeptFits b before d old) (KeptFits b later d new) []
+
+-- the line is lost in this step, and no request is in hand any more
+pub record KeptLoses (old new : Kept) : Type 0 where
+  pub acts : List Act
+  pub goes : KeptGoes old new acts
+  pub loses : (b : Beginning) (l : LineView) (d : DriverView) (past : List Act) → AreOnce b (seen_by l (end_of d) new) → FitsWith b (seen_by l (end_of d) old) (KeptFits b l d old) past → LosesLine b (seen_by l (end_of d) new) past acts
+  pub stays : new ≡ record old { core = new.core; unplaced = new.unplaced; unannounced = new.unannounced }

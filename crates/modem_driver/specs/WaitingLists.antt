@@ -1,0 +1,25 @@
+-- What contracts see of outcomes and lines that wait.
+use Rattle.std.specs.Prelude.{◌≡◌, ℕ, ◌+◌, ◌≤◌, List, [], ◌∷◌, ◌++◌, length, map}
+use Rattle.modem_desk.specs.declared.request.Outcome.{Outcome}
+use Rattle.modem_desk.specs.declared.request.Urc.{Urc}
+use Rattle.modem_history.specs.Acts.{Act}
+use Rattle.modem_history.specs.Sessions.{heard_as}
+use Rattle.modem_history.specs.Turns.{outcomes_told, lines_heard}
+
+-- the outcomes, the lines, and for how many more lines there is room
+pub record WaitingLists : Type 0 where
+  pub outcomes : List Outcome
+  pub lines : List Urc
+  pub room : ℕ
+
+-- an act puts what it tells and announces behind the others, where there is room: for 128 outcomes, and for as many lines as
+-- room was made for
+pub record Puts (old new : WaitingLists) (a : Act) : Type 0 where
+  pub outcomes : length old.outcomes + length (outcomes_told (a ∷ [])) ≤ 128 → new.outcomes ≡ old.outcomes ++ outcomes_told (a ∷ [])
+  pub lines : length (lines_heard (a ∷ [])) ≤ old.room → map heard_as new.lines ≡ map heard_as old.lines ++ lines_heard (a ∷ [])
+  pub room : old.room ≤ new.room + length (lines_heard (a ∷ []))
+
+-- and so do acts
+pub record Keeps (old new : WaitingLists) (acts : List Act) : Type 0 where
+  pub outcomes : length old.outcomes + length (outcomes_told acts) ≤ 128 → new.outcomes ≡ old.outcomes ++ outcomes_told acts
+  pub lines : length (lines_heard acts) ≤ old.room → map heard_as new.lines ≡ map heard_as old.lines ++ lines_heard acts

@@ -1,0 +1,160 @@
+//! A driver at its line and its desk.
+ghost use Rattle.std.specs.Prelude.{◌≡◌, ◌≢◌, ◌↔◌, ◌<◌, ◌⊎◌, [], true, Contains, IfOk, IfErr, IsErr, IsErrOf, OnOk, OnErr};
+ghost use Rattle.std.specs.Borrow.{Lends, sem};
+ghost use Rattle.modem_history.specs.Sessions.{LineView};
+ghost use Rattle.modem_driver.specs.SessionStates.{beginning_of, new_kept, line_by, end_of, FitsAll, KeptFits, Ends, Ticks};
+ghost use Rattle.at_text.specs.declared.unsolicited.UrcKind.{UrcKind};
+ghost use Rattle.modem_driver.specs.declared.session.error.SessionError.TheVariants as why;
+ghost use Rattle.modem_driver.specs.declared.session.error.SessionFault.TheVariants as fault;
+
+mod error;
+mod input;
+mod kept;
+mod output;
+mod waiting;
+
+use crate::run::KINDS;
+use at_text::UrcKind;
+pub use error::{SessionError, SessionFault, SessionRefused};
+use kept::Kept;
+use modem_desk::{DriverEnd, Outcome, Request, Urc};
+use serial_line::SerialLine;
+use std::alloc::{AllocError, Global};
+use std::marker::Model;
+use std::sync::Wait;
+
+/// A driver between its line and the driver's end of its desk. It keeps the right to wait, and the
+/// allocator.
+#[derive(Drop)]
+pub struct Session<L: SerialLine, R: Wait + Drop> {
+    rt: R,
+    line: L,
+    driver: DriverEnd,
+    kept: Kept,
+}
+
+impl<L: SerialLine, R: Wait + Drop> Model for Session<L, R> {
+    ghost use Rattle.modem_driver.specs.SessionStates.{SessionState};
+
+    ghost Value = { SessionState L };
+
+    ghost view = { λ s. record { line = s.line; driver = s.driver; kept = s.kept } };
+}
+
+/// What a session was when it ended: its line, its desk's end, the requests taken and not told, in
+/// order, and last the one kept aside; and the outcomes and lines that still waited for a place.
+#[derive(Drop)]
+pub struct Finished<L: SerialLine> {
+    pub line: L,
+    pub driver: DriverEnd,
+    pub in_hand: Vec<Request>,
+    pub unplaced: Vec<Outcome>,
+    pub unannounced: Vec<Urc>,
+}
+
+/// The kinds that a desk listens to.
+fn listened(alloc: Global, driver: &DriverEnd) -> Result<Vec<UrcKind>, AllocError>
+    ensures { IfOk result (λ ks. (k : UrcKind) → Contains ks.items k ↔ Contains driver.now.desk.kinds k) }
+{
+    let mut kinds = Vec::with_capacity(alloc, KINDS.len())?;
+    for kind in KINDS {
+        if driver.listens(kind) {
+            kinds.push(kind)?;
+        }
+    }
+    Ok(kinds)
+}
+
+/// What a session over this desk's end keeps at first.
+fn begin(alloc: Global, driver: &DriverEnd, n1: u16) -> Result<Kept, SessionError>
+    ensures begins { IfOk result (λ k. (l : LineView) → KeptFits (beginning_of n1 l driver.now) l driver.now k []) }
+    ensures fresh { IfOk result (λ k. k ≡ new_kept n1 k.core.kinds) }
+    ensures bad_n1 { IsErrOf result why.BadN1 ↔ ((n1 < 31) ⊎ (32767 < n1)) }
+{
+    if n1 < 31 || n1 > 32767 {
+        return Err(SessionError::BadN1);
+    }
+    let kinds = listened(alloc, driver)?;
+    Kept::new(alloc, n1, kinds.as_slice())
+}
+
+impl<L: SerialLine, R: Wait + Drop> Session<L, R> {
+    ghost use Rattle.modem_driver.specs.contracts.session.Session.{the_row};
+
+    /// A session that has done nothing yet, over a line and the driver's end of a desk, whatever they
+    /// did before. N1 is how many octets of information a frame may have. It keeps the right to wait
+    /// and the allocator, and takes room for 128 requests and 128 outcomes. Refusals, which hand the
+    /// line and the desk's end back: 2 BadN1 where N1 isn't 31 to 32767, checked first; 1 NoMemory.
+    pub fn new(
+        rt: R,
+        alloc: Global,
+        line: L,
+        driver: DriverEnd,
+        n1: u16,
+    ) -> Result<Session<L, R>, SessionRefused<L>>
+        ensures begins { IfOk result (λ s. FitsAll (beginning_of n1 (line_by L.received L.sent L.calls L.failures line) driver) (line_by L.received L.sent L.calls L.failures) s []) }
+        ensures same { IfOk result (λ s. (s.line ≡ line) × (s.driver ≡ driver)) }
+        ensures bad_n1 { (IfErr result (λ e. e.why ≡ why.BadN1 → ((n1 < 31) ⊎ (32767 < n1))))
+            × (((n1 < 31) ⊎ (32767 < n1)) → IsErr result × IfErr result (λ e. e.why ≡ why.BadN1)) }
+        ensures back { IfErr result (λ e. (e.line ≡ line) × (e.driver ≡ driver)) }
+    {
+        match begin(alloc, &driver, n1) {
+            Ok(kept) => Ok(Session {
+                rt,
+                line,
+                driver,
+                kept,
+            }),
+            Err(why) => Err(SessionRefused { why, line, driver }),
+        }
+    }
+
+    /// The line, lent. The session fits afterwards what it fitted before where what was done through
+    /// the loan left the octets received and sent and both counts as they were.
+    pub fn line_mut(&mut self) -> &mut L
+        ensures value { result.now ≡ self.old.line }
+        ensures* lent { sem 𝓛 (Lends (the_row L.row R.row L.SerialLine) L.row self.entry result (λ l. record self.old { line = l })) }
+    {
+        &mut self.line
+    }
+
+    /// A tick: SABM and DISC that weren't answered are sent again, and at the fourth what waits is
+    /// given up. Refusals, which change nothing: 3 Failed where a turn has answered Line; 1 NoMemory.
+    pub fn tick(&mut self) -> Result<(), SessionFault>
+        ensures ticks { OnOk result (Ticks (line_by L.received L.sent L.calls L.failures) self.old self.new) }
+        ensures err { OnErr result (self.new ≡ self.old) }
+        ensures failed { (result ≡ Err fault.Failed) ↔ (self.old.kept.core.lost ≡ true) }
+        ensures not_line { result ≢ Err fault.Line }
+    {
+        self.kept.tick()?;
+        Ok(())
+    }
+
+    /// The line, the desk's end and what is left, without taking memory: the requests that were taken
+    /// and not told, in order, and then the one kept aside; and all outcomes and lines that wait.
+    pub fn finish(self) -> Finished<L>
+        ensures left { Ends (line_by L.received L.sent L.calls L.failures) self (record {
+          line = line_by L.received L.sent L.calls L.failures result.line;
+          desk = end_of result.driver;
+          in_hand = result.in_hand.items;
+          unplaced = result.unplaced.items;
+          unannounced = result.unannounced.items;
+        }) }
+        ensures same { (result.line ≡ self.line) × (result.driver ≡ self.driver) }
+    {
+        let Session {
+            rt: _,
+            line,
+            driver,
+            kept,
+        } = self;
+        let (in_hand, unplaced, unannounced) = kept.into_lists();
+        Finished {
+            line,
+            driver,
+            in_hand,
+            unplaced,
+            unannounced,
+        }
+    }
+}

@@ -1,0 +1,181 @@
+//! What a session keeps beside its line and its desk's end.
+ghost use Rattle.std.specs.Prelude.{◌≡◌, ◌≢◌, ◌↔◌, ◌+◌, ◌<◌, ◌≤◌, ◌⊎◌, ◌++◌, [], true, false, length, option_to_list, None, IfOk, IsErrOf, OnOk, OnErr};
+ghost use Rattle.modem_driver.specs.Cores.{Fits};
+ghost use Rattle.modem_driver.specs.Holding.{HoldsFit};
+ghost use Rattle.modem_driver.specs.SessionStates.{new_kept, line_by, KeptGoes, KeptLoses, KeptMoves, KeptTicks};
+ghost use Rattle.serial_line.specs.Counts.{one_more};
+ghost use Rattle.modem_driver.specs.declared.session.error.SessionError.TheVariants as why;
+ghost use Rattle.modem_driver.specs.declared.session.error.SessionFault.TheVariants as fault;
+
+use crate::driver::Core;
+use crate::error::CoreError;
+use crate::session::error::{SessionError, SessionFault};
+use crate::session::input::Input;
+use crate::session::output::Output;
+use crate::session::waiting::Waiting;
+use at_text::UrcKind;
+use modem_desk::{Outcome, Request, Urc};
+use mux_frame::Deframer;
+use serial_line::SerialLine;
+use std::alloc::Global;
+use std::marker::Model;
+
+/// The core, the octets that come and go, what waits for a place at the desk, a request kept aside,
+/// and whether a call on the line has failed.
+#[derive(Drop)]
+pub(crate) struct Kept {
+    pub(super) core: Core,
+    pub(super) aside: Option<Request>,
+    pub(super) input: Input,
+    pub(super) deframer: Deframer,
+    pub(super) output: Output,
+    pub(super) waiting: Waiting,
+    pub(super) faulty: bool,
+}
+
+impl Model for Kept {
+    ghost use Rattle.std.specs.Prelude.{◌≡◌};
+    ghost use Rattle.modem_driver.specs.SessionStates.{Kept};
+
+    ghost Value = { Kept };
+
+    ghost view = { λ k. record {
+      core = k.core;
+      aside = k.aside;
+      unfed = k.input;
+      deframer = k.deframer;
+      unwritten = k.output;
+      unplaced = k.waiting.outcomes;
+      unannounced = k.waiting.lines;
+      faulty = k.faulty;
+    } };
+
+    ghost invariant = { λ k. k.core.station.n1 ≡ k.deframer.n1 };
+}
+
+impl Kept {
+    /// Nothing has happened yet; it listens to these kinds. It takes all the room that it needs but
+    /// for lines that wait. Refusals: 2 BadN1, checked first; 1 NoMemory.
+    pub(crate) fn new(alloc: Global, n1: u16, kinds: &[UrcKind]) -> Result<Kept, SessionError>
+        ensures ok { IfOk result (λ k. k ≡ new_kept n1 kinds.now) }
+        ensures past { IfOk result (λ k. Fits k.core []) }
+        ensures held { IfOk result (λ k. HoldsFit k.core []) }
+        ensures bad_n1 { IsErrOf result why.BadN1 ↔ ((n1 < 31) ⊎ (32767 < n1)) }
+    {
+        let core = match Core::new(alloc, n1, kinds) {
+            Ok(core) => core,
+            Err(CoreError::BadN1) => return Err(SessionError::BadN1),
+            Err(_) => return Err(SessionError::NoMemory),
+        };
+        let Ok(deframer) = Deframer::new(alloc, n1) else {
+            return Err(SessionError::NoMemory);
+        };
+        Ok(Kept {
+            core,
+            aside: None,
+            input: Input::new(alloc)?,
+            deframer,
+            output: Output::new(alloc, n1)?,
+            waiting: Waiting::new(alloc)?,
+            faulty: false,
+        })
+    }
+
+    /// A tick of the core. Refusals, which change nothing: 3 Failed where the line was lost; 1
+    /// NoMemory.
+    pub(crate) fn tick(&mut self) -> Result<(), SessionFault>
+        ensures ticks { OnOk result (KeptTicks self.old self.new) }
+        ensures err { OnErr result (self.new ≡ self.old) }
+        ensures failed { (result ≡ Err fault.Failed) ↔ (self.old.core.lost ≡ true) }
+        ensures line { result ≢ Err fault.Line }
+    {
+        if self.core.lost {
+            return Err(SessionFault::Failed);
+        }
+        let Ok(acts) = self.core.tick() else {
+            return Err(SessionFault::NoMemory);
+        };
+        self.waiting.keep(acts);
+        Ok(())
+    }
+
+    /// Gives the octets that were read to the deframer, as many of the first as it takes: at least one
+    /// where no frame is at hand.
+    pub(crate) fn feed(&mut self)
+        ensures goes { KeptGoes self.old self.new [] }
+        ensures fewer { length self.new.unfed ≤ length self.old.unfed }
+        ensures some { self.old.deframer.next ≡ None → 0 < length self.old.unfed → length self.new.unfed < length self.old.unfed }
+        ensures stays { self.new ≡ record self.old { unfed = self.new.unfed; deframer = self.new.deframer } }
+    {
+        let count = self.deframer.feed(self.input.as_slice());
+        self.input.pass(count);
+    }
+
+    /// Reads once from the line. The condition is that no octets wait to be fed. A fault is kept in
+    /// mind.
+    pub(crate) fn read<L: SerialLine>(&mut self, line: &mut L)
+        requires { self.old.unfed ≡ [] }
+        ensures goes { KeptMoves (line_by L.received L.sent L.calls L.failures line.old) (line_by L.received L.sent L.calls L.failures line.new) self.old self.new }
+        ensures came { L.received line.new ≡ L.received line.old ++ self.new.unfed }
+        ensures none_went { L.sent line.new ≡ L.sent line.old }
+        ensures counted { L.calls line.new ≡ one_more (L.calls line.old) }
+        ensures stays { self.new ≡ record self.old { unfed = self.new.unfed; faulty = self.new.faulty } }
+    {
+        match self.input.read(line) {
+            Ok(_count) => {}
+            Err(_fault) => self.faulty = true,
+        }
+    }
+
+    /// Writes the octets that wait to the line, as many of the first as it takes. A fault is kept in
+    /// mind.
+    pub(crate) fn write<L: SerialLine>(&mut self, line: &mut L)
+        ensures goes { KeptMoves (line_by L.received L.sent L.calls L.failures line.old) (line_by L.received L.sent L.calls L.failures line.new) self.old self.new }
+        ensures none_came { L.received line.new ≡ L.received line.old }
+        ensures went { L.sent line.new ++ self.new.unwritten ≡ L.sent line.old ++ self.old.unwritten }
+        ensures counted { L.calls line.new ≡ one_more (L.calls line.old) }
+        ensures stays { self.new ≡ record self.old { unwritten = self.new.unwritten; faulty = self.new.faulty } }
+    {
+        match line.try_write(self.output.as_slice()) {
+            Ok(count) => self.output.pass(count),
+            Err(_fault) => self.faulty = true,
+        }
+    }
+
+    /// The line is lost: everyone in hand is told so. Refusal: 1 NoMemory, which changes nothing. The
+    /// condition is that a call on the line has failed, and that it wasn't lost before.
+    pub(crate) fn lose(&mut self) -> Result<(), SessionFault>
+        requires faulty { self.old.faulty ≡ true }
+        requires live { self.old.core.lost ≡ false }
+        ensures loses { OnOk result (KeptLoses self.old self.new) }
+        ensures err { OnErr result (self.new ≡ self.old) }
+        ensures no_memory { OnErr result (result ≡ Err fault.NoMemory) }
+    {
+        let Ok(acts) = self.core.lost() else {
+            return Err(SessionFault::NoMemory);
+        };
+        self.waiting.keep(acts);
+        Ok(())
+    }
+
+    /// The requests in hand, and then the one kept aside; the outcomes and the lines that wait. There
+    /// is room for the one kept aside where fewer than 128 are in hand.
+    pub(crate) fn into_lists(self) -> (Vec<Request>, Vec<Outcome>, Vec<Urc>)
+        ensures hand { length self.core.hand + length (option_to_list self.aside) ≤ 128 → result.0.items ≡ self.core.hand ++ option_to_list self.aside }
+        ensures outcomes { result.1.items ≡ self.unplaced }
+        ensures lines { result.2.items ≡ self.unannounced }
+    {
+        let Kept {
+            core,
+            aside,
+            waiting,
+            ..
+        } = self;
+        let mut in_hand = core.into_hand();
+        if let Some(request) = aside {
+            let _ = in_hand.push(request);
+        }
+        let (unplaced, unannounced) = waiting.into_lists();
+        (in_hand, unplaced, unannounced)
+    }
+}

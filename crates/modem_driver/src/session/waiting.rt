@@ -1,0 +1,93 @@
+//! Outcomes and lines that wait for a place.
+ghost use Rattle.std.specs.Prelude.{◌≡◌, ◌≤◌, [], map, IfOk, OnOk};
+ghost use Rattle.modem_history.specs.Acts.{act_of};
+ghost use Rattle.modem_driver.specs.WaitingLists.{Keeps, Puts};
+
+use crate::hand::IN_HAND;
+use modem_desk::{Outcome, Urc};
+use modem_history::Act;
+use std::alloc::{AllocError, Global};
+use std::collections::VecDeque;
+use std::marker::Model;
+
+/// The outcomes that wait for a place at their callers, and the lines that wait for one at their
+/// listeners, each in their order. Requests in hand, one kept aside and outcomes that wait are
+/// together 128 at most, and for so many outcomes there is room.
+#[derive(Drop)]
+pub(crate) struct Waiting {
+    outcomes: VecDeque<Outcome>,
+    lines: VecDeque<Urc>,
+}
+
+impl Model for Waiting {
+    ghost use Rattle.std.specs.Prelude.{◌≤◌, ◌-◌};
+    ghost use Rattle.std.specs.VecDeque.{deque_capacity, deque_len};
+    ghost use Rattle.modem_driver.specs.WaitingLists.{WaitingLists};
+
+    ghost Value = { WaitingLists };
+
+    ghost view = { λ w. record {
+      outcomes = w.outcomes.items;
+      lines = w.lines.items;
+      room = deque_capacity w.lines - deque_len w.lines;
+    } };
+
+    ghost invariant = { λ w. 128 ≤ deque_capacity w.outcomes };
+}
+
+impl Waiting {
+    /// None so far.
+    pub(crate) fn new(alloc: Global) -> Result<Waiting, AllocError>
+        ensures { IfOk result (λ w. (w.outcomes ≡ []) × (w.lines ≡ [])) }
+    {
+        let outcomes = VecDeque::with_capacity(alloc, IN_HAND)?;
+        Ok(Waiting {
+            outcomes,
+            lines: VecDeque::new(alloc),
+        })
+    }
+
+    /// Makes room for so many more lines.
+    pub(crate) fn make_room(&mut self, more: usize) -> Result<(), AllocError>
+        ensures outcomes { self.new.outcomes ≡ self.old.outcomes }
+        ensures lines { self.new.lines ≡ self.old.lines }
+        ensures room { OnOk result (more ≤ self.new.room) }
+    {
+        self.lines.reserve(more)
+    }
+
+    /// What an act tells or announces waits behind the others.
+    fn put(&mut self, act: Act)
+        ensures { Puts self.old self.new (act_of act) }
+    {
+        match act {
+            Act::Told(outcome) => {
+                let _ = self.outcomes.push_back(outcome);
+            }
+            Act::Heard(line) => {
+                let _ = self.lines.push_back(line);
+            }
+            _other => {}
+        }
+    }
+
+    /// What the acts tell and announce waits behind the others. There is room where the outcomes that
+    /// wait are then 128 at most, and where room was made for the lines.
+    #[tactic(auto, using(crate::proofs::sessions::Keeping::keeps_first, crate::proofs::sessions::Keeping::keeps_put, crate::proofs::sessions::Keeping::kept_outcomes, crate::proofs::sessions::Keeping::kept_lines))]
+    pub(crate) fn keep(&mut self, acts: Vec<Act>)
+        ensures { Keeps self.old self.new (map act_of acts.items) }
+    {
+        for act in acts {
+            self.put(act);
+        }
+    }
+
+    /// The outcomes and the lines, without taking memory.
+    pub(crate) fn into_lists(self) -> (Vec<Outcome>, Vec<Urc>)
+        ensures outcomes { result.0.items ≡ self.outcomes }
+        ensures lines { result.1.items ≡ self.lines }
+    {
+        let Waiting { outcomes, lines } = self;
+        (outcomes.into_vec(), lines.into_vec())
+    }
+}
