@@ -11,15 +11,6 @@ use Rattle.modem_history.specs.Entering.{EntryAnswer, Entered, Refused, NoAnswer
 use Rattle.modem_driver.specs.declared.entering.EntryError.{EntryError}
 use Rattle.modem_driver.specs.declared.entering.EntryError.TheVariants as error
 
--- what is seen of a line
-abbrev pub line_seen : {X : Type 0} → (received sent : X → List ℕ) → (calls failures : X → ℕ) → X → LineView
-line_seen received sent calls failures line = record {
-  received = received line;
-  sent = sent line;
-  calls = calls line;
-  failures = failures line;
-}
-
 abbrev pub answer_of : EntryError → EntryAnswer
 answer_of error.Refused = Refused
 answer_of error.NoAnswer = NoAnswer

@@ -3,8 +3,8 @@ ghost use Rattle.std.specs.Prelude.{◌≡◌, ◌<◌, ◌≤◌, ◌+◌, ◌+
 ghost use Rattle.at_text.specs.Reading.{HasRead};
 ghost use Rattle.serial_line.specs.Counts.{one_more};
 ghost use Rattle.modem_history.specs.Entering.{IsEntry, Entered};
+ghost use Rattle.modem_driver.specs.SessionStates.{line_by};
 ghost use Rattle.modem_driver.specs.Entries.{
-  line_seen,
   answer_of,
   answer_by,
   entry_begun,
@@ -65,10 +65,10 @@ impl Entry {
     /// One call on the line: the final code, if it came.
     fn go_on<L: SerialLine>(&mut self, line: &mut L) -> Result<Option<Final>, LineFault>
         requires { self.old.written ≤ 10 }
-        ensures goes { IfOk result (λ code. GoesOn (line_seen L.received L.sent L.calls L.failures line.old)
-            (line_seen L.received L.sent L.calls L.failures line.new) self.old self.new code) }
-        ensures fails { OnErr result (Fails (line_seen L.received L.sent L.calls L.failures line.old)
-            (line_seen L.received L.sent L.calls L.failures line.new) self.old) }
+        ensures goes { IfOk result (λ code. GoesOn (line_by L.received L.sent L.calls L.failures line.old)
+            (line_by L.received L.sent L.calls L.failures line.new) self.old self.new code) }
+        ensures fails { OnErr result (Fails (line_by L.received L.sent L.calls L.failures line.old)
+            (line_by L.received L.sent L.calls L.failures line.new) self.old) }
     {
         if self.written < TEXT.len() {
             self.write(line)?;
@@ -80,10 +80,10 @@ impl Entry {
     /// Offers the line the rest of the text.
     fn write<L: SerialLine>(&mut self, line: &mut L) -> Result<(), LineFault>
         requires { self.old.written < 10 }
-        ensures goes { OnOk result (GoesOn (line_seen L.received L.sent L.calls L.failures line.old)
-            (line_seen L.received L.sent L.calls L.failures line.new) self.old self.new None) }
-        ensures fails { OnErr result (Fails (line_seen L.received L.sent L.calls L.failures line.old)
-            (line_seen L.received L.sent L.calls L.failures line.new) self.old) }
+        ensures goes { OnOk result (GoesOn (line_by L.received L.sent L.calls L.failures line.old)
+            (line_by L.received L.sent L.calls L.failures line.new) self.old self.new None) }
+        ensures fails { OnErr result (Fails (line_by L.received L.sent L.calls L.failures line.old)
+            (line_by L.received L.sent L.calls L.failures line.new) self.old) }
     {
         self.written += line.try_write(&TEXT[self.written..])?;
         Ok(())
@@ -92,10 +92,10 @@ impl Entry {
     /// Reads an octet, if there is one, and says the final code that it ends.
     fn read<L: SerialLine>(&mut self, line: &mut L) -> Result<Option<Final>, LineFault>
         requires { self.old.written ≡ 10 }
-        ensures goes { IfOk result (λ code. GoesOn (line_seen L.received L.sent L.calls L.failures line.old)
-            (line_seen L.received L.sent L.calls L.failures line.new) self.old self.new code) }
-        ensures fails { OnErr result (Fails (line_seen L.received L.sent L.calls L.failures line.old)
-            (line_seen L.received L.sent L.calls L.failures line.new) self.old) }
+        ensures goes { IfOk result (λ code. GoesOn (line_by L.received L.sent L.calls L.failures line.old)
+            (line_by L.received L.sent L.calls L.failures line.new) self.old self.new code) }
+        ensures fails { OnErr result (Fails (line_by L.received L.sent L.calls L.failures line.old)
+            (line_by L.received L.sent L.calls L.failures line.new) self.old) }
     {
         match next_octet(line)? {
             Some(octet) => Ok(see(&mut self.reader, octet)),
@@ -136,10 +136,10 @@ fn see(reader: &mut LineReader, octet: u8) -> Option<Final>
 /// final code. It makes at most so many calls on the line. Refusals: 1 Refused, where the code isn't `OK`; 2 NoAnswer,
 /// where none came in so many calls; 3 Line, where the line failed.
 pub fn enter<L: SerialLine>(line: &mut L, turns: u32) -> Result<(), EntryError>
-    ensures entered { OnOk result (IsEntry turns (line_seen L.received L.sent L.calls L.failures line.old)
-        (line_seen L.received L.sent L.calls L.failures line.new) Entered) }
-    ensures not_entered { IfErr result (λ why. IsEntry turns (line_seen L.received L.sent L.calls L.failures line.old)
-        (line_seen L.received L.sent L.calls L.failures line.new) (answer_of why)) }
+    ensures entered { OnOk result (IsEntry turns (line_by L.received L.sent L.calls L.failures line.old)
+        (line_by L.received L.sent L.calls L.failures line.new) Entered) }
+    ensures not_entered { IfErr result (λ why. IsEntry turns (line_by L.received L.sent L.calls L.failures line.old)
+        (line_by L.received L.sent L.calls L.failures line.new) (answer_of why)) }
 {
     let mut entry = Entry::new();
     for _ in 0..turns {

@@ -1,10 +1,11 @@
 -- No final code has come yet.
-use Rattle.modem_driver.specs.Entries.{IsUnderWay, line_seen}
+use Rattle.modem_driver.specs.Entries.{IsUnderWay}
+use Rattle.modem_driver.specs.SessionStates.{line_by}
 use Rattle.modem_driver.proofs.entering.enter.Given as goal
 
 abbrev pub invariant-loop : goal.invariant-loop
 invariant-loop g l =
     IsUnderWay l.counter
-    (line_seen g.L.SerialLine.received g.L.SerialLine.sent g.L.SerialLine.calls g.L.SerialLine.failures l.initial.line)
-    (line_seen g.L.SerialLine.received g.L.SerialLine.sent g.L.SerialLine.calls g.L.SerialLine.failures l.line)
+    (line_by g.L.SerialLine.received g.L.SerialLine.sent g.L.SerialLine.calls g.L.SerialLine.failures l.initial.line)
+    (line_by g.L.SerialLine.received g.L.SerialLine.sent g.L.SerialLine.calls g.L.SerialLine.failures l.line)
     l.entry
