@@ -10,3 +10,4 @@ pub mod Ticking
 pub mod Lines
 pub mod Losing
 pub mod Flowing
+pub mod Taking
