@@ -9,3 +9,5 @@ pub mod Calls
 pub mod Ticking
 pub mod Lines
 pub mod Losing
+pub mod Flowing
+pub mod Taking

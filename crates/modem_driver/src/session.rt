@@ -67,7 +67,8 @@ fn listened(alloc: Global, driver: &DriverEnd) -> Result<Vec<UrcKind>, AllocErro
 
 /// What a session over this desk's end keeps at first.
 fn begin(alloc: Global, driver: &DriverEnd, n1: u16) -> Result<Kept, SessionError>
-    ensures begins { IfOk result (λ k. (l : LineView) → KeptFits (beginning_of n1 l driver.now) l driver.now k []) }
+    ensures begins { IfOk result (λ k. (l : LineView)
+        → KeptFits (beginning_of n1 l driver.now) l driver.now k []) }
     ensures fresh { IfOk result (λ k. k ≡ new_kept n1 k.core.kinds) }
     ensures bad_n1 { IsErrOf result why.BadN1 ↔ ((n1 < 31) ⊎ (32767 < n1)) }
 {
@@ -92,7 +93,9 @@ impl<L: SerialLine, R: Wait + Drop> Session<L, R> {
         driver: DriverEnd,
         n1: u16,
     ) -> Result<Session<L, R>, SessionRefused<L>>
-        ensures begins { IfOk result (λ s. FitsAll (beginning_of n1 (line_by L.received L.sent L.calls L.failures line) driver) (line_by L.received L.sent L.calls L.failures) s []) }
+        ensures begins { IfOk result (λ s.
+            FitsAll (beginning_of n1 (line_by L.received L.sent L.calls L.failures line) driver)
+            (line_by L.received L.sent L.calls L.failures) s []) }
         ensures same { IfOk result (λ s. (s.line ≡ line) × (s.driver ≡ driver)) }
         ensures bad_n1 { (IfErr result (λ e. e.why ≡ why.BadN1 → ((n1 < 31) ⊎ (32767 < n1))))
             × (((n1 < 31) ⊎ (32767 < n1)) → IsErr result × IfErr result (λ e. e.why ≡ why.BadN1)) }
@@ -113,7 +116,8 @@ impl<L: SerialLine, R: Wait + Drop> Session<L, R> {
     /// the loan left the octets received and sent and both counts as they were.
     pub fn line_mut(&mut self) -> &mut L
         ensures value { result.now ≡ self.old.line }
-        ensures* lent { sem 𝓛 (Lends (the_row L.row R.row L.SerialLine) L.row self.entry result (λ l. record self.old { line = l })) }
+        ensures* lent { sem 𝓛 (Lends (the_row L.row R.row L.SerialLine) L.row self.entry result
+            (λ l. record self.old { line = l })) }
     {
         &mut self.line
     }

@@ -17,7 +17,7 @@ use Rattle.modem_driver.specs.SessionStates.{Kept, KeptFits, KeptGoes, KeptMoves
 use Rattle.modem_driver.proofs.sessions.Parts.{told_part, heard_part, sent_part, received_part}
 
 -- where the desk, what waits for it and the request kept aside stay
-session_with : (b : Beginning) (old new : SessionView) (past : List Act) → SessionFits b old past → new.desk ≡ old.desk → new.aside ≡ old.aside → new.unplaced ≡ old.unplaced → new.unannounced ≡ old.unannounced
+pub session_with : (b : Beginning) (old new : SessionView) (past : List Act) → SessionFits b old past → new.desk ≡ old.desk → new.aside ≡ old.aside → new.unplaced ≡ old.unplaced → map heard_as new.unannounced ≡ map heard_as old.unannounced
     → FitsLoss b new past → FitsReceived b new past → FitsSent b new past → SessionFits b new past
 session_with b old new past f desk aside unplaced unannounced loss received sent = record {
   history = f.history;
@@ -33,10 +33,10 @@ session_with b old new past f desk aside unplaced unannounced loss received sent
   received = received;
   sent = sent;
   told = told_part b old new past [] f.told (ap (λ (e : EndView). e.told) desk) (unplaced ∙ sym (append-nil old.unplaced)) refl;
-  heard = heard_part b old new past [] f.heard (ap (λ (e : EndView). e.announced) desk) (ap (map heard_as) unannounced ∙ sym (append-nil (map heard_as old.unannounced))) refl;
+  heard = heard_part b old new past [] f.heard (ap (λ (e : EndView). e.announced) desk) (unannounced ∙ sym (append-nil (map heard_as old.unannounced))) refl;
 }
 
-loss_with : (b : Beginning) (old new : SessionView) (past : List Act) → SessionFits b old past → old.line.failures ≤ new.line.failures → FitsLoss b new past
+pub loss_with : (b : Beginning) (old new : SessionView) (past : List Act) → SessionFits b old past → old.line.failures ≤ new.line.failures → FitsLoss b new past
 loss_with b old new past f more = record {
   one = f.loss.one;
   by_fault = λ gone. let before = f.loss.by_fault gone in omega arith;

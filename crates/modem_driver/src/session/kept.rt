@@ -1,8 +1,8 @@
 //! What a session keeps beside its line and its desk's end.
-ghost use Rattle.std.specs.Prelude.{◌≡◌, ◌≢◌, ◌↔◌, ◌+◌, ◌<◌, ◌≤◌, ◌⊎◌, ◌++◌, [], true, false, length, option_to_list, None, IfOk, IsErrOf, OnOk, OnErr};
+ghost use Rattle.std.specs.Prelude.{◌≡◌, ◌≢◌, ◌↔◌, ◌+◌, ◌<◌, ◌≤◌, ◌⊎◌, ◌++◌, [], true, false, length, option_to_list, None, IfOk, IfSome, IsErrOf, OnOk, OnErr};
 ghost use Rattle.modem_driver.specs.Cores.{Fits};
 ghost use Rattle.modem_driver.specs.Holding.{HoldsFit};
-ghost use Rattle.modem_driver.specs.SessionStates.{new_kept, line_by, KeptGoes, KeptLoses, KeptMoves, KeptTicks};
+ghost use Rattle.modem_driver.specs.SessionStates.{new_kept, line_by, KeptFlows, KeptGoes, KeptLoses, KeptMoves, KeptTakes, KeptTicks};
 ghost use Rattle.serial_line.specs.Counts.{one_more};
 ghost use Rattle.modem_driver.specs.declared.session.error.SessionError.TheVariants as why;
 ghost use Rattle.modem_driver.specs.declared.session.error.SessionFault.TheVariants as fault;
@@ -15,7 +15,7 @@ use crate::session::output::Output;
 use crate::session::waiting::Waiting;
 use at_text::UrcKind;
 use modem_desk::{Outcome, Request, Urc};
-use mux_frame::Deframer;
+use mux_frame::{Deframer, Dlci};
 use serial_line::SerialLine;
 use std::alloc::Global;
 use std::marker::Model;
@@ -104,7 +104,8 @@ impl Kept {
     pub(crate) fn feed(&mut self)
         ensures goes { KeptGoes self.old self.new [] }
         ensures fewer { length self.new.unfed ≤ length self.old.unfed }
-        ensures some { self.old.deframer.next ≡ None → 0 < length self.old.unfed → length self.new.unfed < length self.old.unfed }
+        ensures some { self.old.deframer.next ≡ None → 0 < length self.old.unfed
+            → length self.new.unfed < length self.old.unfed }
         ensures stays { self.new ≡ record self.old { unfed = self.new.unfed; deframer = self.new.deframer } }
     {
         let count = self.deframer.feed(self.input.as_slice());
@@ -115,7 +116,8 @@ impl Kept {
     /// mind.
     pub(crate) fn read<L: SerialLine>(&mut self, line: &mut L)
         requires { self.old.unfed ≡ [] }
-        ensures goes { KeptMoves (line_by L.received L.sent L.calls L.failures line.old) (line_by L.received L.sent L.calls L.failures line.new) self.old self.new }
+        ensures goes { KeptMoves (line_by L.received L.sent L.calls L.failures line.old)
+            (line_by L.received L.sent L.calls L.failures line.new) self.old self.new }
         ensures came { L.received line.new ≡ L.received line.old ++ self.new.unfed }
         ensures none_went { L.sent line.new ≡ L.sent line.old }
         ensures counted { L.calls line.new ≡ one_more (L.calls line.old) }
@@ -130,11 +132,13 @@ impl Kept {
     /// Writes the octets that wait to the line, as many of the first as it takes. A fault is kept in
     /// mind.
     pub(crate) fn write<L: SerialLine>(&mut self, line: &mut L)
-        ensures goes { KeptMoves (line_by L.received L.sent L.calls L.failures line.old) (line_by L.received L.sent L.calls L.failures line.new) self.old self.new }
+        ensures goes { KeptMoves (line_by L.received L.sent L.calls L.failures line.old)
+            (line_by L.received L.sent L.calls L.failures line.new) self.old self.new }
         ensures none_came { L.received line.new ≡ L.received line.old }
         ensures went { L.sent line.new ++ self.new.unwritten ≡ L.sent line.old ++ self.old.unwritten }
         ensures counted { L.calls line.new ≡ one_more (L.calls line.old) }
-        ensures stays { self.new ≡ record self.old { unwritten = self.new.unwritten; faulty = self.new.faulty } }
+        ensures stays { self.new
+            ≡ record self.old { unwritten = self.new.unwritten; faulty = self.new.faulty } }
     {
         match line.try_write(self.output.as_slice()) {
             Ok(count) => self.output.pass(count),
@@ -158,10 +162,53 @@ impl Kept {
         Ok(())
     }
 
+    /// Looks at how many lines of a connection wait: from 256 on it is held, and freed below 128. Where
+    /// the MSC has no place in the control queue nothing is done. Refusal: 1 NoMemory, which changes
+    /// nothing.
+    pub(crate) fn mind_backlog(&mut self, dlci: Dlci) -> Result<(), SessionFault>
+        ensures flows { OnOk result (KeptFlows self.old self.new) }
+        ensures err { OnErr result (self.new ≡ self.old) }
+        ensures no_memory { OnErr result (result ≡ Err fault.NoMemory) }
+    {
+        let lines = self.waiting.backlog(dlci);
+        match self.core.backlog(dlci, lines) {
+            Ok(acts) => {
+                self.waiting.keep(acts);
+                Ok(())
+            }
+            Err(CoreError::NoRoom) => Ok(()),
+            Err(_) => Err(SessionFault::NoMemory),
+        }
+    }
+
+    /// Takes the request that is kept aside, if there is one. Refusal: 1 NoMemory, which changes
+    /// nothing: the request stays aside.
+    pub(crate) fn take_aside(&mut self) -> Result<(), SessionFault>
+        ensures takes { OnOk result (IfSome self.old.aside (λ q. KeptTakes self.old self.new)) }
+        ensures none { self.old.aside ≡ None → self.new ≡ self.old }
+        ensures err { OnErr result (self.new ≡ self.old) }
+        ensures no_memory { OnErr result (result ≡ Err fault.NoMemory) }
+    {
+        let Some(request) = self.aside.take() else {
+            return Ok(());
+        };
+        match self.core.took(request) {
+            Ok(acts) => {
+                self.waiting.keep(acts);
+                Ok(())
+            }
+            Err((_why, request)) => {
+                self.aside = Some(request);
+                Err(SessionFault::NoMemory)
+            }
+        }
+    }
+
     /// The requests in hand, and then the one kept aside; the outcomes and the lines that wait. There
     /// is room for the one kept aside where fewer than 128 are in hand.
     pub(crate) fn into_lists(self) -> (Vec<Request>, Vec<Outcome>, Vec<Urc>)
-        ensures hand { length self.core.hand + length (option_to_list self.aside) ≤ 128 → result.0.items ≡ self.core.hand ++ option_to_list self.aside }
+        ensures hand { length self.core.hand + length (option_to_list self.aside) ≤ 128
+            → result.0.items ≡ self.core.hand ++ option_to_list self.aside }
         ensures outcomes { result.1.items ≡ self.unplaced }
         ensures lines { result.2.items ≡ self.unannounced }
     {

@@ -1,11 +1,13 @@
 //! Outcomes and lines that wait for a place.
 ghost use Rattle.std.specs.Prelude.{◌≡◌, ◌≤◌, [], map, IfOk, OnOk};
 ghost use Rattle.modem_history.specs.Acts.{act_of};
+ghost use Rattle.modem_history.specs.Sessions.{backlog_in};
 ghost use Rattle.modem_driver.specs.WaitingLists.{Keeps, Puts};
 
 use crate::hand::IN_HAND;
 use modem_desk::{Outcome, Urc};
 use modem_history::Act;
+use mux_frame::Dlci;
 use std::alloc::{AllocError, Global};
 use std::collections::VecDeque;
 use std::marker::Model;
@@ -80,6 +82,16 @@ impl Waiting {
         for act in acts {
             self.put(act);
         }
+    }
+
+    /// How many lines of a connection wait.
+    pub(crate) fn backlog(&self, dlci: Dlci) -> usize
+        ensures { result ≡ backlog_in dlci.number self.now.lines }
+    {
+        self.lines
+            .iter()
+            .filter(|line| line.dlci.number() == dlci.number())
+            .count()
     }
 
     /// The outcomes and the lines, without taking memory.
