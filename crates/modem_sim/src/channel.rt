@@ -1,7 +1,7 @@
 //! What a simulated modem keeps of a connection.
-ghost use Rattle.std.specs.Prelude.{◌≡◌, ◌++◌, ℕ, List, length, OnOk, IfOk};
+ghost use Rattle.std.specs.Prelude.{◌≡◌, ◌++◌, ℕ, List, length, map, OnOk, OnErr, IfOk, IsErrOf};
 ghost use Rattle.at_text.specs.Lines.{lines, kept_run};
-ghost use Rattle.modem_sim.specs.Boxes.{fresh_box, box_taken, queue_of};
+ghost use Rattle.modem_sim.specs.Boxes.{fresh_box, box_taken, box_heard, queue_of};
 ghost use Rattle.modem_sim.specs.Pieces.{spelled, replies};
 ghost use Rattle.modem_sim.specs.Laws.{after_lines};
 
@@ -13,11 +13,11 @@ use mux_frame::Dlci;
 use std::alloc::Global;
 use std::marker::Model;
 
-/// The connection on which a command is waited for, and how many lines had come there when that began.
+/// The connection on which a command is waited for, and whether one has come there.
 #[derive(Clone, Copy, Debug)]
 pub(crate) struct Wanted {
     pub(crate) dlci: Dlci,
-    pub(crate) come: u64,
+    pub(crate) over: bool,
 }
 
 /// What is kept of a connection.
@@ -93,6 +93,7 @@ impl Channel {
             (λ a. a.said.items ≡ queue_of self.now ++ spelled (replies echo modem.old (lines (self.now.run ++ octets.now)))) }
         ensures ended { IfOk result (λ a. a.ended ≡ length (lines (self.now.run ++ octets.now))) }
         ensures state { OnOk result (modem.new ≡ after_lines modem.old (lines (self.now.run ++ octets.now))) }
+        ensures no_memory { OnErr result (IsErrOf result SimError.NoMemory) }
     {
         let mut reader = self.reader.copy();
         let mut said = match self.hold {
@@ -119,5 +120,23 @@ impl Channel {
             Some(_) => self.held = said,
             None => self.unsent = said,
         }
+    }
+
+    /// So many lines ended on a connection: where a command was waited for there, one has come.
+    fn hear(&mut self, dlci: Dlci, ended: usize)
+        ensures { self.new ≡ box_heard dlci.number ended self.old }
+    {
+        if let Some(wanted) = &mut self.hold {
+            wanted.over = wanted.over || (dlci.number() == wanted.dlci.number() && ended > 0);
+        }
+    }
+}
+
+/// So many lines ended on a connection, which all of them hear.
+pub(crate) fn hear_all(channels: &mut Vec<Channel>, dlci: Dlci, ended: usize)
+    ensures { channels.new.items ≡ map (box_heard dlci.number ended) channels.old.items }
+{
+    for channel in channels.iter_mut() {
+        channel.hear(dlci, ended);
     }
 }
