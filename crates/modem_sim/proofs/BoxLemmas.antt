@@ -16,7 +16,7 @@ use Rattle.modem_sim.specs.Acts.{Act, Wire, End, wire, is_open}
 use Rattle.modem_sim.specs.Heard.{Heard, heard, heard_on, texts_of, modem_after, octets_got, run_on, lines_ended}
 use Rattle.modem_sim.specs.Pieces.{Piece, spelled, replies}
 use Rattle.modem_sim.specs.Outboxes.{Outbox, empty_box, outbox, said_after, dropped, say, replies_by, hold_on, lasts, is_empty, is_holding}
-use Rattle.modem_sim.specs.Boxes.{Box, Waited, BoxFits, FitsOpen, Brought, lasting, said_with, box_turned, hold_heard, box_heard, released, released_by}
+use Rattle.modem_sim.specs.Boxes.{Box, Waited, BoxFits, FitsOpen, Brought, lasting, said_with, box_turned, hold_heard, box_heard}
 use Rattle.modem_sim.proofs.HistoryLemmas.{spelled-append}
 use Rattle.modem_sim.proofs.ReplyingLemmas.{after_lines-append, kept_again}
 

@@ -38,32 +38,32 @@ use Rattle.modem_sim.specs.Histories.{EachAllowed, got, sent}
 use Rattle.modem_sim.specs.Cores.{Core, Wired, IsLater, GoesFrom, Fits, GoesOn, Takes, box_at, brought, closes_in, closes_all, counted, kept_in, lines_in, octets_in, opens_in, sent_after, answered, nothing_wired, that_act}
 use Rattle.modem_sim.proofs.BoxLemmas.{IsBrought, box_goes_on, count_goes_on, modem_goes_on, box_still, sent_still}
 
-wire-sent_after : (fs : List Frame) (past : List Act) → wire (sent_after fs past) ≡ sending.sent_after fs (wire past)
+pub wire-sent_after : (fs : List Frame) (past : List Act) → wire (sent_after fs past) ≡ sending.sent_after fs (wire past)
 wire-sent_after [] past = refl
 wire-sent_after (f ∷ fs) past = wire-sent_after fs (Wire (station.Sent f) ∷ past)
 
-heard-sent_after : (fs : List Frame) (past : List Act) → heard (sent_after fs past) ≡ heard past
+pub heard-sent_after : (fs : List Frame) (past : List Act) → heard (sent_after fs past) ≡ heard past
 heard-sent_after [] past = refl
 heard-sent_after (f ∷ fs) past = heard-sent_after fs (Wire (station.Sent f) ∷ past)
 
-owed-sent_after : (fs : List Frame) (a : station.Act) (past : List Act) → call_owed (sent_after fs (Wire a ∷ past)) ≡ None
+pub owed-sent_after : (fs : List Frame) (a : station.Act) (past : List Act) → call_owed (sent_after fs (Wire a ∷ past)) ≡ None
 owed-sent_after [] a past = refl
 owed-sent_after (f ∷ fs) a past = owed-sent_after fs (station.Sent f) (Wire a ∷ past)
 
-allowed-sent_after : (e : End) (fs : List Frame) (a : station.Act) (past : List Act) → EachAllowed e (Wire a ∷ past) → EachAllowed e (sent_after fs (Wire a ∷ past))
+pub allowed-sent_after : (e : End) (fs : List Frame) (a : station.Act) (past : List Act) → EachAllowed e (Wire a ∷ past) → EachAllowed e (sent_after fs (Wire a ∷ past))
 allowed-sent_after e [] a past each = each
 allowed-sent_after e (f ∷ fs) a past each =
     allowed-sent_after e fs (station.Sent f) (Wire a ∷ past) (refl, each)
 
-done-sent_after : (fs : List Frame) (past : List Act) → done (sent_after fs past) ≡ done past
+pub done-sent_after : (fs : List Frame) (past : List Act) → done (sent_after fs past) ≡ done past
 done-sent_after [] past = refl
 done-sent_after (f ∷ fs) past = done-sent_after fs (Wire (station.Sent f) ∷ past)
 
-closed-sent_after : (fs : List Frame) (past : List Act) → is_closed_down (sent_after fs past) ≡ is_closed_down past
+pub closed-sent_after : (fs : List Frame) (past : List Act) → is_closed_down (sent_after fs past) ≡ is_closed_down past
 closed-sent_after [] past = refl
 closed-sent_after (f ∷ fs) past = closed-sent_after fs (Wire (station.Sent f) ∷ past)
 
-got-sent_after : (fs : List Frame) (past : List Act) → got (sent_after fs past) ≡ got past
+pub got-sent_after : (fs : List Frame) (past : List Act) → got (sent_after fs past) ≡ got past
 got-sent_after [] past = refl
 got-sent_after (f ∷ fs) past = got-sent_after fs (Wire (station.Sent f) ∷ past)
 
@@ -103,7 +103,7 @@ sent_queued e was now past a gone before after none same gone_are =
     ∙ ap (λ q. q ++ fs) (same ∙ before.queue_is) in
     sent-sent_after fs (Wire a ∷ past) ∙ ap (λ x. x ++ fs) (none ∙ gone_are) ∙ append_assoc gone was.queue fs ∙ ap (λ q. gone ++ q) (sym queue)
 
-box-sent_after : (e : End) (fs : List Frame) (past : List Act) (d : ℕ) (b : Box) → FitsOpen e d past b → FitsOpen e d (sent_after fs past) b
+pub box-sent_after : (e : End) (fs : List Frame) (past : List Act) (d : ℕ) (b : Box) → FitsOpen e d past b → FitsOpen e d (sent_after fs past) b
 box-sent_after e [] past d b fits = fits
 box-sent_after e (f ∷ fs) past d b fits =
     box-sent_after e fs (Wire (station.Sent f) ∷ past) d b (box_still e past (station.Sent f) d b b.unsent (sent_still d past f) refl fits)
@@ -139,7 +139,7 @@ role_is : (c : Core) (e : End) → stations.setting_of c.station ≡ setting e �
 role_is c e is = ap (λ s. s.role) is
 
 -- the station says which connections are open
-opened_is : (e : End) (w : Wired) (c : Core) (past : List Act) (d : ℕ) → d < 62 → Fits e w c past → is_opened (stations.channel_at c.station d).state ≡ is_open d past
+pub opened_is : (e : End) (w : Wired) (c : Core) (past : List Act) (d : ℕ) → d < 62 → Fits e w c past → is_opened (stations.channel_at c.station d).state ≡ is_open d past
 opened_is e w c past d small fits =
     ap is_opened (sym (fits.station_is.channels_are d small).state_is)
     ∙ opened_is_open c.station.role (wire past) d
@@ -180,7 +180,7 @@ opens_other past d f other = rw other (none (is_kind f.kind Sabm) _)
     none true b = refl
     none false b = refl
 
-box_here : (boxes : List Box) (d n : ℕ) (b : Box) (here : Bool) → (n == d) ≡ here → n < length boxes → slice_index_or (slice_set boxes n b) d fresh_box ≡ (if here then b else slice_index_or boxes d fresh_box)
+pub box_here : (boxes : List Box) (d n : ℕ) (b : Box) (here : Bool) → (n == d) ≡ here → n < length boxes → slice_index_or (slice_set boxes n b) d fresh_box ≡ (if here then b else slice_index_or boxes d fresh_box)
 box_here boxes d n b true is inside =
     let same : n ≡ d = grind (arith, nat_tests) in
     ap (λ m. slice_index_or (slice_set boxes n b) m fresh_box) (sym same) ∙ get_or-set_same boxes n b fresh_box inside
@@ -350,7 +350,7 @@ kept_takes old mid new f m reader said opens closes ended same handles opened cl
 pub kept_of : (reader text : List ℕ) → reader ≡ kept_run text → kept_run reader ≡ reader
 kept_of reader text is = ap kept_run is ∙ kept_again text ∙ sym is
 
-any_default : (boxes : List Box) (i : ℕ) (a b : Box) → i < length boxes → slice_index_or boxes i a ≡ slice_index_or boxes i b
+pub any_default : (boxes : List Box) (i : ℕ) (a b : Box) → i < length boxes → slice_index_or boxes i a ≡ slice_index_or boxes i b
 any_default [] i a b inside = absurd (omega (arith, inside))
 any_default (x ∷ boxes) zero a b inside = refl
 any_default (x ∷ boxes) (suc i) a b inside = any_default boxes i a b (omega arith)

@@ -15,3 +15,4 @@ pub mod RefusedFacts
 pub mod ReplyingLemmas
 pub mod BoxLemmas
 pub mod CoreLemmas
+pub mod HandingLemmas

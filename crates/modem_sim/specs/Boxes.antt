@@ -1,11 +1,11 @@
 -- What a simulated modem keeps of a connection, and what acts make of it.
-use Rattle.std.specs.Prelude.{◌≡◌, ℕ, ◌==◌, ◌&&◌, ◌||◌, nat_lt, Bool, true, List, [], ◌++◌, Option, Some, None, if◌then◌else◌}
+use Rattle.std.specs.Prelude.{◌≡◌, ℕ, ◌==◌, ◌&&◌, ◌||◌, nat_lt, Bool, true, false, List, [], ◌++◌, Option, Some, None, if◌then◌else◌}
 use Rattle.mux_station.specs.declared.role.Role.TheVariants.{Responder}
 use Rattle.mux_station.specs.Offering.{offered}
 use Rattle.modem_sim.specs.declared.channel.Wanted.{Wanted}
 use Rattle.modem_sim.specs.Acts.{Act, End, wire, is_open}
 use Rattle.modem_sim.specs.Heard.{run_on}
-use Rattle.modem_sim.specs.Pieces.{spelled}
+use Rattle.modem_sim.specs.Pieces.{framed, spelled}
 use Rattle.modem_sim.specs.Outboxes.{outbox, hold_on, is_holding}
 
 -- a hold: the connection on which a command is waited for, and whether one has come there, which ends it
@@ -84,10 +84,19 @@ hold_heard n count (Some w) = Some (record w { over = w.over || ((n == w.dlci) &
 abbrev pub box_heard : ℕ → ℕ → Box → Box
 box_heard n count b = record b { hold = hold_heard n count b.hold }
 
--- what is kept apart goes behind the rest where the hold is over
-abbrev pub released_by : Option Waited → Box → Box
-released_by None b = b
-released_by (Some w) b = if w.over then record b { unsent = b.unsent ++ b.held; held = []; hold = None } else b
+-- a hold is over, and what it held back is still kept apart
+abbrev pub is_released : Option Waited → Bool
+is_released None = false
+is_released (Some w) = w.over
 
+-- what is kept apart goes behind the rest where the hold is over
 abbrev pub released : Box → Box
-released b = released_by b.hold b
+released b = if is_released b.hold then record b { unsent = b.unsent ++ b.held; held = []; hold = None } else b
+
+-- a line that no command asked for is said, which no hold holds back
+abbrev pub box_announced : List ℕ → Box → Box
+box_announced line b = record (released b) { unsent = (released b).unsent ++ framed line }
+
+-- answers are held back until a command has come on n
+abbrev pub box_holding : ℕ → Box → Box
+box_holding n b = record (released b) { hold = Some (record { dlci = n; over = false }) }

@@ -1,11 +1,13 @@
 -- What a simulated modem's end keeps, and the pasts that it fits.
-use Rattle.std.specs.Prelude.{◌≡◌, ℕ, ◌+◌, ◌-◌, ◌^◌, ◌<◌, ◌==◌, ◌&&◌, ◌||◌, Bool, true, false, List, [], ◌∷◌, ◌++◌, None, length, map, filter, min, slice_index_or, slice_set, if◌then◌else◌}
+use Rattle.std.specs.Prelude.{◌≡◌, ℕ, ◌+◌, ◌-◌, ◌^◌, ◌<◌, ◌==◌, ◌&&◌, ◌||◌, Bool, true, false, List, [], ◌∷◌, ◌++◌, None, Some, length, map, filter, min, slice_index_or, slice_set, if◌then◌else◌}
+use Rattle.std.specs.List.{list_all}
 use Rattle.mux_frame.specs.Frames.{Frame}
 use Rattle.mux_station.specs.Acts as station
 use Rattle.mux_station.specs.Stations as stations
 use Rattle.mux_station.specs.Fitting as fitting
 use Rattle.mux_station.specs.Sending as sending
 use Rattle.mux_station.specs.States.{is_opened}
+use Rattle.mux_station.specs.Giving.{given_on, next_given}
 use Rattle.mux_station.specs.declared.noted.Noted.{Noted}
 use Rattle.mux_station.specs.declared.noted.Noted.TheVariants.{AllClosed}
 use Rattle.mux_frame.specs.declared.frame.Kind.TheVariants.{Sabm}
@@ -15,11 +17,13 @@ use Rattle.at_text.specs.Lines.{lines, kept_run}
 use Rattle.modem_sim.specs.Laws.{after_lines}
 use Rattle.modem_sim.specs.Pieces.{spelled, replies}
 use Rattle.modem_sim.specs.declared.script.Step.{Step}
+use Rattle.modem_sim.specs.declared.script.StepAct.{StepAct}
+use Rattle.modem_sim.specs.declared.script.StepAct.TheVariants.{Announce, Flow, Hold, Disconnect, CloseDown}
 use Rattle.modem_sim.specs.declared.state.ModemState.{ModemState}
 use Rattle.modem_sim.specs.Acts.{Act, Wire, End, setting, wire}
 use Rattle.modem_sim.specs.Heard.{heard, modem_after}
-use Rattle.modem_sim.specs.Boxes.{Box, fresh_box, FitsOpen, Brought, box_turned, box_heard}
-use Rattle.modem_sim.specs.Doing.{acts, call_owed, left, is_closed_down}
+use Rattle.modem_sim.specs.Boxes.{Box, fresh_box, FitsOpen, Brought, box_turned, box_heard, box_announced, box_holding, is_released}
+use Rattle.modem_sim.specs.Doing.{acts, call_of, call_owed, left, named_by, is_closed_down}
 use Rattle.modem_sim.specs.Histories.{EachAllowed, got, sent}
 
 -- Its station, its modem, whether it repeats commands, what it keeps of each connection, how many lines came, which is told up
@@ -147,3 +151,66 @@ pub record Takes (old new : Core) (f : Frame) : Type 0 where
   pub come_is : new.come ≡ counted (old.come + length (lines_in old f))
   pub steps_are : new.steps ≡ old.steps
   pub closed_is : new.closed ≡ (old.closed || closes_in old f)
+
+-- ## What is handed to the station
+
+-- another box of this connection
+abbrev pub boxed : Core → ℕ → Box → Core
+boxed c d b = record c { boxes = slice_set c.boxes d b }
+
+-- all of an open connection's octets are handed on, or its send ring has some; and no hold is over there
+pub record IsHanded (c : Core) (d : ℕ) : Type 0 where
+  pub unsent : (d == 0) ≡ false → (stations.channel_at c.station d).waiting ≡ [] → (box_at c d).unsent ≡ []
+  pub released : is_released (box_at c d).hold ≡ false
+
+abbrev pub IsHandedOn : Core → ℕ → Type 0
+IsHandedOn c d = is_opened (stations.channel_at c.station d).state ≡ true → IsHanded c d
+
+-- ## What goes out
+
+abbrev pub gone_on : Core → Core
+gone_on c = record c { station = given_on c.station c.station.queue }
+
+-- whatever past it fits, it goes on with the frame that it gives on
+abbrev pub GivesOut : Core → Type 0
+GivesOut c =
+    (f : Frame) → next_given c.station c.station.queue ≡ Some f → (e : End) (w : Wired) (past : List Act)
+    → Fits e w c past → GoesFrom e (record w { gone = w.gone ++ f ∷ [] }) past (gone_on c)
+
+-- ## Steps
+
+-- a step says or holds back something on a connection
+abbrev pub boxes_done : StepAct → List Box → List Box
+boxes_done (Announce d line) boxes =
+    slice_set boxes d.number (box_announced line (slice_index_or boxes d.number fresh_box))
+boxes_done (Hold d e) boxes =
+    slice_set boxes d.number (box_holding e.number (slice_index_or boxes d.number fresh_box))
+boxes_done _ boxes = boxes
+
+abbrev pub closes_by : StepAct → Bool
+closes_by CloseDown = true
+closes_by _ = false
+
+-- what the station makes of a step: nothing, or the call, which it takes
+pub data AtStation (old new : stations.Station) (act : StepAct) : Type 0 where
+  asks_nothing : call_of act ≡ None → new ≡ old → AtStation old new act
+  asks :
+      (call : station.Call) → call_of act ≡ Some call
+      → sending.refused (stations.setting_of old) (stations.seen_in old) call ≡ None
+      → fitting.Handles old new (station.Called call)
+      → AtStation old new act
+
+-- an end does a step
+pub record Does (old new : Core) (act : StepAct) : Type 0 where
+  pub at_station : AtStation old.station new.station act
+  pub rest_is :
+      new
+      ≡ record old {
+        station = new.station;
+        boxes = boxes_done act old.boxes;
+        closed = closes_by act || old.closed;
+      }
+
+-- the connections that a step names are open
+abbrev pub are_open_in : Core → StepAct → Bool
+are_open_in c act = list_all (λ d. is_opened (stations.channel_at c.station d).state) (named_by act)

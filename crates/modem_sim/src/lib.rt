@@ -4,7 +4,9 @@
 mod answers;
 mod channel;
 mod contexts;
+mod doing;
 mod error;
+mod handing;
 pub mod laws;
 mod modem;
 mod replying;

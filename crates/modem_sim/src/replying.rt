@@ -11,7 +11,7 @@ use at_text::{AnswerLine, LineReader};
 use std::alloc::AllocError;
 
 /// A line as a modem writes it: CR LF, text, CR LF (V.250, 5.7.1).
-fn push_framed(text: &[u8], out: &mut Vec<u8>) -> Result<(), AllocError>
+pub(crate) fn push_framed(text: &[u8], out: &mut Vec<u8>) -> Result<(), AllocError>
     ensures { OnOk result (out.new.items ≡ out.old.items ++ framed text.now) }
 {
     out.extend_from_slice(b"\r\n")?;

@@ -22,25 +22,25 @@ use std::alloc::{AllocError, Global};
 use std::marker::Model;
 
 /// The control channel.
-const CONTROL: Dlci = Dlci { number: 0 };
+pub(crate) const CONTROL: Dlci = Dlci { number: 0 };
 
 /// How many connections there are, 0 among them.
-const CONNECTIONS: usize = 62;
+pub(crate) const CONNECTIONS: usize = 62;
 
 /// A station, its modem, what is kept of each connection, and the script.
 #[derive(Drop)]
 pub(crate) struct SimCore {
-    station: Station,
-    modem: Modem,
-    echo: bool,
-    channels: Vec<Channel>,
+    pub(crate) station: Station,
+    pub(crate) modem: Modem,
+    pub(crate) echo: bool,
+    pub(crate) channels: Vec<Channel>,
     /// How many command lines came.
-    come: u64,
-    steps: Vec<Step>,
+    pub(crate) come: u64,
+    pub(crate) steps: Vec<Step>,
     /// The next step.
-    next: usize,
+    pub(crate) next: usize,
     /// Whether a CLD was asked for or came.
-    closed: bool,
+    pub(crate) closed: bool,
 }
 
 impl Model for SimCore {
@@ -123,7 +123,7 @@ impl SimCore {
     }
 
     /// Whether a connection is open.
-    fn is_open(&self, dlci: Dlci) -> bool
+    pub(crate) fn is_open(&self, dlci: Dlci) -> bool
         ensures { result ≡ is_opened (channel_at self.now.station dlci.number).state }
     {
         match self.station.state(dlci) {
