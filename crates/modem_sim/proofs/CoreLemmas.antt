@@ -228,7 +228,7 @@ capped m n a is = omega arith
 closes_are : (e : End) (w : Wired) (c : Core) (past : List Act) (f : Frame) → Fits e w c past → closes_in c f ≡ (is_open 0 past && brings_command cld f)
 closes_are e w c past f fits = ap (λ (o : Bool). o && brings_command cld f) (opened_is e w c past 0 (lit< tt) fits)
 
-either_way : (a b : Bool) → (a || b) ≡ (b || a)
+pub either_way : (a b : Bool) → (a || b) ≡ (b || a)
 either_way true true = refl
 either_way true false = refl
 either_way false true = refl

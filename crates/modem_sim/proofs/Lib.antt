@@ -16,3 +16,4 @@ pub mod ReplyingLemmas
 pub mod BoxLemmas
 pub mod CoreLemmas
 pub mod HandingLemmas
+pub mod DoingLemmas

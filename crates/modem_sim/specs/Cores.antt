@@ -200,17 +200,6 @@ pub data AtStation (old new : stations.Station) (act : StepAct) : Type 0 where
       → fitting.Handles old new (station.Called call)
       → AtStation old new act
 
--- an end does a step
-pub record Does (old new : Core) (act : StepAct) : Type 0 where
-  pub at_station : AtStation old.station new.station act
-  pub rest_is :
-      new
-      ≡ record old {
-        station = new.station;
-        boxes = boxes_done act old.boxes;
-        closed = closes_by act || old.closed;
-      }
-
 -- the connections that a step names are open
-abbrev pub are_open_in : Core → StepAct → Bool
-are_open_in c act = list_all (λ d. is_opened (stations.channel_at c.station d).state) (named_by act)
+abbrev pub are_open_in : stations.Station → StepAct → Bool
+are_open_in v act = list_all (λ d. is_opened (stations.channel_at v d).state) (named_by act)

@@ -70,6 +70,19 @@ pub(crate) struct Parts {
     channels: Vec<Channel>,
 }
 
+/// Whether a connection is open.
+pub(crate) fn is_open(station: &Station, dlci: Dlci) -> bool
+    ensures { result ≡ is_opened (channel_at station.now dlci.number).state }
+{
+    match station.state(dlci) {
+        ChannelState::Opened => true,
+        ChannelState::Shut
+        | ChannelState::Opening
+        | ChannelState::Closing
+        | ChannelState::Stopping => false,
+    }
+}
+
 fn shut_channels(alloc: Global) -> Result<Vec<Channel>, AllocError>
     ensures { IfOk result (λ cs. cs.items ≡ replicate 62 fresh_box) }
 {
@@ -126,13 +139,7 @@ impl SimCore {
     pub(crate) fn is_open(&self, dlci: Dlci) -> bool
         ensures { result ≡ is_opened (channel_at self.now.station dlci.number).state }
     {
-        match self.station.state(dlci) {
-            ChannelState::Opened => true,
-            ChannelState::Shut
-            | ChannelState::Opening
-            | ChannelState::Closing
-            | ChannelState::Stopping => false,
-        }
+        is_open(&self.station, dlci)
     }
 
     /// Whether a frame opens its connection: a SABM on 0, or while 0 is open.
