@@ -178,7 +178,7 @@ stays e w past c fits = record { now = past; later = record { newer = []; joins 
 pub goes_none : (c : Core) → Goes c c
 goes_none c e w past fits = stays e w past c fits
 
-later_then : (a b c : List Act) → IsLater a b → IsLater b c → IsLater a c
+pub later_then : (a b c : List Act) → IsLater a b → IsLater b c → IsLater a c
 later_then a b c p q = record { newer = q.newer ++ p.newer; joins = append_assoc q.newer p.newer a ∙ ap (λ x. q.newer ++ x) p.joins ∙ q.joins }
 
 -- one after the other

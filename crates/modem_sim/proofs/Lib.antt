@@ -17,3 +17,4 @@ pub mod BoxLemmas
 pub mod CoreLemmas
 pub mod HandingLemmas
 pub mod DoingLemmas
+pub mod SimLemmas

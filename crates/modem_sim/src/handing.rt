@@ -1,5 +1,5 @@
 //! What an end hands to its station, and what goes out.
-ghost use Rattle.std.specs.Prelude.{◌≡◌, ◌<◌, ◌==◌, ℕ, [], length, option_map, true, false, IfOk, OnOk, OnErr};
+ghost use Rattle.std.specs.Prelude.{◌≡◌, ◌<◌, ◌≤◌, ◌==◌, ℕ, [], length, option_map, true, false, IfOk, IfSome, OnOk, OnErr};
 ghost use Rattle.std.specs.Borrow.{sem};
 ghost use Rattle.std.specs.Io.BufRead.{Rests};
 ghost use Rattle.mux_station.specs.GivenFrames.{outgoing_of, with_freshness};
@@ -87,6 +87,7 @@ impl SimCore {
     pub(crate) fn outgoing(&mut self) -> Option<Outgoing<'_>>
         ensures frame { option_map outgoing_of result
             ≡ option_map (with_freshness (length self.old.station.queue == 0)) (next_given self.old.station self.old.station.queue) }
+        ensures short { IfSome result (λ o. length o.frame.info.now ≤ 1024) }
         ensures past { GivesOut self.old }
         ensures* after { sem 𝓛 (Rests the_row self.entry (λ new. new ≡ gone_on self.old)) }
     {

@@ -65,9 +65,10 @@ impl Model for SimCore {
 }
 
 /// What an end takes memory for as it is made.
+#[derive(Drop)]
 pub(crate) struct Parts {
-    station: Station,
-    channels: Vec<Channel>,
+    pub(crate) station: Station,
+    pub(crate) channels: Vec<Channel>,
 }
 
 /// Whether a connection is open.
@@ -133,6 +134,27 @@ impl SimCore {
             next: 0,
             closed: false,
         }
+    }
+
+    /// How many octets of information a frame may have.
+    pub(crate) fn n1(&self) -> u16
+        ensures { result ≡ self.now.station.n1 }
+    {
+        self.station.n1()
+    }
+
+    /// Whether a CLD was asked for or came.
+    pub(crate) fn closed(&self) -> bool
+        ensures { result ≡ self.now.closed }
+    {
+        self.closed
+    }
+
+    /// How many control frames wait.
+    pub(crate) fn queue_len(&self) -> usize
+        ensures { result ≡ length self.now.station.queue }
+    {
+        self.station.queue_len()
     }
 
     /// Whether a connection is open.
