@@ -1,17 +1,22 @@
 -- A simulated modem at its line goes on.
-use Rattle.std.specs.Prelude.{◌≡◌, ℕ, ◌≤◌, Bool, true, false, List, [], ◌∷◌, ◌++◌, Option, Some, None, option_map, Result, Ok, Err, IfOk, OnOk, OnErr, take, drop, length, refl}
+use Rattle.std.specs.Prelude.{◌≡◌, ℕ, ◌==◌, ◌&&◌, ◌≤◌, is_none, Bool, true, false, List, [], ◌∷◌, ◌++◌, Option, Some, None, option_map, Result, Ok, Err, IfOk, OnOk, OnErr, take, drop, length, refl}
 use Rattle.std.specs.List.{flat_map}
 use Rattle.std.proofs.Common.{arith, sym, ap, ◌∙◌, subst, append_assoc, append-nil, take-append-drop}
 use Rattle.std.proofs.lemmas.Grind.{flat_map-append}
 use Rattle.mux_frame.specs.Frames.{Frame}
 use Rattle.mux_frame.specs.Deframing.{Deframing, Deframes, HandsOver, TakesIn}
 use Rattle.mux_frame.specs.Spelling as spelling
+use Rattle.mux_frame.specs.Reading.{Reads}
+use Rattle.mux_frame.proofs.Slow.{total_reading}
+use Rattle.at_cmds.proofs.LineLemmas.{both_true}
+use Rattle.std.proofs.lemmas.Bool.Decides.{nat_tests}
+use Rattle.modem_sim.specs.Histories.{got, sent}
 use Rattle.mux_station.specs.Stations as stations
 use Rattle.mux_station.specs.Giving.{data_frame, data_given, given_on, next_given, next_turn}
 use Rattle.mux_station.specs.GivenFrames.{Outgoing, with_freshness}
 use Rattle.modem_sim.specs.Acts.{Act, End}
 use Rattle.modem_sim.specs.Cores.{Core, Wired, Fits, IsLater, GoesFrom, Goes, GoesOn, GivesOut, gone_on}
-use Rattle.modem_sim.specs.Sims.{Kept, KeptFits, KeptFrom, KeptGoes, Receives, SimState, FitsSim, SimGoes, spelled_next}
+use Rattle.modem_sim.specs.Sims.{Kept, KeptFits, KeptFrom, KeptGoes, Receives, SimState, FitsSim, SimGoes, Simulates, IsOver, is_ended, spelled_next}
 use Rattle.modem_sim.proofs.HandingLemmas.{later_then}
 
 pub kept_none : (k : Kept) → KeptGoes k k
@@ -261,3 +266,67 @@ fetched_some old mid core fresh g f none goes some same gives is =
     subst At (sym is)
     (kept_then old (record old { core = mid }) (record old { core = gone_on mid; pending = Some f }) (kept_core old mid goes)
     (kept_gave (record old { core = mid }) f none (gives f (some_mapped fresh g (next_given mid.station mid.station.queue) some ∙ ap (λ x. Some x) (sym same)))))
+
+-- ## What that comes to
+
+-- what is kept fits no past that isn't a simulated modem's
+pub simulates : (e : End) (came went : List ℕ) (k : Kept) (past : List Act) → KeptFits e came went k past → Simulates e came went k past
+simulates e came went k past fits =
+    let rest = total_reading k.deframer.n1 k.deframer.undecided fits.deframes.octets in
+    let Undecided : List ℕ → Type 0 = λ x. Reads k.deframer.n1 x rest.frames rest.rest in
+    let At : ℕ → Type 0 = λ n. Reads n fits.taken (got past ++ rest.frames) rest.rest in
+    let Taken : List ℕ → Type 0 = λ x. Reads k.deframer.n1 x (got past ++ rest.frames) rest.rest in
+    let Came : List Frame → Type 0 = λ fs. Reads k.deframer.n1 (fits.taken ++ []) (fs ++ rest.frames) rest.rest in
+    let core = fits.core_fits in
+    record {
+      lawful = record { at_station = core.lawful; acts = core.allowed };
+      complete = record { at_station = core.complete; called = core.free };
+      taken = fits.taken;
+      came_is = fits.came_is;
+      octets = record {
+        coming = rest.frames;
+        rest = rest.rest;
+        reads = subst At fits.n1_is
+            (subst Taken (append-nil fits.taken)
+            (subst Came (sym core.came_are) (fits.deframes.reads [] rest.frames rest.rest (subst Undecided (sym (append-nil k.deframer.undecided)) rest.reads))));
+        unwritten = (k.out ++ spelled_next k.pending) ++ flat_map spelling.spelled k.core.station.queue;
+        written = sym (append_assoc went (k.out ++ spelled_next k.pending) (flat_map spelling.spelled k.core.station.queue))
+            ∙ ap (λ x. x ++ flat_map spelling.spelled k.core.station.queue) fits.went_is
+            ∙ sym (flat_map-append spelling.spelled fits.wired.gone k.core.station.queue)
+            ∙ ap (flat_map spelling.spelled) (sym core.gone_are);
+      };
+      modem_is = core.modem_is;
+    }
+
+none_queued : (fs : List Frame) → (length fs == 0) ≡ true → fs ≡ []
+none_queued [] is = refl
+none_queued (f ∷ fs) is = absurd (omega (arith, some))
+  where
+    some : length (f ∷ fs) ≡ 0
+    some = grind (arith, nat_tests)
+
+none_written : (xs : List ℕ) → (length xs == 0) ≡ true → xs ≡ []
+none_written [] is = refl
+none_written (x ∷ xs) is = absurd (omega (arith, some))
+  where
+    some : length (x ∷ xs) ≡ 0
+    some = grind (arith, nat_tests)
+
+none_pending : (o : Option Frame) → is_none o ≡ true → spelled_next o ≡ []
+none_pending None is = refl
+none_pending (Some f) is = cc
+
+-- an end that is over has closed down and written all
+pub is_over : (e : End) (came went : List ℕ) (k : Kept) (past : List Act) → is_ended k ≡ true → KeptFits e came went k past → IsOver went past
+is_over e came went k past ended fits =
+    let first = both_true k.core.closed (is_none k.pending && ((length k.out == 0) && (length k.core.station.queue == 0))) ended in
+    let second = both_true (is_none k.pending) ((length k.out == 0) && (length k.core.station.queue == 0)) first.1 in
+    let third = both_true (length k.out == 0) (length k.core.station.queue == 0) second.1 in
+    let core = fits.core_fits in
+    record {
+      closed = core.closed_is ∙ first.0;
+      written = sym (append-nil went)
+          ∙ ap (λ x. went ++ x) (sym (ap (λ x. x ++ spelled_next k.pending) (none_written k.out third.0) ∙ none_pending k.pending second.0))
+          ∙ fits.went_is
+          ∙ ap (flat_map spelling.spelled) (sym (append-nil fits.wired.gone) ∙ ap (λ q. fits.wired.gone ++ q) (sym (none_queued k.core.station.queue third.1)) ∙ sym core.gone_are);
+    }

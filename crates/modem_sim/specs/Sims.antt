@@ -10,6 +10,8 @@ use Rattle.mux_station.specs.Stations as stations
 use Rattle.mux_station.specs.Fitting as fitting
 use Rattle.modem_sim.specs.Acts.{Act, End}
 use Rattle.modem_sim.specs.Boxes.{Box, fresh_box}
+use Rattle.modem_sim.specs.Doing.{is_closed_down}
+use Rattle.modem_sim.specs.Histories.{Lawful, Complete, FitsOctets, FitsModem, sent}
 use Rattle.modem_sim.specs.Cores.{Core, Wired, Fits, IsLater}
 
 -- the frame that is to be written next
@@ -102,3 +104,20 @@ pub record SimFrom {X : Type 0} (received sent : X → List ℕ) (at : LineAt) (
 abbrev pub SimGoes : {X : Type 0} → (received sent : X → List ℕ) → SimState X → SimState X → Type 0
 SimGoes received sent old new =
     (at : LineAt) (e : End) (past : List Act) → FitsSim received sent at e old past → SimFrom received sent at e past new
+
+-- ## What that comes to
+
+-- Of the octets received, those before the ones that wait for its deframer are read as the frames that came; its history keeps the laws and
+-- nothing is owed; its modem is the one that was handed in, after all lines that came.
+pub record Simulates (e : End) (came went : List ℕ) (k : Kept) (past : List Act) : Type 0 where
+  pub lawful : Lawful e past
+  pub complete : Complete e past
+  pub taken : List ℕ
+  pub came_is : came ≡ taken ++ k.unfed
+  pub octets : FitsOctets e.n1 taken went past
+  pub modem_is : FitsModem e past k.core.modem
+
+-- it has closed down, and all frames sent are written
+pub record IsOver (went : List ℕ) (past : List Act) : Type 0 where
+  pub closed : is_closed_down past ≡ true
+  pub written : went ≡ flat_map spelling.spelled (sent past)

@@ -152,6 +152,14 @@ impl Kept {
             && self.core.queue_len() == 0
     }
 
+    /// The modem.
+    pub(crate) fn into_modem(self) -> Modem
+        ensures { result ≡ self.core.modem }
+    {
+        let Kept { core, .. } = self;
+        core.into_modem()
+    }
+
     /// Whether the line failed.
     pub(crate) fn is_failed(&self) -> bool
         ensures { result ≡ self.now.failed }

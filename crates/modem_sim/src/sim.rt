@@ -166,4 +166,12 @@ impl<L: SerialLine> Sim<L> {
     {
         &mut self.line
     }
+
+    /// The line and the modem, as they are.
+    pub fn finish(self) -> (L, Modem)
+        ensures { (result.0 ≡ self.line) × (result.1 ≡ self.kept.core.modem) }
+    {
+        let Sim { line, kept } = self;
+        (line, kept.into_modem())
+    }
 }

@@ -143,6 +143,14 @@ impl SimCore {
         self.station.n1()
     }
 
+    /// The modem.
+    pub(crate) fn into_modem(self) -> Modem
+        ensures { result ≡ self.modem }
+    {
+        let SimCore { modem, .. } = self;
+        modem
+    }
+
     /// Whether a CLD was asked for or came.
     pub(crate) fn closed(&self) -> bool
         ensures { result ≡ self.now.closed }
