@@ -1,9 +1,8 @@
 -- What a frame that comes makes of what is kept of a connection.
-use Rattle.std.specs.Prelude.{◌≡◌, ℕ, ◌+◌, ◌≤◌, ◌==◌, ◌&&◌, ◌||◌, not, Bool, true, false, List, [], ◌∷◌, ◌++◌, length, filter, Option, Some, None, refl, if◌then◌else◌}
+use Rattle.std.specs.Prelude.{◌≡◌, ℕ, ◌+◌, ◌==◌, ◌&&◌, ◌||◌, not, nat_lt, Bool, true, false, List, [], ◌∷◌, ◌++◌, length, Option, Some, None, refl, if◌then◌else◌}
 use Rattle.std.proofs.Common.{arith, sym, ap, ◌∙◌, subst, append_assoc, append-nil}
 use Rattle.std.proofs.lemmas.Bool.Decides.{nat_tests}
 use Rattle.std.proofs.lemmas.List.{length-append, map-append}
-use Rattle.std.proofs.lemmas.List.Elements.{filter-append}
 use Rattle.mux_frame.specs.Frames.{Frame}
 use Rattle.mux_station.specs.declared.role.Role.TheVariants.{Responder}
 use Rattle.mux_station.specs.Acts as station
@@ -17,7 +16,7 @@ use Rattle.modem_sim.specs.Acts.{Act, Wire, End, wire, is_open}
 use Rattle.modem_sim.specs.Heard.{Heard, heard, heard_on, texts_of, modem_after, octets_got, run_on, lines_ended}
 use Rattle.modem_sim.specs.Pieces.{Piece, spelled, replies}
 use Rattle.modem_sim.specs.Outboxes.{Outbox, empty_box, outbox, said_after, dropped, say, replies_by, hold_on, lasts, is_empty, is_holding}
-use Rattle.modem_sim.specs.Boxes.{Box, Waited, BoxFits, FitsOpen, IsBegun, Brought, count_on, lasting, said_with, box_turned}
+use Rattle.modem_sim.specs.Boxes.{Box, Waited, BoxFits, FitsOpen, Brought, lasting, said_with, box_turned, hold_heard, box_heard}
 use Rattle.modem_sim.proofs.HistoryLemmas.{spelled-append}
 use Rattle.modem_sim.proofs.ReplyingLemmas.{after_lines-append, kept_again}
 
@@ -40,55 +39,27 @@ modem_goes_on e past f =
 
 -- and the lines that have come
 pub count_goes_on : (past : List Act) (f : Frame) → length (heard (Wire (station.Got f) ∷ past)) ≡ length (heard past) + length (lines_ended past f)
-count_goes_on past f = length-append (heard past) (heard_on f.dlci (lines_ended past f)) ∙ ap (λ n. length (heard past) + n) (length-heard_on f.dlci (lines_ended past f))
-
--- of one connection
-counted_at : (d n : ℕ) (here : Bool) (ls : List (List ℕ)) → (n == d) ≡ here → length (filter (λ (h : Heard). h.dlci == d) (heard_on n ls)) ≡ (if here then length ls else 0)
-counted_at d n true [] is = refl
-counted_at d n false [] is = refl
-counted_at d n true (l ∷ ls) is = rw is (let more = counted_at d n true ls is in omega arith)
-counted_at d n false (l ∷ ls) is = rw is (counted_at d n false ls is)
-
-pub count_on_goes : (d : ℕ) (past : List Act) (f : Frame) → count_on d (Wire (station.Got f) ∷ past) ≡ count_on d past + (if f.dlci == d then length (lines_ended past f) else 0)
-count_on_goes d past f =
-    let ls = lines_ended past f in
-    ap length (filter-append (λ (h : Heard). h.dlci == d) (heard past) (heard_on f.dlci ls))
-    ∙ length-append (filter (λ (h : Heard). h.dlci == d) (heard past)) (filter (λ (h : Heard). h.dlci == d) (heard_on f.dlci ls))
-    ∙ ap (λ n. count_on d past + n) (counted_at d f.dlci (f.dlci == d) ls refl)
+count_goes_on past f = let ls = lines_ended past f in length-append (heard past) (heard_on f.dlci ls) ∙ ap (λ n. length (heard past) + n) (length-heard_on f.dlci ls)
 
 -- ## The hold
 
--- whether a hold lasts over a frame, by the count of the lines
-lasts_at : (e count come : ℕ) (was here : Bool) (ls : List (List ℕ)) → come ≤ count → (count == come) ≡ was → (if was then (if here && not (is_empty ls) then None else Some e) else None) ≡ (if (count + (if here then length ls else 0)) == come then Some e else None)
-lasts_at e count come true true [] begun is =
-    let same : (count + 0 == come) ≡ true = grind (arith, nat_tests) in
-    rw same refl
-lasts_at e count come true true (l ∷ ls) begun is =
-    let more : (count + (1 + length ls) == come) ≡ false = grind (arith, nat_tests) in
-    let size : length (l ∷ ls) ≡ 1 + length ls = omega arith in
-    rw (size, more) refl
-lasts_at e count come true false ls begun is =
-    let same : (count + 0 == come) ≡ true = grind (arith, nat_tests) in
-    rw same refl
-lasts_at e count come false here ls begun is =
-    let more : (count + (if here then length ls else 0) == come) ≡ false = grind (arith, nat_tests) in
-    rw more refl
+some_ended : (ls : List (List ℕ)) → not (is_empty ls) ≡ nat_lt 0 (length ls)
+some_ended [] = refl
+some_ended (l ∷ ls) =
+    let some : nat_lt 0 (length (l ∷ ls)) ≡ true = let size : length (l ∷ ls) ≡ 1 + length ls = omega arith in grind (arith, nat_tests) in
+    sym some
 
-lasts_chosen : (past : List Act) (f : Frame) (e : ℕ) (b : Bool) → lasts past (station.Got f) (if b then Some e else None) ≡ (if b then (if (f.dlci == e) && not (is_empty (lines_ended past f)) then None else Some e) else None)
-lasts_chosen past f e true = refl
-lasts_chosen past f e false = refl
+lasting_at : (past : List Act) (f : Frame) (d : ℕ) (over : Bool) → lasts past (station.Got f) (if over then None else Some d) ≡ (if over || ((f.dlci == d) && nat_lt 0 (length (lines_ended past f))) then None else Some d)
+lasting_at past f d true = refl
+lasting_at past f d false = ap (λ (b : Bool). if (f.dlci == d) && b then None else Some d) (some_ended (lines_ended past f))
 
-lasting_goes : (past : List Act) (f : Frame) (w : Option Waited) → IsBegun past w → lasts past (station.Got f) (lasting past w) ≡ lasting (Wire (station.Got f) ∷ past) w
-lasting_goes past f None begun = refl
-lasting_goes past f (Some w) begun =
-    let count = count_on w.dlci past in
-    lasts_chosen past f w.dlci (count == w.come)
-    ∙ lasts_at w.dlci count w.come (count == w.come) (f.dlci == w.dlci) (lines_ended past f) begun refl
-    ∙ ap (λ n. if n == w.come then Some w.dlci else None) (sym (count_on_goes w.dlci past f))
+lasting_goes : (past : List Act) (f : Frame) (w : Option Waited) → lasts past (station.Got f) (lasting w) ≡ lasting (hold_heard f.dlci (length (lines_ended past f)) w)
+lasting_goes past f None = refl
+lasting_goes past f (Some w) = lasting_at past f w.dlci w.over
 
-begun_goes : (past : List Act) (f : Frame) (w : Option Waited) → IsBegun past w → IsBegun (Wire (station.Got f) ∷ past) w
-begun_goes past f None begun = tt
-begun_goes past f (Some w) begun = let more = count_on_goes w.dlci past f in omega arith
+hold_none : (n count : ℕ) (w : Option Waited) → hold_heard n count w ≡ None → w ≡ None
+hold_none n count None is = refl
+hold_none n count (Some w) is = cc
 
 -- a hold that lasts over a frame lasted before
 held_before : (past : List Act) (a : station.Act) (h : Option ℕ) → is_holding (lasts past a h) ≡ true → is_holding h ≡ true
@@ -143,9 +114,9 @@ all_kept None b octets apart =
     ap (λ y. (b.unsent ++ y) ++ octets) none ∙ ap (λ y. y ++ octets) (append-nil b.unsent) ∙ sym (append-nil (b.unsent ++ octets)) ∙ ap (λ y. (b.unsent ++ octets) ++ y) (sym none)
 all_kept (Some w) b octets apart = append_assoc b.unsent b.held octets
 
-held_kept : (past : List Act) (w : Option Waited) (b : Box) (octets : List ℕ) → is_holding (lasting past w) ≡ true → (said_with w b octets).held ≡ b.held ++ octets
-held_kept past None b octets is = cc
-held_kept past (Some w) b octets is = refl
+held_kept : (w : Option Waited) (b : Box) (octets : List ℕ) → is_holding (lasting w) ≡ true → (said_with w b octets).held ≡ b.held ++ octets
+held_kept None b octets is = cc
+held_kept (Some w) b octets is = refl
 
 said_held : (holds : Bool) (o : Outbox) (pieces : List Piece) → holds ≡ true → spelled (say holds o pieces).held ≡ spelled o.held ++ spelled pieces
 said_held true o pieces is = spelled-append o.held pieces
@@ -155,8 +126,8 @@ replies_here : (here : Bool) (pieces : List Piece) (octets : List ℕ) → octet
 replies_here true pieces octets is = sym is
 replies_here false pieces octets is = refl
 
-said_here : (past : List Act) (o : Outbox) (given : List ℕ) (before after : Option ℕ) (here : Bool) (x : Brought) (b : Box) (pieces : List Piece) → (is_holding after ≡ true → is_holding before ≡ true) → before ≡ lasting past b.hold → (b.hold ≡ None → b.held ≡ []) → spelled pieces ≡ (if here then x.said else []) → IsSaid o given before b → IsSaid (say (is_holding after) o pieces) given after (box_turned false here x b)
-said_here past o given before after true x b pieces back lasts apart is old = record {
+said_here : (o : Outbox) (given : List ℕ) (before after : Option ℕ) (here : Bool) (x : Brought) (b : Box) (pieces : List Piece) → (is_holding after ≡ true → is_holding before ≡ true) → before ≡ lasting b.hold → (b.hold ≡ None → b.held ≡ []) → spelled pieces ≡ (if here then x.said else []) → IsSaid o given before b → IsSaid (say (is_holding after) o pieces) given after (box_turned false here x b)
+said_here o given before after true x b pieces back lasts apart is old = record {
   all_is = all_said (is_holding after) o pieces
       ∙ ap (λ y. y ++ spelled pieces) old.all_is
       ∙ append_assoc given (b.unsent ++ b.held) (spelled pieces)
@@ -166,9 +137,9 @@ said_here past o given before after true x b pieces back lasts apart is old = re
       said_held (is_holding after) o pieces holds
       ∙ ap (λ y. y ++ spelled pieces) (old.held_is (back holds))
       ∙ ap (λ y. b.held ++ y) is
-      ∙ sym (held_kept past b.hold b x.said (ap is_holding (sym lasts) ∙ back holds));
+      ∙ sym (held_kept b.hold b x.said (ap is_holding (sym lasts) ∙ back holds));
 }
-said_here past o given before after false x b pieces back lasts apart is old = record {
+said_here o given before after false x b pieces back lasts apart is old = record {
   all_is = all_said (is_holding after) o pieces
       ∙ ap (λ y. y ++ spelled pieces) old.all_is
       ∙ ap (λ y. (given ++ (b.unsent ++ b.held)) ++ y) is
@@ -188,21 +159,14 @@ goes_run d f x b rest false true is before brought =
     ∙ sym (turned_run (f.dlci == d) x b)
 goes_run d f x b rest false false is before brought = cc
 
-goes_hold : (past : List Act) (f : Frame) (x : Brought) (b : Box) (h : Option ℕ) (opens there here : Bool) → (opens || there) ≡ true → (there ≡ true → h ≡ lasting past b.hold) → (there ≡ true → IsBegun past b.hold) → (if there && not opens then lasts past (station.Got f) h else None) ≡ lasting (Wire (station.Got f) ∷ past) (box_turned opens here x b).hold
-goes_hold past f x b h true true here is before begun = refl
-goes_hold past f x b h true false here is before begun = refl
-goes_hold past f x b h false true here is before begun =
+goes_hold : (past : List Act) (f : Frame) (x : Brought) (b : Box) (h : Option ℕ) (opens there here : Bool) → (opens || there) ≡ true → (there ≡ true → h ≡ lasting b.hold) → (if there && not opens then lasts past (station.Got f) h else None) ≡ lasting (hold_heard f.dlci (length (lines_ended past f)) (box_turned opens here x b).hold)
+goes_hold past f x b h true true here is before = refl
+goes_hold past f x b h true false here is before = refl
+goes_hold past f x b h false true here is before =
     ap (lasts past (station.Got f)) (before refl)
-    ∙ lasting_goes past f b.hold (begun refl)
-    ∙ ap (lasting (Wire (station.Got f) ∷ past)) (sym (turned_hold here x b))
-goes_hold past f x b h false false here is before begun = cc
-
-goes_begun : (past : List Act) (f : Frame) (x : Brought) (b : Box) (opens there here : Bool) → (opens || there) ≡ true → (there ≡ true → IsBegun past b.hold) → IsBegun (Wire (station.Got f) ∷ past) (box_turned opens here x b).hold
-goes_begun past f x b true there here is begun = tt
-goes_begun past f x b false true here is begun =
-    let Begun : Option Waited → Type 0 = IsBegun (Wire (station.Got f) ∷ past) in
-    subst Begun (sym (turned_hold here x b)) (begun_goes past f b.hold (begun refl))
-goes_begun past f x b false false here is begun = cc
+    ∙ lasting_goes past f b.hold
+    ∙ ap (λ w. lasting (hold_heard f.dlci (length (lines_ended past f)) w)) (sym (turned_hold here x b))
+goes_hold past f x b h false false here is before = cc
 
 taken_apart : (w : Option Waited) (x : Brought) (b : Box) → w ≡ None → b.held ≡ [] → (said_with w b x.said).held ≡ []
 taken_apart None x b is apart = apart
@@ -214,13 +178,13 @@ goes_apart x b false true true is apart none = let was = sym (taken_hold x b.hol
 goes_apart x b false true false is apart none = apart refl none
 goes_apart x b false false here is apart none = cc
 
-goes_said : (e : End) (past : List Act) (d : ℕ) (f : Frame) (x : Brought) (b : Box) (o : Outbox) (h : Option ℕ) (rest : List station.Act) (opens there : Bool) → (opens || there) ≡ true → (there ≡ true → IsSaid o (joined_octets (octets_offered d) rest) h b) → (there ≡ true → h ≡ lasting past b.hold) → (there ≡ true → b.hold ≡ None → b.held ≡ []) → x.said ≡ spelled (replies e.echo (modem_after e past) (lines_ended past f)) → (there ≡ true → is_holding (hold_on d (Wire (station.Got f) ∷ past)) ≡ true → is_holding h ≡ true) → IsSaid (if opens then empty_box else if there && not opens then said_after e d past (station.Got f) o else dropped o) (joined_octets (octets_offered d) (since_after opens there (station.Got f) rest)) (hold_on d (Wire (station.Got f) ∷ past)) (box_turned opens (f.dlci == d) x b)
+goes_said : (e : End) (past : List Act) (d : ℕ) (f : Frame) (x : Brought) (b : Box) (o : Outbox) (h : Option ℕ) (rest : List station.Act) (opens there : Bool) → (opens || there) ≡ true → (there ≡ true → IsSaid o (joined_octets (octets_offered d) rest) h b) → (there ≡ true → h ≡ lasting b.hold) → (there ≡ true → b.hold ≡ None → b.held ≡ []) → x.said ≡ spelled (replies e.echo (modem_after e past) (lines_ended past f)) → (there ≡ true → is_holding (hold_on d (Wire (station.Got f) ∷ past)) ≡ true → is_holding h ≡ true) → IsSaid (if opens then empty_box else if there && not opens then said_after e d past (station.Got f) o else dropped o) (joined_octets (octets_offered d) (since_after opens there (station.Got f) rest)) (hold_on d (Wire (station.Got f) ∷ past)) (box_turned opens (f.dlci == d) x b)
 goes_said e past d f x b o h rest true there is before lasts_so apart said back = record { all_is = refl; held_is = λ holds. refl }
 goes_said e past d f x b o h rest false true is before lasts_so apart said back =
     let given = joined_octets (octets_offered d) rest in
     let old = before refl in
     let moved : IsSaid o (given ++ []) h b = record { all_is = old.all_is ∙ ap (λ y. y ++ (b.unsent ++ b.held)) (sym (append-nil given)); held_is = old.held_is } in
-    said_here past o (given ++ []) h (hold_on d (Wire (station.Got f) ∷ past)) (f.dlci == d) x b (replies_by e d past f) (back refl) (lasts_so refl) (apart refl)
+    said_here o (given ++ []) h (hold_on d (Wire (station.Got f) ∷ past)) (f.dlci == d) x b (replies_by e d past f) (back refl) (lasts_so refl) (apart refl)
     (replies_here (f.dlci == d) (replies e.echo (modem_after e past) (lines_ended past f)) x.said said)
     moved
 goes_said e past d f x b o h rest false false is before lasts_so apart said back = cc
@@ -239,7 +203,7 @@ same_connection : (m n : ℕ) → (m == n) ≡ true → m ≡ n
 same_connection m n is = grind (arith, nat_tests)
 
 -- after a frame what is kept of any connection is what the past says
-pub box_goes_on : (e : End) (past : List Act) (f : Frame) (x : Brought) (d : ℕ) (b : Box) → IsBrought e past f x → FitsOpen e d past b → FitsOpen e d (Wire (station.Got f) ∷ past) (box_turned (opens_now Responder d (wire past) (station.Got f)) (f.dlci == d) x b)
+pub box_goes_on : (e : End) (past : List Act) (f : Frame) (x : Brought) (d : ℕ) (b : Box) → IsBrought e past f x → FitsOpen e d past b → FitsOpen e d (Wire (station.Got f) ∷ past) (box_heard f.dlci (length (lines_ended past f)) (box_turned (opens_now Responder d (wire past) (station.Got f)) (f.dlci == d) x b))
 box_goes_on e past f x d b brought fits there_open =
     let opens = opens_now Responder d (wire past) (station.Got f) in
     let there = belongs Responder d (wire past) (station.Got f) in
@@ -258,11 +222,12 @@ box_goes_on e past f x d b brought fits there_open =
     (λ is holds. back_at past (station.Got f) h opens there there_open holds is) in
     record {
       run_is = goes_run d f x b rest opens there there_open (λ is. (before is).run_is) came;
-      hold_is = goes_hold past f x b h opens there here there_open (λ is. (before is).hold_is) (λ is. (before is).begun);
-      begun = goes_begun past f x b opens there here there_open (λ is. (before is).begun);
+      hold_is = goes_hold past f x b h opens there here there_open (λ is. (before is).hold_is);
       all_is = said.all_is;
       held_is = said.held_is;
-      apart = goes_apart x b opens there here there_open (λ is. (before is).apart);
+      apart = λ none.
+          goes_apart x b opens there here there_open (λ is. (before is).apart)
+          (hold_none f.dlci (length (lines_ended past f)) (box_turned opens here x b).hold none);
     }
 
 -- ## Acts other than frames that come
@@ -320,14 +285,6 @@ still_there : (opens there : Bool) → (opens || there) ≡ true → opens ≡ f
 still_there true there is none = cc
 still_there false there is none = is
 
-lasting_still : (past : List Act) (a : station.Act) (w : Option Waited) → heard (Wire a ∷ past) ≡ heard past → lasting (Wire a ∷ past) w ≡ lasting past w
-lasting_still past a None none = refl
-lasting_still past a (Some w) none = ap (λ hs. if length (filter (λ (h : Heard). h.dlci == w.dlci) hs) == w.come then Some w.dlci else None) none
-
-begun_still : (past : List Act) (a : station.Act) (w : Option Waited) → heard (Wire a ∷ past) ≡ heard past → IsBegun past w → IsBegun (Wire a ∷ past) w
-begun_still past a None none begun = tt
-begun_still past a (Some w) none begun = let same = ap (λ hs. length (filter (λ (h : Heard). h.dlci == w.dlci) hs)) none in omega arith
-
 -- after it, what was offered by it isn't unsent any more
 pub box_still : (e : End) (past : List Act) (a : station.Act) (d : ℕ) (b : Box) (unsent : List ℕ) → IsStill d past a → b.unsent ≡ octets_offered d a ++ unsent → FitsOpen e d past b → FitsOpen e d (Wire a ∷ past) (record b { unsent = unsent })
 box_still e past a d b unsent still offers fits there_open =
@@ -340,8 +297,7 @@ box_still e past a d b unsent still offers fits there_open =
     let hold = still_hold past a (hold_on d past) opens there there_open still.opens_none (still.lasts_on (hold_on d past)) in
     record {
       run_is = still_run d a rest opens there there_open still.opens_none still.brings_none ∙ fit.run_is;
-      hold_is = hold ∙ fit.hold_is ∙ sym (lasting_still past a b.hold still.ends_none);
-      begun = begun_still past a b.hold still.ends_none fit.begun;
+      hold_is = hold ∙ fit.hold_is;
       all_is = ap (λ o. spelled o.said ++ spelled o.held) box ∙ fit.all_is ∙ ap (λ x. given ++ (x ++ b.held)) offers
           ∙ ap (λ x. given ++ x) (append_assoc (octets_offered d a) unsent b.held)
           ∙ sym (append_assoc given (octets_offered d a) (unsent ++ b.held))

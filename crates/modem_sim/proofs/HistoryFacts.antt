@@ -197,7 +197,7 @@ asked_good =
       (
         refl,
         (
-          refl,
+          record { owed = refl; taken = refl },
           (
             due (step_at 0 CloseDown) [] refl refl refl refl refl,
             (
@@ -205,7 +205,7 @@ asked_good =
               (
                 refl,
                 (
-                  refl,
+                  record { owed = refl; taken = refl },
                   (
                     due (step_at 0 (Disconnect one)) (step_at 0 CloseDown ∷ []) refl refl refl refl refl,
                     (
@@ -213,7 +213,7 @@ asked_good =
                       (
                         refl,
                         (
-                          refl,
+                          record { owed = refl; taken = refl },
                           (
                             due (step_at 0 (Flow one false)) (step_at 0 (Disconnect one) ∷ step_at 0 CloseDown ∷ []) refl refl refl refl refl,
                             ready_one_allowed asking,

@@ -15,3 +15,6 @@ pub mod RefusedFacts
 pub mod ReplyingLemmas
 pub mod BoxLemmas
 pub mod CoreLemmas
+pub mod HandingLemmas
+pub mod DoingLemmas
+pub mod SimLemmas

@@ -109,7 +109,7 @@ some_asked : {A : Type 0} (x : A) → (let o : Option A = None in Some x ≡ o) 
 some_asked x is = cc
 
 close_refused : IsRefused plain closed_unasked
-close_refused lawful = none_asked _ lawful.acts.0
+close_refused lawful = none_asked _ lawful.acts.0.owed
 
 without_asking_refused : IsRefused asking done_without_asking
 without_asking_refused lawful = some_asked _ lawful.acts.0

@@ -4,6 +4,7 @@ use Rattle.mux_station.specs.Acts as station
 use Rattle.mux_station.specs.declared.role.Role.TheVariants.{Responder}
 use Rattle.mux_station.specs.Opening as opening
 use Rattle.mux_station.specs.Sending.{Setting}
+use Rattle.modem_sim.specs.declared.script.Script.{Script}
 use Rattle.modem_sim.specs.declared.script.Step.{Step}
 use Rattle.modem_sim.specs.declared.script.StepAct.{StepAct}
 use Rattle.modem_sim.specs.declared.state.ModemState.{ModemState}
@@ -20,6 +21,9 @@ pub record End : Type 0 where
   pub echo : Bool
   pub steps : List Step
   pub modem : ModemState
+
+abbrev pub end_of : ℕ → ModemState → Script → End
+end_of n1 modem script = record { n1 = n1; echo = script.echo; steps = script.steps; modem = modem }
 
 -- it is the responder
 abbrev pub setting : End → Setting

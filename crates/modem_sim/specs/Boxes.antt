@@ -1,24 +1,20 @@
 -- What a simulated modem keeps of a connection, and what acts make of it.
-use Rattle.std.specs.Prelude.{◌≡◌, ℕ, ◌≤◌, ◌==◌, Bool, true, List, [], ◌++◌, length, filter, Option, Some, None, if◌then◌else◌}
+use Rattle.std.specs.Prelude.{◌≡◌, ℕ, ◌==◌, ◌&&◌, ◌||◌, nat_lt, Bool, true, false, List, [], ◌++◌, Option, Some, None, if◌then◌else◌}
 use Rattle.mux_station.specs.declared.role.Role.TheVariants.{Responder}
 use Rattle.mux_station.specs.Offering.{offered}
 use Rattle.modem_sim.specs.declared.channel.Wanted.{Wanted}
 use Rattle.modem_sim.specs.Acts.{Act, End, wire, is_open}
-use Rattle.modem_sim.specs.Heard.{Heard, heard, run_on}
-use Rattle.modem_sim.specs.Pieces.{spelled}
+use Rattle.modem_sim.specs.Heard.{run_on}
+use Rattle.modem_sim.specs.Pieces.{framed, spelled}
 use Rattle.modem_sim.specs.Outboxes.{outbox, hold_on, is_holding}
 
--- how many lines have come on d, over all its openings
-abbrev pub count_on : ℕ → List Act → ℕ
-count_on d past = length (filter (λ (h : Heard). h.dlci == d) (heard past))
-
--- a hold: the connection on which a command is waited for, and how many lines had come there when it began
+-- a hold: the connection on which a command is waited for, and whether one has come there, which ends it
 pub record Waited : Type 0 where
   pub dlci : ℕ
-  pub come : ℕ
+  pub over : Bool
 
 abbrev pub waited_of : Wanted → Waited
-waited_of w = record { dlci = w.dlci.number; come = w.come }
+waited_of w = record { dlci = w.dlci.number; over = w.over }
 
 -- The line that hasn't ended; the octets said that the station wasn't handed; those that a hold holds back, which are kept apart
 -- also once it is over, until they are moved; and the hold.
@@ -31,21 +27,15 @@ pub record Box : Type 0 where
 abbrev pub fresh_box : Box
 fresh_box = record { run = []; unsent = []; held = []; hold = None }
 
--- a hold lasts while no line has come on the connection that it names
-abbrev pub lasting : List Act → Option Waited → Option ℕ
-lasting past None = None
-lasting past (Some w) = if count_on w.dlci past == w.come then Some w.dlci else None
-
--- a hold began before
-abbrev pub IsBegun : List Act → Option Waited → Type 0
-IsBegun past None = Unit {0}
-IsBegun past (Some w) = w.come ≤ count_on w.dlci past
+-- what a hold that lasts waits for
+abbrev pub lasting : Option Waited → Option ℕ
+lasting None = None
+lasting (Some w) = if w.over then None else Some w.dlci
 
 -- while the connection is open, each of them is what the past says
 pub record BoxFits (e : End) (d : ℕ) (past : List Act) (b : Box) : Type 0 where
   pub run_is : run_on d past ≡ b.run
-  pub hold_is : hold_on d past ≡ lasting past b.hold
-  pub begun : IsBegun past b.hold
+  pub hold_is : hold_on d past ≡ lasting b.hold
   -- what is said and held back, all together
   pub all_is :
       spelled (outbox e d past).said ++ spelled (outbox e d past).held
@@ -85,3 +75,28 @@ box_turned opens here x b =
     if opens then fresh_box
     else if here then box_taken x b
     else b
+
+-- so many lines have ended on n: a hold that waits for a command there is over, if there were any
+abbrev pub hold_heard : ℕ → ℕ → Option Waited → Option Waited
+hold_heard n count None = None
+hold_heard n count (Some w) = Some (record w { over = w.over || ((n == w.dlci) && nat_lt 0 count) })
+
+abbrev pub box_heard : ℕ → ℕ → Box → Box
+box_heard n count b = record b { hold = hold_heard n count b.hold }
+
+-- a hold is over, and what it held back is still kept apart
+abbrev pub is_released : Option Waited → Bool
+is_released None = false
+is_released (Some w) = w.over
+
+-- what is kept apart goes behind the rest where the hold is over
+abbrev pub released : Box → Box
+released b = if is_released b.hold then record b { unsent = b.unsent ++ b.held; held = []; hold = None } else b
+
+-- a line that no command asked for is said, which no hold holds back
+abbrev pub box_announced : List ℕ → Box → Box
+box_announced line b = record (released b) { unsent = (released b).unsent ++ framed line }
+
+-- answers are held back until a command has come on n
+abbrev pub box_holding : ℕ → Box → Box
+box_holding n b = record (released b) { hold = Some (record { dlci = n; over = false }) }

@@ -1,35 +1,63 @@
 -- What a simulated modem's end keeps, and the pasts that it fits.
-use Rattle.std.specs.Prelude.{◌≡◌, ℕ, ◌<◌, ◌==◌, ◌&&◌, ◌||◌, Bool, true, List, [], ◌∷◌, ◌++◌, None, slice_index_or, slice_set, if◌then◌else◌}
+use Rattle.std.specs.Prelude.{◌≡◌, ℕ, ◌+◌, ◌-◌, ◌^◌, ◌<◌, ◌==◌, ◌&&◌, ◌||◌, Bool, true, false, List, [], ◌∷◌, ◌++◌, None, Some, length, map, filter, min, slice_index_or, slice_set, if◌then◌else◌}
+use Rattle.std.specs.List.{list_all}
 use Rattle.mux_frame.specs.Frames.{Frame}
 use Rattle.mux_station.specs.Acts as station
 use Rattle.mux_station.specs.Stations as stations
 use Rattle.mux_station.specs.Fitting as fitting
 use Rattle.mux_station.specs.Sending as sending
 use Rattle.mux_station.specs.States.{is_opened}
+use Rattle.mux_station.specs.Giving.{given_on, next_given}
+use Rattle.mux_station.specs.declared.noted.Noted.{Noted}
+use Rattle.mux_station.specs.declared.noted.Noted.TheVariants.{AllClosed}
 use Rattle.mux_frame.specs.declared.frame.Kind.TheVariants.{Sabm}
 use Rattle.mux_station.specs.Written.{is_on, is_data_frame}
+use Rattle.mux_station.specs.Messages.{cld, brings_command}
 use Rattle.at_text.specs.Lines.{lines, kept_run}
 use Rattle.modem_sim.specs.Laws.{after_lines}
 use Rattle.modem_sim.specs.Pieces.{spelled, replies}
+use Rattle.modem_sim.specs.declared.script.Step.{Step}
+use Rattle.modem_sim.specs.declared.script.StepAct.{StepAct}
+use Rattle.modem_sim.specs.declared.script.StepAct.TheVariants.{Announce, Flow, Hold, Disconnect, CloseDown}
 use Rattle.modem_sim.specs.declared.state.ModemState.{ModemState}
 use Rattle.modem_sim.specs.Acts.{Act, Wire, End, setting, wire}
-use Rattle.modem_sim.specs.Heard.{modem_after}
-use Rattle.modem_sim.specs.Boxes.{Box, fresh_box, FitsOpen, Brought, box_turned}
-use Rattle.modem_sim.specs.Doing.{call_owed}
-use Rattle.modem_sim.specs.Histories.{EachAllowed}
+use Rattle.modem_sim.specs.Heard.{heard, modem_after}
+use Rattle.modem_sim.specs.Boxes.{Box, fresh_box, FitsOpen, Brought, box_turned, box_heard, box_announced, box_holding, is_released}
+use Rattle.modem_sim.specs.Doing.{acts, call_of, call_owed, left, named_by, is_closed_down}
+use Rattle.modem_sim.specs.Histories.{EachAllowed, got, sent}
 
--- its station, its modem, whether it repeats commands, and what it keeps of each connection, with how many lines came there
+-- Its station, its modem, whether it repeats commands, what it keeps of each connection, how many lines came, which is told up
+-- to u64::MAX, the steps that are left, and whether it has closed down.
 pub record Core : Type 0 where
   pub station : stations.Station
   pub modem : ModemState
   pub echo : Bool
   pub boxes : List Box
+  pub come : ℕ
+  pub steps : List Step
+  pub closed : Bool
+
+-- a count that stays at u64::MAX
+abbrev pub counted : ℕ → ℕ
+counted n = min n (2 ^ 64 - 1)
+
+-- steps without those that are passed over
+abbrev pub that_act : List Step → List Step
+that_act steps = filter (λ (s : Step). acts s.act) steps
 
 abbrev pub box_at : Core → ℕ → Box
 box_at c d = slice_index_or c.boxes d fresh_box
 
--- it fits a past
-pub record Fits (e : End) (c : Core) (past : List Act) : Type 0 where
+-- the frames that came to it, and those that it gave on to the line
+pub record Wired : Type 0 where
+  pub came : List Frame
+  pub gone : List Frame
+
+abbrev pub nothing_wired : Wired
+nothing_wired = record { came = []; gone = [] }
+
+-- it fits a past, in which these frames came and went
+pub record Fits (e : End) (w : Wired) (c : Core) (past : List Act) : Type 0 where
   pub setting_is : stations.setting_of c.station ≡ setting e
   pub echo_is : c.echo ≡ e.echo
   pub station_is : fitting.Fits c.station (wire past)
@@ -39,20 +67,41 @@ pub record Fits (e : End) (c : Core) (past : List Act) : Type 0 where
   pub free : call_owed past ≡ None
   pub modem_is : modem_after e past ≡ c.modem
   pub boxes_are : (d : ℕ) → d < 62 → FitsOpen e d past (box_at c d)
+  pub come_is : counted (length (heard past)) ≡ c.come
+  pub left_is : left e past ≡ that_act c.steps
+  pub closed_is : is_closed_down past ≡ c.closed
+  pub came_are : got past ≡ w.came
+  pub gone_are : sent past ≡ w.gone ++ c.station.queue
+
+-- a past that went on
+pub record IsLater (past now : List Act) : Type 0 where
+  pub newer : List Act
+  pub joins : newer ++ past ≡ now
+
+-- it fits what the past went on to
+pub record GoesFrom (e : End) (w : Wired) (past : List Act) (c : Core) : Type 0 where
+  pub now : List Act
+  pub later : IsLater past now
+  pub fits : Fits e w c now
+
+-- Whatever past it fits, it goes on to one that it fits: by itself, with a frame that came, and with frames that it gave on.
+abbrev pub Goes : Core → Core → Type 0
+Goes old new = (e : End) (w : Wired) (past : List Act) → Fits e w old past → GoesFrom e w past new
+
+abbrev pub GoesOn : Core → Core → Frame → Type 0
+GoesOn old new f =
+    (e : End) (w : Wired) (past : List Act) → Fits e w old past
+    → GoesFrom e (record w { came = w.came ++ f ∷ [] }) past new
+
+-- ## A frame that comes
 
 -- the past with a frame that comes, and the frames that it calls for
 abbrev pub sent_after : List Frame → List Act → List Act
 sent_after [] past = past
 sent_after (f ∷ fs) past = sent_after fs (Wire (station.Sent f) ∷ past)
 
-abbrev pub answered : End → List Act → Frame → List Act
-answered e past f = sent_after (sending.calls (setting e) (wire past) (station.Got f)) (Wire (station.Got f) ∷ past)
-
--- whatever past it fits, it goes on with the frame and all that it calls for
-abbrev pub GoesOn : Core → Core → Frame → Type 0
-GoesOn old new f = (e : End) (past : List Act) → Fits e old past → Fits e new (answered e past f)
-
--- ## A frame that comes
+abbrev pub answered : End → List Act → station.Act → List Act
+answered e past a = sent_after (sending.calls (setting e) (wire past) a) (Wire a ∷ past)
 
 abbrev pub octets_in : Core → Frame → List ℕ
 octets_in c f = if is_data_frame f && is_opened (stations.channel_at c.station f.dlci).state then f.info else []
@@ -68,13 +117,27 @@ brought c f = record {
   said = spelled (replies c.echo c.modem (lines_in c f));
 }
 
--- another modem, and another box of this connection
-abbrev pub kept_in : Core → ℕ → ModemState → Box → Core
-kept_in c d m b = record c { modem = m; boxes = slice_set c.boxes d b }
-
 -- the frame opens its connection: a SABM on 0, or while 0 is open
 abbrev pub opens_in : Core → Frame → Bool
 opens_in c f = is_on Sabm f.dlci f && ((f.dlci == 0) || is_opened (stations.channel_at c.station 0).state)
+
+-- the frame closes the multiplexer down: a CLD while 0 is open
+abbrev pub closes_in : Core → Frame → Bool
+closes_in c f = is_opened (stations.channel_at c.station 0).state && brings_command cld f
+
+-- it is noted that all are closed
+abbrev pub closes_all : Noted → Bool
+closes_all AllClosed = true
+closes_all _ = false
+
+-- so many lines ended on this connection: holds that wait for them are over
+abbrev pub counted_in : Core → ℕ → ℕ → Core
+counted_in c d count = record c { boxes = map (box_heard d count) c.boxes; come = counted (c.come + count) }
+
+-- another modem, and another box of this connection, where so many lines ended
+abbrev pub kept_in : Core → ℕ → ModemState → Box → ℕ → Bool → Core
+kept_in c d m b count closes =
+    counted_in (record c { modem = m; boxes = slice_set c.boxes d b; closed = c.closed || closes }) d count
 
 -- an end takes a frame: its station does, its modem executes the lines, and its connection keeps what it brought
 pub record Takes (old new : Core) (f : Frame) : Type 0 where
@@ -82,4 +145,61 @@ pub record Takes (old new : Core) (f : Frame) : Type 0 where
   pub modem_is : new.modem ≡ after_lines old.modem (lines_in old f)
   pub echo_is : new.echo ≡ old.echo
   pub boxes_are :
-      new.boxes ≡ slice_set old.boxes f.dlci (box_turned (opens_in old f) true (brought old f) (box_at old f.dlci))
+      new.boxes
+      ≡ map (box_heard f.dlci (length (lines_in old f)))
+      (slice_set old.boxes f.dlci (box_turned (opens_in old f) true (brought old f) (box_at old f.dlci)))
+  pub come_is : new.come ≡ counted (old.come + length (lines_in old f))
+  pub steps_are : new.steps ≡ old.steps
+  pub closed_is : new.closed ≡ (old.closed || closes_in old f)
+
+-- ## What is handed to the station
+
+-- another box of this connection
+abbrev pub boxed : Core → ℕ → Box → Core
+boxed c d b = record c { boxes = slice_set c.boxes d b }
+
+-- all of an open connection's octets are handed on, or its send ring has some; and no hold is over there
+pub record IsHanded (c : Core) (d : ℕ) : Type 0 where
+  pub unsent : (d == 0) ≡ false → (stations.channel_at c.station d).waiting ≡ [] → (box_at c d).unsent ≡ []
+  pub released : is_released (box_at c d).hold ≡ false
+
+abbrev pub IsHandedOn : Core → ℕ → Type 0
+IsHandedOn c d = is_opened (stations.channel_at c.station d).state ≡ true → IsHanded c d
+
+-- ## What goes out
+
+abbrev pub gone_on : Core → Core
+gone_on c = record c { station = given_on c.station c.station.queue }
+
+-- whatever past it fits, it goes on with the frame that it gives on
+abbrev pub GivesOut : Core → Type 0
+GivesOut c =
+    (f : Frame) → next_given c.station c.station.queue ≡ Some f → (e : End) (w : Wired) (past : List Act)
+    → Fits e w c past → GoesFrom e (record w { gone = w.gone ++ f ∷ [] }) past (gone_on c)
+
+-- ## Steps
+
+-- a step says or holds back something on a connection
+abbrev pub boxes_done : StepAct → List Box → List Box
+boxes_done (Announce d line) boxes =
+    slice_set boxes d.number (box_announced line (slice_index_or boxes d.number fresh_box))
+boxes_done (Hold d e) boxes =
+    slice_set boxes d.number (box_holding e.number (slice_index_or boxes d.number fresh_box))
+boxes_done _ boxes = boxes
+
+abbrev pub closes_by : StepAct → Bool
+closes_by CloseDown = true
+closes_by _ = false
+
+-- what the station makes of a step: nothing, or the call, which it takes
+pub data AtStation (old new : stations.Station) (act : StepAct) : Type 0 where
+  asks_nothing : call_of act ≡ None → new ≡ old → AtStation old new act
+  asks :
+      (call : station.Call) → call_of act ≡ Some call
+      → sending.refused (stations.setting_of old) (stations.seen_in old) call ≡ None
+      → fitting.Handles old new (station.Called call)
+      → AtStation old new act
+
+-- the connections that a step names are open
+abbrev pub are_open_in : stations.Station → StepAct → Bool
+are_open_in v act = list_all (λ d. is_opened (stations.channel_at v d).state) (named_by act)

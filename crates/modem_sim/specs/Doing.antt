@@ -1,8 +1,9 @@
 -- When the steps of a script are done, and what they ask of the station.
-use Rattle.std.specs.Prelude.{◌≡◌, ℕ, ◌==◌, ◌&&◌, not, nat_le, Bool, true, List, [], ◌∷◌, ◌++◌, length, drop, filter, Option, Some, None}
+use Rattle.std.specs.Prelude.{◌≡◌, ℕ, ◌==◌, ◌&&◌, ◌||◌, not, nat_le, Bool, true, false, List, [], ◌∷◌, ◌++◌, length, drop, filter, Option, Some, None}
 use Rattle.std.specs.List.{list_all, list_any}
 use Rattle.at_text.specs.Lines.{is_line_end, is_filled}
 use Rattle.mux_station.specs.Acts as station
+use Rattle.mux_station.specs.Messages.{cld, brings_command}
 use Rattle.modem_sim.specs.declared.script.Step.{Step}
 use Rattle.modem_sim.specs.declared.script.StepAct.{StepAct}
 use Rattle.modem_sim.specs.declared.script.StepAct.TheVariants.{Announce, Flow, Hold, Disconnect, CloseDown}
@@ -60,3 +61,15 @@ pub record IsDue (e : End) (past : List Act) (act : StepAct) : Type 0 where
   pub is_its : next.act ≡ act
   pub come : nat_le next.after (length (heard past)) ≡ true
   pub open_are : list_all (λ d. is_open d past) (named_by act) ≡ true
+
+-- it closes down: a CLD is asked for, or comes while 0 is open (27.010, 5.4.6.3.3)
+abbrev pub closes_down : List Act → station.Act → Bool
+closes_down past (station.Called station.Stop) = true
+closes_down past (station.Got f) = is_open 0 past && brings_command cld f
+closes_down past _ = false
+
+-- it has closed down
+abbrev pub is_closed_down : List Act → Bool
+is_closed_down [] = false
+is_closed_down (Did step ∷ past) = is_closed_down past
+is_closed_down (Wire a ∷ past) = closes_down past a || is_closed_down past

@@ -23,6 +23,11 @@ pub record IsOffer (e : End) (past : List Act) (d : ℕ) (octets : List ℕ) : T
   pub free : call_owed past ≡ None
   pub next : starts_with nat_eq (spelled (outbox e d past).said) (offered Responder d (wire past) ++ octets) ≡ true
 
+-- a call is one that a step asks for that was just done, and it isn't refused
+pub record IsAsked (e : End) (past : List Act) (call : station.Call) : Type 0 where
+  pub owed : call_owed past ≡ Some call
+  pub taken : sending.refused (setting e) (sending.seen (setting e) (wire past)) call ≡ None
+
 -- a step is done where it is due, and no other asks something of the station
 pub record MayDo (e : End) (past : List Act) (step : StepAct) : Type 0 where
   pub free : call_owed past ≡ None
@@ -33,7 +38,7 @@ pub record MayDo (e : End) (past : List Act) (step : StepAct) : Type 0 where
 abbrev pub Allows : End → List Act → Act → Type 0
 Allows e past (Did step) = MayDo e past step
 Allows e past (Wire (station.Called (station.Offer d octets))) = IsOffer e past d octets
-Allows e past (Wire (station.Called call)) = call_owed past ≡ Some call
+Allows e past (Wire (station.Called call)) = IsAsked e past call
 Allows e past (Wire (station.Got f)) = call_owed past ≡ None
 Allows e past (Wire (station.Sent f)) = call_owed past ≡ None
 Allows e past (Wire station.Given) = call_owed past ≡ None

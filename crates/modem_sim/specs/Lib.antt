@@ -13,3 +13,4 @@ pub mod Histories
 pub mod HistoryRows
 pub mod Boxes
 pub mod Cores
+pub mod Sims

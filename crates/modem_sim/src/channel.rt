@@ -1,23 +1,23 @@
 //! What a simulated modem keeps of a connection.
-ghost use Rattle.std.specs.Prelude.{◌≡◌, ◌++◌, ℕ, List, length, OnOk, IfOk};
+ghost use Rattle.std.specs.Prelude.{◌≡◌, ◌≤◌, ◌++◌, ℕ, List, length, map, take, drop, min, false, OnOk, OnErr, IfOk, IsErrOf};
 ghost use Rattle.at_text.specs.Lines.{lines, kept_run};
-ghost use Rattle.modem_sim.specs.Boxes.{fresh_box, box_taken, queue_of};
+ghost use Rattle.modem_sim.specs.Boxes.{fresh_box, box_taken, box_heard, box_announced, box_holding, is_released, queue_of, released};
 ghost use Rattle.modem_sim.specs.Pieces.{spelled, replies};
 ghost use Rattle.modem_sim.specs.Laws.{after_lines};
 
 use crate::error::SimError;
 use crate::modem::Modem;
-use crate::replying::reply_to;
+use crate::replying::{push_framed, reply_to};
 use at_text::LineReader;
 use mux_frame::Dlci;
-use std::alloc::Global;
+use std::alloc::{AllocError, Global};
 use std::marker::Model;
 
-/// The connection on which a command is waited for, and how many lines had come there when that began.
+/// The connection on which a command is waited for, and whether one has come there.
 #[derive(Clone, Copy, Debug)]
 pub(crate) struct Wanted {
     pub(crate) dlci: Dlci,
-    pub(crate) come: u64,
+    pub(crate) over: bool,
 }
 
 /// What is kept of a connection.
@@ -93,6 +93,7 @@ impl Channel {
             (λ a. a.said.items ≡ queue_of self.now ++ spelled (replies echo modem.old (lines (self.now.run ++ octets.now)))) }
         ensures ended { IfOk result (λ a. a.ended ≡ length (lines (self.now.run ++ octets.now))) }
         ensures state { OnOk result (modem.new ≡ after_lines modem.old (lines (self.now.run ++ octets.now))) }
+        ensures no_memory { OnErr result (IsErrOf result SimError.NoMemory) }
     {
         let mut reader = self.reader.copy();
         let mut said = match self.hold {
@@ -119,5 +120,109 @@ impl Channel {
             Some(_) => self.held = said,
             None => self.unsent = said,
         }
+    }
+
+    /// Whether a hold is over, and what it held back isn't moved yet.
+    fn is_released(&self) -> bool
+        ensures { result ≡ is_released self.now.hold }
+    {
+        match self.hold {
+            Some(wanted) => wanted.over,
+            None => false,
+        }
+    }
+
+    /// What is to be sent, with what a hold held back that is over.
+    fn all_unsent(&self) -> Result<Vec<u8>, AllocError>
+        ensures { IfOk result (λ octets. octets.items ≡ (released self.now).unsent) }
+    {
+        let mut unsent = self.unsent.clone()?;
+        if self.is_released() {
+            unsent.extend_from_slice(&self.held)?;
+        }
+        Ok(unsent)
+    }
+
+    /// Keeps this as what is to be sent, behind which nothing is held back by a hold that is over.
+    fn put_unsent(&mut self, unsent: Vec<u8>)
+        ensures { self.new ≡ record (released self.old) { unsent = unsent.items } }
+    {
+        if self.is_released() {
+            self.held.clear();
+            self.hold = None;
+        }
+        self.unsent = unsent;
+    }
+
+    /// Moves what a hold held back behind the rest, where the hold is over, and says whether it was.
+    pub(crate) fn release(&mut self) -> Result<bool, AllocError>
+        ensures moved { IfOk result (λ moved. moved ≡ is_released self.old.hold) }
+        ensures same { IfOk result (λ moved. moved ≡ false → self.new ≡ self.old) }
+        ensures ok { OnOk result (self.new ≡ released self.old) }
+        ensures err { OnErr result (self.new ≡ self.old) }
+    {
+        if !self.is_released() {
+            return Ok(false);
+        }
+        let unsent = self.all_unsent()?;
+        self.put_unsent(unsent);
+        Ok(true)
+    }
+
+    /// Says a line that no command asked for.
+    pub(crate) fn announce(&mut self, line: &[u8]) -> Result<(), AllocError>
+        ensures ok { OnOk result (self.new ≡ box_announced line.now self.old) }
+        ensures err { OnErr result (self.new ≡ self.old) }
+    {
+        let mut unsent = self.all_unsent()?;
+        push_framed(line, &mut unsent)?;
+        self.put_unsent(unsent);
+        Ok(())
+    }
+
+    /// Holds answers back from now on until a command has come on a connection.
+    pub(crate) fn hold_for(&mut self, dlci: Dlci) -> Result<(), AllocError>
+        ensures ok { OnOk result (self.new ≡ box_holding dlci.number self.old) }
+        ensures err { OnErr result (self.new ≡ self.old) }
+    {
+        let unsent = self.all_unsent()?;
+        self.put_unsent(unsent);
+        self.hold = Some(Wanted { dlci, over: false });
+        Ok(())
+    }
+
+    /// The first octets that the station wasn't handed yet, at most so many.
+    pub(crate) fn next_octets(&self, most: usize) -> &[u8]
+        ensures { result.now ≡ take (min most (length self.now.unsent)) self.now.unsent }
+    {
+        &self.unsent[..most.min(self.unsent.len())]
+    }
+
+    /// So many of them were handed to it.
+    pub(crate) fn handed(&mut self, count: usize)
+        requires { count ≤ length self.old.unsent }
+        ensures { self.new ≡ record self.old { unsent = drop count self.old.unsent } }
+    {
+        let rest = self.unsent.len() - count;
+        self.unsent.rotate_left(count);
+        self.unsent.truncate(rest);
+    }
+
+    /// So many lines ended on a connection: where a command was waited for there, one has come.
+    fn hear(&mut self, dlci: Dlci, ended: usize)
+        ensures { self.new ≡ box_heard dlci.number ended self.old }
+    {
+        if let Some(wanted) = &mut self.hold {
+            wanted.over = wanted.over || (dlci.number() == wanted.dlci.number() && ended > 0);
+        }
+    }
+}
+
+/// So many lines ended on a connection, which all of them hear.
+pub(crate) fn hear_all(channels: &mut Vec<Channel>, dlci: Dlci, ended: usize)
+    ensures { channels.new.items ≡ map (box_heard dlci.number ended) channels.old.items }
+{
+    for channel in channels.iter_mut() {
+        channel.hear(dlci, ended);
     }
 }

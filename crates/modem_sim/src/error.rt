@@ -8,6 +8,15 @@ pub enum SimError {
     /// 1: memory was refused.
     #[error("out of memory")]
     NoMemory,
+    /// 2: a frame can't have so many octets of information, or is to have too few.
+    #[error("N1 is 31 to 32767")]
+    BadN1,
+    /// 3: the line failed.
+    #[error("the line failed")]
+    Line,
+    /// 4: the line failed before.
+    #[error("the line failed before")]
+    Failed,
 }
 
 impl From<AllocError> for SimError {

@@ -1,5 +1,5 @@
 //! Laws of the modem's step and of a simulated modem's histories, as contracts of functions that do nothing.
-ghost use Rattle.std.specs.Prelude.{ℕ, List, Ok};
+ghost use Rattle.std.specs.Prelude.{◌≡◌, ℕ, true, List, Ok};
 ghost use Rattle.at_cmds.specs.Commands.{IsTextOf, Reads};
 ghost use Rattle.modem_sim.specs.declared.contexts.PdpContext.{PdpContext};
 ghost use Rattle.modem_sim.specs.declared.modem.ModemStart.{ModemStart};
@@ -8,6 +8,7 @@ ghost use Rattle.modem_sim.specs.Laws.{IsStart, AnswersWellAlways, SetsOne, AreI
 ghost use Rattle.modem_sim.specs.Rows.{PinEntered, ThreeWrongPins, ErrorInWords, NetworkLeft};
 ghost use Rattle.modem_sim.specs.Acts.{Act, End};
 ghost use Rattle.modem_sim.specs.Histories.{Lawful, LeavesInPieces, SaysReplies, DoesInOrder};
+ghost use Rattle.modem_sim.specs.Sims.{IsOver, Kept, KeptFits, Simulates, is_ended};
 ghost use Rattle.modem_sim.specs.HistoryRows.{GoodRows, WrongAnswers, WrongSteps, WrongOtherwise};
 
 /// The command that the step takes a line for is the only one whose text it is, and there is none where it is
@@ -59,4 +60,13 @@ pub fn worked_histories()
     ensures answers { WrongAnswers }
     ensures steps { WrongSteps }
     ensures otherwise { WrongOtherwise }
+{}
+
+/// Whatever past a simulated modem fits, that past keeps the laws of its histories and nothing is owed in it; the frames that came are
+/// those that its octets are read as, and the octets that went spell the frames that it sent; its modem is the one that was handed in,
+/// after all lines that came. Where it is ended it has closed down, and all is written.
+#[tactic(auto, using(crate::proofs::SimLemmas::simulates, crate::proofs::SimLemmas::is_over))]
+pub fn simulators()
+    ensures histories { (e : End) (came went : List ℕ) (k : Kept) (past : List Act) → KeptFits e came went k past → Simulates e came went k past }
+    ensures ends { (e : End) (came went : List ℕ) (k : Kept) (past : List Act) → is_ended k ≡ true → KeptFits e came went k past → IsOver went past }
 {}

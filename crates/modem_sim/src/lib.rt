@@ -4,11 +4,16 @@
 mod answers;
 mod channel;
 mod contexts;
+mod doing;
 mod error;
+mod handing;
+mod input;
+mod kept;
 pub mod laws;
 mod modem;
 mod replying;
 mod script;
+mod sim;
 mod sim_core;
 mod state;
 #[cfg(test)]
@@ -17,3 +22,4 @@ mod tests;
 pub use error::SimError;
 pub use modem::{Modem, ModemStart};
 pub use script::{Script, Step, StepAct, Steps};
+pub use sim::{Sim, SimRefused, SimTurn};

@@ -1,5 +1,5 @@
 //! The modem.
-ghost use Rattle.std.specs.Prelude.{◌≡◌, IfOk, OnOk, OnErr};
+ghost use Rattle.std.specs.Prelude.{◌≡◌, IfOk, OnOk, OnErr, IsErrOf};
 
 use crate::answers::{answer_of, error_answer, told};
 use crate::contexts::PdpContexts;
@@ -96,6 +96,7 @@ impl Modem {
         ensures answer { IfOk result (λ answer. answer.items ≡ (step self.old line.now).answer) }
         ensures state { OnOk result (self.new ≡ (step self.old line.now).state) }
         ensures err { OnErr result (self.new ≡ self.old) }
+        ensures no_memory { OnErr result (IsErrOf result SimError.NoMemory) }
     {
         if line.eq_ignore_ascii_case(b"AT") {
             return Ok(answer_of(self.alloc, b"OK")?);

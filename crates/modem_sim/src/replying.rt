@@ -1,5 +1,5 @@
 //! Command lines that come on a connection, and the replies to them.
-ghost use Rattle.std.specs.Prelude.{◌≡◌, ◌≤◌, ◌++◌, ◌∷◌, [], length, OnOk, IfOk};
+ghost use Rattle.std.specs.Prelude.{◌≡◌, ◌≤◌, ◌++◌, ◌∷◌, [], length, OnOk, OnErr, IfOk, IsErrOf};
 ghost use Rattle.at_text.specs.Lines.{lines, kept_run};
 ghost use Rattle.modem_sim.specs.Steps.{step};
 ghost use Rattle.modem_sim.specs.Laws.{after_lines};
@@ -11,7 +11,7 @@ use at_text::{AnswerLine, LineReader};
 use std::alloc::AllocError;
 
 /// A line as a modem writes it: CR LF, text, CR LF (V.250, 5.7.1).
-fn push_framed(text: &[u8], out: &mut Vec<u8>) -> Result<(), AllocError>
+pub(crate) fn push_framed(text: &[u8], out: &mut Vec<u8>) -> Result<(), AllocError>
     ensures { OnOk result (out.new.items ≡ out.old.items ++ framed text.now) }
 {
     out.extend_from_slice(b"\r\n")?;
@@ -44,6 +44,7 @@ fn push_answer(answer: &[AnswerLine], out: &mut Vec<u8>) -> Result<(), AllocErro
 fn reply(modem: &mut Modem, echo: bool, line: &[u8], out: &mut Vec<u8>) -> Result<(), SimError>
     ensures reply { OnOk result (out.new.items ≡ out.old.items ++ spelled (reply echo modem.old line.now)) }
     ensures state { OnOk result (modem.new ≡ (step modem.old line.now).state) }
+    ensures no_memory { OnErr result (IsErrOf result SimError.NoMemory) }
 {
     push_echo(echo, line, out)?;
     let answer = modem.execute(line)?;
@@ -65,6 +66,7 @@ fn reply_to_octet(
         (out.new.items ≡ out.old.items ++ spelled (replies echo modem.old (lines (reader.old ++ octet ∷ [])))) }
     ensures state { OnOk result (modem.new ≡ after_lines modem.old (lines (reader.old ++ octet ∷ []))) }
     ensures kept { OnOk result (reader.new ≡ kept_run (reader.old ++ octet ∷ [])) }
+    ensures no_memory { OnErr result (IsErrOf result SimError.NoMemory) }
 {
     let Some(line) = reader.push(octet) else {
         return Ok(0);
@@ -88,6 +90,7 @@ pub(crate) fn reply_to(
         (out.new.items ≡ out.old.items ++ spelled (replies echo modem.old (lines (reader.old ++ octets.now)))) }
     ensures state { OnOk result (modem.new ≡ after_lines modem.old (lines (reader.old ++ octets.now))) }
     ensures kept { OnOk result (reader.new ≡ kept_run (reader.old ++ octets.now)) }
+    ensures no_memory { OnErr result (IsErrOf result SimError.NoMemory) }
 {
     let mut count = 0;
     for octet in octets {

@@ -1,58 +1,175 @@
 //! A simulated modem's end of the line, without the line.
-ghost use Rattle.std.specs.Prelude.{◌≡◌, ◌≤◌, ◌++◌, ℕ, List, length, true, false, IfOk, OnErr};
+ghost use Rattle.std.specs.Prelude.{◌≡◌, ◌↔◌, ◌⊎◌, ◌<◌, ◌≤◌, ◌==◌, ◌&&◌, ◌++◌, ℕ, List, [], length, replicate, true, false, is_none, IfOk, OnErr, IsErrOf};
 ghost use Rattle.mux_frame.specs.Frames.{frame_of};
 ghost use Rattle.mux_frame.specs.Spelling.{most_info};
 ghost use Rattle.mux_station.specs.States.{is_opened};
-ghost use Rattle.mux_station.specs.Stations.{channel_at};
-ghost use Rattle.mux_station.specs.Written.{is_data_frame};
+ghost use Rattle.mux_station.specs.Stations.{channel_at, new_station, seen_in, setting_of};
+ghost use Rattle.mux_station.specs.Sending.{got_refused};
+ghost use Rattle.mux_station.specs.Fitting.{Fits as FitsThere};
+ghost use Rattle.mux_station.specs.Written.{is_data_frame, is_on};
 ghost use Rattle.at_text.specs.Lines.{kept_run};
-ghost use Rattle.modem_sim.specs.Boxes.{queue_of, box_turned};
-ghost use Rattle.modem_sim.specs.Cores.{GoesOn, box_at, kept_in, opens_in, octets_in};
+ghost use Rattle.modem_sim.specs.Acts.{Act, end_of};
+ghost use Rattle.modem_sim.specs.Boxes.{fresh_box, queue_of, box_turned};
+ghost use Rattle.modem_sim.specs.Cores.{Fits, GoesOn, box_at, closes_all, kept_in, nothing_wired, opens_in, octets_in};
 
-use crate::channel::{Answered, Channel};
+use crate::channel::{Answered, Channel, hear_all};
 use crate::error::SimError;
 use crate::modem::Modem;
+use crate::script::{Script, Step};
 use mux_frame::{Dlci, FrameView, Kind};
-use mux_station::{ChannelState, Station};
+use mux_station::{ChannelState, Noted, Role, Station, StationError};
+use std::alloc::{AllocError, Global};
 use std::marker::Model;
 
 /// The control channel.
-const CONTROL: Dlci = Dlci { number: 0 };
+pub(crate) const CONTROL: Dlci = Dlci { number: 0 };
 
-/// A station, its modem, and what is kept of each connection.
+/// How many connections there are, 0 among them.
+pub(crate) const CONNECTIONS: usize = 62;
+
+/// A station, its modem, what is kept of each connection, and the script.
 #[derive(Drop)]
 pub(crate) struct SimCore {
-    station: Station,
-    modem: Modem,
-    echo: bool,
-    channels: Vec<Channel>,
+    pub(crate) station: Station,
+    pub(crate) modem: Modem,
+    pub(crate) echo: bool,
+    pub(crate) channels: Vec<Channel>,
+    /// How many command lines came.
+    pub(crate) come: u64,
+    pub(crate) steps: Vec<Step>,
+    /// The next step.
+    pub(crate) next: usize,
+    /// Whether a CLD was asked for or came.
+    pub(crate) closed: bool,
 }
 
 impl Model for SimCore {
-    ghost use Rattle.std.specs.Prelude.{◌≡◌, length};
+    ghost use Rattle.std.specs.Prelude.{◌≡◌, ◌≤◌, length, drop};
     ghost use Rattle.mux_station.specs.declared.role.Role.{Role};
     ghost use Rattle.mux_station.specs.declared.role.Role.TheVariants.{Responder};
     ghost use Rattle.modem_sim.specs.Cores.{Core};
 
     ghost Value = { Core };
 
-    ghost view = { λ c. record { station = c.station; modem = c.modem; echo = c.echo; boxes = c.channels.items } };
+    ghost view = { λ c. record {
+      station = c.station;
+      modem = c.modem;
+      echo = c.echo;
+      boxes = c.channels.items;
+      come = c.come;
+      steps = drop c.next c.steps.items;
+      closed = c.closed;
+    } };
 
-    ghost invariant = { λ c. length c.channels.items ≡ 62 };
+    ghost invariant = { λ c. (length c.channels.items ≡ 62) × (c.next ≤ length c.steps.items) };
+}
+
+/// What an end takes memory for as it is made.
+#[derive(Drop)]
+pub(crate) struct Parts {
+    pub(crate) station: Station,
+    pub(crate) channels: Vec<Channel>,
+}
+
+/// Whether a connection is open.
+pub(crate) fn is_open(station: &Station, dlci: Dlci) -> bool
+    ensures { result ≡ is_opened (channel_at station.now dlci.number).state }
+{
+    match station.state(dlci) {
+        ChannelState::Opened => true,
+        ChannelState::Shut
+        | ChannelState::Opening
+        | ChannelState::Closing
+        | ChannelState::Stopping => false,
+    }
+}
+
+fn shut_channels(alloc: Global) -> Result<Vec<Channel>, AllocError>
+    ensures { IfOk result (λ cs. cs.items ≡ replicate 62 fresh_box) }
+{
+    let mut channels = Vec::with_capacity(alloc, CONNECTIONS)?;
+    for _ in 0..CONNECTIONS {
+        channels.push(Channel::new(alloc))?;
+    }
+    Ok(channels)
+}
+
+impl Parts {
+    /// Refusals: 2 BadN1 where N1 isn't 31 to 32767, checked first; 1 NoMemory.
+    pub(crate) fn new(alloc: Global, n1: u16) -> Result<Parts, SimError>
+        ensures station { IfOk result (λ p. p.station ≡ new_station Role.Responder n1) }
+        ensures past { IfOk result (λ p. FitsThere p.station []) }
+        ensures boxes { IfOk result (λ p. p.channels.items ≡ replicate 62 fresh_box) }
+        ensures bad_n1 { IsErrOf result SimError.BadN1 ↔ ((n1 < 31) ⊎ (32767 < n1)) }
+        ensures others { OnErr result (IsErrOf result SimError.BadN1 ⊎ IsErrOf result SimError.NoMemory) }
+    {
+        let station = match Station::new(alloc, Role::Responder, n1) {
+            Ok(station) => station,
+            Err(StationError::BadN1) => return Err(SimError::BadN1),
+            Err(_) => return Err(SimError::NoMemory),
+        };
+        let channels = shut_channels(alloc)?;
+        Ok(Parts { station, channels })
+    }
 }
 
 impl SimCore {
+    /// An end to which nothing has happened yet.
+    #[tactic(auto, using(crate::proofs::CoreLemmas::fits_nothing))]
+    pub(crate) fn start(parts: Parts, modem: Modem, script: Script) -> SimCore
+        requires boxes { parts.channels.items ≡ replicate 62 fresh_box }
+        requires station { parts.station ≡ new_station Role.Responder parts.station.n1 }
+        requires past { FitsThere parts.station [] }
+        ensures { Fits (end_of parts.station.n1 modem script) nothing_wired result [] }
+    {
+        let Parts { station, channels } = parts;
+        let Script { echo, steps } = script;
+        SimCore {
+            station,
+            modem,
+            echo,
+            channels,
+            come: 0,
+            steps: steps.into_vec(),
+            next: 0,
+            closed: false,
+        }
+    }
+
+    /// How many octets of information a frame may have.
+    pub(crate) fn n1(&self) -> u16
+        ensures { result ≡ self.now.station.n1 }
+    {
+        self.station.n1()
+    }
+
+    /// The modem.
+    pub(crate) fn into_modem(self) -> Modem
+        ensures { result ≡ self.modem }
+    {
+        let SimCore { modem, .. } = self;
+        modem
+    }
+
+    /// Whether a CLD was asked for or came.
+    pub(crate) fn closed(&self) -> bool
+        ensures { result ≡ self.now.closed }
+    {
+        self.closed
+    }
+
+    /// How many control frames wait.
+    pub(crate) fn queue_len(&self) -> usize
+        ensures { result ≡ length self.now.station.queue }
+    {
+        self.station.queue_len()
+    }
+
     /// Whether a connection is open.
-    fn is_open(&self, dlci: Dlci) -> bool
+    pub(crate) fn is_open(&self, dlci: Dlci) -> bool
         ensures { result ≡ is_opened (channel_at self.now.station dlci.number).state }
     {
-        match self.station.state(dlci) {
-            ChannelState::Opened => true,
-            ChannelState::Shut
-            | ChannelState::Opening
-            | ChannelState::Closing
-            | ChannelState::Stopping => false,
-        }
+        is_open(&self.station, dlci)
     }
 
     /// Whether a frame opens its connection: a SABM on 0, or while 0 is open.
@@ -80,27 +197,33 @@ impl SimCore {
     pub(crate) fn got(&mut self, frame: FrameView<'_>) -> Result<bool, SimError>
         requires { length frame.info.now ≤ most_info self.old.station.n1 frame.kind }
         ensures took { IfOk result (λ took. took ≡ true → GoesOn self.old self.new (frame_of frame.entry)) }
+        ensures room { IfOk result
+            (λ took. took ≡ is_none (got_refused (setting_of self.old.station) (seen_in self.old.station) (frame_of frame.entry))) }
         ensures left { IfOk result (λ took. took ≡ false → self.new ≡ self.old) }
         ensures err { OnErr result (self.new ≡ self.old) }
+        ensures no_memory { OnErr result (IsErrOf result SimError.NoMemory) }
     {
         let opens = self.opens(frame);
         let octets = self.octets_in(frame);
+        let running = self.is_open(CONTROL);
         let mut modem = self.modem.copy()?;
         let channel = &self.channels[usize::from(frame.dlci.number())];
         let answered = channel.answered(&mut modem, self.echo, octets)?;
-        if self.station.got(frame).is_err() {
+        let Ok(noted) = self.station.got(frame) else {
             return Ok(false);
-        }
-        self.keep(frame.dlci, opens, modem, answered);
+        };
+        let closes = closes_down(running, frame, noted);
+        self.keep(frame.dlci, opens, modem, answered, closes);
         Ok(true)
     }
 
     /// Keeps what a frame brought to its connection, which starts afresh where the frame opens it.
-    fn keep(&mut self, dlci: Dlci, opens: bool, modem: Modem, answered: Answered)
+    fn keep(&mut self, dlci: Dlci, opens: bool, modem: Modem, answered: Answered, closes: bool)
         requires { kept_run answered.reader ≡ answered.reader }
         ensures { (octets : List ℕ) → answered.said.items ≡ queue_of (box_at self.old dlci.number) ++ octets
-            → self.new ≡ kept_in self.old dlci.number modem (box_turned opens true (record { run = answered.reader; said = octets }) (box_at self.old dlci.number)) }
+            → self.new ≡ kept_in self.old dlci.number modem (box_turned opens true (record { run = answered.reader; said = octets }) (box_at self.old dlci.number)) answered.ended closes }
     {
+        let ended = answered.ended;
         self.modem = modem;
         let channel = &mut self.channels[usize::from(dlci.number())];
         if opens {
@@ -108,5 +231,18 @@ impl SimCore {
         } else {
             channel.take(answered);
         }
+        hear_all(&mut self.channels, dlci, ended);
+        self.come = self.come.saturating_add(ended as u64);
+        self.closed = self.closed || closes;
     }
+}
+
+/// Whether a frame is a CLD that came while 0 was open, by what was noted of it.
+fn closes_down(running: bool, frame: FrameView<'_>, noted: Noted) -> bool
+    ensures { result ≡ (running && (is_on Kind.Uih 0 (frame_of frame.entry) && closes_all noted)) }
+{
+    running
+        && matches!(frame.kind, Kind::Uih)
+        && frame.dlci.number() == 0
+        && matches!(noted, Noted::AllClosed)
 }

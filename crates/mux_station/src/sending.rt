@@ -89,9 +89,10 @@ impl Station {
 
     /// The next frame for the line, lent, which is then no longer kept: the first of the control
     /// queue; where that is empty, data of the connection whose turn it is. `laws::givings` says what that
-    /// comes to in each past that the station fits.
+    /// comes to in each past that the station fits. Its information is at most 1024 octets.
     pub fn next_frame(&mut self) -> Option<Outgoing<'_>>
         ensures frame { option_map outgoing_of result ≡ option_map (with_freshness (length self.old.queue == 0)) (next_given self.old self.old.queue) }
+        ensures short { IfSome result (λ o. length o.frame.info.now ≤ 1024) }
         ensures* after { sem 𝓛 (Rests the_row self.entry (λ new. new ≡ given_on self.old self.old.queue)) }
     {
         let fresh = self.control.is_empty();

@@ -99,6 +99,13 @@ impl Station {
         self.role
     }
 
+    /// How many octets of information a frame may have.
+    pub fn n1(&self) -> u16
+        ensures { result ≡ self.now.n1 }
+    {
+        self.n1
+    }
+
     /// How a connection stands.
     pub fn state(&self, dlci: Dlci) -> ChannelState
         ensures value { result ≡ as_shown (channel_at self.now dlci.number).state }

@@ -1,0 +1,26 @@
+use Rattle.std.proofs.Common.{ap, sym, ◌∙◌, subst, option_map, take, drop, List, ℕ}
+use Rattle.mux_frame.specs.Deframing.{Deframing, TakesIn}
+use Rattle.modem_sim.specs.Sims.{Kept, KeptGoes, pending_frame}
+use Rattle.modem_sim.proofs.SimLemmas.{kept_fed}
+use Rattle.modem_sim.proofs.kept.Kept.feed.Goals as goal
+
+pub returns : goal.returns
+returns c =
+    let old : Kept = record {
+      core = c.self.inside.core;
+      n1 = c.self.inside.n1;
+      unfed = c.self.inside.unfed;
+      deframer = c.self.inside.deframer;
+      pending = option_map pending_frame c.self.inside.pending;
+      out = c.self.inside.out.items;
+      failed = c.self.inside.failed;
+    } in
+    let new : Kept = record old { unfed = c.pass.new.self; deframer = c.feed-count.new.self } in
+    let Goes_to : Kept → Type 0 = λ k. KeptGoes k new in
+    let Unfed : List ℕ → Type 0 = λ xs. KeptGoes old (record old { unfed = xs; deframer = c.feed-count.new.self }) in
+    let Takes : List ℕ → Type 0 = λ xs. TakesIn c.self.inside.deframer (take c.feed-count.result xs) c.feed-count.new.self in
+    record {
+      goes = subst Goes_to c.self.view_is
+          (subst Unfed (sym c.pass.ensures)
+          (kept_fed old c.feed-count.new.self c.feed-count.result (subst Takes c.as_slice.ensures c.feed-count.ensures.past) c.feed-count.ensures.n1));
+    }

@@ -1,0 +1,40 @@
+use Rattle.std.proofs.Common.{Bool, List, ◌∷◌, ◌≡◌, ◌+◌, ◌||◌, drop, refl, sym, ap, ◌∙◌, subst, arith}
+use Rattle.std.proofs.lemmas.Bool.Decides.{nat_tests}
+use Rattle.modem_sim.proofs.CoreLemmas.{either_way}
+use Rattle.modem_sim.specs.declared.script.Step.{Step}
+use Rattle.modem_sim.specs.Cores.{Core, Goes, are_open_in, boxes_done, closes_by}
+use Rattle.modem_sim.proofs.DoingLemmas.{does_goes, passes_goes, step_at}
+use Rattle.modem_sim.proofs.sim_core.SimCore.do_next.Goals as goal
+
+pub returns-clause-goes : goal.returns-clause-goes
+returns-clause-goes c =
+    let old : Core = record {
+      station = c.self.inside.station;
+      modem = c.self.inside.modem;
+      echo = c.self.inside.echo;
+      boxes = c.self.inside.channels.items;
+      come = c.self.inside.come;
+      steps = drop c.self.inside.next c.self.inside.steps.items;
+      closed = c.self.inside.closed;
+    } in
+    let step = c.in-Some.step.now in
+    let later = drop (c.self.inside.next + 1) c.self.inside.steps.items in
+    let new : Core = record {
+      station = c.carry_out.new.station;
+      modem = c.self.inside.modem;
+      echo = c.self.inside.echo;
+      boxes = c.carry_out.new.channels.items;
+      come = c.self.inside.come;
+      steps = later;
+      closed = c.self.inside.closed || c.closes_by-closes.result;
+    } in
+    let Steps : List Step → Type 0 = λ xs. drop c.self.inside.next xs ≡ step ∷ drop (c.self.inside.next + 1) xs in
+    let first = subst Steps c.deref.ensures.value (step_at c.deref.result.now c.self.inside.next step c.in-Some.ensures.lookup.3.0 c.in-Some.ensures.lookup.1) in
+    let Goes_to : Core → Type 0 = λ o. Goes o new in
+    subst Goes_to c.self.view_is
+    (does_goes old new step later c.self.invariant.0 first
+    (sym c.if-not-acts.ensures) (let late = c.if-step-self.false in grind (arith, nat_tests)) (sym c.if-not-are_open.ensures)
+    (c.in_ok-carry_out.ensures.station c.if-not-branch.false)
+    (ap (λ bs. record new { boxes = bs }) (c.in_ok-carry_out.ensures.boxes c.if-not-branch.false)
+    ∙ ap (λ (b : Bool). record new { boxes = boxes_done step.act c.self.inside.channels.items; closed = b })
+    (either_way c.self.inside.closed c.closes_by-closes.result ∙ ap (λ (b : Bool). b || c.self.inside.closed) c.closes_by-closes.ensures)))

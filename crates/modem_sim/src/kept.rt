@@ -1,0 +1,309 @@
+//! What a simulated modem keeps beside its line.
+ghost use Rattle.std.specs.Prelude.{◌≡◌, ◌↔◌, ◌⊎◌, ◌<◌, ◌≤◌, [], ◌++◌, length, take, drop, true, IfOk, OnOk, OnErr, IsErrOf};
+ghost use Rattle.mux_frame.specs.Frames.{frame_of};
+ghost use Rattle.modem_sim.specs.Sims.{BeginsAt, KeptFits, KeptGoes, Receives, is_ended, pending_frame};
+ghost use Rattle.modem_sim.specs.Acts.{end_of};
+
+use crate::error::SimError;
+use crate::input::Input;
+use crate::modem::Modem;
+use crate::script::Script;
+use crate::sim_core::{Parts, SimCore};
+use arrayvec::ArrayVec;
+use mux_frame::{Deframer, Dlci, FrameView, Kind, write_frame};
+use serial_line::{LineFault, SerialLine};
+use std::alloc::{AllocError, Global};
+use std::marker::Model;
+
+/// A frame that is to be written next, with its information in place: a station gives on at most 1024 octets in a frame.
+#[derive(Drop)]
+pub(crate) struct Pending {
+    dlci: Dlci,
+    kind: Kind,
+    cr: bool,
+    pf: bool,
+    info: ArrayVec<u8, 1024>,
+}
+
+impl Pending {
+    fn of(frame: FrameView<'_>) -> Pending
+        requires { length frame.info.now ≤ 1024 }
+        ensures { pending_frame result ≡ frame_of frame.entry }
+    {
+        let mut info = ArrayVec::new();
+        info.try_extend_from_slice(frame.info).unwrap();
+        Pending {
+            dlci: frame.dlci,
+            kind: frame.kind,
+            cr: frame.cr,
+            pf: frame.pf,
+            info,
+        }
+    }
+
+    /// The frame, lent.
+    fn view(&self) -> FrameView<'_>
+        ensures { frame_of result ≡ pending_frame self.now }
+    {
+        FrameView {
+            dlci: self.dlci,
+            kind: self.kind,
+            cr: self.cr,
+            pf: self.pf,
+            info: self.info.as_slice(),
+        }
+    }
+}
+
+/// An end, what was read and not taken by its deframer yet, what is to be written, and whether the line failed.
+#[derive(Drop)]
+pub(crate) struct Kept {
+    pub(crate) core: SimCore,
+    pub(crate) n1: u16,
+    pub(crate) unfed: Input,
+    pub(crate) deframer: Deframer,
+    pub(crate) pending: Option<Pending>,
+    pub(crate) out: Vec<u8>,
+    pub(crate) failed: bool,
+}
+
+impl Model for Kept {
+    ghost use Rattle.std.specs.Prelude.{◌≡◌, option_map};
+    ghost use Rattle.modem_sim.specs.Sims.{Kept, pending_frame};
+
+    ghost Value = { Kept };
+
+    ghost view = { λ k. record {
+      core = k.core;
+      n1 = k.n1;
+      unfed = k.unfed;
+      deframer = k.deframer;
+      pending = option_map pending_frame k.pending;
+      out = k.out.items;
+      failed = k.failed;
+    } };
+
+    ghost invariant = { λ k. k.deframer.n1 ≡ k.n1 };
+}
+
+/// What a simulated modem takes memory for as it is made.
+#[derive(Drop)]
+pub(crate) struct Room {
+    parts: Parts,
+    n1: u16,
+    unfed: Input,
+    deframer: Deframer,
+    out: Vec<u8>,
+}
+
+impl Room {
+    /// Refusals: 2 BadN1 where N1 isn't 31 to 32767, checked first; 1 NoMemory.
+    pub(crate) fn new(alloc: Global, n1: u16) -> Result<Room, SimError>
+        ensures begins { IfOk result (λ r. BeginsAt n1 r.parts.station r.parts.channels.items r.n1 r.unfed r.deframer r.out.items) }
+        ensures bad_n1 { IsErrOf result SimError.BadN1 ↔ ((n1 < 31) ⊎ (32767 < n1)) }
+        ensures others { OnErr result (IsErrOf result SimError.BadN1 ⊎ IsErrOf result SimError.NoMemory) }
+    {
+        let parts = Parts::new(alloc, n1)?;
+        let Ok(deframer) = Deframer::new(alloc, n1) else {
+            return Err(SimError::NoMemory);
+        };
+        let unfed = Input::new(alloc)?;
+        Ok(Room {
+            parts,
+            n1,
+            unfed,
+            deframer,
+            out: Vec::new(alloc),
+        })
+    }
+}
+
+impl Kept {
+    /// Nothing has happened yet.
+    pub(crate) fn start(room: Room, modem: Modem, script: Script) -> Kept
+        requires { BeginsAt room.n1 room.parts.station room.parts.channels.items room.n1 room.unfed room.deframer room.out.items }
+        ensures { KeptFits (end_of room.n1 modem script) [] [] result [] }
+    {
+        let Room {
+            parts,
+            n1,
+            unfed,
+            deframer,
+            out,
+        } = room;
+        Kept {
+            core: SimCore::start(parts, modem, script),
+            n1,
+            unfed,
+            deframer,
+            pending: None,
+            out,
+            failed: false,
+        }
+    }
+
+    /// Whether a CLD was asked for or came, and all is written.
+    pub(crate) fn is_ended(&self) -> bool
+        ensures { result ≡ is_ended self.now }
+    {
+        self.core.closed()
+            && self.pending.is_none()
+            && self.out.is_empty()
+            && self.core.queue_len() == 0
+    }
+
+    /// The modem.
+    pub(crate) fn into_modem(self) -> Modem
+        ensures { result ≡ self.core.modem }
+    {
+        let Kept { core, .. } = self;
+        core.into_modem()
+    }
+
+    /// Whether the line failed.
+    pub(crate) fn is_failed(&self) -> bool
+        ensures { result ≡ self.now.failed }
+    {
+        self.failed
+    }
+
+    /// Does the steps that are due; says whether there were any.
+    pub(crate) fn do_steps(&mut self) -> Result<bool, SimError>
+        ensures goes { KeptGoes self.old self.new }
+        ensures no_memory { OnErr result (IsErrOf result SimError.NoMemory) }
+    {
+        Ok(self.core.do_steps()?)
+    }
+
+    /// Takes the next frame into the output, and then the frame at hand; says whether anything moved.
+    pub(crate) fn work(&mut self) -> Result<bool, SimError>
+        ensures goes { KeptGoes self.old self.new }
+        ensures no_memory { OnErr result (IsErrOf result SimError.NoMemory) }
+    {
+        let loaded = self.load()?;
+        let took = self.take_frame()?;
+        Ok(loaded | took)
+    }
+
+    /// Takes the frame at hand, if there is one and the station has room for what it calls for; says whether it did.
+    pub(crate) fn take_frame(&mut self) -> Result<bool, SimError>
+        ensures goes { KeptGoes self.old self.new }
+        ensures no_memory { OnErr result (IsErrOf result SimError.NoMemory) }
+    {
+        if self.core.n1() != self.n1 {
+            return Ok(false);
+        }
+        let Some(frame) = self.deframer.peek() else {
+            return Ok(false);
+        };
+        if !self.core.got(frame)? {
+            return Ok(false);
+        }
+        self.deframer.advance();
+        Ok(true)
+    }
+
+    /// Fetches the frame that is to be written next; says whether it did, or handed octets to the station.
+    fn fetch(&mut self) -> Result<bool, AllocError>
+        ensures goes { KeptGoes self.old self.new }
+    {
+        if self.pending.is_some() {
+            return Ok(false);
+        }
+        let offered = self.core.offer_all()?;
+        let Some(outgoing) = self.core.outgoing() else {
+            return Ok(offered);
+        };
+        self.pending = Some(Pending::of(outgoing.frame));
+        Ok(true)
+    }
+
+    /// Writes the fetched frame into the output; says whether there was one. Want of memory leaves it fetched.
+    fn put(&mut self) -> Result<bool, SimError>
+        ensures goes { KeptGoes self.old self.new }
+        ensures no_memory { OnErr result (IsErrOf result SimError.NoMemory) }
+    {
+        let Some(pending) = &self.pending else {
+            return Ok(false);
+        };
+        if write_frame(pending.view(), self.n1, &mut self.out).is_err() {
+            return Err(SimError::NoMemory);
+        }
+        self.pending = None;
+        Ok(true)
+    }
+
+    /// Takes the next frame into the output, where all is written; says whether anything moved.
+    pub(crate) fn load(&mut self) -> Result<bool, SimError>
+        ensures goes { KeptGoes self.old self.new }
+        ensures no_memory { OnErr result (IsErrOf result SimError.NoMemory) }
+    {
+        if !self.out.is_empty() {
+            return Ok(false);
+        }
+        let fetched = self.fetch()?;
+        let put = self.put()?;
+        Ok(fetched | put)
+    }
+
+    /// Gives octets that were read to the deframer, as many as it has room for; says whether there were any.
+    pub(crate) fn feed(&mut self) -> bool
+        ensures goes { KeptGoes self.old self.new }
+    {
+        let count = self.deframer.feed(self.unfed.as_slice());
+        self.unfed.pass(count);
+        count > 0
+    }
+
+    /// The line took so many octets.
+    pub(crate) fn written(&mut self, count: usize)
+        requires { count ≤ length self.old.out }
+        ensures { self.new ≡ record self.old { out = drop count self.old.out } }
+    {
+        let rest = self.out.len() - count;
+        self.out.rotate_left(count);
+        self.out.truncate(rest);
+    }
+
+    /// Offers the line what is to be written; says how many octets it took.
+    pub(crate) fn write<L: SerialLine>(&mut self, line: &mut L) -> Result<usize, LineFault>
+        ensures went { IfOk result (λ n. L.sent line.new ≡ L.sent line.old ++ take n self.old.out) }
+        ensures kept { IfOk result (λ n. self.new ≡ record self.old { out = drop n self.old.out }) }
+        ensures none_went { OnErr result (L.sent line.new ≡ L.sent line.old) }
+        ensures err { OnErr result (self.new ≡ record self.old { failed = true }) }
+        ensures none_came { L.received line.new ≡ L.received line.old }
+    {
+        if self.out.is_empty() {
+            return Ok(0);
+        }
+        match line.try_write(&self.out) {
+            Ok(count) => {
+                self.written(count);
+                Ok(count)
+            }
+            Err(fault) => {
+                self.failed = true;
+                Err(fault)
+            }
+        }
+    }
+
+    /// Reads from the line, where nothing read waits.
+    pub(crate) fn receive<L: SerialLine>(&mut self, line: &mut L) -> Result<(), LineFault>
+        ensures came { OnOk result (Receives (L.received line.old) (L.received line.new) self.old self.new) }
+        ensures none_came { OnErr result (L.received line.new ≡ L.received line.old) }
+        ensures err { OnErr result (self.new ≡ record self.old { failed = true }) }
+        ensures none_went { L.sent line.new ≡ L.sent line.old }
+    {
+        if !self.unfed.is_empty() {
+            return Ok(());
+        }
+        match self.unfed.read(line) {
+            Ok(_) => Ok(()),
+            Err(fault) => {
+                self.failed = true;
+                Err(fault)
+            }
+        }
+    }
+}

@@ -1,0 +1,177 @@
+//! A simulated modem at its line.
+ghost use Rattle.std.specs.Prelude.{◌≡◌, ◌↔◌, ◌⊎◌, ◌+◌, ◌<◌, ◌≤◌, [], true, Err, IfOk, IfErr, OnOk, OnErr, IsErrOf};
+ghost use Rattle.std.specs.Borrow.{Lends, sem};
+ghost use Rattle.modem_sim.specs.Acts.{end_of};
+ghost use Rattle.modem_sim.specs.Sims.{FitsSim, SimGoes, is_ended};
+
+use crate::error::SimError;
+use crate::kept::{Kept, Room};
+use crate::modem::Modem;
+use crate::script::Script;
+use serial_line::SerialLine;
+use std::alloc::Global;
+use std::marker::Model;
+
+/// What a turn came to.
+#[derive(Clone, Copy, Debug, PartialEq, Eq)]
+pub enum SimTurn {
+    /// Something was done.
+    Moved,
+    /// There was nothing to do.
+    Idle,
+    /// A CLD was asked for or came, and all is written.
+    Ended,
+}
+
+/// A simulated modem that wasn't made, with what was handed in.
+#[derive(Drop)]
+pub struct SimRefused<L: SerialLine> {
+    pub why: SimError,
+    pub line: L,
+    pub modem: Modem,
+    pub script: Script,
+}
+
+/// A simulated modem at its end of a line.
+#[derive(Drop)]
+pub struct Sim<L: SerialLine> {
+    line: L,
+    kept: Kept,
+}
+
+impl<L: SerialLine> Model for Sim<L> {
+    ghost use Rattle.modem_sim.specs.Sims.{SimState};
+
+    ghost Value = { SimState L };
+
+    ghost view = { λ s. record { line = s.line; kept = s.kept } };
+}
+
+impl<L: SerialLine> Sim<L> {
+    ghost use Rattle.modem_sim.specs.contracts.sim.Sim.{the_row};
+
+    /// A simulated modem to which nothing has happened yet, whatever its line did before. N1 is how many octets of information a
+    /// frame may have. Refusals, which hand everything back: 2 BadN1 where N1 isn't 31 to 32767, checked first; 1 NoMemory.
+    pub fn new(
+        alloc: Global,
+        line: L,
+        modem: Modem,
+        script: Script,
+        n1: u16,
+    ) -> Result<Sim<L>, SimRefused<L>>
+        ensures begins { IfOk result (λ s. FitsSim L.received L.sent (record { received = L.received line; sent = L.sent line }) (end_of n1 modem script) s []) }
+        ensures line { IfOk result (λ s. s.line ≡ line) }
+        ensures back { IfErr result (λ r. (r.line ≡ line) × (r.modem ≡ modem) × (r.script ≡ script)) }
+    {
+        match Room::new(alloc, n1) {
+            Ok(room) => Ok(Sim {
+                line,
+                kept: Kept::start(room, modem, script),
+            }),
+            Err(why) => Err(SimRefused {
+                why,
+                line,
+                modem,
+                script,
+            }),
+        }
+    }
+
+    /// Offers the line what is to be written; says whether it took any.
+    fn write(&mut self) -> Result<bool, SimError>
+        ensures goes { SimGoes L.received L.sent self.old self.new }
+        ensures fault { result ≡ Err SimError.Line → self.new.kept.failed ≡ true }
+    {
+        match self.kept.write(&mut self.line) {
+            Ok(count) => Ok(count > 0),
+            Err(_) => Err(SimError::Line),
+        }
+    }
+
+    /// Reads, where nothing read waits.
+    fn receive(&mut self) -> Result<(), SimError>
+        ensures goes { SimGoes L.received L.sent self.old self.new }
+        ensures fault { result ≡ Err SimError.Line → self.new.kept.failed ≡ true }
+    {
+        match self.kept.receive(&mut self.line) {
+            Ok(()) => Ok(()),
+            Err(_) => Err(SimError::Line),
+        }
+    }
+
+    /// Does the steps that are due.
+    fn do_steps(&mut self) -> Result<bool, SimError>
+        ensures goes { SimGoes L.received L.sent self.old self.new }
+        ensures fault { result ≡ Err SimError.Line → self.new.kept.failed ≡ true }
+    {
+        self.kept.do_steps()
+    }
+
+    /// Takes the next frame into the output, and then the frame at hand.
+    fn work(&mut self) -> Result<bool, SimError>
+        ensures goes { SimGoes L.received L.sent self.old self.new }
+        ensures fault { result ≡ Err SimError.Line → self.new.kept.failed ≡ true }
+    {
+        self.kept.work()
+    }
+
+    /// Gives what was read to the deframer.
+    fn feed(&mut self) -> bool
+        ensures goes { SimGoes L.received L.sent self.old self.new }
+    {
+        self.kept.feed()
+    }
+
+    /// Steps, write, next frame, frame at hand, read; says whether anything moved.
+    fn go_on(&mut self) -> Result<bool, SimError>
+        ensures goes { SimGoes L.received L.sent self.old self.new }
+        ensures fault { result ≡ Err SimError.Line → self.new.kept.failed ≡ true }
+    {
+        let done = self.do_steps()?;
+        let wrote = self.write()?;
+        let worked = self.work()?;
+        self.receive()?;
+        let fed = self.feed();
+        Ok(done | wrote | worked | fed)
+    }
+
+    /// Does each of these once: the steps that are due; offers the line what is to be written; where all is written, takes the
+    /// next outgoing frame; takes the frame at hand; reads. Refusals: 1 NoMemory, which drops nothing: the next turn goes on;
+    /// 3 Line, where the line fails; 4 Failed, in every turn after that, which does nothing.
+    pub fn turn(&mut self) -> Result<SimTurn, SimError>
+        ensures goes { SimGoes L.received L.sent self.old self.new }
+        ensures failed { self.old.kept.failed ≡ true → (result ≡ Err SimError.Failed) × (self.new ≡ self.old) }
+        ensures fault { result ≡ Err SimError.Line → self.new.kept.failed ≡ true }
+        ensures ended { IfOk result (λ turn. turn ≡ SimTurn.Ended → is_ended self.new.kept ≡ true) }
+        ensures goes_on { IfOk result (λ turn. is_ended self.new.kept ≡ true → turn ≡ SimTurn.Ended) }
+    {
+        if self.kept.is_failed() {
+            return Err(SimError::Failed);
+        }
+        if self.kept.is_ended() {
+            return Ok(SimTurn::Ended);
+        }
+        let moved = self.go_on()?;
+        if self.kept.is_ended() {
+            return Ok(SimTurn::Ended);
+        }
+        Ok(if moved { SimTurn::Moved } else { SimTurn::Idle })
+    }
+
+    /// The line, lent. What it fitted before it fits afterwards, where what was done left the octets received and sent as they
+    /// were.
+    pub fn line_mut(&mut self) -> &mut L
+        ensures value { result.now ≡ self.old.line }
+        ensures* lent { sem 𝓛 (Lends (the_row L.row L.SerialLine) L.row self.entry result (λ l. record self.old { line = l })) }
+    {
+        &mut self.line
+    }
+
+    /// The line and the modem, as they are.
+    pub fn finish(self) -> (L, Modem)
+        ensures { (result.0 ≡ self.line) × (result.1 ≡ self.kept.core.modem) }
+    {
+        let Sim { line, kept } = self;
+        (line, kept.into_modem())
+    }
+}
