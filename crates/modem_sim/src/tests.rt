@@ -1,3 +1,5 @@
+mod sim;
+
 use crate::{Modem, ModemStart, SimError};
 use at_cmds::Pin;
 use at_text::AnswerLine;
