@@ -1,5 +1,5 @@
 //! A simulated modem at its line.
-ghost use Rattle.std.specs.Prelude.{◌≡◌, ◌↔◌, ◌⊎◌, ◌+◌, ◌<◌, ◌≤◌, [], true, Err, IfOk, IfErr, OnOk, OnErr, IsErrOf};
+ghost use Rattle.std.specs.Prelude.{◌≡◌, ◌↔◌, ◌⊎◌, ◌+◌, ◌<◌, ◌≤◌, [], true, Err, IfOk, IfErr, IsErr, OnOk, OnErr, IsErrOf};
 ghost use Rattle.std.specs.Borrow.{Lends, sem};
 ghost use Rattle.modem_sim.specs.Acts.{end_of};
 ghost use Rattle.modem_sim.specs.Sims.{FitsSim, SimGoes, is_ended};
@@ -61,6 +61,9 @@ impl<L: SerialLine> Sim<L> {
     ) -> Result<Sim<L>, SimRefused<L>>
         ensures begins { IfOk result (λ s. FitsSim L.received L.sent (record { received = L.received line; sent = L.sent line }) (end_of n1 modem script) s []) }
         ensures line { IfOk result (λ s. s.line ≡ line) }
+        ensures bad_n1 { (IfErr result (λ r. r.why ≡ SimError.BadN1 → ((n1 < 31) ⊎ (32767 < n1))))
+            × (((n1 < 31) ⊎ (32767 < n1)) → IsErr result × IfErr result (λ r. r.why ≡ SimError.BadN1)) }
+        ensures others { IfErr result (λ r. (r.why ≡ SimError.BadN1) ⊎ (r.why ≡ SimError.NoMemory)) }
         ensures back { IfErr result (λ r. (r.line ≡ line) × (r.modem ≡ modem) × (r.script ≡ script)) }
     {
         match Room::new(alloc, n1) {
@@ -81,6 +84,7 @@ impl<L: SerialLine> Sim<L> {
     fn write(&mut self) -> Result<bool, SimError>
         ensures goes { SimGoes L.received L.sent self.old self.new }
         ensures fault { result ≡ Err SimError.Line → self.new.kept.failed ≡ true }
+        ensures others { OnErr result (IsErrOf result SimError.Line ⊎ IsErrOf result SimError.NoMemory) }
     {
         match self.kept.write(&mut self.line) {
             Ok(count) => Ok(count > 0),
@@ -92,6 +96,7 @@ impl<L: SerialLine> Sim<L> {
     fn receive(&mut self) -> Result<(), SimError>
         ensures goes { SimGoes L.received L.sent self.old self.new }
         ensures fault { result ≡ Err SimError.Line → self.new.kept.failed ≡ true }
+        ensures others { OnErr result (IsErrOf result SimError.Line ⊎ IsErrOf result SimError.NoMemory) }
     {
         match self.kept.receive(&mut self.line) {
             Ok(()) => Ok(()),
@@ -103,6 +108,7 @@ impl<L: SerialLine> Sim<L> {
     fn do_steps(&mut self) -> Result<bool, SimError>
         ensures goes { SimGoes L.received L.sent self.old self.new }
         ensures fault { result ≡ Err SimError.Line → self.new.kept.failed ≡ true }
+        ensures others { OnErr result (IsErrOf result SimError.Line ⊎ IsErrOf result SimError.NoMemory) }
     {
         self.kept.do_steps()
     }
@@ -111,6 +117,7 @@ impl<L: SerialLine> Sim<L> {
     fn work(&mut self) -> Result<bool, SimError>
         ensures goes { SimGoes L.received L.sent self.old self.new }
         ensures fault { result ≡ Err SimError.Line → self.new.kept.failed ≡ true }
+        ensures others { OnErr result (IsErrOf result SimError.Line ⊎ IsErrOf result SimError.NoMemory) }
     {
         self.kept.work()
     }
@@ -126,6 +133,7 @@ impl<L: SerialLine> Sim<L> {
     fn go_on(&mut self) -> Result<bool, SimError>
         ensures goes { SimGoes L.received L.sent self.old self.new }
         ensures fault { result ≡ Err SimError.Line → self.new.kept.failed ≡ true }
+        ensures others { OnErr result (IsErrOf result SimError.Line ⊎ IsErrOf result SimError.NoMemory) }
     {
         let done = self.do_steps()?;
         let wrote = self.write()?;
@@ -142,6 +150,7 @@ impl<L: SerialLine> Sim<L> {
         ensures goes { SimGoes L.received L.sent self.old self.new }
         ensures failed { self.old.kept.failed ≡ true → (result ≡ Err SimError.Failed) × (self.new ≡ self.old) }
         ensures fault { result ≡ Err SimError.Line → self.new.kept.failed ≡ true }
+        ensures others { OnErr result (IsErrOf result SimError.Line ⊎ (IsErrOf result SimError.NoMemory ⊎ IsErrOf result SimError.Failed)) }
         ensures ended { IfOk result (λ turn. turn ≡ SimTurn.Ended → is_ended self.new.kept ≡ true) }
         ensures goes_on { IfOk result (λ turn. is_ended self.new.kept ≡ true → turn ≡ SimTurn.Ended) }
     {
