@@ -1,5 +1,5 @@
 //! A simulated modem at its line.
-ghost use Rattle.std.specs.Prelude.{◌≡◌, ◌↔◌, ◌⊎◌, ◌+◌, ◌<◌, ◌≤◌, [], true, Err, IfOk, IfErr, IsErr, OnOk, OnErr, IsErrOf};
+ghost use Rattle.std.specs.Prelude.{◌≡◌, ◌≢◌, ◌↔◌, ◌⊎◌, ◌+◌, ◌<◌, ◌≤◌, [], true, Err, IfOk, IfErr, IsErr, OnOk, OnErr, IsErrOf};
 ghost use Rattle.std.specs.Borrow.{Lends, sem};
 ghost use Rattle.modem_sim.specs.Acts.{end_of};
 ghost use Rattle.modem_sim.specs.Sims.{FitsSim, SimGoes, is_ended};
@@ -84,7 +84,10 @@ impl<L: SerialLine> Sim<L> {
     fn write(&mut self) -> Result<bool, SimError>
         ensures goes { SimGoes L.received L.sent self.old self.new }
         ensures fault { result ≡ Err SimError.Line → self.new.kept.failed ≡ true }
-        ensures others { OnErr result (IsErrOf result SimError.Line ⊎ IsErrOf result SimError.NoMemory) }
+        ensures fails { OnErr result (result ≡ Err SimError.Line) }
+        ensures bounded { L.calls self.new.line ≤ L.calls self.old.line + 1 }
+        ensures sound { OnOk result (L.failures self.new.line ≡ L.failures self.old.line) }
+        ensures failure { OnErr result (L.failures self.new.line ≡ L.failures self.old.line + 1) }
     {
         match self.kept.write(&mut self.line) {
             Ok(count) => Ok(count > 0),
@@ -96,7 +99,10 @@ impl<L: SerialLine> Sim<L> {
     fn receive(&mut self) -> Result<(), SimError>
         ensures goes { SimGoes L.received L.sent self.old self.new }
         ensures fault { result ≡ Err SimError.Line → self.new.kept.failed ≡ true }
-        ensures others { OnErr result (IsErrOf result SimError.Line ⊎ IsErrOf result SimError.NoMemory) }
+        ensures fails { OnErr result (result ≡ Err SimError.Line) }
+        ensures bounded { L.calls self.new.line ≤ L.calls self.old.line + 1 }
+        ensures sound { OnOk result (L.failures self.new.line ≡ L.failures self.old.line) }
+        ensures failure { OnErr result (L.failures self.new.line ≡ L.failures self.old.line + 1) }
     {
         match self.kept.receive(&mut self.line) {
             Ok(()) => Ok(()),
@@ -108,7 +114,8 @@ impl<L: SerialLine> Sim<L> {
     fn do_steps(&mut self) -> Result<bool, SimError>
         ensures goes { SimGoes L.received L.sent self.old self.new }
         ensures fault { result ≡ Err SimError.Line → self.new.kept.failed ≡ true }
-        ensures others { OnErr result (IsErrOf result SimError.Line ⊎ IsErrOf result SimError.NoMemory) }
+        ensures line { self.new.line ≡ self.old.line }
+        ensures no_memory { OnErr result (IsErrOf result SimError.NoMemory) }
     {
         self.kept.do_steps()
     }
@@ -117,7 +124,8 @@ impl<L: SerialLine> Sim<L> {
     fn work(&mut self) -> Result<bool, SimError>
         ensures goes { SimGoes L.received L.sent self.old self.new }
         ensures fault { result ≡ Err SimError.Line → self.new.kept.failed ≡ true }
-        ensures others { OnErr result (IsErrOf result SimError.Line ⊎ IsErrOf result SimError.NoMemory) }
+        ensures line { self.new.line ≡ self.old.line }
+        ensures no_memory { OnErr result (IsErrOf result SimError.NoMemory) }
     {
         self.kept.work()
     }
@@ -125,6 +133,7 @@ impl<L: SerialLine> Sim<L> {
     /// Gives what was read to the deframer.
     fn feed(&mut self) -> bool
         ensures goes { SimGoes L.received L.sent self.old self.new }
+        ensures line { self.new.line ≡ self.old.line }
     {
         self.kept.feed()
     }
@@ -134,6 +143,9 @@ impl<L: SerialLine> Sim<L> {
         ensures goes { SimGoes L.received L.sent self.old self.new }
         ensures fault { result ≡ Err SimError.Line → self.new.kept.failed ≡ true }
         ensures others { OnErr result (IsErrOf result SimError.Line ⊎ IsErrOf result SimError.NoMemory) }
+        ensures bounded { L.calls self.new.line ≤ L.calls self.old.line + 2 }
+        ensures sound { result ≢ Err SimError.Line → L.failures self.new.line ≡ L.failures self.old.line }
+        ensures failure { result ≡ Err SimError.Line → L.failures self.new.line ≡ L.failures self.old.line + 1 }
     {
         let done = self.do_steps()?;
         let wrote = self.write()?;
@@ -153,6 +165,9 @@ impl<L: SerialLine> Sim<L> {
         ensures others { OnErr result (IsErrOf result SimError.Line ⊎ (IsErrOf result SimError.NoMemory ⊎ IsErrOf result SimError.Failed)) }
         ensures ended { IfOk result (λ turn. turn ≡ SimTurn.Ended → is_ended self.new.kept ≡ true) }
         ensures goes_on { IfOk result (λ turn. is_ended self.new.kept ≡ true → turn ≡ SimTurn.Ended) }
+        ensures bounded { L.calls self.new.line ≤ L.calls self.old.line + 2 }
+        ensures sound { result ≢ Err SimError.Line → L.failures self.new.line ≡ L.failures self.old.line }
+        ensures failure { result ≡ Err SimError.Line → L.failures self.new.line ≡ L.failures self.old.line + 1 }
     {
         if self.kept.is_failed() {
             return Err(SimError::Failed);
