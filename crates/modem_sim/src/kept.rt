@@ -1,5 +1,5 @@
 //! What a simulated modem keeps beside its line.
-ghost use Rattle.std.specs.Prelude.{◌≡◌, ◌↔◌, ◌⊎◌, ◌<◌, ◌≤◌, [], ◌++◌, length, take, drop, true, IfOk, OnOk, OnErr, IsErrOf};
+ghost use Rattle.std.specs.Prelude.{◌≡◌, ◌↔◌, ◌⊎◌, ◌+◌, ◌<◌, ◌≤◌, [], ◌++◌, length, take, drop, true, IfOk, OnOk, OnErr, IsErrOf};
 ghost use Rattle.mux_frame.specs.Frames.{frame_of};
 ghost use Rattle.modem_sim.specs.Sims.{BeginsAt, KeptFits, KeptGoes, Receives, is_ended, pending_frame};
 ghost use Rattle.modem_sim.specs.Acts.{end_of};
@@ -272,6 +272,9 @@ impl Kept {
         ensures none_went { OnErr result (L.sent line.new ≡ L.sent line.old) }
         ensures err { OnErr result (self.new ≡ record self.old { failed = true }) }
         ensures none_came { L.received line.new ≡ L.received line.old }
+        ensures bounded { L.calls line.new ≤ L.calls line.old + 1 }
+        ensures sound { OnOk result (L.failures line.new ≡ L.failures line.old) }
+        ensures failure { OnErr result (L.failures line.new ≡ L.failures line.old + 1) }
     {
         if self.out.is_empty() {
             return Ok(0);
@@ -294,6 +297,9 @@ impl Kept {
         ensures none_came { OnErr result (L.received line.new ≡ L.received line.old) }
         ensures err { OnErr result (self.new ≡ record self.old { failed = true }) }
         ensures none_went { L.sent line.new ≡ L.sent line.old }
+        ensures bounded { L.calls line.new ≤ L.calls line.old + 1 }
+        ensures sound { OnOk result (L.failures line.new ≡ L.failures line.old) }
+        ensures failure { OnErr result (L.failures line.new ≡ L.failures line.old + 1) }
     {
         if !self.unfed.is_empty() {
             return Ok(());

@@ -1,5 +1,5 @@
 //! A simulated modem at its line.
-ghost use Rattle.std.specs.Prelude.{◌≡◌, ◌↔◌, ◌⊎◌, ◌+◌, ◌<◌, ◌≤◌, [], true, Err, IfOk, IfErr, OnOk, OnErr, IsErrOf};
+ghost use Rattle.std.specs.Prelude.{◌≡◌, ◌≢◌, ◌↔◌, ◌⊎◌, ◌+◌, ◌<◌, ◌≤◌, [], true, Err, IfOk, IfErr, IsErr, OnOk, OnErr, IsErrOf};
 ghost use Rattle.std.specs.Borrow.{Lends, sem};
 ghost use Rattle.modem_sim.specs.Acts.{end_of};
 ghost use Rattle.modem_sim.specs.Sims.{FitsSim, SimGoes, is_ended};
@@ -61,6 +61,9 @@ impl<L: SerialLine> Sim<L> {
     ) -> Result<Sim<L>, SimRefused<L>>
         ensures begins { IfOk result (λ s. FitsSim L.received L.sent (record { received = L.received line; sent = L.sent line }) (end_of n1 modem script) s []) }
         ensures line { IfOk result (λ s. s.line ≡ line) }
+        ensures bad_n1 { (IfErr result (λ r. r.why ≡ SimError.BadN1 → ((n1 < 31) ⊎ (32767 < n1))))
+            × (((n1 < 31) ⊎ (32767 < n1)) → IsErr result × IfErr result (λ r. r.why ≡ SimError.BadN1)) }
+        ensures others { IfErr result (λ r. (r.why ≡ SimError.BadN1) ⊎ (r.why ≡ SimError.NoMemory)) }
         ensures back { IfErr result (λ r. (r.line ≡ line) × (r.modem ≡ modem) × (r.script ≡ script)) }
     {
         match Room::new(alloc, n1) {
@@ -81,6 +84,10 @@ impl<L: SerialLine> Sim<L> {
     fn write(&mut self) -> Result<bool, SimError>
         ensures goes { SimGoes L.received L.sent self.old self.new }
         ensures fault { result ≡ Err SimError.Line → self.new.kept.failed ≡ true }
+        ensures fails { OnErr result (result ≡ Err SimError.Line) }
+        ensures bounded { L.calls self.new.line ≤ L.calls self.old.line + 1 }
+        ensures sound { OnOk result (L.failures self.new.line ≡ L.failures self.old.line) }
+        ensures failure { OnErr result (L.failures self.new.line ≡ L.failures self.old.line + 1) }
     {
         match self.kept.write(&mut self.line) {
             Ok(count) => Ok(count > 0),
@@ -92,6 +99,10 @@ impl<L: SerialLine> Sim<L> {
     fn receive(&mut self) -> Result<(), SimError>
         ensures goes { SimGoes L.received L.sent self.old self.new }
         ensures fault { result ≡ Err SimError.Line → self.new.kept.failed ≡ true }
+        ensures fails { OnErr result (result ≡ Err SimError.Line) }
+        ensures bounded { L.calls self.new.line ≤ L.calls self.old.line + 1 }
+        ensures sound { OnOk result (L.failures self.new.line ≡ L.failures self.old.line) }
+        ensures failure { OnErr result (L.failures self.new.line ≡ L.failures self.old.line + 1) }
     {
         match self.kept.receive(&mut self.line) {
             Ok(()) => Ok(()),
@@ -103,6 +114,8 @@ impl<L: SerialLine> Sim<L> {
     fn do_steps(&mut self) -> Result<bool, SimError>
         ensures goes { SimGoes L.received L.sent self.old self.new }
         ensures fault { result ≡ Err SimError.Line → self.new.kept.failed ≡ true }
+        ensures line { self.new.line ≡ self.old.line }
+        ensures no_memory { OnErr result (IsErrOf result SimError.NoMemory) }
     {
         self.kept.do_steps()
     }
@@ -111,6 +124,8 @@ impl<L: SerialLine> Sim<L> {
     fn work(&mut self) -> Result<bool, SimError>
         ensures goes { SimGoes L.received L.sent self.old self.new }
         ensures fault { result ≡ Err SimError.Line → self.new.kept.failed ≡ true }
+        ensures line { self.new.line ≡ self.old.line }
+        ensures no_memory { OnErr result (IsErrOf result SimError.NoMemory) }
     {
         self.kept.work()
     }
@@ -118,6 +133,7 @@ impl<L: SerialLine> Sim<L> {
     /// Gives what was read to the deframer.
     fn feed(&mut self) -> bool
         ensures goes { SimGoes L.received L.sent self.old self.new }
+        ensures line { self.new.line ≡ self.old.line }
     {
         self.kept.feed()
     }
@@ -126,6 +142,10 @@ impl<L: SerialLine> Sim<L> {
     fn go_on(&mut self) -> Result<bool, SimError>
         ensures goes { SimGoes L.received L.sent self.old self.new }
         ensures fault { result ≡ Err SimError.Line → self.new.kept.failed ≡ true }
+        ensures others { OnErr result (IsErrOf result SimError.Line ⊎ IsErrOf result SimError.NoMemory) }
+        ensures bounded { L.calls self.new.line ≤ L.calls self.old.line + 2 }
+        ensures sound { result ≢ Err SimError.Line → L.failures self.new.line ≡ L.failures self.old.line }
+        ensures failure { result ≡ Err SimError.Line → L.failures self.new.line ≡ L.failures self.old.line + 1 }
     {
         let done = self.do_steps()?;
         let wrote = self.write()?;
@@ -142,8 +162,12 @@ impl<L: SerialLine> Sim<L> {
         ensures goes { SimGoes L.received L.sent self.old self.new }
         ensures failed { self.old.kept.failed ≡ true → (result ≡ Err SimError.Failed) × (self.new ≡ self.old) }
         ensures fault { result ≡ Err SimError.Line → self.new.kept.failed ≡ true }
+        ensures others { OnErr result (IsErrOf result SimError.Line ⊎ (IsErrOf result SimError.NoMemory ⊎ IsErrOf result SimError.Failed)) }
         ensures ended { IfOk result (λ turn. turn ≡ SimTurn.Ended → is_ended self.new.kept ≡ true) }
         ensures goes_on { IfOk result (λ turn. is_ended self.new.kept ≡ true → turn ≡ SimTurn.Ended) }
+        ensures bounded { L.calls self.new.line ≤ L.calls self.old.line + 2 }
+        ensures sound { result ≢ Err SimError.Line → L.failures self.new.line ≡ L.failures self.old.line }
+        ensures failure { result ≡ Err SimError.Line → L.failures self.new.line ≡ L.failures self.old.line + 1 }
     {
         if self.kept.is_failed() {
             return Err(SimError::Failed);
