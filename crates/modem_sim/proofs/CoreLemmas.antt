@@ -35,7 +35,7 @@ use Rattle.modem_sim.specs.Heard.{heard, texts_of, modem_after, run_on, lines_en
 use Rattle.modem_sim.specs.Boxes.{Box, Brought, FitsOpen, fresh_box, queue_of, box_turned, box_heard}
 use Rattle.modem_sim.specs.Doing.{call_owed, done, is_closed_down}
 use Rattle.modem_sim.specs.Histories.{EachAllowed, got, sent}
-use Rattle.modem_sim.specs.Cores.{Core, Wired, IsLater, GoesFrom, Fits, GoesOn, Takes, box_at, brought, closes_in, closes_all, counted, kept_in, lines_in, octets_in, opens_in, sent_after, answered, nothing_wired, that_act}
+use Rattle.modem_sim.specs.Cores.{Core, Wired, IsLater, Fits, GoesOn, Takes, box_at, brought, closes_in, closes_all, counted, kept_in, lines_in, octets_in, opens_in, sent_after, answered, nothing_wired, that_act}
 use Rattle.modem_sim.proofs.BoxLemmas.{IsBrought, box_goes_on, count_goes_on, modem_goes_on, box_still, sent_still}
 
 pub wire-sent_after : (fs : List Frame) (past : List Act) → wire (sent_after fs past) ≡ sending.sent_after fs (wire past)

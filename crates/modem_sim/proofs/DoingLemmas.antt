@@ -1,5 +1,5 @@
 -- The steps of a script are done.
-use Rattle.std.specs.Prelude.{◌≡◌, ℕ, zero, suc, ◌+◌, ◌<◌, ◌≤◌, nat_le, nat_lt, ◌==◌, ◌&&◌, ◌||◌, Result, Ok, Err, OnOk, is_ok, Bool, true, false, List, [], ◌∷◌, ◌++◌, length, drop, filter, min, Option, None, Some, slice_index_or, slice_set, refl, if◌then◌else◌}
+use Rattle.std.specs.Prelude.{◌≡◌, ℕ, zero, suc, ◌+◌, ◌<◌, ◌≤◌, nat_le, nat_lt, ◌==◌, ◌&&◌, ◌||◌, Result, Ok, Err, OnOk, is_ok, Bool, true, false, List, [], ◌∷◌, ◌++◌, length, drop, Option, None, Some, slice_index_or, slice_set, refl, if◌then◌else◌}
 use Rattle.std.specs.List.{list_all}
 use Rattle.std.specs.Result.{result_err}
 use Rattle.std.proofs.Common.{lit<, arith, sym, ap, ◌∙◌, subst, append_assoc, append-nil, length-append, get_or}
@@ -19,18 +19,18 @@ use Rattle.mux_station.proofs.Asking.{sees_the_past}
 use Rattle.modem_sim.specs.declared.script.Step.{Step}
 use Rattle.modem_sim.specs.declared.script.StepAct.{StepAct}
 use Rattle.modem_sim.specs.declared.script.StepAct.TheVariants.{Announce, Flow, Hold, Disconnect, CloseDown}
-use Rattle.modem_sim.specs.Acts.{Act, Wire, Did, End, setting, wire, is_open}
+use Rattle.modem_sim.specs.Acts.{Act, Wire, Did, End, wire, is_open}
 use Rattle.modem_sim.specs.Heard.{heard}
 use Rattle.modem_sim.specs.Pieces.{Announced, framed, spelled}
 use Rattle.modem_sim.specs.Outboxes.{Outbox, outbox, hold_on, is_holding}
-use Rattle.modem_sim.specs.Boxes.{Box, BoxFits, FitsOpen, fresh_box, lasting, is_released, released, box_announced, box_holding}
-use Rattle.modem_sim.specs.Doing.{acts, call_of, call_owed, done, left, named_by, closes_down}
+use Rattle.modem_sim.specs.Boxes.{Box, BoxFits, FitsOpen, fresh_box, is_released, released, box_announced, box_holding}
+use Rattle.modem_sim.specs.Doing.{acts, call_of, done, left, named_by, closes_down}
 use Rattle.modem_sim.specs.Histories.{Allows, MayDo, IsAsked}
-use Rattle.modem_sim.specs.Cores.{AtStation, asks_nothing, asks, Core, Wired, IsLater, GoesFrom, Goes, Fits, are_open_in, boxes_done, closes_by, counted, that_act}
+use Rattle.modem_sim.specs.Cores.{AtStation, asks_nothing, asks, Core, Wired, GoesFrom, Goes, Fits, are_open_in, boxes_done, closes_by, counted, that_act}
 use Rattle.modem_sim.proofs.HistoryLemmas.{spelled-append}
 use Rattle.modem_sim.proofs.BoxLemmas.{box_still, called_still}
 use Rattle.modem_sim.proofs.CoreLemmas.{box_here, opened_is}
-use Rattle.modem_sim.proofs.HandingLemmas.{Stands, Calls, called_goes, released_fits, said_is, same_held, stays}
+use Rattle.modem_sim.proofs.HandingLemmas.{Stands, called_goes, released_fits, said_is, same_held, stays}
 
 -- ## Boxes
 

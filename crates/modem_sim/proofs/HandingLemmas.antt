@@ -1,7 +1,7 @@
 -- What an end says of its own accord, and what it hands to its station.
-use Rattle.std.specs.Prelude.{◌≡◌, ◌≢◌, ℕ, zero, suc, ◌+◌, ◌-◌, ◌<◌, ◌≤◌, nat_le, nat_eq, ◌==◌, ◌&&◌, ◌||◌, not, Result, Ok, Err, OnOk, is_ok, Bool, true, false, List, [], ◌∷◌, ◌++◌, length, take, drop, min, map, Option, None, Some, option_map, slice_index_or, slice_set, refl, if◌then◌else◌}
-use Rattle.std.specs.List.{starts_with, list_all}
-use Rattle.std.proofs.Common.{lit<, arith, sym, ap, ◌∙◌, subst, append_assoc, append-nil, take-append-drop}
+use Rattle.std.specs.Prelude.{◌≡◌, ℕ, zero, suc, ◌+◌, ◌<◌, nat_eq, ◌==◌, ◌&&◌, ◌||◌, not, Bool, true, false, List, [], ◌∷◌, ◌++◌, length, take, drop, Option, None, Some, option_map, slice_index_or, slice_set, refl, if◌then◌else◌}
+use Rattle.std.specs.List.{starts_with}
+use Rattle.std.proofs.Common.{arith, sym, ap, ◌∙◌, subst, append_assoc, append-nil}
 use Rattle.std.proofs.lemmas.Bool.Decides.{nat_tests}
 use Rattle.std.proofs.lemmas.List.{append_cancel_right}
 use Rattle.mux_station.specs.declared.role.Role.TheVariants.{Responder}
@@ -16,16 +16,15 @@ use Rattle.mux_station.specs.Offering.{offered}
 use Rattle.mux_station.specs.States.{is_opened}
 use Rattle.mux_station.proofs.Answering.{answers_keep}
 use Rattle.modem_sim.specs.declared.script.StepAct.TheVariants.{Announce, Flow, Hold, Disconnect, CloseDown}
-use Rattle.modem_sim.specs.Acts.{Act, Wire, Did, End, setting, wire, is_open}
+use Rattle.modem_sim.specs.Acts.{Act, Wire, Did, End, setting, wire}
 use Rattle.modem_sim.specs.Heard.{heard, texts_of, modem_after}
 use Rattle.modem_sim.specs.Laws.{after_lines}
-use Rattle.modem_sim.specs.Pieces.{Piece, Announced, framed, spelled}
-use Rattle.modem_sim.specs.Outboxes.{Outbox, empty_box, outbox, said_after, dropped, say, replies_by, hold_on, lasts, is_holding, brings_command}
+use Rattle.modem_sim.specs.Pieces.{Announced, spelled}
+use Rattle.modem_sim.specs.Outboxes.{Outbox, empty_box, outbox, said_after, dropped, say, replies_by, hold_on, lasts, is_holding}
 use Rattle.modem_sim.specs.Boxes.{Box, Waited, BoxFits, FitsOpen, fresh_box, lasting, is_released, released}
-use Rattle.modem_sim.specs.Doing.{call_owed, done, left, is_closed_down, closes_down}
-use Rattle.modem_sim.specs.Histories.{EachAllowed, Allows, IsOffer, got, sent}
-use Rattle.modem_sim.specs.Cores.{Core, Wired, IsLater, GoesFrom, Goes, GivesOut, IsHandedOn, Fits, answered, boxed, box_at, counted, sent_after, that_act}
-use Rattle.modem_sim.proofs.HistoryLemmas.{spelled-append}
+use Rattle.modem_sim.specs.Doing.{left, is_closed_down, closes_down}
+use Rattle.modem_sim.specs.Histories.{EachAllowed, Allows, got, sent}
+use Rattle.modem_sim.specs.Cores.{Core, Wired, IsLater, GoesFrom, Goes, GivesOut, IsHandedOn, Fits, answered, boxed, box_at, counted, that_act}
 use Rattle.modem_sim.proofs.BoxLemmas.{box_still, called_still, given_still, sent_still}
 use Rattle.modem_sim.proofs.CoreLemmas.{later-sent_after, sent_queued, wire-sent_after, heard-sent_after, owed-sent_after, allowed-sent_after, box-sent_after, done-sent_after, closed-sent_after, got-sent_after, box_here, opened_is}
 

@@ -1,10 +1,10 @@
 -- A simulated modem at its line goes on.
-use Rattle.std.specs.Prelude.{◌≡◌, ℕ, ◌==◌, ◌&&◌, ◌≤◌, is_none, Bool, true, false, List, [], ◌∷◌, ◌++◌, Option, Some, None, option_map, Result, Ok, Err, IfOk, OnOk, OnErr, take, drop, length, refl}
+use Rattle.std.specs.Prelude.{◌≡◌, ℕ, ◌==◌, ◌&&◌, is_none, Bool, true, List, [], ◌∷◌, ◌++◌, Option, Some, None, option_map, Result, Ok, Err, IfOk, OnOk, OnErr, take, drop, length, refl}
 use Rattle.std.specs.List.{flat_map}
 use Rattle.std.proofs.Common.{arith, sym, ap, ◌∙◌, subst, append_assoc, append-nil, take-append-drop}
 use Rattle.std.proofs.lemmas.Grind.{flat_map-append}
 use Rattle.mux_frame.specs.Frames.{Frame}
-use Rattle.mux_frame.specs.Deframing.{Deframing, Deframes, HandsOver, TakesIn}
+use Rattle.mux_frame.specs.Deframing.{Deframing, HandsOver, TakesIn}
 use Rattle.mux_frame.specs.Spelling as spelling
 use Rattle.mux_frame.specs.Reading.{Reads}
 use Rattle.mux_frame.proofs.Slow.{total_reading}
@@ -15,8 +15,8 @@ use Rattle.mux_station.specs.Stations as stations
 use Rattle.mux_station.specs.Giving.{data_frame, data_given, given_on, next_given, next_turn}
 use Rattle.mux_station.specs.GivenFrames.{Outgoing, with_freshness}
 use Rattle.modem_sim.specs.Acts.{Act, End}
-use Rattle.modem_sim.specs.Cores.{Core, Wired, Fits, IsLater, GoesFrom, Goes, GoesOn, GivesOut, gone_on}
-use Rattle.modem_sim.specs.Sims.{Kept, KeptFits, KeptFrom, KeptGoes, Receives, SimState, FitsSim, SimGoes, Simulates, IsOver, is_ended, spelled_next}
+use Rattle.modem_sim.specs.Cores.{Core, Wired, Fits, GoesFrom, Goes, GoesOn, GivesOut, gone_on}
+use Rattle.modem_sim.specs.Sims.{Kept, KeptFits, KeptGoes, Receives, SimState, SimGoes, Simulates, IsOver, is_ended, spelled_next}
 use Rattle.modem_sim.proofs.HandingLemmas.{later_then}
 
 pub kept_none : (k : Kept) → KeptGoes k k

@@ -18,7 +18,7 @@ use Rattle.modem_sim.specs.Laws.{after_lines}
 use Rattle.modem_sim.specs.Pieces.{spelled, replies}
 use Rattle.modem_sim.specs.declared.script.Step.{Step}
 use Rattle.modem_sim.specs.declared.script.StepAct.{StepAct}
-use Rattle.modem_sim.specs.declared.script.StepAct.TheVariants.{Announce, Flow, Hold, Disconnect, CloseDown}
+use Rattle.modem_sim.specs.declared.script.StepAct.TheVariants.{Announce, Hold, CloseDown}
 use Rattle.modem_sim.specs.declared.state.ModemState.{ModemState}
 use Rattle.modem_sim.specs.Acts.{Act, Wire, End, setting, wire}
 use Rattle.modem_sim.specs.Heard.{heard, modem_after}

@@ -1,4 +1,4 @@
-use Rattle.std.proofs.Common.{◌≡◌, arith, sym, ap, ◌∙◌, get_or, slice_set, map, take, drop, ◌++◌, List}
+use Rattle.std.proofs.Common.{arith, ap, ◌∙◌, get_or, slice_set}
 use Rattle.std.proofs.lemmas.List.Edits.{map_over_more}
 use Rattle.modem_sim.specs.Boxes.{Box, box_heard}
 use Rattle.modem_sim.proofs.channel.hear_all.Goals as goal

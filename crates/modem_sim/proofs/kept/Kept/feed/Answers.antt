@@ -1,5 +1,5 @@
-use Rattle.std.proofs.Common.{ap, sym, ◌∙◌, subst, option_map, take, drop, List, ℕ}
-use Rattle.mux_frame.specs.Deframing.{Deframing, TakesIn}
+use Rattle.std.proofs.Common.{sym, subst, option_map, take, List, ℕ}
+use Rattle.mux_frame.specs.Deframing.{TakesIn}
 use Rattle.modem_sim.specs.Sims.{Kept, KeptGoes, pending_frame}
 use Rattle.modem_sim.proofs.SimLemmas.{kept_fed}
 use Rattle.modem_sim.proofs.kept.Kept.feed.Goals as goal

@@ -1,7 +1,5 @@
-use Rattle.std.proofs.Common.{◌≡◌, ◌==◌, length, refl, ap, sym, ◌∙◌, subst, option_map, Some, None, Option, is_some, Bool, true, false}
-use Rattle.mux_frame.specs.Frames.{Frame}
+use Rattle.std.proofs.Common.{◌≡◌, ◌==◌, length, refl, sym, subst, option_map, Some, None, Option, is_some, false}
 use Rattle.mux_station.specs.GivenFrames.{outgoing_of}
-use Rattle.modem_sim.specs.Cores.{Core}
 use Rattle.modem_sim.specs.Sims.{Kept, KeptGoes, pending_frame}
 use Rattle.modem_sim.proofs.SimLemmas.{kept_core, fetched_none, fetched_some}
 use Rattle.modem_sim.proofs.kept.Kept.fetch.Goals as goal

@@ -1,9 +1,9 @@
-use Rattle.std.proofs.Common.{Bool, List, ◌∷◌, ◌≡◌, ◌+◌, ◌||◌, drop, refl, sym, ap, ◌∙◌, subst, arith}
+use Rattle.std.proofs.Common.{Bool, List, ◌∷◌, ◌≡◌, ◌+◌, ◌||◌, drop, sym, ap, ◌∙◌, subst, arith}
 use Rattle.std.proofs.lemmas.Bool.Decides.{nat_tests}
 use Rattle.modem_sim.proofs.CoreLemmas.{either_way}
 use Rattle.modem_sim.specs.declared.script.Step.{Step}
-use Rattle.modem_sim.specs.Cores.{Core, Goes, are_open_in, boxes_done, closes_by}
-use Rattle.modem_sim.proofs.DoingLemmas.{does_goes, passes_goes, step_at}
+use Rattle.modem_sim.specs.Cores.{Core, Goes, boxes_done}
+use Rattle.modem_sim.proofs.DoingLemmas.{does_goes, step_at}
 use Rattle.modem_sim.proofs.sim_core.SimCore.do_next.Goals as goal
 
 pub returns-clause-goes : goal.returns-clause-goes

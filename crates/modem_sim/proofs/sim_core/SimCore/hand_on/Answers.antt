@@ -1,4 +1,4 @@
-use Rattle.std.proofs.Common.{◌≡◌, ◌<◌, drop, min, length, slice_index_or, slice_set, refl, sym, ap, ◌∙◌, subst, arith}
+use Rattle.std.proofs.Common.{◌≡◌, ◌<◌, drop, min, length, slice_index_or, slice_set, ap, ◌∙◌, subst, arith}
 use Rattle.mux_station.specs.States.{is_opened}
 use Rattle.mux_station.specs.Acts as station
 use Rattle.mux_station.specs.Fitting as fitting

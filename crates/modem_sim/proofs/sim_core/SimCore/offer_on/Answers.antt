@@ -1,4 +1,3 @@
-use Rattle.std.proofs.Common.{refl, sym, ap, ◌∙◌}
 use Rattle.modem_sim.proofs.HandingLemmas.{goes_then, goes_either, release_goes}
 use Rattle.modem_sim.proofs.sim_core.SimCore.offer_on.Goals as goal
 
