@@ -2,7 +2,7 @@
 use Rattle.std.proofs.Common.{ap, sym, ◌∙◌, subst, append-nil, eqb-true}
 use Rattle.std.proofs.lemmas.Bool.{and_parts, and_from}
 use Rattle.std.proofs.lemmas.List.{append_cancel_left, length-append}
-use Rattle.std.specs.Prelude.{◌≡◌, ℕ, ◌+◌, ◌≤◌, ◌==◌, ◌&&◌, ◌||◌, not, Bool, true, false, List, [], ◌∷◌, ◌++◌, length, map, filter, drop, refl, if◌then◌else◌, None}
+use Rattle.std.specs.Prelude.{◌≡◌, ℕ, ◌+◌, ◌==◌, ◌&&◌, ◌||◌, not, Bool, true, false, List, [], ◌∷◌, ◌++◌, length, map, filter, drop, refl, if◌then◌else◌, None}
 use Rattle.std.specs.List.{concat}
 use Rattle.mux_frame.specs.Frames.{Frame}
 use Rattle.mux_frame.specs.declared.frame.Kind.TheVariants.{Sabm, Ua, Dm, Disc, Uih}
@@ -17,13 +17,13 @@ use Rattle.modem_desk.specs.declared.request.Request.{Request}
 use Rattle.modem_history.specs.Acts.{Act, Took, Got, Sent, Told, Heard, Tick, Lost, Held, Freed, Given, wire}
 use Rattle.modem_history.specs.Calls.{Setting}
 use Rattle.modem_history.specs.Connections.{carries, commands_ended, info_of, information_sent, lines_got, whole_in, wholly_sent, with_cr}
-use Rattle.modem_history.specs.Information.{accepted, command_on, information_out, is_accepted, line_of, opens_here, texts}
+use Rattle.modem_history.specs.Information.{accepted, is_accepted, line_of, opens_here, texts}
 use Rattle.modem_history.specs.Lawful.{Gated, Lawful, When, owed}
 use Rattle.modem_history.specs.Placements.{AreCommandLines, AreReadAsSent}
-use Rattle.modem_history.specs.TwoEnds.{AsksOnce, ComesInOrder, IsAmong, ReadsInOrder, TakesCommandLines, commands_sent, commands_with, frames_got, frames_sent}
+use Rattle.modem_history.specs.TwoEnds.{AsksOnce, IsAmong, ReadsInOrder, TakesCommandLines, commands_sent, commands_with, frames_got, frames_sent}
 use Rattle.modem_history.specs.Wholes.{IsPrefixOf}
-use Rattle.modem_history.proofs.FramesOnLine.{AsksOne, among_then, ComesBehind, asked_first, asks_fewer, asks_older, behind_older, info_in, info_none, lines_among, lines_at, lines_in, lines_later, none_asked, sabm_carries_none}
-use Rattle.modem_history.proofs.Growing.{is_got, is_sent, opens_none, sent_grows, sent_same, sent_still}
+use Rattle.modem_history.proofs.FramesOnLine.{AsksOne, among_then, ComesBehind, asked_first, asks_fewer, asks_older, behind_older, info_in, info_none, lines_among, lines_at, lines_in, lines_later, none_asked}
+use Rattle.modem_history.proofs.Growing.{is_got, is_sent, sent_grows, sent_same, sent_still}
 use Rattle.modem_history.proofs.Leaving.{leaves_once}
 use Rattle.modem_history.proofs.MarksPlaced.{texts_are}
 use Rattle.modem_history.proofs.PlacedCommands.{whole_grows}
@@ -94,10 +94,12 @@ come d past f ua asked i e w on was is word opens o k h = record {
     shut true false false g x = refl
     shut false a true g x = cc
     shut false a false g x = refl
+
     unopened : (u a j : Bool) → u ≡ false → j ≡ false → ((u && a) || (j && e)) ≡ false
     unopened true a j g x = cc
     unopened false a true g x = cc
     unopened false a false g x = refl
+
     by_opening : (u a : Bool) → (a ≡ true → info_in d (frames_sent past) ≡ []) → (if u && a then [] else information_sent Initiator d past) ≡ information_sent Initiator d past
     by_opening true true none = sym (h.all ∙ none refl)
     by_opening true false none = refl
@@ -123,6 +125,7 @@ sent d past f sabm carry e w on carried gated one o k h = record {
     neither true b g x = cc
     neither false true g x = cc
     neither false false g x = refl
+
     -- where d isn't open no information is sent on it
     not_carried : is_open Initiator d past ≡ false → carries d f ≡ false
     not_carried shut = by_carry carry refl
@@ -130,8 +133,10 @@ sent d past f sabm carry e w on carried gated one o k h = record {
         by_carry : (c : Bool) → carry ≡ c → carries d f ≡ false
         by_carry true g = never (sym shut ∙ gated g)
         by_carry false g = carried ∙ g
+
     nothing : is_open Initiator d past ≡ false → info_in d (frames_sent past) ≡ [] → info_in d (f ∷ frames_sent past) ≡ []
     nothing shut none = ap (λ (xs : List ℕ). xs ++ info_of d f) none ∙ info_none d f (not_carried shut)
+
     by_sabm : (b : Bool) → sabm ≡ b → (b || (is_asked d past && w)) ≡ true → (is_open Initiator d (station.Sent f ∷ past) ≡ false) × (info_in d (frames_sent (station.Sent f ∷ past)) ≡ [])
     by_sabm true g x =
         let old = h.unasked (asked_first d f (frames_sent past) one (on ∙ g)) in
@@ -139,6 +144,7 @@ sent d past f sabm carry e w on carried gated one o k h = record {
     by_sabm false g x =
         let old = h.asked (on_and (is_asked d past) w x) in
         (o ∙ off_and (is_open Initiator d past) e old.0, nothing old.0 old.1)
+
     grows : (c : Bool) → (c ≡ true → is_open Initiator d past ≡ true)
         → (if c && is_open Initiator d past then information_sent Initiator d past ++ f.info else information_sent Initiator d past) ≡ information_sent Initiator d past ++ (if c then f.info else [])
     grows true g = ap (λ (b : Bool). if b then information_sent Initiator d past ++ f.info else information_sent Initiator d past) (g refl)
@@ -252,7 +258,7 @@ ended_are cs out info h p q =
     let before : lines out ≡ wholly_sent (length out) cs = read_whole cs out h p in
     let after : lines (out ++ info) ≡ wholly_sent (length out + length info) cs = read_whole cs (out ++ info) h q ∙ ap (λ (n : ℕ). wholly_sent n cs) (length-append out info) in
     append_cancel_left (wholly_sent (length out) cs) (lines (kept_run out ++ info)) (drop (whole_in (length out) (with_cr cs)) (wholly_sent (length out + length info) cs))
-        (ap (λ (ls : List (List ℕ)). ls ++ lines (kept_run out ++ info)) (sym before) ∙ (sym ((reads_on out info).reads_kept) ∙ (after ∙ sym (whole_grows (length out) (length info) cs))))
+    (ap (λ (ls : List (List ℕ)). ls ++ lines (kept_run out ++ info)) (sym before) ∙ (sym ((reads_on out info).reads_kept) ∙ (after ∙ sym (whole_grows (length out) (length info) cs))))
   where
     read_whole : (ds : List (List ℕ)) (xs : List ℕ) → AreCommandLines ds → IsPrefixOf xs (concat (with_cr ds)) → lines xs ≡ wholly_sent (length xs) ds
     read_whole ds xs k r = are_read_as_sent ds xs k r

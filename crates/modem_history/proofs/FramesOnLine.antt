@@ -7,7 +7,7 @@ use Rattle.std.specs.Prelude.{◌≡◌, ℕ, ◌+◌, ◌≤◌, ◌==◌, ◌&
 use Rattle.mux_frame.specs.Frames.{Frame}
 use Rattle.mux_frame.specs.declared.frame.Kind.{Kind}
 use Rattle.mux_frame.specs.declared.frame.Kind.TheVariants.{Sabm, Ua, Dm, Disc, Uih}
-use Rattle.mux_station.specs.declared.role.Role.TheVariants.{Initiator, Responder}
+use Rattle.mux_station.specs.declared.role.Role.TheVariants.{Responder}
 use Rattle.mux_station.specs.Written.{is_kind, is_on}
 use Rattle.mux_station.specs.Acts.{Act, Called, Got, Sent, Tick, Lost, Given}
 use Rattle.mux_station.specs.Opening.{ends, is_open, opens_now, standings}
@@ -148,6 +148,7 @@ idle d past a n same k = record {
     shut_still true i e g h = cc
     shut_still false true e g h = cc
     shut_still false false e g h = refl
+
     was_open : (o i e : Bool) → o ≡ false → (o || (i && not e)) ≡ true → i ≡ true
     was_open true i e g h = cc
     was_open false true e g h = refl
@@ -181,9 +182,11 @@ come d past f false zero i e on one behind opens was is k = record {
     shut_by : (j : Bool) → j ≡ false → (j && not e) ≡ false
     shut_by true g = cc
     shut_by false g = refl
+
     was_open : (j x : Bool) → (j && not x) ≡ true → j ≡ true
     was_open true x h = refl
     was_open false x h = cc
+
     grows : (c : Bool) → (if c && true then information_got Responder d past ++ f.info else information_got Responder d past) ≡ information_got Responder d past ++ (if c then f.info else [])
     grows true = refl
     grows false = sym (append-nil (information_got Responder d past))
@@ -192,7 +195,7 @@ pub hears : (d : ℕ) (past : List Act) → AsksOne d (frames_got past) → Come
 hears d [] one behind = record { shut = λ h. refl; all = λ h. never h }
 hears d (Got f ∷ past) one behind =
     come d past f (is_on Sabm d f) ((d == 0) || (standings Responder d past).zero.is_open) (is_open Responder d past) (ends (standings Responder d past).zero.is_open d (Got f)) refl one behind.1 refl refl refl
-        (hears d past (asks_fewer d f (frames_got past) one) behind.1)
+    (hears d past (asks_fewer d f (frames_got past) one) behind.1)
 hears d (Sent f ∷ past) one behind = idle d past (Sent f) refl refl (hears d past one behind)
 hears d (Called c ∷ past) one behind = idle d past (Called c) refl refl (hears d past one behind)
 hears d (Tick ∷ past) one behind = idle d past Tick refl refl (hears d past one behind)
@@ -206,7 +209,7 @@ lines_among (Got f ∷ past) one behind =
     let ones = λ (d : ℕ). asks_fewer d f (frames_got past) (one d) in
     let behinds = λ (d : ℕ). (behind d).1 in
     among_both (lines_got Responder past) (lines_in (frames_got past)) _ (lines_at (frames_got past) f) (lines_among past ones behinds)
-        (by_open (carries f.dlci f) (is_open Responder f.dlci past) refl ((hears f.dlci past (ones f.dlci) (behinds f.dlci)).all))
+    (by_open (carries f.dlci f) (is_open Responder f.dlci past) refl ((hears f.dlci past (ones f.dlci) (behinds f.dlci)).all))
   where
     by_open : (c o : Bool) → is_open Responder f.dlci past ≡ o → (is_open Responder f.dlci past ≡ true → information_got Responder f.dlci past ≡ info_in f.dlci (frames_got past))
         → IsAmong {A = ℕ × List ℕ} (if c && o then map (λ l. (f.dlci, l)) (lines_ended Responder f.dlci past f) else []) (if c then map (λ l. (f.dlci, l)) (lines (kept_run (info_in f.dlci (frames_got past)) ++ f.info)) else [])
