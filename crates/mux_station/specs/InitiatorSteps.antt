@@ -35,15 +35,15 @@ of_an_initiator =
     -- frees all
     ∷ asks (Open 1) (out Sabm 1 [] ∷ []) (stands IsOpened (IsOpening 0) IsShut [] None)
     ∷ comes (come Ua 1 []) Opened (out Uih 0 (227 ∷ 5 ∷ 7 ∷ 141 ∷ []) ∷ [])
-        (stands IsOpened IsOpened IsShut [] None)
+    (stands IsOpened IsOpened IsShut [] None)
     ∷ comes (come Uih 0 (227 ∷ 5 ∷ 7 ∷ 143 ∷ [])) Nothing (out Uih 0 (225 ∷ 5 ∷ 7 ∷ 143 ∷ []) ∷ [])
-        (stands IsOpened IsOpened IsShut (1 ∷ []) None)
+    (stands IsOpened IsOpened IsShut (1 ∷ []) None)
     ∷ comes (come Uih 0 (99 ∷ 3 ∷ 122 ∷ [])) Nothing (out Uih 0 (97 ∷ 3 ∷ 122 ∷ []) ∷ [])
-        (stands IsOpened IsOpened IsShut (1 ∷ 2 ∷ []) None)
+    (stands IsOpened IsOpened IsShut (1 ∷ 2 ∷ []) None)
     ∷ comes (come Uih 0 (227 ∷ 5 ∷ 7 ∷ 141 ∷ [])) Nothing (out Uih 0 (225 ∷ 5 ∷ 7 ∷ 141 ∷ []) ∷ [])
-        (stands IsOpened IsOpened IsShut (1 ∷ 2 ∷ []) None)
+    (stands IsOpened IsOpened IsShut (1 ∷ 2 ∷ []) None)
     ∷ comes (come Uih 0 (163 ∷ 1 ∷ [])) Nothing (out Uih 0 (161 ∷ 1 ∷ []) ∷ [])
-        (stands IsOpened IsOpened IsShut [] None)
+    (stands IsOpened IsOpened IsShut [] None)
     -- a SABM from the responder closes
     ∷ comes (come Sabm 1 []) Closed (out Dm 1 [] ∷ []) (stands IsOpened IsShut IsShut [] None)
     -- an opening is asked for at three ticks and given up at the fourth with a DISC; a late UA opens nothing
@@ -55,19 +55,19 @@ of_an_initiator =
     ∷ comes (come Ua 1 []) Nothing [] (stands IsOpened IsShut IsShut [] None)
     -- an NSC with two octets refuses no probe, one with one octet does
     ∷ asks (Probe (65 ∷ 66 ∷ [])) (out Uih 0 (35 ∷ 5 ∷ 65 ∷ 66 ∷ []) ∷ [])
-        (stands IsOpened IsShut IsShut [] (waiting (65 ∷ 66 ∷ []) 0))
+    (stands IsOpened IsShut IsShut [] (waiting (65 ∷ 66 ∷ []) 0))
     ∷ comes (come Uih 0 (17 ∷ 5 ∷ 35 ∷ 33 ∷ [])) Nothing []
-        (stands IsOpened IsShut IsShut [] (waiting (65 ∷ 66 ∷ []) 0))
+    (stands IsOpened IsShut IsShut [] (waiting (65 ∷ 66 ∷ []) 0))
     ∷ comes (come Uih 0 (17 ∷ 3 ∷ 33 ∷ [])) ProbeRefused [] (stands IsOpened IsShut IsShut [] None)
     -- a probe of 17 octets; PN is not supported; an NSC command, an MSC for 0 and a response of another probe are nothing
     ∷ asks (Probe (65 ∷ 66 ∷ [])) (out Uih 0 (35 ∷ 5 ∷ 65 ∷ 66 ∷ []) ∷ [])
-        (stands IsOpened IsShut IsShut [] (waiting (65 ∷ 66 ∷ []) 0))
+    (stands IsOpened IsShut IsShut [] (waiting (65 ∷ 66 ∷ []) 0))
     ∷ refuses (Probe (replicate 17 120)) TooLong
     ∷ comes (come Uih 0 (131 ∷ 1 ∷ [])) Nothing (out Uih 0 (17 ∷ 3 ∷ 131 ∷ []) ∷ [])
-        (stands IsOpened IsShut IsShut [] (waiting (65 ∷ 66 ∷ []) 0))
+    (stands IsOpened IsShut IsShut [] (waiting (65 ∷ 66 ∷ []) 0))
     ∷ comes (come Uih 0 (19 ∷ 1 ∷ [])) Nothing [] (stands IsOpened IsShut IsShut [] (waiting (65 ∷ 66 ∷ []) 0))
     ∷ comes (come Uih 0 (227 ∷ 5 ∷ 3 ∷ 143 ∷ [])) Nothing []
-        (stands IsOpened IsShut IsShut [] (waiting (65 ∷ 66 ∷ []) 0))
+    (stands IsOpened IsShut IsShut [] (waiting (65 ∷ 66 ∷ []) 0))
     ∷ comes (come Uih 0 (33 ∷ 5 ∷ 65 ∷ 66 ∷ [])) ProbeBack [] (stands IsOpened IsShut IsShut [] None)
     -- a probe of no octets; a DISC on 0 closes all, and another is answered by DM; then a Test is nothing
     ∷ asks (Probe []) (out Uih 0 (35 ∷ 1 ∷ []) ∷ []) (stands IsOpened IsShut IsShut [] (waiting [] 0))

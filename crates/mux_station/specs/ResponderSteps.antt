@@ -23,31 +23,31 @@ of_a_responder =
     comes (come Sabm 1 []) Nothing (out Dm 1 [] ∷ []) (stands IsShut IsShut IsShut [] None)
     ∷ comes (come Sabm 0 []) Opened (out Ua 0 [] ∷ []) (stands IsOpened IsShut IsShut [] None)
     ∷ comes (come Sabm 1 []) Opened (out Ua 1 [] ∷ out Uih 0 (227 ∷ 5 ∷ 7 ∷ 141 ∷ []) ∷ [])
-        (stands IsOpened IsOpened IsShut [] None)
+    (stands IsOpened IsOpened IsShut [] None)
     ∷ comes (come Sabm 2 []) Opened (out Ua 2 [] ∷ out Uih 0 (227 ∷ 5 ∷ 11 ∷ 141 ∷ []) ∷ [])
-        (stands IsOpened IsOpened IsOpened [] None)
+    (stands IsOpened IsOpened IsOpened [] None)
     -- one probe at a time
     ∷ asks (Probe (65 ∷ [])) (out Uih 0 (35 ∷ 3 ∷ 65 ∷ []) ∷ [])
-        (stands IsOpened IsOpened IsOpened [] (waiting (65 ∷ []) 0))
+    (stands IsOpened IsOpened IsOpened [] (waiting (65 ∷ []) 0))
     ∷ refuses (Probe (66 ∷ [])) Busy
     -- FCoff stops all but 0; a SABM on an open connection opens it afresh, and the stop of all stays
     ∷ comes (come Uih 0 (99 ∷ 1 ∷ [])) Nothing (out Uih 0 (97 ∷ 1 ∷ []) ∷ [])
-        (stands IsOpened IsOpened IsOpened (1 ∷ 2 ∷ []) (waiting (65 ∷ []) 0))
+    (stands IsOpened IsOpened IsOpened (1 ∷ 2 ∷ []) (waiting (65 ∷ []) 0))
     ∷ comes (come Sabm 1 []) Reset (out Ua 1 [] ∷ out Uih 0 (227 ∷ 5 ∷ 7 ∷ 141 ∷ []) ∷ [])
-        (stands IsOpened IsOpened IsOpened (1 ∷ 2 ∷ []) (waiting (65 ∷ []) 0))
+    (stands IsOpened IsOpened IsOpened (1 ∷ 2 ∷ []) (waiting (65 ∷ []) 0))
     -- an MSC stops its connection alone; a SABM on 0 opens 0 afresh, forgets stops and probe and shuts all others
     ∷ comes (come Uih 0 (227 ∷ 5 ∷ 11 ∷ 143 ∷ [])) Nothing (out Uih 0 (225 ∷ 5 ∷ 11 ∷ 143 ∷ []) ∷ [])
-        (stands IsOpened IsOpened IsOpened (1 ∷ 2 ∷ []) (waiting (65 ∷ []) 0))
+    (stands IsOpened IsOpened IsOpened (1 ∷ 2 ∷ []) (waiting (65 ∷ []) 0))
     ∷ comes (come Sabm 0 []) Reset (out Ua 0 [] ∷ []) (stands IsOpened IsShut IsShut [] None)
     -- a UA on a shut connection is nothing
     ∷ comes (come Ua 1 []) Nothing [] (stands IsOpened IsShut IsShut [] None)
     ∷ comes (come Sabm 1 []) Opened (out Ua 1 [] ∷ out Uih 0 (227 ∷ 5 ∷ 7 ∷ 141 ∷ []) ∷ [])
-        (stands IsOpened IsOpened IsShut [] None)
+    (stands IsOpened IsOpened IsShut [] None)
     -- a DISC and a SABM that cross a closing: DM, and the closing goes on; by a SABM it is open again
     ∷ asks (Close 1) (out Disc 1 [] ∷ []) (stands IsOpened (IsClosing 0) IsShut [] None)
     ∷ comes (come Disc 1 []) Nothing (out Dm 1 [] ∷ []) (stands IsOpened (IsClosing 0) IsShut [] None)
     ∷ comes (come Sabm 1 []) Opened (out Ua 1 [] ∷ out Uih 0 (227 ∷ 5 ∷ 7 ∷ 141 ∷ []) ∷ [])
-        (stands IsOpened IsOpened IsShut [] None)
+    (stands IsOpened IsOpened IsShut [] None)
     -- a closing is asked for again at a tick, and done by UA; a DM and a DISC on a shut connection
     ∷ asks (Close 1) (out Disc 1 [] ∷ []) (stands IsOpened (IsClosing 0) IsShut [] None)
     ∷ ticks (out Disc 1 [] ∷ []) (stands IsOpened (IsClosing 1) IsShut [] None)
@@ -56,11 +56,11 @@ of_a_responder =
     ∷ comes (come Disc 2 []) Nothing (out Dm 2 [] ∷ []) (stands IsOpened IsShut IsShut [] None)
     -- a DM closes
     ∷ comes (come Sabm 1 []) Opened (out Ua 1 [] ∷ out Uih 0 (227 ∷ 5 ∷ 7 ∷ 141 ∷ []) ∷ [])
-        (stands IsOpened IsOpened IsShut [] None)
+    (stands IsOpened IsOpened IsShut [] None)
     ∷ comes (come Dm 1 []) Closed [] (stands IsOpened IsShut IsShut [] None)
     -- flow of one connection and of all; a stop shuts all but 0, which is Stopping
     ∷ comes (come Sabm 1 []) Opened (out Ua 1 [] ∷ out Uih 0 (227 ∷ 5 ∷ 7 ∷ 141 ∷ []) ∷ [])
-        (stands IsOpened IsOpened IsShut [] None)
+    (stands IsOpened IsOpened IsShut [] None)
     ∷ asks (Flow 1 false) (out Uih 0 (227 ∷ 5 ∷ 7 ∷ 143 ∷ []) ∷ []) (stands IsOpened IsOpened IsShut [] None)
     ∷ asks (Flow 0 false) (out Uih 0 (99 ∷ 1 ∷ []) ∷ []) (stands IsOpened IsOpened IsShut [] None)
     ∷ asks Stop (out Uih 0 (195 ∷ 1 ∷ []) ∷ []) (stands (IsStopping 0) IsShut IsShut [] None)
@@ -79,9 +79,9 @@ of_a_responder =
     -- the initiator stops
     ∷ comes (come Sabm 0 []) Opened (out Ua 0 [] ∷ []) (stands IsOpened IsShut IsShut [] None)
     ∷ comes (come Sabm 1 []) Opened (out Ua 1 [] ∷ out Uih 0 (227 ∷ 5 ∷ 7 ∷ 141 ∷ []) ∷ [])
-        (stands IsOpened IsOpened IsShut [] None)
+    (stands IsOpened IsOpened IsShut [] None)
     ∷ comes (come Uih 0 (195 ∷ 1 ∷ [])) AllClosed (out Uih 0 (193 ∷ 1 ∷ []) ∷ [])
-        (stands IsShut IsShut IsShut [] None)
+    (stands IsShut IsShut IsShut [] None)
     -- the initiator closes 0
     ∷ comes (come Sabm 0 []) Opened (out Ua 0 [] ∷ []) (stands IsOpened IsShut IsShut [] None)
     ∷ comes (come Disc 0 []) AllClosed (out Ua 0 [] ∷ []) (stands IsShut IsShut IsShut [] None)
@@ -92,7 +92,7 @@ ticks_of_a_responder =
     -- a closing is asked for at three ticks and given up at the fourth
     comes (come Sabm 0 []) Opened (out Ua 0 [] ∷ []) (stands IsOpened IsShut IsShut [] None)
     ∷ comes (come Sabm 1 []) Opened (out Ua 1 [] ∷ out Uih 0 (227 ∷ 5 ∷ 7 ∷ 141 ∷ []) ∷ [])
-        (stands IsOpened IsOpened IsShut [] None)
+    (stands IsOpened IsOpened IsShut [] None)
     ∷ asks (Close 1) (out Disc 1 [] ∷ []) (stands IsOpened (IsClosing 0) IsShut [] None)
     ∷ ticks (out Disc 1 [] ∷ []) (stands IsOpened (IsClosing 1) IsShut [] None)
     ∷ ticks (out Disc 1 [] ∷ []) (stands IsOpened (IsClosing 2) IsShut [] None)
@@ -100,7 +100,7 @@ ticks_of_a_responder =
     ∷ ticks [] (stands IsOpened IsShut IsShut [] None)
     -- a probe is given up at the fourth tick, and nothing is sent again
     ∷ asks (Probe (65 ∷ [])) (out Uih 0 (35 ∷ 3 ∷ 65 ∷ []) ∷ [])
-        (stands IsOpened IsShut IsShut [] (waiting (65 ∷ []) 0))
+    (stands IsOpened IsShut IsShut [] (waiting (65 ∷ []) 0))
     ∷ ticks [] (stands IsOpened IsShut IsShut [] (waiting (65 ∷ []) 1))
     ∷ ticks [] (stands IsOpened IsShut IsShut [] (waiting (65 ∷ []) 2))
     ∷ ticks [] (stands IsOpened IsShut IsShut [] (waiting (65 ∷ []) 3))
