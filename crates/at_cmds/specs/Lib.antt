@@ -7,3 +7,4 @@ pub mod Commands
 pub mod Values
 pub mod Laws
 pub mod Replies
+pub mod Numbers

@@ -19,6 +19,23 @@ pub enum CmdError {
     NoMemory,
 }
 
+impl CmdError {
+    ghost use Rattle.std.specs.Prelude.{◌≡◌};
+    ghost use Rattle.at_cmds.specs.Numbers.{cmd_error_number};
+
+    /// The number of this refusal.
+    pub fn number(self) -> u8
+        ensures { result ≡ cmd_error_number self }
+    {
+        match self {
+            CmdError::BadPin => 1,
+            CmdError::BadApn => 2,
+            CmdError::BadNumber => 3,
+            CmdError::NoMemory => 4,
+        }
+    }
+}
+
 impl From<AllocError> for CmdError {
     ghost use Rattle.std.specs.Prelude.{◌≡◌};
     ghost use Rattle.at_cmds.specs.declared.error.CmdError.TheVariants.{NoMemory};
@@ -59,6 +76,24 @@ pub enum ReplyFault {
     /// 5: memory was refused.
     #[error("out of memory")]
     NoMemory,
+}
+
+impl ReplyFault {
+    ghost use Rattle.std.specs.Prelude.{◌≡◌};
+    ghost use Rattle.at_cmds.specs.Numbers.{reply_fault_number};
+
+    /// The number of this refusal.
+    pub fn number(self) -> u8
+        ensures { result ≡ reply_fault_number self }
+    {
+        match self {
+            ReplyFault::Cme(_) => 1,
+            ReplyFault::PlainError => 2,
+            ReplyFault::Missing => 3,
+            ReplyFault::Malformed(_) => 4,
+            ReplyFault::NoMemory => 5,
+        }
+    }
 }
 
 impl From<AllocError> for ReplyFault {

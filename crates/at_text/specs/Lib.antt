@@ -10,3 +10,4 @@ pub mod OpenWindow
 pub mod Whole
 pub mod Placing
 pub mod Rows
+pub mod Numbers

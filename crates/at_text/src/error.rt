@@ -19,6 +19,23 @@ pub enum TextError {
     NoMemory,
 }
 
+impl TextError {
+    ghost use Rattle.std.specs.Prelude.{◌≡◌};
+    ghost use Rattle.at_text.specs.Numbers.{text_error_number};
+
+    /// The number of this refusal.
+    pub fn number(self) -> u8
+        ensures { result ≡ text_error_number self }
+    {
+        match self {
+            TextError::NoAt => 1,
+            TextError::BadOctet => 2,
+            TextError::TooLong => 3,
+            TextError::NoMemory => 4,
+        }
+    }
+}
+
 impl From<AllocError> for TextError {
     ghost use Rattle.std.specs.Prelude.{◌≡◌};
     ghost use Rattle.at_text.specs.declared.error.TextError.TheVariants.{NoMemory};

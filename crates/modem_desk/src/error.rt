@@ -16,6 +16,22 @@ pub enum SubmitError {
     Exhausted,
 }
 
+impl SubmitError {
+    ghost use Rattle.std.specs.Prelude.{◌≡◌};
+    ghost use Rattle.modem_desk.specs.Numbers.{submit_error_number};
+
+    /// The number of this refusal.
+    pub fn number(self) -> u8
+        ensures { result ≡ submit_error_number self }
+    {
+        match self {
+            SubmitError::Full => 1,
+            SubmitError::TooMany => 2,
+            SubmitError::Exhausted => 3,
+        }
+    }
+}
+
 /// Why a desk wasn't opened or settled.
 #[derive(Clone, Copy, Debug, PartialEq, Eq, Error)]
 pub enum DeskError {
@@ -25,6 +41,21 @@ pub enum DeskError {
     /// 2: not 1 to 8 callers, a kind given twice, or a first number of 0.
     #[error("a desk has 1 to 8 callers, one listener for a kind, and numbers from 1")]
     BadCount,
+}
+
+impl DeskError {
+    ghost use Rattle.std.specs.Prelude.{◌≡◌};
+    ghost use Rattle.modem_desk.specs.Numbers.{desk_error_number};
+
+    /// The number of this refusal.
+    pub fn number(self) -> u8
+        ensures { result ≡ desk_error_number self }
+    {
+        match self {
+            DeskError::NoMemory => 1,
+            DeskError::BadCount => 2,
+        }
+    }
 }
 
 impl From<AllocError> for DeskError {

@@ -1,5 +1,6 @@
 //! What callers ask for, and what they are told.
 ghost use Rattle.std.specs.Prelude.{◌≡◌, IfOk};
+ghost use Rattle.modem_desk.specs.Numbers.{answer_number};
 
 use at_text::{AnswerLines, CommandLine, Text, UrcKind};
 use mux_frame::{Dlci, ProbeData};
@@ -95,6 +96,27 @@ pub enum Answer {
 }
 
 impl Answer {
+    /// Its number.
+    pub fn number(&self) -> u8
+        ensures { result ≡ answer_number self.now }
+    {
+        match self {
+            Answer::Done(_) => 1,
+            Answer::Opened => 2,
+            Answer::Shut => 3,
+            Answer::ProbeBack => 4,
+            Answer::Stopped => 5,
+            Answer::NotOpen => 6,
+            Answer::AlreadyOpen => 7,
+            Answer::Refused => 8,
+            Answer::NoAnswer => 9,
+            Answer::Closed => 10,
+            Answer::ControlChannel => 11,
+            Answer::LineLost => 12,
+            Answer::Busy => 13,
+        }
+    }
+
     /// The same answer once more.
     pub fn copy(&self) -> Result<Answer, AllocError>
         ensures { IfOk result (λ copy. copy ≡ self.now) }

@@ -22,3 +22,4 @@ pub mod HeadlineRows
 pub mod Entries
 pub mod WaitingLists
 pub mod SessionStates
+pub mod Numbers

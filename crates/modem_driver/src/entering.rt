@@ -36,6 +36,22 @@ pub enum EntryError {
     Line,
 }
 
+impl EntryError {
+    ghost use Rattle.std.specs.Prelude.{◌≡◌};
+    ghost use Rattle.modem_driver.specs.Numbers.{entry_error_number};
+
+    /// The number of this refusal.
+    pub fn number(self) -> u8
+        ensures { result ≡ entry_error_number self }
+    {
+        match self {
+            EntryError::Refused => 1,
+            EntryError::NoAnswer => 2,
+            EntryError::Line => 3,
+        }
+    }
+}
+
 /// An entry under way: how many octets of the text were sent, and the unfinished line.
 #[derive(Drop)]
 struct Entry {

@@ -19,6 +19,22 @@ pub enum CoreError {
     NoRoom,
 }
 
+impl CoreError {
+    ghost use Rattle.std.specs.Prelude.{◌≡◌};
+    ghost use Rattle.modem_driver.specs.Numbers.{core_error_number};
+
+    /// The number of this refusal.
+    pub fn number(self) -> u8
+        ensures { result ≡ core_error_number self }
+    {
+        match self {
+            CoreError::NoMemory => 1,
+            CoreError::BadN1 => 2,
+            CoreError::NoRoom => 3,
+        }
+    }
+}
+
 impl From<AllocError> for CoreError {
     ghost from_gives = { λ _ e. e ≡ NoMemory };
 

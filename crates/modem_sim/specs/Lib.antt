@@ -14,3 +14,4 @@ pub mod HistoryRows
 pub mod Boxes
 pub mod Cores
 pub mod Sims
+pub mod Numbers

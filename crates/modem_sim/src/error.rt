@@ -19,6 +19,23 @@ pub enum SimError {
     Failed,
 }
 
+impl SimError {
+    ghost use Rattle.std.specs.Prelude.{◌≡◌};
+    ghost use Rattle.modem_sim.specs.Numbers.{sim_error_number};
+
+    /// The number of this refusal.
+    pub fn number(self) -> u8
+        ensures { result ≡ sim_error_number self }
+    {
+        match self {
+            SimError::NoMemory => 1,
+            SimError::BadN1 => 2,
+            SimError::Line => 3,
+            SimError::Failed => 4,
+        }
+    }
+}
+
 impl From<AllocError> for SimError {
     ghost use Rattle.std.specs.Prelude.{◌≡◌};
     ghost use Rattle.modem_sim.specs.declared.error.SimError.TheVariants.{NoMemory};

@@ -8,3 +8,4 @@ pub mod Places
 pub mod Reading
 pub mod Rows
 pub mod Spelling
+pub mod Numbers

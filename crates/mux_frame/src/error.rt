@@ -19,6 +19,22 @@ pub enum FrameError {
     BadN1,
 }
 
+impl FrameError {
+    ghost use Rattle.std.specs.Prelude.{◌≡◌};
+    ghost use Rattle.mux_frame.specs.Numbers.{frame_error_number};
+
+    /// The number of this refusal.
+    pub fn number(self) -> u8
+        ensures { result ≡ frame_error_number self }
+    {
+        match self {
+            FrameError::TooLong => 1,
+            FrameError::NoMemory => 2,
+            FrameError::BadN1 => 3,
+        }
+    }
+}
+
 impl From<AllocError> for FrameError {
     ghost from_gives = { λ _ e. e ≡ NoMemory };
 

@@ -1,5 +1,5 @@
 //! Frames are written (27.010, 5.2.1).
-ghost use Rattle.std.specs.Prelude.{◌≡◌, ◌≢◌, ◌↔◌, ◌+◌, ◌<◌, ◌≤◌, ◌++◌, ℕ, List, length, OnOk, OnErr, IsErrOf};
+ghost use Rattle.std.specs.Prelude.{◌≡◌, ◌≢◌, ◌↔◌, ◌+◌, ◌<◌, ◌≤◌, ◌++◌, ℕ, List, length, vec_capacity, OnOk, OnErr, IsErrOf};
 ghost use Rattle.mux_frame.specs.Frames.{Frame, frame_of};
 ghost use Rattle.mux_frame.specs.Spelling.{HasNoSpelling, Spells, address_of, body_of, control_of, header, indicator_of, spelled};
 
@@ -49,7 +49,8 @@ fn header_octets(frame: &FrameView<'_>) -> ArrayVec<u8, 4>
 
 /// Appends the frame with both its flags, its length in the shortest form. A refusal leaves `out`
 /// as it was: 1 TooLong where the information is longer than N1 or than 32767, or where there is
-/// any in a kind other than UIH; 2 NoMemory.
+/// any in a kind other than UIH; 2 NoMemory, which never comes where `out` has room for the
+/// information and seven octets more.
 pub fn write_frame(frame: FrameView<'_>, n1: u16, out: &mut Vec<u8>) -> Result<(), FrameError>
     ensures written { OnOk result
         (out.new.items ≡ out.old.items ++ spelled (frame_of frame.entry)) }
@@ -58,6 +59,9 @@ pub fn write_frame(frame: FrameView<'_>, n1: u16, out: &mut Vec<u8>) -> Result<(
     ensures too_long { IsErrOf result FrameError.TooLong ↔ HasNoSpelling n1 (frame_of frame.entry) }
     ensures others { result ≢ Err FrameError.BadN1 }
     ensures err { OnErr result (out.new.items ≡ out.old.items) }
+    ensures no_memory { result ≡ Err FrameError.NoMemory →
+        vec_capacity out.old < length out.old.items + (length frame.entry.info.now + 7) }
+    ensures capacity { vec_capacity out.old ≤ vec_capacity out.new }
 {
     let length = frame.info.len();
     if length > usize::from(frame.kind.most_info(n1)).min(LONGEST) {

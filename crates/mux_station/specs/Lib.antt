@@ -27,3 +27,4 @@ pub mod Senders
 pub mod StepRows
 pub mod ResponderSteps
 pub mod InitiatorSteps
+pub mod Numbers

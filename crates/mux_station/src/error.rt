@@ -26,6 +26,27 @@ pub enum StationError {
     BadN1,
 }
 
+impl StationError {
+    ghost use Rattle.std.specs.Prelude.{◌≡◌};
+    ghost use Rattle.mux_station.specs.Numbers.{station_error_number};
+
+    /// The number of this refusal.
+    pub fn number(self) -> u8
+        ensures { result ≡ station_error_number self }
+    {
+        match self {
+            StationError::NotOpen => 1,
+            StationError::AlreadyOpen => 2,
+            StationError::Busy => 3,
+            StationError::ControlChannel => 4,
+            StationError::NoMemory => 5,
+            StationError::TooLong => 6,
+            StationError::NoRoom => 7,
+            StationError::BadN1 => 8,
+        }
+    }
+}
+
 impl From<AllocError> for StationError {
     ghost from_gives = { λ _ e. e ≡ NoMemory };
 

@@ -3,3 +3,4 @@ pub mod Cuts
 pub mod Tape
 pub mod CutLine
 pub mod ThreadLine
+pub mod Numbers

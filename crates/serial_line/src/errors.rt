@@ -16,6 +16,21 @@ pub enum LineError {
     BadRoom,
 }
 
+impl LineError {
+    ghost use Rattle.std.specs.Prelude.{◌≡◌};
+    ghost use Rattle.serial_line.specs.Numbers.{line_error_number};
+
+    /// The number of this refusal.
+    pub fn number(self) -> u8
+        ensures { result ≡ line_error_number self }
+    {
+        match self {
+            LineError::NoMemory => 1,
+            LineError::BadRoom => 2,
+        }
+    }
+}
+
 impl From<AllocError> for LineError {
     ghost from_gives = { λ _ e. e ≡ NoMemory };
 

@@ -18,6 +18,21 @@ pub enum SessionError {
     BadN1,
 }
 
+impl SessionError {
+    ghost use Rattle.std.specs.Prelude.{◌≡◌};
+    ghost use Rattle.modem_driver.specs.Numbers.{session_error_number};
+
+    /// The number of this refusal.
+    pub fn number(self) -> u8
+        ensures { result ≡ session_error_number self }
+    {
+        match self {
+            SessionError::NoMemory => 1,
+            SessionError::BadN1 => 2,
+        }
+    }
+}
+
 impl From<AllocError> for SessionError {
     ghost use Rattle.modem_driver.specs.declared.session.error.SessionError.TheVariants.{NoMemory};
 
@@ -50,4 +65,20 @@ pub enum SessionFault {
     /// 3: the line was lost before.
     #[error("the line was lost before")]
     Failed,
+}
+
+impl SessionFault {
+    ghost use Rattle.std.specs.Prelude.{◌≡◌};
+    ghost use Rattle.modem_driver.specs.Numbers.{session_fault_number};
+
+    /// The number of this refusal.
+    pub fn number(self) -> u8
+        ensures { result ≡ session_fault_number self }
+    {
+        match self {
+            SessionFault::NoMemory => 1,
+            SessionFault::Line => 2,
+            SessionFault::Failed => 3,
+        }
+    }
 }
