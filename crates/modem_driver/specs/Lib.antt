@@ -23,3 +23,4 @@ pub mod Entries
 pub mod WaitingLists
 pub mod SessionStates
 pub mod Numbers
+pub mod TurnSteps
