@@ -2,7 +2,7 @@
 use Rattle.std.proofs.Common.{append-nil, ap, sym, ◌∙◌, subst, arith, lit<, lit≤}
 use Rattle.std.proofs.lemmas.List.{append_cancel_left, length-map}
 use Rattle.std.proofs.lemmas.Bool.{and_parts, leb-true, eq-eqb}
-use Rattle.std.specs.Prelude.{◌≡◌, ℕ, ◌+◌, ◌<◌, ◌≤◌, ◌==◌, nat_le, true, false, List, [], ◌∷◌, ◌++◌, length, map, refl, Option, Some, None}
+use Rattle.std.specs.Prelude.{◌≡◌, ℕ, zero, suc, ◌+◌, ◌-◌, ◌^◌, ◌<◌, ◌≤◌, ◌==◌, min, nat_le, true, false, List, [], ◌∷◌, ◌++◌, length, map, refl, Option, Some, None}
 use Rattle.mux_frame.specs.CheckOctet.{check_octet_of}
 use Rattle.mux_frame.specs.Spelling.{body_of}
 use Rattle.mux_frame.specs.Judging.{verdict_on, by_header, by_end}
@@ -85,7 +85,8 @@ idle_after_read_wrong t turn = never_back turn.moved
 
 -- a call was made, and isn't counted
 uncounted : (w r n : ℕ) → n ≡ w + r → 1 ≤ n → 40 ≡ counted 40 n → ⊥
-uncounted w r n e some h = omega arith
+uncounted w r zero e some h = omega arith
+uncounted w r (suc k) e some h = let x : 40 ≡ min (40 + suc k) (2 ^ 64 - 1) = h in omega arith
 
 idle_without_read_wrong : IsWrongTurn idle_without_read
 idle_without_read_wrong t turn =
@@ -131,7 +132,9 @@ full_without_read_wrong t turn =
     two_calls (calls_made t.write) (calls_made t.read) wrote read turn.deals.calls
   where
     two_calls : (w r : ℕ) → w ≡ 1 → r ≡ 1 → 41 ≡ counted 40 (w + r) → ⊥
-    two_calls w r x y e = omega arith
+    two_calls w r x y e =
+        let both : 41 ≡ counted 40 2 = e ∙ (ap (λ (n : ℕ). counted 40 (n + r)) x ∙ ap (λ (n : ℕ). counted 40 (1 + n)) y) in
+        omega arith
 
 full_with_frame_wrong : IsWrongTurn full_with_frame
 full_with_frame_wrong t turn = never_back (turn.means.no_room (written Responder Ua 0 []) refl)

@@ -1,5 +1,5 @@
 -- What the answers of a turn mean: Moved, WriterFull, Waiting, Blocked and Idle, and its faults; and what a tick does.
-use Rattle.std.specs.Prelude.{◌≡◌, ◌≢◌, ℕ, ◌+◌, ◌-◌, ◌^◌, ◌<◌, ◌≤◌, ◌==◌, ◌||◌, not, nat_le, nat_lt, min, ◌⊎◌, Bool, true, false, List, [], ◌∷◌, ◌++◌, length, take, map, flat_map, Option, Some, None, option_to_list}
+use Rattle.std.specs.Prelude.{◌≡◌, ◌≢◌, ℕ, zero, suc, ◌+◌, ◌-◌, ◌^◌, ◌<◌, ◌≤◌, ◌==◌, ◌||◌, not, nat_le, nat_lt, min, ◌⊎◌, Bool, true, false, List, [], ◌∷◌, ◌++◌, length, take, map, flat_map, Option, Some, None, option_to_list}
 use Rattle.std.specs.List.{list_all, list_any}
 use Rattle.mux_frame.specs.Frames.{Frame}
 use Rattle.mux_frame.specs.Reading.{Reads}
@@ -75,9 +75,10 @@ HasRoom (Some r) = length r.octets ≤ r.room
 abbrev pub calls_made : {A : Type 0} → Option A → ℕ
 calls_made o = length (option_to_list o)
 
--- a count of calls, which ends at u64::MAX
+-- a count of calls after so many more, which ends at u64::MAX
 abbrev pub counted : ℕ → ℕ → ℕ
-counted n made = min (n + made) (2 ^ 64 - 1)
+counted n zero = n
+counted n (suc made) = min (n + suc made) (2 ^ 64 - 1)
 
 -- the outcomes that the acts told, and the lines that they heard, in order
 abbrev pub outcomes_told : List Act → List Outcome
