@@ -1,0 +1,52 @@
+-- Turns of a session: how each ends.
+use Rattle.std.specs.Prelude.{◌≡◌, ◌≢◌, ℕ, nat_le, Bool, true, false, List, [], ◌∷◌, take}
+use Rattle.std.specs.List.{list_all}
+use Rattle.at_text.specs.declared.unsolicited.UrcKind.{UrcKind}
+use Rattle.modem_desk.specs.declared.request.Outcome.{Outcome}
+use Rattle.modem_desk.specs.declared.request.Urc.{Urc}
+use Rattle.modem_history.specs.Sessions.{Beginning, LineView, of_caller}
+use Rattle.modem_history.specs.Turns.{TurnAnswer, TurnFault, GoesTurn, GoesFault}
+use Rattle.modem_driver.specs.SessionStates.{Kept, SessionState, FitsInside, seen}
+use Rattle.modem_driver.specs.TurnSteps.{Standing}
+
+-- a session as its turn sees it
+abbrev pub standing_of : {X : Type 0} → (X → LineView) → SessionState X → Standing
+standing_of look s = record { line = look s.line; driver = s.driver; kept = s.kept }
+
+-- ## Which answer it is
+
+-- nothing moved, all octets are written, and of the outcomes that wait this caller has the first, and none is of a lesser one
+pub record HasOutcome (k : Kept) (c : ℕ) : Type 0 where
+  pub written : k.unwritten ≡ []
+  pub outcome : Outcome
+  pub first : take 1 (of_caller c k.unplaced) ≡ outcome ∷ []
+  pub least : list_all (λ (o : Outcome). nat_le c o.caller) k.unplaced ≡ true
+
+-- nothing moved, all octets are written and all outcomes placed, and the line heard first is of this kind
+pub record HasLine (k : Kept) (kind : UrcKind) : Type 0 where
+  pub written : k.unwritten ≡ []
+  pub placed : k.unplaced ≡ []
+  pub line : Urc
+  pub first : take 1 k.unannounced ≡ line ∷ []
+  pub is_of : line.kind ≡ kind
+
+pub record HasNothing (k : Kept) : Type 0 where
+  pub written : k.unwritten ≡ []
+  pub placed : k.unplaced ≡ []
+  pub announced : k.unannounced ≡ []
+
+-- Moved where something moved; else what still waits says which answer it is.
+abbrev pub Answers : Kept → (moved : Bool) → TurnAnswer → Type 0
+Answers k moved TurnAnswer.Moved = moved ≡ true
+Answers k moved TurnAnswer.WriterFull = (moved ≡ false) × (k.unwritten ≢ [])
+Answers k moved (TurnAnswer.Waiting c) = (moved ≡ false) × HasOutcome k c
+Answers k moved (TurnAnswer.Blocked kind) = (moved ≡ false) × HasLine k kind
+Answers k moved TurnAnswer.Idle = (moved ≡ false) × HasNothing k
+
+-- ## Turns and faults, whatever the session began with
+
+unfoldable pub Turns : {X : Type 0} → (X → LineView) → (old new : SessionState X) → TurnAnswer → Type 0
+Turns look old new says = (b : Beginning) → GoesTurn b (seen look old) (seen look new) (FitsInside b look old) (FitsInside b look new) says
+
+unfoldable pub Faults : {X : Type 0} → (X → LineView) → (old new : SessionState X) → TurnFault → Type 0
+Faults look old new says = (b : Beginning) → GoesFault b (seen look old) (seen look new) (FitsInside b look old) (FitsInside b look new) says
