@@ -8,9 +8,10 @@ pub mod Keeping
 pub mod Calls
 pub mod Ticking
 pub mod Lines
-pub mod Losing
 pub mod Flowing
+pub mod Losing
 pub mod Taking
 pub mod Turning
 pub mod TurnAnswers
 pub mod TurnMeans
+pub mod TurnFaults

@@ -1,5 +1,5 @@
 -- What contracts see of a session, and which histories it fits.
-use Rattle.std.specs.Prelude.{◌≡◌, ℕ, ◌<◌, Bool, true, false, List, [], length, Option, None}
+use Rattle.std.specs.Prelude.{◌≡◌, ℕ, ◌<◌, ◌++◌, map, Bool, true, false, List, [], length, Option, None}
 use Rattle.std.specs.List.{list_all}
 use Rattle.mux_frame.specs.Deframing.{Deframing}
 use Rattle.at_text.specs.declared.unsolicited.UrcKind.{UrcKind}
@@ -8,8 +8,8 @@ use Rattle.modem_desk.specs.declared.request.Outcome.{Outcome}
 use Rattle.modem_desk.specs.declared.request.Urc.{Urc}
 use Rattle.modem_desk.specs.Ends.{DriverView}
 use Rattle.modem_history.specs.Acts.{Act}
-use Rattle.modem_history.specs.Sessions.{LineView, EndView, Beginning, SessionView, Leftovers, FitsWith, Finishes, AreOnce, GoesBy, driving}
-use Rattle.modem_history.specs.Turns.{GoesTick, LosesLine, may_act}
+use Rattle.modem_history.specs.Sessions.{LineView, EndView, Beginning, SessionView, Leftovers, FitsWith, Finishes, AreOnce, GoesBy, driving, heard_as}
+use Rattle.modem_history.specs.Turns.{GoesTick, LosesLine, may_act, may_fail, outcomes_told, lines_heard}
 use Rattle.modem_driver.specs.Cores.{Core, Fits, IsSettingOf, new_core}
 use Rattle.modem_driver.specs.Holding.{HoldsFit}
 
@@ -123,11 +123,18 @@ unfoldable pub KeptMoves : (before later : LineView) → (old new : Kept) → Ty
 KeptMoves before later old new =
     (b : Beginning) (d : DriverView) → GoesBy b (seen_by before (end_of d) old) (seen_by later (end_of d) new) (KeptFits b before d old) (KeptFits b later d new) []
 
+-- what was told waits behind what waited; nothing was heard; and the acts are such as a turn may have in which the line is lost
+pub record AddsLost (old new : Kept) (acts : List Act) : Type 0 where
+  pub outcomes : new.unplaced ≡ old.unplaced ++ outcomes_told acts
+  pub lines : map heard_as new.unannounced ≡ map heard_as old.unannounced ++ lines_heard acts
+  pub may : (waiting : List Urc) → list_all (may_fail waiting) acts ≡ true
+
 -- the line is lost in this step, and no request is in hand any more
 pub record KeptLoses (old new : Kept) : Type 0 where
   pub acts : List Act
   pub goes : KeptGoes old new acts
   pub loses : (b : Beginning) (l : LineView) (d : DriverView) (past : List Act) → AreOnce b (seen_by l (end_of d) new) → FitsWith b (seen_by l (end_of d) old) (KeptFits b l d old) past → LosesLine b (seen_by l (end_of d) new) past acts
+  pub adds : (b : Beginning) (l : LineView) (d : DriverView) (past : List Act) → FitsWith b (seen_by l (end_of d) old) (KeptFits b l d old) past → AddsLost old new acts
   pub stays : new ≡ record old { core = new.core; unplaced = new.unplaced; unannounced = new.unannounced }
 
 -- a backlog was looked at: a connection is held where its backlog is 256 or more, and freed where it is below 128

@@ -1,0 +1,152 @@
+-- Turns that end in a fault.
+use Rattle.std.proofs.Common.{ap, sym, ◌∙◌, subst, arith}
+use Rattle.std.proofs.lemmas.Bool.{and_from, and_parts}
+use Rattle.std.proofs.lemmas.List.{append_assoc}
+use Rattle.std.proofs.lemmas.List.Folds.{list_all-append}
+use Rattle.std.specs.Prelude.{◌≡◌, ◌+◌, ◌≤◌, length, Bool, true, false, List, [], ◌∷◌, ◌++◌, map, refl, None}
+use Rattle.std.specs.List.{list_all}
+use Rattle.modem_desk.specs.declared.request.Outcome.{Outcome}
+use Rattle.modem_desk.specs.declared.request.Urc.{Urc}
+use Rattle.modem_history.specs.Acts.{Act, Took, Got, Sent, Told, Heard, Tick, Lost, Held, Freed, Given, after, in_hand}
+use Rattle.modem_history.specs.Calls.{is_lost}
+use Rattle.modem_history.specs.Sessions.{Beginning, LineView, AreOnce, heard_as}
+use Rattle.modem_history.specs.Turns.{Dealings, TurnFault, GoesFault, LosesLine, outcomes_told, lines_heard, may_act, may_fail}
+use Rattle.modem_history.proofs.AfterActs.{after_both}
+use Rattle.modem_driver.specs.SessionStates.{Kept, KeptGoes, KeptLoses}
+use Rattle.modem_driver.specs.TurnSteps.{Standing, StandingFits, Leads, Places, view_of, inside}
+use Rattle.modem_driver.proofs.sessions.Keeping.{told_both}
+use Rattle.modem_driver.proofs.sessions.Listening.{heard_both}
+use Rattle.modem_driver.proofs.sessions.Losing.{fail_all}
+use Rattle.modem_driver.proofs.sessions.Turning.{Went, AddsTo, placed, went_placed, once_still, taken_still}
+
+-- acts that a turn may have don't lose the line
+none_loses : (us : List Urc) (acts past : List Act) → list_all (may_act us) acts ≡ true → is_lost past ≡ false → is_lost (after past acts) ≡ false
+none_loses us [] past h live = live
+none_loses us (a ∷ acts) past h live =
+    let parts = and_parts (may_act us a) (list_all (may_act us) acts) h in
+    none_loses us acts (a ∷ past) parts.1 (one_loses a parts.0)
+  where
+    one_loses : (a : Act) → may_act us a ≡ true → is_lost (a ∷ past) ≡ false
+    one_loses Lost e = let x : false ≡ true = e in cc
+    one_loses Tick e = live
+    one_loses (Took r) e = live
+    one_loses (Got f) e = live
+    one_loses (Sent f) e = live
+    one_loses (Told o) e = live
+    one_loses (Heard k d line) e = live
+    one_loses (Held d) e = live
+    one_loses (Freed d) e = live
+    one_loses Given e = live
+
+-- there was no memory for a step of a turn
+pub wants_memory : (s0 s : Standing) (t : Dealings) (acts : List Act) → Went s0 s t acts → s0.kept.core.lost ≡ false
+    → (b : Beginning) → GoesFault b (view_of s0) (view_of s) (inside b s0) (inside b s) TurnFault.NoMemory
+unfolding Leads
+wants_memory s0 s t acts w live b = record {
+  acts = acts;
+  dealings = t;
+  goes = w.leads b;
+  fault = λ past once f.
+      let adds = w.adds b past once f in
+      record {
+        deals = record {
+          came = w.came;
+          room = w.room;
+          went = w.went;
+          calls = w.calls;
+          taken = w.taken;
+          hands_back = w.hands_back;
+          outcomes_wait = adds.outcomes;
+          lines_wait = adds.lines;
+          unfed = w.unfed;
+        };
+        acts_may = fail_all t.still_heard acts adds.may;
+        means = none_loses t.still_heard acts past adds.may (f.inside.fits.lost_is ∙ live);
+      };
+}
+
+-- the line is lost after so much of a turn
+lost_there : (s0 s1 : Standing) (new : Kept) (t : Dealings) (xs : List Act) → t.next ≡ None → Went s0 s1 t xs → KeptLoses s1.kept new → s0.kept.core.lost ≡ false
+    → (b : Beginning) → GoesFault b (view_of s0) (view_of (record s1 { kept = new })) (inside b s0) (inside b (record s1 { kept = new })) TurnFault.LineFailed
+unfolding Leads KeptGoes
+lost_there s0 s1 new t xs none w k live b =
+    let still = taken_still s0 s1 t xs none w in
+    let unfed : length new.unfed ≡ length s1.kept.unfed = ap (λ (v : Kept). length v.unfed) k.stays in
+    record {
+      acts = xs ++ k.acts;
+      dealings = t;
+      goes = λ past once f.
+          let mid = once_still b s0 s1 past still f in
+          subst (StandingFits b (record s1 { kept = new })) (sym (after_both xs k.acts past)) (k.goes b s1.line s1.driver (after past xs) once (w.leads b past mid f));
+      fault = λ past once f.
+          let mid = once_still b s0 s1 past still f in
+          let at : StandingFits b s1 (after past xs) = w.leads b past mid f in
+          let first = w.adds b past mid f in
+          let more = k.adds b s1.line s1.driver (after past xs) at in
+          let lost = k.loses b s1.line s1.driver (after past xs) once at in
+          let both = after_both xs k.acts past in
+          record {
+            deals = record {
+              came = w.came;
+              room = w.room;
+              went = w.went;
+              calls = w.calls;
+              taken = w.taken;
+              hands_back = w.hands_back;
+              outcomes_wait =
+                  more.outcomes
+                  ∙ (ap (λ (os : List Outcome). os ++ outcomes_told k.acts) first.outcomes
+                  ∙ (append_assoc t.still_told (outcomes_told xs) (outcomes_told k.acts)
+                  ∙ ap (λ (os : List Outcome). t.still_told ++ os) (sym (told_both xs k.acts))));
+              lines_wait =
+                  more.lines
+                  ∙ (ap (λ (hs : List Act). hs ++ lines_heard k.acts) first.lines
+                  ∙ (append_assoc (map heard_as t.still_heard) (lines_heard xs) (lines_heard k.acts)
+                  ∙ ap (λ (hs : List Act). map heard_as t.still_heard ++ hs) (sym (heard_both xs k.acts))));
+              unfed = let before = w.unfed in omega (arith, before, unfed);
+            };
+            acts_may =
+                list_all-append (may_fail t.still_heard) xs k.acts
+                ∙ and_from (list_all (may_fail t.still_heard) xs) (list_all (may_fail t.still_heard) k.acts) (fail_all t.still_heard xs first.may) (more.may t.still_heard);
+            means = record {
+              live = f.inside.fits.lost_is ∙ live;
+              gone = ap is_lost both ∙ lost.gone;
+              by_fault = lost.by_fault;
+              none_in_hand = ap in_hand both ∙ lost.none_in_hand;
+            };
+          };
+    }
+
+pub loses_line : (s0 s1 s2 : Standing) (t : Dealings) (xs : List Act) → t.next ≡ None → Went s0 s1 t xs → s2 ≡ record s1 { kept = s2.kept } → KeptLoses s1.kept s2.kept → s0.kept.core.lost ≡ false
+    → (b : Beginning) → GoesFault b (view_of s0) (view_of s2) (inside b s0) (inside b s2) TurnFault.LineFailed
+loses_line s0 s1 s2 t xs none w same k live b =
+    subst (λ (s : Standing). GoesFault b (view_of s0) (view_of s) (inside b s0) (inside b s) TurnFault.LineFailed) (sym same) (lost_there s0 s1 s2.kept t xs none w k live b)
+
+-- the line was lost before
+pub has_failed : (s0 s1 : Standing) (moved : Bool) → Places s0 s1 moved → s0.kept.core.lost ≡ true
+    → (b : Beginning) → GoesFault b (view_of s0) (view_of s1) (inside b s0) (inside b s1) TurnFault.Failed
+unfolding Leads
+has_failed s0 s1 moved p lost b =
+    let w = went_placed s0 s1 moved p in
+    record {
+      acts = [];
+      dealings = placed p;
+      goes = w.leads b;
+      fault = λ past once f.
+          let adds = w.adds b past once f in
+          record {
+            deals = record {
+              came = w.came;
+              room = w.room;
+              went = w.went;
+              calls = w.calls;
+              taken = w.taken;
+              hands_back = w.hands_back;
+              outcomes_wait = adds.outcomes;
+              lines_wait = adds.lines;
+              unfed = w.unfed;
+            };
+            acts_may = refl;
+            means = record { gone = f.inside.fits.lost_is ∙ lost; no_acts = refl; line_stays = ap (λ (s : Standing). s.line) p.stays; none_taken = p.taken_stays };
+          };
+    }
