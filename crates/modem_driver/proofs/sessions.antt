@@ -15,3 +15,4 @@ pub mod Turning
 pub mod TurnAnswers
 pub mod TurnMeans
 pub mod TurnFaults
+pub mod Exchanging

@@ -1,13 +1,16 @@
 -- Turns of a session: how each ends.
-use Rattle.std.specs.Prelude.{◌≡◌, ◌≢◌, ℕ, nat_le, Bool, true, false, List, [], ◌∷◌, take}
+use Rattle.std.specs.Prelude.{◌≡◌, ◌≢◌, ℕ, ◌<◌, ◌≤◌, nat_le, length, drop, Option, None, Some, Bool, true, false, List, [], ◌∷◌, take}
 use Rattle.std.specs.List.{list_all}
+use Rattle.mux_frame.specs.Frames.{Frame}
+use Rattle.mux_frame.specs.Deframing.{TakesIn}
 use Rattle.at_text.specs.declared.unsolicited.UrcKind.{UrcKind}
 use Rattle.modem_desk.specs.declared.request.Outcome.{Outcome}
 use Rattle.modem_desk.specs.declared.request.Urc.{Urc}
+use Rattle.modem_desk.specs.Ends.{DriverView}
 use Rattle.modem_history.specs.Sessions.{Beginning, LineView, of_caller}
 use Rattle.modem_history.specs.Turns.{TurnAnswer, TurnFault, GoesTurn, GoesFault}
 use Rattle.modem_driver.specs.SessionStates.{Kept, SessionState, FitsInside, seen}
-use Rattle.modem_driver.specs.TurnSteps.{Standing}
+use Rattle.modem_driver.specs.TurnSteps.{Standing, Writes, ReadsOn}
 
 -- a session as its turn sees it
 abbrev pub standing_of : {X : Type 0} → (X → LineView) → SessionState X → Standing
@@ -50,3 +53,23 @@ Turns look old new says = (b : Beginning) → GoesTurn b (seen look old) (seen l
 
 unfoldable pub Faults : {X : Type 0} → (X → LineView) → (old new : SessionState X) → TurnFault → Type 0
 Faults look old new says = (b : Beginning) → GoesFault b (seen look old) (seen look new) (FitsInside b look old) (FitsInside b look new) says
+
+-- ## Calls on the line
+
+-- a step by a call on the line, whatever the desk's end is
+unfoldable pub KeptWrites : (before later : LineView) → (old new : Kept) → (moved : Bool) → Type 0
+KeptWrites before later old new moved =
+    (d : DriverView) → Writes (record { line = before; driver = d; kept = old }) (record { line = later; driver = d; kept = new }) moved
+
+unfoldable pub KeptReads : (before later : LineView) → (old new : Kept) → (moved : Bool) → Type 0
+KeptReads before later old new moved =
+    (d : DriverView) → ReadsOn (record { line = before; driver = d; kept = old }) (record { line = later; driver = d; kept = new }) moved
+
+-- so many of the octets that wait are given to the deframer
+pub record Feeds (old new : Kept) (count : ℕ) : Type 0 where
+  pub takes : TakesIn old.deframer (take count old.unfed) new.deframer
+  pub bound : new.deframer.n1 ≡ old.deframer.n1
+  pub few : count ≤ length old.unfed
+  pub some : old.deframer.next ≡ None → 0 < length old.unfed → 0 < count
+  pub frame_stays : (f : Frame) → old.deframer.next ≡ Some f → new.deframer.next ≡ Some f
+  pub stays : new ≡ record old { unfed = drop count old.unfed; deframer = new.deframer }

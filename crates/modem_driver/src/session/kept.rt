@@ -2,8 +2,7 @@
 ghost use Rattle.std.specs.Prelude.{◌≡◌, ◌≢◌, ◌↔◌, ◌+◌, ◌<◌, ◌≤◌, ◌⊎◌, ◌++◌, [], true, false, length, option_to_list, None, IfOk, IfSome, IsErrOf, OnOk, OnErr};
 ghost use Rattle.modem_driver.specs.Cores.{Fits};
 ghost use Rattle.modem_driver.specs.Holding.{HoldsFit};
-ghost use Rattle.modem_driver.specs.SessionStates.{new_kept, line_by, KeptFlows, KeptGoes, KeptLoses, KeptMoves, KeptTakes, KeptTicks};
-ghost use Rattle.serial_line.specs.Counts.{one_more};
+ghost use Rattle.modem_driver.specs.SessionStates.{new_kept, KeptFlows, KeptLoses, KeptTakes, KeptTicks};
 ghost use Rattle.modem_driver.specs.declared.session.error.SessionError.TheVariants as why;
 ghost use Rattle.modem_driver.specs.declared.session.error.SessionFault.TheVariants as fault;
 
@@ -16,7 +15,6 @@ use crate::session::waiting::Waiting;
 use at_text::UrcKind;
 use modem_desk::{Outcome, Request, Urc};
 use mux_frame::{Deframer, Dlci};
-use serial_line::SerialLine;
 use std::alloc::Global;
 use std::marker::Model;
 
@@ -97,53 +95,6 @@ impl Kept {
         };
         self.waiting.keep(acts);
         Ok(())
-    }
-
-    /// Gives the octets that were read to the deframer, as many of the first as it takes: at least one
-    /// where no frame is at hand.
-    pub(crate) fn feed(&mut self)
-        ensures goes { KeptGoes self.old self.new [] }
-        ensures fewer { length self.new.unfed ≤ length self.old.unfed }
-        ensures some { self.old.deframer.next ≡ None → 0 < length self.old.unfed
-            → length self.new.unfed < length self.old.unfed }
-        ensures stays { self.new ≡ record self.old { unfed = self.new.unfed; deframer = self.new.deframer } }
-    {
-        let count = self.deframer.feed(self.input.as_slice());
-        self.input.pass(count);
-    }
-
-    /// Reads once from the line. The condition is that no octets wait to be fed. A fault is kept in
-    /// mind.
-    pub(crate) fn read<L: SerialLine>(&mut self, line: &mut L)
-        requires { self.old.unfed ≡ [] }
-        ensures goes { KeptMoves (line_by L.received L.sent L.calls L.failures line.old)
-            (line_by L.received L.sent L.calls L.failures line.new) self.old self.new }
-        ensures came { L.received line.new ≡ L.received line.old ++ self.new.unfed }
-        ensures none_went { L.sent line.new ≡ L.sent line.old }
-        ensures counted { L.calls line.new ≡ one_more (L.calls line.old) }
-        ensures stays { self.new ≡ record self.old { unfed = self.new.unfed; faulty = self.new.faulty } }
-    {
-        match self.input.read(line) {
-            Ok(_count) => {}
-            Err(_fault) => self.faulty = true,
-        }
-    }
-
-    /// Writes the octets that wait to the line, as many of the first as it takes. A fault is kept in
-    /// mind.
-    pub(crate) fn write<L: SerialLine>(&mut self, line: &mut L)
-        ensures goes { KeptMoves (line_by L.received L.sent L.calls L.failures line.old)
-            (line_by L.received L.sent L.calls L.failures line.new) self.old self.new }
-        ensures none_came { L.received line.new ≡ L.received line.old }
-        ensures went { L.sent line.new ++ self.new.unwritten ≡ L.sent line.old ++ self.old.unwritten }
-        ensures counted { L.calls line.new ≡ one_more (L.calls line.old) }
-        ensures stays { self.new
-            ≡ record self.old { unwritten = self.new.unwritten; faulty = self.new.faulty } }
-    {
-        match line.try_write(self.output.as_slice()) {
-            Ok(count) => self.output.pass(count),
-            Err(_fault) => self.faulty = true,
-        }
     }
 
     /// The line is lost: everyone in hand is told so. Refusal: 1 NoMemory, which changes nothing. The

@@ -1,12 +1,12 @@
 -- The octets that the deframer took wait no more.
-use Rattle.std.proofs.Common.{sym, subst, [], take, ℕ, List}
+use Rattle.std.proofs.Common.{◌≡◌, ap, sym, ◌∙◌, subst, take, drop, length, ◌≤◌, ◌<◌, ℕ, List, arith}
 use Rattle.mux_frame.specs.Deframing.{TakesIn}
-use Rattle.modem_driver.specs.SessionStates.{Kept, KeptGoes}
-use Rattle.modem_driver.proofs.sessions.Lines.{feed_goes}
+use Rattle.modem_driver.specs.SessionStates.{Kept}
+use Rattle.modem_driver.specs.SessionTurns.{Feeds}
 use Rattle.modem_driver.proofs.session.kept.Kept.feed.Goals as goal
 
-pub returns-clause-goes : goal.returns-clause-goes
-returns-clause-goes c =
+pub returns : goal.returns
+returns c =
     let k = c.self.inside in
     let old : Kept = record {
       core = k.core;
@@ -20,6 +20,15 @@ returns-clause-goes c =
     } in
     let n = c.feed-count.result in
     let fed = c.feed-count.new.self in
-    let takes : TakesIn k.deframer (take n k.input) fed = subst (λ (xs : List ℕ). TakesIn k.deframer (take n xs) fed) c.as_slice.ensures c.feed-count.ensures.past in
-    subst (λ (v : Kept). KeptGoes v (record old { unfed = c.pass.new.self; deframer = fed }) []) c.self.view_is
-    (subst (λ (xs : List ℕ). KeptGoes old (record old { unfed = xs; deframer = fed }) []) (sym c.pass.ensures) (feed_goes old fed n takes c.feed-count.ensures.n1))
+    let e = c.feed-count.ensures in
+    let long : length c.as_slice.result.now ≡ length k.input = ap length c.as_slice.ensures in
+    let count = e.count in
+    subst (λ (v : Kept). Feeds v (record old { unfed = c.pass.new.self; deframer = fed }) n) c.self.view_is
+    (record {
+      takes = subst (λ (xs : List ℕ). TakesIn k.deframer (take n xs) fed) c.as_slice.ensures e.past;
+      bound = e.n1;
+      few = omega (arith, count, long);
+      some = λ none some. e.some none (omega (arith, some, long));
+      frame_stays = e.stays;
+      stays = ap (λ (xs : List ℕ). record old { unfed = xs; deframer = fed }) c.pass.ensures;
+    })

@@ -1,0 +1,59 @@
+-- No octets wait; or the line took some or none; or the call failed.
+use Rattle.std.proofs.Common.{◌≡◌, ◌≢◌, ap, sym, ◌∙◌, subst, [], ◌++◌, ◌≤◌, take, true, false, nat_lt, length, ℕ, List, eqb-true}
+use Rattle.std.proofs.lemmas.Bool.{eqb-false}
+use Rattle.std.proofs.lemmas.List.{nil_from_length}
+use Rattle.modem_driver.specs.SessionStates.{Kept, line_by}
+use Rattle.modem_driver.specs.SessionTurns.{KeptWrites}
+use Rattle.modem_driver.proofs.sessions.Exchanging.{writes_none, writes_some, writes_failing}
+use Rattle.modem_driver.proofs.session.kept.Kept.write_on.Goals as goal
+
+pub returns-then-is_empty : goal.returns-then-is_empty
+returns-then-is_empty g c =
+    let k = c.self.inside in
+    let look = line_by g.L.SerialLine.received g.L.SerialLine.sent g.L.SerialLine.calls g.L.SerialLine.failures in
+    let none : k.output ≡ [] = nil_from_length k.output (eqb-true (length k.output) 0 (sym c.is_empty.ensures ∙ c.if-is_empty.true)) in
+    writes_none (look c.args.line.now) c.args.self.now (ap (λ (v : Kept). v.unwritten) (sym c.self.view_is) ∙ none)
+
+pub returns-in-Ok : goal.returns-in-Ok
+returns-in-Ok g c =
+    let k = c.self.inside in
+    let old : Kept = record {
+      core = k.core;
+      aside = k.aside;
+      unfed = k.input;
+      deframer = k.deframer;
+      unwritten = k.output;
+      unplaced = k.waiting.outcomes;
+      unannounced = k.waiting.lines;
+      faulty = k.faulty;
+    } in
+    let look = line_by g.L.SerialLine.received g.L.SerialLine.sent g.L.SerialLine.calls g.L.SerialLine.failures in
+    let l = look c.args.line.now in
+    let m = look c.try_write.new.self in
+    let e = c.in-Ok.ensures in
+    let n = c.in-Ok.count in
+    let some : k.output ≢ [] = λ none. eqb-false (length k.output) 0 (sym c.is_empty.ensures ∙ c.if-is_empty.false) (ap length none) in
+    let few : n ≤ length k.output = subst (λ (xs : List ℕ). n ≤ length xs) c.as_slice.ensures e.bound in
+    let went : m.sent ≡ l.sent ++ take n k.output = e.went ∙ ap (λ (xs : List ℕ). l.sent ++ take n xs) c.as_slice.ensures in
+    subst (λ (v : Kept). KeptWrites l m v (record old { unwritten = c.pass.new.self }) (nat_lt 0 n)) c.self.view_is
+    (subst (λ (xs : List ℕ). KeptWrites l m old (record old { unwritten = xs }) (nat_lt 0 n)) (sym c.pass.ensures) (writes_some l m old n some few e.none_came went e.sound e.counted))
+
+pub returns-in-Err : goal.returns-in-Err
+returns-in-Err g c =
+    let k = c.self.inside in
+    let old : Kept = record {
+      core = k.core;
+      aside = k.aside;
+      unfed = k.input;
+      deframer = k.deframer;
+      unwritten = k.output;
+      unplaced = k.waiting.outcomes;
+      unannounced = k.waiting.lines;
+      faulty = k.faulty;
+    } in
+    let look = line_by g.L.SerialLine.received g.L.SerialLine.sent g.L.SerialLine.calls g.L.SerialLine.failures in
+    let l = look c.args.line.now in
+    let m = look c.try_write.new.self in
+    let e = c.in-Err.ensures in
+    let some : k.output ≢ [] = λ none. eqb-false (length k.output) 0 (sym c.is_empty.ensures ∙ c.if-is_empty.false) (ap length none) in
+    subst (λ (v : Kept). KeptWrites l m v (record old { faulty = true }) false) c.self.view_is (writes_failing l m old some e.none_came e.none_went e.failure e.counted)
