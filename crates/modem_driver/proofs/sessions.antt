@@ -11,3 +11,4 @@ pub mod Lines
 pub mod Losing
 pub mod Flowing
 pub mod Taking
+pub mod TakingOne
