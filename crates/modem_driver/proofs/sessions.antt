@@ -16,3 +16,4 @@ pub mod TurnAnswers
 pub mod TurnMeans
 pub mod TurnFaults
 pub mod Exchanging
+pub mod TakingOne

@@ -143,10 +143,3 @@ pub record KeptFlows (old new : Kept) : Type 0 where
   pub goes : KeptGoes old new acts
   pub may : (b : Beginning) (l : LineView) (d : DriverView) (past : List Act) → FitsWith b (seen_by l (end_of d) old) (KeptFits b l d old) past → list_all (may_act old.unannounced) acts ≡ true
   pub stays : new ≡ record old { core = new.core; unplaced = new.unplaced; unannounced = new.unannounced }
-
--- the request that was kept aside was taken, and none is kept aside any more
-pub record KeptTakes (old new : Kept) : Type 0 where
-  pub acts : List Act
-  pub goes : KeptGoes old new acts
-  pub none_aside : new.aside ≡ None
-  pub stays : new ≡ record old { core = new.core; aside = None; unplaced = new.unplaced; unannounced = new.unannounced }

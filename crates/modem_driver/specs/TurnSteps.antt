@@ -1,6 +1,6 @@
 -- The steps of a turn: what each is promised to do. A step leads on by some acts, the same whatever history there was, and says
 -- whether it moved anything.
-use Rattle.std.specs.Prelude.{◌≡◌, ◌≢◌, ℕ, ◌+◌, ◌≤◌, ◌<◌, ◌||◌, ◌⊎◌, not, nat_lt, Bool, true, false, List, [], ◌++◌, length, map, take, Option, None, Some}
+use Rattle.std.specs.Prelude.{◌≡◌, ◌≢◌, ℕ, ◌+◌, ◌≤◌, ◌||◌, ◌⊎◌, not, nat_lt, Bool, true, false, List, [], ◌++◌, length, map, take, Option, None, Some, option_to_list}
 use Rattle.std.specs.List.{list_all, list_any}
 use Rattle.mux_frame.specs.Frames.{Frame}
 use Rattle.at_text.specs.declared.unsolicited.UrcKind.{UrcKind}
@@ -23,6 +23,9 @@ pub record Standing : Type 0 where
   pub line : LineView
   pub driver : DriverView
   pub kept : Kept
+
+abbrev pub standing : LineView → DriverView → Kept → Standing
+standing l d k = record { line = l; driver = d; kept = k }
 
 abbrev pub view_of : Standing → SessionView
 view_of s = seen_by s.line (end_of s.driver) s.kept
@@ -150,10 +153,11 @@ pub record TakesOne (old new : Standing) (moved : Bool) : Type 0 where
   pub desk_stays : (new.driver.desk ≡ old.driver.desk) × ((new.driver.told ≡ old.driver.told) × (new.driver.announced ≡ old.driver.announced))
   pub stays : new ≡ record old { driver = new.driver; kept = record old.kept { core = new.kept.core; aside = None; unplaced = new.kept.unplaced; unannounced = new.kept.unannounced } }
 
--- Where there was no memory for it, it is kept aside.
+-- Where there was no memory for it, it is kept aside: the one that was, or else the one that the desk gave.
 pub record KeepsAside (old new : Standing) : Type 0 where
   pub next : Option (Option Request)
   pub leads : Leads old new []
   pub taken : new.driver.taken ≡ old.driver.taken ++ request_given next
+  pub one_aside : (new.kept.aside ≢ None) × (option_to_list new.kept.aside ≡ option_to_list old.kept.aside ++ request_given next)
   pub desk_stays : (new.driver.desk ≡ old.driver.desk) × ((new.driver.told ≡ old.driver.told) × (new.driver.announced ≡ old.driver.announced))
   pub stays : new ≡ record old { driver = new.driver; kept = record old.kept { aside = new.kept.aside } }

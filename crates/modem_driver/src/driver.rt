@@ -1,5 +1,5 @@
 //! The driver between its callers and the line.
-ghost use Rattle.std.specs.Prelude.{◌≡◌, ◌≢◌, ◌↔◌, ◌<◌, ◌≤◌, ◌⊎◌, List, [], replicate, map, vec_capacity, IfOk, IsErrOf, OnErr};
+ghost use Rattle.std.specs.Prelude.{◌≡◌, ◌≢◌, ◌↔◌, ◌+◌, ◌<◌, ◌≤◌, ◌⊎◌, List, [], length, replicate, map, vec_capacity, IfOk, IsErrOf, OnErr};
 ghost use Rattle.modem_history.specs.Acts.{Act as Happening, act_of, Lost};
 ghost use Rattle.modem_driver.specs.Lanes.{new_lane};
 ghost use Rattle.modem_driver.specs.Cores.{new_core, state_shown, Fits, Handles};
@@ -123,6 +123,13 @@ impl Core {
             &mut acts,
         );
         Ok(acts.into_vec())
+    }
+
+    /// How many more requests may be in hand.
+    pub(crate) fn hand_left(&self) -> usize
+        ensures { result + length self.now.hand ≡ 128 }
+    {
+        self.hand.left()
     }
 
     /// The requests in hand, without taking memory, with room for 128.

@@ -51,6 +51,13 @@ impl Hand {
         self.requests.len() >= IN_HAND
     }
 
+    /// How many more there may be.
+    pub(crate) fn left(&self) -> usize
+        ensures { result + length self.now ≡ 128 }
+    {
+        IN_HAND - self.requests.len()
+    }
+
     /// The requests, lent.
     pub(crate) fn as_slice(&self) -> &[Request]
         ensures { result.now ≡ self.now }

@@ -12,6 +12,7 @@ mod exchanging;
 mod input;
 mod kept;
 mod output;
+mod taking;
 mod waiting;
 
 use crate::run::KINDS;

@@ -1,8 +1,8 @@
 //! What a session keeps beside its line and its desk's end.
-ghost use Rattle.std.specs.Prelude.{◌≡◌, ◌≢◌, ◌↔◌, ◌+◌, ◌<◌, ◌≤◌, ◌⊎◌, ◌++◌, [], true, false, length, option_to_list, None, IfOk, IfSome, IsErrOf, OnOk, OnErr};
+ghost use Rattle.std.specs.Prelude.{◌≡◌, ◌≢◌, ◌↔◌, ◌+◌, ◌<◌, ◌≤◌, ◌⊎◌, ◌++◌, [], true, false, length, option_to_list, None, IfOk, IsErrOf, OnOk, OnErr};
 ghost use Rattle.modem_driver.specs.Cores.{Fits};
 ghost use Rattle.modem_driver.specs.Holding.{HoldsFit};
-ghost use Rattle.modem_driver.specs.SessionStates.{new_kept, KeptFlows, KeptLoses, KeptTakes, KeptTicks};
+ghost use Rattle.modem_driver.specs.SessionStates.{new_kept, KeptFlows, KeptLoses, KeptTicks};
 ghost use Rattle.modem_driver.specs.declared.session.error.SessionError.TheVariants as why;
 ghost use Rattle.modem_driver.specs.declared.session.error.SessionFault.TheVariants as fault;
 
@@ -129,29 +129,6 @@ impl Kept {
             }
             Err(CoreError::NoRoom) => Ok(()),
             Err(_) => Err(SessionFault::NoMemory),
-        }
-    }
-
-    /// Takes the request that is kept aside, if there is one. Refusal: 1 NoMemory, which changes
-    /// nothing: the request stays aside.
-    pub(crate) fn take_aside(&mut self) -> Result<(), SessionFault>
-        ensures takes { OnOk result (IfSome self.old.aside (λ q. KeptTakes self.old self.new)) }
-        ensures none { self.old.aside ≡ None → self.new ≡ self.old }
-        ensures err { OnErr result (self.new ≡ self.old) }
-        ensures no_memory { OnErr result (result ≡ Err fault.NoMemory) }
-    {
-        let Some(request) = self.aside.take() else {
-            return Ok(());
-        };
-        match self.core.took(request) {
-            Ok(acts) => {
-                self.waiting.keep(acts);
-                Ok(())
-            }
-            Err((_why, request)) => {
-                self.aside = Some(request);
-                Err(SessionFault::NoMemory)
-            }
         }
     }
 

@@ -1,5 +1,5 @@
 //! Outcomes and lines that wait for a place.
-ghost use Rattle.std.specs.Prelude.{◌≡◌, ◌≤◌, [], map, IfOk, OnOk};
+ghost use Rattle.std.specs.Prelude.{◌≡◌, ◌≤◌, [], length, map, IfOk, OnOk};
 ghost use Rattle.modem_history.specs.Acts.{act_of};
 ghost use Rattle.modem_history.specs.Sessions.{backlog_in};
 ghost use Rattle.modem_driver.specs.WaitingLists.{Keeps, Puts};
@@ -82,6 +82,13 @@ impl Waiting {
         for act in acts {
             self.put(act);
         }
+    }
+
+    /// How many outcomes wait.
+    pub(crate) fn count(&self) -> usize
+        ensures { result ≡ length self.now.outcomes }
+    {
+        self.outcomes.len()
     }
 
     /// How many lines of a connection wait.

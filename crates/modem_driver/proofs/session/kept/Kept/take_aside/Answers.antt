@@ -3,8 +3,9 @@ use Rattle.std.proofs.Common.{◌≡◌, sym, ◌∙◌, subst}
 use Rattle.std.specs.Prelude.{map, Option, None, Some}
 use Rattle.modem_desk.specs.declared.request.Request.{Request}
 use Rattle.modem_history.specs.Acts.{act_of}
-use Rattle.modem_driver.specs.SessionStates.{Kept, KeptTakes}
-use Rattle.modem_driver.proofs.sessions.Taking.{takes, if_aside}
+use Rattle.modem_driver.specs.SessionStates.{Kept}
+use Rattle.modem_driver.specs.TurnTakes.{TakesAside}
+use Rattle.modem_driver.proofs.sessions.Taking.{takes}
 use Rattle.modem_driver.proofs.session.kept.Kept.take_aside.Goals as goal
 
 pub returns-in-Ok-clause-takes : goal.returns-in-Ok-clause-takes
@@ -24,7 +25,6 @@ returns-in-Ok-clause-takes c =
     let aside : k.aside ≡ Some q = sym c.take.ensures.value ∙ c.in-Some.is in
     let gone : c.take.new.self ≡ None = c.take.ensures.after in
     let new : Option Request → Kept = λ o. record old { core = c.took.new.self; aside = o; unplaced = c.keep.new.self.outcomes; unannounced = c.keep.new.self.lines } in
-    if_aside c.args.self.now.aside _
-    (subst (λ (v : Kept). KeptTakes v (new c.take.new.self)) c.self.view_is
-    (subst (λ (o : Option Request). KeptTakes old (new o)) (sym gone)
-    (takes old c.took.new.self k.waiting.room q c.keep.new.self (map act_of c.in-Ok.acts.items) aside c.in-Ok.ensures.past c.in-Ok.ensures.holds c.keep.ensures)))
+    subst (λ (v : Kept). TakesAside v (new c.take.new.self)) c.self.view_is
+    (subst (λ (o : Option Request). TakesAside old (new o)) (sym gone)
+    (takes old c.took.new.self k.waiting.room q c.keep.new.self (map act_of c.in-Ok.acts.items) aside c.in-Ok.ensures.past c.in-Ok.ensures.holds c.keep.ensures))

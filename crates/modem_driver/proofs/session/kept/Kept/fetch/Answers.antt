@@ -1,0 +1,50 @@
+-- The desk gives a request or none, or isn't asked.
+use Rattle.std.proofs.Common.{◌≡◌, ap, sym, ◌∙◌, subst, arith, true, false}
+use Rattle.std.specs.Prelude.{is_some}
+use Rattle.modem_history.specs.Sessions.{LineView}
+use Rattle.modem_driver.specs.SessionStates.{Kept}
+use Rattle.modem_driver.specs.TurnSteps.{standing}
+use Rattle.modem_driver.specs.TurnTakes.{Fetches}
+use Rattle.modem_driver.proofs.sessions.TakingOne.{fetches, fetches_none, gives, is_none}
+use Rattle.modem_driver.proofs.session.kept.Kept.fetch.Goals as goal
+
+pub returns-then-is_some : goal.returns-then-is_some
+returns-then-is_some g c =
+    let d = c.args.driver.now in
+    let some : is_some c.self.inside.aside ≡ true = sym c.is_some.ensures ∙ c.if-is_some.true in
+    subst (λ (v : Kept). (l : LineView) → Fetches (standing l d v) (standing l d v)) c.self.view_is
+    (λ l. fetches_none l d _ (λ none. absurd (cc_none (sym some ∙ ap is_some none))))
+  where
+    cc_none : true ≡ false → ⊥
+    cc_none e = cc
+
+pub returns-then-count-hand_left : goal.returns-then-count-hand_left
+returns-then-count-hand_left g c =
+    let d = c.args.driver.now in
+    let waits = c.count.ensures in
+    let left = c.hand_left.ensures in
+    let full = c.if-count-hand_left.true in
+    subst (λ (v : Kept). (l : LineView) → Fetches (standing l d v) (standing l d v)) c.self.view_is
+    (λ l. fetches_none l d _ (λ none. omega arith))
+
+pub returns : goal.returns
+returns g c =
+    let d = c.args.driver.now in
+    let h = c.next.ensures in
+    let waits = c.count.ensures in
+    let left = c.hand_left.ensures in
+    let room = c.if-count-hand_left.false in
+    let none = is_none c.self.inside.aside (sym c.is_some.ensures ∙ c.if-is_some.false) in
+    let k = c.self.inside in
+    let old : Kept = record {
+      core = k.core;
+      aside = k.aside;
+      unfed = k.input;
+      deframer = k.deframer;
+      unwritten = k.output;
+      unplaced = k.waiting.outcomes;
+      unannounced = k.waiting.lines;
+      faulty = k.faulty;
+    } in
+    subst (λ (v : Kept). (l : LineView) → Fetches (standing l d v) (standing l c.next.new.self (record old { aside = c.next.result }))) c.self.view_is
+    (λ l. fetches l d c.next.new.self old c.next.result none (omega arith) (gives d c.next.new.self c.next.result h.desk.0 h.desk.1 h.desk.2 h.taken))

@@ -1,0 +1,35 @@
+-- How a request is taken: the desk's next is put aside, and then the one that is aside is taken.
+use Rattle.std.specs.Prelude.{◌≡◌, ◌+◌, ◌≤◌, ◌⊎◌, Bool, true, false, List, [], ◌++◌, length, Option, None, Some, option_to_list}
+use Rattle.std.specs.List.{list_any}
+use Rattle.modem_desk.specs.declared.request.Request.{Request}
+use Rattle.modem_desk.specs.declared.request.Urc.{Urc}
+use Rattle.modem_desk.specs.Ends.{DriverView}
+use Rattle.modem_history.specs.Acts.{Act}
+use Rattle.modem_history.specs.Sessions.{Beginning, LineView, FitsWith, AreOnce}
+use Rattle.modem_history.specs.Turns.{request_given}
+use Rattle.modem_driver.specs.SessionStates.{Kept, KeptFits, KeptGoes, seen_by, end_of}
+use Rattle.modem_driver.specs.TurnSteps.{Standing, Leads, Adds, is_more}
+
+-- The desk is asked where none is aside and there is room for one more, and what it gives is put aside.
+pub record Fetches (old new : Standing) : Type 0 where
+  pub next : Option (Option Request)
+  pub leads : Leads old new []
+  pub taken : new.driver.taken ≡ old.driver.taken ++ request_given next
+  pub aside : option_to_list new.kept.aside ≡ option_to_list old.kept.aside ++ request_given next
+  pub none : new.kept.aside ≡ None → (next ≡ Some None) ⊎ (128 ≤ length old.kept.core.hand + length old.kept.unplaced)
+  pub desk_stays : (new.driver.desk ≡ old.driver.desk) × ((new.driver.told ≡ old.driver.told) × (new.driver.announced ≡ old.driver.announced))
+  pub stays : new.kept ≡ record old.kept { aside = new.kept.aside }
+  pub line_stays : new.line ≡ old.line
+
+-- the one that is aside is taken, and none is aside any more
+pub record TakesAside (old new : Kept) : Type 0 where
+  pub acts : List Act
+  pub goes : KeptGoes old new acts
+  pub adds : (waiting : List Urc) (b : Beginning) (l : LineView) (d : DriverView) (past : List Act) → AreOnce b (seen_by l (end_of d) new) → FitsWith b (seen_by l (end_of d) old) (KeptFits b l d old) past → Adds old new waiting acts
+  pub moves : list_any is_more acts ≡ true
+  pub stays : new ≡ record old { core = new.core; aside = None; unplaced = new.unplaced; unannounced = new.unannounced }
+
+-- where there is one
+abbrev pub TakesIf : (moved : Bool) → (old new : Kept) → Type 0
+TakesIf true old new = TakesAside old new
+TakesIf false old new = (old.aside ≡ None) × (new ≡ old)

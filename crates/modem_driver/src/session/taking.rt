@@ -1,0 +1,68 @@
+//! A request is taken: the one kept aside, or else the next of the desk.
+ghost use Rattle.std.specs.Prelude.{◌≡◌, ◌≢◌, None, IfOk, OnErr};
+ghost use Rattle.modem_history.specs.Sessions.{LineView};
+ghost use Rattle.modem_driver.specs.TurnSteps.{standing, TakesOne, KeepsAside};
+ghost use Rattle.modem_driver.specs.TurnTakes.{Fetches, TakesIf};
+ghost use Rattle.modem_driver.specs.declared.session.error.SessionFault.TheVariants as fault;
+
+use crate::session::error::SessionFault;
+use crate::session::kept::Kept;
+use modem_desk::DriverEnd;
+use std::sync::Wait;
+
+impl Kept {
+    /// Keeps the next request of the desk aside, where none is kept so, and where those in hand and
+    /// the outcomes that wait are fewer than 128.
+    fn fetch<R: Wait>(&mut self, driver: &mut DriverEnd, rt: &R)
+        ensures { (l : LineView) → Fetches (standing l driver.old self.old) (standing l driver.new self.new) }
+    {
+        if self.aside.is_some() {
+            return;
+        }
+        if self.waiting.count() >= self.core.hand_left() {
+            return;
+        }
+        self.aside = driver.next(rt);
+    }
+
+    /// Takes the request that is kept aside, and says whether there was one. Refusal: 1 NoMemory, which
+    /// changes nothing: the request stays aside.
+    fn take_aside(&mut self) -> Result<bool, SessionFault>
+        ensures takes { IfOk result (λ moved. TakesIf moved self.old self.new) }
+        ensures err { OnErr result (self.new ≡ self.old) }
+        ensures no_memory { OnErr result (result ≡ Err fault.NoMemory) }
+        ensures some { OnErr result (self.old.aside ≢ None) }
+    {
+        let Some(request) = self.aside.take() else {
+            return Ok(false);
+        };
+        match self.core.took(request) {
+            Ok(acts) => {
+                self.waiting.keep(acts);
+                Ok(true)
+            }
+            Err((_why, request)) => {
+                self.aside = Some(request);
+                Err(SessionFault::NoMemory)
+            }
+        }
+    }
+
+    /// Takes the request that is kept aside, or else the next of the desk, where those in hand and the
+    /// outcomes that wait are fewer than 128; and says whether it took one. Refusal: 1 NoMemory, which
+    /// keeps the request aside: it is the next to be taken.
+    pub(crate) fn take_one<R: Wait>(
+        &mut self,
+        driver: &mut DriverEnd,
+        rt: &R,
+    ) -> Result<bool, SessionFault>
+        ensures takes { IfOk result (λ moved. (l : LineView)
+            → TakesOne (standing l driver.old self.old) (standing l driver.new self.new) moved) }
+        ensures keeps { OnErr result ((l : LineView)
+            → KeepsAside (standing l driver.old self.old) (standing l driver.new self.new)) }
+        ensures no_memory { OnErr result (result ≡ Err fault.NoMemory) }
+    {
+        self.fetch(driver, rt);
+        self.take_aside()
+    }
+}
