@@ -11,3 +11,6 @@ pub mod Lines
 pub mod Losing
 pub mod Flowing
 pub mod Taking
+pub mod SendingPlain
+pub mod SendingOctets
+pub mod Sending

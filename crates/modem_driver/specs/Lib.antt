@@ -24,3 +24,4 @@ pub mod WaitingLists
 pub mod SessionStates
 pub mod Numbers
 pub mod TurnSteps
+pub mod SendingSteps

@@ -75,7 +75,7 @@ impl Kept {
             aside: None,
             input: Input::new(alloc)?,
             deframer,
-            output: Output::new(alloc, n1)?,
+            output: Output::new(alloc)?,
             waiting: Waiting::new(alloc)?,
             faulty: false,
         })
