@@ -14,3 +14,5 @@ pub mod Taking
 pub mod SendingPlain
 pub mod SendingOctets
 pub mod Sending
+pub mod GettingLines
+pub mod Getting

@@ -8,6 +8,7 @@ ghost use Rattle.modem_driver.specs.declared.session.error.SessionError.TheVaria
 ghost use Rattle.modem_driver.specs.declared.session.error.SessionFault.TheVariants as fault;
 
 mod error;
+mod getting;
 mod input;
 mod kept;
 mod output;

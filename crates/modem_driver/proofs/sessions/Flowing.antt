@@ -46,7 +46,7 @@ no_frame n false past = refl
 out : {P : Type 0} → false ≡ true → P
 out e = cc
 
-said_may : (us : List Urc) (more : List Act) → Saids more → list_all (may_act us) more ≡ true
+pub said_may : (us : List Urc) (more : List Act) → Saids more → list_all (may_act us) more ≡ true
 said_may us [] h = refl
 said_may us (Sent f ∷ more) h = said_may us more (and_parts (is_said (Sent f)) (list_all is_said more) h).1
 said_may us (Told o ∷ more) h = said_may us more h
