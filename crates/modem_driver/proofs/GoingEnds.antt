@@ -10,11 +10,11 @@ use Rattle.mux_frame.specs.Frames.{Frame}
 use Rattle.mux_station.specs.States.{is_opened}
 use Rattle.mux_station.specs.Stations.{Station, Channel, channel_at, shut_channel, stopped_in}
 use Rattle.mux_station.specs.Giving as giving
-use Rattle.mux_station.specs.Giving.{is_ready, first_ready, else_first, data_given, given_on, next_given}
+use Rattle.mux_station.specs.Giving.{is_ready, first_ready, else_first, data_given, given_on, next_given, next_sender}
 use Rattle.mux_station.specs.GivenFrames.{Outgoing, with_freshness}
 use Rattle.modem_driver.specs.Cores.{Core}
 use Rattle.modem_driver.specs.Running.{IsIdle}
-use Rattle.modem_driver.specs.CoreGoing.{begun_next, gone_on, left_to_go, LeavesLess}
+use Rattle.modem_driver.specs.CoreGoing.{begun_on, begun_next, gone_on, left_to_go, LeavesLess}
 
 -- the octets that wait in the send rings
 abbrev total : List Channel → ℕ
@@ -118,3 +118,26 @@ idle_none v (Some x) e = tt
 pub none_of : {X Y : Type 0} (f : X → Y) (P : Type 0) (o : Option X) → IfNone (option_map f o) P → IfNone o P
 none_of f P None h = h
 none_of f P (Some x) h = tt
+
+-- ## Nothing goes out
+
+no_sender : (v : Core) (fs : List Frame) → v.station.queue ≡ fs → next_given v.station fs ≡ None → record (begun_on v (next_sender v.station fs)) { station = given_on v.station fs } ≡ v
+no_sender v (f ∷ fs) q h = cc
+no_sender v [] q h = by_turn (giving.next_turn v.station) h
+  where
+    by_turn : (o : Option ℕ) → option_map (giving.data_frame v.station) o ≡ None → record (begun_on v o) { station = data_given v.station o } ≡ v
+    by_turn None e = refl
+    by_turn (Some d) e = cc
+
+no_frame : (b : Bool) (o : Option Frame) → option_map (with_freshness b) o ≡ None → o ≡ None
+no_frame b None e = refl
+no_frame b (Some f) e = cc
+
+by_loss : (v : Core) (b : Bool) → record (begun_next v) { station = given_on v.station v.station.queue } ≡ v → (if b then v else record (begun_next v) { station = given_on v.station v.station.queue }) ≡ v
+by_loss v true h = refl
+by_loss v false h = h
+
+-- where nothing goes out the core stays
+pub still_none : (v : Core) (o : Option Outgoing) → o ≡ option_map (with_freshness (length v.station.queue == 0)) (next_given v.station v.station.queue) → IfNone o (gone_on v ≡ v)
+still_none v None e = by_loss v v.lost (no_sender v v.station.queue refl (no_frame (length v.station.queue == 0) (next_given v.station v.station.queue) (sym e)))
+still_none v (Some x) e = tt

@@ -17,3 +17,9 @@ pub mod TurnMeans
 pub mod TurnFaults
 pub mod Exchanging
 pub mod TakingOne
+pub mod SendingPlain
+pub mod SendingOctets
+pub mod Sending
+pub mod GettingLines
+pub mod Getting
+pub mod Firsts

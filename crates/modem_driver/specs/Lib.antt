@@ -26,3 +26,5 @@ pub mod Numbers
 pub mod TurnSteps
 pub mod SessionTurns
 pub mod TurnTakes
+pub mod SendingSteps
+pub mod GettingSteps

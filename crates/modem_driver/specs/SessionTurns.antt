@@ -1,5 +1,5 @@
 -- Turns of a session: how each ends.
-use Rattle.std.specs.Prelude.{◌≡◌, ◌≢◌, ℕ, ◌<◌, ◌≤◌, nat_le, length, drop, Option, None, Some, Bool, true, false, List, [], ◌∷◌, take}
+use Rattle.std.specs.Prelude.{◌≡◌, ◌≢◌, ℕ, ◌<◌, ◌≤◌, nat_le, nat_lt, if◌then◌else◌, length, drop, Option, None, Some, Bool, true, false, List, [], ◌∷◌, take}
 use Rattle.std.specs.List.{list_all}
 use Rattle.mux_frame.specs.Frames.{Frame}
 use Rattle.mux_frame.specs.Deframing.{TakesIn}
@@ -7,10 +7,13 @@ use Rattle.at_text.specs.declared.unsolicited.UrcKind.{UrcKind}
 use Rattle.modem_desk.specs.declared.request.Outcome.{Outcome}
 use Rattle.modem_desk.specs.declared.request.Urc.{Urc}
 use Rattle.modem_desk.specs.Ends.{DriverView}
+use Rattle.modem_history.specs.Acts.{Act}
 use Rattle.modem_history.specs.Sessions.{Beginning, LineView, of_caller}
 use Rattle.modem_history.specs.Turns.{TurnAnswer, TurnFault, GoesTurn, GoesFault}
+use Rattle.modem_driver.specs.declared.session.error.SessionFault.{SessionFault}
+use Rattle.modem_driver.specs.declared.session.turn.Turn.{Turn}
 use Rattle.modem_driver.specs.SessionStates.{Kept, SessionState, FitsInside, seen}
-use Rattle.modem_driver.specs.TurnSteps.{Standing, Writes, ReadsOn}
+use Rattle.modem_driver.specs.TurnSteps.{Standing, Leads, AddsAll, Writes, ReadsOn}
 
 -- a session as its turn sees it
 abbrev pub standing_of : {X : Type 0} → (X → LineView) → SessionState X → Standing
@@ -18,20 +21,28 @@ standing_of look s = record { line = look s.line; driver = s.driver; kept = s.ke
 
 -- ## Which answer it is
 
--- nothing moved, all octets are written, and of the outcomes that wait this caller has the first, and none is of a lesser one
+-- of these outcomes this caller has one, and none is of a lesser one
+pub record IsLeast (c : ℕ) (os : List Outcome) : Type 0 where
+  pub outcome : Outcome
+  pub first : take 1 (of_caller c os) ≡ outcome ∷ []
+  pub least : list_all (λ (o : Outcome). nat_le c o.caller) os ≡ true
+
+-- the first of these lines is of this kind
+pub record IsFirstOf (kind : UrcKind) (us : List Urc) : Type 0 where
+  pub line : Urc
+  pub first : take 1 us ≡ line ∷ []
+  pub is_of : line.kind ≡ kind
+
+-- nothing moved, all octets are written, and an outcome waits
 pub record HasOutcome (k : Kept) (c : ℕ) : Type 0 where
   pub written : k.unwritten ≡ []
-  pub outcome : Outcome
-  pub first : take 1 (of_caller c k.unplaced) ≡ outcome ∷ []
-  pub least : list_all (λ (o : Outcome). nat_le c o.caller) k.unplaced ≡ true
+  pub waits : IsLeast c k.unplaced
 
--- nothing moved, all octets are written and all outcomes placed, and the line heard first is of this kind
+-- nothing moved, all octets are written and all outcomes placed, and a line waits
 pub record HasLine (k : Kept) (kind : UrcKind) : Type 0 where
   pub written : k.unwritten ≡ []
   pub placed : k.unplaced ≡ []
-  pub line : Urc
-  pub first : take 1 k.unannounced ≡ line ∷ []
-  pub is_of : line.kind ≡ kind
+  pub waits : IsFirstOf kind k.unannounced
 
 pub record HasNothing (k : Kept) : Type 0 where
   pub written : k.unwritten ≡ []
@@ -46,6 +57,19 @@ Answers k moved (TurnAnswer.Waiting c) = (moved ≡ false) × HasOutcome k c
 Answers k moved (TurnAnswer.Blocked kind) = (moved ≡ false) × HasLine k kind
 Answers k moved TurnAnswer.Idle = (moved ≡ false) × HasNothing k
 
+-- a turn's answer and its fault, as the program names them
+abbrev pub answer_of : Turn → TurnAnswer
+answer_of Turn.Moved = TurnAnswer.Moved
+answer_of Turn.WriterFull = TurnAnswer.WriterFull
+answer_of (Turn.Waiting caller) = TurnAnswer.Waiting caller
+answer_of (Turn.Blocked kind) = TurnAnswer.Blocked kind
+answer_of Turn.Idle = TurnAnswer.Idle
+
+abbrev pub fault_of : SessionFault → TurnFault
+fault_of SessionFault.NoMemory = TurnFault.NoMemory
+fault_of SessionFault.Line = TurnFault.LineFailed
+fault_of SessionFault.Failed = TurnFault.Failed
+
 -- ## Turns and faults, whatever the session began with
 
 unfoldable pub Turns : {X : Type 0} → (X → LineView) → (old new : SessionState X) → TurnAnswer → Type 0
@@ -53,6 +77,13 @@ Turns look old new says = (b : Beginning) → GoesTurn b (seen look old) (seen l
 
 unfoldable pub Faults : {X : Type 0} → (X → LineView) → (old new : SessionState X) → TurnFault → Type 0
 Faults look old new says = (b : Beginning) → GoesFault b (seen look old) (seen look new) (FitsInside b look old) (FitsInside b look new) says
+
+-- some backlogs were looked at, and then there was no memory
+pub record MindsSome (old new : Standing) : Type 0 where
+  pub acts : List Act
+  pub leads : Leads old new acts
+  pub adds : AddsAll old new old.kept.unannounced acts
+  pub stays : new ≡ record old { kept = record old.kept { core = new.kept.core } }
 
 -- ## Calls on the line
 

@@ -1,5 +1,5 @@
 //! Frames that go out.
-ghost use Rattle.std.specs.Prelude.{◌≡◌, option_map, IfNone};
+ghost use Rattle.std.specs.Prelude.{◌≡◌, ◌≤◌, length, option_map, IfNone, IfSome};
 ghost use Rattle.modem_driver.specs.Running.{IsIdle};
 ghost use Rattle.std.specs.Option.{option_copied};
 ghost use Rattle.std.specs.Borrow.{sem};
@@ -62,13 +62,16 @@ impl Core {
 
     /// The next frame for the line, lent, which is then no longer kept: the first of the control
     /// queue; where that is empty, data of the connection whose turn it is, as many octets as wait
-    /// there and at most N1. After a loss of the line there is none. It takes no memory.
+    /// there and at most N1, which are 1024 or fewer. After a loss of the line there is none. It takes
+    /// no memory.
     pub fn outgoing(&mut self) -> Option<Outgoing<'_>>
         ensures frame { GoesOut self.old (option_map outgoing_of result) }
         ensures past { GoesOn self.old }
         ensures holds { KeepsHeldOut self.old }
         ensures less { LeavesLess self.old (option_map outgoing_of result) }
+        ensures short { IfSome result (λ o. length o.frame.info.now ≤ 1024) }
         ensures idle { IfNone result (IsIdle self.old) }
+        ensures still { IfNone result (gone_on self.old ≡ self.old) }
         ensures* after { sem 𝓛 (Rests the_row self.entry (λ new. new ≡ gone_on self.old)) }
     {
         if self.lost {

@@ -9,10 +9,14 @@ ghost use Rattle.modem_driver.specs.declared.session.error.SessionFault.TheVaria
 
 mod error;
 mod exchanging;
+mod getting;
 mod input;
 mod kept;
 mod output;
+mod placing;
+mod sending;
 mod taking;
+mod turn;
 mod waiting;
 
 use crate::run::KINDS;
@@ -24,6 +28,7 @@ use serial_line::SerialLine;
 use std::alloc::{AllocError, Global};
 use std::marker::Model;
 use std::sync::Wait;
+pub use turn::Turn;
 
 /// A driver between its line and the driver's end of its desk. It keeps the right to wait, and the
 /// allocator.

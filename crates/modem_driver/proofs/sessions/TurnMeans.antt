@@ -261,10 +261,10 @@ module _ {s0 s1 s2 s3 s4 s5 s6 s7 : Standing} {m1 m2 m3 m4 m5 m6 m7 : Bool} wher
       let same : s7.kept.unplaced ≡ s1.kept.unplaced = ap (λ (k : Kept). k.unplaced) rest.kept_still ∙ (ap (λ (s : Standing). s.kept.unplaced) rest.sent_still ∙ ap (λ (s : Standing). s.kept.unplaced) r.minds.stays) in
       record {
         written = a.1.written;
-        outcome = a.1.outcome;
-        waits = a.1.first;
-        handed_back = r.places.outcomes_back c ∙ (ap (λ (os : List Outcome). take 1 (of_caller c os)) (sym same) ∙ a.1.first);
-        least = a.1.least;
+        outcome = a.1.waits.outcome;
+        waits = a.1.waits.first;
+        handed_back = r.places.outcomes_back c ∙ (ap (λ (os : List Outcome). take 1 (of_caller c os)) (sym same) ∙ a.1.waits.first);
+        least = a.1.waits.least;
         rest = at_rest b past r q once f a.1.written;
       }
   means b past r (TurnAnswer.Blocked k) a once f =
@@ -274,10 +274,10 @@ module _ {s0 s1 s2 s3 s4 s5 s6 s7 : Standing} {m1 m2 m3 m4 m5 m6 m7 : Bool} wher
       record {
         written = a.1.written;
         placed = a.1.placed;
-        line = a.1.line;
-        waits = a.1.first;
-        is_of = a.1.is_of;
-        handed_back = r.places.lines_back k ∙ (ap (λ (us : List Urc). take 1 (of_kind k us)) (sym same) ∙ first_of_kind k a.1.line s7.kept.unannounced a.1.is_of a.1.first);
+        line = a.1.waits.line;
+        waits = a.1.waits.first;
+        is_of = a.1.waits.is_of;
+        handed_back = r.places.lines_back k ∙ (ap (λ (us : List Urc). take 1 (of_kind k us)) (sym same) ∙ first_of_kind k a.1.waits.line s7.kept.unannounced a.1.waits.is_of a.1.waits.first);
         rest = at_rest b past r q once f a.1.written;
       }
   means b past r TurnAnswer.Idle a once f = record {

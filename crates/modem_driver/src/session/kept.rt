@@ -73,7 +73,7 @@ impl Kept {
             aside: None,
             input: Input::new(alloc)?,
             deframer,
-            output: Output::new(alloc, n1)?,
+            output: Output::new(alloc)?,
             waiting: Waiting::new(alloc)?,
             faulty: false,
         })

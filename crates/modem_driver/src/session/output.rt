@@ -1,12 +1,18 @@
 //! Octets that wait for the line.
-ghost use Rattle.std.specs.Prelude.{◌≡◌, ◌≤◌, ◌==◌, [], length, drop, IfOk};
+ghost use Rattle.std.specs.Prelude.{◌≡◌, ◌≢◌, ◌≤◌, ◌==◌, [], length, drop, IfOk};
+ghost use Rattle.mux_frame.specs.Frames.{frame_of};
+ghost use Rattle.mux_frame.specs.Spelling.{most_info, spelled};
 
+use mux_frame::{FrameView, Kind, write_frame};
 use std::alloc::{AllocError, Global};
 use std::marker::Model;
 
 /// The most octets that a frame has besides its information: both its flags, address, control, two
 /// length octets and the check octet (27.010, 5.2.1).
 const AROUND: usize = 7;
+
+/// The most octets of information that a frame that goes out has.
+const LONGEST: u16 = 1024;
 
 /// The octets of the frame that goes out that the line hasn't taken yet.
 #[derive(Drop)]
@@ -16,23 +22,42 @@ pub(crate) struct Output {
 }
 
 impl Model for Output {
-    ghost use Rattle.std.specs.Prelude.{ℕ, List, drop, ◌≤◌};
+    ghost use Rattle.std.specs.Prelude.{ℕ, List, drop, vec_capacity, ◌≤◌};
     ghost use Rattle.std.specs.Vec.{vec_len};
 
     ghost Value = { List ℕ };
 
     ghost view = { λ o. drop o.written o.octets.items };
 
-    ghost invariant = { λ o. o.written ≤ vec_len o.octets };
+    ghost invariant = { λ o. (o.written ≤ vec_len o.octets) × (1031 ≤ vec_capacity o.octets) };
 }
 
 impl Output {
     /// None so far, and room for a frame.
-    pub(crate) fn new(alloc: Global, n1: u16) -> Result<Output, AllocError>
+    pub(crate) fn new(alloc: Global) -> Result<Output, AllocError>
         ensures { IfOk result (λ o. o ≡ []) }
     {
-        let octets = Vec::with_capacity(alloc, usize::from(n1) + AROUND)?;
+        let octets = Vec::with_capacity(alloc, usize::from(LONGEST) + AROUND)?;
         Ok(Output { octets, written: 0 })
+    }
+
+    /// The octets of a frame wait, between two flags. The conditions are that none waits and that its
+    /// information is at most 1024 octets. In a kind other than UIH there is no information (27.010,
+    /// 5.2.1.4), and none is written. It takes no memory.
+    pub(crate) fn put(&mut self, frame: FrameView<'_>)
+        requires none { self.old ≡ [] }
+        requires short { length frame.info.now ≤ 1024 }
+        ensures some { self.new ≢ [] }
+        ensures octets { length (frame_of frame.entry).info ≤ most_info 1024 (frame_of frame.entry).kind
+            → self.new ≡ spelled (frame_of frame.entry) }
+    {
+        let info = match frame.kind {
+            Kind::Uih => frame.info,
+            _ => &[],
+        };
+        self.octets.clear();
+        self.written = 0;
+        let _ = write_frame(FrameView { info, ..frame }, LONGEST, &mut self.octets);
     }
 
     /// Whether the line has taken all.

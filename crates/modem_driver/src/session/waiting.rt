@@ -1,10 +1,12 @@
 //! Outcomes and lines that wait for a place.
-ghost use Rattle.std.specs.Prelude.{◌≡◌, ◌≤◌, [], length, map, IfOk, OnOk};
+ghost use Rattle.std.specs.Prelude.{◌≡◌, ◌≤◌, [], length, map, IfOk, OnOk, IfSome, IfNone, MatchOption, All, Contains};
 ghost use Rattle.modem_history.specs.Acts.{act_of};
 ghost use Rattle.modem_history.specs.Sessions.{backlog_in};
+ghost use Rattle.modem_driver.specs.SessionTurns.{IsFirstOf, IsLeast};
 ghost use Rattle.modem_driver.specs.WaitingLists.{Keeps, Puts};
 
 use crate::hand::IN_HAND;
+use at_text::UrcKind;
 use modem_desk::{Outcome, Urc};
 use modem_history::Act;
 use mux_frame::Dlci;
@@ -35,6 +37,15 @@ impl Model for Waiting {
     } };
 
     ghost invariant = { λ w. 128 ≤ deque_capacity w.outcomes };
+}
+
+/// The least of the callers.
+fn least_of(outcomes: &[Outcome]) -> Option<u8>
+    ensures none { IfNone result (outcomes.now ≡ []) }
+    ensures least { IfSome result (λ c. All (λ o. c ≤ o.caller) outcomes.now
+        × Contains (map (λ o. o.caller) outcomes.now) c) }
+{
+    outcomes.iter().map(|outcome| outcome.caller).min()
 }
 
 impl Waiting {
@@ -99,6 +110,30 @@ impl Waiting {
             .iter()
             .filter(|line| line.dlci.number() == dlci.number())
             .count()
+    }
+
+    /// The least caller for whom an outcome waits.
+    #[tactic(auto, using(crate::proofs::sessions::Firsts::least_both, crate::proofs::sessions::Firsts::least_front, crate::proofs::sessions::Firsts::least_back, crate::proofs::sessions::Firsts::none_both))]
+    pub(crate) fn least_caller(&self) -> Option<u8>
+        ensures { MatchOption result (self.now.outcomes ≡ []) (λ c. IsLeast c self.now.outcomes) }
+    {
+        let (front, back) = self.outcomes.as_slices();
+        match (least_of(front), least_of(back)) {
+            (Some(first), Some(second)) => Some(first.min(second)),
+            (Some(first), None) => Some(first),
+            (None, second) => second,
+        }
+    }
+
+    /// The kind of the line that was heard first of those that wait.
+    #[tactic(auto, using(crate::proofs::sessions::Firsts::first_of, crate::proofs::sessions::Firsts::none_of))]
+    pub(crate) fn first_kind(&self) -> Option<UrcKind>
+        ensures { MatchOption result (self.now.lines ≡ []) (λ k. IsFirstOf k self.now.lines) }
+    {
+        match self.lines.front() {
+            Some(line) => Some(line.kind),
+            None => None,
+        }
     }
 
     /// The outcomes and the lines, without taking memory.

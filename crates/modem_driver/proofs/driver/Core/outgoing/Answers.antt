@@ -5,18 +5,18 @@ use Rattle.mux_station.specs.Stations.{Station}
 use Rattle.mux_station.specs.Giving.{next_given, GivesOn}
 use Rattle.mux_station.specs.GivenFrames.{outgoing_of, with_freshness}
 use Rattle.modem_driver.specs.Cores.{Core}
-use Rattle.modem_driver.specs.CoreGoing.{begun_next}
+use Rattle.modem_driver.specs.CoreGoing.{begun_next, gone_on}
 use Rattle.modem_driver.proofs.GoingCores.{IsSound, sound, goes_on, goes_out, goes_none, goes_on_lost, gone_lost, station_stays, gone, kept_on}
 use Rattle.modem_driver.specs.Running.{IsIdle}
 use Rattle.modem_driver.proofs.FrameHolds.{out_holds}
-use Rattle.modem_driver.proofs.GoingEnds.{leaves_less, idle_lost, idle_none, none_of}
+use Rattle.modem_driver.proofs.GoingEnds.{leaves_less, idle_lost, idle_none, still_none, none_of}
 use Rattle.modem_driver.proofs.driver.Core.outgoing.Goals as goal
 
 -- src/sending.rt:68:13
 pub returns-then-self : goal.returns-then-self
 returns-then-self c =
     let lost : c.args.self.now.lost ≡ true = sym (ap (λ (v : Core). v.lost) c.self.view_is) ∙ c.if-self.true in
-    ((refl, (λ v. tt), gone_lost c.args.self.now lost), record { frame = goes_none c.args.self.now lost; past = goes_on_lost c.args.self.now lost; holds = out_holds c.args.self.now; less = tt; idle = idle_lost c.args.self.now lost; after = tt })
+    ((refl, (λ v. tt), gone_lost c.args.self.now lost), record { frame = goes_none c.args.self.now lost; past = goes_on_lost c.args.self.now lost; holds = out_holds c.args.self.now; less = tt; short = tt; idle = idle_lost c.args.self.now lost; still = sym (gone_lost c.args.self.now lost); after = tt })
 
 -- src/sending.rt:62:5
 pub invariant_of-self : goal.invariant_of-self
@@ -41,6 +41,8 @@ returns c =
         past = goes_on old is_sound gives c.begin_next.ensures.sender;
         holds = out_holds old;
         less = leaves_less old (option_map outgoing_of c.next_frame.result) (let l = is_sound.least in omega (arith, l)) live frame;
+        short = c.next_frame.ensures.short;
+        still = none_of outgoing_of (gone_on old ≡ old) c.next_frame.result (still_none old (option_map outgoing_of c.next_frame.result) frame);
         idle = none_of outgoing_of (IsIdle old) c.next_frame.result (idle_none old (option_map outgoing_of c.next_frame.result) frame);
         after = tt;
       },

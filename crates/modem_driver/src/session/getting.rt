@@ -1,0 +1,35 @@
+//! Frames that are handled.
+ghost use Rattle.std.specs.Prelude.{◌≡◌, IfOk, OnErr};
+ghost use Rattle.modem_driver.specs.GettingSteps.{KeptGets};
+ghost use Rattle.modem_driver.specs.declared.session.error.SessionFault.TheVariants as fault;
+
+use crate::error::CoreError;
+use crate::session::error::SessionFault;
+use crate::session::kept::Kept;
+
+impl Kept {
+    /// Handles the frame at hand, and says whether there was one that could be handled. Where there is
+    /// no room in the control queue for what it calls for, it stays at hand and nothing is done.
+    /// Refusal: 1 NoMemory, which changes nothing: the frame stays at hand too.
+    pub(crate) fn get_one(&mut self) -> Result<bool, SessionFault>
+        ensures gets { IfOk result (λ moved. KeptGets self.old self.new moved) }
+        ensures err { OnErr result (self.new ≡ self.old) }
+        ensures no_memory { OnErr result (result ≡ Err fault.NoMemory) }
+    {
+        let Some(frame) = self.deframer.peek() else {
+            return Ok(false);
+        };
+        let Ok(()) = self.waiting.make_room(frame.info.len()) else {
+            return Err(SessionFault::NoMemory);
+        };
+        match self.core.got(frame) {
+            Ok(acts) => {
+                self.waiting.keep(acts);
+                self.deframer.advance();
+                Ok(true)
+            }
+            Err(CoreError::NoRoom) => Ok(false),
+            Err(_) => Err(SessionFault::NoMemory),
+        }
+    }
+}

@@ -1,0 +1,22 @@
+//! Frames that go into the output.
+ghost use Rattle.modem_driver.specs.SendingSteps.{KeptSends};
+
+use crate::session::kept::Kept;
+
+impl Kept {
+    /// The next frame's octets go into the output: the first of the control queue, else data. Where
+    /// octets wait, nothing is done. It says whether data was sent: a control frame was sent when it was
+    /// queued. It takes no memory.
+    pub(crate) fn send_on(&mut self) -> bool
+        ensures sends { KeptSends self.old self.new result }
+    {
+        if !self.output.is_empty() {
+            return false;
+        }
+        let Some(outgoing) = self.core.outgoing() else {
+            return false;
+        };
+        self.output.put(outgoing.frame);
+        outgoing.fresh
+    }
+}

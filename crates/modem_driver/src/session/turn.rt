@@ -1,0 +1,120 @@
+//! Turns of a session.
+ghost use Rattle.std.specs.Prelude.{◌≡◌, IfOk, OnErr};
+ghost use Rattle.modem_driver.specs.SessionStates.{line_by};
+ghost use Rattle.modem_driver.specs.TurnSteps.{Places, Minds, SendsOn, Writes, Gets, ReadsOn, TakesOne, KeepsAside};
+ghost use Rattle.modem_driver.specs.SessionTurns.{standing_of, answer_of, MindsSome, Answers};
+ghost use Rattle.modem_driver.specs.declared.session.error.SessionFault.TheVariants as fault;
+
+use crate::session::Session;
+use crate::session::error::SessionFault;
+use crate::session::kept::Kept;
+use at_text::UrcKind;
+use serial_line::SerialLine;
+use std::sync::Wait;
+
+/// What a turn came to.
+#[derive(Clone, Copy, PartialEq, Eq, Debug)]
+pub enum Turn {
+    /// Something was done other than that a control frame went into the output.
+    Moved,
+    /// Nothing was done: octets wait for the line, which took none.
+    WriterFull,
+    /// Nothing was done: an outcome waits for a place with this caller, the least of those.
+    Waiting(u8),
+    /// Nothing was done: a line waits for a place with the listener of this kind. It was heard before
+    /// all others that wait.
+    Blocked(UrcKind),
+    /// There is nothing to do.
+    Idle,
+}
+
+impl Kept {
+    /// What a turn answers by what still waits.
+    fn answer(&self, moved: bool) -> Turn
+        ensures { Answers self.now moved (answer_of result) }
+    {
+        if moved {
+            return Turn::Moved;
+        }
+        if !self.output.is_empty() {
+            return Turn::WriterFull;
+        }
+        if let Some(caller) = self.waiting.least_caller() {
+            return Turn::Waiting(caller);
+        }
+        match self.waiting.first_kind() {
+            Some(kind) => Turn::Blocked(kind),
+            None => Turn::Idle,
+        }
+    }
+}
+
+impl<L: SerialLine, R: Wait + Drop> Session<L, R> {
+    /// Offers what waits to the desk.
+    fn place(&mut self) -> bool
+        ensures { Places (standing_of (line_by L.received L.sent L.calls L.failures) self.old)
+            (standing_of (line_by L.received L.sent L.calls L.failures) self.new) result }
+    {
+        self.kept.place(&mut self.driver)
+    }
+
+    /// Looks at the backlogs.
+    fn mind_backlogs(&mut self) -> Result<bool, SessionFault>
+        ensures minds { IfOk result (λ moved. Minds (standing_of (line_by L.received L.sent L.calls L.failures) self.old)
+            (standing_of (line_by L.received L.sent L.calls L.failures) self.new) moved) }
+        ensures some { OnErr result (MindsSome (standing_of (line_by L.received L.sent L.calls L.failures) self.old)
+            (standing_of (line_by L.received L.sent L.calls L.failures) self.new)) }
+        ensures no_memory { OnErr result (result ≡ Err fault.NoMemory) }
+    {
+        self.kept.mind_backlogs()
+    }
+
+    /// Takes the next frame into the output.
+    #[tactic(auto, unfolding(crate::specs::SendingSteps::KeptSends))]
+    fn send_on(&mut self) -> bool
+        ensures { SendsOn (standing_of (line_by L.received L.sent L.calls L.failures) self.old)
+            (standing_of (line_by L.received L.sent L.calls L.failures) self.new) result }
+    {
+        self.kept.send_on()
+    }
+
+    /// Writes to the line.
+    #[tactic(auto, unfolding(crate::specs::SessionTurns::KeptWrites))]
+    fn write_on(&mut self) -> bool
+        ensures { Writes (standing_of (line_by L.received L.sent L.calls L.failures) self.old)
+            (standing_of (line_by L.received L.sent L.calls L.failures) self.new) result }
+    {
+        self.kept.write_on(&mut self.line)
+    }
+
+    /// Handles the frame at hand.
+    #[tactic(auto, unfolding(crate::specs::GettingSteps::KeptGets))]
+    fn get_one(&mut self) -> Result<bool, SessionFault>
+        ensures gets { IfOk result (λ moved. Gets (standing_of (line_by L.received L.sent L.calls L.failures) self.old)
+            (standing_of (line_by L.received L.sent L.calls L.failures) self.new) moved) }
+        ensures err { OnErr result (self.new ≡ self.old) }
+        ensures no_memory { OnErr result (result ≡ Err fault.NoMemory) }
+    {
+        self.kept.get_one()
+    }
+
+    /// Reads from the line, and feeds.
+    #[tactic(auto, unfolding(crate::specs::SessionTurns::KeptReads))]
+    fn read_on(&mut self) -> bool
+        ensures { ReadsOn (standing_of (line_by L.received L.sent L.calls L.failures) self.old)
+            (standing_of (line_by L.received L.sent L.calls L.failures) self.new) result }
+    {
+        self.kept.read_on(&mut self.line)
+    }
+
+    /// Takes a request.
+    fn take_one(&mut self) -> Result<bool, SessionFault>
+        ensures takes { IfOk result (λ moved. TakesOne (standing_of (line_by L.received L.sent L.calls L.failures) self.old)
+            (standing_of (line_by L.received L.sent L.calls L.failures) self.new) moved) }
+        ensures keeps { OnErr result (KeepsAside (standing_of (line_by L.received L.sent L.calls L.failures) self.old)
+            (standing_of (line_by L.received L.sent L.calls L.failures) self.new)) }
+        ensures no_memory { OnErr result (result ≡ Err fault.NoMemory) }
+    {
+        self.kept.take_one(&mut self.driver, &self.rt)
+    }
+}
