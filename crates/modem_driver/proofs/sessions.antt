@@ -12,3 +12,8 @@ pub mod Losing
 pub mod Flowing
 pub mod Taking
 pub mod TakingOne
+pub mod Amounts
+pub mod Offering
+pub mod PlacingOutcomes
+pub mod PlacingLines
+pub mod Placing

@@ -25,3 +25,4 @@ pub mod SessionStates
 pub mod Numbers
 pub mod TurnSteps
 pub mod TurnTakes
+pub mod Placing

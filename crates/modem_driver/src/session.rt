@@ -11,6 +11,7 @@ mod error;
 mod input;
 mod kept;
 mod output;
+mod placing;
 mod taking;
 mod waiting;
 

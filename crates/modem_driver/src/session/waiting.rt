@@ -17,8 +17,8 @@ use std::marker::Model;
 /// together 128 at most, and for so many outcomes there is room.
 #[derive(Drop)]
 pub(crate) struct Waiting {
-    outcomes: VecDeque<Outcome>,
-    lines: VecDeque<Urc>,
+    pub(super) outcomes: VecDeque<Outcome>,
+    pub(super) lines: VecDeque<Urc>,
 }
 
 impl Model for Waiting {
@@ -89,6 +89,13 @@ impl Waiting {
         ensures { result ≡ length self.now.outcomes }
     {
         self.outcomes.len()
+    }
+
+    /// How many lines wait.
+    pub(crate) fn many(&self) -> usize
+        ensures { result ≡ length self.now.lines }
+    {
+        self.lines.len()
     }
 
     /// How many lines of a connection wait.
