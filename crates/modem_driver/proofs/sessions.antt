@@ -23,3 +23,8 @@ pub mod Sending
 pub mod GettingLines
 pub mod Getting
 pub mod Firsts
+pub mod Amounts
+pub mod Offering
+pub mod PlacingOutcomes
+pub mod PlacingLines
+pub mod Placing

@@ -28,3 +28,4 @@ pub mod SessionTurns
 pub mod TurnTakes
 pub mod SendingSteps
 pub mod GettingSteps
+pub mod Placing

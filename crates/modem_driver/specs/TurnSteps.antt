@@ -1,7 +1,9 @@
 -- The steps of a turn: what each is promised to do. A step leads on by some acts, the same whatever history there was, and says
 -- whether it moved anything.
-use Rattle.std.specs.Prelude.{◌≡◌, ◌≢◌, ℕ, ◌+◌, ◌≤◌, ◌||◌, ◌⊎◌, not, nat_lt, Bool, true, false, List, [], ◌++◌, length, map, take, Option, None, Some, option_to_list}
+use Rattle.std.specs.Prelude.{◌≡◌, ◌≢◌, ℕ, ◌+◌, ◌≤◌, ◌<◌, ◌||◌, ◌⊎◌, not, nat_lt, Bool, true, false, List, [], ◌++◌, length, map, take, Option, None, Some, option_to_list, slice_index_or}
 use Rattle.std.specs.List.{list_all, list_any}
+use mathlib.Core.Option.{some}
+use lib.ListN.{get_elem?}
 use Rattle.mux_frame.specs.Frames.{Frame}
 use Rattle.at_text.specs.declared.unsolicited.UrcKind.{UrcKind}
 use Rattle.modem_desk.specs.declared.request.Request.{Request}
@@ -56,13 +58,16 @@ AddsAll old new waiting acts = (b : Beginning) (past : List Act) → AreOnce b (
 
 -- ## What waits is offered to the desk
 
--- Of each caller and of each kind the first that still waits was handed back, and no other.
+-- Of each caller and of each kind the first that still waits was handed back, and no other: its ring has no free place that the
+-- desk's end knows of.
 pub record Places (old new : Standing) (moved : Bool) : Type 0 where
   pub told_back : List Outcome
   pub heard_back : List Urc
   pub leads : Leads old new []
   pub outcomes_back : (c : ℕ) → of_caller c told_back ≡ take 1 (of_caller c new.kept.unplaced)
   pub lines_back : (k : UrcKind) → of_kind k heard_back ≡ take 1 (of_kind k new.kept.unannounced)
+  pub rings_full : (c : ℕ) → c < length new.driver.desk.rings → of_caller c new.kept.unplaced ≢ [] → slice_index_or new.driver.free c 0 ≡ 0
+  pub lines_full : (i : ℕ) (k : UrcKind) → get_elem? new.driver.desk.kinds i ≡ some k → of_kind k new.kept.unannounced ≢ [] → slice_index_or new.driver.free_lines i 0 ≡ 0
   pub moved_is : moved ≡ (nat_lt (amount old.driver.told) (amount new.driver.told) || nat_lt (amount old.driver.announced) (amount new.driver.announced))
   pub told_grows : amount old.driver.told ≤ amount new.driver.told
   pub announced_grows : amount old.driver.announced ≤ amount new.driver.announced

@@ -12,6 +12,7 @@ mod exchanging;
 mod getting;
 mod input;
 mod kept;
+mod minding;
 mod output;
 mod placing;
 mod sending;

@@ -40,7 +40,7 @@ every_kind Other = (6, omega arith, refl)
 
 -- ## Listened to
 
-same_place : (k m : UrcKind) → is_same_kind k m ≡ true → k ≡ m
+pub same_place : (k m : UrcKind) → is_same_kind k m ≡ true → k ≡ m
 same_place Ring Ring e = refl
 same_place Ring Cring e = cc
 same_place Ring Creg e = cc

@@ -1,29 +1,131 @@
-//! STUB
-ghost use Rattle.std.specs.Prelude.{◌≡◌, IfOk, OnErr};
+//! What waits is offered to the desk.
+ghost use Rattle.std.specs.Prelude.{◌≡◌, ◌<◌};
+ghost use Rattle.modem_history.specs.Kinds.{kind_place};
 ghost use Rattle.modem_history.specs.Sessions.{LineView};
-ghost use Rattle.modem_desk.specs.Ends.{DriverView};
-ghost use Rattle.modem_driver.specs.TurnSteps.{standing, Places, Minds};
-ghost use Rattle.modem_driver.specs.SessionTurns.{MindsSome};
-ghost use Rattle.modem_driver.specs.declared.session.error.SessionFault.TheVariants as fault;
+ghost use Rattle.modem_driver.specs.Placing.{OffersFirst, Placed, TellsAlone, AnnouncesAlone, caller_of, place_of, IsRingOf, IsCaller, IsEarOf, IsHeard};
+ghost use Rattle.modem_driver.specs.TurnSteps.{standing, Places};
 
-use crate::session::error::SessionFault;
 use crate::session::kept::Kept;
+use crate::session::waiting::Waiting;
+use at_text::UrcKind;
 use modem_desk::DriverEnd;
 
-impl Kept {
-    pub(crate) fn place(&mut self, driver: &mut DriverEnd) -> bool
-        ensures { (l : LineView) → Places (standing l driver.old self.old) (standing l driver.new self.new) result }
+/// How many callers a number of 8 bits can name.
+const CALLERS: usize = 256;
+
+/// How many kinds of lines there are.
+const KINDS: usize = 7;
+
+/// The place of a kind in their list.
+fn place_of(kind: UrcKind) -> usize
+    ensures place { result ≡ kind_place kind }
+    ensures few { result < 7 }
+{
+    match kind {
+        UrcKind::Ring => 0,
+        UrcKind::Cring => 1,
+        UrcKind::Creg => 2,
+        UrcKind::Cgreg => 3,
+        UrcKind::Cgev => 4,
+        UrcKind::Ciev => 5,
+        UrcKind::Other => 6,
+    }
+}
+
+impl Waiting {
+    /// The first outcome is offered to its caller, unless one of that caller was handed back before. One
+    /// that is handed back, or isn't offered, goes behind the others. Whether it was told.
+    fn offer_outcome(&mut self, driver: &mut DriverEnd, held_up: &mut [bool; CALLERS]) -> bool
+        ensures offers { OffersFirst caller_of IsRingOf (IsCaller driver.old.desk) driver.old.told driver.new.told
+            driver.old.free driver.new.free held_up.old held_up.new self.old.outcomes self.new.outcomes result }
+        ensures alone { TellsAlone driver.old driver.new }
+        ensures lines { self.new.lines ≡ self.old.lines }
     {
-        let _ = driver.callers();
+        let Some(outcome) = self.outcomes.pop_front() else {
+            return false;
+        };
+        let caller = usize::from(outcome.caller);
+        if held_up[caller] || outcome.caller >= driver.callers() {
+            self.outcomes.push_back_reserved(outcome);
+            return false;
+        }
+        let Err(outcome) = driver.tell(outcome) else {
+            return true;
+        };
+        held_up[caller] = true;
+        self.outcomes.push_back_reserved(outcome);
         false
     }
 
-    pub(crate) fn mind_backlogs(&mut self) -> Result<bool, SessionFault>
-        ensures minds { IfOk result (λ moved. (l : LineView) (d : DriverView)
-            → Minds (standing l d self.old) (standing l d self.new) moved) }
-        ensures some { OnErr result ((l : LineView) (d : DriverView) → MindsSome (standing l d self.old) (standing l d self.new)) }
-        ensures no_memory { OnErr result (result ≡ Err fault.NoMemory) }
+    /// Each outcome is offered to its caller, in order. What is handed back stays, in its order, and
+    /// once one of a caller was handed back no other of that caller is offered. Whether any was told.
+    fn place_outcomes(&mut self, driver: &mut DriverEnd) -> bool
+        ensures placed { Placed caller_of IsRingOf (IsCaller driver.old.desk) driver.old.told driver.new.told
+            driver.new.free self.old.outcomes self.new.outcomes result }
+        ensures alone { TellsAlone driver.old driver.new }
+        ensures lines { self.new.lines ≡ self.old.lines }
     {
-        Ok(false)
+        let mut held_up = [false; CALLERS];
+        let mut moved = false;
+        for _place in 0..self.count() {
+            moved |= self.offer_outcome(driver, &mut held_up);
+        }
+        moved
+    }
+
+    /// The first line is offered to the listener of its kind, unless one of that kind was handed back
+    /// before. One that is handed back, or isn't offered, goes behind the others. Whether it was
+    /// announced.
+    fn offer_line(&mut self, driver: &mut DriverEnd, held_up: &mut [bool; KINDS]) -> bool
+        ensures offers { OffersFirst place_of (IsEarOf driver.old.desk.kinds) (IsHeard driver.old.desk.kinds)
+            driver.old.announced driver.new.announced driver.old.free_lines driver.new.free_lines held_up.old
+            held_up.new self.old.lines self.new.lines result }
+        ensures alone { AnnouncesAlone driver.old driver.new }
+        ensures outcomes { self.new.outcomes ≡ self.old.outcomes }
+    {
+        let Some(line) = self.lines.pop_front() else {
+            return false;
+        };
+        let kind = place_of(line.kind);
+        if held_up[kind] || !driver.listens(line.kind) {
+            self.lines.push_back_reserved(line);
+            return false;
+        }
+        let Err(line) = driver.announce(line) else {
+            return true;
+        };
+        held_up[kind] = true;
+        self.lines.push_back_reserved(line);
+        false
+    }
+
+    /// Each line is offered to the listener of its kind, in order. What is handed back stays, in its
+    /// order, and once one of a kind was handed back no other of that kind is offered. Whether any was
+    /// announced.
+    fn place_lines(&mut self, driver: &mut DriverEnd) -> bool
+        ensures placed { Placed place_of (IsEarOf driver.old.desk.kinds) (IsHeard driver.old.desk.kinds)
+            driver.old.announced driver.new.announced driver.new.free_lines self.old.lines self.new.lines result }
+        ensures alone { AnnouncesAlone driver.old driver.new }
+        ensures outcomes { self.new.outcomes ≡ self.old.outcomes }
+    {
+        let mut held_up = [false; KINDS];
+        let mut moved = false;
+        for _place in 0..self.many() {
+            moved |= self.offer_line(driver, &mut held_up);
+        }
+        moved
+    }
+}
+
+impl Kept {
+    /// Each outcome that waits is offered in order to its caller, and each line in order to its
+    /// listener. What is handed back stays, in its order; once one of a caller or a kind was handed
+    /// back, no other of it is offered. Whether anything was placed.
+    pub(crate) fn place(&mut self, driver: &mut DriverEnd) -> bool
+        ensures { (l : LineView) → Places (standing l driver.old self.old) (standing l driver.new self.new) result }
+    {
+        let told = self.waiting.place_outcomes(driver);
+        let announced = self.waiting.place_lines(driver);
+        told | announced
     }
 }

@@ -19,8 +19,8 @@ use std::marker::Model;
 /// together 128 at most, and for so many outcomes there is room.
 #[derive(Drop)]
 pub(crate) struct Waiting {
-    outcomes: VecDeque<Outcome>,
-    lines: VecDeque<Urc>,
+    pub(super) outcomes: VecDeque<Outcome>,
+    pub(super) lines: VecDeque<Urc>,
 }
 
 impl Model for Waiting {
@@ -102,6 +102,13 @@ impl Waiting {
         self.outcomes.len()
     }
 
+    /// How many lines wait.
+    pub(crate) fn many(&self) -> usize
+        ensures { result ≡ length self.now.lines }
+    {
+        self.lines.len()
+    }
+
     /// How many lines of a connection wait.
     pub(crate) fn backlog(&self, dlci: Dlci) -> usize
         ensures { result ≡ backlog_in dlci.number self.now.lines }
@@ -113,20 +120,21 @@ impl Waiting {
     }
 
     /// The least caller for whom an outcome waits.
-    #[tactic(auto, using(crate::proofs::sessions::Firsts::least_both, crate::proofs::sessions::Firsts::least_front, crate::proofs::sessions::Firsts::least_back, crate::proofs::sessions::Firsts::none_both))]
     pub(crate) fn least_caller(&self) -> Option<u8>
         ensures { MatchOption result (self.now.outcomes ≡ []) (λ c. IsLeast c self.now.outcomes) }
     {
         let (front, back) = self.outcomes.as_slices();
-        match (least_of(front), least_of(back)) {
-            (Some(first), Some(second)) => Some(first.min(second)),
-            (Some(first), None) => Some(first),
-            (None, second) => second,
+        let Some(first) = least_of(front) else {
+            return None;
+        };
+        match least_of(back) {
+            Some(second) => Some(first.min(second)),
+            None => Some(first),
         }
     }
 
     /// The kind of the line that was heard first of those that wait.
-    #[tactic(auto, using(crate::proofs::sessions::Firsts::first_of, crate::proofs::sessions::Firsts::none_of))]
+    #[tactic(auto, using(crate::proofs::sessions::Firsts::none_of))]
     pub(crate) fn first_kind(&self) -> Option<UrcKind>
         ensures { MatchOption result (self.now.lines ≡ []) (λ k. IsFirstOf k self.now.lines) }
     {

@@ -1,0 +1,36 @@
+-- Outcomes and lines were offered, one after the other.
+use Rattle.std.proofs.Common.{sym, subst, List, ◌||◌}
+use Rattle.modem_desk.specs.declared.request.Outcome.{Outcome}
+use Rattle.modem_desk.specs.declared.request.Urc.{Urc}
+use Rattle.modem_history.specs.Sessions.{LineView}
+use Rattle.modem_driver.specs.Placing.{Placed, caller_of, place_of, IsRingOf, IsCaller, IsEarOf, IsHeard}
+use Rattle.modem_driver.specs.SessionStates.{Kept}
+use Rattle.modem_driver.specs.TurnSteps.{Places, standing}
+use Rattle.modem_driver.proofs.sessions.Placing.{places}
+use Rattle.modem_driver.proofs.session.kept.Kept.place.Goals as goal
+
+pub returns : goal.returns
+returns c =
+    let k = c.self.inside in
+    let old : Kept = record {
+      core = k.core;
+      aside = k.aside;
+      unfed = k.input;
+      deframer = k.deframer;
+      unwritten = k.output;
+      unplaced = k.waiting.outcomes;
+      unannounced = k.waiting.lines;
+      faulty = k.faulty;
+    } in
+    let d = c.args.driver.now in
+    let m = c.place_outcomes-told.new.driver in
+    let e = c.place_lines-announced.new.driver in
+    let told = c.place_outcomes-told.result in
+    let announced = c.place_lines-announced.result in
+    let one = c.place_outcomes-told.ensures in
+    let other = c.place_lines-announced.ensures in
+    let left = c.place_lines-announced.new.self in
+    subst (λ (v : Kept). (l : LineView) → Places (standing l d v) (standing l e (record old { unplaced = left.outcomes; unannounced = left.lines })) (told || announced)) c.self.view_is
+    (places d m e old left.outcomes left.lines told announced
+    (subst (λ (os : List Outcome). Placed caller_of IsRingOf (IsCaller d.desk) d.told m.told m.free k.waiting.outcomes os told) (sym other.outcomes) one.placed) one.alone
+    (subst (λ (us : List Urc). Placed place_of (IsEarOf m.desk.kinds) (IsHeard m.desk.kinds) m.announced e.announced e.free_lines us left.lines announced) one.lines other.placed) other.alone)

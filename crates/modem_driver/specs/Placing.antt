@@ -1,0 +1,93 @@
+-- What waits is offered to the rings of a desk, each to those of its key: an outcome by its caller, a line by its kind.
+use Rattle.std.specs.Prelude.{◌≡◌, ◌≢◌, ℕ, ◌+◌, ◌≤◌, ◌<◌, ◌==◌, ◌||◌, nat_lt, Bool, true, false, List, [], ◌++◌, length, filter, slice_index_or, Contains}
+use Rattle.std.specs.List.{list_all}
+use mathlib.Core.Option.{some}
+use lib.ListN.{get_elem?}
+use Rattle.at_text.specs.declared.unsolicited.UrcKind.{UrcKind}
+use Rattle.modem_desk.specs.declared.request.Outcome.{Outcome}
+use Rattle.modem_desk.specs.declared.request.Urc.{Urc}
+use Rattle.modem_desk.specs.Ends.{DriverView, DeskId}
+use Rattle.modem_history.specs.Kinds.{kind_place}
+use Rattle.modem_history.specs.Sessions.{at_place}
+use Rattle.modem_history.specs.Turns.{amount}
+
+abbrev pub of_key : {X : Type 0} → (X → ℕ) → ℕ → List X → List X
+of_key key n xs = filter (λ x. key x == n) xs
+
+-- what a ring was given, and then what of its key still waits, is what of it waited
+pub record Gave {X : Type 0} (key : X → ℕ) (before now : List (List X)) (waited waits : List X) (n i : ℕ) : Type 0 where
+  pub since : List X
+  pub given_are : at_place i now ≡ at_place i before ++ since
+  pub rest_are : since ++ of_key key n waits ≡ of_key key n waited
+
+-- Each of a key that the desk knows was offered until one was handed back: its rings are full where some still wait.
+pub record Placed {X : Type 0} (key : X → ℕ) (at : ℕ → ℕ → Type 0) (known : ℕ → Type 0) (before now : List (List X)) (free : List ℕ) (waited waits : List X) (moved : Bool) : Type 0 where
+  pub each : (n i : ℕ) → at n i → Gave key before now waited waits n i
+  pub full : (n i : ℕ) → at n i → known n → of_key key n waits ≢ [] → slice_index_or free i 0 ≡ 0
+  pub all : (p : X → Bool) → list_all p waited ≡ true → list_all p waits ≡ true
+  pub fewer : length waits ≤ length waited
+  pub grows : amount before ≤ amount now
+  pub moved_is : moved ≡ nat_lt (amount before) (amount now)
+
+-- The same on the way: some wait to be offered, behind those that stay, of which none is of a key that isn't held up.
+pub record Placing {X : Type 0} (key : X → ℕ) (at : ℕ → ℕ → Type 0) (known : ℕ → Type 0) (before now : List (List X)) (free : List ℕ) (held : List Bool) (waited waits stay : List X) (moved : Bool) : Type 0 where
+  pub each : (n i : ℕ) → at n i → Gave key before now waited (stay ++ waits) n i
+  pub free_way : (n : ℕ) → known n → slice_index_or held n false ≡ false → of_key key n stay ≡ []
+  pub full : (n i : ℕ) → at n i → known n → slice_index_or held n false ≡ true → slice_index_or free i 0 ≡ 0
+  pub all : (p : X → Bool) → list_all p waited ≡ true → list_all p (stay ++ waits) ≡ true
+  pub fewer : length (stay ++ waits) ≤ length waited
+  pub grows : amount before ≤ amount now
+  pub moved_is : moved ≡ nat_lt (amount before) (amount now)
+
+-- one fewer waits to be offered
+pub record OneFewer {X : Type 0} (key : X → ℕ) (at : ℕ → ℕ → Type 0) (known : ℕ → Type 0) (before now : List (List X)) (free : List ℕ) (held : List Bool) (waited new : List X) (left : ℕ) (moved : Bool) : Type 0 where
+  pub waits : List X
+  pub stay : List X
+  pub are : new ≡ waits ++ stay
+  pub left_are : length waits ≡ left
+  pub placing : Placing key at known before now free held waited waits stay moved
+
+-- the first that waits was offered, or stays
+unfoldable pub OffersFirst : {X : Type 0} → (key : X → ℕ) → (at : ℕ → ℕ → Type 0) → (known : ℕ → Type 0) → (now later : List (List X)) → (free freer : List ℕ) → (held more_held : List Bool) → (old new : List X) → (moved : Bool) → Type 0
+OffersFirst {X} key at known now later free freer held more_held old new moved =
+    (before : List (List X)) (waited : List X) (left : ℕ) (earlier : Bool)
+    → OneFewer key at known before now free held waited old (left + 1) earlier → OneFewer key at known before later freer more_held waited new left (moved || earlier)
+
+-- ## Outcomes and lines
+
+abbrev pub caller_of : Outcome → ℕ
+caller_of o = o.caller
+
+abbrev pub place_of : Urc → ℕ
+place_of u = kind_place u.kind
+
+-- the ring of a caller, and a caller of the desk
+abbrev pub IsRingOf : ℕ → ℕ → Type 0
+IsRingOf n i = i ≡ n
+
+abbrev pub IsCaller : DeskId → ℕ → Type 0
+IsCaller d n = n < length d.rings
+
+-- the rings of a kind's listeners, and a kind that is listened to
+pub record IsEarOf (kinds : List UrcKind) (n i : ℕ) : Type 0 where
+  pub kind : UrcKind
+  pub is_place : kind_place kind ≡ n
+  pub is_at : get_elem? kinds i ≡ some kind
+
+pub record IsHeard (kinds : List UrcKind) (n : ℕ) : Type 0 where
+  pub kind : UrcKind
+  pub is_place : kind_place kind ≡ n
+  pub listened : Contains kinds kind
+
+-- nothing else changed at the desk's end
+pub record TellsAlone (old new : DriverView) : Type 0 where
+  pub desk : new.desk ≡ old.desk
+  pub taken : new.taken ≡ old.taken
+  pub announced : new.announced ≡ old.announced
+  pub free_lines : new.free_lines ≡ old.free_lines
+
+pub record AnnouncesAlone (old new : DriverView) : Type 0 where
+  pub desk : new.desk ≡ old.desk
+  pub taken : new.taken ≡ old.taken
+  pub told : new.told ≡ old.told
+  pub free : new.free ≡ old.free
