@@ -28,3 +28,4 @@ pub mod Offering
 pub mod PlacingOutcomes
 pub mod PlacingLines
 pub mod Placing
+pub mod TurnEnds

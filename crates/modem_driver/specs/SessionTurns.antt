@@ -12,7 +12,7 @@ use Rattle.modem_history.specs.Sessions.{Beginning, LineView, of_caller}
 use Rattle.modem_history.specs.Turns.{TurnAnswer, TurnFault, GoesTurn, GoesFault}
 use Rattle.modem_driver.specs.declared.session.error.SessionFault.{SessionFault}
 use Rattle.modem_driver.specs.declared.session.turn.Turn.{Turn}
-use Rattle.modem_driver.specs.SessionStates.{Kept, SessionState, FitsInside, seen}
+use Rattle.modem_driver.specs.SessionStates.{Kept, KeptLoses, SessionState, FitsInside, seen}
 use Rattle.modem_driver.specs.TurnSteps.{Standing, Leads, AddsAll, Writes, ReadsOn}
 
 -- a session as its turn sees it
@@ -84,6 +84,12 @@ pub record MindsSome (old new : Standing) : Type 0 where
   pub leads : Leads old new acts
   pub adds : AddsAll old new old.kept.unannounced acts
   pub stays : new ≡ record old { kept = record old.kept { core = new.kept.core } }
+
+-- after a failing call on the line: the line is lost; or there is no memory for it, and nothing changes; or it was lost before
+abbrev pub LosesOr : SessionFault → (old new : Standing) → Type 0
+LosesOr SessionFault.Line old new = (new ≡ record old { kept = new.kept }) × KeptLoses old.kept new.kept
+LosesOr SessionFault.NoMemory old new = new ≡ old
+LosesOr SessionFault.Failed old new = (new ≡ old) × (old.kept.core.lost ≡ true)
 
 -- ## Calls on the line
 

@@ -20,7 +20,7 @@ use Rattle.modem_driver.proofs.sessions.Losing.{fail_all}
 use Rattle.modem_driver.proofs.sessions.Turning.{Went, AddsTo, placed, went_placed, once_still, taken_still}
 
 -- acts that a turn may have don't lose the line
-none_loses : (us : List Urc) (acts past : List Act) → list_all (may_act us) acts ≡ true → is_lost past ≡ false → is_lost (after past acts) ≡ false
+pub none_loses : (us : List Urc) (acts past : List Act) → list_all (may_act us) acts ≡ true → is_lost past ≡ false → is_lost (after past acts) ≡ false
 none_loses us [] past h live = live
 none_loses us (a ∷ acts) past h live =
     let parts = and_parts (may_act us a) (list_all (may_act us) acts) h in

@@ -1,8 +1,8 @@
 //! Turns of a session.
-ghost use Rattle.std.specs.Prelude.{◌≡◌, IfOk, OnErr};
+ghost use Rattle.std.specs.Prelude.{◌≡◌, true, Err, IfOk, IfErr, OnErr};
 ghost use Rattle.modem_driver.specs.SessionStates.{line_by};
 ghost use Rattle.modem_driver.specs.TurnSteps.{Places, Minds, SendsOn, Writes, Gets, ReadsOn, TakesOne, KeepsAside};
-ghost use Rattle.modem_driver.specs.SessionTurns.{standing_of, answer_of, MindsSome, Answers};
+ghost use Rattle.modem_driver.specs.SessionTurns.{standing_of, answer_of, fault_of, MindsSome, Answers, LosesOr, Turns, Faults};
 ghost use Rattle.modem_driver.specs.declared.session.error.SessionFault.TheVariants as fault;
 
 use crate::session::Session;
@@ -50,6 +50,27 @@ impl Kept {
 }
 
 impl<L: SerialLine, R: Wait + Drop> Session<L, R> {
+    /// Whether the line is lost.
+    fn is_lost(&self) -> bool
+        ensures { result ≡ self.now.kept.core.lost }
+    {
+        self.kept.core.lost
+    }
+
+    /// Whether a call on the line has failed.
+    fn is_faulty(&self) -> bool
+        ensures { result ≡ self.now.kept.faulty }
+    {
+        self.kept.faulty
+    }
+
+    /// What a turn answers.
+    fn answer(&self, moved: bool) -> Turn
+        ensures { Answers self.now.kept moved (answer_of result) }
+    {
+        self.kept.answer(moved)
+    }
+
     /// Offers what waits to the desk.
     fn place(&mut self) -> bool
         ensures { Places (standing_of (line_by L.received L.sent L.calls L.failures) self.old)
@@ -116,5 +137,66 @@ impl<L: SerialLine, R: Wait + Drop> Session<L, R> {
         ensures no_memory { OnErr result (result ≡ Err fault.NoMemory) }
     {
         self.kept.take_one(&mut self.driver, &self.rt)
+    }
+
+    /// A call on the line has failed: the line is lost, and everyone in hand is told so. Answers with
+    /// the fault by which the turn ends.
+    fn lose_line(&mut self) -> SessionFault
+        requires { self.old.kept.faulty ≡ true }
+        ensures { LosesOr result (standing_of (line_by L.received L.sent L.calls L.failures) self.old)
+            (standing_of (line_by L.received L.sent L.calls L.failures) self.new) }
+    {
+        if self.kept.core.lost {
+            return SessionFault::Failed;
+        }
+        match self.kept.lose() {
+            Ok(()) => SessionFault::Line,
+            Err(_) => SessionFault::NoMemory,
+        }
+    }
+
+    /// Does each of these once, in this order: offers the outcomes and lines that wait to the desk;
+    /// looks at the backlog of each connection; where all octets are written, takes the next frame
+    /// into the output; writes; handles the frame at hand; where no octets wait to be fed, reads, and
+    /// feeds the deframer; takes a request, where those in hand and the outcomes that wait are fewer
+    /// than 128. Faults, which end the turn: 1 NoMemory, after which what was done stands and the next
+    /// turn goes on; 2 Line, where a call on the line failed in this turn, or in an earlier one since
+    /// which every turn answered NoMemory; 3 Failed in every turn after that, which still offers to the
+    /// desk what waits.
+    pub fn turn(&mut self) -> Result<Turn, SessionFault>
+        ensures turns { IfOk result (λ says. Turns (line_by L.received L.sent L.calls L.failures)
+            self.old self.new (answer_of says)) }
+        ensures faults { IfErr result (λ why. Faults (line_by L.received L.sent L.calls L.failures)
+            self.old self.new (fault_of why)) }
+        ensures failed { self.old.kept.core.lost ≡ true → result ≡ Err fault.Failed }
+        ensures desk { self.new.driver.desk ≡ self.old.driver.desk }
+    {
+        let placed = self.place();
+        if self.is_lost() {
+            return Err(SessionFault::Failed);
+        }
+        if self.is_faulty() {
+            return Err(self.lose_line());
+        }
+        let Ok(minded) = self.mind_backlogs() else {
+            return Err(SessionFault::NoMemory);
+        };
+        let sent = self.send_on();
+        let wrote = self.write_on();
+        if self.is_faulty() {
+            return Err(self.lose_line());
+        }
+        let Ok(got) = self.get_one() else {
+            return Err(SessionFault::NoMemory);
+        };
+        let read = self.read_on();
+        if self.is_faulty() {
+            return Err(self.lose_line());
+        }
+        let Ok(took) = self.take_one() else {
+            return Err(SessionFault::NoMemory);
+        };
+        let moved = placed | minded | sent | wrote | got | read | took;
+        Ok(self.answer(moved))
     }
 }

@@ -1,0 +1,101 @@
+-- How a turn ends, by what each of its steps did.
+use Rattle.std.proofs.Common.{ap, sym, ◌∙◌, subst}
+use Rattle.std.specs.Prelude.{◌≡◌, ◌||◌, Bool, true, false, List, [], ◌++◌, refl, None}
+use Rattle.modem_history.specs.Acts.{Act, after}
+use Rattle.modem_history.specs.Calls.{is_lost}
+use Rattle.modem_history.specs.Sessions.{Beginning, AreOnce}
+use Rattle.modem_history.specs.Turns.{Dealings, TurnFault, GoesFault}
+use Rattle.modem_driver.specs.declared.session.error.SessionFault.{SessionFault}
+use Rattle.modem_driver.specs.SessionStates.{Kept, KeptLoses}
+use Rattle.modem_driver.specs.SessionTurns.{LosesOr, MindsSome, fault_of}
+use Rattle.modem_driver.specs.TurnSteps.{Standing, StandingFits, Leads, Places, Minds, SendsOn, Writes, Gets, ReadsOn, TakesOne, KeepsAside, view_of, inside}
+use Rattle.modem_driver.proofs.sessions.Turning.{Went, placed, went_placed, went_step, went_wrote, went_read, went_took, went_aside}
+use Rattle.modem_driver.proofs.sessions.TurnFaults.{none_loses, wants_memory, loses_line, has_failed}
+
+-- a fault of any kind by which a turn ended
+abbrev pub FaultBy : (s0 s : Standing) → TurnFault → Type 0
+FaultBy s0 s why = (b : Beginning) → GoesFault b (view_of s0) (view_of s) (inside b s0) (inside b s) why
+
+true_false : true ≡ false → ⊥
+true_false h = cc
+
+-- a line that isn't lost before a turn isn't lost by what a turn does
+lost_before : (s0 s : Standing) (t : Dealings) (acts : List Act) → Went s0 s t acts → s0.kept.core.lost ≡ false → s.kept.core.lost ≡ true → FaultBy s0 s TurnFault.Failed
+unfolding Leads
+lost_before s0 s t acts w live lost b = record {
+  acts = acts;
+  dealings = t;
+  goes = w.leads b;
+  fault = λ past once f.
+      let adds = w.adds b past once f in
+      let here : StandingFits b s (after past acts) = w.leads b past once f in
+      let still : is_lost (after past acts) ≡ false = none_loses t.still_heard acts past adds.may (f.inside.fits.lost_is ∙ live) in
+      absurd (true_false (sym lost ∙ (sym here.inside.fits.lost_is ∙ still)));
+}
+
+pub lost_after : (why : SessionFault) (s0 s1 s2 : Standing) (t : Dealings) (xs : List Act) → t.next ≡ None → Went s0 s1 t xs → LosesOr why s1 s2 → s0.kept.core.lost ≡ false → FaultBy s0 s2 (fault_of why)
+lost_after SessionFault.Line s0 s1 s2 t xs none w k live = loses_line s0 s1 s2 t xs none w k.0 k.1 live
+lost_after SessionFault.NoMemory s0 s1 s2 t xs none w k live = subst (λ (s : Standing). FaultBy s0 s TurnFault.NoMemory) (sym k) (wants_memory s0 s1 t xs w live)
+lost_after SessionFault.Failed s0 s1 s2 t xs none w k live = subst (λ (s : Standing). FaultBy s0 s TurnFault.Failed) (sym k.0) (lost_before s0 s1 t xs w live k.1)
+
+minded : {s0 s1 s2 : Standing} {m1 m2 : Bool} → (p : Places s0 s1 m1) (k : Minds s1 s2 m2) → Went s0 s2 (placed p) k.acts
+minded {s0} {s1} {s2} {m1} {m2} p k = went_step s0 s1 s2 (placed p) [] k.acts refl (went_placed s0 s1 m1 p) k.leads k.adds (ap (λ (s : Standing). s.line) k.stays) (ap (λ (s : Standing). s.driver.taken) k.stays) (ap (λ (s : Standing). s.kept.unfed) k.stays)
+
+sent : {s0 s1 s2 s3 : Standing} {m1 m2 m3 : Bool} → (p : Places s0 s1 m1) (k : Minds s1 s2 m2) (n : SendsOn s2 s3 m3) → Went s0 s3 (placed p) (k.acts ++ n.acts)
+sent {s0} {s1} {s2} {s3} {m1} {m2} {m3} p k n = went_step s0 s2 s3 (placed p) k.acts n.acts refl (minded p k) n.leads (n.adds s1.kept.unannounced) (ap (λ (s : Standing). s.line) n.stays) (ap (λ (s : Standing). s.driver.taken) n.stays) (ap (λ (s : Standing). s.kept.unfed) n.stays)
+
+wrote : {s0 s1 s2 s3 s4 : Standing} {m1 m2 m3 m4 : Bool} → (p : Places s0 s1 m1) (k : Minds s1 s2 m2) (n : SendsOn s2 s3 m3) (w : Writes s3 s4 m4) → Went s0 s4 (record (placed p) { write = w.write }) (k.acts ++ n.acts)
+wrote {s0} {s1} {s2} {s3} {s4} {m1} {m2} {m3} {m4} p k n w = went_wrote s0 s3 s4 (placed p) (k.acts ++ n.acts) m4 refl refl refl (sent p k n) w
+
+got : {s0 s1 s2 s3 s4 s5 : Standing} {m1 m2 m3 m4 m5 : Bool} → (p : Places s0 s1 m1) (k : Minds s1 s2 m2) (n : SendsOn s2 s3 m3) (w : Writes s3 s4 m4) (g : Gets s4 s5 m5) → Went s0 s5 (record (placed p) { write = w.write }) ((k.acts ++ n.acts) ++ g.acts)
+got {s0} {s1} {s2} {s3} {s4} {s5} {m1} {m2} {m3} {m4} {m5} p k n w g =
+    went_step s0 s4 s5 (record (placed p) { write = w.write }) (k.acts ++ n.acts) g.acts refl (wrote p k n w) g.leads (g.adds s1.kept.unannounced) (ap (λ (s : Standing). s.line) g.stays) (ap (λ (s : Standing). s.driver.taken) g.stays) (ap (λ (s : Standing). s.kept.unfed) g.stays)
+
+read : {s0 s1 s2 s3 s4 s5 s6 : Standing} {m1 m2 m3 m4 m5 m6 : Bool} → (p : Places s0 s1 m1) (k : Minds s1 s2 m2) (n : SendsOn s2 s3 m3) (w : Writes s3 s4 m4) (g : Gets s4 s5 m5) (r : ReadsOn s5 s6 m6) → Went s0 s6 (record (placed p) { write = w.write; read = r.read }) ((k.acts ++ n.acts) ++ g.acts)
+read {s0} {s1} {s2} {s3} {s4} {s5} {s6} {m1} {m2} {m3} {m4} {m5} {m6} p k n w g r = went_read s0 s5 s6 (record (placed p) { write = w.write }) ((k.acts ++ n.acts) ++ g.acts) m6 refl refl (got p k n w g) r
+
+-- ## The line is lost
+
+pub lost_first : {s0 s1 : Standing} {m1 : Bool} → (why : SessionFault) (s : Standing) (p : Places s0 s1 m1) → LosesOr why s1 s → s0.kept.core.lost ≡ false → FaultBy s0 s (fault_of why)
+lost_first {s0} {s1} {m1} why s p = lost_after why s0 s1 s (placed p) [] refl (went_placed s0 s1 m1 p)
+
+pub lost_writing : {s0 s1 s2 s3 s4 : Standing} {m1 m2 m3 m4 : Bool} → (why : SessionFault) (s : Standing) (p : Places s0 s1 m1) (k : Minds s1 s2 m2) (n : SendsOn s2 s3 m3) (w : Writes s3 s4 m4) → LosesOr why s4 s → s0.kept.core.lost ≡ false → FaultBy s0 s (fault_of why)
+lost_writing {s0} {s1} {s2} {s3} {s4} {m1} {m2} {m3} {m4} why s p k n w = lost_after why s0 s4 s (record (placed p) { write = w.write }) (k.acts ++ n.acts) refl (wrote p k n w)
+
+pub lost_reading : {s0 s1 s2 s3 s4 s5 s6 : Standing} {m1 m2 m3 m4 m5 m6 : Bool} → (why : SessionFault) (s : Standing) (p : Places s0 s1 m1) (k : Minds s1 s2 m2) (n : SendsOn s2 s3 m3) (w : Writes s3 s4 m4) (g : Gets s4 s5 m5) (r : ReadsOn s5 s6 m6) → LosesOr why s6 s → s0.kept.core.lost ≡ false → FaultBy s0 s (fault_of why)
+lost_reading {s0} {s1} {s2} {s3} {s4} {s5} {s6} {m1} {m2} {m3} {m4} {m5} {m6} why s p k n w g r = lost_after why s0 s6 s (record (placed p) { write = w.write; read = r.read }) ((k.acts ++ n.acts) ++ g.acts) refl (read p k n w g r)
+
+-- ## There is no memory
+
+pub minds_in_vain : {s0 s1 : Standing} {m1 : Bool} → (s : Standing) (p : Places s0 s1 m1) → MindsSome s1 s → s0.kept.core.lost ≡ false → FaultBy s0 s TurnFault.NoMemory
+minds_in_vain {s0} {s1} {m1} s p k live =
+    wants_memory s0 s (placed p) k.acts
+    (went_step s0 s1 s (placed p) [] k.acts refl (went_placed s0 s1 m1 p) k.leads k.adds (ap (λ (s : Standing). s.line) k.stays) (ap (λ (s : Standing). s.driver.taken) k.stays) (ap (λ (s : Standing). s.kept.unfed) k.stays)) live
+
+pub gets_in_vain : {s0 s1 s2 s3 s4 : Standing} {m1 m2 m3 m4 : Bool} → (s : Standing) (p : Places s0 s1 m1) (k : Minds s1 s2 m2) (n : SendsOn s2 s3 m3) (w : Writes s3 s4 m4) → s ≡ s4 → s0.kept.core.lost ≡ false → FaultBy s0 s TurnFault.NoMemory
+gets_in_vain {s0} {s1} {s2} {s3} {s4} {m1} {m2} {m3} {m4} s p k n w same live =
+    subst (λ (s : Standing). FaultBy s0 s TurnFault.NoMemory) (sym same) (wants_memory s0 s4 (record (placed p) { write = w.write }) (k.acts ++ n.acts) (wrote p k n w) live)
+
+pub takes_in_vain : {s0 s1 s2 s3 s4 s5 s6 : Standing} {m1 m2 m3 m4 m5 m6 : Bool} → (s : Standing) (p : Places s0 s1 m1) (k : Minds s1 s2 m2) (n : SendsOn s2 s3 m3) (w : Writes s3 s4 m4) (g : Gets s4 s5 m5) (r : ReadsOn s5 s6 m6) → KeepsAside s6 s → s0.kept.core.lost ≡ false → FaultBy s0 s TurnFault.NoMemory
+takes_in_vain {s0} {s1} {s2} {s3} {s4} {s5} {s6} {m1} {m2} {m3} {m4} {m5} {m6} s p k n w g r a live =
+    let acts = (k.acts ++ n.acts) ++ g.acts in
+    let t = record (placed p) { write = w.write; read = r.read } in
+    wants_memory s0 s (record t { next = a.next }) acts (went_aside s0 s6 s t acts refl (read p k n w g r) a) live
+
+-- ## What a turn began with
+
+pub lost_at_first : {s0 s1 : Standing} {m : Bool} (c : Bool) → Places s0 s1 m → s1.kept.core.lost ≡ c → s0.kept.core.lost ≡ c
+lost_at_first c p e = sym (ap (λ (s : Standing). s.kept.core.lost) p.stays) ∙ e
+
+pub faulty_at_first : {s0 s1 : Standing} {m : Bool} (c : Bool) → Places s0 s1 m → s1.kept.faulty ≡ c → s0.kept.faulty ≡ c
+faulty_at_first c p e = sym (ap (λ (s : Standing). s.kept.faulty) p.stays) ∙ e
+
+-- whether anything moved, the other way round
+pub all_or : (a b c d e f g : Bool) → ((((((a || b) || c) || d) || e) || f) || g) ≡ (a || (b || (c || (d || (e || (f || g))))))
+all_or true b c d e f g = refl
+all_or false true c d e f g = refl
+all_or false false true d e f g = refl
+all_or false false false true e f g = refl
+all_or false false false false true f g = refl
+all_or false false false false false true g = refl
+all_or false false false false false false g = refl
