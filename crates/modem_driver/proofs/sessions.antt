@@ -17,3 +17,4 @@ pub mod Offering
 pub mod PlacingOutcomes
 pub mod PlacingLines
 pub mod Placing
+pub mod Minding

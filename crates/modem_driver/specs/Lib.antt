@@ -26,3 +26,4 @@ pub mod Numbers
 pub mod TurnSteps
 pub mod TurnTakes
 pub mod Placing
+pub mod Minding

@@ -1,6 +1,5 @@
 -- What contracts see of a session, and which histories it fits.
 use Rattle.std.specs.Prelude.{◌≡◌, ℕ, ◌<◌, Bool, true, false, List, [], length, Option, None}
-use Rattle.std.specs.List.{list_all}
 use Rattle.mux_frame.specs.Deframing.{Deframing}
 use Rattle.at_text.specs.declared.unsolicited.UrcKind.{UrcKind}
 use Rattle.modem_desk.specs.declared.request.Request.{Request}
@@ -9,7 +8,7 @@ use Rattle.modem_desk.specs.declared.request.Urc.{Urc}
 use Rattle.modem_desk.specs.Ends.{DriverView}
 use Rattle.modem_history.specs.Acts.{Act}
 use Rattle.modem_history.specs.Sessions.{LineView, EndView, Beginning, SessionView, Leftovers, FitsWith, Finishes, AreOnce, GoesBy, driving}
-use Rattle.modem_history.specs.Turns.{GoesTick, LosesLine, may_act}
+use Rattle.modem_history.specs.Turns.{GoesTick, LosesLine}
 use Rattle.modem_driver.specs.Cores.{Core, Fits, IsSettingOf, new_core}
 use Rattle.modem_driver.specs.Holding.{HoldsFit}
 
@@ -128,11 +127,4 @@ pub record KeptLoses (old new : Kept) : Type 0 where
   pub acts : List Act
   pub goes : KeptGoes old new acts
   pub loses : (b : Beginning) (l : LineView) (d : DriverView) (past : List Act) → AreOnce b (seen_by l (end_of d) new) → FitsWith b (seen_by l (end_of d) old) (KeptFits b l d old) past → LosesLine b (seen_by l (end_of d) new) past acts
-  pub stays : new ≡ record old { core = new.core; unplaced = new.unplaced; unannounced = new.unannounced }
-
--- a backlog was looked at: a connection is held where its backlog is 256 or more, and freed where it is below 128
-pub record KeptFlows (old new : Kept) : Type 0 where
-  pub acts : List Act
-  pub goes : KeptGoes old new acts
-  pub may : (b : Beginning) (l : LineView) (d : DriverView) (past : List Act) → FitsWith b (seen_by l (end_of d) old) (KeptFits b l d old) past → list_all (may_act old.unannounced) acts ≡ true
   pub stays : new ≡ record old { core = new.core; unplaced = new.unplaced; unannounced = new.unannounced }

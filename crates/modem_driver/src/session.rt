@@ -10,6 +10,7 @@ ghost use Rattle.modem_driver.specs.declared.session.error.SessionFault.TheVaria
 mod error;
 mod input;
 mod kept;
+mod minding;
 mod output;
 mod placing;
 mod taking;
