@@ -44,7 +44,7 @@ use Rattle.modem_driver.specs.Telling.{told_to, left_by}
 use Rattle.modem_history.specs.Wholes.{taken, is_first, is_said, UsesOnce}
 use Rattle.modem_driver.specs.Cores.{Core, Fits, Runs, RunsUnless, LaneFits, IsRun, MayCome, GoesOn, lane_at, may_wait, state_shown, probe_or, probe_in}
 use Rattle.modem_history.specs.Holding.{last_held, is_held, OnHeld}
-use Rattle.modem_driver.specs.Holding.{due_in, flow_due, flow_act, due_by, HoldsFit, MayAsk, FlowsOn, Flows, LacksRoom, HasNoRoom, Turns, CannotTurn}
+use Rattle.modem_driver.specs.Holding.{due_in, flow_due, flow_act, due_by, HoldsFit, MayAsk, FlowsOn, Flows, LacksRoom, HasNoRoom, NeverDue, Turns, CannotTurn}
 use Rattle.modem_history.proofs.Said.{calls_said}
 use Rattle.modem_history.proofs.Begins.{opens_by_sent}
 use Rattle.modem_history.proofs.Ending.{frames_in, now_in, now_is, ended, end_of}
@@ -422,6 +422,24 @@ due_same s v past d lines role b m = by_lost v.lost refl (d == 0) refl
         ∙ (open_by (is_open s.role d (wire past)) k e refl ∙ (ap (λ (z : Bool). flow_due z (lane_at v d).held lines) shown
         ∙ sym (ap (λ (z : Bool). if z || (d == 0) then None else flow_due (is_opened (channel_at v.station d).state) (lane_at v d).held lines) k
         ∙ ap (λ (z : Bool). if z then None else flow_due (is_opened (channel_at v.station d).state) (lane_at v d).held lines) e))))
+
+none_unless : (lost zero opened held : Bool) (lines : ℕ) → opened ≡ false → (if lost || zero then None else flow_due opened held lines) ≡ None
+none_unless true zero opened held lines e = refl
+none_unless false true opened held lines e = refl
+none_unless false false true held lines e = cc
+none_unless false false false held lines e = refl
+
+none_after : (lost zero opened held : Bool) (lines : ℕ) → not lost ≡ false → (if lost || zero then None else flow_due opened held lines) ≡ None
+none_after true zero opened held lines e = refl
+none_after false zero opened held lines e = cc
+
+pub never_open : (v : Core) (d : ℕ) → v.station.role ≡ Initiator → d < 62 → is_opened (channel_at v.station d).state ≡ false → NeverDue v d
+unfolding NeverDue
+never_open v d role b shut s past lines m = due_same s v past d lines role b m ∙ none_unless v.lost (d == 0) (is_opened (channel_at v.station d).state) (lane_at v d).held lines shut
+
+pub never_lost : (v : Core) (d : ℕ) → v.station.role ≡ Initiator → d < 62 → not v.lost ≡ false → NeverDue v d
+unfolding NeverDue
+never_lost v d role b gone s past lines m = due_same s v past d lines role b m ∙ none_after v.lost (d == 0) (is_opened (channel_at v.station d).state) (lane_at v d).held lines gone
 
 pub none_flows : (v : Core) (d lines : ℕ) (acts : List code.Act) → v.station.role ≡ Initiator → d < 62 → due_in v d lines ≡ None → acts ≡ [] → Flows v v d lines (map act_of acts)
 unfolding Flows

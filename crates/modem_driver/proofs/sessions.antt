@@ -29,3 +29,4 @@ pub mod PlacingOutcomes
 pub mod PlacingLines
 pub mod Placing
 pub mod TurnEnds
+pub mod Minding

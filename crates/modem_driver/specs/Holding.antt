@@ -1,11 +1,11 @@
 -- What a backlog of lines calls for, and that a core knows which connections are held.
-use Rattle.std.specs.Prelude.{◌≡◌, ℕ, ◌<◌, ◌==◌, ◌&&◌, ◌||◌, not, nat_le, nat_lt, Bool, true, false, List, [], Option, Some, None, if◌then◌else◌}
+use Rattle.std.specs.Prelude.{◌≡◌, ℕ, ◌<◌, ◌==◌, ◌&&◌, ◌||◌, not, nat_le, nat_lt, Bool, true, false, List, [], ◌∷◌, Option, Some, None, if◌then◌else◌}
 use Rattle.mux_station.specs.declared.role.Role.TheVariants.{Initiator}
 use Rattle.mux_station.specs.Opening.{is_open}
 use Rattle.mux_station.specs.States.{is_opened}
-use Rattle.mux_station.specs.Tables.{by_flow, ready, held_up}
+use Rattle.mux_station.specs.Tables.{by_flow, msc_frame, ready, held_up}
 use Rattle.mux_station.specs.Stations.{channel_at}
-use Rattle.modem_history.specs.Acts.{Act, Held, Freed, wire, after}
+use Rattle.modem_history.specs.Acts.{Act, Sent, Held, Freed, wire, after}
 use Rattle.modem_history.specs.Holding.{last_held, is_held}
 use Rattle.modem_history.specs.Calls.{Setting, seen, is_lost, all_have_room}
 use Rattle.modem_driver.specs.CoreGoing.{StandsIn, gone_on}
@@ -24,6 +24,11 @@ flow_due opened held lines =
 abbrev pub flow_act : ℕ → (go : Bool) → Act
 flow_act d true = Freed d
 flow_act d false = Held d
+
+-- its acts: with it an MSC goes into the control queue
+abbrev pub acts_due : ℕ → (go : Option Bool) → List Act
+acts_due d None = []
+acts_due d (Some go) = flow_act d go ∷ Sent (msc_frame Initiator d (if go then ready else held_up)) ∷ []
 
 -- what a backlog calls for; after a loss of the line, and of connection 0, nothing
 abbrev pub due_by : Setting → List Act → ℕ → (lines : ℕ) → Option Bool
@@ -60,6 +65,10 @@ LacksRoom s past d (Some go) = all_have_room s (seen s past) (by_flow s.role (se
 
 unfoldable pub HasNoRoom : Core → ℕ → (lines : ℕ) → Type 0
 HasNoRoom v d lines = (s : Setting) (past : List Act) → MayAsk s v past → LacksRoom s past d (due_by s past d lines)
+
+-- no backlog of d calls for anything
+unfoldable pub NeverDue : Core → ℕ → Type 0
+NeverDue v d = (s : Setting) (past : List Act) (lines : ℕ) → MayAsk s v past → due_by s past d lines ≡ None
 
 -- the same of the act that it is
 unfoldable pub Turns : Core → Core → ℕ → (go : Bool) → List Act → Type 0

@@ -29,3 +29,4 @@ pub mod TurnTakes
 pub mod SendingSteps
 pub mod GettingSteps
 pub mod Placing
+pub mod Minding

@@ -9,7 +9,7 @@ use Rattle.modem_desk.specs.declared.request.Urc.{Urc}
 use Rattle.modem_desk.specs.Ends.{DriverView}
 use Rattle.modem_history.specs.Acts.{Act}
 use Rattle.modem_history.specs.Sessions.{LineView, EndView, Beginning, SessionView, Leftovers, FitsWith, Finishes, AreOnce, GoesBy, driving, heard_as}
-use Rattle.modem_history.specs.Turns.{GoesTick, LosesLine, may_act, may_fail, outcomes_told, lines_heard}
+use Rattle.modem_history.specs.Turns.{GoesTick, LosesLine, may_fail, outcomes_told, lines_heard}
 use Rattle.modem_driver.specs.Cores.{Core, Fits, IsSettingOf, new_core}
 use Rattle.modem_driver.specs.Holding.{HoldsFit}
 
@@ -135,11 +135,4 @@ pub record KeptLoses (old new : Kept) : Type 0 where
   pub goes : KeptGoes old new acts
   pub loses : (b : Beginning) (l : LineView) (d : DriverView) (past : List Act) → AreOnce b (seen_by l (end_of d) new) → FitsWith b (seen_by l (end_of d) old) (KeptFits b l d old) past → LosesLine b (seen_by l (end_of d) new) past acts
   pub adds : (b : Beginning) (l : LineView) (d : DriverView) (past : List Act) → FitsWith b (seen_by l (end_of d) old) (KeptFits b l d old) past → AddsLost old new acts
-  pub stays : new ≡ record old { core = new.core; unplaced = new.unplaced; unannounced = new.unannounced }
-
--- a backlog was looked at: a connection is held where its backlog is 256 or more, and freed where it is below 128
-pub record KeptFlows (old new : Kept) : Type 0 where
-  pub acts : List Act
-  pub goes : KeptGoes old new acts
-  pub may : (b : Beginning) (l : LineView) (d : DriverView) (past : List Act) → FitsWith b (seen_by l (end_of d) old) (KeptFits b l d old) past → list_all (may_act old.unannounced) acts ≡ true
   pub stays : new ≡ record old { core = new.core; unplaced = new.unplaced; unannounced = new.unannounced }

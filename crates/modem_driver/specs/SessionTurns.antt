@@ -7,13 +7,12 @@ use Rattle.at_text.specs.declared.unsolicited.UrcKind.{UrcKind}
 use Rattle.modem_desk.specs.declared.request.Outcome.{Outcome}
 use Rattle.modem_desk.specs.declared.request.Urc.{Urc}
 use Rattle.modem_desk.specs.Ends.{DriverView}
-use Rattle.modem_history.specs.Acts.{Act}
 use Rattle.modem_history.specs.Sessions.{Beginning, LineView, of_caller}
 use Rattle.modem_history.specs.Turns.{TurnAnswer, TurnFault, GoesTurn, GoesFault}
 use Rattle.modem_driver.specs.declared.session.error.SessionFault.{SessionFault}
 use Rattle.modem_driver.specs.declared.session.turn.Turn.{Turn}
 use Rattle.modem_driver.specs.SessionStates.{Kept, KeptLoses, SessionState, FitsInside, seen}
-use Rattle.modem_driver.specs.TurnSteps.{Standing, Leads, AddsAll, Writes, ReadsOn}
+use Rattle.modem_driver.specs.TurnSteps.{Standing, Writes, ReadsOn}
 
 -- a session as its turn sees it
 abbrev pub standing_of : {X : Type 0} → (X → LineView) → SessionState X → Standing
@@ -77,13 +76,6 @@ Turns look old new says = (b : Beginning) → GoesTurn b (seen look old) (seen l
 
 unfoldable pub Faults : {X : Type 0} → (X → LineView) → (old new : SessionState X) → TurnFault → Type 0
 Faults look old new says = (b : Beginning) → GoesFault b (seen look old) (seen look new) (FitsInside b look old) (FitsInside b look new) says
-
--- some backlogs were looked at, and then there was no memory
-pub record MindsSome (old new : Standing) : Type 0 where
-  pub acts : List Act
-  pub leads : Leads old new acts
-  pub adds : AddsAll old new old.kept.unannounced acts
-  pub stays : new ≡ record old { kept = record old.kept { core = new.kept.core } }
 
 -- after a failing call on the line: the line is lost; or there is no memory for it, and nothing changes; or it was lost before
 abbrev pub LosesOr : SessionFault → (old new : Standing) → Type 0

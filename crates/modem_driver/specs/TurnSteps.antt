@@ -10,7 +10,7 @@ use Rattle.modem_desk.specs.declared.request.Request.{Request}
 use Rattle.modem_desk.specs.declared.request.Outcome.{Outcome}
 use Rattle.modem_desk.specs.declared.request.Urc.{Urc}
 use Rattle.modem_desk.specs.Ends.{DriverView}
-use Rattle.modem_history.specs.Acts.{Act, in_hand}
+use Rattle.modem_history.specs.Acts.{Act, after, in_hand}
 use Rattle.modem_history.specs.Kinds.{of_kind}
 use Rattle.modem_history.specs.Sessions.{Beginning, LineView, SessionView, FitsWith, AreOnce, GoesBy, driving, heard_as, of_caller}
 use Rattle.modem_history.specs.Turns.{Write, Read, Offers, HasRoom, HoldsByBacklog, octets_written, octets_read, request_given, calls_made, counted, outcomes_told, lines_heard, may_act, is_mark, amount, has_room_for}
@@ -83,7 +83,14 @@ pub record Minds (old new : Standing) (moved : Bool) : Type 0 where
   pub leads : Leads old new acts
   pub adds : AddsAll old new old.kept.unannounced acts
   pub moved_is : moved ≡ list_any is_more acts
-  pub held : (b : Beginning) (past : List Act) → StandingFits b new past → new.kept.core.lost ≡ false → new.kept.core.station.queue ≡ [] → HoldsByBacklog (view_of new) past
+  pub held : (b : Beginning) (past : List Act) → AreOnce b (view_of new) → StandingFits b old past → new.kept.core.lost ≡ false → new.kept.core.station.queue ≡ [] → HoldsByBacklog (view_of new) (after past acts)
+  pub stays : new ≡ record old { kept = record old.kept { core = new.kept.core } }
+
+-- Where there was no memory for one of them, those before it are minded.
+pub record MindsPart (old new : Standing) : Type 0 where
+  pub acts : List Act
+  pub leads : Leads old new acts
+  pub adds : AddsAll old new old.kept.unannounced acts
   pub stays : new ≡ record old { kept = record old.kept { core = new.kept.core } }
 
 -- ## The next frame goes into the output

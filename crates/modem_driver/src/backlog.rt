@@ -8,7 +8,7 @@ ghost use Rattle.mux_station.specs.Tables.{ready, held_up};
 ghost use Rattle.modem_driver.specs.Lanes.{turned};
 ghost use Rattle.modem_driver.specs.Cores.{lane_at};
 ghost use Rattle.modem_history.specs.declared.act.Act.TheVariants as act;
-ghost use Rattle.modem_driver.specs.Holding.{due_in, Flows, HasNoRoom, Turns, CannotTurn};
+ghost use Rattle.modem_driver.specs.Holding.{acts_due, due_in, Flows, HasNoRoom, NeverDue, Turns, CannotTurn};
 ghost use Rattle.modem_driver.specs.declared.error.CoreError.TheVariants as CoreError;
 
 use crate::act_list::ActList;
@@ -26,6 +26,8 @@ impl Core {
     /// NoRoom in the control queue; 1 NoMemory. Both change nothing.
     pub fn backlog(&mut self, dlci: Dlci, lines: usize) -> Result<Vec<Act>, CoreError>
         ensures past { IfOk result (λ acts. Flows self.old self.new dlci.number lines (map act_of acts.items)) }
+        ensures acts { IfOk result (λ acts. map act_of acts.items
+            ≡ acts_due dlci.number (due_in self.old dlci.number lines)) }
         ensures err { OnErr result (self.new ≡ self.old) }
         ensures no_room { result ≡ Err CoreError.NoRoom → HasNoRoom self.old dlci.number lines }
         ensures others { result ≢ Err CoreError.BadN1 }
@@ -37,6 +39,19 @@ impl Core {
         }
     }
 
+    /// Whether a backlog of the connection may call for anything: it is open, and the line isn't lost.
+    pub(crate) fn minds(&self, dlci: Dlci) -> bool
+        ensures { result ≡ false → NeverDue self.now dlci.number }
+    {
+        !self.lost && self.is_open(dlci)
+    }
+
+    fn is_open(&self, dlci: Dlci) -> bool
+        ensures { result ≡ is_opened (channel_at self.now.station dlci.number).state }
+    {
+        self.station.state(dlci) == ChannelState::Opened
+    }
+
     /// Whether the connection is to go on or to stop, if either.
     fn due(&self, dlci: Dlci, lines: usize) -> Option<bool>
         ensures { result ≡ due_in self.now dlci.number lines }
@@ -44,7 +59,7 @@ impl Core {
         if self.lost || dlci.number() == 0 {
             return None;
         }
-        if self.station.state(dlci) != ChannelState::Opened {
+        if !self.is_open(dlci) {
             return None;
         }
         let held = self.lanes[usize::from(dlci.number())].held;
@@ -64,6 +79,7 @@ impl Core {
         requires opened { is_opened (channel_at self.old.station dlci.number).state ≡ true }
         requires held { (lane_at self.old dlci.number).held ≡ go }
         ensures past { IfOk result (λ acts. Turns self.old self.new dlci.number go (map act_of acts.items)) }
+        ensures acts { IfOk result (λ acts. map act_of acts.items ≡ acts_due dlci.number (Some go)) }
         ensures err { OnErr result (self.new ≡ self.old) }
         ensures no_room { result ≡ Err CoreError.NoRoom → CannotTurn self.old dlci.number go }
         ensures others { result ≢ Err CoreError.BadN1 }

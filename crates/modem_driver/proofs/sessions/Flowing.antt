@@ -1,25 +1,35 @@
 -- A backlog is looked at.
 use Rattle.std.proofs.Common.{ap, sym, ◌∙◌, subst, arith}
-use Rattle.std.proofs.lemmas.Bool.{and_from, and_parts}
-use Rattle.std.proofs.lemmas.List.{append-nil}
-use Rattle.std.specs.Prelude.{◌≡◌, ℕ, ◌≤◌, nat_le, nat_lt, Bool, true, false, List, [], ◌∷◌, length, map, filter, refl, Option, None, Some, if◌then◌else◌}
-use Rattle.std.specs.List.{list_all}
+use Rattle.std.proofs.lemmas.Bool.{and_from, and_parts, le-leb}
+use Rattle.std.proofs.lemmas.List.{append-nil, length-append}
+use Rattle.std.specs.Prelude.{◌≡◌, ℕ, ◌+◌, ◌≤◌, ◌==◌, ◌&&◌, ◌||◌, ◌++◌, not, nat_le, nat_lt, Bool, true, false, List, [], ◌∷◌, length, map, filter, refl, Option, None, Some, if◌then◌else◌}
+use Rattle.std.specs.List.{list_all, list_any}
+use Rattle.mux_frame.specs.Frames.{Frame}
+use Rattle.mux_station.specs.declared.role.Role.{Role}
+use Rattle.mux_station.specs.declared.role.Role.TheVariants.{Initiator}
+use Rattle.mux_station.specs.States.{is_opened}
+use Rattle.mux_station.specs.Sending.{queue}
+use Rattle.mux_station.specs.Written.{written_length}
+use Rattle.mux_station.specs.Tables.{by_flow, msc_frame, has_room, octets_of, ready, held_up}
+use Rattle.modem_desk.specs.declared.request.Outcome.{Outcome}
 use Rattle.modem_desk.specs.declared.request.Urc.{Urc}
 use Rattle.modem_desk.specs.Ends.{DriverView}
-use Rattle.modem_history.specs.Acts.{Act, Took, Got, Sent, Told, Heard, Tick, Lost, Held, Freed, Given, after}
-use Rattle.modem_history.specs.Calls.{Setting, calls, lines_said, seen, is_loss, is_lost}
+use Rattle.modem_history.specs.Acts.{Act, Took, Got, Sent, Told, Heard, Tick, Lost, Held, Freed, Given, after, wire}
+use Rattle.modem_history.specs.Calls.{Setting, calls, seen, is_loss, is_lost, all_have_room}
 use Rattle.modem_history.specs.Wholes.{is_said}
 use Rattle.modem_history.specs.Sessions.{Beginning, LineView, FitsLoss, driving, backlog_in, gots, heard_as}
-use Rattle.modem_history.specs.Turns.{lines_heard, may_act}
+use Rattle.modem_history.specs.Turns.{outcomes_told, lines_heard, may_act}
 use Rattle.modem_history.proofs.Said.{Saids, calls_said}
-use Rattle.modem_driver.specs.Cores.{Core, GoesOn, Fits, IsSettingOf}
-use Rattle.modem_driver.specs.Holding.{HoldsFit, Flows, FlowsOn, MayAsk, due_by, flow_due, flow_act}
-use Rattle.modem_driver.specs.SessionStates.{Kept, KeptGoes, KeptFlows, seen_by, end_of}
-use Rattle.modem_driver.specs.WaitingLists.{WaitingLists, Keeps}
+use Rattle.modem_driver.specs.Cores.{Core, GoesOn, Fits, Runs, RunsUnless, IsSettingOf}
+use Rattle.modem_driver.specs.Holding.{HoldsFit, Flows, FlowsOn, HasNoRoom, LacksRoom, NeverDue, MayAsk, acts_due, due_by, flow_due, flow_act}
+use Rattle.modem_driver.specs.Minding.{MindsOne}
+use Rattle.modem_driver.specs.TurnSteps.{is_more}
+use Rattle.modem_driver.specs.SessionStates.{Kept, KeptGoes, seen_by, end_of}
+use Rattle.modem_driver.proofs.Wires.{queue_seen}
 use Rattle.modem_driver.proofs.sessions.Afters.{gots_after, losses_after, lost_after}
 use Rattle.modem_driver.proofs.sessions.Calls.{FitsKept, IsBare, KeepsMore, call_fits, is_run}
 use Rattle.modem_driver.proofs.sessions.Lines.{session_with, loss_with}
-use Rattle.modem_driver.proofs.sessions.Listening.{calls_hear, lines_of_call}
+use Rattle.modem_driver.proofs.sessions.Listening.{calls_hear}
 use Rattle.modem_driver.proofs.sessions.Parts.{received_part, sent_part}
 
 may_ask : (b : Beginning) (l : LineView) (d : DriverView) (k : Kept) (past : List Act) → FitsKept b l d k past → MayAsk (driving b) k.core past
@@ -42,6 +52,9 @@ no_frame n true past = refl
 no_frame n false past = refl
 
 -- ## Which acts they are
+
+true_false : true ≡ false → ⊥
+true_false e = cc
 
 out : {P : Type 0} → false ≡ true → P
 out e = cc
@@ -101,63 +114,150 @@ none_fits b l d old new past f core aside unplaced lines unfed deframer unwritte
       };
     }
 
+-- ## What is due
+
+-- the control queue is that of the history
+live_queue : (v : Core) (past : List Act) → Fits v past → v.lost ≡ false → queue (wire past) ≡ v.station.queue
+live_queue v past f live = by_runs (subst (λ (c : Bool). RunsUnless c v past) live f.runs)
+  where
+    by_runs : Runs v past → queue (wire past) ≡ v.station.queue
+    by_runs r = sym (queue_seen r.seen past r.same) ∙ r.fits.queue_is
+
+due_live : (lost zero : Bool) (o : Option Bool) (go : Bool) → (if lost || zero then None else o) ≡ Some go → lost ≡ false
+due_live true zero o go e = cc
+due_live false zero o go e = refl
+
+behind_one : (fs : List Frame) (f : Frame) → fs ++ f ∷ [] ≡ [] → ⊥
+behind_one fs f e = let long : length (fs ++ f ∷ []) ≡ 0 = ap length e in let all = length-append fs (f ∷ []) in omega arith
+
+-- an MSC waits behind the others
+not_empty : (n : ℕ) (go : Bool) (past : List Act) → queue (wire (after past (acts_due n (Some go)))) ≡ [] → ⊥
+not_empty n true past e = behind_one (queue (wire past)) (msc_frame Initiator n ready) e
+not_empty n false past e = behind_one (queue (wire past)) (msc_frame Initiator n held_up) e
+
+-- and it fits into an empty one
+msc_fits : (n1 n signals : ℕ) (r : Role) → has_room n1 0 (msc_frame r n signals) ≡ true
+msc_fits n1 n signals r = le-leb (0 + written_length (msc_frame r n signals)) (4096 + n1) (omega arith)
+
+has_place : (s : Setting) (past : List Act) (n : ℕ) (go : Bool) → queue (wire past) ≡ [] → all_have_room s (seen s past) (by_flow s.role (seen s past).state n (if go then ready else held_up)) ≡ false → ⊥
+has_place s past n go e none = by_open (is_opened ((seen s past).state n)) none
+  where
+    fits : has_room s.n1 (octets_of (queue (wire past))) (msc_frame s.role n (if go then ready else held_up)) ≡ true
+    fits = ap (λ (fs : List Frame). has_room s.n1 (octets_of fs) (msc_frame s.role n (if go then ready else held_up))) e ∙ msc_fits s.n1 n (if go then ready else held_up) s.role
+
+    by_open : (c : Bool) → all_have_room s (seen s past) (if c then msc_frame s.role n (if go then ready else held_up) ∷ [] else []) ≡ false → ⊥
+    by_open true h = true_false (sym (ap (λ (x : Bool). x && true) fits) ∙ h)
+    by_open false h = true_false h
+
+no_act : (n : ℕ) (go : Bool) (rest : List Act) → [] ≡ flow_act n go ∷ rest → ⊥
+no_act n go rest e = let long : 0 ≡ length (flow_act n go ∷ rest) = ap length e in omega arith
+
+-- ## The step
+
 -- what a call of a backlog comes to
-record Flown (b : Beginning) (l : LineView) (d : DriverView) (old new : Kept) (past acts : List Act) : Type 0 where
+record Flown (b : Beginning) (l : LineView) (d : DriverView) (old new : Kept) (n : ℕ) (past acts : List Act) : Type 0 where
   fits : FitsKept b l d new (after past acts)
   may : list_all (may_act old.unannounced) acts ≡ true
+  settles : new.core.station.queue ≡ [] → (acts ≡ []) × ((new ≡ old) × (due_by (driving b) past n (backlog_in n old.unannounced) ≡ None))
 
-flown : (old : Kept) (core : Core) (room n : ℕ) (w : WaitingLists) (acts : List Act) → Keeps (record { outcomes = old.unplaced; lines = old.unannounced; room = room }) w acts
+told_due : (n : ℕ) (o : Option Bool) → outcomes_told (acts_due n o) ≡ []
+told_due n None = refl
+told_due n (Some true) = refl
+told_due n (Some false) = refl
+
+heard_due : (n : ℕ) (o : Option Bool) → lines_heard (acts_due n o) ≡ []
+heard_due n None = refl
+heard_due n (Some true) = refl
+heard_due n (Some false) = refl
+
+flown : (old : Kept) (core : Core) (n : ℕ) (acts : List Act) (x : Option Bool) → acts ≡ acts_due n x
     → (b : Beginning) (l : LineView) (d : DriverView) (past : List Act) → FitsKept b l d old past → (due : Option Bool) → due_by (driving b) past n (backlog_in n old.unannounced) ≡ due → FlowsOn (driving b) old.core core past n due acts
-    → Flown b l d old (record old { core = core; unplaced = w.outcomes; unannounced = w.lines }) past acts
-flown old core room n w acts keeps b l d past f None e on =
-    let new : Kept = record old { core = core; unplaced = w.outcomes; unannounced = w.lines } in
-    let none : Keeps (record { outcomes = old.unplaced; lines = old.unannounced; room = room }) w [] = subst (Keeps (record { outcomes = old.unplaced; lines = old.unannounced; room = room }) w) on.0 keeps in
-    let few = f.session.requests.few in
-    let here = none_fits b l d old new past f on.1 refl (none.outcomes (omega arith) ∙ append-nil old.unplaced) (none.lines (omega arith) ∙ append-nil (map heard_as old.unannounced)) refl refl refl refl in
-    record { fits = subst (λ (xs : List Act). FitsKept b l d new (after past xs)) (sym on.0) here; may = ap (list_all (may_act old.unannounced)) on.0 }
-flown old core room n w acts keeps b l d past f (Some go) e on =
+    → Flown b l d old (record old { core = core }) n past acts
+flown old core n acts x are b l d past f None e on =
+    let new : Kept = record old { core = core } in
+    let here = none_fits b l d old new past f on.1 refl refl refl refl refl refl refl in
+    record {
+      fits = subst (λ (xs : List Act). FitsKept b l d new (after past xs)) (sym on.0) here;
+      may = ap (list_all (may_act old.unannounced)) on.0;
+      settles = λ empty. (on.0, (ap (λ (v : Core). record old { core = v }) on.1, e));
+    }
+flown old core n acts x are b l d past f (Some go) e on =
     let s = driving b in
-    let new : Kept = record old { core = core; unplaced = w.outcomes; unannounced = w.lines } in
+    let new : Kept = record old { core = core } in
     let a = flow_act n go in
     let more = calls s past a in
     let called : acts ≡ a ∷ more = on.0.called in
     let said = calls_said s (seen s past) a in
-    let none : lines_heard acts ≡ [] = ap lines_heard called ∙ (bare_lines n go more ∙ (lines_of_call s (seen s past) a ∙ flow_silent s past n go)) in
     let here : GoesOn s core past a (a ∷ more) = subst (GoesOn s core past a) called on.0 in
     let hold : HoldsFit core (after past (a ∷ more)) = subst (λ (xs : List Act). HoldsFit core (after past xs)) called on.1 in
+    let none_told : outcomes_told acts ≡ [] = ap outcomes_told are ∙ told_due n x in
+    let none_heard : lines_heard acts ≡ [] = ap lines_heard are ∙ heard_due n x in
     let keep : KeepsMore old new (a ∷ more) = subst (KeepsMore old new) called (record {
-      outcomes = keeps.outcomes;
-      lines = keeps.lines (subst (λ (xs : List Act). length xs ≤ room) (sym none) (omega arith));
+      outcomes = λ few. sym (append-nil old.unplaced) ∙ ap (λ (os : List Outcome). old.unplaced ++ os) (sym none_told);
+      lines = sym (append-nil (map heard_as old.unannounced)) ∙ ap (λ (hs : List Act). map heard_as old.unannounced ++ hs) (sym none_heard);
     }) in
+    let gone : is_lost (after past (a ∷ more)) ≡ is_lost past = lost_after more (a ∷ past) said ∙ not_lost n go past in
     let lost : FitsLoss b (seen_by l (end_of d) new) (after past (a ∷ more)) = record {
       one = subst (λ (xs : List Act). length xs ≤ 1) (sym (losses_after more (a ∷ past) said ∙ no_loss n go past)) f.session.loss.one;
-      by_fault = λ gone. f.session.loss.by_fault (sym (lost_after more (a ∷ past) said ∙ not_lost n go past) ∙ gone);
+      by_fault = λ h. f.session.loss.by_fault (sym gone ∙ h);
     } in
+    let live : core.lost ≡ false = sym here.fits.lost_is ∙ (gone ∙ due_live (is_lost past) (n == 0) _ go e) in
+    let waits : queue (wire (after past acts)) ≡ core.station.queue = ap (λ (xs : List Act). queue (wire (after past xs))) called ∙ live_queue core (after past (a ∷ more)) here.fits live in
     record {
       fits = subst (λ (xs : List Act). FitsKept b l d new (after past xs)) (sym called)
           (call_fits b l d old new past more a f (flow_bare n go past) here hold said (calls_hear s (seen s past) a) keep refl refl refl lost
           (received_part b (seen_by l (end_of d) old) (seen_by l (end_of d) new) past (after past (a ∷ more)) f.session.received refl refl refl (gots_after more (a ∷ past) said ∙ no_frame n go past)));
       may = ap (list_all (may_act old.unannounced)) called ∙ and_from (may_act old.unannounced a) (list_all (may_act old.unannounced) more) (due_may old.unannounced n _ _ _ go e) (said_may old.unannounced more said);
+      settles = λ empty. absurd (queued x are (sym are ∙ called) (waits ∙ empty));
     }
   where
-    bare_lines : (n : ℕ) (go : Bool) (more : List Act) → lines_heard (flow_act n go ∷ more) ≡ lines_heard more
-    bare_lines n true more = refl
-    bare_lines n false more = refl
+    queued : (y : Option Bool) → acts ≡ acts_due n y → acts_due n y ≡ flow_act n go ∷ calls (driving b) past (flow_act n go) → queue (wire (after past acts)) ≡ [] → ⊥
+    queued None same called empty = no_act n go _ called
+    queued (Some way) same called empty = not_empty n way past (sym (ap (λ (xs : List Act). queue (wire (after past xs))) same) ∙ empty)
 
-    flow_silent : (s : Setting) (past : List Act) (n : ℕ) (go : Bool) → lines_heard (lines_said s (seen s past) (flow_act n go)) ≡ []
-    flow_silent s past n true = refl
-    flow_silent s past n false = refl
+more_is : (n : ℕ) (x : Option Bool) → not (length (acts_due n x) == 0) ≡ list_any is_more (acts_due n x)
+more_is n None = refl
+more_is n (Some true) = refl
+more_is n (Some false) = refl
 
-pub flow_goes : (old : Kept) (core : Core) (room n : ℕ) (w : WaitingLists) (acts : List Act) → Flows old.core core n (backlog_in n old.unannounced) acts → Keeps (record { outcomes = old.unplaced; lines = old.unannounced; room = room }) w acts
-    → KeptFlows old (record old { core = core; unplaced = w.outcomes; unannounced = w.lines })
+pub minds_one : (old : Kept) (core : Core) (n : ℕ) (acts : List Act) (x : Option Bool) → acts ≡ acts_due n x → Flows old.core core n (backlog_in n old.unannounced) acts → MindsOne n old (record old { core = core }) (not (length acts == 0))
 unfolding KeptGoes Flows
-flow_goes old core room n w acts flows keeps = record {
+minds_one old core n acts x are flows = record {
   acts = acts;
-  goes = λ b l d past once f. (flown old core room n w acts keeps b l d past f (due_by (driving b) past n (backlog_in n old.unannounced)) refl (flows (driving b) past (may_ask b l d old past f))).fits;
-  may = λ b l d past f. (flown old core room n w acts keeps b l d past f (due_by (driving b) past n (backlog_in n old.unannounced)) refl (flows (driving b) past (may_ask b l d old past f))).may;
+  goes = λ b l d past once f. (flown old core n acts x are b l d past f (due_by (driving b) past n (backlog_in n old.unannounced)) refl (flows (driving b) past (may_ask b l d old past f))).fits;
+  none_told = ap outcomes_told are ∙ told_due n x;
+  none_heard = ap lines_heard are ∙ heard_due n x;
+  moved_is = ap (λ (xs : List Act). not (length xs == 0)) are ∙ (more_is n x ∙ ap (list_any is_more) (sym are));
+  may = λ b l d past f. (flown old core n acts x are b l d past f (due_by (driving b) past n (backlog_in n old.unannounced)) refl (flows (driving b) past (may_ask b l d old past f))).may;
+  settles = λ b l d past f. (flown old core n acts x are b l d past f (due_by (driving b) past n (backlog_in n old.unannounced)) refl (flows (driving b) past (may_ask b l d old past f))).settles;
   stays = refl;
 }
 
-pub flow_none : (old : Kept) → KeptFlows old old
+-- nothing was done
+minds_none : (old : Kept) (n : ℕ) → ((b : Beginning) (l : LineView) (d : DriverView) (past : List Act) → FitsKept b l d old past → old.core.station.queue ≡ [] → due_by (driving b) past n (backlog_in n old.unannounced) ≡ None) → MindsOne n old old false
 unfolding KeptGoes
-flow_none old = record { acts = []; goes = λ b l d past once f. f; may = λ b l d past f. refl; stays = refl }
+minds_none old n h = record {
+  acts = [];
+  goes = λ b l d past once f. f;
+  none_told = refl;
+  none_heard = refl;
+  moved_is = refl;
+  may = λ b l d past f. refl;
+  settles = λ b l d past f empty. (refl, (refl, h b l d past f empty));
+  stays = refl;
+}
+
+pub minds_never : (old : Kept) (n : ℕ) → NeverDue old.core n → MindsOne n old old false
+unfolding NeverDue
+minds_never old n never = minds_none old n (λ b l d past f empty. never (driving b) past (backlog_in n old.unannounced) (may_ask b l d old past f))
+
+pub minds_full : (old : Kept) (n : ℕ) → HasNoRoom old.core n (backlog_in n old.unannounced) → MindsOne n old old false
+unfolding HasNoRoom
+minds_full old n full = minds_none old n (λ b l d past f empty.
+    by_due b past (due_by (driving b) past n (backlog_in n old.unannounced)) refl f.inside.fits empty (full (driving b) past (may_ask b l d old past f)))
+  where
+    by_due : (b : Beginning) (past : List Act) (due : Option Bool) → due_by (driving b) past n (backlog_in n old.unannounced) ≡ due → Fits old.core past → old.core.station.queue ≡ [] → LacksRoom (driving b) past n due → due ≡ None
+    by_due b past None e f empty lacks = refl
+    by_due b past (Some go) e f empty lacks =
+        let live : old.core.lost ≡ false = sym f.lost_is ∙ due_live (is_lost past) (n == 0) _ go e in
+        absurd (has_place (driving b) past n go (live_queue old.core past f live ∙ empty) lacks)

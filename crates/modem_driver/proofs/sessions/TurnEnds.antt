@@ -7,8 +7,8 @@ use Rattle.modem_history.specs.Sessions.{Beginning, AreOnce}
 use Rattle.modem_history.specs.Turns.{Dealings, TurnFault, GoesFault}
 use Rattle.modem_driver.specs.declared.session.error.SessionFault.{SessionFault}
 use Rattle.modem_driver.specs.SessionStates.{Kept, KeptLoses}
-use Rattle.modem_driver.specs.SessionTurns.{LosesOr, MindsSome, fault_of}
-use Rattle.modem_driver.specs.TurnSteps.{Standing, StandingFits, Leads, Places, Minds, SendsOn, Writes, Gets, ReadsOn, TakesOne, KeepsAside, view_of, inside}
+use Rattle.modem_driver.specs.SessionTurns.{LosesOr, fault_of}
+use Rattle.modem_driver.specs.TurnSteps.{Standing, StandingFits, Leads, Places, Minds, MindsPart, SendsOn, Writes, Gets, ReadsOn, TakesOne, KeepsAside, view_of, inside}
 use Rattle.modem_driver.proofs.sessions.Turning.{Went, placed, went_placed, went_step, went_wrote, went_read, went_took, went_aside}
 use Rattle.modem_driver.proofs.sessions.TurnFaults.{none_loses, wants_memory, loses_line, has_failed}
 
@@ -67,7 +67,7 @@ lost_reading {s0} {s1} {s2} {s3} {s4} {s5} {s6} {m1} {m2} {m3} {m4} {m5} {m6} wh
 
 -- ## There is no memory
 
-pub minds_in_vain : {s0 s1 : Standing} {m1 : Bool} → (s : Standing) (p : Places s0 s1 m1) → MindsSome s1 s → s0.kept.core.lost ≡ false → FaultBy s0 s TurnFault.NoMemory
+pub minds_in_vain : {s0 s1 : Standing} {m1 : Bool} → (s : Standing) (p : Places s0 s1 m1) → MindsPart s1 s → s0.kept.core.lost ≡ false → FaultBy s0 s TurnFault.NoMemory
 minds_in_vain {s0} {s1} {m1} s p k live =
     wants_memory s0 s (placed p) k.acts
     (went_step s0 s1 s (placed p) [] k.acts refl (went_placed s0 s1 m1 p) k.leads k.adds (ap (λ (s : Standing). s.line) k.stays) (ap (λ (s : Standing). s.driver.taken) k.stays) (ap (λ (s : Standing). s.kept.unfed) k.stays)) live

@@ -160,6 +160,15 @@ module _ {s0 s1 s2 s3 s4 s5 s6 s7 : Standing} {m1 m2 m3 m4 m5 m6 m7 : Bool} wher
       by_unfed [] e out = e
       by_unfed (x ∷ xs) e out = absurd (out (λ h. let both : x ∷ xs ≡ [] = sym e ∙ h in cc))
 
+  -- each connection is held by its backlog, since no control frame waits
+  held_two : (b : Beginning) (past : List Act) (r : Run s0 s1 s2 s3 s4 s5 s6 s7 m1 m2 m3 m4 m5 m6 m7) → StandingFits b s0 past → s2.kept.core.lost ≡ false → s2.kept.core.station.queue ≡ []
+      → HoldsByBacklog (view_of s2) (after past r.minds.acts)
+  unfolding Leads
+  held_two b past r f live empty =
+      let taken : s2.driver.taken ≡ s0.driver.taken = ap (λ (s : Standing). s.driver.taken) r.minds.stays ∙ r.places.taken_stays in
+      let one : StandingFits b s1 past = r.places.leads b past (once_still b s0 s1 past r.places.taken_stays f) f in
+      r.minds.held b past (once_still b s0 s2 past taken f) one live empty
+
   pub at_rest : (b : Beginning) (past : List Act) (r : Run s0 s1 s2 s3 s4 s5 s6 s7 m1 m2 m3 m4 m5 m6 m7) → Still r → AreOnce b (view_of s7) → StandingFits b s0 past → s7.kept.unwritten ≡ []
       → IsAtRest b (view_of s7) (all_dealings r) (after past (all_acts r))
   at_rest b past r q once f h =
@@ -174,9 +183,8 @@ module _ {s0 s1 s2 s3 s4 s5 s6 s7 : Standing} {m1 m2 m3 m4 m5 m6 m7 : Bool} wher
       let queued = none_queued b end live none in
       let core : s2.kept.core.lost ≡ false = ap (λ (s : Standing). s.kept.core.lost) (sym k.sent_still) ∙ (sym here.inside.fits.lost_is ∙ live) in
       let empty : s2.kept.core.station.queue ≡ [] = idle_queue s2.kept.core core (subst (λ (s : Standing). IsIdle s.kept.core) k.sent_still k.idle) in
-      let two : StandingFits b s2 end = subst (λ (s : Standing). StandingFits b s end) k.sent_still here in
       let first : after past r.minds.acts ≡ end = sym (same ∙ (ap (λ (xs : List Act). after past (r.minds.acts ++ xs)) k.none_sent ∙ ap (after past) (append-nil r.minds.acts))) in
-      let held : HoldsByBacklog (view_of s2) end = r.minds.held b end two core empty in
+      let held : HoldsByBacklog (view_of s2) end = subst (HoldsByBacklog (view_of s2)) first (held_two b past r f core empty) in
       record {
         quiet = drained_quiet (driving b) end refl (is_run b s3.line s3.driver s3.kept end here) none;
         sent = all_sent b s7 end last h (all_given b s7 end last live queued);

@@ -2,7 +2,7 @@
 ghost use Rattle.std.specs.Prelude.{◌≡◌, ◌≢◌, ◌↔◌, ◌+◌, ◌<◌, ◌≤◌, ◌⊎◌, ◌++◌, [], true, false, length, option_to_list, None, IfOk, IsErrOf, OnOk, OnErr};
 ghost use Rattle.modem_driver.specs.Cores.{Fits};
 ghost use Rattle.modem_driver.specs.Holding.{HoldsFit};
-ghost use Rattle.modem_driver.specs.SessionStates.{new_kept, KeptFlows, KeptLoses, KeptTicks};
+ghost use Rattle.modem_driver.specs.SessionStates.{new_kept, KeptLoses, KeptTicks};
 ghost use Rattle.modem_driver.specs.declared.session.error.SessionError.TheVariants as why;
 ghost use Rattle.modem_driver.specs.declared.session.error.SessionFault.TheVariants as fault;
 
@@ -14,7 +14,7 @@ use crate::session::output::Output;
 use crate::session::waiting::Waiting;
 use at_text::UrcKind;
 use modem_desk::{Outcome, Request, Urc};
-use mux_frame::{Deframer, Dlci};
+use mux_frame::Deframer;
 use std::alloc::Global;
 use std::marker::Model;
 
@@ -111,25 +111,6 @@ impl Kept {
         };
         self.waiting.keep(acts);
         Ok(())
-    }
-
-    /// Looks at how many lines of a connection wait: from 256 on it is held, and freed below 128. Where
-    /// the MSC has no place in the control queue nothing is done. Refusal: 1 NoMemory, which changes
-    /// nothing.
-    pub(crate) fn mind_backlog(&mut self, dlci: Dlci) -> Result<(), SessionFault>
-        ensures flows { OnOk result (KeptFlows self.old self.new) }
-        ensures err { OnErr result (self.new ≡ self.old) }
-        ensures no_memory { OnErr result (result ≡ Err fault.NoMemory) }
-    {
-        let lines = self.waiting.backlog(dlci);
-        match self.core.backlog(dlci, lines) {
-            Ok(acts) => {
-                self.waiting.keep(acts);
-                Ok(())
-            }
-            Err(CoreError::NoRoom) => Ok(()),
-            Err(_) => Err(SessionFault::NoMemory),
-        }
     }
 
     /// The requests in hand, and then the one kept aside; the outcomes and the lines that wait. There

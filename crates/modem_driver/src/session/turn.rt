@@ -1,8 +1,8 @@
 //! Turns of a session.
 ghost use Rattle.std.specs.Prelude.{◌≡◌, true, Err, IfOk, IfErr, OnErr};
 ghost use Rattle.modem_driver.specs.SessionStates.{line_by};
-ghost use Rattle.modem_driver.specs.TurnSteps.{Places, Minds, SendsOn, Writes, Gets, ReadsOn, TakesOne, KeepsAside};
-ghost use Rattle.modem_driver.specs.SessionTurns.{standing_of, answer_of, fault_of, MindsSome, Answers, LosesOr, Turns, Faults};
+ghost use Rattle.modem_driver.specs.TurnSteps.{Places, Minds, MindsPart, SendsOn, Writes, Gets, ReadsOn, TakesOne, KeepsAside};
+ghost use Rattle.modem_driver.specs.SessionTurns.{standing_of, answer_of, fault_of, Answers, LosesOr, Turns, Faults};
 ghost use Rattle.modem_driver.specs.declared.session.error.SessionFault.TheVariants as fault;
 
 use crate::session::Session;
@@ -83,7 +83,7 @@ impl<L: SerialLine, R: Wait + Drop> Session<L, R> {
     fn mind_backlogs(&mut self) -> Result<bool, SessionFault>
         ensures minds { IfOk result (λ moved. Minds (standing_of (line_by L.received L.sent L.calls L.failures) self.old)
             (standing_of (line_by L.received L.sent L.calls L.failures) self.new) moved) }
-        ensures some { OnErr result (MindsSome (standing_of (line_by L.received L.sent L.calls L.failures) self.old)
+        ensures part { OnErr result (MindsPart (standing_of (line_by L.received L.sent L.calls L.failures) self.old)
             (standing_of (line_by L.received L.sent L.calls L.failures) self.new)) }
         ensures no_memory { OnErr result (result ≡ Err fault.NoMemory) }
     {

@@ -27,7 +27,7 @@ unfolding Faults
 returns-in_default-clause-faults g c =
     let look = line_by g.L.SerialLine.received g.L.SerialLine.sent g.L.SerialLine.calls g.L.SerialLine.failures in
     let p = c.place-placed.ensures in
-    minds_in_vain (standing_of look c.mind_backlogs.new.self) p c.in_default.ensures.some (lost_at_first false p (sym c.is_lost.ensures ∙ c.if-is_lost.false))
+    minds_in_vain (standing_of look c.mind_backlogs.new.self) p c.in_default.ensures.part (lost_at_first false p (sym c.is_lost.ensures ∙ c.if-is_lost.false))
 
 pub returns-then-is_faulty-2-clause-faults : goal.returns-then-is_faulty-2-clause-faults
 unfolding Faults

@@ -1,36 +1,28 @@
--- What the core says of the backlog waits, or nothing is said.
-use Rattle.std.proofs.Common.{sym, subst, ℕ}
-use Rattle.std.specs.Prelude.{map}
+-- The core said what the backlog calls for, or there was no room for it.
+use Rattle.std.proofs.Common.{◌≡◌, ap, sym, ◌∙◌, subst, ℕ, Bool, false}
+use Rattle.std.proofs.lemmas.List.{length-map}
+use Rattle.std.specs.Prelude.{map, not, length, vec_len, Result, Err, IfOk, ◌==◌}
 use Rattle.modem_history.specs.Acts.{act_of}
 use Rattle.modem_history.specs.Sessions.{backlog_in}
+use Rattle.modem_driver.specs.declared.session.error.SessionFault.{SessionFault}
 use Rattle.modem_driver.specs.Cores.{Core}
-use Rattle.modem_driver.specs.Holding.{Flows}
-use Rattle.modem_driver.specs.SessionStates.{Kept, KeptFlows}
-use Rattle.modem_driver.proofs.sessions.Flowing.{flow_goes, flow_none}
+use Rattle.modem_driver.specs.Holding.{Flows, HasNoRoom, NeverDue, due_in}
+use Rattle.modem_driver.specs.Minding.{MindsOne}
+use Rattle.modem_driver.specs.SessionStates.{Kept}
+use Rattle.modem_driver.proofs.sessions.Flowing.{minds_one, minds_never, minds_full}
 use Rattle.modem_driver.proofs.session.kept.Kept.mind_backlog.Goals as goal
+use Rattle.modem_driver.proofs.session.kept.Kept.mind_backlog.Goals.{in-Ok, in-Err-NoRoom, in-Err}
 
-pub returns-in-Ok-clause-flows : goal.returns-in-Ok-clause-flows
-returns-in-Ok-clause-flows c =
-    let k = c.self.inside in
-    let old : Kept = record {
-      core = k.core;
-      aside = k.aside;
-      unfed = k.input;
-      deframer = k.deframer;
-      unwritten = k.output;
-      unplaced = k.waiting.outcomes;
-      unannounced = k.waiting.lines;
-      faulty = k.faulty;
-    } in
-    let new : Kept = record old { core = c.backlog.new.self; unplaced = c.keep.new.self.outcomes; unannounced = c.keep.new.self.lines } in
+pub returns-then-not-minds-clause-minds : goal.returns-then-not-minds-clause-minds
+returns-then-not-minds-clause-minds c =
     let d = c.args.dlci.number in
-    let acts = map act_of c.in-Ok.acts.items in
-    let flows : Flows k.core c.backlog.new.self d (backlog_in d k.waiting.lines) acts = subst (λ (n : ℕ). Flows k.core c.backlog.new.self d n acts) c.backlog-lines.ensures c.in-Ok.ensures.past in
-    subst (λ (v : Kept). KeptFlows v new) c.self.view_is (flow_goes old c.backlog.new.self k.waiting.room d c.keep.new.self acts flows c.keep.ensures)
+    let never : NeverDue c.args.self.now.core d = subst (λ (v : Kept). NeverDue v.core d) c.self.view_is (c.minds.ensures c.if-not-minds.true) in
+    minds_never c.args.self.now d never
 
-pub returns-in-Err-NoRoom-clause-flows : goal.returns-in-Err-NoRoom-clause-flows
-returns-in-Err-NoRoom-clause-flows c =
+pub returns-clause-minds : goal.returns-clause-minds
+returns-clause-minds c =
     let k = c.self.inside in
+    let d = c.args.dlci.number in
     let old : Kept = record {
       core = k.core;
       aside = k.aside;
@@ -41,5 +33,21 @@ returns-in-Err-NoRoom-clause-flows c =
       unannounced = k.waiting.lines;
       faulty = k.faulty;
     } in
-    subst (λ (v : Kept). KeptFlows v (record old { core = c.backlog.new.self })) c.self.view_is
-    (subst (λ (v : Core). KeptFlows old (record old { core = v })) (sym c.in-Err-NoRoom.ensures.err) (flow_none old))
+    let new : Kept = record old { core = c.backlog.new.self } in
+    let lines = c.backlog-lines.ensures in
+    elim c.match-backlog.branch [
+      | in-Ok w ↦
+          let acts = map act_of w.in-Ok.acts.items in
+          let flows : Flows k.core c.backlog.new.self d (backlog_in d k.waiting.lines) acts = subst (λ (n : ℕ). Flows k.core c.backlog.new.self d n acts) lines w.in-Ok.ensures.past in
+          let size : length acts ≡ vec_len w.in-Ok.acts = length-map w.in-Ok.acts.items act_of ∙ sym w.in-Ok.acts.ok.0 in
+          let moved : not (length acts == 0) ≡ not w.is_empty.result = ap (λ (n : ℕ). not (n == 0)) size ∙ ap not (sym w.is_empty.ensures) in
+          subst (λ (r : Result Bool SessionFault). IfOk r (λ m. MindsOne d c.args.self.now new m)) (sym w.result-is)
+          (subst (λ (v : Kept). MindsOne d v new (not w.is_empty.result)) c.self.view_is
+          (subst (λ (m : Bool). MindsOne d old new m) moved (minds_one old c.backlog.new.self d acts (due_in k.core d c.backlog-lines.result) w.in-Ok.ensures.acts flows)))
+      | in-Err-NoRoom w ↦
+          let full : HasNoRoom k.core d (backlog_in d k.waiting.lines) = subst (λ (n : ℕ). HasNoRoom k.core d n) lines (w.in-Err-NoRoom.ensures.no_room (ap Err w.in-Err-NoRoom.field-0-is)) in
+          subst (λ (r : Result Bool SessionFault). IfOk r (λ m. MindsOne d c.args.self.now new m)) (sym w.result-is)
+          (subst (λ (v : Kept). MindsOne d v new false) c.self.view_is
+          (subst (λ (v : Core). MindsOne d old (record old { core = v }) false) (sym w.in-Err-NoRoom.ensures.err) (minds_full old d full)))
+      | in-Err w ↦ subst (λ (r : Result Bool SessionFault). IfOk r (λ m. MindsOne d c.args.self.now new m)) (sym w.result-is) tt
+    ]
