@@ -84,7 +84,7 @@ all_sent b s past f written same =
     let q = f.session.sent in
     q.sent_are
     ∙ ap (λ (xs : List ℕ). b.line.sent ++ xs)
-        (sym (append-nil q.since) ∙ (ap (λ (xs : List ℕ). q.since ++ xs) (sym written) ∙ (q.frames_are ∙ ap octets_of_frames (sym same))))
+    (sym (append-nil q.since) ∙ (ap (λ (xs : List ℕ). q.since ++ xs) (sym written) ∙ (q.frames_are ∙ ap octets_of_frames (sym same))))
 
 -- where no octets wait to be fed and no frame is at hand, every frame was got
 pub all_got : (b : Beginning) (s : Standing) (past : List Act) → StandingFits b s past → s.kept.unfed ≡ [] → s.kept.deframer.next ≡ None → AllAreGot b (view_of s) past
@@ -95,7 +95,7 @@ all_got b s past f unfed none =
     let more : Reads d.n1 (d.undecided ++ []) [] d.undecided = subst (λ (xs : List ℕ). Reads d.n1 xs [] d.undecided) (sym (append-nil d.undecided)) hand in
     let whole : Reads d.n1 (r.fed ++ []) (gots past ++ []) d.undecided = r.deframes.reads [] [] d.undecided more in
     let all : Reads d.n1 r.fed (gots past) d.undecided =
-        subst (λ (fs : List Frame). Reads d.n1 r.fed fs d.undecided) (append-nil (gots past)) (subst (λ (xs : List ℕ). Reads d.n1 xs (gots past ++ []) d.undecided) (append-nil r.fed) whole) in
+    subst (λ (fs : List Frame). Reads d.n1 r.fed fs d.undecided) (append-nil (gots past)) (subst (λ (xs : List ℕ). Reads d.n1 xs (gots past ++ []) d.undecided) (append-nil r.fed) whole) in
     record {
       octets = r.fed;
       since = r.received_are ∙ (ap (λ (xs : List ℕ). (b.line.received ++ r.fed) ++ xs) unfed ∙ append-nil (b.line.received ++ r.fed));
@@ -187,22 +187,22 @@ module _ {s0 s1 s2 s3 s4 s5 s6 s7 : Standing} {m1 m2 m3 m4 m5 m6 m7 : Bool} wher
       let some : List Act → Bool = λ acts. list_any is_more acts in
       let driver = driver_at_six r in
       let e1 : m1 ≡ (told || heard) =
-          r.places.moved_is
-          ∙ (ap (λ (xss : List (List Outcome)). nat_lt (amount s0.driver.told) (amount xss) || nat_lt (amount s0.driver.announced) (amount s1.driver.announced)) (sym (r.takes.desk_stays.1.0 ∙ ap (λ (d : DriverView). d.told) driver))
-          ∙ ap (λ (xss : List (List Urc)). told || nat_lt (amount s0.driver.announced) (amount xss)) (sym (r.takes.desk_stays.1.1 ∙ ap (λ (d : DriverView). d.announced) driver))) in
+      r.places.moved_is
+      ∙ (ap (λ (xss : List (List Outcome)). nat_lt (amount s0.driver.told) (amount xss) || nat_lt (amount s0.driver.announced) (amount s1.driver.announced)) (sym (r.takes.desk_stays.1.0 ∙ ap (λ (d : DriverView). d.told) driver))
+      ∙ ap (λ (xss : List (List Urc)). told || nat_lt (amount s0.driver.announced) (amount xss)) (sym (r.takes.desk_stays.1.1 ∙ ap (λ (d : DriverView). d.announced) driver))) in
       let e4 : m4 ≡ wrote =
-          r.writes.moved_is
-          ∙ (ap (λ (xs : List ℕ). nat_lt (length xs) (length s4.line.sent)) (ap (λ (l : LineView). l.sent) (line_at_three r))
-          ∙ ap (λ (xs : List ℕ). nat_lt (length s0.line.sent) (length xs)) (sym (sent_at_seven r))) in
+      r.writes.moved_is
+      ∙ (ap (λ (xs : List ℕ). nat_lt (length xs) (length s4.line.sent)) (ap (λ (l : LineView). l.sent) (line_at_three r))
+      ∙ ap (λ (xs : List ℕ). nat_lt (length s0.line.sent) (length xs)) (sym (sent_at_seven r))) in
       let e6 : m6 ≡ (came || fed) =
-          r.reads.moved_is
-          ∙ (ap (λ (xs : List ℕ). nat_lt (length xs) (length s6.line.received) || nat_lt (length s6.kept.unfed) (length s5.kept.unfed)) (received_at_five r)
-          ∙ (ap (λ (xs : List ℕ). nat_lt (length s0.line.received) (length xs) || nat_lt (length s6.kept.unfed) (length s5.kept.unfed)) (sym (ap (λ (l : LineView). l.received) (line_at_seven r)))
-          ∙ (ap (λ (xs : List ℕ). came || nat_lt (length xs) (length s5.kept.unfed)) (sym (ap (λ (s : Standing). s.kept.unfed) r.takes.stays))
-          ∙ ap (λ (xs : List ℕ). came || nat_lt (length s7.kept.unfed) (length xs)) (unfed_at_five r)))) in
+      r.reads.moved_is
+      ∙ (ap (λ (xs : List ℕ). nat_lt (length xs) (length s6.line.received) || nat_lt (length s6.kept.unfed) (length s5.kept.unfed)) (received_at_five r)
+      ∙ (ap (λ (xs : List ℕ). nat_lt (length s0.line.received) (length xs) || nat_lt (length s6.kept.unfed) (length s5.kept.unfed)) (sym (ap (λ (l : LineView). l.received) (line_at_seven r)))
+      ∙ (ap (λ (xs : List ℕ). came || nat_lt (length xs) (length s5.kept.unfed)) (sym (ap (λ (s : Standing). s.kept.unfed) r.takes.stays))
+      ∙ ap (λ (xs : List ℕ). came || nat_lt (length s7.kept.unfed) (length xs)) (unfed_at_five r)))) in
       let acts = list_any-append is_more ((r.minds.acts ++ r.sends.acts) ++ r.gets.acts) r.takes.acts
-          ∙ ap (λ (c : Bool). c || some r.takes.acts) (list_any-append is_more (r.minds.acts ++ r.sends.acts) r.gets.acts
-          ∙ ap (λ (c : Bool). c || some r.gets.acts) (list_any-append is_more r.minds.acts r.sends.acts)) in
+      ∙ ap (λ (c : Bool). c || some r.takes.acts) (list_any-append is_more (r.minds.acts ++ r.sends.acts) r.gets.acts
+      ∙ ap (λ (c : Bool). c || some r.gets.acts) (list_any-append is_more r.minds.acts r.sends.acts)) in
       joined e1 r.minds.moved_is r.sends.moved_is e4 r.gets.moved_is e6 r.takes.moved_is
       ∙ (all_moves told heard (some r.minds.acts) (some r.sends.acts) wrote (some r.gets.acts) came fed (some r.takes.acts)
       ∙ ap (λ (c : Bool). c || (came || (wrote || (told || (heard || fed))))) (sym acts))

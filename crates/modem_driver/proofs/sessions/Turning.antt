@@ -56,7 +56,6 @@ pub record Went (start now : Standing) (t : Dealings) (acts : List Act) : Type 0
 abbrev pub placed : {old new : Standing} {moved : Bool} → Places old new moved → Dealings
 placed {old} {new} p = record { still_told = new.kept.unplaced; still_heard = new.kept.unannounced; told_back = p.told_back; heard_back = p.heard_back; write = None; read = None; next = None }
 
-
 -- ## The steps
 
 line_still : (s0 s1 : Standing) → s1.line ≡ s0.line → s1.line.received ≡ s0.line.received ++ []
