@@ -6,6 +6,7 @@ mod channel;
 mod contexts;
 mod doing;
 mod error;
+mod going;
 mod handing;
 mod input;
 mod kept;
