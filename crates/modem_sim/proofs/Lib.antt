@@ -24,3 +24,4 @@ pub mod RoomLemmas
 pub mod SilentLemmas
 pub mod IdleLemmas
 pub mod MeaningLemmas
+pub mod TurnFacts

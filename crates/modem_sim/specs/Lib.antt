@@ -16,4 +16,6 @@ pub mod Cores
 pub mod Sims
 pub mod Turns
 pub mod Stills
+pub mod Polls
+pub mod TurnRows
 pub mod Numbers

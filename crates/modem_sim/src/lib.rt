@@ -12,6 +12,7 @@ mod input;
 mod kept;
 pub mod laws;
 mod modem;
+mod polling;
 mod replying;
 mod script;
 mod sim;

@@ -1,5 +1,5 @@
 //! A simulated modem at its line.
-ghost use Rattle.std.specs.Prelude.{◌≡◌, ◌≢◌, ◌↔◌, ◌⊎◌, ◌+◌, ◌<◌, ◌≤◌, [], true, Err, IfOk, IfErr, IsErr, OnOk, OnErr, IsErrOf};
+ghost use Rattle.std.specs.Prelude.{◌≡◌, ◌≢◌, ◌↔◌, ◌⊎◌, ◌+◌, ◌<◌, ◌≤◌, [], true, false, Ok, Err, IfOk, IfErr, IsErr, OnOk, OnErr, IsErrOf};
 ghost use Rattle.std.specs.Borrow.{Lends, sem};
 ghost use Rattle.modem_sim.specs.Acts.{end_of};
 ghost use Rattle.modem_sim.specs.Sims.{FitsSim, SimGoes, is_ended};
@@ -88,6 +88,7 @@ impl<L: SerialLine> Sim<L> {
         ensures goes { SimGoes L.received L.sent self.old self.new }
         ensures turn { IfOk result (λ says. GoesTurn L.received L.sent L.calls self.old self.new says) }
         ensures failed { self.old.kept.failed ≡ true → (result ≡ Err SimError.Failed) × (self.new ≡ self.old) }
+        ensures over { self.old.kept.failed ≡ false → is_ended self.old.kept ≡ true → (result ≡ Ok SimTurn.Ended) × (self.new ≡ self.old) }
         ensures fault { result ≡ Err SimError.Line → self.new.kept.failed ≡ true }
         ensures others { OnErr result (IsErrOf result SimError.Line ⊎ (IsErrOf result SimError.NoMemory ⊎ IsErrOf result SimError.Failed)) }
         ensures ended { IfOk result (λ turn. turn ≡ SimTurn.Ended → is_ended self.new.kept ≡ true) }
