@@ -26,7 +26,7 @@ use Rattle.modem_sim.specs.Outboxes.{Outbox, outbox, hold_on, is_holding}
 use Rattle.modem_sim.specs.Boxes.{Box, BoxFits, FitsOpen, fresh_box, is_released, released, box_announced, box_holding}
 use Rattle.modem_sim.specs.Doing.{acts, call_of, done, left, named_by, closes_down}
 use Rattle.modem_sim.specs.Histories.{Allows, MayDo, IsAsked}
-use Rattle.modem_sim.specs.Cores.{AtStation, asks_nothing, asks, Core, Wired, GoesFrom, Goes, Fits, are_open_in, boxes_done, closes_by, counted, that_act}
+use Rattle.modem_sim.specs.Cores.{AtStation, HasNoneToDo, asks_nothing, asks, Refuses, Core, Wired, GoesFrom, Goes, Fits, are_open_in, boxes_done, closes_by, counted, that_act}
 use Rattle.modem_sim.proofs.HistoryLemmas.{spelled-append}
 use Rattle.modem_sim.proofs.BoxLemmas.{box_still, called_still}
 use Rattle.modem_sim.proofs.CoreLemmas.{box_here, opened_is}
@@ -153,7 +153,7 @@ small_asked (Hold x y) = lit< tt
 small_asked (Disconnect x) = x.in_range
 small_asked CloseDown = lit< tt
 
-calls_small : (act : StepAct) (call : station.Call) → call_of act ≡ Some call → fitting.call_dlci call < 62
+pub calls_small : (act : StepAct) (call : station.Call) → call_of act ≡ Some call → fitting.call_dlci call < 62
 calls_small act call is = let Small : Option station.Call → Type 0 = λ o. dlci_asked o < 62 in subst Small is (small_asked act)
 
 -- a step offers nothing
@@ -203,7 +203,7 @@ none_closes (Hold x y) is = refl
 none_closes (Disconnect x) is = refl
 none_closes CloseDown is = cc
 
-they_are_open : (e : End) (w : Wired) (c : Core) (past : List Act) (ds : List ℕ) → list_all (λ d. nat_lt d 62) ds ≡ true → Fits e w c past → list_all (λ d. is_open d past) ds ≡ list_all (λ d. is_opened (stations.channel_at c.station d).state) ds
+pub they_are_open : (e : End) (w : Wired) (c : Core) (past : List Act) (ds : List ℕ) → list_all (λ d. nat_lt d 62) ds ≡ true → Fits e w c past → list_all (λ d. is_open d past) ds ≡ list_all (λ d. is_opened (stations.channel_at c.station d).state) ds
 they_are_open e w c past [] small fits = refl
 they_are_open e w c past (d ∷ ds) small fits =
     let both = both_true (nat_lt d 62) (list_all (λ d. nat_lt d 62) ds) small in
@@ -211,14 +211,14 @@ they_are_open e w c past (d ∷ ds) small fits =
     ap (λ (o : Bool). o && list_all (λ d. is_open d past) ds) (sym (opened_is e w c past d low fits))
     ∙ ap (λ (o : Bool). is_opened (stations.channel_at c.station d).state && o) (they_are_open e w c past ds both.1 fits)
 
-all_small : (act : StepAct) → list_all (λ d. nat_lt d 62) (named_by act) ≡ true
+pub all_small : (act : StepAct) → list_all (λ d. nat_lt d 62) (named_by act) ≡ true
 all_small (Announce x line) = let low = x.in_range in grind (arith, nat_tests)
 all_small (Flow x go) = let low = x.in_range in grind (arith, nat_tests)
 all_small (Hold x y) = let low = x.in_range in let low_too = y.in_range in grind (arith, nat_tests)
 all_small (Disconnect x) = let low = x.in_range in grind (arith, nat_tests)
 all_small CloseDown = refl
 
-first_acts : (step : Step) (later : List Step) → acts step.act ≡ true → that_act (step ∷ later) ≡ step ∷ that_act later
+pub first_acts : (step : Step) (later : List Step) → acts step.act ≡ true → that_act (step ∷ later) ≡ step ∷ that_act later
 first_acts step later is = ap (λ (b : Bool). if b then step ∷ that_act later else that_act later) is
 
 first_passed : (step : Step) (later : List Step) → acts step.act ≡ false → that_act (step ∷ later) ≡ that_act later
@@ -338,3 +338,20 @@ passes_goes old new step later steps passing same e w past fits =
 pub asked_for : (old new : stations.Station) (act : StepAct) (call : station.Call) (r : Result Unit StationError) → call_of act ≡ Some call → result_err r ≡ sending.refused (stations.setting_of old) (stations.seen_in old) call → OnOk r (fitting.Handles old new (station.Called call)) → is_ok r ≡ true → AtStation old new act
 asked_for old new act call (Ok u) is refusal handles ok = asks call is (sym refusal) handles
 asked_for old new act call (Err why) is refusal handles ok = cc
+
+-- a call that the station refused
+pub refused_so : (v : stations.Station) (act : StepAct) (call : station.Call) (r : Result Unit StationError) → call_of act ≡ Some call → result_err r ≡ sending.refused (stations.setting_of v) (stations.seen_in v) call → is_ok r ≡ false → Refuses v act
+refused_so v act call (Ok u) is refusal none = cc
+refused_so v act call (Err why) is refusal none = record { call = call; asked = is; refused = λ taken. some (refusal ∙ taken) }
+  where
+    some : Some why ≡ None → ⊥
+    some same = cc
+
+-- one step more, and fewer are left
+pub still_fewer : (old mid new : Core) (done : Bool) → (done ≡ false → mid ≡ old) → (done ≡ true → length mid.steps < length old.steps) → length new.steps < length mid.steps → length new.steps < length old.steps
+still_fewer old mid new true same less last = let first = less refl in omega (arith, first, last)
+still_fewer old mid new false same less last = let first = ap (λ (c : Core). length c.steps) (same refl) in omega (arith, first, last)
+
+-- nothing was done by the last one, after which none can be
+pub none_after : (old new : Core) → new ≡ old → HasNoneToDo old → HasNoneToDo new
+none_after old new same none = let There : Core → Type 0 = λ c. HasNoneToDo c in subst There (sym same) none

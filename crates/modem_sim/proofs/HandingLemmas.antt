@@ -1,7 +1,7 @@
 -- What an end says of its own accord, and what it hands to its station.
-use Rattle.std.specs.Prelude.{◌≡◌, ℕ, zero, suc, ◌+◌, ◌<◌, nat_eq, ◌==◌, ◌&&◌, ◌||◌, not, Bool, true, false, List, [], ◌∷◌, ◌++◌, length, take, drop, Option, None, Some, option_map, slice_index_or, slice_set, refl, if◌then◌else◌}
+use Rattle.std.specs.Prelude.{◌≡◌, ℕ, zero, suc, ◌+◌, ◌<◌, nat_eq, ◌==◌, ◌&&◌, ◌||◌, not, Result, Ok, Err, IfOk, OnOk, Bool, true, false, List, [], ◌∷◌, ◌++◌, length, take, drop, Option, None, Some, option_map, slice_index_or, slice_set, refl, if◌then◌else◌}
 use Rattle.std.specs.List.{starts_with}
-use Rattle.std.proofs.Common.{arith, sym, ap, ◌∙◌, subst, append_assoc, append-nil}
+use Rattle.std.proofs.Common.{arith, sym, ap, ◌∙◌, subst, append_assoc, append-nil, length-append, length-take, length-drop, min, ◌≤◌}
 use Rattle.std.proofs.lemmas.Bool.Decides.{nat_tests}
 use Rattle.std.proofs.lemmas.List.{append_cancel_right}
 use Rattle.mux_station.specs.declared.role.Role.TheVariants.{Responder}
@@ -24,7 +24,7 @@ use Rattle.modem_sim.specs.Outboxes.{Outbox, empty_box, outbox, said_after, drop
 use Rattle.modem_sim.specs.Boxes.{Box, Waited, BoxFits, FitsOpen, fresh_box, lasting, is_released, released}
 use Rattle.modem_sim.specs.Doing.{left, is_closed_down, closes_down}
 use Rattle.modem_sim.specs.Histories.{EachAllowed, Allows, got, sent}
-use Rattle.modem_sim.specs.Cores.{Core, Wired, IsLater, GoesFrom, Goes, GivesOut, IsHandedOn, Fits, answered, boxed, box_at, counted, that_act}
+use Rattle.modem_sim.specs.Cores.{Core, Wired, IsLater, GoesFrom, Goes, GivesOut, IsHandedOn, Fits, all_unhanded, answered, boxed, box_at, counted, that_act, unhanded}
 use Rattle.modem_sim.proofs.BoxLemmas.{box_still, called_still, given_still, sent_still}
 use Rattle.modem_sim.proofs.CoreLemmas.{later-sent_after, sent_queued, wire-sent_after, heard-sent_after, owed-sent_after, allowed-sent_after, box-sent_after, done-sent_after, closed-sent_after, got-sent_after, box_here, opened_is}
 
@@ -342,12 +342,23 @@ pub record Hands (old new : Core) (moved : Bool) (n : ℕ) : Type 0 where
   pub goes : Goes old new
   pub same : moved ≡ false → new ≡ old
   pub none : moved ≡ false → (d : ℕ) → d < n → IsHandedOn old d
+  pub fewer : moved ≡ true → all_unhanded new.boxes < all_unhanded old.boxes
+  pub steps : new.steps ≡ old.steps
 
 pub hands_none : (c : Core) → Hands c c false 0
-hands_none c = record { goes = goes_none c; same = λ is. refl; none = λ is d small. absurd (omega arith) }
+hands_none c = record { goes = goes_none c; same = λ is. refl; none = λ is d small. absurd (omega arith); fewer = λ is. cc; steps = refl }
 
-pub hands_more : (old mid new : Core) (moved offered : Bool) (n : ℕ) → Hands old mid moved n → Goes mid new → (offered ≡ false → new ≡ mid) → (offered ≡ false → IsHandedOn mid n) → Hands old new (moved || offered) (n + 1)
-hands_more old mid new moved offered n before goes same none = record {
+-- fewer octets are left by the one or by the other, and by neither more
+fewer_by : (old mid new : Core) (moved offered : Bool) → (moved ≡ false → mid ≡ old) → (moved ≡ true → all_unhanded mid.boxes < all_unhanded old.boxes) → (offered ≡ false → new ≡ mid) → (offered ≡ true → all_unhanded new.boxes < all_unhanded mid.boxes) → (moved || offered) ≡ true → all_unhanded new.boxes < all_unhanded old.boxes
+fewer_by old mid new true true same less same_too less_too is = let first = less refl in let second = less_too refl in omega (arith, first, second)
+fewer_by old mid new true false same less same_too less_too is = let first = less refl in let second = ap (λ (c : Core). all_unhanded c.boxes) (same_too refl) in omega (arith, first, second)
+fewer_by old mid new false true same less same_too less_too is = let first = ap (λ (c : Core). all_unhanded c.boxes) (same refl) in let second = less_too refl in omega (arith, first, second)
+fewer_by old mid new false false same less same_too less_too is = cc
+
+pub hands_more : (old mid new : Core) (moved offered : Bool) (n : ℕ) → Hands old mid moved n → Goes mid new → (offered ≡ false → new ≡ mid) → (offered ≡ false → IsHandedOn mid n) → (offered ≡ true → all_unhanded new.boxes < all_unhanded mid.boxes) → new.steps ≡ mid.steps → Hands old new (moved || offered) (n + 1)
+hands_more old mid new moved offered n before goes same none fewer steps = record {
+  fewer = fewer_by old mid new moved offered before.same before.fewer same fewer;
+  steps = steps ∙ before.steps;
   goes = goes_then old mid new before.goes goes;
   same = λ is. let both = neither moved offered is in same both.1 ∙ before.same both.0;
   none = λ is d small.
@@ -360,6 +371,44 @@ hands_more old mid new moved offered n before goes same none = record {
     at_place : {P : Type 0} {d n : ℕ} (here : Bool) → (d == n) ≡ here → (d < n → P) → (d ≡ n → P) → d < n + 1 → P
     at_place {d = d} {n = n} true is less equal small = equal (grind (arith, nat_tests))
     at_place {d = d} {n = n} false is less equal small = less (grind (arith, nat_tests))
+
+-- ## How much is left to hand on
+
+set_unhanded : (boxes : List Box) (d : ℕ) (b : Box) → d < length boxes → all_unhanded (slice_set boxes d b) + unhanded (slice_index_or boxes d fresh_box) ≡ all_unhanded boxes + unhanded b
+set_unhanded [] d b inside = absurd (omega (arith, inside))
+set_unhanded (x ∷ boxes) zero b inside = omega arith
+set_unhanded (x ∷ boxes) (suc d) b inside = let rest = set_unhanded boxes d b (omega (arith, inside)) in omega (arith, rest)
+
+abbrev the_count : Bool → ℕ
+the_count o = if o then 1 else 0
+
+-- letting go of a hold that is over leaves one less
+released_less : (b : Box) (over : Bool) → is_released b.hold ≡ over → over ≡ true → unhanded (if over then record b { unsent = b.unsent ++ b.held; held = []; hold = None } else b) < unhanded b
+released_less b true is really =
+    let one : (if is_released b.hold then 1 else 0) ≡ 1 = ap (λ (o : Bool). the_count o) is in
+    let long = length-append b.unsent b.held in
+    omega (arith, one, long)
+released_less b false is really = cc
+
+pub fewer_released : {E : Type 0} (boxes : List Box) (d : ℕ) (b now : Box) (r : Result Bool E) → d < length boxes → b ≡ slice_index_or boxes d fresh_box → IfOk r (λ moved. moved ≡ is_released b.hold) → OnOk r (now ≡ released b) → IfOk r (λ moved. moved ≡ true → all_unhanded (slice_set boxes d now) < all_unhanded boxes)
+fewer_released boxes d b now (Ok moved) inside here over is = λ really.
+    let less : unhanded (released b) < unhanded b = released_less b (is_released b.hold) refl (sym over ∙ really) in
+    let set = set_unhanded boxes d now inside in
+    let same = ap unhanded here in
+    let same_now = ap unhanded is in
+    omega (arith, less, set, same, same_now)
+fewer_released boxes d b now (Err why) inside here over is = tt
+
+-- and so does handing on octets, of which there are some
+pub fewer_handed : (boxes : List Box) (d most count : ℕ) (b : Box) (octets : List ℕ) → d < length boxes → b ≡ slice_index_or boxes d fresh_box → octets ≡ take most b.unsent → count ≡ length octets → (count ≡ 0 → ⊥) → all_unhanded (slice_set boxes d (record b { unsent = drop count b.unsent })) < all_unhanded boxes
+fewer_handed boxes d most count b octets inside here taken count_is some =
+    let set = set_unhanded boxes d (record b { unsent = drop count b.unsent }) inside in
+    let same = ap unhanded here in
+    let short = ap length taken ∙ length-take most b.unsent in
+    let rest = length-drop count b.unsent in
+    let few : min most (length b.unsent) ≤ length b.unsent = omega arith in
+    let there : 1 ≤ count = omega (arith, some) in
+    omega (arith, set, same, short, rest, few, there, count_is)
 
 -- ## What goes out
 

@@ -18,3 +18,10 @@ pub mod CoreLemmas
 pub mod HandingLemmas
 pub mod DoingLemmas
 pub mod SimLemmas
+pub mod PartLemmas
+pub mod TurnLemmas
+pub mod RoomLemmas
+pub mod SilentLemmas
+pub mod IdleLemmas
+pub mod MeaningLemmas
+pub mod TurnFacts

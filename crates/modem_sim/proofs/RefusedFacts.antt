@@ -129,7 +129,7 @@ opening_refused : IsRefused plain refused_opening
 unfolding LawfulThere Sends
 opening_refused lawful = apart 1 2 (ap first_kind lawful.at_station.0.is_next) refl
 
-said_nothing : ¬ AllIsOut plain (after [] silent)
+pub said_nothing : ¬ AllIsOut plain (after [] silent)
 unfolding command_of command_in numeral_in unquoted parameters digits
 said_nothing out = apart 0 6 (ap length (out 1 (lit< tt) refl refl refl)) refl
 

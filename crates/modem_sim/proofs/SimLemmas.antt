@@ -1,7 +1,7 @@
 -- A simulated modem at its line goes on.
-use Rattle.std.specs.Prelude.{◌≡◌, ℕ, ◌==◌, ◌&&◌, is_none, Bool, true, List, [], ◌∷◌, ◌++◌, Option, Some, None, option_map, Result, Ok, Err, IfOk, OnOk, OnErr, take, drop, length, refl}
+use Rattle.std.specs.Prelude.{◌≡◌, ℕ, ◌==◌, ◌&&◌, is_none, Bool, true, false, List, [], ◌∷◌, ◌++◌, Option, Some, None, option_map, Result, Ok, Err, IfOk, OnOk, OnErr, take, drop, length, refl}
 use Rattle.std.specs.List.{flat_map}
-use Rattle.std.proofs.Common.{arith, sym, ap, ◌∙◌, subst, append_assoc, append-nil, take-append-drop}
+use Rattle.std.proofs.Common.{arith, sym, ap, ◌∙◌, subst, append_assoc, append-nil, length-append, take-append-drop}
 use Rattle.std.proofs.lemmas.Grind.{flat_map-append}
 use Rattle.mux_frame.specs.Frames.{Frame}
 use Rattle.mux_frame.specs.Deframing.{Deframing, HandsOver, TakesIn}
@@ -17,6 +17,8 @@ use Rattle.mux_station.specs.GivenFrames.{Outgoing, with_freshness}
 use Rattle.modem_sim.specs.Acts.{Act, End}
 use Rattle.modem_sim.specs.Cores.{Core, Wired, Fits, GoesFrom, Goes, GoesOn, GivesOut, gone_on}
 use Rattle.modem_sim.specs.Sims.{Kept, KeptFits, KeptGoes, Receives, SimState, SimGoes, Simulates, IsOver, is_ended, spelled_next}
+use Rattle.modem_sim.specs.Turns.{is_nil}
+use Rattle.modem_sim.specs.Stills.{KeptDoes, KeptStays}
 use Rattle.modem_sim.proofs.HandingLemmas.{later_then}
 
 pub kept_none : (k : Kept) → KeptGoes k k
@@ -46,23 +48,37 @@ kept_core old core goes e came went past fits =
       };
     }
 
+-- a past with a frame more is another one
+not_same : (newer past now : List Act) (xs : List Frame) (f : Frame) → newer ++ past ≡ now → got past ≡ xs → got now ≡ xs ++ f ∷ [] → is_nil newer ≡ false
+not_same [] past now xs f joins before after =
+    let same : xs ≡ xs ++ f ∷ [] = sym before ∙ ap got joins ∙ after in
+    let long = ap length same ∙ length-append xs (f ∷ []) in
+    absurd (omega (arith, long))
+not_same (a ∷ newer) past now xs f joins before after = refl
+
 -- where it takes the frame at hand
-pub kept_took : (old : Kept) (core : Core) (d : Deframing) (f : Frame) → old.deframer.next ≡ Some f → GoesOn old.core core f → HandsOver old.deframer d → d.n1 ≡ old.deframer.n1 → KeptGoes old (record old { core = core; deframer = d })
-kept_took old core d f hand goes hands same e came went past fits =
+pub kept_did : (old : Kept) (core : Core) (d : Deframing) (f : Frame) → old.deframer.next ≡ Some f → GoesOn old.core core f → HandsOver old.deframer d → d.n1 ≡ old.deframer.n1 → KeptDoes old (record old { core = core; deframer = d })
+kept_did old core d f hand goes hands same e came went past fits =
     let went_on = goes e fits.wired past fits.core_fits in
     record {
-      now = went_on.now;
-      later = went_on.later;
-      fits = record {
-        wired = record fits.wired { came = fits.wired.came ++ f ∷ [] };
-        core_fits = went_on.fits;
-        n1_is = same ∙ fits.n1_is;
-        taken = fits.taken;
-        came_is = fits.came_is;
-        deframes = hands fits.taken fits.wired.came f hand fits.deframes;
-        went_is = fits.went_is;
+      from = record {
+        now = went_on.now;
+        later = went_on.later;
+        fits = record {
+          wired = record fits.wired { came = fits.wired.came ++ f ∷ [] };
+          core_fits = went_on.fits;
+          n1_is = same ∙ fits.n1_is;
+          taken = fits.taken;
+          came_is = fits.came_is;
+          deframes = hands fits.taken fits.wired.came f hand fits.deframes;
+          went_is = fits.went_is;
+        };
       };
+      some = not_same went_on.later.newer past went_on.now fits.wired.came f went_on.later.joins fits.core_fits.came_are went_on.fits.came_are;
     }
+
+pub kept_took : (old : Kept) (core : Core) (d : Deframing) (f : Frame) → old.deframer.next ≡ Some f → GoesOn old.core core f → HandsOver old.deframer d → d.n1 ≡ old.deframer.n1 → KeptGoes old (record old { core = core; deframer = d })
+kept_took old core d f hand goes hands same e came went past fits = (kept_did old core d f hand goes hands same e came went past fits).from
 
 -- where its end gives a frame on
 pub kept_gave : (old : Kept) (f : Frame) → old.pending ≡ None → ((e : End) (w : Wired) (past : List Act) → Fits e w old.core past → GoesFrom e (record w { gone = w.gone ++ f ∷ [] }) past (gone_on old.core)) → KeptGoes old (record old { core = gone_on old.core; pending = Some f })
@@ -102,19 +118,22 @@ kept_loaded old f out hand put e came went past fits = record {
 }
 
 -- where its deframer takes octets
+pub fed_fits : (old : Kept) (d : Deframing) (n : ℕ) → TakesIn old.deframer (take n old.unfed) d → d.n1 ≡ old.deframer.n1 → KeptStays old (record old { unfed = drop n old.unfed; deframer = d })
+fed_fits old d n takes same e came went past fits = record {
+  wired = fits.wired;
+  core_fits = fits.core_fits;
+  n1_is = same ∙ fits.n1_is;
+  taken = fits.taken ++ take n old.unfed;
+  came_is = fits.came_is ∙ ap (λ x. fits.taken ++ x) (sym (take-append-drop n old.unfed)) ∙ sym (append_assoc fits.taken (take n old.unfed) (drop n old.unfed));
+  deframes = takes fits.taken fits.wired.came fits.deframes;
+  went_is = fits.went_is;
+}
+
 pub kept_fed : (old : Kept) (d : Deframing) (n : ℕ) → TakesIn old.deframer (take n old.unfed) d → d.n1 ≡ old.deframer.n1 → KeptGoes old (record old { unfed = drop n old.unfed; deframer = d })
 kept_fed old d n takes same e came went past fits = record {
   now = past;
   later = record { newer = []; joins = refl };
-  fits = record {
-    wired = fits.wired;
-    core_fits = fits.core_fits;
-    n1_is = same ∙ fits.n1_is;
-    taken = fits.taken ++ take n old.unfed;
-    came_is = fits.came_is ∙ ap (λ x. fits.taken ++ x) (sym (take-append-drop n old.unfed)) ∙ sym (append_assoc fits.taken (take n old.unfed) (drop n old.unfed));
-    deframes = takes fits.taken fits.wired.came fits.deframes;
-    went_is = fits.went_is;
-  };
+  fits = fed_fits old d n takes same e came went past fits;
 }
 
 -- ## With the line
@@ -254,6 +273,10 @@ given_none_at v (f ∷ q) o queue turn none = cc
 
 gone_none : (c : Core) → next_given c.station c.station.queue ≡ None → gone_on c ≡ c
 gone_none c none = ap (λ (v : stations.Station). record c { station = v }) (given_none_at c.station c.station.queue (next_turn c.station) refl refl none)
+
+-- where none is there nothing changes
+pub fetched_nothing : (old mid core : Core) (fresh : Bool) → mid ≡ old → None ≡ option_map (with_freshness fresh) (next_given mid.station mid.station.queue) → core ≡ gone_on mid → core ≡ old
+fetched_nothing old mid core fresh same none is = is ∙ gone_none mid (none_mapped (with_freshness fresh) (next_given mid.station mid.station.queue) none) ∙ same
 
 pub fetched_none : (old : Kept) (mid core : Core) (fresh : Bool) → Goes old.core mid → None ≡ option_map (with_freshness fresh) (next_given mid.station mid.station.queue) → core ≡ gone_on mid → KeptGoes old (record old { core = core })
 fetched_none old mid core fresh goes none is =

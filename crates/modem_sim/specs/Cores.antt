@@ -1,5 +1,5 @@
 -- What a simulated modem's end keeps, and the pasts that it fits.
-use Rattle.std.specs.Prelude.{◌≡◌, ℕ, ◌+◌, ◌-◌, ◌^◌, ◌<◌, ◌==◌, ◌&&◌, ◌||◌, Bool, true, false, List, [], ◌∷◌, ◌++◌, None, Some, length, map, filter, min, slice_index_or, slice_set, if◌then◌else◌}
+use Rattle.std.specs.Prelude.{◌≡◌, ◌≢◌, ℕ, ◌+◌, ◌-◌, ◌^◌, ◌<◌, ◌==◌, ◌&&◌, ◌||◌, Bool, true, false, List, [], ◌∷◌, ◌++◌, None, Some, length, map, filter, min, slice_index_or, slice_set, if◌then◌else◌}
 use Rattle.std.specs.List.{list_all}
 use Rattle.mux_frame.specs.Frames.{Frame}
 use Rattle.mux_station.specs.Acts as station
@@ -203,3 +203,30 @@ pub data AtStation (old new : stations.Station) (act : StepAct) : Type 0 where
 -- the connections that a step names are open
 abbrev pub are_open_in : stations.Station → StepAct → Bool
 are_open_in v act = list_all (λ d. is_opened (stations.channel_at v d).state) (named_by act)
+
+-- the station refuses what a step asks of it
+pub record Refuses (v : stations.Station) (act : StepAct) : Type 0 where
+  pub call : station.Call
+  pub asked : call_of act ≡ Some call
+  pub refused : sending.refused (stations.setting_of v) (stations.seen_in v) call ≢ None
+
+-- why a step isn't done yet: more lines have to come, a connection that it names isn't open, or the station refuses what it asks
+pub data Waits (c : Core) (step : Step) : Type 0 where
+  for_lines : c.come < step.after → step.after < 2 ^ 64 → Waits c step
+  for_openings : are_open_in c.station step.act ≡ false → Waits c step
+  for_room : Refuses c.station step.act → Waits c step
+
+-- no step can be done: none is left, or the next one isn't passed over and waits
+pub data HasNoneToDo (c : Core) : Type 0 where
+  none_left : c.steps ≡ [] → HasNoneToDo c
+  waits : (step : Step) (later : List Step) → c.steps ≡ step ∷ later → acts step.act ≡ true → Waits c step → HasNoneToDo c
+
+-- ## How much there is to hand on
+
+-- what is said on a connection and not handed to the station, and one more where a hold is over that isn't let go yet
+abbrev pub unhanded : Box → ℕ
+unhanded b = length b.unsent + length b.held + (if is_released b.hold then 1 else 0)
+
+abbrev pub all_unhanded : List Box → ℕ
+all_unhanded [] = 0
+all_unhanded (b ∷ boxes) = unhanded b + all_unhanded boxes

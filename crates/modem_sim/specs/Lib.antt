@@ -14,4 +14,8 @@ pub mod HistoryRows
 pub mod Boxes
 pub mod Cores
 pub mod Sims
+pub mod Turns
+pub mod Stills
+pub mod Polls
+pub mod TurnRows
 pub mod Numbers

@@ -1,9 +1,9 @@
 //! The steps of a script are done.
-ghost use Rattle.std.specs.Prelude.{◌≡◌, true, false, length, IfOk, OnErr};
+ghost use Rattle.std.specs.Prelude.{◌≡◌, ◌<◌, true, false, length, IfOk, OnOk, OnErr};
 ghost use Rattle.std.specs.List.{list_any};
 ghost use Rattle.at_text.specs.Lines.{is_line_end};
 ghost use Rattle.modem_sim.specs.Doing.{acts, is_line};
-ghost use Rattle.modem_sim.specs.Cores.{AtStation, Goes, are_open_in, boxes_done, closes_by};
+ghost use Rattle.modem_sim.specs.Cores.{AtStation, Goes, HasNoneToDo, Refuses, are_open_in, boxes_done, closes_by};
 
 use crate::channel::Channel;
 use crate::script::StepAct;
@@ -53,6 +53,8 @@ impl SimCore {
     fn do_next(&mut self) -> Result<bool, AllocError>
         ensures goes { Goes self.old self.new }
         ensures same { IfOk result (λ done. done ≡ false → self.new ≡ self.old) }
+        ensures fewer { IfOk result (λ done. done ≡ true → length self.new.steps < length self.old.steps) }
+        ensures none { IfOk result (λ done. done ≡ false → HasNoneToDo self.old) }
         ensures err { OnErr result (self.new ≡ self.old) }
     {
         let Some(step) = self.steps.get(self.next) else {
@@ -79,12 +81,11 @@ impl SimCore {
     pub(crate) fn do_steps(&mut self) -> Result<bool, AllocError>
         ensures goes { Goes self.old self.new }
         ensures same { IfOk result (λ done. done ≡ false → self.new ≡ self.old) }
+        ensures fewer { IfOk result (λ done. done ≡ true → length self.new.steps < length self.old.steps) }
+        ensures none { OnOk result (HasNoneToDo self.new) }
     {
         let mut done = false;
-        for _ in self.next..self.steps.len() {
-            if !self.do_next()? {
-                return Ok(done);
-            }
+        while self.do_next()? {
             done = true;
         }
         Ok(done)
@@ -119,6 +120,7 @@ fn carry_out(
     requires { length channels.old.items ≡ 62 }
     ensures station { IfOk result (λ done. done ≡ true → AtStation station.old station.new act.now) }
     ensures boxes { IfOk result (λ done. done ≡ true → channels.new.items ≡ boxes_done act.now channels.old.items) }
+    ensures refused { IfOk result (λ done. done ≡ false → Refuses station.old act.now) }
     ensures same { IfOk result (λ done. done ≡ false → station.new ≡ station.old) }
     ensures same_boxes { IfOk result (λ done. done ≡ false → channels.new.items ≡ channels.old.items) }
     ensures err { OnErr result (station.new ≡ station.old) }

@@ -1,4 +1,5 @@
 //! Why a call of the simulator is refused.
+use serial_line::LineFault;
 use std::alloc::{AllocError, AllocFailed};
 use thiserror::Error;
 
@@ -44,6 +45,17 @@ impl From<AllocError> for SimError {
 
     fn from(_refused: AllocError) -> SimError {
         SimError::NoMemory
+    }
+}
+
+impl From<LineFault> for SimError {
+    ghost use Rattle.std.specs.Prelude.{◌≡◌};
+    ghost use Rattle.modem_sim.specs.declared.error.SimError.TheVariants.{Line};
+
+    ghost from_gives = { λ _ e. e ≡ Line };
+
+    fn from(_fault: LineFault) -> SimError {
+        SimError::Line
     }
 }
 

@@ -7,7 +7,7 @@ ghost use Rattle.mux_station.specs.Giving.{next_given};
 ghost use Rattle.mux_station.specs.States.{is_opened};
 ghost use Rattle.mux_station.specs.Stations.{channel_at};
 ghost use Rattle.modem_sim.specs.Boxes.{is_released, released};
-ghost use Rattle.modem_sim.specs.Cores.{GivesOut, Goes, IsHandedOn, boxed, box_at, gone_on};
+ghost use Rattle.modem_sim.specs.Cores.{GivesOut, Goes, IsHandedOn, all_unhanded, boxed, box_at, gone_on};
 
 use crate::sim_core::{CONNECTIONS, SimCore};
 use mux_frame::Dlci;
@@ -28,6 +28,8 @@ impl SimCore {
         ensures same { IfOk result (λ moved. moved ≡ false → self.new ≡ self.old) }
         ensures err { OnErr result (self.new ≡ self.old) }
         ensures all { length self.old.boxes ≡ 62 }
+        ensures fewer { IfOk result (λ moved. moved ≡ true → all_unhanded self.new.boxes < all_unhanded self.old.boxes) }
+        ensures steps { self.new.steps ≡ self.old.steps }
     {
         let channel = &mut self.channels[usize::from(dlci.number())];
         channel.release()
@@ -40,6 +42,8 @@ impl SimCore {
         ensures same { result ≡ false → self.new ≡ self.old }
         ensures none { result ≡ false → (dlci.number == 0) ≡ false
             → (channel_at self.old.station dlci.number).waiting ≡ [] → (box_at self.old dlci.number).unsent ≡ [] }
+        ensures fewer { result ≡ true → all_unhanded self.new.boxes < all_unhanded self.old.boxes }
+        ensures steps { self.new.steps ≡ self.old.steps }
     {
         let room = RING.saturating_sub(self.station.waiting(dlci));
         let channel = &mut self.channels[usize::from(dlci.number())];
@@ -57,6 +61,8 @@ impl SimCore {
         ensures goes { Goes self.old self.new }
         ensures same { IfOk result (λ moved. moved ≡ false → self.new ≡ self.old) }
         ensures none { IfOk result (λ moved. moved ≡ false → IsHandedOn self.old dlci.number) }
+        ensures fewer { IfOk result (λ moved. moved ≡ true → all_unhanded self.new.boxes < all_unhanded self.old.boxes) }
+        ensures steps { self.new.steps ≡ self.old.steps }
     {
         if !self.is_open(dlci) {
             return Ok(false);
@@ -73,6 +79,8 @@ impl SimCore {
         ensures goes { Goes self.old self.new }
         ensures same { IfOk result (λ moved. moved ≡ false → self.new ≡ self.old) }
         ensures none { IfOk result (λ moved. moved ≡ false → (d : ℕ) → d < 62 → IsHandedOn self.old d) }
+        ensures fewer { IfOk result (λ moved. moved ≡ true → all_unhanded self.new.boxes < all_unhanded self.old.boxes) }
+        ensures steps { OnOk result (self.new.steps ≡ self.old.steps) }
     {
         let mut moved = false;
         for number in 0..CONNECTIONS as u8 {

@@ -1,7 +1,9 @@
 //! What a simulated modem keeps beside its line.
-ghost use Rattle.std.specs.Prelude.{◌≡◌, ◌↔◌, ◌⊎◌, ◌+◌, ◌<◌, ◌≤◌, [], ◌++◌, length, take, drop, true, IfOk, OnOk, OnErr, IsErrOf};
+ghost use Rattle.std.specs.Prelude.{◌≡◌, ◌↔◌, ◌⊎◌, ◌+◌, ◌<◌, ◌≤◌, [], ◌++◌, length, take, drop, true, false, None, IfOk, OnOk, OnErr, IsErrOf};
 ghost use Rattle.mux_frame.specs.Frames.{frame_of};
+ghost use Rattle.modem_sim.specs.Cores.{HasNoneToDo, all_unhanded};
 ghost use Rattle.modem_sim.specs.Sims.{BeginsAt, KeptFits, KeptGoes, Receives, is_ended, pending_frame};
+ghost use Rattle.modem_sim.specs.Stills.{FeedsNone, HasNoneToLoad, KeptDoes, Loads, LoadsNone, ReadsOnce, TakesNone, Writes};
 ghost use Rattle.modem_sim.specs.Acts.{end_of};
 
 use crate::error::SimError;
@@ -170,24 +172,22 @@ impl Kept {
     /// Does the steps that are due; says whether there were any.
     pub(crate) fn do_steps(&mut self) -> Result<bool, SimError>
         ensures goes { KeptGoes self.old self.new }
+        ensures rest { self.new ≡ record self.old { core = self.new.core } }
+        ensures same { IfOk result (λ done. done ≡ false → self.new ≡ self.old) }
+        ensures fewer { IfOk result (λ done. done ≡ true → length self.new.core.steps < length self.old.core.steps) }
+        ensures none { OnOk result (HasNoneToDo self.new.core) }
         ensures no_memory { OnErr result (IsErrOf result SimError.NoMemory) }
     {
         Ok(self.core.do_steps()?)
     }
 
-    /// Takes the next frame into the output, and then the frame at hand; says whether anything moved.
-    pub(crate) fn work(&mut self) -> Result<bool, SimError>
-        ensures goes { KeptGoes self.old self.new }
-        ensures no_memory { OnErr result (IsErrOf result SimError.NoMemory) }
-    {
-        let loaded = self.load()?;
-        let took = self.take_frame()?;
-        Ok(loaded | took)
-    }
-
     /// Takes the frame at hand, if there is one and the station has room for what it calls for; says whether it did.
     pub(crate) fn take_frame(&mut self) -> Result<bool, SimError>
         ensures goes { KeptGoes self.old self.new }
+        ensures rest { self.new ≡ record self.old { core = self.new.core; deframer = self.new.deframer } }
+        ensures does { IfOk result (λ took. took ≡ true → KeptDoes self.old self.new) }
+        ensures none { IfOk result (λ took. took ≡ false → TakesNone self.old self.new) }
+        ensures steps { OnOk result (self.new.core.steps ≡ self.old.core.steps) }
         ensures no_memory { OnErr result (IsErrOf result SimError.NoMemory) }
     {
         if self.core.n1() != self.n1 {
@@ -206,6 +206,11 @@ impl Kept {
     /// Fetches the frame that is to be written next; says whether it did, or handed octets to the station.
     fn fetch(&mut self) -> Result<bool, AllocError>
         ensures goes { KeptGoes self.old self.new }
+        ensures rest { self.new ≡ record self.old { core = self.new.core; pending = self.new.pending } }
+        ensures handed { IfOk result (λ moved. moved ≡ true → self.new.pending ≡ None → all_unhanded self.new.core.boxes < all_unhanded self.old.core.boxes) }
+        ensures same { IfOk result (λ moved. moved ≡ false → self.new ≡ self.old) }
+        ensures none { IfOk result (λ moved. moved ≡ false → self.old.pending ≡ None → HasNoneToLoad self.old) }
+        ensures steps { OnOk result (self.new.core.steps ≡ self.old.core.steps) }
     {
         if self.pending.is_some() {
             return Ok(false);
@@ -221,6 +226,10 @@ impl Kept {
     /// Writes the fetched frame into the output; says whether there was one. Want of memory leaves it fetched.
     fn put(&mut self) -> Result<bool, SimError>
         ensures goes { KeptGoes self.old self.new }
+        ensures rest { self.new ≡ record self.old { pending = self.new.pending; out = self.new.out } }
+        ensures more { IfOk result (λ put. put ≡ true → length self.old.out < length self.new.out) }
+        ensures none { IfOk result (λ put. put ≡ false → self.old.pending ≡ None) }
+        ensures same { IfOk result (λ put. put ≡ false → self.new ≡ self.old) }
         ensures no_memory { OnErr result (IsErrOf result SimError.NoMemory) }
     {
         let Some(pending) = &self.pending else {
@@ -236,6 +245,10 @@ impl Kept {
     /// Takes the next frame into the output, where all is written; says whether anything moved.
     pub(crate) fn load(&mut self) -> Result<bool, SimError>
         ensures goes { KeptGoes self.old self.new }
+        ensures rest { self.new ≡ record self.old { core = self.new.core; pending = self.new.pending; out = self.new.out } }
+        ensures loads { IfOk result (λ moved. moved ≡ true → Loads self.old self.new) }
+        ensures none { IfOk result (λ moved. moved ≡ false → LoadsNone self.old self.new) }
+        ensures steps { OnOk result (self.new.core.steps ≡ self.old.core.steps) }
         ensures no_memory { OnErr result (IsErrOf result SimError.NoMemory) }
     {
         if !self.out.is_empty() {
@@ -249,7 +262,13 @@ impl Kept {
     /// Gives octets that were read to the deframer, as many as it has room for; says whether there were any.
     pub(crate) fn feed(&mut self) -> bool
         ensures goes { KeptGoes self.old self.new }
+        ensures rest { self.new ≡ record self.old { unfed = self.new.unfed; deframer = self.new.deframer } }
+        ensures fewer { result ≡ true → length self.new.unfed < length self.old.unfed }
+        ensures none { result ≡ false → FeedsNone self.old self.new }
     {
+        if self.unfed.is_empty() {
+            return false;
+        }
         let count = self.deframer.feed(self.unfed.as_slice());
         self.unfed.pass(count);
         count > 0
@@ -271,15 +290,17 @@ impl Kept {
         ensures kept { IfOk result (λ n. self.new ≡ record self.old { out = drop n self.old.out }) }
         ensures none_went { OnErr result (L.sent line.new ≡ L.sent line.old) }
         ensures err { OnErr result (self.new ≡ record self.old { failed = true }) }
+        ensures writes { IfOk result (λ n. Writes (L.sent line.old) (L.sent line.new) (L.calls line.old) (L.calls line.new) self.old self.new n) }
         ensures none_came { L.received line.new ≡ L.received line.old }
         ensures bounded { L.calls line.new ≤ L.calls line.old + 1 }
         ensures sound { OnOk result (L.failures line.new ≡ L.failures line.old) }
         ensures failure { OnErr result (L.failures line.new ≡ L.failures line.old + 1) }
     {
-        if self.out.is_empty() {
+        let octets = self.out.as_slice();
+        if octets.is_empty() {
             return Ok(0);
         }
-        match line.try_write(&self.out) {
+        match line.try_write(octets) {
             Ok(count) => {
                 self.written(count);
                 Ok(count)
@@ -291,21 +312,22 @@ impl Kept {
         }
     }
 
-    /// Reads from the line, where nothing read waits.
-    pub(crate) fn receive<L: SerialLine>(&mut self, line: &mut L) -> Result<(), LineFault>
+    /// Reads from the line, where nothing read waits; says whether any octets came.
+    pub(crate) fn receive<L: SerialLine>(&mut self, line: &mut L) -> Result<bool, LineFault>
         ensures came { OnOk result (Receives (L.received line.old) (L.received line.new) self.old self.new) }
         ensures none_came { OnErr result (L.received line.new ≡ L.received line.old) }
         ensures err { OnErr result (self.new ≡ record self.old { failed = true }) }
         ensures none_went { L.sent line.new ≡ L.sent line.old }
+        ensures reads { IfOk result (λ came. ReadsOnce (L.received line.old) (L.received line.new) (L.calls line.old) (L.calls line.new) self.old self.new came) }
         ensures bounded { L.calls line.new ≤ L.calls line.old + 1 }
         ensures sound { OnOk result (L.failures line.new ≡ L.failures line.old) }
         ensures failure { OnErr result (L.failures line.new ≡ L.failures line.old + 1) }
     {
         if !self.unfed.is_empty() {
-            return Ok(());
+            return Ok(false);
         }
         match self.unfed.read(line) {
-            Ok(_) => Ok(()),
+            Ok(count) => Ok(count > 0),
             Err(fault) => {
                 self.failed = true;
                 Err(fault)

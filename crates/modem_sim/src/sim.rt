@@ -1,8 +1,9 @@
 //! A simulated modem at its line.
-ghost use Rattle.std.specs.Prelude.{◌≡◌, ◌≢◌, ◌↔◌, ◌⊎◌, ◌+◌, ◌<◌, ◌≤◌, [], true, Err, IfOk, IfErr, IsErr, OnOk, OnErr, IsErrOf};
+ghost use Rattle.std.specs.Prelude.{◌≡◌, ◌≢◌, ◌↔◌, ◌⊎◌, ◌+◌, ◌<◌, ◌≤◌, [], true, false, Ok, Err, IfOk, IfErr, IsErr, OnOk, OnErr, IsErrOf};
 ghost use Rattle.std.specs.Borrow.{Lends, sem};
 ghost use Rattle.modem_sim.specs.Acts.{end_of};
 ghost use Rattle.modem_sim.specs.Sims.{FitsSim, SimGoes, is_ended};
+ghost use Rattle.modem_sim.specs.Turns.{GoesTurn};
 
 use crate::error::SimError;
 use crate::kept::{Kept, Room};
@@ -80,87 +81,14 @@ impl<L: SerialLine> Sim<L> {
         }
     }
 
-    /// Offers the line what is to be written; says whether it took any.
-    fn write(&mut self) -> Result<bool, SimError>
-        ensures goes { SimGoes L.received L.sent self.old self.new }
-        ensures fault { result ≡ Err SimError.Line → self.new.kept.failed ≡ true }
-        ensures fails { OnErr result (result ≡ Err SimError.Line) }
-        ensures bounded { L.calls self.new.line ≤ L.calls self.old.line + 1 }
-        ensures sound { OnOk result (L.failures self.new.line ≡ L.failures self.old.line) }
-        ensures failure { OnErr result (L.failures self.new.line ≡ L.failures self.old.line + 1) }
-    {
-        match self.kept.write(&mut self.line) {
-            Ok(count) => Ok(count > 0),
-            Err(_) => Err(SimError::Line),
-        }
-    }
-
-    /// Reads, where nothing read waits.
-    fn receive(&mut self) -> Result<(), SimError>
-        ensures goes { SimGoes L.received L.sent self.old self.new }
-        ensures fault { result ≡ Err SimError.Line → self.new.kept.failed ≡ true }
-        ensures fails { OnErr result (result ≡ Err SimError.Line) }
-        ensures bounded { L.calls self.new.line ≤ L.calls self.old.line + 1 }
-        ensures sound { OnOk result (L.failures self.new.line ≡ L.failures self.old.line) }
-        ensures failure { OnErr result (L.failures self.new.line ≡ L.failures self.old.line + 1) }
-    {
-        match self.kept.receive(&mut self.line) {
-            Ok(()) => Ok(()),
-            Err(_) => Err(SimError::Line),
-        }
-    }
-
-    /// Does the steps that are due.
-    fn do_steps(&mut self) -> Result<bool, SimError>
-        ensures goes { SimGoes L.received L.sent self.old self.new }
-        ensures fault { result ≡ Err SimError.Line → self.new.kept.failed ≡ true }
-        ensures line { self.new.line ≡ self.old.line }
-        ensures no_memory { OnErr result (IsErrOf result SimError.NoMemory) }
-    {
-        self.kept.do_steps()
-    }
-
-    /// Takes the next frame into the output, and then the frame at hand.
-    fn work(&mut self) -> Result<bool, SimError>
-        ensures goes { SimGoes L.received L.sent self.old self.new }
-        ensures fault { result ≡ Err SimError.Line → self.new.kept.failed ≡ true }
-        ensures line { self.new.line ≡ self.old.line }
-        ensures no_memory { OnErr result (IsErrOf result SimError.NoMemory) }
-    {
-        self.kept.work()
-    }
-
-    /// Gives what was read to the deframer.
-    fn feed(&mut self) -> bool
-        ensures goes { SimGoes L.received L.sent self.old self.new }
-        ensures line { self.new.line ≡ self.old.line }
-    {
-        self.kept.feed()
-    }
-
-    /// Steps, write, next frame, frame at hand, read; says whether anything moved.
-    fn go_on(&mut self) -> Result<bool, SimError>
-        ensures goes { SimGoes L.received L.sent self.old self.new }
-        ensures fault { result ≡ Err SimError.Line → self.new.kept.failed ≡ true }
-        ensures others { OnErr result (IsErrOf result SimError.Line ⊎ IsErrOf result SimError.NoMemory) }
-        ensures bounded { L.calls self.new.line ≤ L.calls self.old.line + 2 }
-        ensures sound { result ≢ Err SimError.Line → L.failures self.new.line ≡ L.failures self.old.line }
-        ensures failure { result ≡ Err SimError.Line → L.failures self.new.line ≡ L.failures self.old.line + 1 }
-    {
-        let done = self.do_steps()?;
-        let wrote = self.write()?;
-        let worked = self.work()?;
-        self.receive()?;
-        let fed = self.feed();
-        Ok(done | wrote | worked | fed)
-    }
-
     /// Does each of these once: the steps that are due; offers the line what is to be written; where all is written, takes the
     /// next outgoing frame; takes the frame at hand; reads. Refusals: 1 NoMemory, which drops nothing: the next turn goes on;
     /// 3 Line, where the line fails; 4 Failed, in every turn after that, which does nothing.
     pub fn turn(&mut self) -> Result<SimTurn, SimError>
         ensures goes { SimGoes L.received L.sent self.old self.new }
+        ensures turn { IfOk result (λ says. GoesTurn L.received L.sent L.calls self.old self.new says) }
         ensures failed { self.old.kept.failed ≡ true → (result ≡ Err SimError.Failed) × (self.new ≡ self.old) }
+        ensures over { self.old.kept.failed ≡ false → is_ended self.old.kept ≡ true → (result ≡ Ok SimTurn.Ended) × (self.new ≡ self.old) }
         ensures fault { result ≡ Err SimError.Line → self.new.kept.failed ≡ true }
         ensures others { OnErr result (IsErrOf result SimError.Line ⊎ (IsErrOf result SimError.NoMemory ⊎ IsErrOf result SimError.Failed)) }
         ensures ended { IfOk result (λ turn. turn ≡ SimTurn.Ended → is_ended self.new.kept ≡ true) }
@@ -175,11 +103,14 @@ impl<L: SerialLine> Sim<L> {
         if self.kept.is_ended() {
             return Ok(SimTurn::Ended);
         }
-        let moved = self.go_on()?;
+        let moved = self.kept.go_on(&mut self.line)?;
         if self.kept.is_ended() {
             return Ok(SimTurn::Ended);
         }
-        Ok(if moved { SimTurn::Moved } else { SimTurn::Idle })
+        if moved {
+            return Ok(SimTurn::Moved);
+        }
+        Ok(SimTurn::Idle)
     }
 
     /// The line, lent. What it fitted before it fits afterwards, where what was done left the octets received and sent as they

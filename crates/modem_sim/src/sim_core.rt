@@ -1,5 +1,5 @@
 //! A simulated modem's end of the line, without the line.
-ghost use Rattle.std.specs.Prelude.{◌≡◌, ◌↔◌, ◌⊎◌, ◌<◌, ◌≤◌, ◌==◌, ◌&&◌, ◌++◌, ℕ, List, [], length, replicate, true, false, is_none, IfOk, OnErr, IsErrOf};
+ghost use Rattle.std.specs.Prelude.{◌≡◌, ◌↔◌, ◌⊎◌, ◌<◌, ◌≤◌, ◌==◌, ◌&&◌, ◌++◌, ℕ, List, [], length, replicate, true, false, is_none, IfOk, OnOk, OnErr, IsErrOf};
 ghost use Rattle.mux_frame.specs.Frames.{frame_of};
 ghost use Rattle.mux_frame.specs.Spelling.{most_info};
 ghost use Rattle.mux_station.specs.States.{is_opened};
@@ -202,6 +202,7 @@ impl SimCore {
         ensures left { IfOk result (λ took. took ≡ false → self.new ≡ self.old) }
         ensures err { OnErr result (self.new ≡ self.old) }
         ensures no_memory { OnErr result (IsErrOf result SimError.NoMemory) }
+        ensures steps { OnOk result (self.new.steps ≡ self.old.steps) }
     {
         let opens = self.opens(frame);
         let octets = self.octets_in(frame);
@@ -220,8 +221,9 @@ impl SimCore {
     /// Keeps what a frame brought to its connection, which starts afresh where the frame opens it.
     fn keep(&mut self, dlci: Dlci, opens: bool, modem: Modem, answered: Answered, closes: bool)
         requires { kept_run answered.reader ≡ answered.reader }
-        ensures { (octets : List ℕ) → answered.said.items ≡ queue_of (box_at self.old dlci.number) ++ octets
+        ensures kept { (octets : List ℕ) → answered.said.items ≡ queue_of (box_at self.old dlci.number) ++ octets
             → self.new ≡ kept_in self.old dlci.number modem (box_turned opens true (record { run = answered.reader; said = octets }) (box_at self.old dlci.number)) answered.ended closes }
+        ensures steps { self.new.steps ≡ self.old.steps }
     {
         let ended = answered.ended;
         self.modem = modem;

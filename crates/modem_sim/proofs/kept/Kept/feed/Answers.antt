@@ -1,11 +1,13 @@
-use Rattle.std.proofs.Common.{sym, subst, option_map, take, List, ℕ}
+use Rattle.std.proofs.Common.{◌≡◌, ◌∙◌, ◌<◌, sym, subst, option_map, length, take, List, None, ℕ}
 use Rattle.mux_frame.specs.Deframing.{TakesIn}
 use Rattle.modem_sim.specs.Sims.{Kept, KeptGoes, pending_frame}
 use Rattle.modem_sim.proofs.SimLemmas.{kept_fed}
+use Rattle.modem_sim.specs.Stills.{FeedsNone}
+use Rattle.modem_sim.proofs.PartLemmas.{feeds_none}
 use Rattle.modem_sim.proofs.kept.Kept.feed.Goals as goal
 
-pub returns : goal.returns
-returns c =
+pub returns-clause-goes : goal.returns-clause-goes
+returns-clause-goes c =
     let old : Kept = record {
       core = c.self.inside.core;
       n1 = c.self.inside.n1;
@@ -19,8 +21,27 @@ returns c =
     let Goes_to : Kept → Type 0 = λ k. KeptGoes k new in
     let Unfed : List ℕ → Type 0 = λ xs. KeptGoes old (record old { unfed = xs; deframer = c.feed-count.new.self }) in
     let Takes : List ℕ → Type 0 = λ xs. TakesIn c.self.inside.deframer (take c.feed-count.result xs) c.feed-count.new.self in
-    record {
-      goes = subst Goes_to c.self.view_is
-          (subst Unfed (sym c.pass.ensures)
-          (kept_fed old c.feed-count.new.self c.feed-count.result (subst Takes c.as_slice.ensures c.feed-count.ensures.past) c.feed-count.ensures.n1));
-    }
+    subst Goes_to c.self.view_is
+    (subst Unfed (sym c.pass.ensures)
+    (kept_fed old c.feed-count.new.self c.feed-count.result (subst Takes c.as_slice.ensures c.feed-count.ensures.past) c.feed-count.ensures.n1))
+
+pub returns-clause-none : goal.returns-clause-none
+returns-clause-none c = λ none.
+    let old : Kept = record {
+      core = c.self.inside.core;
+      n1 = c.self.inside.n1;
+      unfed = c.self.inside.unfed;
+      deframer = c.self.inside.deframer;
+      pending = option_map pending_frame c.self.inside.pending;
+      out = c.self.inside.out.items;
+      failed = c.self.inside.failed;
+    } in
+    let new : Kept = record old { unfed = c.pass.new.self; deframer = c.feed-count.new.self } in
+    let From : Kept → Type 0 = λ k. FeedsNone k new in
+    let Unfed : List ℕ → Type 0 = λ xs. FeedsNone old (record old { unfed = xs; deframer = c.feed-count.new.self }) in
+    let Takes : List ℕ → Type 0 = λ xs. TakesIn c.self.inside.deframer (take c.feed-count.result xs) c.feed-count.new.self in
+    let Some_fed : List ℕ → Type 0 = λ xs. c.self.inside.deframer.next ≡ None → 0 < length xs → 0 < c.feed-count.result in
+    subst From c.self.view_is
+    (subst Unfed (sym c.pass.ensures)
+    (feeds_none old c.feed-count.new.self c.feed-count.result (subst Takes c.as_slice.ensures c.feed-count.ensures.past) c.feed-count.ensures.n1
+    (subst Some_fed c.as_slice.ensures c.feed-count.ensures.some) c.feed-count.ensures.stays none (sym c.is_empty.ensures ∙ c.if-is_empty.false)))

@@ -2,7 +2,8 @@ use Rattle.std.proofs.Common.{ap, sym, ◌∙◌, subst, option_map}
 use Rattle.mux_frame.specs.Frames.{frame_of}
 use Rattle.mux_frame.specs.Deframing.{Deframing, HandsOver}
 use Rattle.modem_sim.specs.Sims.{Kept, KeptGoes, pending_frame}
-use Rattle.modem_sim.proofs.SimLemmas.{kept_took}
+use Rattle.modem_sim.specs.Stills.{KeptDoes}
+use Rattle.modem_sim.proofs.SimLemmas.{kept_did, kept_took}
 use Rattle.modem_sim.proofs.kept.Kept.take_frame.Goals as goal
 
 pub returns-clause-goes : goal.returns-clause-goes
@@ -22,5 +23,25 @@ returns-clause-goes c =
     let Goes_to : Kept → Type 0 = λ k. KeptGoes k new in
     subst Goes_to c.self.view_is
     (kept_took old c.got.new.self c.advance.new.self (frame_of c.in-Some.frame) (sym c.in-Some.ensures.frame)
+    (c.in_ok-got.ensures.took c.if-not-branch.false)
+    (subst Hands holds c.advance.ensures.past) (c.advance.ensures.n1 ∙ ap (λ (d : Deframing). d.n1) holds))
+
+pub returns-clause-does : goal.returns-clause-does
+returns-clause-does c = λ _.
+    let old : Kept = record {
+      core = c.self.inside.core;
+      n1 = c.self.inside.n1;
+      unfed = c.self.inside.unfed;
+      deframer = c.self.inside.deframer;
+      pending = option_map pending_frame c.self.inside.pending;
+      out = c.self.inside.out.items;
+      failed = c.self.inside.failed;
+    } in
+    let Hands : Deframing → Type 0 = λ d. HandsOver d c.advance.new.self in
+    let holds = c.peek.follows.holds-at-none in
+    let new : Kept = record old { core = c.got.new.self; deframer = c.advance.new.self } in
+    let Does_to : Kept → Type 0 = λ k. KeptDoes k new in
+    subst Does_to c.self.view_is
+    (kept_did old c.got.new.self c.advance.new.self (frame_of c.in-Some.frame) (sym c.in-Some.ensures.frame)
     (c.in_ok-got.ensures.took c.if-not-branch.false)
     (subst Hands holds c.advance.ensures.past) (c.advance.ensures.n1 ∙ ap (λ (d : Deframing). d.n1) holds))

@@ -2,9 +2,10 @@ use Rattle.std.proofs.Common.{Bool, List, ◌∷◌, ◌≡◌, ◌+◌, ◌||�
 use Rattle.std.proofs.lemmas.Bool.Decides.{nat_tests}
 use Rattle.modem_sim.proofs.CoreLemmas.{either_way}
 use Rattle.modem_sim.specs.declared.script.Step.{Step}
-use Rattle.modem_sim.specs.Cores.{Core, Goes, boxes_done}
+use Rattle.modem_sim.specs.Cores.{Core, Goes, HasNoneToDo, Refuses, Waits, boxes_done, for_lines, for_openings, for_room, waits}
 use Rattle.modem_sim.proofs.DoingLemmas.{does_goes, step_at}
 use Rattle.modem_sim.proofs.sim_core.SimCore.do_next.Goals as goal
+use Rattle.modem_sim.proofs.sim_core.SimCore.do_next.Goals.{then-step-self-via-then-step-self, then-step-self-via-else-step-self+then-not-are_open}
 
 pub returns-clause-goes : goal.returns-clause-goes
 returns-clause-goes c =
@@ -38,3 +39,44 @@ returns-clause-goes c =
     (ap (λ bs. record new { boxes = bs }) (c.in_ok-carry_out.ensures.boxes c.if-not-branch.false)
     ∙ ap (λ (b : Bool). record new { boxes = boxes_done step.act c.self.inside.channels.items; closed = b })
     (either_way c.self.inside.closed c.closes_by-closes.result ∙ ap (λ (b : Bool). b || c.self.inside.closed) c.closes_by-closes.ensures)))
+
+pub returns-then-step-self-clause-none : goal.returns-then-step-self-clause-none
+returns-then-step-self-clause-none c = λ _.
+    let old : Core = record {
+      station = c.self.inside.station;
+      modem = c.self.inside.modem;
+      echo = c.self.inside.echo;
+      boxes = c.self.inside.channels.items;
+      come = c.self.inside.come;
+      steps = drop c.self.inside.next c.self.inside.steps.items;
+      closed = c.self.inside.closed;
+    } in
+    let step = c.in-Some.step.now in
+    let later = drop (c.self.inside.next + 1) c.self.inside.steps.items in
+    let Steps : List Step → Type 0 = λ xs. drop c.self.inside.next xs ≡ step ∷ drop (c.self.inside.next + 1) xs in
+    let first = subst Steps c.deref.ensures.value (step_at c.deref.result.now c.self.inside.next step c.in-Some.ensures.lookup.3.0 c.in-Some.ensures.lookup.1) in
+    let There : Core → Type 0 = λ o. HasNoneToDo o in
+    let why : Waits old step =
+    elim c.then-step-self.branch [
+      | then-step-self-via-then-step-self w ↦ for_lines w.if-step-self.true (omega arith)
+      | then-step-self-via-else-step-self+then-not-are_open w ↦ for_openings (sym w.are_open.ensures ∙ w.if-not-are_open.true)
+    ] in
+    subst There c.self.view_is (waits step later first (sym c.if-not-acts.ensures) why)
+
+pub returns-then-not-branch-clause-none : goal.returns-then-not-branch-clause-none
+returns-then-not-branch-clause-none c = λ _.
+    let old : Core = record {
+      station = c.self.inside.station;
+      modem = c.self.inside.modem;
+      echo = c.self.inside.echo;
+      boxes = c.self.inside.channels.items;
+      come = c.self.inside.come;
+      steps = drop c.self.inside.next c.self.inside.steps.items;
+      closed = c.self.inside.closed;
+    } in
+    let step = c.in-Some.step.now in
+    let later = drop (c.self.inside.next + 1) c.self.inside.steps.items in
+    let Steps : List Step → Type 0 = λ xs. drop c.self.inside.next xs ≡ step ∷ drop (c.self.inside.next + 1) xs in
+    let first = subst Steps c.deref.ensures.value (step_at c.deref.result.now c.self.inside.next step c.in-Some.ensures.lookup.3.0 c.in-Some.ensures.lookup.1) in
+    let There : Core → Type 0 = λ o. HasNoneToDo o in
+    subst There c.self.view_is (waits step later first (sym c.if-not-acts.ensures) (for_room (c.in_ok-carry_out.ensures.refused c.if-not-branch.true)))

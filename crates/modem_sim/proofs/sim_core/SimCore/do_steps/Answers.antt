@@ -1,5 +1,13 @@
+use Rattle.modem_sim.proofs.DoingLemmas.{none_after, still_fewer}
 use Rattle.modem_sim.proofs.HandingLemmas.{goes_then}
 use Rattle.modem_sim.proofs.sim_core.SimCore.do_steps.Goals as goal
 
-pub loop-preserved : goal.loop-preserved
-loop-preserved c = (goes_then c.args.self.now c.loop.self c.do_next.new.self c.loop.invariant.0 c.do_next.ensures.goes, λ none. cc)
+pub loop-done-preserved : goal.loop-done-preserved
+loop-done-preserved c = record {
+  goes = goes_then c.args.self.now c.loop-done.self c.do_next.new.self c.loop-done.invariant.goes c.do_next.ensures.goes;
+  same = λ none. cc;
+  fewer = λ _. still_fewer c.args.self.now c.loop-done.self c.do_next.new.self c.loop-done.done c.loop-done.invariant.same c.loop-done.invariant.fewer (c.in_ok-do_next.ensures.fewer c.if-branch.true);
+}
+
+pub returns-clause-none : goal.returns-clause-none
+returns-clause-none c = none_after c.loop-done.self c.do_next.new.self (c.in_ok-do_next.ensures.same c.if-branch.false) (c.in_ok-do_next.ensures.none c.if-branch.false)

@@ -1,7 +1,14 @@
--- So many are done.
-use Rattle.std.specs.Prelude.{◌≡◌, false}
+-- So many are done, and fewer are left.
+use Rattle.std.specs.Prelude.{◌≡◌, ◌<◌, true, false, length}
 use Rattle.modem_sim.specs.Cores.{Goes}
 use Rattle.modem_sim.proofs.sim_core.SimCore.do_steps.Given as goal
 
-abbrev pub invariant-loop : goal.invariant-loop
-invariant-loop l = Goes l.fn.self l.self × (l.done ≡ false → l.self ≡ l.fn.self)
+abbrev pub invariant-loop-done : goal.invariant-loop-done
+invariant-loop-done l = record {
+  goes : Goes l.fn.self l.self;
+  same : l.done ≡ false → l.self ≡ l.fn.self;
+  fewer : l.done ≡ true → length l.self.steps < length l.fn.self.steps;
+}
+
+abbrev pub decreases-loop-done : goal.decreases-loop-done
+decreases-loop-done l = length l.self.steps

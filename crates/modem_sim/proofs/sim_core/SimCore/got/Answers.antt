@@ -40,4 +40,4 @@ returns-clause-took c = λ _.
     closes
     c.in_ok-modem.ensures c.in_ok-answered.ensures.run c.in_ok-answered.ensures.state c.in_ok-answered.ensures.ended c.in_ok-answered.ensures.kept c.in_ok-answered.ensures.said
     c.in-Ok.ensures.past
-    c.keep.ensures)
+    c.keep.ensures.kept)

@@ -1,0 +1,92 @@
+-- The worked turns, computed.
+use Rattle.std.specs.Prelude.{◌≡◌, ℕ, nat_lt, ◌||◌, codes, Bool, true, false, List, [], ◌∷◌, length, Option, Some, None, refl}
+use Rattle.std.proofs.Common.{arith, sym, ap, ◌∙◌}
+use Rattle.std.proofs.lemmas.Bool.Decides.{nat_tests}
+use Rattle.mux_frame.specs.Frames.{Frame}
+use Rattle.mux_frame.specs.Reading.{no_flag}
+use Rattle.modem_sim.specs.declared.script.StepAct.{StepAct}
+use Rattle.modem_sim.specs.declared.script.StepAct.TheVariants.{Announce}
+use Rattle.modem_sim.specs.declared.script.Step.{Step}
+use Rattle.modem_sim.specs.Acts.{Act, End, after}
+use Rattle.modem_sim.specs.Doing.{IsDue}
+use Rattle.modem_sim.specs.Sims.{Kept, SimState}
+use Rattle.modem_sim.specs.Cores.{all_unhanded}
+use Rattle.modem_sim.specs.Turns.{Dealings, IsAtRest, IsHeldUp, IsIdle, NoneCanBeDone, Write, at_rest, has_moved, is_fewer, line_is_full}
+use Rattle.modem_sim.specs.HistoryRows.{announcing, one, plain, ready_one, silent, step_at}
+use Rattle.modem_sim.specs.TurnRows.{MovedRows, OneWaits, RightIdle, WrongIdle, nothing_asked, offered_one, only_read}
+use Rattle.modem_sim.proofs.RefusedFacts.{said_nothing}
+
+none_left : (next : Step) (later : List Step) → [] ≡ next ∷ later → ⊥
+none_left next later same = cc
+
+no_steps : NoneCanBeDone plain []
+no_steps act due = absurd (none_left due.next due.later due.is_first)
+
+rests : (k : Kept) → IsIdle plain [] [] k only_read []
+rests k = at_rest (record {
+  nothing_came = record { room = 512; some = omega arith; nothing = refl };
+  through = record { rest = []; reads = no_flag [] refl; written = refl };
+  all_out = λ d small there goes free. cc;
+  steps = no_steps;
+})
+
+some_octet : (x : ℕ) (xs : List ℕ) → x ∷ xs ≡ [] → ⊥
+some_octet x xs same = cc
+
+none_some : {A : Type 0} (x : A) → None ≡ Some x → ⊥
+none_some x same = cc
+
+held_up : (k : Kept) → OneWaits k → IsHeldUp plain k (offered_one 0) []
+held_up k waits = record {
+  waits = λ none. some_octet 7 [] (sym waits.out ∙ none);
+  offered = 7 ∷ [];
+  some = some_octet 7 [];
+  took_none = refl;
+  reads = λ fed. record { room = 512; some = omega arith; nothing = refl };
+  no_room = λ f hand. absurd (none_some f (sym waits.hand ∙ hand));
+  steps = no_steps;
+}
+
+pub right_idle : RightIdle
+right_idle = (rests, held_up)
+
+not_read : (k : Kept) → ¬ IsIdle plain [] [] k nothing_asked []
+not_read k (line_is_full full) = none_some _ full.took_none
+not_read k (at_rest rest) = none_some _ rest.nothing_came.nothing
+
+count_of : Option Write → ℕ
+count_of None = 0
+count_of (Some w) = w.count
+
+took_one : (k : Kept) → ¬ IsHeldUp plain k (offered_one 1) []
+unfolding count_of
+took_one k full = let same : 1 ≡ 0 = ap count_of full.took_none in absurd (omega (arith, same))
+
+unanswered : (came went : List ℕ) → ¬ IsAtRest plain came went only_read (after [] silent)
+unanswered came went rest = said_nothing rest.all_out
+
+due_now : IsDue (announcing 0 one) (after [] ready_one) (Announce one (codes "RING"))
+due_now = record { next = step_at 0 (Announce one (codes "RING")); later = []; is_first = refl; is_its = refl; come = refl; open_are = refl }
+
+not_done : (came went : List ℕ) → ¬ IsAtRest (announcing 0 one) came went only_read (after [] ready_one)
+not_done came went rest = none_some _ (rest.steps (Announce one (codes "RING")) due_now).asked
+
+pub wrong_idle : WrongIdle
+wrong_idle = (not_read, took_one, unanswered, not_done)
+
+same_length : (n : ℕ) → nat_lt n n ≡ false
+same_length n = grind (arith, nat_tests)
+
+neither : (a b : Bool) → a ≡ false → b ≡ false → (a || b) ≡ false
+neither true b is is_too = cc
+neither false b is is_too = is_too
+
+stays : (s : SimState ℕ) → has_moved (λ (l : ℕ). []) (λ l. []) s s [] ≡ false
+stays s =
+    neither (is_fewer s.kept.unfed s.kept.unfed) _ (same_length (length s.kept.unfed))
+    (neither (is_fewer s.kept.core.steps s.kept.core.steps) _ (same_length (length s.kept.core.steps))
+    (neither (is_fewer s.kept.out s.kept.out) _ (same_length (length s.kept.out))
+    (same_length (all_unhanded s.kept.core.boxes))))
+
+pub moved_rows : MovedRows
+moved_rows = (λ k. refl, λ s a. refl, stays)

@@ -1,0 +1,115 @@
+use Rattle.std.proofs.Common.{◌∙◌}
+use Rattle.modem_sim.specs.Stills.{at_line}
+use Rattle.modem_sim.proofs.SimLemmas.{sim_kept, sim_read_by, sim_then, sim_wrote_by}
+use Rattle.modem_sim.proofs.TurnLemmas.{Went, goes_once}
+use Rattle.modem_sim.proofs.kept.Kept.go_on.Goals as goal
+
+pub returns-in_err-done-clause-goes : goal.returns-in_err-done-clause-goes
+returns-in_err-done-clause-goes g c =
+    sim_kept g.L.SerialLine.received g.L.SerialLine.sent (at_line c.args.line.now c.args.self.now) c.do_steps.new.self c.do_steps.ensures.goes
+
+pub returns-in_err-wrote-clause-goes : goal.returns-in_err-wrote-clause-goes
+returns-in_err-wrote-clause-goes g c =
+    let received = g.L.SerialLine.received in
+    let sent = g.L.SerialLine.sent in
+    sim_then received sent (at_line c.args.line.now c.args.self.now) (at_line c.args.line.now c.do_steps.new.self) (at_line c.write.new.line c.write.new.self)
+    (sim_kept received sent (at_line c.args.line.now c.args.self.now) c.do_steps.new.self c.do_steps.ensures.goes)
+    (sim_wrote_by received sent (at_line c.args.line.now c.do_steps.new.self) c.write.new.line c.write.new.self c.write.result
+    c.write.ensures.went c.write.ensures.kept c.write.ensures.none_went c.write.ensures.err c.write.ensures.none_came)
+
+pub returns-in_err-loaded-clause-goes : goal.returns-in_err-loaded-clause-goes
+returns-in_err-loaded-clause-goes g c =
+    let received = g.L.SerialLine.received in
+    let sent = g.L.SerialLine.sent in
+    sim_then received sent (at_line c.args.line.now c.args.self.now) (at_line c.write.new.line c.write.new.self) (at_line c.write.new.line c.load.new.self)
+    (sim_then received sent (at_line c.args.line.now c.args.self.now) (at_line c.args.line.now c.do_steps.new.self) (at_line c.write.new.line c.write.new.self)
+    (sim_kept received sent (at_line c.args.line.now c.args.self.now) c.do_steps.new.self c.do_steps.ensures.goes)
+    (sim_wrote_by received sent (at_line c.args.line.now c.do_steps.new.self) c.write.new.line c.write.new.self c.write.result
+    c.write.ensures.went c.write.ensures.kept c.write.ensures.none_went c.write.ensures.err c.write.ensures.none_came))
+    (sim_kept received sent (at_line c.write.new.line c.write.new.self) c.load.new.self c.load.ensures.goes)
+
+pub returns-in_err-took-clause-goes : goal.returns-in_err-took-clause-goes
+returns-in_err-took-clause-goes g c =
+    let received = g.L.SerialLine.received in
+    let sent = g.L.SerialLine.sent in
+    sim_then received sent (at_line c.args.line.now c.args.self.now) (at_line c.write.new.line c.load.new.self) (at_line c.write.new.line c.take_frame.new.self)
+    (sim_then received sent (at_line c.args.line.now c.args.self.now) (at_line c.write.new.line c.write.new.self) (at_line c.write.new.line c.load.new.self)
+    (sim_then received sent (at_line c.args.line.now c.args.self.now) (at_line c.args.line.now c.do_steps.new.self) (at_line c.write.new.line c.write.new.self)
+    (sim_kept received sent (at_line c.args.line.now c.args.self.now) c.do_steps.new.self c.do_steps.ensures.goes)
+    (sim_wrote_by received sent (at_line c.args.line.now c.do_steps.new.self) c.write.new.line c.write.new.self c.write.result
+    c.write.ensures.went c.write.ensures.kept c.write.ensures.none_went c.write.ensures.err c.write.ensures.none_came))
+    (sim_kept received sent (at_line c.write.new.line c.write.new.self) c.load.new.self c.load.ensures.goes))
+    (sim_kept received sent (at_line c.write.new.line c.load.new.self) c.take_frame.new.self c.take_frame.ensures.goes)
+
+pub returns-in_err-came-clause-goes : goal.returns-in_err-came-clause-goes
+returns-in_err-came-clause-goes g c =
+    let received = g.L.SerialLine.received in
+    let sent = g.L.SerialLine.sent in
+    sim_then received sent (at_line c.args.line.now c.args.self.now) (at_line c.write.new.line c.take_frame.new.self) (at_line c.receive.new.line c.receive.new.self)
+    (sim_then received sent (at_line c.args.line.now c.args.self.now) (at_line c.write.new.line c.load.new.self) (at_line c.write.new.line c.take_frame.new.self)
+    (sim_then received sent (at_line c.args.line.now c.args.self.now) (at_line c.write.new.line c.write.new.self) (at_line c.write.new.line c.load.new.self)
+    (sim_then received sent (at_line c.args.line.now c.args.self.now) (at_line c.args.line.now c.do_steps.new.self) (at_line c.write.new.line c.write.new.self)
+    (sim_kept received sent (at_line c.args.line.now c.args.self.now) c.do_steps.new.self c.do_steps.ensures.goes)
+    (sim_wrote_by received sent (at_line c.args.line.now c.do_steps.new.self) c.write.new.line c.write.new.self c.write.result
+    c.write.ensures.went c.write.ensures.kept c.write.ensures.none_went c.write.ensures.err c.write.ensures.none_came))
+    (sim_kept received sent (at_line c.write.new.line c.write.new.self) c.load.new.self c.load.ensures.goes))
+    (sim_kept received sent (at_line c.write.new.line c.load.new.self) c.take_frame.new.self c.take_frame.ensures.goes))
+    (sim_read_by received sent (at_line c.write.new.line c.take_frame.new.self) c.receive.new.line c.receive.new.self c.receive.result
+    c.receive.ensures.came c.receive.ensures.none_came c.receive.ensures.err c.receive.ensures.none_went)
+
+pub returns-clause-goes : goal.returns-clause-goes
+returns-clause-goes g c =
+    let received = g.L.SerialLine.received in
+    let sent = g.L.SerialLine.sent in
+    sim_then received sent (at_line c.args.line.now c.args.self.now) (at_line c.receive.new.line c.receive.new.self) (at_line c.receive.new.line c.feed-fed.new.self)
+    (sim_then received sent (at_line c.args.line.now c.args.self.now) (at_line c.write.new.line c.take_frame.new.self) (at_line c.receive.new.line c.receive.new.self)
+    (sim_then received sent (at_line c.args.line.now c.args.self.now) (at_line c.write.new.line c.load.new.self) (at_line c.write.new.line c.take_frame.new.self)
+    (sim_then received sent (at_line c.args.line.now c.args.self.now) (at_line c.write.new.line c.write.new.self) (at_line c.write.new.line c.load.new.self)
+    (sim_then received sent (at_line c.args.line.now c.args.self.now) (at_line c.args.line.now c.do_steps.new.self) (at_line c.write.new.line c.write.new.self)
+    (sim_kept received sent (at_line c.args.line.now c.args.self.now) c.do_steps.new.self c.do_steps.ensures.goes)
+    (sim_wrote_by received sent (at_line c.args.line.now c.do_steps.new.self) c.write.new.line c.write.new.self c.write.result
+    c.write.ensures.went c.write.ensures.kept c.write.ensures.none_went c.write.ensures.err c.write.ensures.none_came))
+    (sim_kept received sent (at_line c.write.new.line c.write.new.self) c.load.new.self c.load.ensures.goes))
+    (sim_kept received sent (at_line c.write.new.line c.load.new.self) c.take_frame.new.self c.take_frame.ensures.goes))
+    (sim_read_by received sent (at_line c.write.new.line c.take_frame.new.self) c.receive.new.line c.receive.new.self c.receive.result
+    c.receive.ensures.came c.receive.ensures.none_came c.receive.ensures.err c.receive.ensures.none_went))
+    (sim_kept received sent (at_line c.receive.new.line c.receive.new.self) c.feed-fed.new.self c.feed-fed.ensures.goes)
+
+pub returns-clause-turn : goal.returns-clause-turn
+returns-clause-turn g c =
+    let received = g.L.SerialLine.received in
+    let sent = g.L.SerialLine.sent in
+    let calls = g.L.SerialLine.calls in
+    let went : Went received sent calls c.args.line.now c.write.new.line c.receive.new.line
+    c.args.self.now c.do_steps.new.self c.write.new.self c.load.new.self c.take_frame.new.self c.receive.new.self c.feed-fed.new.self
+    c.in_ok-done.done c.in_ok-wrote.field-0 c.in_ok-loaded.loaded c.in_ok-took.took c.in_ok-came.came c.feed-fed.result =
+    record {
+      steps_go = c.do_steps.ensures.goes;
+      steps_same = c.in_ok-done.ensures.same;
+      steps_fewer = c.in_ok-done.ensures.fewer;
+      steps_rest = c.do_steps.ensures.rest;
+      steps_none = c.in_ok-done.ensures.none;
+      write_went = c.in_ok-wrote.ensures.went;
+      write_none_came = c.write.ensures.none_came;
+      writes = c.in_ok-wrote.ensures.writes;
+      load_goes = c.load.ensures.goes;
+      load_rest = c.load.ensures.rest;
+      loads = c.in_ok-loaded.ensures.loads;
+      load_none = c.in_ok-loaded.ensures.none;
+      load_steps = c.in_ok-loaded.ensures.steps;
+      take_goes = c.take_frame.ensures.goes;
+      take_rest = c.take_frame.ensures.rest;
+      take_does = c.in_ok-took.ensures.does;
+      take_none = c.in_ok-took.ensures.none;
+      take_steps = c.in_ok-took.ensures.steps;
+      read_came = c.in_ok-came.ensures.came;
+      read_none_went = c.receive.ensures.none_went;
+      reads = c.in_ok-came.ensures.reads;
+      feed_goes = c.feed-fed.ensures.goes;
+      feed_rest = c.feed-fed.ensures.rest;
+      feed_fewer = c.feed-fed.ensures.fewer;
+      feed_none = c.feed-fed.ensures.none;
+    } in
+    goes_once received sent calls c.args.line.now c.write.new.line c.receive.new.line
+    c.args.self.now c.do_steps.new.self c.write.new.self c.load.new.self c.take_frame.new.self c.receive.new.self c.feed-fed.new.self
+    c.in_ok-done.done c.in_ok-wrote.field-0 c.in_ok-loaded.loaded c.in_ok-took.took c.in_ok-came.came c.feed-fed.result went

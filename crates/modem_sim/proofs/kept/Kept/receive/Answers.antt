@@ -1,0 +1,43 @@
+use Rattle.std.proofs.Common.{◌≡◌, ◌∙◌, refl, nat_lt, false, List, ℕ, sym, ap, subst, option_map}
+use Rattle.modem_sim.specs.Sims.{Kept, pending_frame}
+use Rattle.modem_sim.specs.Stills.{ReadsOnce}
+use Rattle.modem_sim.proofs.PartLemmas.{reads_nothing, reads_some}
+use Rattle.modem_sim.proofs.kept.Kept.receive.Goals as goal
+
+pub returns-then-not-is_empty-clause-reads : goal.returns-then-not-is_empty-clause-reads
+returns-then-not-is_empty-clause-reads g c =
+    let old : Kept = record {
+      core = c.self.inside.core;
+      n1 = c.self.inside.n1;
+      unfed = c.self.inside.unfed;
+      deframer = c.self.inside.deframer;
+      pending = option_map pending_frame c.self.inside.pending;
+      out = c.self.inside.out.items;
+      failed = c.self.inside.failed;
+    } in
+    let received = g.L.SerialLine.received c.args.line.now in
+    let calls = g.L.SerialLine.calls c.args.line.now in
+    let At : Kept → Type 0 = λ k. ReadsOnce received received calls calls k k false in
+    subst At c.self.view_is (reads_nothing old received calls (sym c.is_empty.ensures ∙ c.if-not-is_empty.true))
+
+pub returns-in-Ok-clause-reads : goal.returns-in-Ok-clause-reads
+returns-in-Ok-clause-reads g c =
+    let old : Kept = record {
+      core = c.self.inside.core;
+      n1 = c.self.inside.n1;
+      unfed = c.self.inside.unfed;
+      deframer = c.self.inside.deframer;
+      pending = option_map pending_frame c.self.inside.pending;
+      out = c.self.inside.out.items;
+      failed = c.self.inside.failed;
+    } in
+    let new : Kept = record old { unfed = c.read.new.self } in
+    let before = g.L.SerialLine.received c.args.line.now in
+    let received = g.L.SerialLine.received c.read.new.line in
+    let calls_before = g.L.SerialLine.calls c.args.line.now in
+    let calls = g.L.SerialLine.calls c.read.new.line in
+    let At : Kept → Type 0 = λ k. ReadsOnce before received calls_before calls k new (nat_lt 0 c.in-Ok.count) in
+    subst At c.self.view_is
+    (reads_some old new before received c.read.new.self calls_before calls c.in-Ok.count
+    (sym c.is_empty.ensures ∙ c.if-not-is_empty.false)
+    c.in-Ok.ensures.bound c.in-Ok.ensures.count c.read.ensures.came c.read.ensures.counted refl)

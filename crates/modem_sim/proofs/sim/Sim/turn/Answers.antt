@@ -1,0 +1,39 @@
+use Rattle.std.proofs.Common.{◌≡◌, ◌∙◌, Bool, true, sym, ap, subst}
+use Rattle.modem_sim.specs.declared.sim.SimTurn.{SimTurn}
+use Rattle.modem_sim.specs.declared.sim.SimTurn.TheVariants.{Moved, Idle, Ended}
+use Rattle.modem_sim.specs.Sims.{Kept, SimState, SimGoes, is_ended}
+use Rattle.modem_sim.specs.Turns.{GoesTurn}
+use Rattle.modem_sim.specs.Stills.{GoesOnce}
+use Rattle.modem_sim.proofs.MeaningLemmas.{turn_idle, turn_moved, turn_over, turn_was_over}
+use Rattle.modem_sim.proofs.sim.Sim.turn.Goals as goal
+
+pub returns-then-is_ended-clause-turn : goal.returns-then-is_ended-clause-turn
+returns-then-is_ended-clause-turn g c =
+    let s : SimState g.row.L.Denot = record { line = c.self.inside.line; kept = c.self.inside.kept } in
+    let At : SimState g.row.L.Denot → Type 0 = λ x. GoesTurn g.L.SerialLine.received g.L.SerialLine.sent g.L.SerialLine.calls x x Ended in
+    subst At c.self.view_is
+    (turn_was_over g.L.SerialLine.received g.L.SerialLine.sent g.L.SerialLine.calls s (sym c.is_ended.ensures ∙ c.if-is_ended.true))
+
+pub returns-then-is_ended-2-clause-turn : goal.returns-then-is_ended-2-clause-turn
+returns-then-is_ended-2-clause-turn g c =
+    let old : SimState g.row.L.Denot = record { line = c.self.inside.line; kept = c.self.inside.kept } in
+    let new : SimState g.row.L.Denot = record { line = c.go_on.new.line; kept = c.go_on.new.self } in
+    let From : SimState g.row.L.Denot → Type 0 = λ x. GoesTurn g.L.SerialLine.received g.L.SerialLine.sent g.L.SerialLine.calls x new Ended in
+    subst From c.self.view_is
+    (turn_over g.L.SerialLine.received g.L.SerialLine.sent g.L.SerialLine.calls old new c.in_ok-moved.moved c.in_ok-moved.ensures.turn c.go_on.ensures.goes (sym c.is_ended-2.ensures ∙ c.if-is_ended-2.true))
+
+pub returns-then-moved-clause-turn : goal.returns-then-moved-clause-turn
+returns-then-moved-clause-turn g c =
+    let old : SimState g.row.L.Denot = record { line = c.self.inside.line; kept = c.self.inside.kept } in
+    let new : SimState g.row.L.Denot = record { line = c.go_on.new.line; kept = c.go_on.new.self } in
+    let From : SimState g.row.L.Denot → Type 0 = λ x. GoesTurn g.L.SerialLine.received g.L.SerialLine.sent g.L.SerialLine.calls x new Moved in
+    subst From c.self.view_is
+    (turn_moved g.L.SerialLine.received g.L.SerialLine.sent g.L.SerialLine.calls old new c.in_ok-moved.moved c.in_ok-moved.ensures.turn c.if-moved.true)
+
+pub returns-clause-turn : goal.returns-clause-turn
+returns-clause-turn g c =
+    let old : SimState g.row.L.Denot = record { line = c.self.inside.line; kept = c.self.inside.kept } in
+    let new : SimState g.row.L.Denot = record { line = c.go_on.new.line; kept = c.go_on.new.self } in
+    let From : SimState g.row.L.Denot → Type 0 = λ x. GoesTurn g.L.SerialLine.received g.L.SerialLine.sent g.L.SerialLine.calls x new Idle in
+    subst From c.self.view_is
+    (turn_idle g.L.SerialLine.received g.L.SerialLine.sent g.L.SerialLine.calls old new c.in_ok-moved.moved c.in_ok-moved.ensures.turn c.if-moved.false)

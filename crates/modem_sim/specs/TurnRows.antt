@@ -1,0 +1,43 @@
+-- Worked turns of a simulated modem with N1 31: what Idle and Moved say, and what they don't.
+use Rattle.std.specs.Prelude.{◌≡◌, ℕ, true, false, List, [], ◌∷◌, Some, None}
+use Rattle.modem_sim.specs.Acts.{Act, after}
+use Rattle.modem_sim.specs.Sims.{Kept, SimState}
+use Rattle.modem_sim.specs.Turns.{Dealings, IsAtRest, IsHeldUp, IsIdle, has_moved}
+use Rattle.modem_sim.specs.HistoryRows.{announcing, one, plain, ready_one, silent}
+
+-- the line was read and gave nothing; it was offered an octet, of which it took none, or one
+abbrev pub only_read : Dealings
+only_read = record { write = None; read = Some (record { room = 512; octets = [] }) }
+
+abbrev pub offered_one : ℕ → Dealings
+offered_one count = record { write = Some (record { offered = 7 ∷ []; count = count }); read = Some (record { room = 512; octets = [] }) }
+
+abbrev pub nothing_asked : Dealings
+nothing_asked = record { write = None; read = None }
+
+-- what is kept where an octet waits for the line, and nothing else does
+pub record OneWaits (k : Kept) : Type 0 where
+  pub out : k.out ≡ 7 ∷ []
+  pub fed : k.unfed ≡ []
+  pub hand : k.deframer.next ≡ None
+
+-- nothing ever came, and the line was read: idle; and an octet waits, and the line took none: idle
+abbrev pub RightIdle : Type 0
+RightIdle =
+    ((k : Kept) → IsIdle plain [] [] k only_read [])
+    × ((k : Kept) → OneWaits k → IsHeldUp plain k (offered_one 0) [])
+
+-- It isn't idle where the line wasn't read; where it took the octet; where a command wasn't answered; where a step is due.
+abbrev pub WrongIdle : Type 0
+WrongIdle =
+    ((k : Kept) → ¬ IsIdle plain [] [] k nothing_asked [])
+    × ((k : Kept) → ¬ IsHeldUp plain k (offered_one 1) [])
+    × ((came went : List ℕ) → ¬ IsAtRest plain came went only_read (after [] silent))
+    × ((came went : List ℕ) → ¬ IsAtRest (announcing 0 one) came went only_read (after [] ready_one))
+
+-- a turn that leaves all as it was hasn't moved; one after which an act followed, or octets came, has
+abbrev pub MovedRows : Type 0
+MovedRows =
+    ((k : Kept) → has_moved (λ (l : List ℕ). l) (λ l. []) (record { line = []; kept = k }) (record { line = 7 ∷ []; kept = k }) [] ≡ true)
+    × ((s : SimState ℕ) (a : Act) → has_moved (λ (l : ℕ). []) (λ l. []) s s (a ∷ []) ≡ true)
+    × ((s : SimState ℕ) → has_moved (λ (l : ℕ). []) (λ l. []) s s [] ≡ false)

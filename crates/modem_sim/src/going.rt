@@ -1,0 +1,29 @@
+//! A turn of what a simulated modem keeps, at its line.
+ghost use Rattle.std.specs.Prelude.{◌≡◌, ◌≢◌, ◌⊎◌, ◌+◌, ◌≤◌, true, Err, IfOk, OnErr, IsErrOf};
+ghost use Rattle.modem_sim.specs.Sims.{SimGoes};
+ghost use Rattle.modem_sim.specs.Stills.{GoesOnce, at_line};
+
+use crate::error::SimError;
+use crate::kept::Kept;
+use serial_line::SerialLine;
+
+impl Kept {
+    /// Steps, write, next frame, frame at hand, read; says whether anything moved.
+    pub(crate) fn go_on<L: SerialLine>(&mut self, line: &mut L) -> Result<bool, SimError>
+        ensures goes { SimGoes L.received L.sent (at_line line.old self.old) (at_line line.new self.new) }
+        ensures turn { IfOk result (λ moved. GoesOnce L.received L.sent L.calls (at_line line.old self.old) (at_line line.new self.new) moved) }
+        ensures fault { result ≡ Err SimError.Line → self.new.failed ≡ true }
+        ensures others { OnErr result (IsErrOf result SimError.Line ⊎ IsErrOf result SimError.NoMemory) }
+        ensures bounded { L.calls line.new ≤ L.calls line.old + 2 }
+        ensures sound { result ≢ Err SimError.Line → L.failures line.new ≡ L.failures line.old }
+        ensures failure { result ≡ Err SimError.Line → L.failures line.new ≡ L.failures line.old + 1 }
+    {
+        let done = self.do_steps()?;
+        let wrote = self.write(line)? > 0;
+        let loaded = self.load()?;
+        let took = self.take_frame()?;
+        let came = self.receive(line)?;
+        let fed = self.feed();
+        Ok(done | wrote | loaded | took | came | fed)
+    }
+}
