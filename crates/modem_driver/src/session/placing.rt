@@ -36,8 +36,9 @@ impl Waiting {
     /// The first outcome is offered to its caller, unless one of that caller was handed back before. One
     /// that is handed back, or isn't offered, goes behind the others. Whether it was told.
     fn offer_outcome(&mut self, driver: &mut DriverEnd, held_up: &mut [bool; CALLERS]) -> bool
-        ensures offers { OffersFirst caller_of IsRingOf (IsCaller driver.old.desk) driver.old.told driver.new.told
-            driver.old.free driver.new.free held_up.old held_up.new self.old.outcomes self.new.outcomes result }
+        ensures offers { OffersFirst caller_of IsRingOf (IsCaller driver.old.desk)
+            driver.old.told driver.new.told driver.old.free driver.new.free held_up.old held_up.new
+            self.old.outcomes self.new.outcomes result }
         ensures alone { TellsAlone driver.old driver.new }
         ensures lines { self.new.lines ≡ self.old.lines }
     {
@@ -104,7 +105,8 @@ impl Waiting {
     /// announced.
     fn place_lines(&mut self, driver: &mut DriverEnd) -> bool
         ensures placed { Placed place_of (IsEarOf driver.old.desk.kinds) (IsHeard driver.old.desk.kinds)
-            driver.old.announced driver.new.announced driver.new.free_lines self.old.lines self.new.lines result }
+            driver.old.announced driver.new.announced driver.new.free_lines
+            self.old.lines self.new.lines result }
         ensures alone { AnnouncesAlone driver.old driver.new }
         ensures outcomes { self.new.outcomes ≡ self.old.outcomes }
     {
@@ -122,7 +124,8 @@ impl Kept {
     /// listener. What is handed back stays, in its order; once one of a caller or a kind was handed
     /// back, no other of it is offered. Whether anything was placed.
     pub(crate) fn place(&mut self, driver: &mut DriverEnd) -> bool
-        ensures { (l : LineView) → Places (standing l driver.old self.old) (standing l driver.new self.new) result }
+        ensures { (l : LineView)
+            → Places (standing l driver.old self.old) (standing l driver.new self.new) result }
     {
         let told = self.waiting.place_outcomes(driver);
         let announced = self.waiting.place_lines(driver);

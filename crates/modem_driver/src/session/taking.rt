@@ -14,7 +14,8 @@ impl Kept {
     /// Keeps the next request of the desk aside, where none is kept so, and where those in hand and
     /// the outcomes that wait are fewer than 128.
     fn fetch<R: Wait>(&mut self, driver: &mut DriverEnd, rt: &R)
-        ensures { (l : LineView) → Fetches (standing l driver.old self.old) (standing l driver.new self.new) }
+        ensures { (l : LineView)
+            → Fetches (standing l driver.old self.old) (standing l driver.new self.new) }
     {
         if self.aside.is_some() {
             return;

@@ -81,9 +81,11 @@ impl<L: SerialLine, R: Wait + Drop> Session<L, R> {
 
     /// Looks at the backlogs.
     fn mind_backlogs(&mut self) -> Result<bool, SessionFault>
-        ensures minds { IfOk result (λ moved. Minds (standing_of (line_by L.received L.sent L.calls L.failures) self.old)
+        ensures minds { IfOk result (λ moved. Minds
+            (standing_of (line_by L.received L.sent L.calls L.failures) self.old)
             (standing_of (line_by L.received L.sent L.calls L.failures) self.new) moved) }
-        ensures part { OnErr result (MindsPart (standing_of (line_by L.received L.sent L.calls L.failures) self.old)
+        ensures part { OnErr result (MindsPart
+            (standing_of (line_by L.received L.sent L.calls L.failures) self.old)
             (standing_of (line_by L.received L.sent L.calls L.failures) self.new)) }
         ensures no_memory { OnErr result (result ≡ Err fault.NoMemory) }
     {
@@ -111,7 +113,8 @@ impl<L: SerialLine, R: Wait + Drop> Session<L, R> {
     /// Handles the frame at hand.
     #[tactic(auto, unfolding(crate::specs::GettingSteps::KeptGets))]
     fn get_one(&mut self) -> Result<bool, SessionFault>
-        ensures gets { IfOk result (λ moved. Gets (standing_of (line_by L.received L.sent L.calls L.failures) self.old)
+        ensures gets { IfOk result (λ moved. Gets
+            (standing_of (line_by L.received L.sent L.calls L.failures) self.old)
             (standing_of (line_by L.received L.sent L.calls L.failures) self.new) moved) }
         ensures err { OnErr result (self.new ≡ self.old) }
         ensures no_memory { OnErr result (result ≡ Err fault.NoMemory) }
@@ -130,9 +133,11 @@ impl<L: SerialLine, R: Wait + Drop> Session<L, R> {
 
     /// Takes a request.
     fn take_one(&mut self) -> Result<bool, SessionFault>
-        ensures takes { IfOk result (λ moved. TakesOne (standing_of (line_by L.received L.sent L.calls L.failures) self.old)
+        ensures takes { IfOk result (λ moved. TakesOne
+            (standing_of (line_by L.received L.sent L.calls L.failures) self.old)
             (standing_of (line_by L.received L.sent L.calls L.failures) self.new) moved) }
-        ensures keeps { OnErr result (KeepsAside (standing_of (line_by L.received L.sent L.calls L.failures) self.old)
+        ensures keeps { OnErr result (KeepsAside
+            (standing_of (line_by L.received L.sent L.calls L.failures) self.old)
             (standing_of (line_by L.received L.sent L.calls L.failures) self.new)) }
         ensures no_memory { OnErr result (result ≡ Err fault.NoMemory) }
     {
