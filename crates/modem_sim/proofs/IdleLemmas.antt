@@ -1,6 +1,6 @@
 -- Where a turn stood still nothing could be done.
-use Rattle.std.specs.Prelude.{◌≡◌, ◌≢◌, ℕ, zero, suc, ◌+◌, ◌-◌, ◌^◌, ◌<◌, ◌≤◌, ◌==◌, ◌&&◌, not, nat_le, min, Bool, true, false, List, [], ◌∷◌, ◌++◌, length, Option, Some, None, is_none, option_map, refl, if◌then◌else◌}
-use Rattle.std.specs.List.{list_all, flat_map}
+use Rattle.std.specs.Prelude.{◌≡◌, ◌≢◌, ℕ, zero, suc, ◌+◌, ◌^◌, ◌<◌, ◌≤◌, ◌==◌, ◌&&◌, not, nat_le, Bool, true, false, List, [], ◌∷◌, ◌++◌, length, Option, Some, None, is_none, option_map, refl, if◌then◌else◌}
+use Rattle.std.specs.List.{flat_map}
 use Rattle.std.proofs.Common.{arith, sym, ap, ◌∙◌, subst, append-nil}
 use Rattle.std.proofs.lemmas.Bool.Decides.{nat_tests}
 use Rattle.std.proofs.lemmas.List.{nil_from_length}
@@ -12,7 +12,6 @@ use Rattle.mux_frame.specs.declared.frame.Kind.{Kind}
 use Rattle.mux_frame.specs.declared.frame.Kind.TheVariants.{Sabm, Ua, Dm, Disc, Uih}
 use Rattle.mux_station.specs.declared.role.Role.{Role}
 use Rattle.mux_station.specs.declared.role.Role.TheVariants.{Responder}
-use Rattle.mux_station.specs.declared.error.StationError.{StationError}
 use Rattle.mux_station.specs.declared.error.StationError.TheVariants.{NoRoom}
 use Rattle.mux_station.specs.Sending as sending
 use Rattle.mux_station.specs.Stations as stations
@@ -25,17 +24,16 @@ use Rattle.mux_station.proofs.Asking.{sees_the_past}
 use Rattle.mux_station.proofs.Handling.{sees_the_frame}
 use Rattle.mux_station.proofs.Fitted.{stopped_fits}
 use Rattle.modem_sim.specs.declared.script.Step.{Step}
-use Rattle.modem_sim.specs.declared.script.StepAct.{StepAct}
 use Rattle.modem_sim.specs.Acts.{Act, End, setting, wire, is_open}
 use Rattle.modem_sim.specs.Heard.{heard}
 use Rattle.modem_sim.specs.Pieces.{spelled}
-use Rattle.modem_sim.specs.Outboxes.{outbox, hold_on}
-use Rattle.modem_sim.specs.Doing.{IsDue, acts, call_of, left, named_by}
-use Rattle.modem_sim.specs.Histories.{AllIsOut, IsThrough, got, sent}
+use Rattle.modem_sim.specs.Outboxes.{outbox}
+use Rattle.modem_sim.specs.Doing.{call_of, named_by}
+use Rattle.modem_sim.specs.Histories.{got}
 use Rattle.modem_sim.specs.Cores.{Core, Fits, HasNoneToDo, IsHandedOn, Waits, Wired, are_open_in, counted, for_lines, for_openings, for_room, none_left, that_act, waits}
-use Rattle.modem_sim.specs.Sims.{Kept, KeptFits, SimState, FitsSim, spelled_next}
-use Rattle.modem_sim.specs.Turns.{Dealings, IsAtRest, IsHeldUp, IsIdle, IsRefused, NoneCanBeDone, at_rest, has_room_for, line_is_full}
-use Rattle.modem_sim.specs.Stills.{HasNoneToLoad, HasNoneToTake, StoodStill}
+use Rattle.modem_sim.specs.Sims.{Kept, KeptFits, SimState, spelled_next}
+use Rattle.modem_sim.specs.Turns.{Dealings, IsAtRest, IsIdle, IsRefused, NoneCanBeDone, at_rest, has_room_for, line_is_full}
+use Rattle.modem_sim.specs.Stills.{HasNoneToTake, StoodStill}
 use Rattle.modem_sim.proofs.CoreLemmas.{opened_is}
 use Rattle.modem_sim.proofs.DoingLemmas.{all_small, calls_small, first_acts, they_are_open}
 use Rattle.modem_sim.proofs.HandingLemmas.{said_is}

@@ -1,13 +1,12 @@
 -- The answers of a turn mean what they say.
-use Rattle.std.specs.Prelude.{◌≡◌, ℕ, nat_lt, ◌==◌, ◌&&◌, ◌||◌, is_none, Bool, true, false, List, [], length, Option, Some, None, refl}
+use Rattle.std.specs.Prelude.{◌≡◌, ℕ, nat_lt, ◌==◌, ◌&&◌, ◌||◌, is_none, Bool, true, false, List, [], length, None, refl}
 use Rattle.std.proofs.Common.{arith, sym, ap, ◌∙◌, append-nil}
 use Rattle.std.proofs.lemmas.Bool.Decides.{nat_tests}
 use Rattle.std.proofs.lemmas.List.{nil_from_length}
 use Rattle.at_cmds.proofs.LineLemmas.{both_true}
 use Rattle.modem_sim.specs.declared.sim.SimTurn.TheVariants.{Moved, Idle, Ended}
-use Rattle.modem_sim.specs.Acts.{Act, End}
 use Rattle.modem_sim.specs.Cores.{Core, all_unhanded}
-use Rattle.modem_sim.specs.Sims.{Kept, LineAt, SimState, FitsSim, SimFrom, SimGoes, is_ended}
+use Rattle.modem_sim.specs.Sims.{Kept, SimState, SimGoes, is_ended}
 use Rattle.modem_sim.specs.Turns.{Dealings, GoesTurn, has_done, has_moved, is_fewer, is_over, stood_still}
 use Rattle.modem_sim.specs.Stills.{GoesOnce, StoodStill}
 use Rattle.modem_sim.proofs.IdleLemmas.{idle}

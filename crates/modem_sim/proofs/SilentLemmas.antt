@@ -1,21 +1,21 @@
 -- Connection 0 says nothing.
-use Rattle.std.specs.Prelude.{◌≡◌, ℕ, zero, suc, ◌==◌, ◌&&◌, not, Bool, true, false, List, [], ◌∷◌, ◌++◌, length, drop, filter, Option, Some, None, refl, if◌then◌else◌}
-use Rattle.std.proofs.Common.{ap, sym, ◌∙◌, subst, arith}
+use Rattle.std.specs.Prelude.{◌≡◌, ℕ, zero, suc, ◌==◌, ◌&&◌, not, Bool, true, false, List, [], ◌∷◌, ◌++◌, length, drop, filter, refl, if◌then◌else◌}
+use Rattle.std.proofs.Common.{ap, sym, ◌∙◌}
 use Rattle.mux_frame.specs.Frames.{Frame}
 use Rattle.mux_frame.specs.declared.frame.Kind.TheVariants.{Uih}
 use Rattle.mux_station.specs.declared.role.Role.TheVariants.{Responder}
 use Rattle.mux_station.specs.Acts as station
-use Rattle.mux_station.specs.Written.{is_data_frame, is_kind}
-use Rattle.mux_station.specs.Opening.{opens_now, belongs, since, since_after}
+use Rattle.mux_station.specs.Written.{is_kind}
+use Rattle.mux_station.specs.Opening.{opens_now, belongs, since}
 use Rattle.mux_station.specs.Offering.{given, joined_octets, octets_sent}
 use Rattle.modem_sim.specs.declared.script.Step.{Step}
 use Rattle.modem_sim.specs.declared.script.StepAct.{StepAct}
 use Rattle.modem_sim.specs.declared.script.StepAct.TheVariants.{Announce, Flow, Hold, Disconnect, CloseDown}
 use Rattle.modem_sim.specs.Acts.{Act, Wire, Did, End, wire, is_open}
-use Rattle.modem_sim.specs.Heard.{lines_ended, modem_after, run_on}
+use Rattle.modem_sim.specs.Heard.{modem_after, run_on}
 use Rattle.modem_sim.specs.Pieces.{Piece, replies}
 use Rattle.modem_sim.specs.Outboxes.{Outbox, empty_box, outbox, dropped, said_after, say, replies_by, hold_on, is_holding}
-use Rattle.modem_sim.specs.Doing.{acts, done as steps_done, left}
+use Rattle.modem_sim.specs.Doing.{acts, done as steps_done}
 use Rattle.modem_sim.specs.Histories.{EachAllowed, MayDo}
 use Rattle.at_text.specs.Lines.{lines}
 

@@ -2,16 +2,14 @@
 use Rattle.std.specs.Prelude.{◌≡◌, ℕ, nat_lt, ◌||◌, codes, Bool, true, false, List, [], ◌∷◌, length, Option, Some, None, refl}
 use Rattle.std.proofs.Common.{arith, sym, ap, ◌∙◌}
 use Rattle.std.proofs.lemmas.Bool.Decides.{nat_tests}
-use Rattle.mux_frame.specs.Frames.{Frame}
 use Rattle.mux_frame.specs.Reading.{no_flag}
-use Rattle.modem_sim.specs.declared.script.StepAct.{StepAct}
 use Rattle.modem_sim.specs.declared.script.StepAct.TheVariants.{Announce}
 use Rattle.modem_sim.specs.declared.script.Step.{Step}
-use Rattle.modem_sim.specs.Acts.{Act, End, after}
+use Rattle.modem_sim.specs.Acts.{after}
 use Rattle.modem_sim.specs.Doing.{IsDue}
 use Rattle.modem_sim.specs.Sims.{Kept, SimState}
 use Rattle.modem_sim.specs.Cores.{all_unhanded}
-use Rattle.modem_sim.specs.Turns.{Dealings, IsAtRest, IsHeldUp, IsIdle, NoneCanBeDone, Write, at_rest, has_moved, is_fewer, line_is_full}
+use Rattle.modem_sim.specs.Turns.{IsAtRest, IsHeldUp, IsIdle, NoneCanBeDone, Write, at_rest, has_moved, is_fewer, line_is_full}
 use Rattle.modem_sim.specs.HistoryRows.{announcing, one, plain, ready_one, silent, step_at}
 use Rattle.modem_sim.specs.TurnRows.{MovedRows, OneWaits, RightIdle, WrongIdle, nothing_asked, offered_one, only_read}
 use Rattle.modem_sim.proofs.RefusedFacts.{said_nothing}

@@ -1,18 +1,16 @@
 -- A turn goes on, and says so.
-use Rattle.std.specs.Prelude.{◌≡◌, ◌≢◌, ℕ, ◌+◌, ◌<◌, nat_lt, ◌==◌, ◌||◌, not, Bool, true, false, List, [], ◌∷◌, ◌++◌, length, take, drop, Option, Some, None, refl}
+use Rattle.std.specs.Prelude.{◌≡◌, ◌≢◌, ℕ, ◌+◌, ◌<◌, nat_lt, ◌||◌, not, Bool, true, false, List, [], ◌∷◌, ◌++◌, length, take, drop, Option, Some, None, refl}
 use Rattle.std.proofs.Common.{arith, sym, ap, ◌∙◌, subst, append_assoc, append-nil, length-append}
 use Rattle.std.proofs.lemmas.Bool.Decides.{nat_tests}
 use Rattle.std.proofs.lemmas.List.{nil_from_length}
-use Rattle.serial_line.specs.Counts.{one_more}
-use Rattle.mux_frame.specs.Frames.{Frame}
 use Rattle.mux_station.specs.Giving.{next_given}
 use Rattle.mux_station.specs.Sending.{got_refused}
 use Rattle.mux_station.specs.Stations.{seen_in, setting_of}
 use Rattle.modem_sim.specs.Acts.{Act, End}
-use Rattle.modem_sim.specs.Cores.{Core, HasNoneToDo, IsHandedOn, IsLater, all_unhanded}
+use Rattle.modem_sim.specs.Cores.{Core, HasNoneToDo, IsHandedOn, all_unhanded}
 use Rattle.modem_sim.specs.Sims.{Kept, KeptFits, KeptGoes, LineAt, Receives, SimState, FitsSim, SimFrom, SimGoes}
-use Rattle.modem_sim.specs.Turns.{Deals, Dealings, Offers, Read, Write, calls_made, count_after, has_moved, is_fewer, is_nil, octets_read, octets_written}
-use Rattle.modem_sim.specs.Stills.{FeedsNone, GoesOnce, HasNoneToLoad, HasNoneToTake, KeptDoes, KeptDone, KeptStays, Loads, LoadsNone, MovedFrom, ReadsOnce, StoodStill, TakesNone, Writes, at_line, handed, ready}
+use Rattle.modem_sim.specs.Turns.{Deals, Offers, Read, Write, calls_made, count_after, has_moved, is_fewer, is_nil, octets_read, octets_written}
+use Rattle.modem_sim.specs.Stills.{FeedsNone, GoesOnce, HasNoneToLoad, KeptDoes, Loads, LoadsNone, MovedFrom, ReadsOnce, StoodStill, TakesNone, Writes, at_line, handed, ready}
 use Rattle.modem_sim.proofs.SimLemmas.{sim_kept, sim_read, sim_then, sim_wrote}
 
 -- ## What moved

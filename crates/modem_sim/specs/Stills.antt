@@ -1,5 +1,5 @@
 -- What the parts of a turn of a simulated modem did, or why they did nothing.
-use Rattle.std.specs.Prelude.{◌≡◌, ◌≢◌, ℕ, ◌+◌, ◌<◌, nat_lt, Bool, true, false, List, [], ◌++◌, length, drop, Option, Some, None}
+use Rattle.std.specs.Prelude.{◌≡◌, ◌≢◌, ℕ, ◌<◌, nat_lt, Bool, true, false, List, [], ◌++◌, length, drop, Option, Some, None}
 use Rattle.mux_frame.specs.Frames.{Frame}
 use Rattle.mux_station.specs.Giving.{next_given}
 use Rattle.mux_station.specs.Sending.{got_refused}

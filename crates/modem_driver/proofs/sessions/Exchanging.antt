@@ -1,18 +1,15 @@
 -- A session's calls on its line.
 use Rattle.std.proofs.Common.{ap, sym, ◌∙◌, subst, arith, take-append-drop, lit≤}
 use Rattle.std.proofs.lemmas.Bool.{le-ltb, lt-ltb}
-use Rattle.std.proofs.lemmas.List.{append-nil, length-append, length-take-le, length-drop, nil_from_length}
-use Rattle.std.specs.Prelude.{◌≡◌, ◌≢◌, ℕ, zero, suc, ◌+◌, ◌<◌, ◌≤◌, ◌||◌, nat_lt, Bool, true, false, List, [], ◌∷◌, ◌++◌, length, take, drop, refl, Option, None, Some}
+use Rattle.std.proofs.lemmas.List.{append-nil, length-append, length-take-le, length-drop}
+use Rattle.std.specs.Prelude.{◌≡◌, ◌≢◌, ℕ, zero, suc, ◌+◌, ◌<◌, ◌≤◌, ◌||◌, nat_lt, Bool, true, false, List, [], ◌∷◌, ◌++◌, length, take, drop, refl, None, Some}
 use Rattle.mux_frame.specs.Frames.{Frame}
 use Rattle.mux_frame.specs.Deframing.{Deframing, TakesIn}
 use Rattle.serial_line.specs.Counts.{one_more}
-use Rattle.modem_desk.specs.Ends.{DriverView}
 use Rattle.modem_history.specs.Sessions.{LineView}
-use Rattle.modem_history.specs.Turns.{Write, Read}
-use Rattle.modem_history.specs.Wholes.{IsPrefixOf}
 use Rattle.modem_driver.specs.SessionStates.{Kept, KeptGoes, KeptMoves}
 use Rattle.modem_driver.specs.SessionTurns.{Feeds, KeptReads, KeptWrites}
-use Rattle.modem_driver.specs.TurnSteps.{Standing, Leads}
+use Rattle.modem_driver.specs.TurnSteps.{Leads}
 use Rattle.modem_driver.proofs.sessions.Lines.{feed_goes, read_goes, write_goes, fault_goes}
 
 never_less : (n : ℕ) → false ≡ nat_lt n n

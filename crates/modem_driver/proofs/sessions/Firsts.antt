@@ -4,9 +4,7 @@ use Rattle.std.proofs.lemmas.Bool.{eq-eqb, le-leb, leb-true, leb-false}
 use Rattle.std.proofs.lemmas.List.{append-nil, map-append}
 use Rattle.std.proofs.lemmas.List.Elements.{All-append, Contains-append_left, Contains-append_right}
 use Rattle.std.proofs.lemmas.List.Sums.{list_all-from_AllPass}
-use Rattle.std.specs.Prelude.{◌≡◌, ℕ, zero, suc, Bool, false, if◌then◌else◌, ◌<◌, ◌≤◌, ◌==◌, nat_le, min, true, List, [], ◌∷◌, ◌++◌, length, map, take, filter, refl, slice_index_or, All, Contains}
-use Rattle.std.specs.List.{list_all}
-use Rattle.at_text.specs.declared.unsolicited.UrcKind.{UrcKind}
+use Rattle.std.specs.Prelude.{◌≡◌, ℕ, zero, suc, Bool, false, if◌then◌else◌, ◌<◌, ◌≤◌, ◌==◌, nat_le, min, true, List, [], ◌∷◌, ◌++◌, length, map, take, refl, slice_index_or, All, Contains}
 use Rattle.modem_desk.specs.declared.request.Outcome.{Outcome}
 use Rattle.modem_desk.specs.declared.request.Urc.{Urc}
 use Rattle.modem_history.specs.Sessions.{of_caller}

@@ -1,33 +1,25 @@
 -- What a turn's answer means.
-use Rattle.std.proofs.Common.{inl, inr, ap, sym, ◌∙◌, subst, arith, eqb-true}
+use Rattle.std.proofs.Common.{ap, sym, ◌∙◌, subst, arith}
 use Rattle.std.proofs.lemmas.Bool.{or_parts}
-use Rattle.std.proofs.lemmas.List.{append_assoc, append-nil, nil_from_length}
+use Rattle.std.proofs.lemmas.List.{append-nil}
 use Rattle.std.proofs.lemmas.List.Folds.{list_any-append}
-use Rattle.std.specs.Prelude.{◌≡◌, ◌≢◌, ℕ, ◌+◌, ◌<◌, ◌≤◌, ◌==◌, ◌||◌, ◌⊎◌, nat_lt, Bool, true, false, List, [], ◌∷◌, ◌++◌, length, take, map, refl, Option, None, Some, option_map, if◌then◌else◌}
-use Rattle.std.specs.List.{list_all, list_any}
+use Rattle.std.specs.Prelude.{◌≡◌, ℕ, ◌<◌, ◌||◌, nat_lt, Bool, true, false, List, [], ◌∷◌, ◌++◌, length, refl, None, if◌then◌else◌}
+use Rattle.std.specs.List.{list_any}
 use Rattle.mux_frame.specs.Frames.{Frame}
 use Rattle.mux_frame.specs.Reading.{Reads}
-use Rattle.mux_frame.specs.Deframing.{Deframing, Deframes, AtHand}
+use Rattle.mux_frame.specs.Deframing.{AtHand}
 use Rattle.mux_station.specs.Sending.{queue}
-use Rattle.at_text.specs.declared.unsolicited.UrcKind.{UrcKind}
 use Rattle.modem_desk.specs.declared.request.Outcome.{Outcome}
 use Rattle.modem_desk.specs.declared.request.Urc.{Urc}
 use Rattle.modem_desk.specs.Ends.{DriverView}
-use Rattle.modem_history.specs.Acts.{Act, after, wire, in_hand}
+use Rattle.modem_history.specs.Acts.{Act, wire}
 use Rattle.modem_history.specs.Calls.{is_lost}
-use Rattle.modem_history.specs.Kinds.{of_kind}
-use Rattle.modem_history.specs.Lawful.{Quiet}
-use Rattle.modem_history.specs.Sessions.{Beginning, LineView, SessionView, AreOnce, FitsReceived, driving, gots, sents, given_on, octets_of_frames, of_caller}
+use Rattle.modem_history.specs.Sessions.{Beginning, LineView, driving, gots, sents, given_on, octets_of_frames}
 use Rattle.modem_history.proofs.LineOrder.{gives_in_order}
 use Rattle.modem_driver.specs.GoingOut.{next_out, out_by}
-use Rattle.modem_driver.specs.Running.{IsIdle}
-use Rattle.modem_driver.specs.SessionStates.{Kept}
-use Rattle.modem_driver.specs.TurnSteps.{Standing, StandingFits, Leads, Places, Minds, SendsOn, Writes, Gets, ReadsOn, TakesOne, view_of, inside, is_more}
-use Rattle.modem_driver.specs.SessionTurns.{Answers, HasOutcome, HasLine, HasNothing}
-use Rattle.modem_driver.proofs.Drained.{drained_quiet}
-use Rattle.modem_driver.proofs.sessions.Calls.{is_run}
+use Rattle.modem_driver.specs.TurnSteps.{Standing, StandingFits, Places, Minds, SendsOn, Writes, Gets, ReadsOn, TakesOne, view_of, is_more}
 use Rattle.modem_driver.proofs.sessions.Turning.{Went, placed, went_placed, went_step, went_wrote, went_read, went_took}
-use Rattle.modem_history.specs.Turns.{TurnAnswer, Dealings, Deals, IsTurn, GoesTurn, Means, IsAtRest, IsIdle as IsIdleTurn, IsWaiting, IsBlocked, IsWriterFull, AllAreGot, ReadsNothing, HoldsByBacklog, Write, Read, Offers, has_moved, is_mark, amount, says_moved, has_room_for, octets_written}
+use Rattle.modem_history.specs.Turns.{Dealings, AllAreGot, has_moved, amount}
 
 -- ## Whether anything moved
 

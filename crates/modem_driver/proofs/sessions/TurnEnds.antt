@@ -3,14 +3,13 @@ use Rattle.std.proofs.Common.{ap, sym, ◌∙◌, subst}
 use Rattle.std.specs.Prelude.{◌≡◌, ◌||◌, Bool, true, false, List, [], ◌++◌, refl, None}
 use Rattle.modem_history.specs.Acts.{Act, after}
 use Rattle.modem_history.specs.Calls.{is_lost}
-use Rattle.modem_history.specs.Sessions.{Beginning, AreOnce}
+use Rattle.modem_history.specs.Sessions.{Beginning}
 use Rattle.modem_history.specs.Turns.{Dealings, TurnFault, GoesFault}
 use Rattle.modem_driver.specs.declared.session.error.SessionFault.{SessionFault}
-use Rattle.modem_driver.specs.SessionStates.{Kept, KeptLoses}
 use Rattle.modem_driver.specs.SessionTurns.{LosesOr, fault_of}
-use Rattle.modem_driver.specs.TurnSteps.{Standing, StandingFits, Leads, Places, Minds, MindsPart, SendsOn, Writes, Gets, ReadsOn, TakesOne, KeepsAside, view_of, inside}
-use Rattle.modem_driver.proofs.sessions.Turning.{Went, placed, went_placed, went_step, went_wrote, went_read, went_took, went_aside}
-use Rattle.modem_driver.proofs.sessions.TurnFaults.{none_loses, wants_memory, loses_line, has_failed}
+use Rattle.modem_driver.specs.TurnSteps.{Standing, StandingFits, Leads, Places, Minds, MindsPart, SendsOn, Writes, Gets, ReadsOn, KeepsAside, view_of, inside}
+use Rattle.modem_driver.proofs.sessions.Turning.{Went, placed, went_placed, went_step, went_wrote, went_read, went_aside}
+use Rattle.modem_driver.proofs.sessions.TurnFaults.{none_loses, wants_memory, loses_line}
 
 -- a fault of any kind by which a turn ended
 abbrev pub FaultBy : (s0 s : Standing) → TurnFault → Type 0

@@ -3,21 +3,21 @@ use Rattle.std.proofs.Common.{ap, sym, ◌∙◌, subst, arith}
 use Rattle.std.proofs.lemmas.Bool.{and_from, and_parts}
 use Rattle.std.proofs.lemmas.List.{append_assoc}
 use Rattle.std.proofs.lemmas.List.Folds.{list_all-append}
-use Rattle.std.specs.Prelude.{◌≡◌, ◌+◌, ◌≤◌, length, Bool, true, false, List, [], ◌∷◌, ◌++◌, map, refl, None}
+use Rattle.std.specs.Prelude.{◌≡◌, length, Bool, true, false, List, [], ◌∷◌, ◌++◌, map, refl, None}
 use Rattle.std.specs.List.{list_all}
 use Rattle.modem_desk.specs.declared.request.Outcome.{Outcome}
 use Rattle.modem_desk.specs.declared.request.Urc.{Urc}
 use Rattle.modem_history.specs.Acts.{Act, Took, Got, Sent, Told, Heard, Tick, Lost, Held, Freed, Given, after, in_hand}
 use Rattle.modem_history.specs.Calls.{is_lost}
-use Rattle.modem_history.specs.Sessions.{Beginning, LineView, AreOnce, heard_as}
-use Rattle.modem_history.specs.Turns.{Dealings, TurnFault, GoesFault, LosesLine, outcomes_told, lines_heard, may_act, may_fail}
+use Rattle.modem_history.specs.Sessions.{Beginning, heard_as}
+use Rattle.modem_history.specs.Turns.{Dealings, TurnFault, GoesFault, outcomes_told, lines_heard, may_act, may_fail}
 use Rattle.modem_history.proofs.AfterActs.{after_both}
 use Rattle.modem_driver.specs.SessionStates.{Kept, KeptGoes, KeptLoses}
 use Rattle.modem_driver.specs.TurnSteps.{Standing, StandingFits, Leads, Places, view_of, inside}
 use Rattle.modem_driver.proofs.sessions.Keeping.{told_both}
 use Rattle.modem_driver.proofs.sessions.Listening.{heard_both}
 use Rattle.modem_driver.proofs.sessions.Losing.{fail_all}
-use Rattle.modem_driver.proofs.sessions.Turning.{Went, AddsTo, placed, went_placed, once_still, taken_still}
+use Rattle.modem_driver.proofs.sessions.Turning.{Went, placed, went_placed, once_still, taken_still}
 
 -- acts that a turn may have don't lose the line
 pub none_loses : (us : List Urc) (acts past : List Act) → list_all (may_act us) acts ≡ true → is_lost past ≡ false → is_lost (after past acts) ≡ false

@@ -3,19 +3,15 @@ use Rattle.std.proofs.Common.{inl, inr, ap, sym, ◌∙◌, subst, arith, eqb-tr
 use Rattle.std.proofs.lemmas.Bool.{eq-eqb, or_parts, ltb-false}
 use Rattle.std.proofs.lemmas.List.{append-nil, length-append, length-take-le, nil_from_length}
 use Rattle.std.specs.Prelude.{◌≡◌, ◌≢◌, ℕ, ◌+◌, ◌<◌, ◌≤◌, ◌==◌, ◌||◌, ◌⊎◌, nat_lt, Bool, true, false, List, [], ◌∷◌, ◌++◌, length, take, refl, Option, None, Some, if◌then◌else◌}
-use Rattle.std.specs.List.{list_all}
 use Rattle.mux_frame.specs.Frames.{Frame}
-use Rattle.mux_station.specs.Sending.{queue}
 use Rattle.at_text.specs.declared.unsolicited.UrcKind.{UrcKind}
-use Rattle.modem_desk.specs.declared.request.Request.{Request}
 use Rattle.modem_desk.specs.declared.request.Outcome.{Outcome}
 use Rattle.modem_desk.specs.declared.request.Urc.{Urc}
-use Rattle.modem_history.specs.Acts.{Act, after, wire, in_hand}
+use Rattle.modem_history.specs.Acts.{Act, after, in_hand}
 use Rattle.modem_history.specs.Calls.{is_lost}
 use Rattle.modem_history.specs.Kinds.{of_kind, is_same_kind, kind_place}
-use Rattle.modem_history.specs.Lawful.{Quiet}
 use Rattle.modem_history.specs.Sessions.{Beginning, AreOnce, driving, of_caller, backlog_in}
-use Rattle.modem_history.specs.Turns.{TurnAnswer, Dealings, IsTurn, GoesTurn, IsAtRest, Means, says_moved, IsWriterFull, IsOffer, HoldsByBacklog, ReadsNothing, Write, Read, Offers, has_moved, has_room_for, octets_written}
+use Rattle.modem_history.specs.Turns.{TurnAnswer, GoesTurn, IsAtRest, Means, says_moved, IsWriterFull, HoldsByBacklog, Write, Offers, has_room_for, octets_written}
 use Rattle.modem_driver.specs.Cores.{Core}
 use Rattle.modem_driver.specs.GoingOut.{next_out}
 use Rattle.modem_driver.specs.Running.{IsIdle}
@@ -24,7 +20,7 @@ use Rattle.modem_driver.specs.TurnSteps.{Standing, StandingFits, Leads, view_of,
 use Rattle.modem_driver.specs.SessionTurns.{Answers}
 use Rattle.modem_driver.proofs.Drained.{drained_quiet}
 use Rattle.modem_driver.proofs.sessions.Calls.{is_run}
-use Rattle.modem_driver.proofs.sessions.Turning.{Went, placed, once_still, taken_still}
+use Rattle.modem_driver.proofs.sessions.Turning.{placed, once_still, taken_still}
 use Rattle.modem_driver.proofs.sessions.TurnAnswers.{Run, Still, all_dealings, all_acts, went_out, went_got, went_all, has_moved_all, is_still, sound_five, not_lost, none_queued, all_given, all_sent, all_got}
 
 -- a core that is idle on a sound line has an empty control queue

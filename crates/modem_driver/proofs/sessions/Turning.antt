@@ -3,11 +3,10 @@ use Rattle.std.proofs.Common.{ap, sym, ◌∙◌, subst, arith}
 use Rattle.std.proofs.lemmas.List.{append_assoc, append-nil}
 use Rattle.std.proofs.lemmas.List.Folds.{list_all-append}
 use Rattle.std.proofs.lemmas.Bool.{and_from}
-use Rattle.std.specs.Prelude.{◌≡◌, ℕ, Bool, ◌+◌, ◌≤◌, true, List, [], ◌∷◌, ◌++◌, length, map, drop, refl, Option, None, Some}
+use Rattle.std.specs.Prelude.{◌≡◌, ℕ, Bool, ◌+◌, ◌≤◌, true, List, [], ◌++◌, length, map, drop, refl, Option, None, Some}
 use Rattle.std.specs.List.{list_all}
 use Rattle.modem_desk.specs.declared.request.Request.{Request}
 use Rattle.modem_desk.specs.declared.request.Outcome.{Outcome}
-use Rattle.modem_desk.specs.declared.request.Urc.{Urc}
 use Rattle.modem_history.specs.Acts.{Act, after}
 use Rattle.modem_history.specs.Requests.{are_distinct}
 use Rattle.modem_desk.specs.Ends.{DriverView}
@@ -15,7 +14,7 @@ use Rattle.modem_history.specs.Sessions.{Beginning, LineView, AreOnce, heard_as}
 use Rattle.modem_history.specs.Turns.{Write, Read, Dealings, HandsBack, HasRoom, octets_written, octets_read, request_given, calls_made, counted, outcomes_told, lines_heard, may_act}
 use Rattle.modem_history.proofs.AfterActs.{after_both}
 use Rattle.modem_driver.specs.SessionStates.{Kept}
-use Rattle.modem_driver.specs.TurnSteps.{Standing, StandingFits, Leads, Adds, AddsAll, Places, Minds, SendsOn, Writes, Gets, ReadsOn, TakesOne, KeepsAside, view_of}
+use Rattle.modem_driver.specs.TurnSteps.{Standing, StandingFits, Leads, Adds, AddsAll, Places, Writes, ReadsOn, TakesOne, KeepsAside, view_of}
 use Rattle.modem_driver.proofs.sessions.Keeping.{told_both}
 use Rattle.modem_driver.proofs.sessions.Listening.{heard_both}
 

@@ -1,6 +1,5 @@
 -- How a turn ends: in a fault, or in an answer.
-use Rattle.std.proofs.Common.{◌≡◌, ap, sym, ◌∙◌, subst, true, false, Bool}
-use Rattle.modem_history.specs.Sessions.{LineView}
+use Rattle.std.proofs.Common.{ap, sym, ◌∙◌, subst, true, false, Bool}
 use Rattle.modem_driver.specs.SessionStates.{line_by}
 use Rattle.modem_driver.specs.SessionTurns.{Answers, Turns, Faults, standing_of, answer_of}
 use Rattle.modem_driver.proofs.sessions.TurnFaults.{has_failed}

@@ -1,4 +1,3 @@
-use Rattle.std.proofs.Common.{◌∙◌}
 use Rattle.modem_sim.specs.Stills.{at_line}
 use Rattle.modem_sim.proofs.SimLemmas.{sim_kept, sim_read_by, sim_then, sim_wrote_by}
 use Rattle.modem_sim.proofs.TurnLemmas.{Went, goes_once}

@@ -1,4 +1,4 @@
-use Rattle.std.proofs.Common.{◌≡◌, ◌∙◌, refl, nat_lt, false, List, ℕ, sym, ap, subst, option_map}
+use Rattle.std.proofs.Common.{◌∙◌, refl, nat_lt, false, sym, subst, option_map}
 use Rattle.modem_sim.specs.Sims.{Kept, pending_frame}
 use Rattle.modem_sim.specs.Stills.{ReadsOnce}
 use Rattle.modem_sim.proofs.PartLemmas.{reads_nothing, reads_some}

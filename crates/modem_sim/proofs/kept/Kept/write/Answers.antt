@@ -1,4 +1,4 @@
-use Rattle.std.proofs.Common.{◌≡◌, ◌≤◌, ◌∙◌, ◌++◌, ◌==◌, length, take, drop, List, ℕ, true, false, sym, ap, subst, option_map}
+use Rattle.std.proofs.Common.{◌≡◌, ◌≤◌, ◌∙◌, ◌++◌, ◌==◌, length, take, List, ℕ, true, false, sym, ap, subst, option_map}
 use Rattle.modem_sim.specs.Sims.{Kept, pending_frame}
 use Rattle.modem_sim.specs.Stills.{Writes}
 use Rattle.modem_sim.proofs.PartLemmas.{writes_nothing, writes_some}

@@ -1,9 +1,7 @@
-use Rattle.std.proofs.Common.{◌≡◌, ◌∙◌, Bool, true, sym, ap, subst}
-use Rattle.modem_sim.specs.declared.sim.SimTurn.{SimTurn}
+use Rattle.std.proofs.Common.{◌∙◌, sym, subst}
 use Rattle.modem_sim.specs.declared.sim.SimTurn.TheVariants.{Moved, Idle, Ended}
-use Rattle.modem_sim.specs.Sims.{Kept, SimState, SimGoes, is_ended}
+use Rattle.modem_sim.specs.Sims.{SimState}
 use Rattle.modem_sim.specs.Turns.{GoesTurn}
-use Rattle.modem_sim.specs.Stills.{GoesOnce}
 use Rattle.modem_sim.proofs.MeaningLemmas.{turn_idle, turn_moved, turn_over, turn_was_over}
 use Rattle.modem_sim.proofs.sim.Sim.turn.Goals as goal
 

@@ -2,7 +2,7 @@ use Rattle.std.proofs.Common.{Bool, List, ◌∷◌, ◌≡◌, ◌+◌, ◌||�
 use Rattle.std.proofs.lemmas.Bool.Decides.{nat_tests}
 use Rattle.modem_sim.proofs.CoreLemmas.{either_way}
 use Rattle.modem_sim.specs.declared.script.Step.{Step}
-use Rattle.modem_sim.specs.Cores.{Core, Goes, HasNoneToDo, Refuses, Waits, boxes_done, for_lines, for_openings, for_room, waits}
+use Rattle.modem_sim.specs.Cores.{Core, Goes, HasNoneToDo, Waits, boxes_done, for_lines, for_openings, for_room, waits}
 use Rattle.modem_sim.proofs.DoingLemmas.{does_goes, step_at}
 use Rattle.modem_sim.proofs.sim_core.SimCore.do_next.Goals as goal
 use Rattle.modem_sim.proofs.sim_core.SimCore.do_next.Goals.{then-step-self-via-then-step-self, then-step-self-via-else-step-self+then-not-are_open}

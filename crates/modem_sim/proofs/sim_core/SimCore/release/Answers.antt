@@ -1,4 +1,4 @@
-use Rattle.std.proofs.Common.{◌≡◌, ◌<◌, ◌∙◌, ap, subst, true, ℕ, Bool, IfOk, arith, drop, length, slice_index_or, slice_set, sym}
+use Rattle.std.proofs.Common.{◌≡◌, ◌<◌, ◌∙◌, ap, subst, true, ℕ, Bool, IfOk, arith, length, slice_index_or, slice_set, sym}
 use Rattle.modem_sim.specs.Boxes.{fresh_box}
 use Rattle.modem_sim.specs.Cores.{Core, all_unhanded}
 use Rattle.modem_sim.proofs.CoreLemmas.{any_default}

@@ -1,5 +1,5 @@
 -- The octets that the deframer took wait no more.
-use Rattle.std.proofs.Common.{◌≡◌, ap, sym, ◌∙◌, subst, take, drop, length, ◌≤◌, ◌<◌, ℕ, List, arith}
+use Rattle.std.proofs.Common.{◌≡◌, ap, subst, take, length, ℕ, List, arith}
 use Rattle.mux_frame.specs.Deframing.{TakesIn}
 use Rattle.modem_driver.specs.SessionStates.{Kept}
 use Rattle.modem_driver.specs.SessionTurns.{Feeds}

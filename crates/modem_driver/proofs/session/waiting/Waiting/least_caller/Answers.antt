@@ -1,6 +1,5 @@
 -- The least caller of both parts of the ring.
-use Rattle.std.proofs.Common.{sym, subst, ◌++◌, List}
-use Rattle.modem_desk.specs.declared.request.Outcome.{Outcome}
+use Rattle.std.proofs.Common.{sym, subst, ◌++◌}
 use Rattle.modem_driver.specs.SessionTurns.{IsLeast}
 use Rattle.modem_driver.specs.WaitingLists.{WaitingLists}
 use Rattle.modem_driver.proofs.sessions.Firsts.{least_alone, least_both}
