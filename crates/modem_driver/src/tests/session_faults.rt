@@ -2,7 +2,7 @@
 
 use super::session_runs::{CALLS, COMES, ask_of};
 use crate::*;
-use modem_desk::{Caller, Desk};
+use modem_desk::{Caller, Desk, DriverEnd};
 use mux_frame::Dlci;
 use serial_line::{Cut, CutLine};
 use std::alloc::Global;
@@ -48,30 +48,41 @@ fn a_read_fails(rt: HostRuntime) -> Result<(), Fail> {
     Ok(())
 }
 
-/// Turns until nothing moves or the line has failed, and says how often a turn answered Line.
-fn turns<R: Wait + Drop>(session: &mut Session<CutLine, R>) -> Result<u32, Fail> {
-    let mut lost = 0;
+/// Turns until nothing moves or the line has failed, and says whether a turn answered Line. None does so twice.
+fn turns<R: Wait + Drop>(session: &mut Session<CutLine, R>) -> Result<bool, Fail> {
+    let mut lost = false;
     for _turn in 0..CALLS {
         match session.turn() {
             Ok(Turn::Moved) => {}
             Ok(_) | Err(SessionFault::Failed) => return Ok(lost),
-            Err(SessionFault::Line) => lost += 1,
-            Err(SessionFault::NoMemory) => return Err("no memory".into()),
+            Err(SessionFault::Line) if !lost => lost = true,
+            Err(_) => return Err("another fault".into()),
         }
     }
     Err("too many turns".into())
 }
 
-/// How many outcomes wait for the caller, numbered from 1.
-fn count(caller: &mut Caller) -> Result<u64, Fail> {
-    let mut count = 0;
-    while let Some(outcome) = caller.take() {
-        count += 1;
-        if outcome.number != count {
+/// How many outcomes wait for the caller, three at most, numbered from 1.
+fn count_told(caller: &mut Caller) -> Result<u64, Fail> {
+    for told in 0..3 {
+        let Some(outcome) = caller.take() else {
+            return Ok(told);
+        };
+        if outcome.number != told + 1 {
             return Err("out of order".into());
         }
     }
-    Ok(count)
+    Ok(3)
+}
+
+/// How many requests the desk still has, three at most.
+fn count_left<R: Wait>(rt: &R, driver: &mut DriverEnd) -> u64 {
+    for left in 0..3 {
+        if driver.next(rt).is_none() {
+            return left;
+        }
+    }
+    3
 }
 
 /// csq over such a line: whether its line failed. One turn says so then, and nothing leaves after it. Each of
@@ -88,16 +99,20 @@ fn loses<R: Wait + Drop + Copy>(
         return Err("no memory".into());
     };
     let caller = callers.first_mut().ok_or("no caller")?;
-    let mut lost = 0;
+    let mut lost = false;
     let mut sent = None;
     for step in 0..COMES.len() {
         let Ok(_number) = caller.submit(&rt, ask_of(alloc, step)?) else {
             return Err("refused".into());
         };
-        lost += turns(&mut session)?;
+        let first = turns(&mut session)?;
         session.line_mut().put(COMES[step]);
-        lost += turns(&mut session)?;
-        if lost > 0 {
+        let second = turns(&mut session)?;
+        if (first || second) && lost {
+            return Err("lost twice".into());
+        }
+        lost |= first || second;
+        if lost {
             let now = session.line_mut().sent().len();
             if sent.is_some_and(|before| before != now) {
                 return Err("sent after a loss".into());
@@ -105,28 +120,25 @@ fn loses<R: Wait + Drop + Copy>(
             sent = Some(now);
         }
     }
-    let told = count(caller)?;
+    let told = count_told(caller)?;
     let mut finished = session.finish();
-    let mut left = 0;
-    while finished.driver.next(&rt).is_some() {
-        left += 1;
-    }
+    let left = count_left(&rt, &mut finished.driver);
     let lists_are_empty = finished.in_hand.is_empty() && finished.unplaced.is_empty();
-    if lost > 1 || told + left != 3 || !lists_are_empty {
+    if told.checked_add(left) != Some(3) || !lists_are_empty {
         return Err("not told once".into());
     }
-    Ok(lost == 1)
+    Ok(lost)
 }
 
 /// The k-th read fails, for each k up to the reads of the run.
 #[test]
 fn each_read_fails(rt: HostRuntime) -> Result<(), Fail> {
-    let mut failed = 0;
+    let mut failed = 0_u32;
     for k in 0..100 {
         let mut reads = [Cut::Upto(64); 100];
         reads[k] = Cut::Fault;
         if loses(rt, rt.alloc(), &reads, &[])? {
-            failed += 1;
+            failed = failed.saturating_add(1);
         }
     }
     assert!(rt; failed >= 12);
@@ -137,12 +149,12 @@ fn each_read_fails(rt: HostRuntime) -> Result<(), Fail> {
 /// The k-th write fails, for each k up to the writes of the run.
 #[test]
 fn each_write_fails(rt: HostRuntime) -> Result<(), Fail> {
-    let mut failed = 0;
+    let mut failed = 0_u32;
     for k in 0..10 {
         let mut writes = [Cut::Upto(64); 10];
         writes[k] = Cut::Fault;
         if loses(rt, rt.alloc(), &[], &writes)? {
-            failed += 1;
+            failed = failed.saturating_add(1);
         }
     }
     assert_eq!(rt; failed, 4);

@@ -1,7 +1,7 @@
 //! Runs of a session over a line in memory.
 
 use crate::*;
-use at_text::CommandLine;
+use at_text::{AnswerLine, CommandLine};
 use modem_desk::{Caller, Desk};
 use mux_frame::Dlci;
 use serial_line::{Cut, CutLine};
@@ -95,18 +95,22 @@ fn is_answered(caller: &mut Caller) -> Result<bool, Fail> {
     let first = caller.take().ok_or("no outcome")?;
     let second = caller.take().ok_or("no outcome")?;
     let third = caller.take().ok_or("no outcome")?;
-    let Answer::Done(lines) = third.answer else {
+    let opened = matches!(first.answer, Answer::Opened) && matches!(second.answer, Answer::Opened);
+    let numbered = third.number == 3;
+    let Answer::Done(lines) = &third.answer else {
         return Err("not done".into());
     };
-    let opened = matches!(first.answer, Answer::Opened) && matches!(second.answer, Answer::Opened);
-    let lines = lines.as_slice();
-    Ok(
-        opened
-            && third.number == 3
-            && lines.len() == 2
-            && lines[0].text.as_slice() == b"+CSQ: 18,99".as_slice()
-            && lines[1].text.as_slice() == b"OK".as_slice(),
-    )
+    Ok(opened && numbered && is_csq(lines.as_slice()))
+}
+
+/// Whether these are the lines that come of csq.
+fn is_csq(lines: &[AnswerLine]) -> bool {
+    if lines.len() != 2 {
+        return false;
+    }
+    let signal = lines[0].text.as_slice() == b"+CSQ: 18,99".as_slice();
+    let code = lines[1].text.as_slice() == b"OK".as_slice();
+    signal && code
 }
 
 /// Reads and writes without a limit.
