@@ -1,3 +1,4 @@
+mod acts;
 mod sim;
 
 use crate::{Modem, ModemStart, SimError};

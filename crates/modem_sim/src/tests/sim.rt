@@ -7,7 +7,7 @@ use std::alloc::{AllocError, Global};
 use std::test::Fail;
 
 /// SABM on 0 and on 1, and AT+CSQ on 1, from the driver.
-const INPUT: &[u8] =
+pub(super) const INPUT: &[u8] =
     b"\xf9\x03\x3f\x01\x1c\xf9\xf9\x07\x3f\x01\xde\xf9\xf9\x07\xef\x0fAT+CSQ\r\xdd\xf9";
 
 /// UA on 0 and on 1, the MSC of the opening; then the line of the script and the answer.
@@ -27,7 +27,7 @@ fn script(alloc: Global, act: StepAct) -> Result<Script, AllocError> {
     })
 }
 
-fn made(alloc: Global, line: CutLine, script: Script) -> Result<Sim<CutLine>, SimError> {
+pub(super) fn made(alloc: Global, line: CutLine, script: Script) -> Result<Sim<CutLine>, SimError> {
     let modem = Modem::new(alloc, ModemStart::default());
     match Sim::new(alloc, line, modem, script, 31) {
         Ok(sim) => Ok(sim),
@@ -35,12 +35,12 @@ fn made(alloc: Global, line: CutLine, script: Script) -> Result<Sim<CutLine>, Si
     }
 }
 
-/// Turns until nothing moves, and what the last one came to.
-fn last_turn(sim: &mut Sim<CutLine>) -> Result<SimTurn, SimError> {
+/// Turns until nothing moves, also where memory was refused, and what the last one came to.
+pub(super) fn last_turn(sim: &mut Sim<CutLine>) -> Result<SimTurn, SimError> {
     for _ in 0..1000 {
-        match sim.turn()? {
-            SimTurn::Moved => {}
-            turn => return Ok(turn),
+        match sim.turn() {
+            Ok(SimTurn::Moved) | Err(SimError::NoMemory) => {}
+            end => return end,
         }
     }
     Ok(SimTurn::Moved)
