@@ -8,8 +8,6 @@ use std::test::*;
 
 mod entering;
 mod no_memory;
-mod session_faults;
-mod session_runs;
 mod steps;
 
 /// What an act is, as a test compares it.
