@@ -5,5 +5,6 @@ pub mod CommaLemmas
 pub mod LineLemmas
 pub mod ReaderLemmas
 pub mod WindowLemmas
+pub mod ForkLemmas
 pub mod WholeLemmas
 pub mod PlacingLemmas

@@ -7,6 +7,7 @@ pub mod Commands
 pub mod Windows
 pub mod Seeing
 pub mod OpenWindow
+pub mod Forks
 pub mod Whole
 pub mod Placing
 pub mod Rows

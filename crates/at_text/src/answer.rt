@@ -4,6 +4,7 @@ ghost use Rattle.std.specs.Prelude.{◌≡◌, [], ◌∷◌, ◌++◌, IfOk, On
 use crate::text::Text;
 use std::alloc::AllocError;
 use std::marker::Model;
+use std::mem;
 
 /// One line of an answer, without its line end (V.250, 5.7.1).
 #[derive(Drop, Debug, PartialEq, Eq)]
@@ -58,6 +59,20 @@ impl AnswerLines {
         ensures err { OnErr result (self.new ≡ self.old) }
     {
         self.lines.push(line)?;
+        Ok(())
+    }
+
+    /// Its lines come before these, and are gone from it. Want of memory leaves both as they were.
+    pub(crate) fn lead(&mut self, lines: &mut AnswerLines) -> Result<(), AllocError>
+        ensures lines { OnOk result (lines.new ≡ self.old ++ lines.old) }
+        ensures left { OnOk result (self.new ≡ []) }
+        ensures err { OnErr result (self.new ≡ self.old) }
+        ensures same { OnErr result (lines.new ≡ lines.old) }
+    {
+        if !self.lines.is_empty() {
+            self.lines.append(&mut lines.lines)?;
+            mem::swap(&mut self.lines, &mut lines.lines);
+        }
         Ok(())
     }
 

@@ -1,7 +1,10 @@
 //! Laws of the definitions, as contracts of functions that do nothing.
-ghost use Rattle.std.specs.Prelude.{ℕ, List};
+ghost use Rattle.std.specs.Prelude.{ℕ, List, Option};
+ghost use Rattle.at_text.specs.declared.answer.AnswerLine.{AnswerLine};
 ghost use Rattle.at_text.specs.Lines.{ReadsOn};
 ghost use Rattle.at_text.specs.Windows.{Mark, IsInTurn};
+ghost use Rattle.at_text.specs.OpenWindow.{OpenWindow};
+ghost use Rattle.at_text.specs.Forks.{IsWhole, SeesApart};
 ghost use Rattle.at_text.specs.Placing.{Part, PlacesLines};
 ghost use Rattle.at_text.specs.Whole.{NoneLost};
 ghost use Rattle.at_text.specs.Rows.{AreLines, AreFinals, AreReports, RingInside, CregBoth, CgregBoth, EarlyOk, EchoOnce, TwoCommands};
@@ -33,4 +36,10 @@ pub fn windows()
 /// The lines that are placed are those of all octets, and where octets are cut changes no line's place.
 pub fn placing()
     ensures { (parts : List Part) → PlacesLines parts }
+{}
+
+/// A line that is seen on a fork of a window is what it is on the window, whose lines come before the fork's.
+pub fn forks()
+    ensures apart { (ls : List AnswerLine) (w : Option OpenWindow) (line : List ℕ) → SeesApart ls w line }
+    ensures whole { (w : Option OpenWindow) → IsWhole w }
 {}

@@ -1,7 +1,8 @@
 //! Windows: which lines answer a command, by their place (V.250, 5.2.3 and 5.7.1).
-ghost use Rattle.std.specs.Prelude.{◌≡◌, List, [], ◌∷◌, ◌++◌, ◌↔◌, IsTrue, IsNone, IfOk, IfErr, OnOk, OnErr};
+ghost use Rattle.std.specs.Prelude.{◌≡◌, List, [], ◌∷◌, ◌++◌, ◌↔◌, IsTrue, IsNone, is_some, IfOk, IfErr, OnOk, OnErr, if◌then◌else◌};
 ghost use Rattle.at_text.specs.Windows.{Mark, Begun};
 ghost use Rattle.at_text.specs.OpenWindow.{opened, FitsMarks, Sees, is_echo, with_line, seen_by, after_line};
+ghost use Rattle.at_text.specs.Forks.{lines_so_far, forked, led_by};
 
 use crate::answer::{AnswerLine, AnswerLines};
 use crate::command::{COMMAND_LEN, CommandLine};
@@ -73,6 +74,18 @@ impl Open {
         })?;
         self.fresh = false;
         Ok(())
+    }
+
+    fn fork(&self, alloc: Global) -> Open
+        ensures { result ≡ record self.now { lines = [] } }
+    {
+        let mut command = ArrayVec::new();
+        let _ = command.try_extend_from_slice(self.command.as_slice());
+        Open {
+            command,
+            lines: AnswerLines::from(Vec::new(alloc)),
+            fresh: self.fresh,
+        }
     }
 
     fn copy(&self) -> Result<Open, AllocError>
@@ -164,6 +177,51 @@ impl Window {
             open,
             alloc: self.alloc,
         })
+    }
+
+    /// A window of the same command with none of its lines, on which lines can be seen and let go of again.
+    /// `follow` puts the lines so far before its own, and `lead` before those of an answer that was whole on it.
+    pub fn fork(&self) -> Window
+        ensures { result ≡ forked self.now }
+    {
+        let open = match &self.open {
+            Some(open) => Some(open.fork(self.alloc)),
+            None => None,
+        };
+        Window {
+            open,
+            alloc: self.alloc,
+        }
+    }
+
+    /// The lines so far come before these, and are gone from the window. 4 NoMemory leaves both as they were.
+    pub fn lead(&mut self, lines: &mut AnswerLines) -> Result<(), TextError>
+        ensures lines { OnOk result (lines.new ≡ lines_so_far self.old ++ lines.old) }
+        ensures left { OnOk result (self.new ≡ forked self.old) }
+        ensures refused { IfErr result (λ why. why ≡ TextError.NoMemory) }
+        ensures err { OnErr result (self.new ≡ self.old) }
+        ensures same { OnErr result (lines.new ≡ lines.old) }
+    {
+        if let Some(open) = &mut self.open {
+            open.lines.lead(lines)?;
+        }
+        Ok(())
+    }
+
+    /// Where a command is under way, the lines so far of the window before come before its own, and are gone
+    /// from that one. 4 NoMemory leaves both as they were.
+    pub fn follow(&mut self, before: &mut Window) -> Result<(), TextError>
+        ensures ok { OnOk result (self.new ≡ led_by (lines_so_far before.old) self.old) }
+        ensures left { OnOk result (
+            before.new ≡ (if is_some self.old then forked before.old else before.old)) }
+        ensures refused { IfErr result (λ why. why ≡ TextError.NoMemory) }
+        ensures err { OnErr result (self.new ≡ self.old) }
+        ensures same { OnErr result (before.new ≡ before.old) }
+    {
+        if let Some(open) = &mut self.open {
+            before.lead(&mut open.lines)?;
+        }
+        Ok(())
     }
 
     fn place(&mut self, line: &[u8]) -> Result<Seen, AllocError>
