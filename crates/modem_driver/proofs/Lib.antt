@@ -40,6 +40,7 @@ pub mod TickFrames
 pub mod LoneProbe
 pub mod CoreTicks
 pub mod Reporting
+pub mod Forking
 pub mod Handed
 pub mod DataLines
 pub mod DataLanes

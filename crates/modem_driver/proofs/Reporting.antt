@@ -7,13 +7,14 @@ use Rattle.at_text.specs.declared.unsolicited.UrcKind.{UrcKind}
 use Rattle.at_text.specs.declared.window.Seen as line_is
 use Rattle.at_text.specs.Lines.{lines, kept_run, ReadsOn}
 use Rattle.at_text.specs.OpenWindow.{OpenWindow, seen_by, after_line}
+use Rattle.at_text.specs.Forks.{forked}
 use Rattle.modem_driver.specs.declared.reports.Owner.{Owner}
 use Rattle.modem_driver.specs.declared.reports.Reading.{Reading}
 use Rattle.mux_frame.specs.Frames.{Frame}
 use Rattle.modem_history.specs.Acts.{Act, Got, Heard}
 use Rattle.modem_history.specs.Calls.{first_on}
 use Rattle.modem_driver.specs.Cores.{Core, lane_at}
-use Rattle.modem_driver.specs.Handing.{ReadsFrame}
+use Rattle.modem_driver.specs.Handing.{ReadsApart}
 use Rattle.modem_driver.specs.Reports.{owner_of, Listens, heard_by, done_by, said_as, said_lines, Read, after_all, read_on, read_each, ReadsOctet, ReadsAll, Says}
 
 pub nothing_said : (kinds : List UrcKind) (r : Reading) (xs : List Act) → Says kinds r (λ listens. []) xs xs
@@ -146,12 +147,12 @@ all_dropped (suc n) [] h = refl
 all_dropped zero (x ∷ xs) h = absurd (let e : suc (length xs) ≤ 0 = h in omega (arith, e))
 all_dropped (suc n) (x ∷ xs) h = all_dropped n xs (let e : suc (length xs) ≤ suc n = h in omega (arith, e))
 
--- a frame is read from what is kept of its connection
-pub reads_frame : (v : Core) (f : Frame) (kinds : List UrcKind) (r : Reading) (first last : Read) (held : Bool) → kinds ≡ v.kinds → r.dlci.number ≡ f.dlci → r.owner ≡ option_map owner_of (first_on f.dlci v.hand)
-    → first ≡ record { kept = (lane_at v f.dlci).kept; window = (lane_at v f.dlci).window; acts = Got f ∷ [] } → ReadsAll kinds r f.info first last
-    → ReadsFrame v f (record { kept = last.kept; window = last.window; held = held }) last.acts
-unfolding ReadsAll ReadsFrame
-reads_frame v f kinds r first last held k d o e reads listens h =
+-- a frame is read from what is kept of its connection, on a fork of its window
+pub reads_apart : (v : Core) (f : Frame) (kinds : List UrcKind) (r : Reading) (first last : Read) (held : Bool) → kinds ≡ v.kinds → r.dlci.number ≡ f.dlci → r.owner ≡ option_map owner_of (first_on f.dlci v.hand)
+    → first ≡ record { kept = (lane_at v f.dlci).kept; window = forked (lane_at v f.dlci).window; acts = Got f ∷ [] } → ReadsAll kinds r f.info first last
+    → ReadsApart v f (record { kept = last.kept; window = last.window; held = held }) last.acts
+unfolding ReadsAll ReadsApart
+reads_apart v f kinds r first last held k d o e reads listens h =
     reads listens (subst (λ (x : List UrcKind). Listens listens x) (sym k) h)
     ∙ (ap (λ (n : ℕ). read_each listens n r.owner first f.info) d
     ∙ (ap (λ (x : Option Owner). read_each listens f.dlci x first f.info) o ∙ ap (λ (x : Read). read_each listens f.dlci (option_map owner_of (first_on f.dlci v.hand)) x f.info) e))

@@ -1,6 +1,7 @@
 pub mod Telling
 pub mod Hands
 pub mod Lanes
+pub mod Forks
 pub mod Cores
 pub mod CoreKeeping
 pub mod ActLists

@@ -8,6 +8,7 @@ mod entering;
 mod error;
 mod event;
 mod hand;
+mod joining;
 mod lane;
 pub mod laws;
 mod receiving;

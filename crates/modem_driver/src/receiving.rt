@@ -1,8 +1,13 @@
 //! Frames that come.
-ghost use Rattle.std.specs.Prelude.{◌≡◌, ◌≢◌, ◌≤◌, ◌<◌, ◌+◌, ◌-◌, ◌++◌, ◌∷◌, ◌&&◌, not, [], true, false, length, map, slice_get, slice_set, position, option_map, is_some, is_none, IfOk, OnOk, OnErr, vec_capacity};
+ghost use Rattle.std.specs.Prelude.{List, None, ◌≡◌, ◌≢◌, ◌≤◌, ◌<◌, ◌+◌, ◌-◌, ◌++◌, ◌∷◌, ◌&&◌, not, [], true, false, length, map, slice_get, slice_set, position, option_map, is_some, is_none, IfOk, OnOk, OnErr, vec_capacity};
 ghost use Rattle.mux_frame.specs.Frames.{frame_of, kept_frame};
 ghost use Rattle.mux_frame.specs.Spelling.{most_info};
-ghost use Rattle.mux_station.specs.Noting.{says_open};
+ghost use Rattle.mux_station.specs.Acts as station_acts;
+ghost use Rattle.mux_station.specs.Fitting as station_fits;
+ghost use Rattle.mux_station.specs.Noting.{says_open, noted_of};
+ghost use Rattle.mux_station.specs.Sending.{got_refused, seen};
+ghost use Rattle.mux_station.specs.Stations.{setting_of, seen_in};
+ghost use Rattle.mux_station.specs.Written.{is_data_frame};
 ghost use Rattle.modem_history.specs.Acts.{act_of, Got};
 ghost use Rattle.modem_driver.specs.Running.{IsIdle};
 ghost use Rattle.modem_driver.specs.Cores.{Handles, is_opened, lane_at};
@@ -10,7 +15,9 @@ ghost use Rattle.modem_driver.specs.Lanes.{new_lane};
 ghost use Rattle.modem_history.specs.Calls.{first_on};
 ghost use Rattle.modem_history.specs.Requests.{commands_on, without_first};
 ghost use Rattle.modem_driver.specs.Reports.{owner_of};
-ghost use Rattle.modem_driver.specs.Handing.{Offers, OffersLine, EndsCommand, EndedBy, ReadsFrame};
+ghost use Rattle.modem_driver.specs.Handing.{Offers, OffersLine, EndsCommand, EndedBy, ReadsApart};
+ghost use Rattle.modem_driver.specs.Forks.{joined, joined_acts};
+ghost use Rattle.at_text.specs.Forks.{lines_so_far};
 ghost use Rattle.modem_driver.specs.Receiving.{HasRoom, cut_to, sent_in, afresh_if, reads_data};
 ghost use Rattle.modem_driver.specs.Holding.{KeepsHeld};
 ghost use Rattle.modem_driver.specs.declared.error.CoreError.TheVariants as CoreError;
@@ -77,6 +84,21 @@ fn opens(noted: Noted) -> bool
     ensures { result ≡ says_open noted }
 {
     matches!(noted, Noted::Opened | Noted::Reset)
+}
+
+/// The station takes data of a connection other than 0. It calls for no frame, and so there is room for it.
+fn take_data(station: &mut Station, frame: FrameView<'_>) -> Noted
+    requires short { length frame.info.now ≤ most_info station.old.n1 frame.kind }
+    requires is_data { is_data_frame (frame_of frame) ≡ true }
+    ensures past { station_fits.Handles station.old station.new (station_acts.Got (frame_of frame.entry)) }
+    ensures noted { (past : List station_acts.Act) → station_fits.Fits station.old past
+        → result ≡ noted_of station.old.role (seen (setting_of station.old) past) (frame_of frame.entry) }
+    ensures taken { None ≡ got_refused (setting_of station.old) (seen_in station.old) (frame_of frame.entry) }
+{
+    let Ok(noted) = station.got(frame) else {
+        unreachable!()
+    };
+    noted
 }
 
 impl Lane {
@@ -152,9 +174,9 @@ impl Core {
         Ok(acts.into_vec())
     }
 
-    /// Reads the information of a frame on copies of what is kept of its connection.
+    /// Reads the information of a frame on a fork of what is kept of its connection.
     fn read(&self, frame: FrameView<'_>) -> Result<(Lane, Vec<Act>), CoreError>
-        ensures read { IfOk result (λ p. ReadsFrame self.now (frame_of frame.entry) p.0 (map act_of p.1.items)) }
+        ensures read { IfOk result (λ p. ReadsApart self.now (frame_of frame.entry) p.0 (map act_of p.1.items)) }
         ensures held { IfOk result (λ p. p.0.held ≡ (lane_at self.now (frame_of frame.entry).dlci).held) }
         ensures no_memory { OnErr result (result ≡ Err CoreError.NoMemory) }
     {
@@ -165,9 +187,7 @@ impl Core {
         };
         let lane = &self.lanes[usize::from(frame.dlci.number())];
         let mut reader = lane.reader.copy();
-        let Ok(mut window) = lane.window.copy() else {
-            return Err(CoreError::NoMemory);
-        };
+        let mut window = lane.window.fork();
         let mut acts = vec![in self.alloc; Act::Got(frame.to_buf(self.alloc)?)]?;
         read_octets(
             reading,
@@ -199,25 +219,34 @@ impl Core {
         }
     }
 
-    /// Keeps a lane, and says whether a command was under way there and is no more.
-    fn set_lane(&mut self, dlci: Dlci, lane: Lane) -> bool
-        ensures after { self.new ≡ record self.old { lanes = slice_set self.old.lanes dlci.number lane } }
-        ensures done { result ≡ (is_some (lane_at self.old dlci.number).window && is_none lane.window) }
+    /// A connection's lane goes on as its fork. Says whether a command was under way there and is no more.
+    /// Want of memory changes nothing.
+    fn join_lane(&mut self, dlci: Dlci, fork: Lane, acts: &mut Vec<Act>) -> Result<bool, CoreError>
+        ensures after { OnOk result (self.new ≡ record self.old {
+          lanes = slice_set self.old.lanes dlci.number (joined (lane_at self.old dlci.number) fork);
+        }) }
+        ensures acts { OnOk result (map act_of acts.new.items ≡ joined_acts
+            (lines_so_far (lane_at self.old dlci.number).window) fork.window (map act_of acts.old.items)) }
+        ensures done { IfOk result (λ done.
+            done ≡ (is_some (lane_at self.old dlci.number).window && is_none fork.window)) }
+        ensures err { OnErr result (self.new ≡ self.old) }
+        ensures no_memory { OnErr result (result ≡ Err CoreError.NoMemory) }
     {
-        let old = &mut self.lanes[usize::from(dlci.number())];
-        let done = !old.window.idle() && lane.window.idle();
-        *old = lane;
-        done
+        let lane = &mut self.lanes[usize::from(dlci.number())];
+        let done = !lane.window.idle() && fork.window.idle();
+        if lane.join(fork, acts).is_err() {
+            return Err(CoreError::NoMemory);
+        }
+        Ok(done)
     }
 
-    /// Keeps a lane. Where that answers its command, the next one goes out.
-    fn keep(&mut self, dlci: Dlci, lane: Lane)
-        ensures { EndedBy (is_some (lane_at self.old dlci.number).window && is_none lane.window) (record self.old { lanes = slice_set self.old.lanes dlci.number lane }) self.new dlci.number }
+    /// Where the command under way has its answer, the next one goes out.
+    fn go_on(&mut self, dlci: Dlci, done: bool)
+        ensures { EndedBy done self.old self.new dlci.number }
     {
-        if !self.set_lane(dlci, lane) {
-            return;
+        if done {
+            self.end_command(dlci);
         }
-        self.end_command(dlci);
     }
 
     /// Data of an open connection.
@@ -229,17 +258,14 @@ impl Core {
         ensures holds { IfOk result (λ acts.
             KeepsHeld self.old self.new (Got (frame_of frame.entry)) (map act_of acts.items)) }
         ensures room { OnOk result (HasRoom self.old (Got (frame_of frame.entry)) true) }
-        ensures no_room { result ≡ Err CoreError.NoRoom → HasRoom self.old (Got (frame_of frame.entry)) false }
-        ensures good_n1 { result ≢ Err CoreError.BadN1 }
+        ensures no_memory { OnErr result (result ≡ Err CoreError.NoMemory) }
         ensures err { OnErr result (self.new ≡ self.old) }
         ensures n1 { self.new.station.n1 ≡ self.old.station.n1 }
-        ensures never_full { result ≡ Err CoreError.NoRoom → ¬ IsIdle self.old }
     {
-        let (lane, acts) = self.read(frame)?;
-        let Ok(_noted) = self.station.got(frame) else {
-            return Err(CoreError::NoRoom);
-        };
-        self.keep(frame.dlci, lane);
+        let (fork, mut acts) = self.read(frame)?;
+        let done = self.join_lane(frame.dlci, fork, &mut acts)?;
+        let _noted = take_data(&mut self.station, frame);
+        self.go_on(frame.dlci, done);
         Ok(acts)
     }
 

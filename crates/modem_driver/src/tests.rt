@@ -6,6 +6,7 @@ use crate::*;
 use mux_frame::{Dlci, Kind};
 use std::test::*;
 
+mod answers;
 mod entering;
 mod no_memory;
 mod steps;

@@ -1,0 +1,41 @@
+-- What was read on a fork of a window, behind what came before.
+use Rattle.std.specs.Prelude.{Bool, true, false, List, [], ◌∷◌, ◌++◌, Option, None, Some, if◌then◌else◌}
+use Rattle.at_text.specs.declared.answer.AnswerLine.{AnswerLine}
+use Rattle.at_text.specs.OpenWindow.{OpenWindow}
+use Rattle.at_text.specs.Forks.{lines_so_far, led_by}
+use Rattle.modem_desk.specs.declared.request.Answer.{Answer}
+use Rattle.modem_desk.specs.declared.request.Answer.TheVariants.{Done}
+use Rattle.modem_history.specs.Acts.{Act, Told}
+use Rattle.modem_driver.specs.Lanes.{Lane}
+
+abbrev pub has_lines : Answer → Bool
+has_lines (Done ls) = true
+has_lines _ = false
+
+abbrev pub led_answer : List AnswerLine → Answer → Answer
+led_answer ls (Done more) = Done (ls ++ more)
+led_answer ls answer = answer
+
+-- the lines of an answer are told
+abbrev pub tells_lines : Act → Bool
+tells_lines (Told o) = has_lines o.answer
+tells_lines _ = false
+
+-- and these came before them
+abbrev pub led : List AnswerLine → Act → Act
+led ls (Told o) = Told (record o { answer = led_answer ls o.answer })
+led ls a = a
+
+-- in the first answer that is told
+abbrev pub led_first : List AnswerLine → List Act → List Act
+led_first ls [] = []
+led_first ls (a ∷ acts) = if tells_lines a then led ls a ∷ acts else a ∷ led_first ls acts
+
+-- what is said of a frame that was read on a fork, which shows this window then: an answer is told where that is closed
+abbrev pub joined_acts : List AnswerLine → Option OpenWindow → List Act → List Act
+joined_acts ls None acts = led_first ls acts
+joined_acts ls (Some o) acts = acts
+
+-- the lane that was read on a fork of another, behind it
+abbrev pub joined : Lane → Lane → Lane
+joined before fork = record fork { window = led_by (lines_so_far before.window) fork.window }
