@@ -24,4 +24,5 @@ pub mod RoomLemmas
 pub mod SilentLemmas
 pub mod IdleLemmas
 pub mod MeaningLemmas
+pub mod ToldLemmas
 pub mod TurnFacts
