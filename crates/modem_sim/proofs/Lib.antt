@@ -25,4 +25,6 @@ pub mod SilentLemmas
 pub mod IdleLemmas
 pub mod MeaningLemmas
 pub mod ToldLemmas
+pub mod SoundLemmas
+pub mod RepliedLemmas
 pub mod TurnFacts

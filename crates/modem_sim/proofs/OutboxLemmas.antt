@@ -15,7 +15,7 @@ use Rattle.modem_sim.specs.Pieces.{Piece, Echo, Answer, Announced, answers, repl
 use Rattle.modem_sim.specs.Outboxes.{Outbox, empty_box, outbox, say, said_after, dropped, replies_by, replies_after, hold_on, is_holding, replies_since}
 use Rattle.modem_sim.specs.Histories.{SaysReplies}
 
-asked_for-append : (a b : List Piece) → asked_for (a ++ b) ≡ asked_for a ++ asked_for b
+pub asked_for-append : (a b : List Piece) → asked_for (a ++ b) ≡ asked_for a ++ asked_for b
 asked_for-append [] b = refl
 asked_for-append (Echo line ∷ a) b = ap (λ x. Echo line ∷ x) (asked_for-append a b)
 asked_for-append (Answer line ∷ a) b = ap (λ x. Answer line ∷ x) (asked_for-append a b)

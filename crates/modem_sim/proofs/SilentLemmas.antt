@@ -61,7 +61,7 @@ first_acts_at (s ∷ steps) n next later is = by_test (λ m same. first_acts_at 
     by_test others false does n same = others n same
 
 -- a step that is done acts
-does_act : (e : End) (past : List Act) (act : StepAct) → MayDo e past act → acts act ≡ true
+pub does_act : (e : End) (past : List Act) (act : StepAct) → MayDo e past act → acts act ≡ true
 does_act e past act may =
     ap acts (sym may.due.is_its) ∙ first_acts_at e.steps (length (steps_done past)) may.due.next may.due.later may.due.is_first
 

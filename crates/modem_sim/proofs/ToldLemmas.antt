@@ -1,12 +1,11 @@
 -- Each line of an answer is one line as the other end reads it, and no command line.
-use Rattle.std.specs.Prelude.{◌≡◌, ℕ, ◌+◌, ◌<◌, ◌≤◌, ◌==◌, ◌&&◌, not, nat_le, Bool, true, false, List, [], ◌∷◌, ◌++◌, length, map, Option, Some, None, IfSome, unwrap_or, refl, if◌then◌else◌, codes}
+use Rattle.std.specs.Prelude.{◌≡◌, ℕ, ◌+◌, ◌<◌, ◌≤◌, ◌==◌, ◌&&◌, nat_le, Bool, true, false, List, [], ◌∷◌, ◌++◌, length, map, Option, Some, None, IfSome, unwrap_or, refl, if◌then◌else◌, codes}
 use Rattle.std.specs.Fmt.{decimal, digits}
 use Rattle.std.specs.List.{list_all, list_any}
-use Rattle.std.proofs.Common.{arith, sym, ap, ◌∙◌}
+use Rattle.std.proofs.Common.{arith}
 use Rattle.std.proofs.lemmas.Bool.Decides.{nat_tests}
 use Rattle.std.proofs.lemmas.List.{length-append}
 use Rattle.std.proofs.lemmas.Fmt.{length-decimal-le}
-use Rattle.at_text.specs.declared.answer.AnswerLine.{AnswerLine}
 use Rattle.at_text.specs.Commands.{has_at, is_printable}
 use Rattle.at_text.specs.Lines.{is_line_end, is_filled}
 use Rattle.at_text.specs.Octets.{is_digit}
@@ -28,7 +27,6 @@ use Rattle.modem_sim.specs.declared.state.Lock.TheVariants.{Ready, NeedPin, Need
 use Rattle.modem_sim.specs.declared.state.ModemState.{ModemState}
 use Rattle.modem_sim.specs.Reading.{is_attention, command_of}
 use Rattle.modem_sim.specs.Steps.{Step, line_of, error_text, lock_error, pin_error, attach_error, is_registered, refusal_of, pin_text, cell_text, reg_text, signal_text, oper_text, context_text, attached_text, told_texts, good_answer, obeyed_unless, step_by, step}
-use Rattle.modem_sim.specs.Doing.{is_line}
 use Rattle.modem_sim.specs.Laws.{IsStart}
 use Rattle.modem_sim.specs.Replied.{AnswersInLines, is_answer_line}
 use Rattle.modem_sim.proofs.KeptLemmas.{IsKept, IsContextKept, AreContextsKept, IsOperKept, reached_kept}

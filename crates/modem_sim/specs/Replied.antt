@@ -1,6 +1,6 @@
 -- Which lines leave a simulated modem: without the announced ones they are the replies to the command lines that came.
 use Rattle.std.specs.Prelude.{◌≡◌, ℕ, ◌≤◌, ◌==◌, ◌&&◌, not, Bool, true, false, List, [], ◌∷◌, ◌++◌, length, map, filter, if◌then◌else◌}
-use Rattle.std.specs.List.{concat, list_all}
+use Rattle.std.specs.List.{flat_map, list_all}
 use Rattle.mux_frame.specs.declared.frame.Kind.TheVariants.{Sabm}
 use Rattle.mux_station.specs.declared.role.Role.TheVariants.{Responder}
 use Rattle.mux_station.specs.Written.{is_on}
@@ -37,6 +37,10 @@ abbrev pub replied_on : Bool → ℕ → ModemState → List (ℕ × List ℕ) �
 replied_on echo d m [] = []
 replied_on echo d m (p ∷ ls) =
     (if p.0 == d then written_for echo m p.1 ∷ [] else []) ++ replied_on echo d (step m p.1).state ls
+
+-- all of them, one behind the other
+abbrev pub all_of : List (List (List ℕ)) → List (List ℕ)
+all_of replies = flat_map (λ (ls : List (List ℕ)). ls) replies
 
 -- ## What is asked of it
 
@@ -78,4 +82,4 @@ unfoldable pub SendsReplies : End → List Act → Type 0
 SendsReplies e past =
     Lawful e past → IsModem e.modem → AnnouncesUnsolicited past → (d : ℕ) → IsAskedOnce d past
     → IsFirstOf (filter is_solicited (lines (given Responder d (wire past))))
-    (filter is_solicited (concat (replied_on e.echo d e.modem (heard past))))
+    (filter is_solicited (all_of (replied_on e.echo d e.modem (heard past))))
