@@ -2,7 +2,7 @@
 use Rattle.std.specs.Prelude.{◌≡◌, ℕ, ◌+◌, ◌≤◌, ◌==◌, ◌&&◌, Bool, true, false, List, [], ◌∷◌, ◌++◌, length, map, take, refl, if◌then◌else◌, Option, Some, None, is_some}
 use Rattle.std.specs.List.{last_or}
 use Rattle.std.proofs.Common.{ap, sym, ◌∙◌, subst, arith, append-nil}
-use Rattle.std.proofs.lemmas.Bool.{and_parts}
+use Rattle.std.proofs.lemmas.Bool.{and_parts, and_from}
 use Rattle.std.proofs.lemmas.List.{length-map, length-take-le, map-append}
 use Rattle.std.proofs.Math.Seq.{take-append-add}
 use Rattle.mux_frame.specs.Frames.{Frame}
@@ -19,7 +19,7 @@ use Rattle.modem_desk.specs.declared.request.Request.{Request}
 use Rattle.modem_desk.specs.declared.request.Answer.TheVariants.{Done}
 use Rattle.modem_desk.specs.declared.request.Outcome.{Outcome}
 use Rattle.modem_history.specs.Acts.{Act, Took, Got, Sent, Told, Heard, Tick, Lost, Held, Freed, Given, wire, in_hand}
-use Rattle.modem_history.specs.Information.{accepted, information_out, line_of, texts}
+use Rattle.modem_history.specs.Information.{accepted, carries, information_out, line_of, texts}
 use Rattle.modem_history.specs.Placing.{marks, run_on, whole_in, whole_after}
 use Rattle.modem_history.specs.Calls.{Setting, seen, is_lost, states_now, frames, calls, calls_behind, said_at_once, lines_said, by_lines, by_seen, first_on, tolds}
 use Rattle.modem_history.specs.Lawful.{Lawful, owed, unsent}
@@ -36,6 +36,7 @@ use Rattle.modem_history.proofs.InOrder.{open_count, counts}
 use Rattle.modem_history.proofs.Tellings.{AllTell, EndsAt, tell_both, tell_more, tell_right, none_told, tolds_tell, at_once_tells, line_tells, lines_tell, first_tells}
 use Rattle.modem_history.proofs.Stays.{head_of, first_head}
 use Rattle.modem_history.proofs.Owning.{Kept}
+use Rattle.modem_history.proofs.OwningGot.{data_carries}
 use Rattle.modem_history.proofs.InSteps.{Few, few_once, kept_all, here, few_before}
 
 -- ## The last command
@@ -93,8 +94,8 @@ begun_still : (ms : List Mark) (ls : List (List ℕ)) → begun_in (ms ++ map Li
 begun_still ms ls = begun_append ms (map Line ls) ∙ (ap (λ (v : List (List ℕ)). begun_in ms ++ v) (begun_lines ls) ∙ append-nil (begun_in ms))
 
 -- what ends the window is its answer
-owns : (s : Setting) (past : List Act) (f : Frame) (r : Request) (ls : List AnswerLine) → Next s f.dlci past r → EndsAt (marks s.role f.dlci past) (lines (run_on s.role f.dlci past ++ f.info)) ls → IsOwnAnswer s past f r ls
-owns s past f r ls n h =
+owns : (s : Setting) (past : List Act) (f : Frame) (r : Request) (ls : List AnswerLine) → (carries f.dlci f && is_open s.role f.dlci (wire past)) ≡ true → Next s f.dlci past r → EndsAt (marks s.role f.dlci past) (lines (run_on s.role f.dlci past ++ f.info)) ls → IsOwnAnswer s past f r ls
+owns s past f r ls come n h =
     let ms = marks s.role f.dlci past in
     let all = lines (run_on s.role f.dlci past ++ f.info) in
     record {
@@ -104,6 +105,7 @@ owns s past f r ls n h =
       answered_are = n.answered_are;
       begun_are = n.begun;
       was_open = n.was_open;
+      brings = come;
       ends = record { count = h.count; window = h.ends.window; is_last = h.ends.is_last; ended = h.ends.ended; answer = h.ends.answer };
       own = last_command None (windows (ms ++ map Line (take h.count all))) h.ends.window (map line_of n.before) (line_of r) h.ends.is_last (begun_still ms (take h.count all) ∙ n.begun);
     }
@@ -128,9 +130,9 @@ frame_owned s past f l k = by_case (is_opened ((seen s past).state f.dlci) && is
     all : List (List ℕ)
     all = lines (run_on s.role f.dlci past ++ f.info)
 
-    by_window : is_open s.role f.dlci (wire past) ≡ true → (o : Option Window) → open_window ms ≡ o → AllTell (Owned s (Got f ∷ past)) (by_lines s f.dlci (first_on f.dlci (in_hand past)) ms all)
-    by_window g None e = closed_tell (Owned s (Got f ∷ past)) s f.dlci (first_on f.dlci (in_hand past)) ms all e
-    by_window g (Some w) e =
+    by_window : is_data_frame f ≡ true → is_open s.role f.dlci (wire past) ≡ true → (o : Option Window) → open_window ms ≡ o → AllTell (Owned s (Got f ∷ past)) (by_lines s f.dlci (first_on f.dlci (in_hand past)) ms all)
+    by_window come g None e = closed_tell (Owned s (Got f ∷ past)) s f.dlci (first_on f.dlci (in_hand past)) ms all e
+    by_window come g (Some w) e =
         lines_tell (Owned s (Got f ∷ past)) s f.dlci (first_on f.dlci (in_hand past)) ms all [] all ms
         (λ q ls h ends. record {
           newer = [];
@@ -139,13 +141,13 @@ frame_owned s past f l k = by_case (is_opened ((seen s past).state f.dlci) && is
           request = q;
           joins = refl;
           answers = for_itself q (Done ls);
-          owns = owns s past f q ls (next_by s f.dlci past q w l k g e h) ends;
+          owns = owns s past f q ls (and_from (carries f.dlci f) (is_open s.role f.dlci (wire past)) (data_carries f.dlci f come (not_zero f come) refl) g) (next_by s f.dlci past q w l k g e h) ends;
         }) refl (sym (append-nil ms))
 
     by_case : (b : Bool) → (is_opened ((seen s past).state f.dlci) && is_data_frame f) ≡ b → AllTell (Owned s (Got f ∷ past)) (if b then by_lines s f.dlci (first_on f.dlci (in_hand past)) ms all else [])
     by_case true e =
         let parts = and_parts (is_opened ((seen s past).state f.dlci)) (is_data_frame f) e in
-        by_window (sym (opened_is_open s.role (wire past) f.dlci) ∙ parts.0) (open_window ms) refl
+        by_window parts.1 (sym (opened_is_open s.role (wire past) f.dlci) ∙ parts.0) (open_window ms) refl
     by_case false e = tt
 
 -- ## Whole histories

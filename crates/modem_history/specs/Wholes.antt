@@ -14,7 +14,7 @@ use Rattle.modem_desk.specs.declared.request.Answer.TheVariants.{Done}
 use Rattle.modem_desk.specs.declared.request.Outcome.{Outcome}
 use Rattle.modem_history.specs.Acts.{Act, Took, Got, Sent, Told, Heard, Lost, Given, is_for, after, wire, in_hand}
 pub use Rattle.modem_history.specs.Connections.{begun_in}
-use Rattle.modem_history.specs.Information.{information_out, accepted, command_on, texts, line_of}
+use Rattle.modem_history.specs.Information.{carries, information_out, accepted, command_on, texts, line_of}
 use Rattle.modem_history.specs.Placing.{marks, run_on, whole_after}
 use Rattle.modem_history.specs.Holding.{OnHeld}
 use Rattle.modem_history.specs.Calls.{Setting, calls, calls_behind, is_lost}
@@ -167,7 +167,8 @@ StaysInStep s past =
     s.role ≡ Initiator → CompleteCalls s past → UsesOnce (taken past) → is_lost past ≡ false → Complete s past → (d : ℕ) → (d == 0) ≡ false → OnChannel s d past
 
 -- the answer is that of the request's own command, by its place: the commands accepted before it have their answers, it
--- is the last that began, its window is open when the frame comes, and one of the lines of the frame ends it
+-- is the last that began, its window is open when the frame comes, which brings information to its open connection, and
+-- one of the lines of the frame ends it
 pub record IsOwnAnswer (s : Setting) (past : List Act) (f : Frame) (r : Request) (ls : List AnswerLine) : Type 0 where
   pub before : List Request
   pub later : List Request
@@ -175,6 +176,7 @@ pub record IsOwnAnswer (s : Setting) (past : List Act) (f : Frame) (r : Request)
   pub answered_are : answered (marks s.role f.dlci past) ≡ length before
   pub begun_are : begun_in (marks s.role f.dlci past) ≡ map line_of before ++ line_of r ∷ []
   pub was_open : is_some (open_window (marks s.role f.dlci past)) ≡ true
+  pub brings : (carries f.dlci f && is_open s.role f.dlci (wire past)) ≡ true
   pub ends : EndsWindow s past f ls
   pub own : ends.window.command ≡ line_of r
 

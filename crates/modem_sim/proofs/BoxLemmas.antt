@@ -1,19 +1,21 @@
 -- What a frame that comes makes of what is kept of a connection.
-use Rattle.std.specs.Prelude.{◌≡◌, ℕ, ◌+◌, ◌==◌, ◌&&◌, ◌||◌, not, nat_lt, Bool, true, false, List, [], ◌∷◌, ◌++◌, length, Option, Some, None, refl, if◌then◌else◌}
+use Rattle.std.specs.Prelude.{◌≡◌, ℕ, ◌+◌, ◌==◌, ◌&&◌, ◌||◌, not, nat_lt, Bool, true, false, List, [], ◌∷◌, ◌++◌, length, map, Option, Some, None, refl, if◌then◌else◌}
 use Rattle.std.proofs.Common.{arith, sym, ap, ◌∙◌, subst, append_assoc, append-nil}
 use Rattle.std.proofs.lemmas.Bool.Decides.{nat_tests}
-use Rattle.std.proofs.lemmas.List.{length-append, map-append}
+use Rattle.std.proofs.lemmas.List.{length-append, length-map, map-append}
 use Rattle.mux_frame.specs.Frames.{Frame}
 use Rattle.mux_station.specs.declared.role.Role.TheVariants.{Responder}
 use Rattle.mux_station.specs.Acts as station
 use Rattle.mux_station.specs.Opening.{opens_now, belongs, since, since_after}
 use Rattle.mux_station.specs.Offering.{octets_offered, joined_octets}
-use Rattle.mux_station.specs.Written.{is_data_frame}
+use Rattle.mux_frame.specs.declared.frame.Kind.TheVariants.{Uih}
+use Rattle.mux_station.specs.Written.{is_data_frame, is_kind}
 use Rattle.at_text.specs.Lines.{kept_run}
 use Rattle.at_text.proofs.LineLemmas.{reads_on}
+use Rattle.modem_history.specs.Connections.{carries, info_got, info_of, unfinished_on, lines_ended, lines_with}
 use Rattle.modem_sim.specs.Laws.{after_lines}
 use Rattle.modem_sim.specs.Acts.{Act, Wire, End, wire, is_open}
-use Rattle.modem_sim.specs.Heard.{Heard, heard, heard_on, texts_of, modem_after, octets_got, run_on, lines_ended}
+use Rattle.modem_sim.specs.Heard.{heard, texts_of, texts_with, modem_after}
 use Rattle.modem_sim.specs.Pieces.{Piece, spelled, replies}
 use Rattle.modem_sim.specs.Outboxes.{Outbox, empty_box, outbox, said_after, dropped, say, replies_by, hold_on, lasts, is_empty, is_holding}
 use Rattle.modem_sim.specs.Boxes.{Box, Waited, BoxFits, FitsOpen, Brought, lasting, said_with, box_turned, hold_heard, box_heard}
@@ -22,24 +24,71 @@ use Rattle.modem_sim.proofs.ReplyingLemmas.{after_lines-append, kept_again}
 
 -- ## The modem and the count of lines
 
-texts_on : (d : ℕ) (ls : List (List ℕ)) → texts_of (heard_on d ls) ≡ ls
-texts_on d [] = refl
-texts_on d (l ∷ ls) = ap (λ x. l ∷ x) (texts_on d ls)
-
-length-heard_on : (d : ℕ) (ls : List (List ℕ)) → length (heard_on d ls) ≡ length ls
-length-heard_on d [] = refl
-length-heard_on d (l ∷ ls) = let more = length-heard_on d ls in omega arith
-
 -- the modem after a frame that comes
-pub modem_goes_on : (e : End) (past : List Act) (f : Frame) → modem_after e (Wire (station.Got f) ∷ past) ≡ after_lines (modem_after e past) (lines_ended past f)
+pub modem_goes_on : (e : End) (past : List Act) (f : Frame) → modem_after e (Wire (station.Got f) ∷ past) ≡ after_lines (modem_after e past) (texts_with past f)
 modem_goes_on e past f =
-    let ls = lines_ended past f in
-    ap (after_lines e.modem) (map-append (λ (h : Heard). h.line) (heard past) (heard_on f.dlci ls) ∙ ap (λ x. texts_of (heard past) ++ x) (texts_on f.dlci ls))
-    ∙ after_lines-append e.modem (texts_of (heard past)) ls
+    ap (after_lines e.modem) (map-append (λ (p : ℕ × List ℕ). p.1) (heard past) (lines_with Responder (wire past) f))
+    ∙ after_lines-append e.modem (texts_of (heard past)) (texts_with past f)
 
 -- and the lines that have come
-pub count_goes_on : (past : List Act) (f : Frame) → length (heard (Wire (station.Got f) ∷ past)) ≡ length (heard past) + length (lines_ended past f)
-count_goes_on past f = let ls = lines_ended past f in length-append (heard past) (heard_on f.dlci ls) ∙ ap (λ n. length (heard past) + n) (length-heard_on f.dlci ls)
+pub count_goes_on : (past : List Act) (f : Frame) → length (heard (Wire (station.Got f) ∷ past)) ≡ length (heard past) + length (texts_with past f)
+count_goes_on past f =
+    let ls = lines_with Responder (wire past) f in
+    length-append (heard past) ls ∙ ap (λ n. length (heard past) + n) (sym (length-map ls (λ (p : ℕ × List ℕ). p.1)))
+
+-- ## The lines of a frame
+
+same_connection : (m n : ℕ) → (m == n) ≡ true → m ≡ n
+same_connection m n is = grind (arith, nat_tests)
+
+-- information on d is that of a frame of data there
+carries_data : (d : ℕ) (f : Frame) → carries d f ≡ (is_data_frame f && (f.dlci == d))
+carries_data d f = by_here (f.dlci == d) refl
+  where
+    turned : (k z : Bool) → (not z && (k && true)) ≡ ((k && not z) && true)
+    turned true true = refl
+    turned true false = refl
+    turned false true = refl
+    turned false false = refl
+
+    none : (k z y : Bool) → (not z && (k && false)) ≡ ((k && not y) && false)
+    none true true true = refl
+    none true true false = refl
+    none true false true = refl
+    none true false false = refl
+    none false true y = refl
+    none false false y = refl
+
+    by_here : (here : Bool) → (f.dlci == d) ≡ here → carries d f ≡ (is_data_frame f && (f.dlci == d))
+    by_here true is =
+        let k = is_kind f.kind Uih in
+        let same = same_connection f.dlci d is in
+        ap (λ (b : Bool). not (d == 0) && (k && b)) is
+        ∙ turned k (d == 0)
+        ∙ ap (λ (n : ℕ). (k && not (n == 0)) && true) (sym same)
+        ∙ ap (λ (b : Bool). is_data_frame f && b) (sym is)
+    by_here false is =
+        let k = is_kind f.kind Uih in
+        ap (λ (b : Bool). not (d == 0) && (k && b)) is ∙ none k (d == 0) (f.dlci == 0) ∙ ap (λ (b : Bool). is_data_frame f && b) (sym is)
+
+-- a frame of data carries its own information
+carries_own : (f : Frame) → carries f.dlci f ≡ is_data_frame f
+carries_own f = carries_data f.dlci f ∙ ap (λ (b : Bool). is_data_frame f && b) (grind (arith, nat_tests)) ∙ alone (is_data_frame f)
+  where
+    alone : (b : Bool) → (b && true) ≡ b
+    alone true = refl
+    alone false = refl
+
+texts_at : (d : ℕ) (b : Bool) (ls : List (List ℕ)) → texts_of (if b then map (λ l. (d, l)) ls else []) ≡ (if b then ls else [])
+texts_at d false ls = refl
+texts_at d true [] = refl
+texts_at d true (l ∷ ls) = ap (λ x. l ∷ x) (texts_at d true ls)
+
+-- lines end in frames of data while their connection is open
+pub texts_are : (past : List Act) (f : Frame) → texts_with past f ≡ (if is_data_frame f && is_open f.dlci past then lines_ended Responder f.dlci (wire past) f else [])
+texts_are past f =
+    texts_at f.dlci (carries f.dlci f && is_open f.dlci past) (lines_ended Responder f.dlci (wire past) f)
+    ∙ ap (λ (b : Bool). if b && is_open f.dlci past then lines_ended Responder f.dlci (wire past) f else []) (carries_own f)
 
 -- ## The hold
 
@@ -49,11 +98,11 @@ some_ended (l ∷ ls) =
     let some : nat_lt 0 (length (l ∷ ls)) ≡ true = let size : length (l ∷ ls) ≡ 1 + length ls = omega arith in grind (arith, nat_tests) in
     sym some
 
-lasting_at : (past : List Act) (f : Frame) (d : ℕ) (over : Bool) → lasts past (station.Got f) (if over then None else Some d) ≡ (if over || ((f.dlci == d) && nat_lt 0 (length (lines_ended past f))) then None else Some d)
+lasting_at : (past : List Act) (f : Frame) (d : ℕ) (over : Bool) → lasts past (station.Got f) (if over then None else Some d) ≡ (if over || ((f.dlci == d) && nat_lt 0 (length (texts_with past f))) then None else Some d)
 lasting_at past f d true = refl
-lasting_at past f d false = ap (λ (b : Bool). if (f.dlci == d) && b then None else Some d) (some_ended (lines_ended past f))
+lasting_at past f d false = ap (λ (b : Bool). if (f.dlci == d) && b then None else Some d) (some_ended (texts_with past f))
 
-lasting_goes : (past : List Act) (f : Frame) (w : Option Waited) → lasts past (station.Got f) (lasting w) ≡ lasting (hold_heard f.dlci (length (lines_ended past f)) w)
+lasting_goes : (past : List Act) (f : Frame) (w : Option Waited) → lasts past (station.Got f) (lasting w) ≡ lasting (hold_heard f.dlci (length (texts_with past f)) w)
 lasting_goes past f None = refl
 lasting_goes past f (Some w) = lasting_at past f w.dlci w.over
 
@@ -70,8 +119,8 @@ held_before past a (Some e) is = refl
 
 -- what a frame brings, by the past
 pub record IsBrought (e : End) (past : List Act) (f : Frame) (x : Brought) : Type 0 where
-  pub run_is : is_open f.dlci past ≡ true → x.run ≡ kept_run (run_on f.dlci past ++ (if is_data_frame f then f.info else []))
-  pub said_is : x.said ≡ spelled (replies e.echo (modem_after e past) (lines_ended past f))
+  pub run_is : is_open f.dlci past ≡ true → x.run ≡ kept_run (unfinished_on Responder f.dlci (wire past) ++ (if is_data_frame f then f.info else []))
+  pub said_is : x.said ≡ spelled (replies e.echo (modem_after e past) (texts_with past f))
 
 taken_hold : (x : Brought) (w : Option Waited) (b : Box) → (said_with w b x.said).hold ≡ b.hold
 taken_hold x None b = refl
@@ -82,8 +131,10 @@ turned_hold true x b = taken_hold x b.hold b
 turned_hold false x b = refl
 
 -- the unfinished line after the frame
-run_more : (d : ℕ) (f : Frame) (rest : List station.Act) → kept_run (joined_octets (octets_got d) rest ++ octets_got d (station.Got f)) ≡ kept_run (kept_run (joined_octets (octets_got d) rest) ++ octets_got d (station.Got f))
-run_more d f rest = (reads_on (joined_octets (octets_got d) rest) (octets_got d (station.Got f))).keeps
+run_more : (d : ℕ) (f : Frame) (rest : List station.Act) → kept_run (info_got d (station.Got f ∷ rest)) ≡ kept_run (kept_run (info_got d rest) ++ (if is_data_frame f && (f.dlci == d) then f.info else []))
+run_more d f rest =
+    (reads_on (info_got d rest) (info_of d f)).keeps
+    ∙ ap (λ (b : Bool). kept_run (kept_run (info_got d rest) ++ (if b then f.info else []))) (carries_data d f)
 
 run_here : (brings here : Bool) (text info run own : List ℕ) → (here ≡ true → run ≡ kept_run (kept_run text ++ (if brings then info else []))) → own ≡ kept_run text → kept_run (kept_run text ++ (if brings && here then info else [])) ≡ (if here then run else own)
 run_here true true text info run own brought kept = sym (brought refl)
@@ -151,21 +202,21 @@ said_here o given before after false x b pieces back lasts apart is old = record
       ∙ append-nil b.held;
 }
 
-goes_run : (d : ℕ) (f : Frame) (x : Brought) (b : Box) (rest : List station.Act) (opens there : Bool) → (opens || there) ≡ true → (there ≡ true → kept_run (joined_octets (octets_got d) rest) ≡ b.run) → (there ≡ true → (f.dlci == d) ≡ true → x.run ≡ kept_run (kept_run (joined_octets (octets_got d) rest) ++ (if is_data_frame f then f.info else []))) → kept_run (joined_octets (octets_got d) (since_after opens there (station.Got f) rest)) ≡ (box_turned opens (f.dlci == d) x b).run
+goes_run : (d : ℕ) (f : Frame) (x : Brought) (b : Box) (rest : List station.Act) (opens there : Bool) → (opens || there) ≡ true → (there ≡ true → kept_run (info_got d rest) ≡ b.run) → (there ≡ true → (f.dlci == d) ≡ true → x.run ≡ kept_run (kept_run (info_got d rest) ++ (if is_data_frame f then f.info else []))) → kept_run (info_got d (since_after opens there (station.Got f) rest)) ≡ (box_turned opens (f.dlci == d) x b).run
 goes_run d f x b rest true there is before brought = refl
 goes_run d f x b rest false true is before brought =
     run_more d f rest
-    ∙ run_here (is_data_frame f) (f.dlci == d) (joined_octets (octets_got d) rest) f.info x.run b.run (brought refl) (sym (before refl))
+    ∙ run_here (is_data_frame f) (f.dlci == d) (info_got d rest) f.info x.run b.run (brought refl) (sym (before refl))
     ∙ sym (turned_run (f.dlci == d) x b)
 goes_run d f x b rest false false is before brought = cc
 
-goes_hold : (past : List Act) (f : Frame) (x : Brought) (b : Box) (h : Option ℕ) (opens there here : Bool) → (opens || there) ≡ true → (there ≡ true → h ≡ lasting b.hold) → (if there && not opens then lasts past (station.Got f) h else None) ≡ lasting (hold_heard f.dlci (length (lines_ended past f)) (box_turned opens here x b).hold)
+goes_hold : (past : List Act) (f : Frame) (x : Brought) (b : Box) (h : Option ℕ) (opens there here : Bool) → (opens || there) ≡ true → (there ≡ true → h ≡ lasting b.hold) → (if there && not opens then lasts past (station.Got f) h else None) ≡ lasting (hold_heard f.dlci (length (texts_with past f)) (box_turned opens here x b).hold)
 goes_hold past f x b h true true here is before = refl
 goes_hold past f x b h true false here is before = refl
 goes_hold past f x b h false true here is before =
     ap (lasts past (station.Got f)) (before refl)
     ∙ lasting_goes past f b.hold
-    ∙ ap (λ w. lasting (hold_heard f.dlci (length (lines_ended past f)) w)) (sym (turned_hold here x b))
+    ∙ ap (λ w. lasting (hold_heard f.dlci (length (texts_with past f)) w)) (sym (turned_hold here x b))
 goes_hold past f x b h false false here is before = cc
 
 taken_apart : (w : Option Waited) (x : Brought) (b : Box) → w ≡ None → b.held ≡ [] → (said_with w b x.said).held ≡ []
@@ -178,14 +229,14 @@ goes_apart x b false true true is apart none = let was = sym (taken_hold x b.hol
 goes_apart x b false true false is apart none = apart refl none
 goes_apart x b false false here is apart none = cc
 
-goes_said : (e : End) (past : List Act) (d : ℕ) (f : Frame) (x : Brought) (b : Box) (o : Outbox) (h : Option ℕ) (rest : List station.Act) (opens there : Bool) → (opens || there) ≡ true → (there ≡ true → IsSaid o (joined_octets (octets_offered d) rest) h b) → (there ≡ true → h ≡ lasting b.hold) → (there ≡ true → b.hold ≡ None → b.held ≡ []) → x.said ≡ spelled (replies e.echo (modem_after e past) (lines_ended past f)) → (there ≡ true → is_holding (hold_on d (Wire (station.Got f) ∷ past)) ≡ true → is_holding h ≡ true) → IsSaid (if opens then empty_box else if there && not opens then said_after e d past (station.Got f) o else dropped o) (joined_octets (octets_offered d) (since_after opens there (station.Got f) rest)) (hold_on d (Wire (station.Got f) ∷ past)) (box_turned opens (f.dlci == d) x b)
+goes_said : (e : End) (past : List Act) (d : ℕ) (f : Frame) (x : Brought) (b : Box) (o : Outbox) (h : Option ℕ) (rest : List station.Act) (opens there : Bool) → (opens || there) ≡ true → (there ≡ true → IsSaid o (joined_octets (octets_offered d) rest) h b) → (there ≡ true → h ≡ lasting b.hold) → (there ≡ true → b.hold ≡ None → b.held ≡ []) → x.said ≡ spelled (replies e.echo (modem_after e past) (texts_with past f)) → (there ≡ true → is_holding (hold_on d (Wire (station.Got f) ∷ past)) ≡ true → is_holding h ≡ true) → IsSaid (if opens then empty_box else if there && not opens then said_after e d past (station.Got f) o else dropped o) (joined_octets (octets_offered d) (since_after opens there (station.Got f) rest)) (hold_on d (Wire (station.Got f) ∷ past)) (box_turned opens (f.dlci == d) x b)
 goes_said e past d f x b o h rest true there is before lasts_so apart said back = record { all_is = refl; held_is = λ holds. refl }
 goes_said e past d f x b o h rest false true is before lasts_so apart said back =
     let given = joined_octets (octets_offered d) rest in
     let old = before refl in
     let moved : IsSaid o (given ++ []) h b = record { all_is = old.all_is ∙ ap (λ y. y ++ (b.unsent ++ b.held)) (sym (append-nil given)); held_is = old.held_is } in
     said_here o (given ++ []) h (hold_on d (Wire (station.Got f) ∷ past)) (f.dlci == d) x b (replies_by e d past f) (back refl) (lasts_so refl) (apart refl)
-    (replies_here (f.dlci == d) (replies e.echo (modem_after e past) (lines_ended past f)) x.said said)
+    (replies_here (f.dlci == d) (replies e.echo (modem_after e past) (texts_with past f)) x.said said)
     moved
 goes_said e past d f x b o h rest false false is before lasts_so apart said back = cc
 
@@ -199,11 +250,8 @@ was_open : (a b : Bool) → (a && b) ≡ true → a ≡ true
 was_open true b is = refl
 was_open false b is = cc
 
-same_connection : (m n : ℕ) → (m == n) ≡ true → m ≡ n
-same_connection m n is = grind (arith, nat_tests)
-
 -- after a frame what is kept of any connection is what the past says
-pub box_goes_on : (e : End) (past : List Act) (f : Frame) (x : Brought) (d : ℕ) (b : Box) → IsBrought e past f x → FitsOpen e d past b → FitsOpen e d (Wire (station.Got f) ∷ past) (box_heard f.dlci (length (lines_ended past f)) (box_turned (opens_now Responder d (wire past) (station.Got f)) (f.dlci == d) x b))
+pub box_goes_on : (e : End) (past : List Act) (f : Frame) (x : Brought) (d : ℕ) (b : Box) → IsBrought e past f x → FitsOpen e d past b → FitsOpen e d (Wire (station.Got f) ∷ past) (box_heard f.dlci (length (texts_with past f)) (box_turned (opens_now Responder d (wire past) (station.Got f)) (f.dlci == d) x b))
 box_goes_on e past f x d b brought fits there_open =
     let opens = opens_now Responder d (wire past) (station.Got f) in
     let there = belongs Responder d (wire past) (station.Got f) in
@@ -211,10 +259,10 @@ box_goes_on e past f x d b brought fits there_open =
     let rest = since Responder d (wire past) in
     let h = hold_on d past in
     let before : there ≡ true → BoxFits e d past b = λ is. fits (was_open (is_open d past) _ is) in
-    let came : there ≡ true → (f.dlci == d) ≡ true → x.run ≡ kept_run (run_on d past ++ (if is_data_frame f then f.info else [])) =
+    let came : there ≡ true → (f.dlci == d) ≡ true → x.run ≡ kept_run (unfinished_on Responder d (wire past) ++ (if is_data_frame f then f.info else [])) =
     λ is on.
     let same = same_connection f.dlci d on in
-    let At : ℕ → Type 0 = λ n. is_open n past ≡ true → x.run ≡ kept_run (run_on n past ++ (if is_data_frame f then f.info else [])) in
+    let At : ℕ → Type 0 = λ n. is_open n past ≡ true → x.run ≡ kept_run (unfinished_on Responder n (wire past) ++ (if is_data_frame f then f.info else [])) in
     subst At same brought.run_is (was_open (is_open d past) _ is) in
     let said = goes_said e past d f x b (outbox e d past) h rest opens there there_open
     (λ is. record { all_is = (before is).all_is; held_is = (before is).held_is })
@@ -227,7 +275,7 @@ box_goes_on e past f x d b brought fits there_open =
       held_is = said.held_is;
       apart = λ none.
           goes_apart x b opens there here there_open (λ is. (before is).apart)
-          (hold_none f.dlci (length (lines_ended past f)) (box_turned opens here x b).hold none);
+          (hold_none f.dlci (length (texts_with past f)) (box_turned opens here x b).hold none);
     }
 
 -- ## Acts other than frames that come
@@ -235,7 +283,7 @@ box_goes_on e past f x d b brought fits there_open =
 -- an act that brings no octets, ends no line and opens nothing
 pub record IsStill (d : ℕ) (past : List Act) (a : station.Act) : Type 0 where
   pub opens_none : opens_now Responder d (wire past) a ≡ false
-  pub brings_none : octets_got d a ≡ []
+  pub brings_none : (rest : List station.Act) → info_got d (a ∷ rest) ≡ info_got d rest
   pub ends_none : heard (Wire a ∷ past) ≡ heard past
   pub lasts_on : (h : Option ℕ) → lasts past a h ≡ h
   pub says_none : (e : End) (o : Outbox) → said_after e d past a o ≡ o
@@ -253,17 +301,17 @@ lasts_called past c None = refl
 lasts_called past c (Some e) = refl
 
 pub sent_still : (d : ℕ) (past : List Act) (f : Frame) → IsStill d past (station.Sent f)
-sent_still d past f = record { opens_none = refl; brings_none = refl; ends_none = refl; lasts_on = lasts_sent past f; says_none = λ e o. refl }
+sent_still d past f = record { opens_none = refl; brings_none = λ rest. refl; ends_none = refl; lasts_on = lasts_sent past f; says_none = λ e o. refl }
 
 pub given_still : (d : ℕ) (past : List Act) → IsStill d past station.Given
-given_still d past = record { opens_none = refl; brings_none = refl; ends_none = refl; lasts_on = lasts_given past; says_none = λ e o. refl }
+given_still d past = record { opens_none = refl; brings_none = λ rest. refl; ends_none = refl; lasts_on = lasts_given past; says_none = λ e o. refl }
 
 pub called_still : (d : ℕ) (past : List Act) (c : station.Call) → IsStill d past (station.Called c)
-called_still d past c = record { opens_none = refl; brings_none = refl; ends_none = refl; lasts_on = lasts_called past c; says_none = λ e o. refl }
+called_still d past c = record { opens_none = refl; brings_none = λ rest. refl; ends_none = refl; lasts_on = lasts_called past c; says_none = λ e o. refl }
 
-still_run : (d : ℕ) (a : station.Act) (rest : List station.Act) (opens there : Bool) → (opens || there) ≡ true → opens ≡ false → octets_got d a ≡ [] → kept_run (joined_octets (octets_got d) (since_after opens there a rest)) ≡ kept_run (joined_octets (octets_got d) rest)
+still_run : (d : ℕ) (a : station.Act) (rest : List station.Act) (opens there : Bool) → (opens || there) ≡ true → opens ≡ false → info_got d (a ∷ rest) ≡ info_got d rest → kept_run (info_got d (since_after opens there a rest)) ≡ kept_run (info_got d rest)
 still_run d a rest true there is none brings = cc
-still_run d a rest false true is none brings = ap (λ x. kept_run (joined_octets (octets_got d) rest ++ x)) brings ∙ ap kept_run (append-nil (joined_octets (octets_got d) rest))
+still_run d a rest false true is none brings = ap kept_run brings
 still_run d a rest false false is none brings = cc
 
 still_hold : (past : List Act) (a : station.Act) (h : Option ℕ) (opens there : Bool) → (opens || there) ≡ true → opens ≡ false → lasts past a h ≡ h → (if there && not opens then lasts past a h else None) ≡ h
@@ -296,7 +344,7 @@ box_still e past a d b unsent still offers fits there_open =
     let box = still_box e d past a (outbox e d past) opens there there_open still.opens_none (still.says_none e (outbox e d past)) in
     let hold = still_hold past a (hold_on d past) opens there there_open still.opens_none (still.lasts_on (hold_on d past)) in
     record {
-      run_is = still_run d a rest opens there there_open still.opens_none still.brings_none ∙ fit.run_is;
+      run_is = still_run d a rest opens there there_open still.opens_none (still.brings_none rest) ∙ fit.run_is;
       hold_is = hold ∙ fit.hold_is;
       all_is = ap (λ o. spelled o.said ++ spelled o.held) box ∙ fit.all_is ∙ ap (λ x. given ++ (x ++ b.held)) offers
           ∙ ap (λ x. given ++ x) (append_assoc (octets_offered d a) unsent b.held)

@@ -26,17 +26,18 @@ use Rattle.mux_station.specs.Opening.{opens_now}
 use Rattle.mux_station.proofs.Agrees.{opened_is_open}
 use Rattle.mux_station.proofs.Answering.{answers_keep, calls_control}
 use Rattle.at_text.specs.Lines.{lines, kept_run}
+use Rattle.modem_history.specs.Connections.{unfinished_on}
 use Rattle.modem_sim.specs.declared.state.ModemState.{ModemState}
 use Rattle.modem_sim.specs.Laws.{after_lines}
 use Rattle.modem_sim.specs.Pieces.{spelled, replies}
 use Rattle.modem_sim.proofs.ReplyingLemmas.{no_lines, kept_again}
 use Rattle.modem_sim.specs.Acts.{Act, Wire, End, setting, wire, is_open}
-use Rattle.modem_sim.specs.Heard.{heard, texts_of, modem_after, run_on, lines_ended}
+use Rattle.modem_sim.specs.Heard.{heard, texts_of, texts_with, modem_after}
 use Rattle.modem_sim.specs.Boxes.{Box, Brought, FitsOpen, fresh_box, queue_of, box_turned, box_heard}
 use Rattle.modem_sim.specs.Doing.{call_owed, done, is_closed_down}
 use Rattle.modem_sim.specs.Histories.{EachAllowed, got, sent}
 use Rattle.modem_sim.specs.Cores.{Core, Wired, IsLater, Fits, GoesOn, Takes, box_at, brought, closes_in, closes_all, counted, kept_in, lines_in, octets_in, opens_in, sent_after, answered, nothing_wired, that_act}
-use Rattle.modem_sim.proofs.BoxLemmas.{IsBrought, box_goes_on, count_goes_on, modem_goes_on, box_still, sent_still}
+use Rattle.modem_sim.proofs.BoxLemmas.{IsBrought, box_goes_on, count_goes_on, modem_goes_on, texts_are, box_still, sent_still}
 
 pub wire-sent_after : (fs : List Frame) (past : List Act) → wire (sent_after fs past) ≡ sending.sent_after fs (wire past)
 wire-sent_after [] past = refl
@@ -145,18 +146,19 @@ opened_is e w c past d small fits =
     ∙ opened_is_open c.station.role (wire past) d
     ∙ ap (λ r. opening.is_open r d (wire past)) (role_is c e fits.setting_is)
 
-lines_at : (e : End) (past : List Act) (d : ℕ) (b : Box) (info : List ℕ) (data_is there : Bool) → kept_run b.run ≡ b.run → is_open d past ≡ there → FitsOpen e d past b → lines (b.run ++ (if data_is && there then info else [])) ≡ (if data_is && there then lines (run_on d past ++ info) else [])
+lines_at : (e : End) (past : List Act) (d : ℕ) (b : Box) (info : List ℕ) (data_is there : Bool) → kept_run b.run ≡ b.run → is_open d past ≡ there → FitsOpen e d past b → lines (b.run ++ (if data_is && there then info else [])) ≡ (if data_is && there then lines (unfinished_on Responder d (wire past) ++ info) else [])
 lines_at e past d b info true true kept is fits = ap (λ r. lines (r ++ info)) (sym (fits is).run_is)
 lines_at e past d b info true false kept is fits = ap lines (append-nil b.run) ∙ no_lines b.run kept
 lines_at e past d b info false there kept is fits = ap lines (append-nil b.run) ∙ no_lines b.run kept
 
 -- the lines that it finds are those that end
-lines_are : (e : End) (w : Wired) (c : Core) (past : List Act) (f : Frame) → f.dlci < 62 → kept_run (box_at c f.dlci).run ≡ (box_at c f.dlci).run → Fits e w c past → lines_in c f ≡ lines_ended past f
+lines_are : (e : End) (w : Wired) (c : Core) (past : List Act) (f : Frame) → f.dlci < 62 → kept_run (box_at c f.dlci).run ≡ (box_at c f.dlci).run → Fits e w c past → lines_in c f ≡ texts_with past f
 lines_are e w c past f small kept fits =
     ap (λ (o : Bool). lines ((box_at c f.dlci).run ++ (if is_data_frame f && o then f.info else []))) (opened_is e w c past f.dlci small fits)
     ∙ lines_at e past f.dlci (box_at c f.dlci) f.info (is_data_frame f) (is_open f.dlci past) kept refl (fits.boxes_are f.dlci small)
+    ∙ sym (texts_are past f)
 
-run_at : (d : ℕ) (past : List Act) (run info : List ℕ) (data_is there : Bool) → there ≡ true → run_on d past ≡ run → kept_run (run ++ (if data_is && there then info else [])) ≡ kept_run (run_on d past ++ (if data_is then info else []))
+run_at : (d : ℕ) (past : List Act) (run info : List ℕ) (data_is there : Bool) → there ≡ true → unfinished_on Responder d (wire past) ≡ run → kept_run (run ++ (if data_is && there then info else [])) ≡ kept_run (unfinished_on Responder d (wire past) ++ (if data_is then info else []))
 run_at d past run info true true is same = ap (λ r. kept_run (r ++ info)) (sym same)
 run_at d past run info false there is same = ap (λ r. kept_run (r ++ [])) (sym same)
 run_at d past run info true false is same = cc
@@ -168,8 +170,8 @@ is_brought e w c past f small kept fits = record {
       ∙ run_at f.dlci past (box_at c f.dlci).run f.info (is_data_frame f) (is_open f.dlci past) there (fits.boxes_are f.dlci small there).run_is;
   said_is =
       ap (λ ls. spelled (replies c.echo c.modem ls)) (lines_are e w c past f small kept fits)
-      ∙ ap (λ (o : Bool). spelled (replies o c.modem (lines_ended past f))) fits.echo_is
-      ∙ ap (λ m. spelled (replies e.echo m (lines_ended past f))) (sym fits.modem_is);
+      ∙ ap (λ (o : Bool). spelled (replies o c.modem (texts_with past f))) fits.echo_is
+      ∙ ap (λ m. spelled (replies e.echo m (texts_with past f))) (sym fits.modem_is);
 }
 
 -- a frame opens no other connection
@@ -247,7 +249,7 @@ takes_goes_on old new f small all kept takes e w past fits =
     let whole = sym (wire-sent_after fs (Wire (station.Got f) ∷ past)) in
     let inside : f.dlci < length old.boxes = omega arith in
     let lines = lines_are e w old past f small kept fits in
-    let count : length (lines_in old f) ≡ length (lines_ended past f) = ap length lines in
+    let count : length (lines_in old f) ≡ length (texts_with past f) = ap length lines in
     let station_fits = subst By fits.setting_is (takes.at_station.fits (wire past) fits.station_is) in
     let begun = later-sent_after fs (Wire (station.Got f) ∷ past) in
     record {
@@ -274,8 +276,8 @@ takes_goes_on old new f small all kept takes e w past fits =
             (subst OpenWith (sym (turned ∙ heard_so)) (box_goes_on e past f (brought old f) d (box_at old d) (is_brought e w old past f small kept fits) (fits.boxes_are d d_small)));
         come_is = ap (λ hs. counted (length hs)) heard_is
             ∙ ap counted (count_goes_on past f)
-            ∙ capped (length (heard past)) (length (lines_ended past f)) (nat_le (2 ^ 64 - 1) (length (heard past))) refl
-            ∙ ap (λ n. counted (n + length (lines_ended past f))) fits.come_is
+            ∙ capped (length (heard past)) (length (texts_with past f)) (nat_le (2 ^ 64 - 1) (length (heard past))) refl
+            ∙ ap (λ n. counted (n + length (texts_with past f))) fits.come_is
             ∙ ap (λ n. counted (old.come + n)) (sym count)
             ∙ sym takes.come_is;
         left_is = ap (λ ds. drop (length ds) (that_act e.steps)) (done-sent_after fs (Wire (station.Got f) ∷ past)) ∙ fits.left_is ∙ ap that_act (sym takes.steps_are);

@@ -11,13 +11,14 @@ use Rattle.mux_station.specs.Acts as station
 use Rattle.mux_station.specs.Opening.{opens_now, belongs, since, since_after}
 use Rattle.mux_station.specs.Offering.{offered, given, octets_offered, joined_octets}
 use Rattle.mux_station.proofs.Answering.{gives_beginning}
+use Rattle.modem_history.specs.Wholes.{IsPrefixOf}
 use Rattle.modem_sim.specs.declared.script.Step.{Step}
 use Rattle.modem_sim.specs.declared.script.StepAct.TheVariants.{Announce, Flow, Hold, Disconnect, CloseDown}
 use Rattle.modem_sim.specs.Acts.{Act, Wire, Did, End, wire, setting}
 use Rattle.modem_sim.specs.Pieces.{Piece, Announced, octets_of, spelled}
 use Rattle.modem_sim.specs.Outboxes.{Outbox, empty_box, outbox, say, said_after, dropped, replies_by, hold_on, is_holding}
 use Rattle.modem_sim.specs.Doing.{acts, done}
-use Rattle.modem_sim.specs.Histories.{Lawful, Allows, EachAllowed, IsOffer, IsPrefixOf, LeavesInPieces, DoesInOrder}
+use Rattle.modem_sim.specs.Histories.{Lawful, Allows, EachAllowed, IsOffer, LeavesInPieces, DoesInOrder}
 
 pub spelled-append : (a b : List Piece) → spelled (a ++ b) ≡ spelled a ++ spelled b
 spelled-append [] b = refl

@@ -22,10 +22,11 @@ use Rattle.modem_sim.specs.Steps.{started, step, step_by, refusal_of, obeyed_unl
 use Rattle.modem_sim.specs.Laws.{IsStart, after_lines, reached}
 use Rattle.modem_sim.proofs.ReadingLemmas.{command_reads}
 
--- a number stands for itself, a name holds no quote
+-- a number stands for itself, a name is one and holds no quote
 pub record IsContextKept (c : PdpContext) : Type 0 where
   pub cid : c.cid < 256
   pub apn : list_any is_quote c.apn ≡ false
+  pub name : is_apn c.apn ≡ true
 
 abbrev pub AreContextsKept : List PdpContext → Type 0
 AreContextsKept [] = Unit {0}
@@ -34,7 +35,7 @@ AreContextsKept (c ∷ contexts) = IsContextKept c × AreContextsKept contexts
 abbrev pub IsOperKept : OperChoice → Type 0
 IsOperKept Automatic = Unit {0}
 IsOperKept Deregister = Unit {0}
-IsOperKept (Manual oper) = list_any is_quote oper ≡ false
+IsOperKept (Manual oper) = (list_any is_quote oper ≡ false) × (is_oper oper ≡ true)
 
 pub record IsKept (s : ModemState) : Type 0 where
   pub reports : s.reports < 256
@@ -71,7 +72,7 @@ context_may false false may = cc
 new_kept : (new : PdpContext) → is_cid new.cid ≡ true → is_apn new.apn ≡ true → IsContextKept new
 new_kept new number name =
     let small = cid_small new.cid number in
-    record { cid = omega arith; apn = none_quoted is_in_apn apn_not_quote new.apn (run_is is_in_apn 1 63 new.apn name).all }
+    record { cid = omega arith; apn = none_quoted is_in_apn apn_not_quote new.apn (run_is is_in_apn 1 63 new.apn name).all; name = name }
 
 with_kept_at : (new c : PdpContext) (contexts rest : List PdpContext) (below same : Bool) → IsContextKept new → IsContextKept c → AreContextsKept contexts → AreContextsKept rest → AreContextsKept (if below then c ∷ rest else if same then new ∷ contexts else new ∷ c ∷ contexts)
 with_kept_at new c contexts rest true same n k ks rs = (k, rs)
@@ -95,8 +96,9 @@ after_kept s OperQuery kept may = kept
 after_kept s (OperChoose Automatic) kept may = record { reports = kept.reports; oper = tt; contexts = kept.contexts; rssi = kept.rssi; ber = kept.ber }
 after_kept s (OperChoose Deregister) kept may = record { reports = kept.reports; oper = tt; contexts = kept.contexts; rssi = kept.rssi; ber = kept.ber }
 after_kept s (OperChoose (Manual oper)) kept may =
-    let run = run_is is_digit 5 6 oper (not_refused (is_oper oper) BadNumber may) in
-    record { reports = kept.reports; oper = none_quoted is_digit digit_not_quote oper run.all; contexts = kept.contexts; rssi = kept.rssi; ber = kept.ber }
+    let number = not_refused (is_oper oper) BadNumber may in
+    let run = run_is is_digit 5 6 oper number in
+    record { reports = kept.reports; oper = (none_quoted is_digit digit_not_quote oper run.all, number); contexts = kept.contexts; rssi = kept.rssi; ber = kept.ber }
 after_kept s (ContextSet cid pdp apn) kept may =
     let tests = context_may (is_cid cid) (is_apn apn) may in
     let new : PdpContext = record { cid = cid; pdp = pdp; apn = apn } in

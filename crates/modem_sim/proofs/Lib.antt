@@ -24,4 +24,7 @@ pub mod RoomLemmas
 pub mod SilentLemmas
 pub mod IdleLemmas
 pub mod MeaningLemmas
+pub mod ToldLemmas
+pub mod SoundLemmas
+pub mod RepliedLemmas
 pub mod TurnFacts

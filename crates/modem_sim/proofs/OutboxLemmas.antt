@@ -10,12 +10,12 @@ use Rattle.modem_sim.specs.declared.script.StepAct.TheVariants.{Announce, Flow, 
 use Rattle.modem_sim.specs.declared.state.ModemState.{ModemState}
 use Rattle.modem_sim.specs.Steps.{step}
 use Rattle.modem_sim.specs.Acts.{Act, Wire, Did, End, wire, is_open}
-use Rattle.modem_sim.specs.Heard.{lines_ended, modem_after}
+use Rattle.modem_sim.specs.Heard.{modem_after, texts_with}
 use Rattle.modem_sim.specs.Pieces.{Piece, Echo, Answer, Announced, answers, reply, replies, asked_for}
 use Rattle.modem_sim.specs.Outboxes.{Outbox, empty_box, outbox, say, said_after, dropped, replies_by, replies_after, hold_on, is_holding, replies_since}
 use Rattle.modem_sim.specs.Histories.{SaysReplies}
 
-asked_for-append : (a b : List Piece) → asked_for (a ++ b) ≡ asked_for a ++ asked_for b
+pub asked_for-append : (a b : List Piece) → asked_for (a ++ b) ≡ asked_for a ++ asked_for b
 asked_for-append [] b = refl
 asked_for-append (Echo line ∷ a) b = ap (λ x. Echo line ∷ x) (asked_for-append a b)
 asked_for-append (Answer line ∷ a) b = ap (λ x. Answer line ∷ x) (asked_for-append a b)
@@ -42,7 +42,7 @@ chosen_asked true pieces is = is
 chosen_asked false pieces is = refl
 
 replies_asked : (e : End) (d : ℕ) (past : List Act) (f : Frame) → asked_for (replies_by e d past f) ≡ replies_by e d past f
-replies_asked e d past f = chosen_asked (f.dlci == d) (replies e.echo (modem_after e past) (lines_ended past f)) (asked_replies e.echo (modem_after e past) (lines_ended past f))
+replies_asked e d past f = chosen_asked (f.dlci == d) (replies e.echo (modem_after e past) (texts_with past f)) (asked_replies e.echo (modem_after e past) (texts_with past f))
 
 -- all that is asked for in an outbox
 abbrev asked_in : Outbox → List Piece

@@ -164,7 +164,7 @@ oper_told : (oper : OperChoice) → IsOperKept oper → reply_of OperQuery (good
 unfolding fault_of first_named parameters oper_of number_of unquoted
 oper_told Automatic kept = refl
 oper_told Deregister kept = refl
-oper_told (Manual oper) kept = ap (formed 0) (manual_at oper kept)
+oper_told (Manual oper) kept = ap (formed 0) (manual_at oper kept.0)
 
 attached_told : (attached : Bool) → reply_of AttachQuery (good_answer (attached_text attached ∷ [])) ≡ Ok (Attached attached)
 unfolding fault_of first_named

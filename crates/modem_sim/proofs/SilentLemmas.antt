@@ -1,23 +1,23 @@
 -- Connection 0 says nothing.
-use Rattle.std.specs.Prelude.{◌≡◌, ℕ, zero, suc, ◌==◌, ◌&&◌, not, Bool, true, false, List, [], ◌∷◌, ◌++◌, length, drop, filter, refl, if◌then◌else◌}
+use Rattle.std.specs.Prelude.{◌≡◌, ℕ, zero, suc, ◌==◌, ◌&&◌, not, Bool, true, false, List, [], ◌∷◌, ◌++◌, length, drop, filter, map, refl, if◌then◌else◌}
 use Rattle.std.proofs.Common.{ap, sym, ◌∙◌}
 use Rattle.mux_frame.specs.Frames.{Frame}
 use Rattle.mux_frame.specs.declared.frame.Kind.TheVariants.{Uih}
 use Rattle.mux_station.specs.declared.role.Role.TheVariants.{Responder}
 use Rattle.mux_station.specs.Acts as station
-use Rattle.mux_station.specs.Written.{is_kind}
+use Rattle.mux_station.specs.Written.{is_kind, is_on}
 use Rattle.mux_station.specs.Opening.{opens_now, belongs, since}
 use Rattle.mux_station.specs.Offering.{given, joined_octets, octets_sent}
 use Rattle.modem_sim.specs.declared.script.Step.{Step}
 use Rattle.modem_sim.specs.declared.script.StepAct.{StepAct}
 use Rattle.modem_sim.specs.declared.script.StepAct.TheVariants.{Announce, Flow, Hold, Disconnect, CloseDown}
 use Rattle.modem_sim.specs.Acts.{Act, Wire, Did, End, wire, is_open}
-use Rattle.modem_sim.specs.Heard.{modem_after, run_on}
+use Rattle.modem_sim.specs.Heard.{modem_after, texts_of}
 use Rattle.modem_sim.specs.Pieces.{Piece, replies}
 use Rattle.modem_sim.specs.Outboxes.{Outbox, empty_box, outbox, dropped, said_after, say, replies_by, hold_on, is_holding}
 use Rattle.modem_sim.specs.Doing.{acts, done as steps_done}
 use Rattle.modem_sim.specs.Histories.{EachAllowed, MayDo}
-use Rattle.at_text.specs.Lines.{lines}
+use Rattle.modem_history.specs.Connections.{lines_ended}
 
 -- ## What left
 
@@ -61,7 +61,7 @@ first_acts_at (s ∷ steps) n next later is = by_test (λ m same. first_acts_at 
     by_test others false does n same = others n same
 
 -- a step that is done acts
-does_act : (e : End) (past : List Act) (act : StepAct) → MayDo e past act → acts act ≡ true
+pub does_act : (e : End) (past : List Act) (act : StepAct) → MayDo e past act → acts act ≡ true
 does_act e past act may =
     ap acts (sym may.due.is_its) ∙ first_acts_at e.steps (length (steps_done past)) may.due.next may.due.later may.due.is_first
 
@@ -70,11 +70,10 @@ not_zero true b is = cc
 not_zero false b is = refl
 
 none_by : (e : End) (past : List Act) (f : Frame) → replies_by e 0 past f ≡ []
-none_by e past f = by_test (f.dlci == 0) (is_kind f.kind Uih) (is_open f.dlci past)
+none_by e past f = by_test (f.dlci == 0) (is_on Uih f.dlci f) (is_open f.dlci past)
   where
-    by_test : (here k there : Bool) → (if here then replies e.echo (modem_after e past) (if (k && not here) && there then lines (run_on f.dlci past ++ f.info) else []) else []) ≡ []
-    by_test true true there = refl
-    by_test true false there = refl
+    by_test : (here k there : Bool) → (if here then replies e.echo (modem_after e past) (texts_of (if (not here && k) && there then map (λ l. (f.dlci, l)) (lines_ended Responder f.dlci (wire past) f) else [])) else []) ≡ []
+    by_test true k there = refl
     by_test false k there = refl
 
 says_none_more : (holds : Bool) (b : Outbox) (pieces : List Piece) → pieces ≡ [] → SaysNone b → SaysNone (say holds b pieces)

@@ -4,7 +4,7 @@ use Rattle.mux_station.specs.declared.role.Role.TheVariants.{Responder}
 use Rattle.mux_station.specs.Offering.{offered}
 use Rattle.modem_sim.specs.declared.channel.Wanted.{Wanted}
 use Rattle.modem_sim.specs.Acts.{Act, End, wire, is_open}
-use Rattle.modem_sim.specs.Heard.{run_on}
+use Rattle.modem_history.specs.Connections.{unfinished_on}
 use Rattle.modem_sim.specs.Pieces.{framed, spelled}
 use Rattle.modem_sim.specs.Outboxes.{outbox, hold_on, is_holding}
 
@@ -34,7 +34,7 @@ lasting (Some w) = if w.over then None else Some w.dlci
 
 -- while the connection is open, each of them is what the past says
 pub record BoxFits (e : End) (d : ℕ) (past : List Act) (b : Box) : Type 0 where
-  pub run_is : run_on d past ≡ b.run
+  pub run_is : unfinished_on Responder d (wire past) ≡ b.run
   pub hold_is : hold_on d past ≡ lasting b.hold
   -- what is said and held back, all together
   pub all_is :

@@ -1,49 +1,23 @@
--- The command lines that came, over all connections and all their openings (V.250, 5.2.1).
-use Rattle.std.specs.Prelude.{ℕ, ◌==◌, ◌&&◌, List, [], ◌∷◌, ◌++◌, map, if◌then◌else◌}
+-- The command lines that came to a modem, over all connections and all their openings, and the modem after them (V.250, 5.2.1).
+use Rattle.std.specs.Prelude.{ℕ, List, map}
 use Rattle.mux_frame.specs.Frames.{Frame}
 use Rattle.mux_station.specs.declared.role.Role.TheVariants.{Responder}
-use Rattle.mux_station.specs.Acts as station
-use Rattle.mux_station.specs.Opening.{since}
-use Rattle.mux_station.specs.Offering.{joined_octets}
-use Rattle.mux_station.specs.Written.{is_data_frame}
-use Rattle.at_text.specs.Lines.{lines, kept_run}
+use Rattle.modem_history.specs.Connections.{lines_got, lines_with}
 use Rattle.modem_sim.specs.declared.state.ModemState.{ModemState}
 use Rattle.modem_sim.specs.Laws.{after_lines}
-use Rattle.modem_sim.specs.Acts.{Act, Wire, End, wire, is_open}
+use Rattle.modem_sim.specs.Acts.{Act, End, wire}
 
-abbrev pub octets_got : ℕ → station.Act → List ℕ
-octets_got d (station.Got f) = if is_data_frame f && (f.dlci == d) then f.info else []
-octets_got d _ = []
+-- lines without the connections on which they came
+abbrev pub texts_of : List (ℕ × List ℕ) → List (List ℕ)
+texts_of ls = map (λ (p : ℕ × List ℕ). p.1) ls
 
--- the information in of d since it opened
-abbrev pub information_in : ℕ → List Act → List ℕ
-information_in d past = joined_octets (octets_got d) (since Responder d (wire past))
+-- all lines, each with its connection, in the order of the frames in which they end
+abbrev pub heard : List Act → List (ℕ × List ℕ)
+heard past = lines_got Responder (wire past)
 
--- what is kept of the line that is unfinished at its end
-abbrev pub run_on : ℕ → List Act → List ℕ
-run_on d past = kept_run (information_in d past)
-
--- the lines that end in a frame that comes: lines can be read on from what is kept of the unfinished one
-abbrev pub lines_ended : List Act → Frame → List (List ℕ)
-lines_ended past f =
-    if is_data_frame f && is_open f.dlci past then lines (run_on f.dlci past ++ f.info) else []
-
--- a line and the connection on which it came
-pub record Heard : Type 0 where
-  pub dlci : ℕ
-  pub line : List ℕ
-
-abbrev pub heard_on : ℕ → List (List ℕ) → List Heard
-heard_on d ls = map (λ l. record { dlci = d; line = l }) ls
-
--- all lines, in the order of the frames in which they end
-abbrev pub heard : List Act → List Heard
-heard [] = []
-heard (Wire (station.Got f) ∷ past) = heard past ++ heard_on f.dlci (lines_ended past f)
-heard (_ ∷ past) = heard past
-
-abbrev pub texts_of : List Heard → List (List ℕ)
-texts_of hs = map (λ (h : Heard). h.line) hs
+-- those that end in a frame that comes
+abbrev pub texts_with : List Act → Frame → List (List ℕ)
+texts_with past f = texts_of (lines_with Responder (wire past) f)
 
 -- the modem after all lines that came: one modem for all connections
 abbrev pub modem_after : End → List Act → ModemState

@@ -9,6 +9,7 @@ use Rattle.mux_station.specs.Acts as station
 use Rattle.mux_station.specs.Sending as sending
 use Rattle.mux_station.specs.Stopping.{is_stopped}
 use Rattle.mux_station.specs.Offering.{offered, given}
+use Rattle.modem_history.specs.Wholes.{IsPrefixOf}
 use Rattle.modem_sim.specs.declared.script.Step.{Step}
 use Rattle.modem_sim.specs.declared.script.StepAct.{StepAct}
 use Rattle.modem_sim.specs.declared.state.ModemState.{ModemState}
@@ -97,10 +98,6 @@ AllIsOut e past =
     → hold_on d past ≡ None → given Responder d (wire past) ≡ spelled (outbox e d past).said
 
 -- ## Laws
-
-pub record IsPrefixOf (xs ys : List ℕ) : Type 0 where
-  pub rest : List ℕ
-  pub joins : xs ++ rest ≡ ys
 
 -- what left on a connection since it opened is the beginning of what is said there, piece by piece
 abbrev pub LeavesInPieces : End → List Act → Type 0

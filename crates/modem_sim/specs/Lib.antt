@@ -11,6 +11,7 @@ pub mod Outboxes
 pub mod Doing
 pub mod Histories
 pub mod HistoryRows
+pub mod Replied
 pub mod Boxes
 pub mod Cores
 pub mod Sims

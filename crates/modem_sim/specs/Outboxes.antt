@@ -6,7 +6,7 @@ use Rattle.mux_station.specs.Acts as station
 use Rattle.mux_station.specs.Opening.{opens_now, belongs}
 use Rattle.modem_sim.specs.declared.script.StepAct.TheVariants.{Announce, Hold}
 use Rattle.modem_sim.specs.Acts.{Act, Wire, Did, End, wire}
-use Rattle.modem_sim.specs.Heard.{lines_ended, modem_after}
+use Rattle.modem_sim.specs.Heard.{modem_after, texts_with}
 use Rattle.modem_sim.specs.Pieces.{Piece, Announced, replies}
 
 abbrev pub is_empty : List (List ℕ) → Bool
@@ -15,7 +15,7 @@ is_empty (l ∷ ls) = false
 
 -- a command ends on e in this act
 abbrev pub brings_command : ℕ → List Act → station.Act → Bool
-brings_command e past (station.Got f) = (f.dlci == e) && not (is_empty (lines_ended past f))
+brings_command e past (station.Got f) = (f.dlci == e) && not (is_empty (texts_with past f))
 brings_command e past _ = false
 
 -- d goes on being open, and wasn't opened anew
@@ -45,7 +45,7 @@ empty_box = record { said = []; held = [] }
 -- the replies to the lines on d that end in a frame
 abbrev pub replies_by : End → ℕ → List Act → Frame → List Piece
 replies_by e d past f =
-    if f.dlci == d then replies e.echo (modem_after e past) (lines_ended past f) else []
+    if f.dlci == d then replies e.echo (modem_after e past) (texts_with past f) else []
 
 abbrev pub is_holding : Option ℕ → Bool
 is_holding h = not (is_none h)

@@ -4,12 +4,13 @@ use Rattle.mux_frame.specs.Frames.{Frame}
 use Rattle.serial_line.specs.Counts.{one_more}
 use Rattle.mux_station.specs.Acts as station
 use Rattle.mux_station.specs.Sending as sending
+use Rattle.modem_history.specs.Wholes.{IsPrefixOf}
 use Rattle.modem_sim.specs.declared.script.StepAct.{StepAct}
 use Rattle.modem_sim.specs.declared.sim.SimTurn.{SimTurn}
 use Rattle.modem_sim.specs.declared.sim.SimTurn.TheVariants.{Moved, Idle, Ended}
 use Rattle.modem_sim.specs.Acts.{Act, End, setting, wire}
 use Rattle.modem_sim.specs.Doing.{IsDue, call_of}
-use Rattle.modem_sim.specs.Histories.{IsThrough, IsPrefixOf, AllIsOut}
+use Rattle.modem_sim.specs.Histories.{IsThrough, AllIsOut}
 use Rattle.modem_sim.specs.Cores.{IsLater, all_unhanded}
 use Rattle.modem_sim.specs.Sims.{Kept, LineAt, SimState, FitsSim, is_ended}
 

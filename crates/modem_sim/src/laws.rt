@@ -8,6 +8,7 @@ ghost use Rattle.modem_sim.specs.Laws.{IsStart, AnswersWellAlways, SetsOne, AreI
 ghost use Rattle.modem_sim.specs.Rows.{PinEntered, ThreeWrongPins, ErrorInWords, NetworkLeft};
 ghost use Rattle.modem_sim.specs.Acts.{Act, End};
 ghost use Rattle.modem_sim.specs.Histories.{Lawful, LeavesInPieces, SaysReplies, DoesInOrder};
+ghost use Rattle.modem_sim.specs.Replied.{AnswersInLines, SendsReplies};
 ghost use Rattle.modem_sim.specs.Sims.{IsOver, Kept, KeptFits, Simulates, is_ended};
 ghost use Rattle.modem_sim.specs.TurnRows.{MovedRows, RightIdle, WrongIdle};
 ghost use Rattle.modem_sim.specs.HistoryRows.{GoodRows, WrongAnswers, WrongSteps, WrongOtherwise};
@@ -51,6 +52,15 @@ pub fn histories()
     ensures leaves { (e : End) (past : List Act) → Lawful e past → LeavesInPieces e past }
     ensures replies { (e : End) (past : List Act) → SaysReplies e past }
     ensures steps { (e : End) (past : List Act) → Lawful e past → DoesInOrder e past }
+{}
+
+/// Each line of an answer is one line as the other end reads it, and no command line. Of what left on a connection that
+/// was asked for once, the lines that aren't unsolicited are the first of the replies to the lines that came on it, each
+/// from the one modem after all lines before it, where what is announced is unsolicited.
+#[tactic(auto, using(crate::proofs::ToldLemmas::answers_in_lines, crate::proofs::RepliedLemmas::sends_replies))]
+pub fn replies()
+    ensures lines { (start : ModemStart) → IsStart start → AnswersInLines start }
+    ensures sent { (e : End) (past : List Act) → SendsReplies e past }
 {}
 
 /// Worked histories, computed by the definitions: those of a right simulated modem are kept, and those that a wrong one
