@@ -87,6 +87,19 @@ impl Open {
             fresh: self.fresh,
         }
     }
+
+    fn copy(&self) -> Result<Open, AllocError>
+        ensures { IfOk result (λ copy. copy ≡ self.now) }
+    {
+        let lines = self.lines.copy()?;
+        let mut command = ArrayVec::new();
+        let _ = command.try_extend_from_slice(self.command.as_slice());
+        Ok(Open {
+            command,
+            lines,
+            fresh: self.fresh,
+        })
+    }
 }
 
 /// Tells which lines answer the command under way. Contracts see that command, if there is one.
@@ -149,6 +162,21 @@ impl Window {
     {
         let seen = self.place(line)?;
         Ok(seen)
+    }
+
+    /// A window that fits the same past. 4 NoMemory.
+    pub fn copy(&self) -> Result<Window, TextError>
+        ensures copy { IfOk result (λ copy. copy ≡ self.now) }
+        ensures refused { IfErr result (λ why. why ≡ TextError.NoMemory) }
+    {
+        let open = match &self.open {
+            Some(open) => Some(open.copy()?),
+            None => None,
+        };
+        Ok(Window {
+            open,
+            alloc: self.alloc,
+        })
     }
 
     /// A window of the same command with none of its lines, on which lines can be seen and let go of again.
