@@ -5,6 +5,7 @@ pub mod Listening
 pub mod Parts
 pub mod Kinds
 pub mod Keeping
+pub mod Ending
 pub mod Calls
 pub mod Ticking
 pub mod Lines

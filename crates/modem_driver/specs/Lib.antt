@@ -21,6 +21,7 @@ pub mod Headline
 pub mod HeadlineRows
 pub mod Entries
 pub mod WaitingLists
+pub mod Endings
 pub mod SessionStates
 pub mod Numbers
 pub mod TurnSteps

@@ -130,7 +130,7 @@ pub record Gets (old new : Standing) (moved : Bool) : Type 0 where
   pub moved_is : moved ≡ list_any is_more acts
   pub still : moved ≡ false → (acts ≡ []) × (new ≡ old)
   pub no_room : (f : Frame) → moved ≡ false → old.kept.deframer.next ≡ Some f → (¬ IsIdle old.kept.core) × ((b : Beginning) (past : List Act) → StandingFits b old past → has_room_for b past f ≡ false)
-  pub stays : new ≡ record old { kept = record old.kept { core = new.kept.core; deframer = new.kept.deframer; unplaced = new.kept.unplaced; unannounced = new.kept.unannounced } }
+  pub stays : new ≡ record old { kept = record old.kept { core = new.kept.core; deframer = new.kept.deframer; unplaced = new.kept.unplaced; unannounced = new.kept.unannounced; course = new.kept.course } }
 
 -- ## Octets are read and fed
 

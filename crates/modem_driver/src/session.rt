@@ -7,6 +7,7 @@ ghost use Rattle.at_text.specs.declared.unsolicited.UrcKind.{UrcKind};
 ghost use Rattle.modem_driver.specs.declared.session.error.SessionError.TheVariants as why;
 ghost use Rattle.modem_driver.specs.declared.session.error.SessionFault.TheVariants as fault;
 
+mod ending;
 mod error;
 mod exchanging;
 mod getting;
@@ -22,6 +23,8 @@ mod waiting;
 
 use crate::run::KINDS;
 use at_text::UrcKind;
+pub(crate) use ending::Asker;
+pub use ending::Ended;
 pub use error::{SessionError, SessionFault, SessionRefused};
 use kept::Kept;
 use modem_desk::{DriverEnd, Outcome, Request, Urc};

@@ -8,6 +8,7 @@ ghost use Rattle.modem_driver.specs.declared.session.error.SessionFault.TheVaria
 
 use crate::driver::Core;
 use crate::error::CoreError;
+use crate::session::ending::Course;
 use crate::session::error::{SessionError, SessionFault};
 use crate::session::input::Input;
 use crate::session::output::Output;
@@ -19,7 +20,7 @@ use std::alloc::Global;
 use std::marker::Model;
 
 /// The core, the octets that come and go, what waits for a place at the desk, a request kept aside,
-/// and whether a call on the line has failed.
+/// whether a call on the line has failed, and how far it has come on the way to its end.
 #[derive(Drop)]
 pub(crate) struct Kept {
     pub(super) core: Core,
@@ -29,6 +30,7 @@ pub(crate) struct Kept {
     pub(super) output: Output,
     pub(super) waiting: Waiting,
     pub(super) faulty: bool,
+    pub(super) course: Course,
 }
 
 impl Model for Kept {
@@ -46,6 +48,7 @@ impl Model for Kept {
       unplaced = k.waiting.outcomes;
       unannounced = k.waiting.lines;
       faulty = k.faulty;
+      course = k.course;
     } };
 
     ghost invariant = { λ k. k.core.station.n1 ≡ k.deframer.n1 };
@@ -76,6 +79,7 @@ impl Kept {
             output: Output::new(alloc)?,
             waiting: Waiting::new(alloc)?,
             faulty: false,
+            course: Course::GoesOn,
         })
     }
 
@@ -90,9 +94,11 @@ impl Kept {
         if self.core.lost {
             return Err(SessionFault::Failed);
         }
+        let stop = self.core.stop();
         let Ok(acts) = self.core.tick() else {
             return Err(SessionFault::NoMemory);
         };
+        self.course.note(stop, acts.as_slice());
         self.waiting.keep(acts);
         Ok(())
     }
