@@ -72,6 +72,10 @@ HasCome b v past course.GoesOn = Unit {0}
 HasCome b v past course.Stopped = has_stopped past ≡ true
 HasCome b v past (course.Ended end) = IsEnd b v past end
 
+-- an end that a poll gave stays
+abbrev pub KeepsEnd : (old new : Course) → Type 0
+KeepsEnd old new = (end : Result Ended SessionFault) → old ≡ course.Ended end → new ≡ course.Ended end
+
 -- ## How it is noted
 
 abbrev pub asker_of : Request → Asker

@@ -1,5 +1,5 @@
 //! The driver between its callers and the line.
-ghost use Rattle.std.specs.Prelude.{◌≡◌, ◌≢◌, ◌↔◌, ◌+◌, ◌<◌, ◌≤◌, ◌⊎◌, List, [], length, replicate, map, find, option_map, vec_capacity, IfOk, IsErrOf, OnErr};
+ghost use Rattle.std.specs.Prelude.{◌≡◌, ◌≢◌, ◌↔◌, ◌+◌, ◌<◌, ◌≤◌, ◌⊎◌, List, [], length, replicate, map, find, option_map, vec_capacity, true, IfOk, IsErrOf, OnOk, OnErr};
 ghost use Rattle.modem_history.specs.Acts.{Act as Happening, act_of, Lost};
 ghost use Rattle.modem_driver.specs.Endings.{asker_of, is_stop};
 ghost use Rattle.modem_driver.specs.Lanes.{new_lane};
@@ -109,6 +109,7 @@ impl Core {
     pub fn lost(&mut self) -> Result<Vec<Act>, CoreError>
         ensures past { IfOk result (λ acts. Handles self.old self.new Lost (map act_of acts.items)) }
         ensures holds { IfOk result (λ acts. KeepsHeld self.old self.new Lost (map act_of acts.items)) }
+        ensures gone { OnOk result (self.new.lost ≡ true) }
         ensures err { OnErr result (self.new ≡ self.old) }
         ensures no_memory { OnErr result (result ≡ Err CoreError.NoMemory) }
         ensures n1 { self.new.station.n1 ≡ self.old.station.n1 }

@@ -20,7 +20,7 @@ use Rattle.modem_driver.specs.declared.session.ending.Course.{Course}
 use Rattle.modem_driver.specs.declared.session.ending.Course.TheVariants.{GoesOn, Stopped, Ended}
 use Rattle.modem_driver.specs.declared.session.ending.Ended.TheVariants as ended
 use Rattle.modem_driver.specs.declared.session.error.SessionFault.TheVariants as fault
-use Rattle.modem_driver.specs.Endings.{Begins, HasCome, HasEnded, asker_of, course_after, ends_stop, has_stopped, is_answered, is_end_of, is_stop, is_stopped_by}
+use Rattle.modem_driver.specs.Endings.{Begins, HasCome, HasEnded, KeepsEnd, asker_of, course_after, ends_stop, has_stopped, is_answered, is_end_of, is_stop, is_stopped_by}
 use Rattle.modem_driver.proofs.sessions.Afters.{outcomes_after}
 
 pub any_of : (s : Asker) (acts : List code.Act) → list_any (λ (a : code.Act). is_end_of s (act_of a)) acts ≡ list_any (is_end_of s) (map act_of acts)
@@ -143,6 +143,12 @@ come_on b v w past acts (Ended (Ok ended.Stopped)) g h = ended_on b v w past act
 come_on b v w past acts (Ended (Err fault.NoMemory)) g h = h
 come_on b v w past acts (Ended (Err fault.Line)) g h = lost_since acts past h
 come_on b v w past acts (Ended (Err fault.Failed)) g h = lost_since acts past h
+
+-- a call notes nothing of an end that a poll gave
+pub ended_after : (c : Course) (answered : Bool) → KeepsEnd c (course_after c answered)
+ended_after GoesOn answered end e = cc
+ended_after Stopped answered end e = cc
+ended_after (Ended other) answered end e = e
 
 -- ## What a call notes
 

@@ -27,7 +27,7 @@ use Rattle.modem_driver.specs.GettingSteps.{KeptGets}
 use Rattle.modem_driver.specs.WaitingLists.{WaitingLists, Keeps}
 use Rattle.modem_driver.proofs.sessions.Afters.{gots_after, losses_after, lost_after}
 use Rattle.modem_driver.proofs.sessions.Calls.{FitsKept, IsBare, KeepsMore, call_fits, few_told, may_come}
-use Rattle.modem_driver.proofs.sessions.Ending.{come_noted, grows_none}
+use Rattle.modem_driver.proofs.sessions.Ending.{come_noted, ended_after, grows_none}
 use Rattle.modem_driver.proofs.sessions.Flowing.{said_may}
 use Rattle.modem_driver.proofs.sessions.GettingLines.{few_called}
 use Rattle.modem_driver.proofs.sessions.Listening.{calls_hear}
@@ -104,6 +104,7 @@ gets_moved old core fed room w acts f handles held keeps enough at_hand bound ov
   adds = λ waiting b past once fit. (gotten old core fed room w acts f handles held keeps enough at_hand bound over b l d past fit).adds waiting;
   moved_is = refl;
   still = λ e. absurd (let x : true ≡ false = e in cc);
+  ended = ended_after old.course (is_answered (option_map asker_of (find is_stop old.core.hand)) acts);
   no_room = λ g e. absurd (let x : true ≡ false = e in cc);
   stays = refl;
 }
@@ -148,6 +149,7 @@ still_gets old stays l d = record {
   adds = λ waiting b past once fit. record { outcomes = sym (append-nil old.unplaced); lines = sym (append-nil (map heard_as old.unannounced)); may = refl };
   moved_is = refl;
   still = λ e. (refl, refl);
+  ended = λ end e. e;
   no_room = λ f e at_hand. (
     stays.busy f at_hand,
     (λ b past fit. no_frames b.n1 (octets_of (queue (wire past))) (by_frame Initiator (λ (n : ℕ). state_of Initiator n (wire past)) f) (is_lost past) (stays.full f at_hand (driving b) past (stands_in b l d old past fit))),

@@ -1,6 +1,7 @@
 //! What a session keeps beside its line and its desk's end.
 ghost use Rattle.std.specs.Prelude.{◌≡◌, ◌≢◌, ◌↔◌, ◌+◌, ◌<◌, ◌≤◌, ◌⊎◌, ◌++◌, [], true, false, length, option_to_list, None, IfOk, IsErrOf, OnOk, OnErr};
 ghost use Rattle.modem_driver.specs.Cores.{Fits};
+ghost use Rattle.modem_driver.specs.Endings.{KeepsEnd};
 ghost use Rattle.modem_driver.specs.Holding.{HoldsFit};
 ghost use Rattle.modem_driver.specs.SessionStates.{new_kept, KeptLoses, KeptTicks};
 ghost use Rattle.modem_driver.specs.declared.session.error.SessionError.TheVariants as why;
@@ -87,6 +88,7 @@ impl Kept {
     /// NoMemory.
     pub(crate) fn tick(&mut self) -> Result<(), SessionFault>
         ensures ticks { OnOk result (KeptTicks self.old self.new) }
+        ensures ended { KeepsEnd self.old.course self.new.course }
         ensures err { OnErr result (self.new ≡ self.old) }
         ensures failed { (result ≡ Err fault.Failed) ↔ (self.old.core.lost ≡ true) }
         ensures line { result ≢ Err fault.Line }
@@ -109,6 +111,7 @@ impl Kept {
         requires faulty { self.old.faulty ≡ true }
         requires live { self.old.core.lost ≡ false }
         ensures loses { OnOk result (KeptLoses self.old self.new) }
+        ensures gone { OnOk result (self.new.core.lost ≡ true) }
         ensures err { OnErr result (self.new ≡ self.old) }
         ensures no_memory { OnErr result (result ≡ Err fault.NoMemory) }
     {
