@@ -31,3 +31,4 @@ pub mod PlacingLines
 pub mod Placing
 pub mod TurnEnds
 pub mod Minding
+pub mod Polling

@@ -26,6 +26,7 @@ pub mod SessionStates
 pub mod Numbers
 pub mod TurnSteps
 pub mod SessionTurns
+pub mod Polls
 pub mod TurnTakes
 pub mod SendingSteps
 pub mod GettingSteps

@@ -17,6 +17,7 @@ mod kept;
 mod minding;
 mod output;
 mod placing;
+mod polling;
 mod sending;
 mod taking;
 mod turn;

@@ -120,7 +120,7 @@ none_fits b l d old new past f core aside unplaced lines unfed deframer unwritte
 -- ## What is due
 
 -- the control queue is that of the history
-live_queue : (v : Core) (past : List Act) → Fits v past → v.lost ≡ false → queue (wire past) ≡ v.station.queue
+pub live_queue : (v : Core) (past : List Act) → Fits v past → v.lost ≡ false → queue (wire past) ≡ v.station.queue
 live_queue v past f live = by_runs (subst (λ (c : Bool). RunsUnless c v past) live f.runs)
   where
     by_runs : Runs v past → queue (wire past) ≡ v.station.queue
