@@ -5,6 +5,7 @@ pub mod Listening
 pub mod Parts
 pub mod Kinds
 pub mod Keeping
+pub mod Ending
 pub mod Calls
 pub mod Ticking
 pub mod Lines
@@ -30,3 +31,4 @@ pub mod PlacingLines
 pub mod Placing
 pub mod TurnEnds
 pub mod Minding
+pub mod Polling

@@ -22,10 +22,12 @@ pub mod Headline
 pub mod HeadlineRows
 pub mod Entries
 pub mod WaitingLists
+pub mod Endings
 pub mod SessionStates
 pub mod Numbers
 pub mod TurnSteps
 pub mod SessionTurns
+pub mod Polls
 pub mod TurnTakes
 pub mod SendingSteps
 pub mod GettingSteps

@@ -12,11 +12,14 @@ use Rattle.modem_history.specs.Sessions.{LineView, EndView, Beginning, SessionVi
 use Rattle.modem_history.specs.Turns.{GoesTick, LosesLine, may_fail, outcomes_told, lines_heard}
 use Rattle.modem_driver.specs.Cores.{Core, Fits, IsSettingOf, new_core}
 use Rattle.modem_driver.specs.Holding.{HoldsFit}
+use Rattle.modem_driver.specs.Endings.{HasCome}
+use Rattle.modem_driver.specs.declared.session.ending.Course.{Course}
+use Rattle.modem_driver.specs.declared.session.ending.Course.TheVariants.{GoesOn}
 
 -- ## What is kept
 
 -- beside its line and its desk's end: the core, the request kept aside, the octets read and not yet fed, the deframer, the
--- octets, outcomes and lines that wait, and whether a call on the line has failed
+-- octets, outcomes and lines that wait, whether a call on the line has failed, and how far it has come on the way to its end
 pub record Kept : Type 0 where
   pub core : Core
   pub aside : Option Request
@@ -26,6 +29,7 @@ pub record Kept : Type 0 where
   pub unplaced : List Outcome
   pub unannounced : List Urc
   pub faulty : Bool
+  pub course : Course
 
 -- nothing has happened yet
 abbrev pub new_kept : ℕ → List UrcKind → Kept
@@ -38,6 +42,7 @@ new_kept n1 kinds = record {
   unplaced = [];
   unannounced = [];
   faulty = false;
+  course = GoesOn;
 }
 
 -- a session over a line of any type
@@ -74,7 +79,8 @@ seen look s = seen_by (look s.line) (end_of s.driver) s.kept
 -- ## Which histories it fits
 
 -- What isn't seen there: the core fits the history of this N1, this desk's kinds and callers, and knows which connections
--- are held; and a call on the line has failed since the session began just where the session knows of one.
+-- are held; a call on the line has failed since the session began just where the session knows of one; and the session has come as
+-- far on the way to its end as it knows.
 pub record KeptFits (b : Beginning) (l : LineView) (d : DriverView) (k : Kept) (past : List Act) : Type 0 where
   pub setting : IsSettingOf (driving b) k.core
   pub fits : Fits k.core past
@@ -83,6 +89,7 @@ pub record KeptFits (b : Beginning) (l : LineView) (d : DriverView) (k : Kept) (
   pub callers_are : length d.desk.rings ≡ b.callers
   pub sound : k.faulty ≡ false → l.failures ≡ b.line.failures
   pub by_fault : k.faulty ≡ true → b.line.failures < l.failures
+  pub come : HasCome b (seen_by l (end_of d) k) past k.course
 
 abbrev pub FitsInside : {X : Type 0} → Beginning → (X → LineView) → SessionState X → List Act → Type 0
 FitsInside b look s past = KeptFits b (look s.line) s.driver s.kept past

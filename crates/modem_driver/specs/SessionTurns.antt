@@ -1,5 +1,5 @@
 -- Turns of a session: how each ends.
-use Rattle.std.specs.Prelude.{◌≡◌, ◌≢◌, ℕ, ◌<◌, ◌≤◌, nat_le, length, drop, None, Some, Bool, true, false, List, [], ◌∷◌, take}
+use Rattle.std.specs.Prelude.{◌≡◌, ◌≢◌, ℕ, ◌+◌, ◌<◌, ◌≤◌, nat_le, length, drop, None, Some, Bool, true, false, List, [], ◌∷◌, take}
 use Rattle.std.specs.List.{list_all}
 use Rattle.mux_frame.specs.Frames.{Frame}
 use Rattle.mux_frame.specs.Deframing.{TakesIn}
@@ -11,6 +11,7 @@ use Rattle.modem_history.specs.Sessions.{Beginning, LineView, of_caller}
 use Rattle.modem_history.specs.Turns.{TurnAnswer, TurnFault, GoesTurn, GoesFault}
 use Rattle.modem_driver.specs.declared.session.error.SessionFault.{SessionFault}
 use Rattle.modem_driver.specs.declared.session.turn.Turn.{Turn}
+use Rattle.modem_driver.specs.Endings.{Begins, KeepsEnd}
 use Rattle.modem_driver.specs.SessionStates.{Kept, KeptLoses, SessionState, FitsInside, seen}
 use Rattle.modem_driver.specs.TurnSteps.{Standing, Writes, ReadsOn}
 
@@ -76,6 +77,18 @@ Turns look old new says = (b : Beginning) → GoesTurn b (seen look old) (seen l
 
 unfoldable pub Faults : {X : Type 0} → (X → LineView) → (old new : SessionState X) → TurnFault → Type 0
 Faults look old new says = (b : Beginning) → GoesFault b (seen look old) (seen look new) (FitsInside b look old) (FitsInside b look new) says
+
+-- Whichever way it ends: the line had at most two calls more, the desk's end keeps what it took, and an end that a poll gave stays.
+pub record HasTurned (old new : Standing) : Type 0 where
+  pub calls : new.line.calls ≤ old.line.calls + 2
+  pub taken : Begins old.driver.taken new.driver.taken
+  pub ended : KeepsEnd old.kept.course new.kept.course
+
+-- after a fault other than want of memory the line is lost
+abbrev pub LeavesLost : SessionFault → Kept → Type 0
+LeavesLost SessionFault.NoMemory k = Unit {0}
+LeavesLost SessionFault.Line k = k.core.lost ≡ true
+LeavesLost SessionFault.Failed k = k.core.lost ≡ true
 
 -- after a failing call on the line: the line is lost; or there is no memory for it, and nothing changes; or it was lost before
 abbrev pub LosesOr : SessionFault → (old new : Standing) → Type 0

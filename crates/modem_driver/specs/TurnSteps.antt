@@ -16,6 +16,7 @@ use Rattle.modem_history.specs.Sessions.{Beginning, LineView, SessionView, FitsW
 use Rattle.modem_history.specs.Turns.{Write, Read, Offers, HasRoom, HoldsByBacklog, octets_written, octets_read, request_given, calls_made, counted, outcomes_told, lines_heard, may_act, is_mark, amount, has_room_for}
 use Rattle.modem_driver.specs.GoingOut.{next_out}
 use Rattle.modem_driver.specs.Running.{IsIdle}
+use Rattle.modem_driver.specs.Endings.{KeepsEnd}
 use Rattle.modem_driver.specs.SessionStates.{Kept, KeptFits, seen_by, end_of}
 
 -- ## What a turn works on
@@ -129,8 +130,9 @@ pub record Gets (old new : Standing) (moved : Bool) : Type 0 where
   pub adds : (waiting : List Urc) → AddsAll old new waiting acts
   pub moved_is : moved ≡ list_any is_more acts
   pub still : moved ≡ false → (acts ≡ []) × (new ≡ old)
+  pub ended : KeepsEnd old.kept.course new.kept.course
   pub no_room : (f : Frame) → moved ≡ false → old.kept.deframer.next ≡ Some f → (¬ IsIdle old.kept.core) × ((b : Beginning) (past : List Act) → StandingFits b old past → has_room_for b past f ≡ false)
-  pub stays : new ≡ record old { kept = record old.kept { core = new.kept.core; deframer = new.kept.deframer; unplaced = new.kept.unplaced; unannounced = new.kept.unannounced } }
+  pub stays : new ≡ record old { kept = record old.kept { core = new.kept.core; deframer = new.kept.deframer; unplaced = new.kept.unplaced; unannounced = new.kept.unannounced; course = new.kept.course } }
 
 -- ## Octets are read and fed
 

@@ -1,6 +1,7 @@
 //! The driver between its callers and the line.
-ghost use Rattle.std.specs.Prelude.{◌≡◌, ◌≢◌, ◌↔◌, ◌+◌, ◌<◌, ◌≤◌, ◌⊎◌, List, [], length, replicate, map, vec_capacity, IfOk, IsErrOf, OnErr};
+ghost use Rattle.std.specs.Prelude.{◌≡◌, ◌≢◌, ◌↔◌, ◌+◌, ◌<◌, ◌≤◌, ◌⊎◌, List, [], length, replicate, map, find, option_map, vec_capacity, true, IfOk, IsErrOf, OnOk, OnErr};
 ghost use Rattle.modem_history.specs.Acts.{Act as Happening, act_of, Lost};
+ghost use Rattle.modem_driver.specs.Endings.{asker_of, is_stop};
 ghost use Rattle.modem_driver.specs.Lanes.{new_lane};
 ghost use Rattle.modem_driver.specs.Cores.{new_core, state_shown, Fits, Handles};
 ghost use Rattle.modem_driver.specs.Holding.{HoldsFit, KeepsHeld};
@@ -10,6 +11,7 @@ use crate::act_list::ActList;
 use crate::error::CoreError;
 use crate::hand::Hand;
 use crate::lane::Lane;
+use crate::session::Asker;
 use crate::telling::{Happened, state_of, tell};
 use at_text::UrcKind;
 use modem_desk::Request;
@@ -107,6 +109,7 @@ impl Core {
     pub fn lost(&mut self) -> Result<Vec<Act>, CoreError>
         ensures past { IfOk result (λ acts. Handles self.old self.new Lost (map act_of acts.items)) }
         ensures holds { IfOk result (λ acts. KeepsHeld self.old self.new Lost (map act_of acts.items)) }
+        ensures gone { OnOk result (self.new.lost ≡ true) }
         ensures err { OnErr result (self.new ≡ self.old) }
         ensures no_memory { OnErr result (result ≡ Err CoreError.NoMemory) }
         ensures n1 { self.new.station.n1 ≡ self.old.station.n1 }
@@ -130,6 +133,13 @@ impl Core {
         ensures { result + length self.now.hand ≡ 128 }
     {
         self.hand.left()
+    }
+
+    /// Whose Stop is in hand, if one is.
+    pub(crate) fn stop(&self) -> Option<Asker>
+        ensures { result ≡ option_map asker_of (find is_stop self.now.hand) }
+    {
+        self.hand.stop()
     }
 
     /// The requests in hand, without taking memory, with room for 128.

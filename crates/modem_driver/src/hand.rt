@@ -1,7 +1,9 @@
 //! The requests in hand.
-ghost use Rattle.std.specs.Prelude.{◌≡◌, ◌≤◌, ◌<◌, ◌+◌, ◌++◌, ◌∷◌, [], length, remove, slice_index_or, IfOk, nat_le, vec_capacity};
+ghost use Rattle.std.specs.Prelude.{◌≡◌, ◌≤◌, ◌<◌, ◌+◌, ◌++◌, ◌∷◌, [], length, find, option_map, remove, slice_index_or, IfOk, nat_le, vec_capacity};
+ghost use Rattle.modem_driver.specs.Endings.{asker_of, is_stop};
 
-use modem_desk::Request;
+use crate::session::Asker;
+use modem_desk::{Ask, Request};
 use std::alloc::{AllocError, Global};
 use std::marker::Model;
 
@@ -25,6 +27,13 @@ impl Model for Hand {
     ghost view = { λ h. h.requests.items };
 
     ghost invariant = { λ h. HasRoom h.requests };
+}
+
+/// Whether it is a Stop.
+fn is_stop(request: &Request) -> bool
+    ensures { result ≡ is_stop request.now }
+{
+    matches!(request.ask, Ask::Stop)
 }
 
 impl Hand {
@@ -63,6 +72,17 @@ impl Hand {
         ensures { result.now ≡ self.now }
     {
         self.requests.as_slice()
+    }
+
+    /// Whose Stop there is, if there is one: at most one waits.
+    pub(crate) fn stop(&self) -> Option<Asker>
+        ensures { result ≡ option_map asker_of (find is_stop self.now) }
+    {
+        let request = self.requests.iter().find(|request| is_stop(request))?;
+        Some(Asker {
+            caller: request.caller,
+            number: request.number,
+        })
     }
 
     /// Puts a request at the end.

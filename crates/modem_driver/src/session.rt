@@ -2,11 +2,13 @@
 ghost use Rattle.std.specs.Prelude.{◌≡◌, ◌≢◌, ◌↔◌, ◌<◌, ◌⊎◌, [], true, Contains, IfOk, IfErr, IsErr, IsErrOf, OnOk, OnErr};
 ghost use Rattle.std.specs.Borrow.{Lends, sem};
 ghost use Rattle.modem_history.specs.Sessions.{LineView};
+ghost use Rattle.modem_driver.specs.Endings.{KeepsEnd};
 ghost use Rattle.modem_driver.specs.SessionStates.{beginning_of, new_kept, line_by, end_of, FitsAll, KeptFits, Ends, Ticks};
 ghost use Rattle.at_text.specs.declared.unsolicited.UrcKind.{UrcKind};
 ghost use Rattle.modem_driver.specs.declared.session.error.SessionError.TheVariants as why;
 ghost use Rattle.modem_driver.specs.declared.session.error.SessionFault.TheVariants as fault;
 
+mod ending;
 mod error;
 mod exchanging;
 mod getting;
@@ -15,6 +17,7 @@ mod kept;
 mod minding;
 mod output;
 mod placing;
+mod polling;
 mod sending;
 mod taking;
 mod turn;
@@ -22,6 +25,8 @@ mod waiting;
 
 use crate::run::KINDS;
 use at_text::UrcKind;
+pub(crate) use ending::Asker;
+pub use ending::Ended;
 pub use error::{SessionError, SessionFault, SessionRefused};
 use kept::Kept;
 use modem_desk::{DriverEnd, Outcome, Request, Urc};
@@ -134,6 +139,7 @@ impl<L: SerialLine, R: Wait + Drop> Session<L, R> {
     /// given up. Refusals, which change nothing: 3 Failed where a turn has answered Line; 1 NoMemory.
     pub fn tick(&mut self) -> Result<(), SessionFault>
         ensures ticks { OnOk result (Ticks (line_by L.received L.sent L.calls L.failures) self.old self.new) }
+        ensures ended { KeepsEnd self.old.kept.course self.new.kept.course }
         ensures err { OnErr result (self.new ≡ self.old) }
         ensures failed { (result ≡ Err fault.Failed) ↔ (self.old.kept.core.lost ≡ true) }
         ensures not_line { result ≢ Err fault.Line }

@@ -19,6 +19,7 @@ use Rattle.modem_history.proofs.Stays.{distinct_front}
 use Rattle.modem_history.proofs.SessionLawFacts.{since_are}
 use Rattle.modem_driver.specs.Cores.{MayCome, GoesOn, IsRun}
 use Rattle.modem_driver.specs.Holding.{HoldsFit}
+use Rattle.modem_driver.specs.Endings.{HasCome}
 use Rattle.modem_driver.specs.SessionStates.{Kept, KeptFits, seen_by, end_of}
 use Rattle.modem_driver.proofs.sessions.Afters.{taken_after, given_after, room_after, has_listener}
 use Rattle.modem_driver.proofs.sessions.Counting.{is_caller, hand_counts, callers_told}
@@ -87,10 +88,10 @@ few_told b l d old new past more a f bare goes said =
 
 pub call_fits : (b : Beginning) (l : LineView) (d : DriverView) (old new : Kept) (past more : List Act) (a : Act)
     → FitsKept b l d old past → IsBare a past → GoesOn (driving b) new.core past a (a ∷ more) → HoldsFit new.core (after past (a ∷ more)) → Saids more → Hear (driving b) more → KeepsMore old new (a ∷ more)
-    → new.aside ≡ old.aside → new.unwritten ≡ old.unwritten → new.faulty ≡ old.faulty
+    → new.aside ≡ old.aside → new.unwritten ≡ old.unwritten → new.faulty ≡ old.faulty → HasCome b (seen_by l (end_of d) new) (after past (a ∷ more)) new.course
     → FitsLoss b (seen_by l (end_of d) new) (after past (a ∷ more)) → FitsReceived b (seen_by l (end_of d) new) (after past (a ∷ more))
     → FitsKept b l d new (after past (a ∷ more))
-call_fits b l d old new past more a f bare goes holds said hear keeps aside unwritten faulty loss received =
+call_fits b l d old new past more a f bare goes holds said hear keeps aside unwritten faulty come loss received =
     let s = f.session in
     let few = few_told b l d old new past more a f bare goes said in
     let fewer = s.requests.few in
@@ -129,5 +130,6 @@ call_fits b l d old new past more a f bare goes holds said hear keeps aside unwr
         callers_are = f.inside.callers_are;
         sound = λ e. f.inside.sound (sym faulty ∙ e);
         by_fault = λ e. f.inside.by_fault (sym faulty ∙ e);
+        come = come;
       };
     }

@@ -22,12 +22,14 @@ use Rattle.modem_history.specs.Turns.{outcomes_told, lines_heard, may_act}
 use Rattle.modem_history.proofs.Said.{Saids, calls_said}
 use Rattle.modem_driver.specs.Cores.{Core, GoesOn, Fits, Runs, RunsUnless, IsSettingOf}
 use Rattle.modem_driver.specs.Holding.{HoldsFit, Flows, FlowsOn, HasNoRoom, LacksRoom, NeverDue, MayAsk, acts_due, due_by, flow_due, flow_act}
+use Rattle.modem_driver.specs.Endings.{HasCome}
 use Rattle.modem_driver.specs.Minding.{MindsOne}
 use Rattle.modem_driver.specs.TurnSteps.{is_more}
 use Rattle.modem_driver.specs.SessionStates.{Kept, KeptGoes, seen_by, end_of}
 use Rattle.modem_driver.proofs.Wires.{queue_seen}
 use Rattle.modem_driver.proofs.sessions.Afters.{gots_after, losses_after, lost_after}
 use Rattle.modem_driver.proofs.sessions.Calls.{FitsKept, IsBare, KeepsMore, call_fits, is_run}
+use Rattle.modem_driver.proofs.sessions.Ending.{come_on, grows_none}
 use Rattle.modem_driver.proofs.sessions.Lines.{session_with, loss_with}
 use Rattle.modem_driver.proofs.sessions.Listening.{calls_hear}
 use Rattle.modem_driver.proofs.sessions.Parts.{received_part, sent_part}
@@ -97,8 +99,8 @@ due_may us n false opened held go e = flow_may us n opened held go e
 
 -- where nothing is called for
 none_fits : (b : Beginning) (l : LineView) (d : DriverView) (old new : Kept) (past : List Act) → FitsKept b l d old past → new.core ≡ old.core → new.aside ≡ old.aside → new.unplaced ≡ old.unplaced → map heard_as new.unannounced ≡ map heard_as old.unannounced
-    → new.unfed ≡ old.unfed → new.deframer ≡ old.deframer → new.unwritten ≡ old.unwritten → new.faulty ≡ old.faulty → FitsKept b l d new past
-none_fits b l d old new past f core aside unplaced lines unfed deframer unwritten faulty =
+    → new.unfed ≡ old.unfed → new.deframer ≡ old.deframer → new.unwritten ≡ old.unwritten → new.faulty ≡ old.faulty → new.course ≡ old.course → FitsKept b l d new past
+none_fits b l d old new past f core aside unplaced lines unfed deframer unwritten faulty course =
     let v = seen_by l (end_of d) old in
     let w = seen_by l (end_of d) new in
     record {
@@ -111,13 +113,14 @@ none_fits b l d old new past f core aside unplaced lines unfed deframer unwritte
         callers_are = f.inside.callers_are;
         sound = λ h. f.inside.sound (sym faulty ∙ h);
         by_fault = λ h. f.inside.by_fault (sym faulty ∙ h);
+        come = subst (HasCome b w past) (sym course) (come_on b v w past [] old.course (grows_none v w refl refl) f.inside.come);
       };
     }
 
 -- ## What is due
 
 -- the control queue is that of the history
-live_queue : (v : Core) (past : List Act) → Fits v past → v.lost ≡ false → queue (wire past) ≡ v.station.queue
+pub live_queue : (v : Core) (past : List Act) → Fits v past → v.lost ≡ false → queue (wire past) ≡ v.station.queue
 live_queue v past f live = by_runs (subst (λ (c : Bool). RunsUnless c v past) live f.runs)
   where
     by_runs : Runs v past → queue (wire past) ≡ v.station.queue
@@ -175,7 +178,7 @@ flown : (old : Kept) (core : Core) (n : ℕ) (acts : List Act) (x : Option Bool)
     → Flown b l d old (record old { core = core }) n past acts
 flown old core n acts x are b l d past f None e on =
     let new : Kept = record old { core = core } in
-    let here = none_fits b l d old new past f on.1 refl refl refl refl refl refl refl in
+    let here = none_fits b l d old new past f on.1 refl refl refl refl refl refl refl refl in
     record {
       fits = subst (λ (xs : List Act). FitsKept b l d new (after past xs)) (sym on.0) here;
       may = ap (list_all (may_act old.unannounced)) on.0;
@@ -203,9 +206,10 @@ flown old core n acts x are b l d past f (Some go) e on =
     } in
     let live : core.lost ≡ false = sym here.fits.lost_is ∙ (gone ∙ due_live (is_lost past) (n == 0) _ go e) in
     let waits : queue (wire (after past acts)) ≡ core.station.queue = ap (λ (xs : List Act). queue (wire (after past xs))) called ∙ live_queue core (after past (a ∷ more)) here.fits live in
+    let come = come_on b (seen_by l (end_of d) old) (seen_by l (end_of d) new) past (a ∷ more) old.course (grows_none (seen_by l (end_of d) old) (seen_by l (end_of d) new) refl refl) f.inside.come in
     record {
       fits = subst (λ (xs : List Act). FitsKept b l d new (after past xs)) (sym called)
-          (call_fits b l d old new past more a f (flow_bare n go past) here hold said (calls_hear s (seen s past) a) keep refl refl refl lost
+          (call_fits b l d old new past more a f (flow_bare n go past) here hold said (calls_hear s (seen s past) a) keep refl refl refl come lost
           (received_part b (seen_by l (end_of d) old) (seen_by l (end_of d) new) past (after past (a ∷ more)) f.session.received refl refl refl (gots_after more (a ∷ past) said ∙ no_frame n go past)));
       may = ap (list_all (may_act old.unannounced)) called ∙ and_from (may_act old.unannounced a) (list_all (may_act old.unannounced) more) (due_may old.unannounced n _ _ _ go e) (said_may old.unannounced more said);
       settles = λ empty. absurd (queued x are (sym are ∙ called) (waits ∙ empty));

@@ -1,7 +1,7 @@
 -- The frame at hand is handled.
 use Rattle.std.proofs.Common.{ap, sym, ◌∙◌, subst, arith}
 use Rattle.std.proofs.lemmas.List.{append-nil}
-use Rattle.std.specs.Prelude.{◌≡◌, ℕ, ◌≤◌, Bool, true, false, List, [], ◌∷◌, ◌++◌, length, drop, map, refl, None, Some, if◌then◌else◌}
+use Rattle.std.specs.Prelude.{◌≡◌, ℕ, ◌≤◌, Bool, true, false, List, [], ◌∷◌, ◌++◌, length, drop, map, refl, find, option_map, None, Some, if◌then◌else◌}
 use Rattle.mux_frame.specs.Frames.{Frame}
 use Rattle.mux_frame.specs.Deframing.{Deframing, Deframes, HandsOver}
 use Rattle.mux_station.specs.States.{state_of}
@@ -18,6 +18,7 @@ use Rattle.modem_history.specs.Turns.{lines_heard}
 use Rattle.modem_history.proofs.Said.{calls_said}
 use Rattle.modem_driver.specs.Cores.{Core, Handles, GoesOn}
 use Rattle.modem_driver.specs.Holding.{HoldsFit, KeepsHeld}
+use Rattle.modem_driver.specs.Endings.{HasCome, asker_of, course_after, is_answered, is_stop}
 use Rattle.modem_driver.specs.Receiving.{HasRoom}
 use Rattle.modem_driver.specs.Running.{IsIdle}
 use Rattle.modem_driver.specs.SessionStates.{Kept, seen_by, end_of}
@@ -26,6 +27,7 @@ use Rattle.modem_driver.specs.GettingSteps.{KeptGets}
 use Rattle.modem_driver.specs.WaitingLists.{WaitingLists, Keeps}
 use Rattle.modem_driver.proofs.sessions.Afters.{gots_after, losses_after, lost_after}
 use Rattle.modem_driver.proofs.sessions.Calls.{FitsKept, IsBare, KeepsMore, call_fits, few_told, may_come}
+use Rattle.modem_driver.proofs.sessions.Ending.{come_noted, ended_after, grows_none}
 use Rattle.modem_driver.proofs.sessions.Flowing.{said_may}
 use Rattle.modem_driver.proofs.sessions.GettingLines.{few_called}
 use Rattle.modem_driver.proofs.sessions.Listening.{calls_hear}
@@ -46,10 +48,10 @@ record Gotten (b : Beginning) (l : LineView) (d : DriverView) (old new : Kept) (
 gotten : (old : Kept) (core : Core) (fed : Deframing) (room : ℕ) (w : WaitingLists) (acts : List Act) (f : Frame)
     → Handles old.core core (Got f) acts → KeepsHeld old.core core (Got f) acts → Keeps (record { outcomes = old.unplaced; lines = old.unannounced; room = room }) w acts → length f.info ≤ room
     → old.deframer.next ≡ Some f → fed.n1 ≡ old.deframer.n1 → HandsOver old.deframer fed
-    → (b : Beginning) (l : LineView) (d : DriverView) (past : List Act) → FitsKept b l d old past → Gotten b l d old (record old { core = core; deframer = fed; unplaced = w.outcomes; unannounced = w.lines }) past f acts
+    → (b : Beginning) (l : LineView) (d : DriverView) (past : List Act) → FitsKept b l d old past → Gotten b l d old (record old { core = core; deframer = fed; unplaced = w.outcomes; unannounced = w.lines; course = course_after old.course (is_answered (option_map asker_of (find is_stop old.core.hand)) acts) }) past f acts
 unfolding Handles KeepsHeld
 gotten old core fed room w acts f handles held keeps enough at_hand bound over b l d past fit =
-    let new : Kept = record old { core = core; deframer = fed; unplaced = w.outcomes; unannounced = w.lines } in
+    let new : Kept = record old { core = core; deframer = fed; unplaced = w.outcomes; unannounced = w.lines; course = course_after old.course (is_answered (option_map asker_of (find is_stop old.core.hand)) acts) } in
     let s = driving b in
     let a = Got f in
     let may = may_come b l d old past a fit refl in
@@ -76,11 +78,14 @@ gotten old core fed room w acts f handles held keeps enough at_hand bound over b
       bound = bound ∙ r.bound;
       deframes = subst (λ (fs : List Frame). Deframes r.fed fs fed) (sym all) (over r.fed (gots past) f at_hand r.deframes);
     } in
+    let come : HasCome b (seen_by l (end_of d) new) (after past (a ∷ more)) new.course =
+    subst (λ (xs : List Act). HasCome b (seen_by l (end_of d) new) (after past xs) new.course) on.called
+    (come_noted b (seen_by l (end_of d) old) (seen_by l (end_of d) new) past acts old.core.hand old.course fit.inside.fits.hand_is (grows_none (seen_by l (end_of d) old) (seen_by l (end_of d) new) refl refl) fit.inside.come) in
     let told = few_told b l d old new past more a fit (got_bare f past) here said in
     let fewer = fit.session.requests.few in
     record {
       fits = subst (λ (xs : List Act). FitsKept b l d new (after past xs)) (sym same)
-          (call_fits b l d old new past more a fit (got_bare f past) here hold said (calls_hear s (seen s past) a) keep refl refl refl lost received);
+          (call_fits b l d old new past more a fit (got_bare f past) here hold said (calls_hear s (seen s past) a) keep refl refl refl come lost received);
       adds = λ waiting. subst (Adds old new waiting) (sym same) (record {
         outcomes = keep.outcomes (omega (arith, told, fewer));
         lines = keep.lines;
@@ -91,7 +96,7 @@ gotten old core fed room w acts f handles held keeps enough at_hand bound over b
 pub gets_moved : (old : Kept) (core : Core) (fed : Deframing) (room : ℕ) (w : WaitingLists) (acts : List Act) (f : Frame)
     → Handles old.core core (Got f) acts → KeepsHeld old.core core (Got f) acts → Keeps (record { outcomes = old.unplaced; lines = old.unannounced; room = room }) w acts → length f.info ≤ room
     → old.deframer.next ≡ Some f → fed.n1 ≡ old.deframer.n1 → HandsOver old.deframer fed
-    → KeptGets old (record old { core = core; deframer = fed; unplaced = w.outcomes; unannounced = w.lines }) true
+    → KeptGets old (record old { core = core; deframer = fed; unplaced = w.outcomes; unannounced = w.lines; course = course_after old.course (is_answered (option_map asker_of (find is_stop old.core.hand)) acts) }) true
 unfolding KeptGets Leads AddsAll
 gets_moved old core fed room w acts f handles held keeps enough at_hand bound over l d = record {
   acts = came f acts;
@@ -99,6 +104,7 @@ gets_moved old core fed room w acts f handles held keeps enough at_hand bound ov
   adds = λ waiting b past once fit. (gotten old core fed room w acts f handles held keeps enough at_hand bound over b l d past fit).adds waiting;
   moved_is = refl;
   still = λ e. absurd (let x : true ≡ false = e in cc);
+  ended = ended_after old.course (is_answered (option_map asker_of (find is_stop old.core.hand)) acts);
   no_room = λ g e. absurd (let x : true ≡ false = e in cc);
   stays = refl;
 }
@@ -143,6 +149,7 @@ still_gets old stays l d = record {
   adds = λ waiting b past once fit. record { outcomes = sym (append-nil old.unplaced); lines = sym (append-nil (map heard_as old.unannounced)); may = refl };
   moved_is = refl;
   still = λ e. (refl, refl);
+  ended = λ end e. e;
   no_room = λ f e at_hand. (
     stays.busy f at_hand,
     (λ b past fit. no_frames b.n1 (octets_of (queue (wire past))) (by_frame Initiator (λ (n : ℕ). state_of Initiator n (wire past)) f) (is_lost past) (stays.full f at_hand (driving b) past (stands_in b l d old past fit))),

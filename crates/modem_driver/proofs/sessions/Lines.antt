@@ -13,7 +13,9 @@ use Rattle.modem_history.specs.Wholes.{taken}
 use Rattle.modem_history.specs.Sessions.{Beginning, LineView, EndView, SessionView, SessionFits, FitsLoss, FitsReceived, FitsSent, gots, given_on, last_octets, heard_as, driving}
 use Rattle.modem_driver.specs.Cores.{Core, Fits, IsSettingOf}
 use Rattle.modem_driver.specs.Holding.{HoldsFit}
+use Rattle.modem_driver.specs.Endings.{HasCome}
 use Rattle.modem_driver.specs.SessionStates.{Kept, KeptFits, KeptGoes, KeptMoves, seen_by, end_of}
+use Rattle.modem_driver.proofs.sessions.Ending.{come_on, grows_none, grows_sent}
 use Rattle.modem_driver.proofs.sessions.Parts.{told_part, heard_part, sent_part, received_part}
 
 -- where the desk, what waits for it and the request kept aside stay
@@ -74,14 +76,15 @@ feed_goes old fed count takes bound b l d past once f =
         callers_are = f.inside.callers_are;
         sound = f.inside.sound;
         by_fault = f.inside.by_fault;
+        come = come_on b v w past [] old.course (grows_none v w refl refl) f.inside.come;
       };
     }
 
 -- ## Reading and writing
 
 -- what else is kept goes on where no call failed
-inside_sound : (b : Beginning) (l m : LineView) (d : DriverView) (old new : Kept) (past : List Act) → KeptFits b l d old past → new.core ≡ old.core → new.faulty ≡ old.faulty → m.failures ≡ l.failures → KeptFits b m d new past
-inside_sound b l m d old new past f core faulty same = record {
+inside_sound : (b : Beginning) (l m : LineView) (d : DriverView) (old new : Kept) (past : List Act) → KeptFits b l d old past → new.core ≡ old.core → new.faulty ≡ old.faulty → m.failures ≡ l.failures → HasCome b (seen_by m (end_of d) new) past new.course → KeptFits b m d new past
+inside_sound b l m d old new past f core faulty same come = record {
   setting = subst (λ (c : Core). IsSettingOf (driving b) c) (sym core) f.setting;
   fits = subst (λ (c : Core). Fits c past) (sym core) f.fits;
   holds = subst (λ (c : Core). HoldsFit c past) (sym core) f.holds;
@@ -89,11 +92,12 @@ inside_sound b l m d old new past f core faulty same = record {
   callers_are = f.callers_are;
   sound = λ h. same ∙ f.sound (sym faulty ∙ h);
   by_fault = λ h. let before = f.by_fault (sym faulty ∙ h) in omega arith;
+  come = come;
 }
 
 -- and where one did
-inside_faulty : (b : Beginning) (l m : LineView) (d : DriverView) (old new : Kept) (past : List Act) → KeptFits b l d old past → new.core ≡ old.core → new.faulty ≡ true → m.failures ≡ l.failures + 1 → KeptFits b m d new past
-inside_faulty b l m d old new past f core faulty more = record {
+inside_faulty : (b : Beginning) (l m : LineView) (d : DriverView) (old new : Kept) (past : List Act) → KeptFits b l d old past → new.core ≡ old.core → new.faulty ≡ true → m.failures ≡ l.failures + 1 → HasCome b (seen_by m (end_of d) new) past new.course → KeptFits b m d new past
+inside_faulty b l m d old new past f core faulty more come = record {
   setting = subst (λ (c : Core). IsSettingOf (driving b) c) (sym core) f.setting;
   fits = subst (λ (c : Core). Fits c past) (sym core) f.fits;
   holds = subst (λ (c : Core). HoldsFit c past) (sym core) f.holds;
@@ -101,6 +105,7 @@ inside_faulty b l m d old new past f core faulty more = record {
   callers_are = f.callers_are;
   sound = λ h. no_fault (sym h ∙ faulty);
   by_fault = λ h. by_old old.faulty refl;
+  come = come;
 }
   where
     no_fault : {P : Type 0} → false ≡ true → P
@@ -128,7 +133,7 @@ read_goes l m old came none received sent failures b d past once f =
             deframes = r.deframes;
           })
           (sent_part b v w past past f.session.sent sent refl refl);
-      inside = inside_sound b l m d old new past f.inside refl refl failures;
+      inside = inside_sound b l m d old new past f.inside refl refl failures (come_on b v w past [] old.course (grows_none v w sent refl) f.inside.come);
     }
 
 -- a call that failed changed neither list
@@ -143,7 +148,7 @@ fault_goes l m old received sent failures b d past once f =
       session = session_with b v w past f.session refl refl refl refl (loss_with b v w past f.session (omega arith))
           (received_part b v w past past f.session.received received refl refl refl)
           (sent_part b v w past past f.session.sent sent refl refl);
-      inside = inside_faulty b l m d old new past f.inside refl refl failures;
+      inside = inside_faulty b l m d old new past f.inside refl refl failures (come_on b v w past [] old.course (grows_none v w sent refl) f.inside.come);
     }
 
 pub write_goes : (l m : LineView) (old : Kept) (count : ℕ) → m.received ≡ l.received → m.sent ≡ l.sent ++ take count old.unwritten → m.failures ≡ l.failures
@@ -166,5 +171,5 @@ write_goes l m old count received sent failures b d past once f =
             written = s.written + count;
             of_last = ap (drop count) s.of_last ∙ drop-drop count s.written (last_octets (given_on past));
           });
-      inside = inside_sound b l m d old new past f.inside refl refl failures;
+      inside = inside_sound b l m d old new past f.inside refl refl failures (come_on b v w past [] old.course (grows_sent v w head sent refl) f.inside.come);
     }

@@ -15,6 +15,7 @@ use Rattle.modem_driver.specs.SessionStates.{Kept, KeptGoes, KeptLoses, seen_by,
 use Rattle.modem_driver.specs.WaitingLists.{WaitingLists, Keeps}
 use Rattle.modem_driver.proofs.sessions.Afters.{gots_after, losses_after, lost_after}
 use Rattle.modem_driver.proofs.sessions.Calls.{FitsKept, IsBare, KeepsMore, call_fits, few_told, may_come}
+use Rattle.modem_driver.proofs.sessions.Ending.{come_on, grows_none}
 use Rattle.modem_driver.proofs.sessions.Flowing.{said_may}
 use Rattle.modem_driver.proofs.sessions.Listening.{calls_hear, lines_of_call}
 use Rattle.modem_driver.proofs.sessions.Parts.{received_part}
@@ -79,8 +80,9 @@ loses old core room w acts handles held keeps faulty live =
             one = subst (λ (xs : List Act). length xs ≤ 1) (sym one) (omega arith);
             by_fault = λ gone. f.inside.by_fault faulty;
           } in
+          let come = come_on b (seen_by l (end_of d) old) (seen_by l (end_of d) new) past (Lost ∷ more) old.course (grows_none (seen_by l (end_of d) old) (seen_by l (end_of d) new) refl refl) f.inside.come in
           subst (λ (xs : List Act). FitsKept b l d new (after past xs)) (sym on.called)
-          (call_fits b l d old new past more Lost f (lost_bare past) here hold said (calls_hear s (seen s past) Lost) keep refl refl refl lost
+          (call_fits b l d old new past more Lost f (lost_bare past) here hold said (calls_hear s (seen s past) Lost) keep refl refl refl come lost
           (received_part b (seen_by l (end_of d) old) (seen_by l (end_of d) new) past (after past (Lost ∷ more)) f.session.received refl refl refl (gots_after more (Lost ∷ past) said)));
       loses = λ b l d past once f.
           let s = driving b in

@@ -18,9 +18,11 @@ use Rattle.modem_history.specs.Kinds.{kind_place, of_kind, is_listened}
 use Rattle.modem_history.specs.Sessions.{Beginning, LineView, SessionView, FitsTold, FitsHeard, at_place, of_caller, heard_as}
 use Rattle.modem_history.specs.Turns.{amount}
 use Rattle.modem_driver.specs.Placing.{of_key, Gave, Placed, TellsAlone, AnnouncesAlone, caller_of, place_of, IsRingOf, IsCaller, IsEarOf, IsHeard}
+use Rattle.modem_driver.specs.Endings.{Begins}
 use Rattle.modem_driver.specs.SessionStates.{Kept, seen_by, end_of}
 use Rattle.modem_driver.specs.TurnSteps.{Leads, Places, standing}
 use Rattle.modem_driver.proofs.sessions.Counting.{is_callers, is_caller}
+use Rattle.modem_driver.proofs.sessions.Ending.{Grows, begins_whole, come_on}
 use Rattle.modem_driver.proofs.sessions.Lines.{loss_with}
 use Rattle.modem_driver.proofs.sessions.Parts.{sent_part, received_part}
 
@@ -129,6 +131,13 @@ both d m e os ps us vs told announced p t q a = record {
   taken = a.taken ∙ t.taken;
 }
 
+-- each caller has what it had, and then more
+grows_told : (v w : SessionView) → ((c : ℕ) → Gave caller_of v.desk.told w.desk.told v.unplaced w.unplaced c c) → Begins v.line.sent w.line.sent → Grows v w
+grows_told v w gave sent = record {
+  sent = sent;
+  told = λ c. let g = gave c in record { rest = g.since; joins = sym g.given_are };
+}
+
 placed_fits : (l : LineView) (d e : DriverView) (old : Kept) (ps : List Outcome) (vs : List Urc) (told announced : Bool) → PlacedBoth d e old.unplaced ps old.unannounced vs told announced
     → Leads (standing l d old) (standing l e (record old { unplaced = ps; unannounced = vs })) []
 unfolding Leads
@@ -164,6 +173,7 @@ placed_fits l d e old ps vs told announced p b past once f =
         callers_are = ap (λ (k : DeskId). length k.rings) p.desk ∙ f.inside.callers_are;
         sound = f.inside.sound;
         by_fault = f.inside.by_fault;
+        come = come_on b v w past [] old.course (grows_told v w (λ c. p.outcomes.each c c refl) (begins_whole l.sent)) f.inside.come;
       };
     }
 

@@ -32,6 +32,7 @@ use Rattle.modem_driver.specs.TurnSteps.{SendsOn, AddsAll, Leads, is_more, stand
 use Rattle.modem_driver.specs.SendingSteps.{KeptSends}
 use Rattle.modem_driver.proofs.sessions.Afters.{has_listener}
 use Rattle.modem_driver.proofs.sessions.Calls.{FitsKept, is_run}
+use Rattle.modem_driver.proofs.sessions.Ending.{come_on, grows_none}
 use Rattle.modem_driver.proofs.sessions.Parts.{told_part, heard_part, received_part}
 use Rattle.modem_driver.proofs.sessions.SendingPlain.{is_plain, queue_plain}
 
@@ -206,6 +207,7 @@ out_fits old c f out none short goes on holds writes b l d past fit =
         callers_are = fit.inside.callers_are;
         sound = fit.inside.sound;
         by_fault = fit.inside.by_fault;
+        come = come_on b v w past (a ∷ []) old.course (grows_none v w refl refl) fit.inside.come;
       };
     }
 

@@ -24,6 +24,7 @@ use Rattle.modem_driver.specs.WaitingLists.{WaitingLists, Keeps}
 use Rattle.modem_driver.proofs.sessions.Afters.{gots_after, taken_after, given_after, losses_after, lost_after, room_after}
 use Rattle.modem_driver.proofs.sessions.Calls.{FitsKept, is_run}
 use Rattle.modem_driver.proofs.sessions.Counting.{is_caller, hand_counts, callers_told}
+use Rattle.modem_driver.proofs.sessions.Ending.{come_on, grows_none}
 use Rattle.modem_driver.proofs.sessions.Flowing.{said_may}
 use Rattle.modem_driver.proofs.sessions.Listening.{calls_hear, lines_of_call, all_listened}
 use Rattle.modem_driver.proofs.sessions.Parts.{told_part, heard_part, sent_part, received_part}
@@ -114,6 +115,7 @@ takes_all old core room q w acts aside handles held keeps b l d past f =
           callers_are = f.inside.callers_are;
           sound = f.inside.sound;
           by_fault = f.inside.by_fault;
+          come = come_on b v u past (Took q ∷ more) old.course (grows_none v u refl refl) f.inside.come;
         };
       };
       adds = λ waiting. record { outcomes = unplaced; lines = lines; may = said_may waiting more said };

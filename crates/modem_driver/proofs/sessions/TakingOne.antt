@@ -17,6 +17,7 @@ use Rattle.modem_driver.specs.SessionStates.{Kept, KeptGoes, seen_by, end_of}
 use Rattle.modem_driver.specs.TurnSteps.{Standing, StandingFits, Leads, AddsAll, TakesOne, KeepsAside, standing}
 use Rattle.modem_driver.specs.TurnTakes.{Fetches, TakesAside, TakesIf}
 use Rattle.modem_driver.proofs.sessions.Counting.{is_caller}
+use Rattle.modem_driver.proofs.sessions.Ending.{come_on, grows_none}
 use Rattle.modem_driver.proofs.sessions.Lines.{loss_with}
 use Rattle.modem_driver.proofs.sessions.Parts.{told_part, heard_part, sent_part, received_part}
 
@@ -87,6 +88,7 @@ asks_next l d e old o none room g b past once f =
         callers_are = ap (λ (x : DeskId). length x.rings) g.desk ∙ f.inside.callers_are;
         sound = f.inside.sound;
         by_fault = f.inside.by_fault;
+        come = come_on b v w past [] old.course (grows_none v w refl g.told) f.inside.come;
       };
     }
 

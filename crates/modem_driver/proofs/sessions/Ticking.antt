@@ -1,6 +1,6 @@
 -- A session begins, and a tick.
 use Rattle.std.proofs.Common.{ap, sym, ◌∙◌, subst, arith}
-use Rattle.std.specs.Prelude.{◌≡◌, ◌↔◌, ℕ, ◌≤◌, true, false, List, [], ◌∷◌, length, refl, Contains, Result, Ok, Err, IfOk}
+use Rattle.std.specs.Prelude.{◌≡◌, ◌↔◌, ℕ, ◌≤◌, true, false, List, [], ◌∷◌, length, refl, find, option_map, Contains, Result, Ok, Err, IfOk}
 use Rattle.at_text.specs.declared.unsolicited.UrcKind.{UrcKind}
 use Rattle.modem_desk.specs.Ends.{DriverView}
 use Rattle.modem_history.specs.Acts.{Act, Tick, after}
@@ -12,11 +12,13 @@ use Rattle.modem_history.proofs.Said.{calls_said}
 use Rattle.modem_history.proofs.SessionLawFacts.{begins_fitting}
 use Rattle.modem_driver.specs.Cores.{Core, Fits, Handles, GoesOn}
 use Rattle.modem_driver.specs.Holding.{HoldsFit, KeepsHeld}
+use Rattle.modem_driver.specs.Endings.{HasCome, asker_of, course_after, is_answered, is_stop}
 use Rattle.modem_driver.specs.SessionStates.{SessionState, Kept, KeptFits, KeptTicks, Ticks, new_kept, beginning_of, seen_by, end_of}
 use Rattle.modem_driver.specs.declared.session.error.SessionError.{SessionError}
 use Rattle.modem_driver.specs.WaitingLists.{WaitingLists, Keeps}
 use Rattle.modem_driver.proofs.sessions.Afters.{gots_after, losses_after, lost_after}
 use Rattle.modem_driver.proofs.sessions.Calls.{FitsKept, IsBare, KeepsMore, call_fits, may_come}
+use Rattle.modem_driver.proofs.sessions.Ending.{come_noted, grows_none}
 use Rattle.modem_driver.proofs.sessions.Kinds.{listened_in, in_listened}
 use Rattle.modem_driver.proofs.sessions.Listening.{calls_hear, lines_of_call}
 use Rattle.modem_driver.proofs.sessions.Parts.{received_part}
@@ -44,6 +46,7 @@ kept_begins n1 ks k d e same fits holds l = record {
   callers_are = refl;
   sound = λ h. refl;
   by_fault = λ h. unsound (sym h ∙ ap (λ (v : Kept). v.faulty) e);
+  come = subst (HasCome (beginning_of n1 l d) (seen_by l (end_of d) k) []) (sym (ap (λ (v : Kept). v.course) e)) tt;
 }
 
 pub begins_over : (n1 : ℕ) (ks : List UrcKind) (k : Kept) (l : LineView) (d : DriverView) → k ≡ new_kept n1 ks → KeptFits (beginning_of n1 l d) l d k [] → FitsKept (beginning_of n1 l d) l d k []
@@ -60,10 +63,10 @@ tick_bare past = record { taken_is = refl; given_is = refl; hand_is = refl; room
 
 pub tick_goes : (old : Kept) (core : Core) (room : ℕ) (w : WaitingLists) (acts : List Act)
     → Handles old.core core Tick acts → KeepsHeld old.core core Tick acts → Keeps (record { outcomes = old.unplaced; lines = old.unannounced; room = room }) w acts → old.core.lost ≡ false
-    → KeptTicks old (record old { core = core; unplaced = w.outcomes; unannounced = w.lines })
+    → KeptTicks old (record old { core = core; unplaced = w.outcomes; unannounced = w.lines; course = course_after old.course (is_answered (option_map asker_of (find is_stop old.core.hand)) acts) })
 unfolding KeptTicks Handles KeepsHeld
 tick_goes old core room w acts handles held keeps live b l d =
-    let new : Kept = record old { core = core; unplaced = w.outcomes; unannounced = w.lines } in
+    let new : Kept = record old { core = core; unplaced = w.outcomes; unannounced = w.lines; course = course_after old.course (is_answered (option_map asker_of (find is_stop old.core.hand)) acts) } in
     record {
       acts = acts;
       goes = λ past once f.
@@ -83,8 +86,11 @@ tick_goes old core room w acts handles held keeps live b l d =
             one = subst (λ (xs : List Act). length xs ≤ 1) (sym (losses_after more (Tick ∷ past) said)) f.session.loss.one;
             by_fault = λ gone. f.session.loss.by_fault (sym (lost_after more (Tick ∷ past) said) ∙ gone);
           } in
+          let come : HasCome b (seen_by l (end_of d) new) (after past (Tick ∷ more)) new.course =
+          subst (λ (xs : List Act). HasCome b (seen_by l (end_of d) new) (after past xs) new.course) on.called
+          (come_noted b (seen_by l (end_of d) old) (seen_by l (end_of d) new) past acts old.core.hand old.course f.inside.fits.hand_is (grows_none (seen_by l (end_of d) old) (seen_by l (end_of d) new) refl refl) f.inside.come) in
           subst (λ (xs : List Act). FitsKept b l d new (after past xs)) (sym on.called)
-          (call_fits b l d old new past more Tick f (tick_bare past) here hold said (calls_hear s (seen s past) Tick) keep refl refl refl lost
+          (call_fits b l d old new past more Tick f (tick_bare past) here hold said (calls_hear s (seen s past) Tick) keep refl refl refl come lost
           (received_part b (seen_by l (end_of d) old) (seen_by l (end_of d) new) past (after past (Tick ∷ more)) f.session.received refl refl refl (gots_after more (Tick ∷ past) said)));
       tick = λ past f.
           let s = driving b in

@@ -123,15 +123,15 @@ module _ {s0 s1 s2 s3 s4 s5 s6 s7 : Standing} {m1 m2 m3 m4 m5 m6 m7 : Bool} wher
       let t = placed r.places in
       let w1 = went_placed s0 s1 m1 r.places in
       let heard : s1.kept.unannounced ≡ s1.kept.unannounced = refl in
-      let w2 = went_step s0 s1 s2 t [] r.minds.acts refl w1 r.minds.leads r.minds.adds (ap (λ (s : Standing). s.line) r.minds.stays) (ap (λ (s : Standing). s.driver.taken) r.minds.stays) (ap (λ (s : Standing). s.kept.unfed) r.minds.stays) in
-      went_step s0 s2 s3 t r.minds.acts r.sends.acts refl w2 r.sends.leads (r.sends.adds t.still_heard) (ap (λ (s : Standing). s.line) r.sends.stays) (ap (λ (s : Standing). s.driver.taken) r.sends.stays) (ap (λ (s : Standing). s.kept.unfed) r.sends.stays)
+      let w2 = went_step s0 s1 s2 t [] r.minds.acts refl w1 r.minds.leads r.minds.adds (ap (λ (s : Standing). s.line) r.minds.stays) (ap (λ (s : Standing). s.driver.taken) r.minds.stays) (ap (λ (s : Standing). s.kept.unfed) r.minds.stays) (λ end e. ap (λ (s : Standing). s.kept.course) r.minds.stays ∙ e) in
+      went_step s0 s2 s3 t r.minds.acts r.sends.acts refl w2 r.sends.leads (r.sends.adds t.still_heard) (ap (λ (s : Standing). s.line) r.sends.stays) (ap (λ (s : Standing). s.driver.taken) r.sends.stays) (ap (λ (s : Standing). s.kept.unfed) r.sends.stays) (λ end e. ap (λ (s : Standing). s.kept.course) r.sends.stays ∙ e)
 
   -- and as far as the frame at hand was handled
   pub went_got : (r : Run s0 s1 s2 s3 s4 s5 s6 s7 m1 m2 m3 m4 m5 m6 m7) → Went s0 s5 (record (placed r.places) { write = r.writes.write }) ((r.minds.acts ++ r.sends.acts) ++ r.gets.acts)
   went_got r =
       let t = record (placed r.places) { write = r.writes.write } in
       let w4 = went_wrote s0 s3 s4 (placed r.places) (r.minds.acts ++ r.sends.acts) m4 refl refl refl (went_out r) r.writes in
-      went_step s0 s4 s5 t (r.minds.acts ++ r.sends.acts) r.gets.acts refl w4 r.gets.leads (r.gets.adds (placed r.places).still_heard) (ap (λ (s : Standing). s.line) r.gets.stays) (ap (λ (s : Standing). s.driver.taken) r.gets.stays) (ap (λ (s : Standing). s.kept.unfed) r.gets.stays)
+      went_step s0 s4 s5 t (r.minds.acts ++ r.sends.acts) r.gets.acts refl w4 r.gets.leads (r.gets.adds (placed r.places).still_heard) (ap (λ (s : Standing). s.line) r.gets.stays) (ap (λ (s : Standing). s.driver.taken) r.gets.stays) (ap (λ (s : Standing). s.kept.unfed) r.gets.stays) r.gets.ended
 
   pub went_all : (r : Run s0 s1 s2 s3 s4 s5 s6 s7 m1 m2 m3 m4 m5 m6 m7) → Went s0 s7 (all_dealings r) (all_acts r)
   went_all r =

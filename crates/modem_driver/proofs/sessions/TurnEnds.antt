@@ -6,20 +6,26 @@ use Rattle.modem_history.specs.Calls.{is_lost}
 use Rattle.modem_history.specs.Sessions.{Beginning}
 use Rattle.modem_history.specs.Turns.{Dealings, TurnFault, GoesFault}
 use Rattle.modem_driver.specs.declared.session.error.SessionFault.{SessionFault}
-use Rattle.modem_driver.specs.SessionTurns.{LosesOr, fault_of}
-use Rattle.modem_driver.specs.TurnSteps.{Standing, StandingFits, Leads, Places, Minds, MindsPart, SendsOn, Writes, Gets, ReadsOn, KeepsAside, view_of, inside}
-use Rattle.modem_driver.proofs.sessions.Turning.{Went, placed, went_placed, went_step, went_wrote, went_read, went_aside}
-use Rattle.modem_driver.proofs.sessions.TurnFaults.{none_loses, wants_memory, loses_line}
+use Rattle.modem_driver.specs.SessionStates.{Kept, KeptLoses}
+use Rattle.modem_driver.specs.SessionTurns.{HasTurned, LosesOr, fault_of}
+use Rattle.modem_driver.specs.TurnSteps.{Standing, StandingFits, Leads, Places, Minds, MindsPart, SendsOn, Writes, Gets, ReadsOn, TakesOne, KeepsAside, view_of, inside}
+use Rattle.modem_driver.proofs.sessions.Turning.{Went, has_turned, placed, went_placed, went_step, went_wrote, went_read, went_took, went_aside}
+use Rattle.modem_driver.proofs.sessions.TurnFaults.{has_failed, none_loses, wants_memory, loses_line}
 
--- a fault of any kind by which a turn ended
-abbrev pub FaultBy : (s0 s : Standing) → TurnFault → Type 0
-FaultBy s0 s why = (b : Beginning) → GoesFault b (view_of s0) (view_of s) (inside b s0) (inside b s) why
+-- a fault of any kind by which a turn ended, and what is so whichever way it ends
+pub record FaultBy (s0 s : Standing) (why : TurnFault) : Type 0 where
+  pub fault : (b : Beginning) → GoesFault b (view_of s0) (view_of s) (inside b s0) (inside b s) why
+  pub turned : HasTurned s0 s
+
+-- there was no memory for a step
+in_vain : (s0 s : Standing) (t : Dealings) (acts : List Act) → Went s0 s t acts → s0.kept.core.lost ≡ false → FaultBy s0 s TurnFault.NoMemory
+in_vain s0 s t acts w live = record { fault = wants_memory s0 s t acts w live; turned = has_turned s0 s t acts w }
 
 true_false : true ≡ false → ⊥
 true_false h = cc
 
 -- a line that isn't lost before a turn isn't lost by what a turn does
-lost_before : (s0 s : Standing) (t : Dealings) (acts : List Act) → Went s0 s t acts → s0.kept.core.lost ≡ false → s.kept.core.lost ≡ true → FaultBy s0 s TurnFault.Failed
+lost_before : (s0 s : Standing) (t : Dealings) (acts : List Act) → Went s0 s t acts → s0.kept.core.lost ≡ false → s.kept.core.lost ≡ true → (b : Beginning) → GoesFault b (view_of s0) (view_of s) (inside b s0) (inside b s) TurnFault.Failed
 unfolding Leads
 lost_before s0 s t acts w live lost b = record {
   acts = acts;
@@ -32,28 +38,42 @@ lost_before s0 s t acts w live lost b = record {
       absurd (true_false (sym lost ∙ (sym here.inside.fits.lost_is ∙ still)));
 }
 
+-- the loss of the line is no call on it
+lost_turned : (s0 s1 s2 : Standing) (t : Dealings) (xs : List Act) → Went s0 s1 t xs → s2 ≡ record s1 { kept = s2.kept } → KeptLoses s1.kept s2.kept → HasTurned s0 s2
+lost_turned s0 s1 s2 t xs w same k =
+    let h = has_turned s0 s1 t xs w in
+    subst (HasTurned s0) (sym same) (record {
+      calls = h.calls;
+      taken = h.taken;
+      ended = λ end e. ap (λ (v : Kept). v.course) k.stays ∙ h.ended end e;
+    })
+
 pub lost_after : (why : SessionFault) (s0 s1 s2 : Standing) (t : Dealings) (xs : List Act) → t.next ≡ None → Went s0 s1 t xs → LosesOr why s1 s2 → s0.kept.core.lost ≡ false → FaultBy s0 s2 (fault_of why)
-lost_after SessionFault.Line s0 s1 s2 t xs none w k live = loses_line s0 s1 s2 t xs none w k.0 k.1 live
-lost_after SessionFault.NoMemory s0 s1 s2 t xs none w k live = subst (λ (s : Standing). FaultBy s0 s TurnFault.NoMemory) (sym k) (wants_memory s0 s1 t xs w live)
-lost_after SessionFault.Failed s0 s1 s2 t xs none w k live = subst (λ (s : Standing). FaultBy s0 s TurnFault.Failed) (sym k.0) (lost_before s0 s1 t xs w live k.1)
+lost_after SessionFault.Line s0 s1 s2 t xs none w k live = record { fault = loses_line s0 s1 s2 t xs none w k.0 k.1 live; turned = lost_turned s0 s1 s2 t xs w k.0 k.1 }
+lost_after SessionFault.NoMemory s0 s1 s2 t xs none w k live = subst (λ (s : Standing). FaultBy s0 s TurnFault.NoMemory) (sym k) (in_vain s0 s1 t xs w live)
+lost_after SessionFault.Failed s0 s1 s2 t xs none w k live = subst (λ (s : Standing). FaultBy s0 s TurnFault.Failed) (sym k.0) (record { fault = lost_before s0 s1 t xs w live k.1; turned = has_turned s0 s1 t xs w })
 
 minded : {s0 s1 s2 : Standing} {m1 m2 : Bool} → (p : Places s0 s1 m1) (k : Minds s1 s2 m2) → Went s0 s2 (placed p) k.acts
-minded {s0} {s1} {s2} {m1} {m2} p k = went_step s0 s1 s2 (placed p) [] k.acts refl (went_placed s0 s1 m1 p) k.leads k.adds (ap (λ (s : Standing). s.line) k.stays) (ap (λ (s : Standing). s.driver.taken) k.stays) (ap (λ (s : Standing). s.kept.unfed) k.stays)
+minded {s0} {s1} {s2} {m1} {m2} p k = went_step s0 s1 s2 (placed p) [] k.acts refl (went_placed s0 s1 m1 p) k.leads k.adds (ap (λ (s : Standing). s.line) k.stays) (ap (λ (s : Standing). s.driver.taken) k.stays) (ap (λ (s : Standing). s.kept.unfed) k.stays) (λ end e. ap (λ (s : Standing). s.kept.course) k.stays ∙ e)
 
 sent : {s0 s1 s2 s3 : Standing} {m1 m2 m3 : Bool} → (p : Places s0 s1 m1) (k : Minds s1 s2 m2) (n : SendsOn s2 s3 m3) → Went s0 s3 (placed p) (k.acts ++ n.acts)
-sent {s0} {s1} {s2} {s3} {m1} {m2} {m3} p k n = went_step s0 s2 s3 (placed p) k.acts n.acts refl (minded p k) n.leads (n.adds s1.kept.unannounced) (ap (λ (s : Standing). s.line) n.stays) (ap (λ (s : Standing). s.driver.taken) n.stays) (ap (λ (s : Standing). s.kept.unfed) n.stays)
+sent {s0} {s1} {s2} {s3} {m1} {m2} {m3} p k n = went_step s0 s2 s3 (placed p) k.acts n.acts refl (minded p k) n.leads (n.adds s1.kept.unannounced) (ap (λ (s : Standing). s.line) n.stays) (ap (λ (s : Standing). s.driver.taken) n.stays) (ap (λ (s : Standing). s.kept.unfed) n.stays) (λ end e. ap (λ (s : Standing). s.kept.course) n.stays ∙ e)
 
 wrote : {s0 s1 s2 s3 s4 : Standing} {m1 m2 m3 m4 : Bool} → (p : Places s0 s1 m1) (k : Minds s1 s2 m2) (n : SendsOn s2 s3 m3) (w : Writes s3 s4 m4) → Went s0 s4 (record (placed p) { write = w.write }) (k.acts ++ n.acts)
 wrote {s0} {s1} {s2} {s3} {s4} {m1} {m2} {m3} {m4} p k n w = went_wrote s0 s3 s4 (placed p) (k.acts ++ n.acts) m4 refl refl refl (sent p k n) w
 
 got : {s0 s1 s2 s3 s4 s5 : Standing} {m1 m2 m3 m4 m5 : Bool} → (p : Places s0 s1 m1) (k : Minds s1 s2 m2) (n : SendsOn s2 s3 m3) (w : Writes s3 s4 m4) (g : Gets s4 s5 m5) → Went s0 s5 (record (placed p) { write = w.write }) ((k.acts ++ n.acts) ++ g.acts)
 got {s0} {s1} {s2} {s3} {s4} {s5} {m1} {m2} {m3} {m4} {m5} p k n w g =
-    went_step s0 s4 s5 (record (placed p) { write = w.write }) (k.acts ++ n.acts) g.acts refl (wrote p k n w) g.leads (g.adds s1.kept.unannounced) (ap (λ (s : Standing). s.line) g.stays) (ap (λ (s : Standing). s.driver.taken) g.stays) (ap (λ (s : Standing). s.kept.unfed) g.stays)
+    went_step s0 s4 s5 (record (placed p) { write = w.write }) (k.acts ++ n.acts) g.acts refl (wrote p k n w) g.leads (g.adds s1.kept.unannounced) (ap (λ (s : Standing). s.line) g.stays) (ap (λ (s : Standing). s.driver.taken) g.stays) (ap (λ (s : Standing). s.kept.unfed) g.stays) g.ended
 
 read : {s0 s1 s2 s3 s4 s5 s6 : Standing} {m1 m2 m3 m4 m5 m6 : Bool} → (p : Places s0 s1 m1) (k : Minds s1 s2 m2) (n : SendsOn s2 s3 m3) (w : Writes s3 s4 m4) (g : Gets s4 s5 m5) (r : ReadsOn s5 s6 m6) → Went s0 s6 (record (placed p) { write = w.write; read = r.read }) ((k.acts ++ n.acts) ++ g.acts)
 read {s0} {s1} {s2} {s3} {s4} {s5} {s6} {m1} {m2} {m3} {m4} {m5} {m6} p k n w g r = went_read s0 s5 s6 (record (placed p) { write = w.write }) ((k.acts ++ n.acts) ++ g.acts) m6 refl refl (got p k n w g) r
 
 -- ## The line is lost
+
+-- it was lost before
+pub failed_before : {s0 s1 : Standing} {m1 : Bool} → (p : Places s0 s1 m1) → s0.kept.core.lost ≡ true → FaultBy s0 s1 TurnFault.Failed
+failed_before {s0} {s1} {m1} p lost = record { fault = has_failed s0 s1 m1 p lost; turned = has_turned s0 s1 (placed p) [] (went_placed s0 s1 m1 p) }
 
 pub lost_first : {s0 s1 : Standing} {m1 : Bool} → (why : SessionFault) (s : Standing) (p : Places s0 s1 m1) → LosesOr why s1 s → s0.kept.core.lost ≡ false → FaultBy s0 s (fault_of why)
 lost_first {s0} {s1} {m1} why s p = lost_after why s0 s1 s (placed p) [] refl (went_placed s0 s1 m1 p)
@@ -68,18 +88,26 @@ lost_reading {s0} {s1} {s2} {s3} {s4} {s5} {s6} {m1} {m2} {m3} {m4} {m5} {m6} wh
 
 pub minds_in_vain : {s0 s1 : Standing} {m1 : Bool} → (s : Standing) (p : Places s0 s1 m1) → MindsPart s1 s → s0.kept.core.lost ≡ false → FaultBy s0 s TurnFault.NoMemory
 minds_in_vain {s0} {s1} {m1} s p k live =
-    wants_memory s0 s (placed p) k.acts
-    (went_step s0 s1 s (placed p) [] k.acts refl (went_placed s0 s1 m1 p) k.leads k.adds (ap (λ (s : Standing). s.line) k.stays) (ap (λ (s : Standing). s.driver.taken) k.stays) (ap (λ (s : Standing). s.kept.unfed) k.stays)) live
+    in_vain s0 s (placed p) k.acts
+    (went_step s0 s1 s (placed p) [] k.acts refl (went_placed s0 s1 m1 p) k.leads k.adds (ap (λ (s : Standing). s.line) k.stays) (ap (λ (s : Standing). s.driver.taken) k.stays) (ap (λ (s : Standing). s.kept.unfed) k.stays) (λ end e. ap (λ (s : Standing). s.kept.course) k.stays ∙ e)) live
 
 pub gets_in_vain : {s0 s1 s2 s3 s4 : Standing} {m1 m2 m3 m4 : Bool} → (s : Standing) (p : Places s0 s1 m1) (k : Minds s1 s2 m2) (n : SendsOn s2 s3 m3) (w : Writes s3 s4 m4) → s ≡ s4 → s0.kept.core.lost ≡ false → FaultBy s0 s TurnFault.NoMemory
 gets_in_vain {s0} {s1} {s2} {s3} {s4} {m1} {m2} {m3} {m4} s p k n w same live =
-    subst (λ (s : Standing). FaultBy s0 s TurnFault.NoMemory) (sym same) (wants_memory s0 s4 (record (placed p) { write = w.write }) (k.acts ++ n.acts) (wrote p k n w) live)
+    subst (λ (s : Standing). FaultBy s0 s TurnFault.NoMemory) (sym same) (in_vain s0 s4 (record (placed p) { write = w.write }) (k.acts ++ n.acts) (wrote p k n w) live)
 
 pub takes_in_vain : {s0 s1 s2 s3 s4 s5 s6 : Standing} {m1 m2 m3 m4 m5 m6 : Bool} → (s : Standing) (p : Places s0 s1 m1) (k : Minds s1 s2 m2) (n : SendsOn s2 s3 m3) (w : Writes s3 s4 m4) (g : Gets s4 s5 m5) (r : ReadsOn s5 s6 m6) → KeepsAside s6 s → s0.kept.core.lost ≡ false → FaultBy s0 s TurnFault.NoMemory
 takes_in_vain {s0} {s1} {s2} {s3} {s4} {s5} {s6} {m1} {m2} {m3} {m4} {m5} {m6} s p k n w g r a live =
     let acts = (k.acts ++ n.acts) ++ g.acts in
     let t = record (placed p) { write = w.write; read = r.read } in
-    wants_memory s0 s (record t { next = a.next }) acts (went_aside s0 s6 s t acts refl (read p k n w g r) a) live
+    in_vain s0 s (record t { next = a.next }) acts (went_aside s0 s6 s t acts refl (read p k n w g r) a) live
+
+-- ## It ends in an answer
+
+pub all_turned : {s0 s1 s2 s3 s4 s5 s6 s7 : Standing} {m1 m2 m3 m4 m5 m6 m7 : Bool} → Places s0 s1 m1 → Minds s1 s2 m2 → SendsOn s2 s3 m3 → Writes s3 s4 m4 → Gets s4 s5 m5 → ReadsOn s5 s6 m6 → TakesOne s6 s7 m7 → HasTurned s0 s7
+all_turned {s0} {s1} {s2} {s3} {s4} {s5} {s6} {s7} {m1} {m2} {m3} {m4} {m5} {m6} {m7} p k n w g r q =
+    let acts = (k.acts ++ n.acts) ++ g.acts in
+    let t = record (placed p) { write = w.write; read = r.read } in
+    has_turned s0 s7 (record t { next = q.next }) (acts ++ q.acts) (went_took s0 s6 s7 t acts m7 refl (read p k n w g r) q)
 
 -- ## What a turn began with
 

@@ -13,7 +13,9 @@ use Rattle.modem_desk.specs.Ends.{DriverView}
 use Rattle.modem_history.specs.Sessions.{Beginning, LineView, AreOnce, heard_as}
 use Rattle.modem_history.specs.Turns.{Write, Read, Dealings, HandsBack, HasRoom, octets_written, octets_read, request_given, calls_made, counted, outcomes_told, lines_heard, may_act}
 use Rattle.modem_history.proofs.AfterActs.{after_both}
+use Rattle.modem_driver.specs.Endings.{KeepsEnd}
 use Rattle.modem_driver.specs.SessionStates.{Kept}
+use Rattle.modem_driver.specs.SessionTurns.{HasTurned}
 use Rattle.modem_driver.specs.TurnSteps.{Standing, StandingFits, Leads, Adds, AddsAll, Places, Writes, ReadsOn, TakesOne, KeepsAside, view_of}
 use Rattle.modem_driver.proofs.sessions.Keeping.{told_both}
 use Rattle.modem_driver.proofs.sessions.Listening.{heard_both}
@@ -49,6 +51,7 @@ pub record Went (start now : Standing) (t : Dealings) (acts : List Act) : Type 0
   pub taken : now.driver.taken ≡ start.driver.taken ++ request_given t.next
   pub hands_back : HandsBack t
   pub unfed : length now.kept.unfed ≤ length start.kept.unfed + length (octets_read t.read)
+  pub ended : KeepsEnd start.kept.course now.kept.course
   pub adds : (b : Beginning) (past : List Act) → AreOnce b (view_of now) → StandingFits b start past → AddsTo t now.kept acts
 
 -- what the desk was offered first
@@ -73,6 +76,7 @@ went_placed s0 s1 moved p =
       taken = p.taken_stays ∙ sym (append-nil s0.driver.taken);
       hands_back = record { outcomes = p.outcomes_back; lines = p.lines_back };
       unfed = let e = ap length unfed in omega (arith, e);
+      ended = λ end e. ap (λ (s : Standing). s.kept.course) p.stays ∙ e;
       adds = λ b past once f. record {
         outcomes = sym (append-nil s1.kept.unplaced);
         lines = sym (append-nil (map heard_as s1.kept.unannounced));
@@ -101,9 +105,9 @@ adds_on t k1 k2 xs ys a d = record {
 
 -- a step of the core: the line, what the desk gave and the octets not yet fed stay
 pub went_step : (s0 s1 s2 : Standing) (t : Dealings) (xs ys : List Act) → t.next ≡ None → Went s0 s1 t xs → Leads s1 s2 ys → AddsAll s1 s2 t.still_heard ys
-    → s2.line ≡ s1.line → s2.driver.taken ≡ s1.driver.taken → s2.kept.unfed ≡ s1.kept.unfed → Went s0 s2 t (xs ++ ys)
+    → s2.line ≡ s1.line → s2.driver.taken ≡ s1.driver.taken → s2.kept.unfed ≡ s1.kept.unfed → KeepsEnd s1.kept.course s2.kept.course → Went s0 s2 t (xs ++ ys)
 unfolding Leads AddsAll
-went_step s0 s1 s2 t xs ys none w leads adds line taken unfed =
+went_step s0 s1 s2 t xs ys none w leads adds line taken unfed ended =
     let still = taken_still s0 s1 t xs none w in
     record {
       leads = leads_on s0 s1 s2 xs ys still w.leads leads;
@@ -114,6 +118,7 @@ went_step s0 s1 s2 t xs ys none w leads adds line taken unfed =
       taken = taken ∙ w.taken;
       hands_back = w.hands_back;
       unfed = let e = ap length unfed in let before = w.unfed in omega (arith, e, before);
+      ended = λ end e. ended end (w.ended end e);
       adds = λ b past once f.
           let mid = once_still b s0 s1 past still f in
           adds_on t s1.kept s2.kept xs ys (w.adds b past mid f) (adds b (after past xs) once (w.leads b past mid f));
@@ -138,6 +143,7 @@ went_wrote s0 s1 s2 t xs moved none unwritten unread w k =
       calls = k.calls ∙ (ap (λ (n : ℕ). counted n (calls_made k.write)) count ∙ (ap (counted s0.line.calls) (sym (one_alone (calls_made k.write))) ∙ ap (λ (o : Option Read). counted s0.line.calls (calls_made k.write + calls_made o)) (sym unread)));
       taken = ap (λ (d : DriverView). d.taken) same ∙ w.taken;
       hands_back = record { outcomes = w.hands_back.outcomes; lines = w.hands_back.lines };
+      ended = λ end e. ap (λ (s : Standing). s.kept.course) k.stays ∙ w.ended end e;
       unfed = let e = ap (λ (s : Standing). length s.kept.unfed) k.stays in let before = w.unfed in omega (arith, e, before);
       adds = λ b past once f.
           let a = adds_still t s1.kept s2.kept xs (w.adds b past (once_still b s0 s1 past still f) f) (ap (λ (s : Standing). s.kept.unplaced) k.stays) (ap (λ (s : Standing). s.kept.unannounced) k.stays) in
@@ -171,6 +177,7 @@ went_read s0 s1 s2 t xs moved none unread w k =
       calls = k.calls ∙ (ap (λ (n : ℕ). counted n (calls_made k.read)) count ∙ counted_both s0.line.calls t.write k.read);
       taken = ap (λ (d : DriverView). d.taken) same ∙ w.taken;
       hands_back = record { outcomes = w.hands_back.outcomes; lines = w.hands_back.lines };
+      ended = λ end e. ap (λ (s : Standing). s.kept.course) k.stays ∙ w.ended end e;
       unfed = omega (arith, before, more);
       adds = λ b past once f.
           let a = adds_still t s1.kept s2.kept xs (w.adds b past (once_still b s0 s1 past still f) f) (ap (λ (s : Standing). s.kept.unplaced) k.stays) (ap (λ (s : Standing). s.kept.unannounced) k.stays) in
@@ -194,6 +201,7 @@ went_took s0 s1 s2 t xs moved none w k =
       calls = ap (λ (l : LineView). l.calls) line ∙ w.calls;
       taken = k.taken ∙ ap (λ (qs : List Request). qs ++ request_given k.next) still;
       hands_back = record { outcomes = w.hands_back.outcomes; lines = w.hands_back.lines };
+      ended = λ end e. ap (λ (s : Standing). s.kept.course) k.stays ∙ w.ended end e;
       unfed = let e = ap (λ (s : Standing). length s.kept.unfed) k.stays in let before = w.unfed in omega (arith, e, before);
       adds = λ b past once f.
           let mid = once_still b s0 s1 past still f in
@@ -214,8 +222,24 @@ went_aside s0 s1 s2 t xs none w k =
       calls = ap (λ (l : LineView). l.calls) line ∙ w.calls;
       taken = k.taken ∙ ap (λ (qs : List Request). qs ++ request_given k.next) still;
       hands_back = record { outcomes = w.hands_back.outcomes; lines = w.hands_back.lines };
+      ended = λ end e. ap (λ (s : Standing). s.kept.course) k.stays ∙ w.ended end e;
       unfed = let e = ap (λ (s : Standing). length s.kept.unfed) k.stays in let before = w.unfed in omega (arith, e, before);
       adds = λ b past once f.
           let a = adds_still t s1.kept s2.kept xs (w.adds b past (once_still b s0 s1 past still f) f) (ap (λ (s : Standing). s.kept.unplaced) k.stays) (ap (λ (s : Standing). s.kept.unannounced) k.stays) in
           record { outcomes = a.outcomes; lines = a.lines; may = a.may };
     }
+
+-- ## Whichever way it ends
+
+few_calls : (n m : ℕ) {A B : Type 0} (w : Option A) (r : Option B) → m ≡ counted n (calls_made w + calls_made r) → m ≤ n + 2
+few_calls n m None None e = omega (arith, e)
+few_calls n m None (Some r) e = omega (arith, e)
+few_calls n m (Some w) None e = omega (arith, e)
+few_calls n m (Some w) (Some r) e = omega (arith, e)
+
+pub has_turned : (s0 s : Standing) (t : Dealings) (acts : List Act) → Went s0 s t acts → HasTurned s0 s
+has_turned s0 s t acts w = record {
+  calls = few_calls s0.line.calls s.line.calls t.write t.read w.calls;
+  taken = record { rest = request_given t.next; joins = sym w.taken };
+  ended = w.ended;
+}

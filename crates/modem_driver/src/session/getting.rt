@@ -22,8 +22,10 @@ impl Kept {
         let Ok(()) = self.waiting.make_room(frame.info.len()) else {
             return Err(SessionFault::NoMemory);
         };
+        let stop = self.core.stop();
         match self.core.got(frame) {
             Ok(acts) => {
+                self.course.note(stop, acts.as_slice());
                 self.waiting.keep(acts);
                 self.deframer.advance();
                 Ok(true)

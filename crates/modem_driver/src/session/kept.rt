@@ -1,6 +1,7 @@
 //! What a session keeps beside its line and its desk's end.
 ghost use Rattle.std.specs.Prelude.{◌≡◌, ◌≢◌, ◌↔◌, ◌+◌, ◌<◌, ◌≤◌, ◌⊎◌, ◌++◌, [], true, false, length, option_to_list, None, IfOk, IsErrOf, OnOk, OnErr};
 ghost use Rattle.modem_driver.specs.Cores.{Fits};
+ghost use Rattle.modem_driver.specs.Endings.{KeepsEnd};
 ghost use Rattle.modem_driver.specs.Holding.{HoldsFit};
 ghost use Rattle.modem_driver.specs.SessionStates.{new_kept, KeptLoses, KeptTicks};
 ghost use Rattle.modem_driver.specs.declared.session.error.SessionError.TheVariants as why;
@@ -8,6 +9,7 @@ ghost use Rattle.modem_driver.specs.declared.session.error.SessionFault.TheVaria
 
 use crate::driver::Core;
 use crate::error::CoreError;
+use crate::session::ending::Course;
 use crate::session::error::{SessionError, SessionFault};
 use crate::session::input::Input;
 use crate::session::output::Output;
@@ -19,7 +21,7 @@ use std::alloc::Global;
 use std::marker::Model;
 
 /// The core, the octets that come and go, what waits for a place at the desk, a request kept aside,
-/// and whether a call on the line has failed.
+/// whether a call on the line has failed, and how far it has come on the way to its end.
 #[derive(Drop)]
 pub(crate) struct Kept {
     pub(super) core: Core,
@@ -29,6 +31,7 @@ pub(crate) struct Kept {
     pub(super) output: Output,
     pub(super) waiting: Waiting,
     pub(super) faulty: bool,
+    pub(super) course: Course,
 }
 
 impl Model for Kept {
@@ -46,6 +49,7 @@ impl Model for Kept {
       unplaced = k.waiting.outcomes;
       unannounced = k.waiting.lines;
       faulty = k.faulty;
+      course = k.course;
     } };
 
     ghost invariant = { λ k. k.core.station.n1 ≡ k.deframer.n1 };
@@ -76,6 +80,7 @@ impl Kept {
             output: Output::new(alloc)?,
             waiting: Waiting::new(alloc)?,
             faulty: false,
+            course: Course::GoesOn,
         })
     }
 
@@ -83,6 +88,7 @@ impl Kept {
     /// NoMemory.
     pub(crate) fn tick(&mut self) -> Result<(), SessionFault>
         ensures ticks { OnOk result (KeptTicks self.old self.new) }
+        ensures ended { KeepsEnd self.old.course self.new.course }
         ensures err { OnErr result (self.new ≡ self.old) }
         ensures failed { (result ≡ Err fault.Failed) ↔ (self.old.core.lost ≡ true) }
         ensures line { result ≢ Err fault.Line }
@@ -90,9 +96,11 @@ impl Kept {
         if self.core.lost {
             return Err(SessionFault::Failed);
         }
+        let stop = self.core.stop();
         let Ok(acts) = self.core.tick() else {
             return Err(SessionFault::NoMemory);
         };
+        self.course.note(stop, acts.as_slice());
         self.waiting.keep(acts);
         Ok(())
     }
@@ -103,6 +111,7 @@ impl Kept {
         requires faulty { self.old.faulty ≡ true }
         requires live { self.old.core.lost ≡ false }
         ensures loses { OnOk result (KeptLoses self.old self.new) }
+        ensures gone { OnOk result (self.new.core.lost ≡ true) }
         ensures err { OnErr result (self.new ≡ self.old) }
         ensures no_memory { OnErr result (result ≡ Err fault.NoMemory) }
     {

@@ -2,7 +2,7 @@
 ghost use Rattle.std.specs.Prelude.{◌≡◌, true, Err, IfOk, IfErr, OnErr};
 ghost use Rattle.modem_driver.specs.SessionStates.{line_by};
 ghost use Rattle.modem_driver.specs.TurnSteps.{Places, Minds, MindsPart, SendsOn, Writes, Gets, ReadsOn, TakesOne, KeepsAside};
-ghost use Rattle.modem_driver.specs.SessionTurns.{standing_of, answer_of, fault_of, Answers, LosesOr, Turns, Faults};
+ghost use Rattle.modem_driver.specs.SessionTurns.{standing_of, answer_of, fault_of, Answers, HasTurned, LeavesLost, LosesOr, Turns, Faults};
 ghost use Rattle.modem_driver.specs.declared.session.error.SessionFault.TheVariants as fault;
 
 use crate::session::Session;
@@ -148,7 +148,8 @@ impl<L: SerialLine, R: Wait + Drop> Session<L, R> {
     /// the fault by which the turn ends.
     fn lose_line(&mut self) -> SessionFault
         requires { self.old.kept.faulty ≡ true }
-        ensures { LosesOr result (standing_of (line_by L.received L.sent L.calls L.failures) self.old)
+        ensures lost { LeavesLost result self.new.kept }
+        ensures loses { LosesOr result (standing_of (line_by L.received L.sent L.calls L.failures) self.old)
             (standing_of (line_by L.received L.sent L.calls L.failures) self.new) }
     {
         if self.kept.core.lost {
@@ -173,6 +174,9 @@ impl<L: SerialLine, R: Wait + Drop> Session<L, R> {
             self.old self.new (answer_of says)) }
         ensures faults { IfErr result (λ why. Faults (line_by L.received L.sent L.calls L.failures)
             self.old self.new (fault_of why)) }
+        ensures turned { HasTurned (standing_of (line_by L.received L.sent L.calls L.failures) self.old)
+            (standing_of (line_by L.received L.sent L.calls L.failures) self.new) }
+        ensures lost { IfErr result (λ why. LeavesLost why self.new.kept) }
         ensures failed { self.old.kept.core.lost ≡ true → result ≡ Err fault.Failed }
         ensures desk { self.new.driver.desk ≡ self.old.driver.desk }
     {

@@ -2,9 +2,8 @@
 use Rattle.std.proofs.Common.{ap, sym, ◌∙◌, subst, true, false, Bool}
 use Rattle.modem_driver.specs.SessionStates.{line_by}
 use Rattle.modem_driver.specs.SessionTurns.{Answers, Turns, Faults, standing_of, answer_of}
-use Rattle.modem_driver.proofs.sessions.TurnFaults.{has_failed}
 use Rattle.modem_driver.proofs.sessions.TurnMeans.{goes_turn}
-use Rattle.modem_driver.proofs.sessions.TurnEnds.{lost_at_first, faulty_at_first, lost_first, lost_writing, lost_reading, minds_in_vain, gets_in_vain, takes_in_vain, all_or}
+use Rattle.modem_driver.proofs.sessions.TurnEnds.{all_turned, failed_before, lost_at_first, faulty_at_first, lost_first, lost_writing, lost_reading, minds_in_vain, gets_in_vain, takes_in_vain, all_or}
 use Rattle.modem_driver.proofs.session.Session.turn.Goals as goal
 
 pub returns-then-is_lost-clause-faults : goal.returns-then-is_lost-clause-faults
@@ -12,21 +11,39 @@ unfolding Faults
 returns-then-is_lost-clause-faults g c =
     let look = line_by g.L.SerialLine.received g.L.SerialLine.sent g.L.SerialLine.calls g.L.SerialLine.failures in
     let p = c.place-placed.ensures in
-    has_failed (standing_of look c.args.self.now) (standing_of look c.place-placed.new.self) c.place-placed.result p (lost_at_first true p (sym c.is_lost.ensures ∙ c.if-is_lost.true))
+    (failed_before p (lost_at_first true p (sym c.is_lost.ensures ∙ c.if-is_lost.true))).fault
+
+pub returns-then-is_lost-clause-turned : goal.returns-then-is_lost-clause-turned
+returns-then-is_lost-clause-turned g c =
+    let look = line_by g.L.SerialLine.received g.L.SerialLine.sent g.L.SerialLine.calls g.L.SerialLine.failures in
+    let p = c.place-placed.ensures in
+    (failed_before p (lost_at_first true p (sym c.is_lost.ensures ∙ c.if-is_lost.true))).turned
 
 pub returns-then-is_faulty-clause-faults : goal.returns-then-is_faulty-clause-faults
 unfolding Faults
 returns-then-is_faulty-clause-faults g c =
     let look = line_by g.L.SerialLine.received g.L.SerialLine.sent g.L.SerialLine.calls g.L.SerialLine.failures in
     let p = c.place-placed.ensures in
-    lost_first c.lose_line.result (standing_of look c.lose_line.new.self) p c.lose_line.ensures (lost_at_first false p (sym c.is_lost.ensures ∙ c.if-is_lost.false))
+    (lost_first c.lose_line.result (standing_of look c.lose_line.new.self) p c.lose_line.ensures.loses (lost_at_first false p (sym c.is_lost.ensures ∙ c.if-is_lost.false))).fault
+
+pub returns-then-is_faulty-clause-turned : goal.returns-then-is_faulty-clause-turned
+returns-then-is_faulty-clause-turned g c =
+    let look = line_by g.L.SerialLine.received g.L.SerialLine.sent g.L.SerialLine.calls g.L.SerialLine.failures in
+    let p = c.place-placed.ensures in
+    (lost_first c.lose_line.result (standing_of look c.lose_line.new.self) p c.lose_line.ensures.loses (lost_at_first false p (sym c.is_lost.ensures ∙ c.if-is_lost.false))).turned
 
 pub returns-in_default-clause-faults : goal.returns-in_default-clause-faults
 unfolding Faults
 returns-in_default-clause-faults g c =
     let look = line_by g.L.SerialLine.received g.L.SerialLine.sent g.L.SerialLine.calls g.L.SerialLine.failures in
     let p = c.place-placed.ensures in
-    minds_in_vain (standing_of look c.mind_backlogs.new.self) p c.in_default.ensures.part (lost_at_first false p (sym c.is_lost.ensures ∙ c.if-is_lost.false))
+    (minds_in_vain (standing_of look c.mind_backlogs.new.self) p c.in_default.ensures.part (lost_at_first false p (sym c.is_lost.ensures ∙ c.if-is_lost.false))).fault
+
+pub returns-in_default-clause-turned : goal.returns-in_default-clause-turned
+returns-in_default-clause-turned g c =
+    let look = line_by g.L.SerialLine.received g.L.SerialLine.sent g.L.SerialLine.calls g.L.SerialLine.failures in
+    let p = c.place-placed.ensures in
+    (minds_in_vain (standing_of look c.mind_backlogs.new.self) p c.in_default.ensures.part (lost_at_first false p (sym c.is_lost.ensures ∙ c.if-is_lost.false))).turned
 
 pub returns-then-is_faulty-2-clause-faults : goal.returns-then-is_faulty-2-clause-faults
 unfolding Faults
@@ -34,14 +51,27 @@ returns-then-is_faulty-2-clause-faults g c =
     let look = line_by g.L.SerialLine.received g.L.SerialLine.sent g.L.SerialLine.calls g.L.SerialLine.failures in
     let p = c.place-placed.ensures in
     let end = c.lose_line-then-is_faulty-2 in
-    lost_writing end.result (standing_of look end.new.self) p c.in-Ok.ensures.minds c.send_on-sent.ensures c.write_on-wrote.ensures end.ensures (lost_at_first false p (sym c.is_lost.ensures ∙ c.if-is_lost.false))
+    (lost_writing end.result (standing_of look end.new.self) p c.in-Ok.ensures.minds c.send_on-sent.ensures c.write_on-wrote.ensures end.ensures.loses (lost_at_first false p (sym c.is_lost.ensures ∙ c.if-is_lost.false))).fault
+
+pub returns-then-is_faulty-2-clause-turned : goal.returns-then-is_faulty-2-clause-turned
+returns-then-is_faulty-2-clause-turned g c =
+    let look = line_by g.L.SerialLine.received g.L.SerialLine.sent g.L.SerialLine.calls g.L.SerialLine.failures in
+    let p = c.place-placed.ensures in
+    let end = c.lose_line-then-is_faulty-2 in
+    (lost_writing end.result (standing_of look end.new.self) p c.in-Ok.ensures.minds c.send_on-sent.ensures c.write_on-wrote.ensures end.ensures.loses (lost_at_first false p (sym c.is_lost.ensures ∙ c.if-is_lost.false))).turned
 
 pub returns-in_default-get_one-clause-faults : goal.returns-in_default-get_one-clause-faults
 unfolding Faults
 returns-in_default-get_one-clause-faults g c =
     let look = line_by g.L.SerialLine.received g.L.SerialLine.sent g.L.SerialLine.calls g.L.SerialLine.failures in
     let p = c.place-placed.ensures in
-    gets_in_vain (standing_of look c.get_one.new.self) p c.in-Ok.ensures.minds c.send_on-sent.ensures c.write_on-wrote.ensures (ap (standing_of look) c.in_default-get_one.ensures.err) (lost_at_first false p (sym c.is_lost.ensures ∙ c.if-is_lost.false))
+    (gets_in_vain (standing_of look c.get_one.new.self) p c.in-Ok.ensures.minds c.send_on-sent.ensures c.write_on-wrote.ensures (ap (standing_of look) c.in_default-get_one.ensures.err) (lost_at_first false p (sym c.is_lost.ensures ∙ c.if-is_lost.false))).fault
+
+pub returns-in_default-get_one-clause-turned : goal.returns-in_default-get_one-clause-turned
+returns-in_default-get_one-clause-turned g c =
+    let look = line_by g.L.SerialLine.received g.L.SerialLine.sent g.L.SerialLine.calls g.L.SerialLine.failures in
+    let p = c.place-placed.ensures in
+    (gets_in_vain (standing_of look c.get_one.new.self) p c.in-Ok.ensures.minds c.send_on-sent.ensures c.write_on-wrote.ensures (ap (standing_of look) c.in_default-get_one.ensures.err) (lost_at_first false p (sym c.is_lost.ensures ∙ c.if-is_lost.false))).turned
 
 pub returns-then-is_faulty-3-clause-faults : goal.returns-then-is_faulty-3-clause-faults
 unfolding Faults
@@ -49,14 +79,27 @@ returns-then-is_faulty-3-clause-faults g c =
     let look = line_by g.L.SerialLine.received g.L.SerialLine.sent g.L.SerialLine.calls g.L.SerialLine.failures in
     let p = c.place-placed.ensures in
     let end = c.lose_line-then-is_faulty-3 in
-    lost_reading end.result (standing_of look end.new.self) p c.in-Ok.ensures.minds c.send_on-sent.ensures c.write_on-wrote.ensures c.in-Ok-get_one.ensures.gets c.read_on-read.ensures end.ensures (lost_at_first false p (sym c.is_lost.ensures ∙ c.if-is_lost.false))
+    (lost_reading end.result (standing_of look end.new.self) p c.in-Ok.ensures.minds c.send_on-sent.ensures c.write_on-wrote.ensures c.in-Ok-get_one.ensures.gets c.read_on-read.ensures end.ensures.loses (lost_at_first false p (sym c.is_lost.ensures ∙ c.if-is_lost.false))).fault
+
+pub returns-then-is_faulty-3-clause-turned : goal.returns-then-is_faulty-3-clause-turned
+returns-then-is_faulty-3-clause-turned g c =
+    let look = line_by g.L.SerialLine.received g.L.SerialLine.sent g.L.SerialLine.calls g.L.SerialLine.failures in
+    let p = c.place-placed.ensures in
+    let end = c.lose_line-then-is_faulty-3 in
+    (lost_reading end.result (standing_of look end.new.self) p c.in-Ok.ensures.minds c.send_on-sent.ensures c.write_on-wrote.ensures c.in-Ok-get_one.ensures.gets c.read_on-read.ensures end.ensures.loses (lost_at_first false p (sym c.is_lost.ensures ∙ c.if-is_lost.false))).turned
 
 pub returns-in_default-take_one-clause-faults : goal.returns-in_default-take_one-clause-faults
 unfolding Faults
 returns-in_default-take_one-clause-faults g c =
     let look = line_by g.L.SerialLine.received g.L.SerialLine.sent g.L.SerialLine.calls g.L.SerialLine.failures in
     let p = c.place-placed.ensures in
-    takes_in_vain (standing_of look c.take_one.new.self) p c.in-Ok.ensures.minds c.send_on-sent.ensures c.write_on-wrote.ensures c.in-Ok-get_one.ensures.gets c.read_on-read.ensures c.in_default-take_one.ensures.keeps (lost_at_first false p (sym c.is_lost.ensures ∙ c.if-is_lost.false))
+    (takes_in_vain (standing_of look c.take_one.new.self) p c.in-Ok.ensures.minds c.send_on-sent.ensures c.write_on-wrote.ensures c.in-Ok-get_one.ensures.gets c.read_on-read.ensures c.in_default-take_one.ensures.keeps (lost_at_first false p (sym c.is_lost.ensures ∙ c.if-is_lost.false))).fault
+
+pub returns-in_default-take_one-clause-turned : goal.returns-in_default-take_one-clause-turned
+returns-in_default-take_one-clause-turned g c =
+    let look = line_by g.L.SerialLine.received g.L.SerialLine.sent g.L.SerialLine.calls g.L.SerialLine.failures in
+    let p = c.place-placed.ensures in
+    (takes_in_vain (standing_of look c.take_one.new.self) p c.in-Ok.ensures.minds c.send_on-sent.ensures c.write_on-wrote.ensures c.in-Ok-get_one.ensures.gets c.read_on-read.ensures c.in_default-take_one.ensures.keeps (lost_at_first false p (sym c.is_lost.ensures ∙ c.if-is_lost.false))).turned
 
 pub returns-clause-turns : goal.returns-clause-turns
 unfolding Turns
@@ -77,3 +120,7 @@ returns-clause-turns g c =
     })
     (answer_of c.answer.result)
     (subst (λ (m : Bool). Answers c.take_one.new.self.kept m (answer_of c.answer.result)) (all_or c.place-placed.result c.in-Ok.minded c.send_on-sent.result c.write_on-wrote.result c.in-Ok-get_one.got c.read_on-read.result c.in-Ok-take_one.took) c.answer.ensures)
+
+pub returns-clause-turned : goal.returns-clause-turned
+returns-clause-turned g c =
+    all_turned c.place-placed.ensures c.in-Ok.ensures.minds c.send_on-sent.ensures c.write_on-wrote.ensures c.in-Ok-get_one.ensures.gets c.read_on-read.ensures c.in-Ok-take_one.ensures.takes

@@ -17,6 +17,7 @@ returns c =
       unplaced = k.waiting.outcomes;
       unannounced = k.waiting.lines;
       faulty = k.faulty;
+      course = k.course;
     } in
     let n = c.feed-count.result in
     let fed = c.feed-count.new.self in

@@ -1,11 +1,14 @@
 -- What the frame called for waits, or the frame stays at hand.
 use Rattle.std.proofs.Common.{◌≡◌, ap, sym, ◌∙◌, subst, refl, false, true}
-use Rattle.std.specs.Prelude.{map, Err}
+use Rattle.std.specs.Prelude.{map, find, option_map, Err}
 use Rattle.mux_frame.specs.Deframing.{Deframing, HandsOver}
 use Rattle.mux_frame.specs.Frames.{frame_of}
 use Rattle.modem_history.specs.Acts.{act_of}
+use Rattle.modem_driver.specs.declared.session.ending.Course.{Course}
+use Rattle.modem_driver.specs.Endings.{asker_of, course_after, is_answered, is_stop}
 use Rattle.modem_driver.specs.SessionStates.{Kept}
 use Rattle.modem_driver.specs.GettingSteps.{KeptGets}
+use Rattle.modem_driver.proofs.sessions.Ending.{noted}
 use Rattle.modem_driver.proofs.sessions.Getting.{gets_moved, gets_none, keeps_from, none_at_hand, stays_at_hand}
 use Rattle.modem_driver.proofs.session.kept.Kept.get_one.Goals as goal
 
@@ -21,6 +24,7 @@ returns-in_default-clause-gets c =
       unplaced = k.waiting.outcomes;
       unannounced = k.waiting.lines;
       faulty = k.faulty;
+      course = k.course;
     } in
     let fed = c.peek.follows.lender-at-none in
     subst (λ (v : Kept). KeptGets v (record old { deframer = fed }) false) c.self.view_is
@@ -38,6 +42,7 @@ returns-in-Ok-got-clause-gets c =
       unplaced = k.waiting.outcomes;
       unannounced = k.waiting.lines;
       faulty = k.faulty;
+      course = k.course;
     } in
     let core = c.got.new.self in
     let room = c.make_room.new.self in
@@ -47,9 +52,13 @@ returns-in-Ok-got-clause-gets c =
     let f = frame_of c.in-Some.frame in
     let e = c.in-Ok-got.ensures in
     let same : lent ≡ old.deframer = c.peek.follows.holds-at-none in
-    subst (λ (v : Kept). KeptGets v (record old { core = core; deframer = fed; unplaced = w.outcomes; unannounced = w.lines }) true) c.self.view_is
+    let stop = option_map asker_of (find is_stop k.core.hand) in
+    let course : c.note.new.self ≡ course_after k.course (is_answered stop (map act_of c.in-Ok-got.acts.items)) = noted k.course c.note.new.self c.stop-stop.result stop c.as_slice.result.now c.in-Ok-got.acts.items c.note.ensures c.stop-stop.ensures c.as_slice.ensures.value in
+    let new : Course → Kept = λ x. record old { core = core; deframer = fed; unplaced = w.outcomes; unannounced = w.lines; course = x } in
+    subst (λ (v : Kept). KeptGets v (new c.note.new.self) true) c.self.view_is
+    (subst (λ (x : Course). KeptGets old (new x) true) (sym course)
     (gets_moved old core fed room.room w (map act_of c.in-Ok-got.acts.items) f e.past e.holds (keeps_from room w old.unplaced old.unannounced (map act_of c.in-Ok-got.acts.items) c.make_room.ensures.outcomes c.make_room.ensures.lines c.keep.ensures) c.in-Ok.ensures.room
-    (sym c.in-Some.ensures.frame) (c.advance.ensures.n1 ∙ ap (λ (d : Deframing). d.n1) same) (subst (λ (d : Deframing). HandsOver d fed) same c.advance.ensures.past))
+    (sym c.in-Some.ensures.frame) (c.advance.ensures.n1 ∙ ap (λ (d : Deframing). d.n1) same) (subst (λ (d : Deframing). HandsOver d fed) same c.advance.ensures.past)))
 
 pub returns-in-Err-NoRoom-clause-gets : goal.returns-in-Err-NoRoom-clause-gets
 returns-in-Err-NoRoom-clause-gets c =
@@ -63,6 +72,7 @@ returns-in-Err-NoRoom-clause-gets c =
       unplaced = k.waiting.outcomes;
       unannounced = k.waiting.lines;
       faulty = k.faulty;
+      course = k.course;
     } in
     let core = c.got.new.self in
     let fed = c.peek.follows.lender-at-none in

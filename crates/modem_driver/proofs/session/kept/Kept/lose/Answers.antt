@@ -18,6 +18,7 @@ returns-clause-loses c =
       unplaced = k.waiting.outcomes;
       unannounced = k.waiting.lines;
       faulty = k.faulty;
+      course = k.course;
     } in
     let new : Kept = record old { core = c.lost.new.self; unplaced = c.keep.new.self.outcomes; unannounced = c.keep.new.self.lines } in
     let faulty : old.faulty ≡ true = ap (λ (v : Kept). v.faulty) c.self.view_is ∙ c.requires.faulty in

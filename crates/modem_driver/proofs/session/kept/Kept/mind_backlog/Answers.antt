@@ -32,6 +32,7 @@ returns-clause-minds c =
       unplaced = k.waiting.outcomes;
       unannounced = k.waiting.lines;
       faulty = k.faulty;
+      course = k.course;
     } in
     let new : Kept = record old { core = c.backlog.new.self } in
     let lines = c.backlog-lines.ensures in

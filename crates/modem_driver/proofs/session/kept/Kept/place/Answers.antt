@@ -21,6 +21,7 @@ returns c =
       unplaced = k.waiting.outcomes;
       unannounced = k.waiting.lines;
       faulty = k.faulty;
+      course = k.course;
     } in
     let d = c.args.driver.now in
     let m = c.place_outcomes-told.new.driver in

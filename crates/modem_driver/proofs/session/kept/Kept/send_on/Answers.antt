@@ -20,6 +20,7 @@ returns-then-not-is_empty c =
       unplaced = k.waiting.outcomes;
       unannounced = k.waiting.lines;
       faulty = k.faulty;
+      course = k.course;
     } in
     let some : old.unwritten ≢ [] = some_wait k.output (sym c.is_empty.ensures ∙ c.if-not-is_empty.true) in
     record { sends = subst (λ (v : Kept). KeptSends v v false) c.self.view_is (send_busy old some) }
@@ -36,6 +37,7 @@ returns-in_default c =
       unplaced = k.waiting.outcomes;
       unannounced = k.waiting.lines;
       faulty = k.faulty;
+      course = k.course;
     } in
     let none : old.unwritten ≡ [] = none_wait k.output (sym c.is_empty.ensures ∙ c.if-not-is_empty.false) in
     let e = c.in_default.ensures in
@@ -56,6 +58,7 @@ returns c =
       unplaced = k.waiting.outcomes;
       unannounced = k.waiting.lines;
       faulty = k.faulty;
+      course = k.course;
     } in
     let none : old.unwritten ≡ [] = none_wait k.output (sym c.is_empty.ensures ∙ c.if-not-is_empty.false) in
     let e = c.in-Some.ensures in

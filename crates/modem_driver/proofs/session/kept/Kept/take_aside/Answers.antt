@@ -20,6 +20,7 @@ returns-in-Ok-clause-takes c =
       unplaced = k.waiting.outcomes;
       unannounced = k.waiting.lines;
       faulty = k.faulty;
+      course = k.course;
     } in
     let q = c.in-Some.request in
     let aside : k.aside ≡ Some q = sym c.take.ensures.value ∙ c.in-Some.is in

@@ -1,9 +1,12 @@
 -- What the core told waits.
 use Rattle.std.proofs.Common.{◌≡◌, ap, sym, ◌∙◌, subst, false}
-use Rattle.std.specs.Prelude.{map}
+use Rattle.std.specs.Prelude.{map, find, option_map}
 use Rattle.modem_history.specs.Acts.{act_of}
+use Rattle.modem_driver.specs.declared.session.ending.Course.{Course}
 use Rattle.modem_driver.specs.declared.session.kept.Kept.TheInside.{Inside}
+use Rattle.modem_driver.specs.Endings.{asker_of, course_after, is_answered, is_stop}
 use Rattle.modem_driver.specs.SessionStates.{Kept, KeptTicks}
+use Rattle.modem_driver.proofs.sessions.Ending.{noted}
 use Rattle.modem_driver.proofs.sessions.Ticking.{tick_goes}
 use Rattle.modem_driver.proofs.session.kept.Kept.tick.Goals as goal
 
@@ -19,8 +22,12 @@ returns-clause-ticks c =
       unplaced = k.waiting.outcomes;
       unannounced = k.waiting.lines;
       faulty = k.faulty;
+      course = k.course;
     } in
     let live : k.core.lost ≡ false = sym (ap (λ (v : Inside). v.core.lost) c.self-inside.view_is) ∙ c.if-self.false in
-    let new : Kept = record old { core = c.tick.new.self; unplaced = c.keep.new.self.outcomes; unannounced = c.keep.new.self.lines } in
-    subst (λ (v : Kept). KeptTicks v new) c.self.view_is
-    (tick_goes old c.tick.new.self k.waiting.room c.keep.new.self (map act_of c.in-Ok.acts.items) c.in-Ok.ensures.past c.in-Ok.ensures.holds c.keep.ensures live)
+    let stop = option_map asker_of (find is_stop k.core.hand) in
+    let course : c.note.new.self ≡ course_after k.course (is_answered stop (map act_of c.in-Ok.acts.items)) = noted k.course c.note.new.self c.stop-stop.result stop c.as_slice.result.now c.in-Ok.acts.items c.note.ensures c.stop-stop.ensures c.as_slice.ensures.value in
+    let new : Course → Kept = λ x. record old { core = c.tick.new.self; unplaced = c.keep.new.self.outcomes; unannounced = c.keep.new.self.lines; course = x } in
+    subst (λ (v : Kept). KeptTicks v (new c.note.new.self)) c.self.view_is
+    (subst (λ (x : Course). KeptTicks old (new x)) (sym course)
+    (tick_goes old c.tick.new.self k.waiting.room c.keep.new.self (map act_of c.in-Ok.acts.items) c.in-Ok.ensures.past c.in-Ok.ensures.holds c.keep.ensures live))

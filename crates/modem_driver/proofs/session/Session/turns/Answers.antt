@@ -1,0 +1,59 @@
+-- One turn after the other.
+use Rattle.std.proofs.Common.{◌≡◌, ◌∙◌, ℕ, arith, subst, sym}
+use Rattle.modem_driver.specs.SessionStates.{line_by}
+use Rattle.modem_driver.specs.SessionTurns.{Turns, answer_of, fault_of}
+use Rattle.modem_driver.specs.Polls.{MovesOn, moves_none, moves_once, goes_on, ends, rests, fails}
+use Rattle.modem_driver.proofs.sessions.Polling.{fault_goes, goes_none, goes_then, moved_is, turn_goes}
+use Rattle.modem_driver.proofs.session.Session.turns.Goals as goal
+
+pub loop-init : goal.loop-init
+loop-init g c =
+    let look = line_by g.L.SerialLine.received g.L.SerialLine.sent g.L.SerialLine.calls g.L.SerialLine.failures in
+    record { goes = goes_none look c.args.self.now; moves = moves_none; calls = omega arith }
+
+pub loop-preserved : goal.loop-preserved
+loop-preserved g c =
+    let look = line_by g.L.SerialLine.received g.L.SerialLine.sent g.L.SerialLine.calls g.L.SerialLine.failures in
+    let turned = c.in-Ok.ensures.turned in
+    let one = turned.calls in
+    let before = c.loop.invariant.calls in
+    let says = answer_of c.in-Ok.says in
+    record {
+      goes = goes_then look c.args.self.now c.loop.self c.turn.new.self c.loop.invariant.goes (turn_goes look c.loop.self c.turn.new.self says c.in-Ok.ensures.turns turned);
+      moves = moves_once c.loop.counter c.loop.self c.turn.new.self c.loop.invariant.moves (sym c.has_ended.ensures ∙ c.if-has_ended.false)
+          (subst (Turns look c.loop.self c.turn.new.self) (moved_is says (sym c.is_moved.ensures ∙ c.if-not-is_moved.false)) c.in-Ok.ensures.turns);
+      calls = omega (arith, one, before);
+    }
+
+pub returns-then-has_ended-clause-runs : goal.returns-then-has_ended-clause-runs
+returns-then-has_ended-clause-runs g c =
+    let last = c.loop-test.true in
+    ends c.loop.counter (omega (arith, last)) c.loop.invariant.moves (sym c.has_ended.ensures ∙ c.if-has_ended.true)
+
+pub returns-then-not-is_moved-clause-runs : goal.returns-then-not-is_moved-clause-runs
+returns-then-not-is_moved-clause-runs g c =
+    let last = c.loop-test.true in
+    rests c.loop.counter c.loop.self (answer_of c.in-Ok.says) (omega (arith, last)) c.loop.invariant.moves (sym c.has_ended.ensures ∙ c.if-has_ended.false) c.in-Ok.ensures.turns (sym c.is_moved.ensures ∙ c.if-not-is_moved.true)
+
+pub returns-then-not-is_moved-clause-goes : goal.returns-then-not-is_moved-clause-goes
+returns-then-not-is_moved-clause-goes g c =
+    let look = line_by g.L.SerialLine.received g.L.SerialLine.sent g.L.SerialLine.calls g.L.SerialLine.failures in
+    goes_then look c.args.self.now c.loop.self c.turn.new.self c.loop.invariant.goes (turn_goes look c.loop.self c.turn.new.self (answer_of c.in-Ok.says) c.in-Ok.ensures.turns c.in-Ok.ensures.turned)
+
+pub returns-in-Err-clause-runs : goal.returns-in-Err-clause-runs
+returns-in-Err-clause-runs g c =
+    let last = c.loop-test.true in
+    fails c.loop.counter c.loop.self c.in-Err.why (omega (arith, last)) c.loop.invariant.moves (sym c.has_ended.ensures ∙ c.if-has_ended.false) c.in-Err.ensures.faults
+
+pub returns-in-Err-clause-goes : goal.returns-in-Err-clause-goes
+returns-in-Err-clause-goes g c =
+    let look = line_by g.L.SerialLine.received g.L.SerialLine.sent g.L.SerialLine.calls g.L.SerialLine.failures in
+    goes_then look c.args.self.now c.loop.self c.turn.new.self c.loop.invariant.goes (fault_goes look c.loop.self c.turn.new.self (fault_of c.in-Err.why) c.in-Err.ensures.faults c.in-Err.ensures.turned)
+
+pub returns-clause-runs : goal.returns-clause-runs
+returns-clause-runs g c =
+    let look = line_by g.L.SerialLine.received g.L.SerialLine.sent g.L.SerialLine.calls g.L.SerialLine.failures in
+    let At : ℕ → Type 0 = λ n. MovesOn look c.args.self.now n c.loop.self in
+    let last = c.loop-test.false in
+    let all : c.loop.counter ≡ 64 = omega arith in
+    goes_on (subst At all c.loop.invariant.moves)

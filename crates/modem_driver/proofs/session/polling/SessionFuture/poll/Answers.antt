@@ -1,0 +1,19 @@
+-- What is given later was to be given before.
+use Rattle.std.proofs.Common.{sym, subst}
+use Rattle.std.specs.Prelude.{Result}
+use Rattle.futures.specs.Poll.{OnPending}
+use Rattle.futures.specs.declared.task.Poll.{Poll}
+use Rattle.modem_driver.specs.declared.session.ending.Ended.{Ended}
+use Rattle.modem_driver.specs.declared.session.error.SessionFault.{SessionFault}
+use Rattle.modem_driver.specs.SessionStates.{line_by}
+use Rattle.modem_driver.specs.Polls.{Gives}
+use Rattle.modem_driver.proofs.sessions.Polling.{gives_before}
+use Rattle.modem_driver.proofs.session.polling.SessionFuture.poll.Goals as goal
+
+pub returns-in-None-clause-same : goal.returns-in-None-clause-same
+returns-in-None-clause-same g c =
+    let look = line_by g.L.SerialLine.received g.L.SerialLine.sent g.L.SerialLine.calls g.L.SerialLine.failures in
+    let old = c.args.self.now in
+    let new = c.advance.new.self in
+    let Before : Type 0 = (end : Result Ended SessionFault) → Gives look new end → Gives look old end in
+    subst (λ (r : Poll (Result Ended SessionFault)). OnPending r Before) (sym c.yield_now.ensures.pending) (λ end h. gives_before look old new end c.in-None.ensures.goes h)

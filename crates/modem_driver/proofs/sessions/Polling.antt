@@ -1,0 +1,148 @@
+-- A poll of a session: its turns one after the other, and the end to which they lead.
+use Rattle.std.proofs.Common.{ap, sym, ◌∙◌, subst, eqb-true}
+use Rattle.std.proofs.lemmas.Bool.{and_parts}
+use Rattle.std.proofs.lemmas.List.{append-nil, nil_from_length}
+use Rattle.std.specs.Prelude.{◌≡◌, ◌==◌, ◌&&◌, not, Bool, true, false, List, [], ◌++◌, length, refl, Some, Result, Ok, Err}
+use Rattle.mux_station.specs.Sending.{queue}
+use Rattle.modem_desk.specs.declared.request.Outcome.{Outcome}
+use Rattle.modem_history.specs.Acts.{Act, wire}
+use Rattle.modem_history.specs.Calls.{is_lost}
+use Rattle.modem_history.specs.Wholes.{outcomes}
+use Rattle.modem_history.specs.Sessions.{Beginning, LineView, of_caller, at_place}
+use Rattle.modem_history.specs.Turns.{TurnAnswer, TurnFault, says_moved}
+use Rattle.modem_history.proofs.SessionLawFacts.{runs_on}
+use Rattle.modem_driver.specs.declared.session.ending.Course.{Course}
+use Rattle.modem_driver.specs.declared.session.ending.Course.TheVariants as course
+use Rattle.modem_driver.specs.declared.session.ending.Ended.{Ended}
+use Rattle.modem_driver.specs.declared.session.ending.Ended.TheVariants.{Stopped}
+use Rattle.modem_driver.specs.declared.session.error.SessionFault.{SessionFault}
+use Rattle.modem_driver.specs.declared.session.error.SessionFault.TheVariants as fault
+use Rattle.modem_driver.specs.Endings.{Begins, HasCome, HasEnded, IsEnd, has_stopped}
+use Rattle.modem_driver.specs.Polls.{Gives, GoesOn, Says, end_given, has_ended, is_stopped, with_end}
+use Rattle.modem_driver.specs.SessionStates.{SessionState, FitsAll, FitsInside, seen}
+use Rattle.modem_driver.specs.SessionTurns.{Faults, HasTurned, LeavesLost, Turns, standing_of}
+use Rattle.modem_driver.proofs.sessions.Ending.{begins_whole}
+use Rattle.modem_driver.proofs.sessions.Flowing.{live_queue}
+use Rattle.modem_driver.proofs.sessions.TurnAnswers.{all_given, all_sent}
+
+-- the one answer that says so
+pub moved_is : (says : TurnAnswer) → says_moved says ≡ true → says ≡ TurnAnswer.Moved
+moved_is TurnAnswer.Moved e = refl
+moved_is TurnAnswer.WriterFull e = cc
+moved_is (TurnAnswer.Waiting c) e = cc
+moved_is (TurnAnswer.Blocked k) e = cc
+moved_is TurnAnswer.Idle e = cc
+
+pub given_is : (c : Course) (end : Result Ended SessionFault) → end_given c ≡ Some end → c ≡ course.Ended end
+given_is course.GoesOn end e = cc
+given_is course.Stopped end e = cc
+given_is (course.Ended other) end e = cc
+
+module _ {X : Type 0} (look : X → LineView) where
+  -- ## One turn after the other
+
+  pub goes_none : (s : SessionState X) → GoesOn look s s
+  unfolding GoesOn
+  goes_none s b = record { acts = []; more = []; takes_more = sym (append-nil s.driver.taken); goes = λ past once f. f }
+
+  pub goes_then : (old mid new : SessionState X) → GoesOn look old mid → GoesOn look mid new → GoesOn look old new
+  unfolding GoesOn
+  goes_then old mid new g h b = runs_on b (seen look old) (seen look mid) (seen look new) (FitsInside b look old) (FitsInside b look mid) (FitsInside b look new) (g b) (h b)
+
+  pub turn_goes : (old new : SessionState X) (says : TurnAnswer) → Turns look old new says → HasTurned (standing_of look old) (standing_of look new) → GoesOn look old new
+  unfolding GoesOn Turns
+  turn_goes old new says t h b = let g = t b in record { acts = g.acts; more = h.taken.rest; takes_more = sym h.taken.joins; goes = g.goes }
+
+  pub fault_goes : (old new : SessionState X) (why : TurnFault) → Faults look old new why → HasTurned (standing_of look old) (standing_of look new) → GoesOn look old new
+  unfolding GoesOn Faults
+  fault_goes old new why t h b = let g = t b in record { acts = g.acts; more = h.taken.rest; takes_more = sym h.taken.joins; goes = g.goes }
+
+  -- ## The end
+
+  -- it goes on to an end where every history says so
+  comes_to : (s : SessionState X) (end : Result Ended SessionFault) → ((b : Beginning) (past : List Act) → FitsAll b look s past → IsEnd b (seen look s) past end) → GoesOn look s (record s { kept = record s.kept { course = course.Ended end } })
+  unfolding GoesOn
+  comes_to s end says b = record {
+    acts = [];
+    more = [];
+    takes_more = sym (append-nil s.driver.taken);
+    goes = λ past once f. record {
+      session = f.session;
+      inside = record {
+        setting = f.inside.setting;
+        fits = f.inside.fits;
+        holds = f.inside.holds;
+        kinds_are = f.inside.kinds_are;
+        callers_are = f.inside.callers_are;
+        sound = f.inside.sound;
+        by_fault = f.inside.by_fault;
+        come = says b past f;
+      };
+    };
+  }
+
+  is_stop_noted : (b : Beginning) (s : SessionState X) (past : List Act) (c : Course) → is_stopped c ≡ true → HasCome b (seen look s) past c → has_stopped past ≡ true
+  is_stop_noted b s past course.GoesOn e h = cc
+  is_stop_noted b s past course.Stopped e h = h
+  is_stop_noted b s past (course.Ended end) e h = cc
+
+  not_so : (c : Bool) → not c ≡ true → c ≡ false
+  not_so false e = refl
+  not_so true e = cc
+
+  -- where it has ended, every history says so
+  has_ended_says : (s : SessionState X) → has_ended s.kept ≡ true → (b : Beginning) (past : List Act) → FitsAll b look s past → HasEnded b (seen look s) past
+  has_ended_says s e b past f =
+      let k = s.kept in
+      let p1 = and_parts (is_stopped k.course) (not k.core.lost && ((length k.unwritten == 0) && ((length k.core.station.queue == 0) && (length k.unplaced == 0)))) e in
+      let p2 = and_parts (not k.core.lost) ((length k.unwritten == 0) && ((length k.core.station.queue == 0) && (length k.unplaced == 0))) p1.1 in
+      let p3 = and_parts (length k.unwritten == 0) ((length k.core.station.queue == 0) && (length k.unplaced == 0)) p2.1 in
+      let p4 = and_parts (length k.core.station.queue == 0) (length k.unplaced == 0) p3.1 in
+      let live : k.core.lost ≡ false = not_so k.core.lost p2.0 in
+      let written : k.unwritten ≡ [] = nil_from_length k.unwritten (eqb-true (length k.unwritten) 0 p3.0) in
+      let empty : k.core.station.queue ≡ [] = nil_from_length k.core.station.queue (eqb-true (length k.core.station.queue) 0 p4.0) in
+      let placed : k.unplaced ≡ [] = nil_from_length k.unplaced (eqb-true (length k.unplaced) 0 p4.1) in
+      let here : is_lost past ≡ false = f.inside.fits.lost_is ∙ live in
+      let none : queue (wire past) ≡ [] = live_queue k.core past f.inside.fits live ∙ empty in
+      let at = standing_of look s in
+      let sent = all_sent b at past f written (all_given b at past f here none) in
+      record {
+        before = past;
+        since = [];
+        past_is = refl;
+        stopped = is_stop_noted b s past k.course p1.0 f.inside.come;
+        written = subst (Begins _) (sym sent) (begins_whole _);
+        placed = λ c.
+            let t = f.session.told.each c in
+            let all : t.since ≡ of_caller c (outcomes past) = sym (append-nil t.since) ∙ (ap (λ (os : List Outcome). t.since ++ of_caller c os) (sym placed) ∙ t.outcomes_are) in
+            subst (Begins _) (sym (t.told_are ∙ ap (λ (os : List Outcome). at_place c b.desk.told ++ os) all)) (begins_whole _);
+      }
+
+  pub ends_stopped : (s : SessionState X) → has_ended s.kept ≡ true → GoesOn look s (with_end (Ok Stopped) s)
+  ends_stopped s e = comes_to s (Ok Stopped) (has_ended_says s e)
+
+  pub ends_failing : (s : SessionState X) (why : SessionFault) → LeavesLost why s.kept → GoesOn look s (with_end (Err why) s)
+  ends_failing s fault.NoMemory lost = goes_none s
+  ends_failing s fault.Line lost = comes_to s (Err fault.Line) (λ b past f. f.inside.fits.lost_is ∙ lost)
+  ends_failing s fault.Failed lost = comes_to s (Err fault.Failed) (λ b past f. f.inside.fits.lost_is ∙ lost)
+
+  -- ## What is given
+
+  says_end : (b : Beginning) (s : SessionState X) (past : List Act) (end : Result Ended SessionFault) → IsEnd b (seen look s) past end → Says b (seen look s) past end
+  says_end b s past (Ok Stopped) h = h
+  says_end b s past (Err fault.NoMemory) h = tt
+  says_end b s past (Err fault.Line) h = h
+  says_end b s past (Err fault.Failed) h = h
+
+  -- the end that is kept
+  pub gives_end : (old new : SessionState X) (end : Result Ended SessionFault) → GoesOn look old new → new.kept.course ≡ course.Ended end → Gives look old end
+  gives_end old new end g e = record { new = new; goes = g; says = λ b past f. says_end b new past end (subst (HasCome b (seen look new) past) e f.inside.come) }
+
+  pub gives_failing : (old mid : SessionState X) (why : SessionFault) → GoesOn look old (with_end (Err why) mid) → Gives look old (Err why)
+  gives_failing old mid fault.NoMemory g = record { new = mid; goes = g; says = λ b past f. tt }
+  gives_failing old mid fault.Line g = gives_end old (with_end (Err fault.Line) mid) (Err fault.Line) g refl
+  gives_failing old mid fault.Failed g = gives_end old (with_end (Err fault.Failed) mid) (Err fault.Failed) g refl
+
+  -- what it gives from here on it gave before
+  pub gives_before : (old new : SessionState X) (end : Result Ended SessionFault) → GoesOn look old new → Gives look new end → Gives look old end
+  gives_before old new end g h = record { new = h.new; goes = goes_then old new h.new g h.goes; says = h.says }

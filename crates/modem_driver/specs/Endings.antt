@@ -1,0 +1,96 @@
+-- How a session ends: a Stop is answered by Stopped or NoAnswer, and then all is written and placed.
+use Rattle.std.specs.Prelude.{◌≡◌, ℕ, ◌==◌, ◌&&◌, Bool, true, false, List, ◌++◌, Option, Some, None, Result, Ok, Err}
+use Rattle.std.specs.List.{list_any}
+use Rattle.modem_desk.specs.declared.request.Ask.{Ask}
+use Rattle.modem_desk.specs.declared.request.Ask.TheVariants.{Stop}
+use Rattle.modem_desk.specs.declared.request.Request.{Request}
+use Rattle.modem_desk.specs.declared.request.Answer.{Answer}
+use Rattle.modem_desk.specs.declared.request.Answer.TheVariants.{Stopped, NoAnswer}
+use Rattle.modem_desk.specs.declared.request.Outcome.{Outcome}
+use Rattle.modem_history.specs.Acts.{Act, Told, after, is_for}
+use Rattle.modem_history.specs.Calls.{is_lost}
+use Rattle.modem_history.specs.Wholes.{taken, outcomes}
+use Rattle.modem_history.specs.Sessions.{Beginning, SessionView, sents, octets_of_frames, of_caller, at_place}
+use Rattle.modem_driver.specs.declared.session.ending.Asker.{Asker}
+use Rattle.modem_driver.specs.declared.session.ending.Course.{Course}
+use Rattle.modem_driver.specs.declared.session.ending.Course.TheVariants as course
+use Rattle.modem_driver.specs.declared.session.ending.Ended.{Ended}
+use Rattle.modem_driver.specs.declared.session.ending.Ended.TheVariants as ended
+use Rattle.modem_driver.specs.declared.session.error.SessionFault.{SessionFault}
+use Rattle.modem_driver.specs.declared.session.error.SessionFault.TheVariants as fault
+
+-- ## A Stop that has ended
+
+abbrev pub asks_stop : Ask → Bool
+asks_stop Stop = true
+asks_stop _ = false
+
+abbrev pub is_stop : Request → Bool
+is_stop q = asks_stop q.ask
+
+-- a Stop is told so once it has ended: it was answered, or given up at the fourth tick
+abbrev pub ends_stop : Answer → Bool
+ends_stop Stopped = true
+ends_stop NoAnswer = true
+ends_stop _ = false
+
+-- the request is a Stop, and one of the outcomes answers it by Stopped or NoAnswer
+abbrev pub is_stopped_by : List Outcome → Request → Bool
+is_stopped_by os q = is_stop q && list_any (λ (o : Outcome). is_for q o && ends_stop o.answer) os
+
+-- a Stop that was taken was answered by Stopped or NoAnswer
+abbrev pub has_stopped : List Act → Bool
+has_stopped past = list_any (is_stopped_by (outcomes past)) (taken past)
+
+-- ## The end
+
+-- the one list begins the other
+pub record Begins {X : Type 0} (xs ys : List X) : Type 0 where
+  pub rest : List X
+  pub joins : xs ++ rest ≡ ys
+
+-- A session has ended: in some beginning of its history a Stop was answered by Stopped or NoAnswer, all frames sent in that
+-- beginning are written, and each caller has all outcomes told in it. So it is ever after, whatever else happens.
+pub record HasEnded (b : Beginning) (v : SessionView) (past : List Act) : Type 0 where
+  pub before : List Act
+  pub since : List Act
+  pub past_is : past ≡ after before since
+  pub stopped : has_stopped before ≡ true
+  pub written : Begins (b.line.sent ++ octets_of_frames (sents before)) v.line.sent
+  pub placed : (c : ℕ) → Begins (at_place c b.desk.told ++ of_caller c (outcomes before)) (at_place c v.desk.told)
+
+-- What an end says of the session: it has ended, or its line is lost. Want of memory is no end.
+abbrev pub IsEnd : Beginning → SessionView → List Act → Result Ended SessionFault → Type 0
+IsEnd b v past (Ok ended.Stopped) = HasEnded b v past
+IsEnd b v past (Err fault.NoMemory) = ⊥
+IsEnd b v past (Err fault.Line) = is_lost past ≡ true
+IsEnd b v past (Err fault.Failed) = is_lost past ≡ true
+
+-- how far it has come: a Stop was answered so, and then it has ended
+abbrev pub HasCome : Beginning → SessionView → List Act → Course → Type 0
+HasCome b v past course.GoesOn = Unit {0}
+HasCome b v past course.Stopped = has_stopped past ≡ true
+HasCome b v past (course.Ended end) = IsEnd b v past end
+
+-- an end that a poll gave stays
+abbrev pub KeepsEnd : (old new : Course) → Type 0
+KeepsEnd old new = (end : Result Ended SessionFault) → old ≡ course.Ended end → new ≡ course.Ended end
+
+-- ## How it is noted
+
+abbrev pub asker_of : Request → Asker
+asker_of q = record { caller = q.caller; number = q.number }
+
+-- the act tells this one that its Stop has ended
+abbrev pub is_end_of : Asker → Act → Bool
+is_end_of s (Told o) = ((s.caller == o.caller) && (s.number == o.number)) && ends_stop o.answer
+is_end_of s _ = false
+
+-- one of the acts tells it to whom a Stop is in hand
+abbrev pub is_answered : Option Asker → List Act → Bool
+is_answered None acts = false
+is_answered (Some s) acts = list_any (is_end_of s) acts
+
+abbrev pub course_after : Course → (answered : Bool) → Course
+course_after course.GoesOn true = course.Stopped
+course_after c _ = c

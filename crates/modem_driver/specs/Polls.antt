@@ -1,0 +1,96 @@
+-- What a poll of a session comes to.
+use Rattle.std.specs.Prelude.{◌≡◌, ℕ, ◌+◌, ◌<◌, ◌≤◌, ◌==◌, ◌&&◌, not, Bool, true, false, List, length, Option, None, Some, Result, Ok, Err, if◌then◌else◌}
+use Rattle.modem_history.specs.Acts.{Act}
+use Rattle.modem_history.specs.Sessions.{Beginning, LineView, SessionView, Goes}
+use Rattle.modem_history.specs.Turns.{TurnAnswer, says_moved}
+use Rattle.modem_driver.specs.declared.session.ending.Course.{Course}
+use Rattle.modem_driver.specs.declared.session.ending.Course.TheVariants as course
+use Rattle.modem_driver.specs.declared.session.ending.Ended.{Ended}
+use Rattle.modem_driver.specs.declared.session.ending.Ended.TheVariants.{Stopped}
+use Rattle.modem_driver.specs.declared.session.error.SessionFault.{SessionFault}
+use Rattle.modem_driver.specs.declared.session.error.SessionFault.TheVariants as fault
+use Rattle.modem_driver.specs.Endings.{IsEnd}
+use Rattle.modem_driver.specs.SessionStates.{Kept, SessionState, FitsInside, FitsAll, seen}
+use Rattle.modem_driver.specs.SessionTurns.{Turns, Faults, fault_of}
+
+-- ## The end
+
+abbrev pub is_stopped : Course → Bool
+is_stopped course.Stopped = true
+is_stopped _ = false
+
+-- a Stop was answered by Stopped or NoAnswer, the line isn't lost, no octets and no control frames wait for it, and no outcome waits
+-- for its caller
+abbrev pub has_ended : Kept → Bool
+has_ended k = is_stopped k.course && (not k.core.lost && ((length k.unwritten == 0) && ((length k.core.station.queue == 0) && (length k.unplaced == 0))))
+
+-- ## Its turns
+
+-- it went on by some acts, the same whatever history it had
+unfoldable pub GoesOn : {X : Type 0} → (X → LineView) → (old new : SessionState X) → Type 0
+GoesOn look old new = (b : Beginning) → Goes b (seen look old) (seen look new) (FitsInside b look old) (FitsInside b look new)
+
+-- so many turns, each where it hasn't ended, and each of which answers Moved
+pub data MovesOn {X : Type 0} (look : X → LineView) (old : SessionState X) : ℕ → SessionState X → Type 0 where
+  moves_none : MovesOn look old 0 old
+  moves_once : (n : ℕ) (mid new : SessionState X) → MovesOn look old n mid → has_ended mid.kept ≡ false → Turns look mid new TurnAnswer.Moved → MovesOn look old (n + 1) new
+
+-- The turns of a poll: 64 that answer Moved; or fewer, where it has ended; or fewer and one that answers otherwise, or that fails.
+pub data Runs {X : Type 0} (look : X → LineView) (old new : SessionState X) : Result (Unit {0}) SessionFault → Type 0 where
+  goes_on : MovesOn look old 64 new → Runs look old new (Ok tt)
+  ends : (n : ℕ) → n ≤ 64 → MovesOn look old n new → has_ended new.kept ≡ true → Runs look old new (Ok tt)
+  rests : (n : ℕ) (mid : SessionState X) (says : TurnAnswer) → n < 64 → MovesOn look old n mid → has_ended mid.kept ≡ false → Turns look mid new says → says_moved says ≡ false → Runs look old new (Ok tt)
+  fails : (n : ℕ) (mid : SessionState X) (why : SessionFault) → n < 64 → MovesOn look old n mid → has_ended mid.kept ≡ false → Faults look mid new (fault_of why) → Runs look old new (Err why)
+
+-- ## What it gives
+
+-- the fault, or that it has ended, or nothing yet
+abbrev pub given_by : Kept → Result (Unit {0}) SessionFault → Option (Result Ended SessionFault)
+given_by k (Ok _) = if has_ended k then Some (Ok Stopped) else None
+given_by k (Err why) = Some (Err why)
+
+-- the end that one gave
+abbrev pub end_given : Course → Option (Result Ended SessionFault)
+end_given (course.Ended end) = Some end
+end_given _ = None
+
+-- what is given is kept as its end, but for want of memory
+abbrev pub kept_end : Course → Result Ended SessionFault → Course
+kept_end c (Err fault.NoMemory) = c
+kept_end c end = course.Ended end
+
+abbrev pub with_end : {X : Type 0} → Result Ended SessionFault → SessionState X → SessionState X
+with_end end s = record s { kept = record s.kept { course = kept_end s.kept.course end } }
+
+abbrev pub with_given : {X : Type 0} → Option (Result Ended SessionFault) → SessionState X → SessionState X
+with_given None s = s
+with_given (Some end) s = with_end end s
+
+-- it makes its turns, gives what they lead to, and keeps that
+pub record PollsOn {X : Type 0} (look : X → LineView) (old new : SessionState X) (given : Option (Result Ended SessionFault)) : Type 0 where
+  pub mid : SessionState X
+  pub ran : Result (Unit {0}) SessionFault
+  pub runs : Runs look old mid ran
+  pub given_is : given ≡ given_by mid.kept ran
+  pub stays : new ≡ with_given given mid
+
+-- a poll after an end gives that end, and does nothing
+abbrev pub PollsFrom : {X : Type 0} → (X → LineView) → Course → (old new : SessionState X) → Option (Result Ended SessionFault) → Type 0
+PollsFrom look (course.Ended end) old new given = (given ≡ Some end) × (new ≡ old)
+PollsFrom look _ old new given = PollsOn look old new given
+
+abbrev pub Polls : {X : Type 0} → (X → LineView) → (old new : SessionState X) → Option (Result Ended SessionFault) → Type 0
+Polls look old new given = PollsFrom look old.kept.course old new given
+
+-- ## What an output says
+
+-- the session has ended so in every history that it fits; of want of memory nothing is said
+abbrev pub Says : Beginning → SessionView → List Act → Result Ended SessionFault → Type 0
+Says b v past (Err fault.NoMemory) = Unit {0}
+Says b v past end = IsEnd b v past end
+
+-- it went on to where that is so
+pub record Gives {X : Type 0} (look : X → LineView) (s : SessionState X) (given : Result Ended SessionFault) : Type 0 where
+  pub new : SessionState X
+  pub goes : GoesOn look s new
+  pub says : (b : Beginning) (past : List Act) → FitsAll b look new past → Says b (seen look new) past given
