@@ -55,5 +55,6 @@ pub mod NumbersOnce
 pub mod RequestPlaces
 pub mod Headlines
 pub mod HeadlineRowFacts
+pub mod EndingRowFacts
 pub mod Entries
 pub mod sessions

@@ -23,6 +23,7 @@ pub mod HeadlineRows
 pub mod Entries
 pub mod WaitingLists
 pub mod Endings
+pub mod EndingRows
 pub mod SessionStates
 pub mod Numbers
 pub mod TurnSteps

@@ -1,5 +1,7 @@
-//! Laws of replays, and the headline.
-ghost use Rattle.std.specs.Prelude.{ℕ, List};
+//! Laws of replays, the headline, and ends of a session.
+ghost use Rattle.std.specs.Prelude.{◌≡◌, ℕ, true, false, List};
+ghost use Rattle.std.specs.List.{list_all, list_any};
+ghost use Rattle.modem_driver.specs.EndingRows.{ends_in, going_rows, stopped_rows, AreNoEndings, IsRightEnding, StaysEnded};
 ghost use Rattle.modem_driver.specs.Headline.{IsHeadline, Run};
 ghost use Rattle.modem_driver.specs.HeadlineRows.{AreRight, AreWrong, right_places, wrong_places};
 ghost use Rattle.modem_driver.specs.Replays.{Brought, Replays};
@@ -27,4 +29,16 @@ pub fn headlines()
     ensures headline { (run : Run) → IsHeadline run }
     ensures right { AreRight right_places }
     ensures wrong { AreWrong wrong_places }
+{}
+
+/// Worked ends of a session, computed by the definitions: a Stop that is answered or given up has ended, and neither one that
+/// a loss of the line ends nor a probe that is given up; the session has ended where all frames sent are written and all
+/// outcomes told, and stays so; where an octet or an outcome waits it hasn't.
+#[tactic(auto, using(crate::proofs::EndingRowFacts::all_stopped, crate::proofs::EndingRowFacts::none_stopped, crate::proofs::EndingRowFacts::right_ending, crate::proofs::EndingRowFacts::stays_ended, crate::proofs::EndingRowFacts::no_endings))]
+pub fn endings()
+    ensures stopped { list_all ends_in stopped_rows ≡ true }
+    ensures going { list_any ends_in going_rows ≡ false }
+    ensures right { IsRightEnding }
+    ensures stays { StaysEnded }
+    ensures wrong { AreNoEndings }
 {}

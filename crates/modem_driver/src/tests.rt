@@ -9,6 +9,7 @@ use std::test::*;
 mod answers;
 mod entering;
 mod no_memory;
+mod session_polls;
 mod steps;
 
 /// What an act is, as a test compares it.
