@@ -6,3 +6,4 @@ pub mod Script
 pub mod Statuses
 pub mod Texts
 pub mod Words
+pub mod OneModem
