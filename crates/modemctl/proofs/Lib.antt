@@ -14,3 +14,4 @@ pub mod LineFacts
 pub mod Places
 pub mod ModemAnswers
 pub mod OneModemLaws
+pub mod OneModemFacts

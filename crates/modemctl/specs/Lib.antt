@@ -7,3 +7,4 @@ pub mod Statuses
 pub mod Texts
 pub mod Words
 pub mod OneModem
+pub mod OneModemRows
