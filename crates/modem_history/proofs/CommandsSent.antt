@@ -42,18 +42,18 @@ on_and false c e = cc
 
 -- ## At the initiator
 
-abbrev is_asked : ℕ → List station.Act → Bool
+abbrev pub is_asked : ℕ → List station.Act → Bool
 is_asked d past = (standings Initiator d past).own.is_asked
 
 -- Before its one SABM d isn't open, and nothing was sent on it; nor was anything while the SABM waits for its answer. So
 -- what was sent since d opened is all that was.
-record Asks (d : ℕ) (past : List station.Act) : Type 0 where
-  unasked : filter (is_on Sabm d) (frames_sent past) ≡ [] → (is_asked d past ≡ false) × (is_open Initiator d past ≡ false) × (info_in d (frames_sent past) ≡ [])
-  asked : is_asked d past ≡ true → (is_open Initiator d past ≡ false) × (info_in d (frames_sent past) ≡ [])
-  all : information_sent Initiator d past ≡ info_in d (frames_sent past)
+pub record Asks (d : ℕ) (past : List station.Act) : Type 0 where
+  pub unasked : filter (is_on Sabm d) (frames_sent past) ≡ [] → (is_asked d past ≡ false) × (is_open Initiator d past ≡ false) × (info_in d (frames_sent past) ≡ [])
+  pub asked : is_asked d past ≡ true → (is_open Initiator d past ≡ false) × (info_in d (frames_sent past) ≡ [])
+  pub all : information_sent Initiator d past ≡ info_in d (frames_sent past)
 
 -- data leaves only while its connection is open
-abbrev DataWhileOpen : List station.Act → Type 0
+abbrev pub DataWhileOpen : List station.Act → Type 0
 DataWhileOpen [] = Unit {0}
 DataWhileOpen (station.Sent f ∷ past) = ((d : ℕ) → carries d f ≡ true → is_open Initiator d past ≡ true) × DataWhileOpen past
 DataWhileOpen (_ ∷ past) = DataWhileOpen past
@@ -163,7 +163,7 @@ not_word d f e h = no_word (is_on Sabm d f) (is_on Ua d f) (is_on Dm d f || is_o
     left true b g = cc
     left false b g = refl
 
-asks_of : (d : ℕ) (past : List station.Act) → AsksOne d (frames_sent past) → DataWhileOpen past → Asks d past
+pub asks_of : (d : ℕ) (past : List station.Act) → AsksOne d (frames_sent past) → DataWhileOpen past → Asks d past
 asks_of d [] one gated = record { unasked = λ x. (refl, refl, refl); asked = λ x. never x; all = refl }
 asks_of d (station.Got f ∷ past) one gated =
     let e = ends (standings Initiator d past).zero.is_open d (station.Got f) in
@@ -185,7 +185,7 @@ asks_of d (station.Given ∷ past) one gated =
     idle d past station.Given (not e) (not e) refl refl refl refl refl (asks_of d past one gated)
 
 -- so on each connection information is sent behind its SABM
-sent_behind : (d : ℕ) (past : List station.Act) → AsksOne d (frames_sent past) → DataWhileOpen past → ComesBehind d (frames_sent past)
+pub sent_behind : (d : ℕ) (past : List station.Act) → AsksOne d (frames_sent past) → DataWhileOpen past → ComesBehind d (frames_sent past)
 sent_behind d [] one gated = tt
 sent_behind d (station.Sent f ∷ past) one gated =
     ((λ x. ((asks_of d (station.Sent f ∷ past) one gated).unasked x).2), sent_behind d past (asks_fewer d f (frames_sent past) one) gated.1)
@@ -208,7 +208,7 @@ open_for : (s : Setting) (past : List Act) (f : Frame) → s.role ≡ Initiator 
 open_for s past f role true e g = subst (λ r. is_open r f.dlci (wire past) ≡ true) role g.is_open
 open_for s past f role false e g = never e
 
-while_open : (s : Setting) (past : List Act) → s.role ≡ Initiator → Lawful s past → DataWhileOpen (wire past)
+pub while_open : (s : Setting) (past : List Act) → s.role ≡ Initiator → Lawful s past → DataWhileOpen (wire past)
 unfolding Lawful
 while_open s [] role l = tt
 while_open s (Sent f ∷ past) role l =
@@ -228,7 +228,7 @@ lines_more : (qs : List Request) (q : Request) → AreCommandLines (map line_of 
 lines_more [] q h g = (g, tt)
 lines_more (x ∷ qs) q h g = (h.0, lines_more qs q h.1 g)
 
-are_lines : (d : ℕ) (past : List Act) → TakesCommandLines past → AreCommandLines (map line_of (accepted Initiator d past))
+pub are_lines : (d : ℕ) (past : List Act) → TakesCommandLines past → AreCommandLines (map line_of (accepted Initiator d past))
 are_lines d [] h = tt
 are_lines d (Took q ∷ past) h = by_accepted (is_accepted Initiator d past q) refl (are_lines d past h.1)
   where

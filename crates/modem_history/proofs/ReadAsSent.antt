@@ -23,10 +23,10 @@ use Rattle.modem_history.proofs.MarksPlaced.{texts_are}
 -- ## A command line
 
 -- it has octets, none of them ends a line, and it isn't cut
-record IsLine (c : List ℕ) : Type 0 where
-  filled : is_filled c ≡ true
-  no_end : has_end c ≡ false
-  short : length c ≤ 256
+pub record IsLine (c : List ℕ) : Type 0 where
+  pub filled : is_filled c ≡ true
+  pub no_end : has_end c ≡ false
+  pub short : length c ≤ 512
 
 record Parts (a b l : Bool) : Type 0 where
   first : a ≡ true
@@ -52,8 +52,8 @@ at_filled : (c : List ℕ) → has_at c ≡ true → is_filled c ≡ true
 at_filled [] h = absurd (let e : false ≡ true = h in cc)
 at_filled (x ∷ c) h = refl
 
-not_longer : (n : ℕ) → nat_lt 256 n ≡ false → n ≤ 256
-not_longer n h = grind (arith, nat_tests)
+not_longer : (n : ℕ) → nat_lt 256 n ≡ false → n ≤ 512
+not_longer n h = let few : n ≤ 256 = grind (arith, nat_tests) in omega arith
 
 command_line : (c : List ℕ) → refusal_of c ≡ None → IsLine c
 command_line c e =
@@ -66,13 +66,13 @@ filled_more : (c : List ℕ) → is_filled c ≡ true → (runs : List (List ℕ
 filled_more [] h runs = absurd (let e : false ≡ true = h in cc)
 filled_more (x ∷ c) h runs = refl
 
-line_more : (c y : List ℕ) → IsLine c → lines ((c ++ 13 ∷ []) ++ y) ≡ c ∷ lines y
+pub line_more : (c y : List ℕ) → IsLine c → lines ((c ++ 13 ∷ []) ++ y) ≡ c ∷ lines y
 line_more c y l =
     let runs : ended_runs (c ++ 13 ∷ y) ≡ (c ++ []) ∷ ended_runs y = ended_runs-behind c (13 ∷ y) l.no_end in
     ap lines (append_assoc c (13 ∷ []) y)
     ∙ (ap (λ (v : List (List ℕ)). map cut (filter is_filled v)) (runs ∙ ap (λ (v : List ℕ). v ∷ ended_runs y) (append-nil c))
     ∙ (filled_more c l.filled (ended_runs y)
-    ∙ ap (λ (v : List ℕ). v ∷ lines y) (take_all 512 c (omega (arith, l.short)))))
+    ∙ ap (λ (v : List ℕ). v ∷ lines y) (take_all 512 c l.short)))
 
 lines_less : (out : List ℕ) → has_end out ≡ false → lines out ≡ []
 lines_less out h = ap (λ (v : List (List ℕ)). map cut (filter is_filled v)) (no_run out h)

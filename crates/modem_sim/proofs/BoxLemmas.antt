@@ -42,7 +42,7 @@ same_connection : (m n : ℕ) → (m == n) ≡ true → m ≡ n
 same_connection m n is = grind (arith, nat_tests)
 
 -- information on d is that of a frame of data there
-carries_data : (d : ℕ) (f : Frame) → carries d f ≡ (is_data_frame f && (f.dlci == d))
+pub carries_data : (d : ℕ) (f : Frame) → carries d f ≡ (is_data_frame f && (f.dlci == d))
 carries_data d f = by_here (f.dlci == d) refl
   where
     turned : (k z : Bool) → (not z && (k && true)) ≡ ((k && not z) && true)

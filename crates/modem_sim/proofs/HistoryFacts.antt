@@ -31,9 +31,9 @@ use Rattle.modem_sim.specs.Histories.{EachAllowed, IsOffer, MayDo}
 use Rattle.modem_sim.specs.HistoryRows.{one, two, step_at, plain, simulated, cr, ready_one, ready_two, csq, repeated, two_connections, holding, held_back, asking, asked_of_station, IsGood, GoodRows}
 
 -- a station's past that is lawful and complete
-record GoodThere (s : Setting) (past : List station.Act) : Type 0 where
-  lawful : LawfulThere s past
-  complete : CompleteThere s past
+pub record GoodThere (s : Setting) (past : List station.Act) : Type 0 where
+  pub lawful : LawfulThere s past
+  pub complete : CompleteThere s past
 
 nothing_yet : (s : Setting) → GoodThere s []
 unfolding LawfulThere CompleteThere
@@ -53,11 +53,11 @@ with_data {s} {past} f data_is gated good = record {
   complete = rw data_is (good.complete);
 }
 
-abbrev end : Setting
+abbrev pub end : Setting
 end = record { role = Responder; n1 = 31 }
 
 -- data leaves, of octets that were offered
-leaves : {past : List station.Act} (d : ℕ) (info later : List ℕ) → is_data_frame (written Responder Uih d info) ≡ true → IsTrue (not (list_any is_loss past)) → IsTrue (is_open Responder d past) → IsTrue (not (is_stopped Responder d past)) → IsTrue (nat_le 1 (length info)) → IsTrue (nat_le (length info) 31) → offered Responder d past ≡ given Responder d past ++ info ++ later → GoodThere end past → GoodThere end (station.Sent (written Responder Uih d info) ∷ past)
+pub leaves : {past : List station.Act} (d : ℕ) (info later : List ℕ) → is_data_frame (written Responder Uih d info) ≡ true → IsTrue (not (list_any is_loss past)) → IsTrue (is_open Responder d past) → IsTrue (not (is_stopped Responder d past)) → IsTrue (nat_le 1 (length info)) → IsTrue (nat_le (length info) 31) → offered Responder d past ≡ given Responder d past ++ info ++ later → GoodThere end past → GoodThere end (station.Sent (written Responder Uih d info) ∷ past)
 unfolding CompleteThere
 leaves {past} d info later data_is live there goes some fits next good =
     with_data (written Responder Uih d info) data_is
@@ -65,31 +65,31 @@ leaves {past} d info later data_is live there goes some fits next good =
     good
 
 -- a frame comes; one is given on; octets are offered; another call
-got : {past : List station.Act} (k : Kind) (d : ℕ) (info : List ℕ) → GoodThere end past → GoodThere end (answered end past (station.Got (written Initiator k d info)))
+pub got : {past : List station.Act} (k : Kind) (d : ℕ) (info : List ℕ) → GoodThere end past → GoodThere end (answered end past (station.Got (written Initiator k d info)))
 got k d info good = with_frames (station.Got (written Initiator k d info)) refl good
 
-given_on : {past : List station.Act} → GoodThere end past → GoodThere end (answered end past station.Given)
+pub given_on : {past : List station.Act} → GoodThere end past → GoodThere end (answered end past station.Given)
 given_on good = with_frames station.Given refl good
 
-called : {past : List station.Act} (c : station.Call) → GoodThere end past → GoodThere end (answered end past (station.Called c))
+pub called : {past : List station.Act} (c : station.Call) → GoodThere end past → GoodThere end (answered end past (station.Called c))
 called c good = with_frames (station.Called c) refl good
 
-abbrev offer : ℕ → List ℕ → station.Call
+abbrev pub offer : ℕ → List ℕ → station.Call
 offer d octets = station.Offer d octets
 
-ready_one_there : (echo : Bool) (steps : List Step) → GoodThere end (wire (after [] ready_one))
+pub ready_one_there : (echo : Bool) (steps : List Step) → GoodThere end (wire (after [] ready_one))
 ready_one_there echo steps = given_on (given_on (got Sabm 1 [] (given_on (got Sabm 0 [] (nothing_yet end)))))
 
 ready_two_there : (echo : Bool) (steps : List Step) → GoodThere end (wire (after [] ready_two))
 ready_two_there echo steps = given_on (given_on (got Sabm 2 [] (ready_one_there echo steps)))
 
-ready_one_allowed : (e : End) → EachAllowed e (after [] ready_one)
+pub ready_one_allowed : (e : End) → EachAllowed e (after [] ready_one)
 ready_one_allowed e = (refl, (refl, (refl, (refl, (refl, (refl, (refl, (refl, tt))))))))
 
 ready_two_allowed : (e : End) → EachAllowed e (after [] ready_two)
 ready_two_allowed e = (refl, (refl, (refl, (refl, (refl, ready_one_allowed e)))))
 
-next_offer : {e : End} {past : List Act} {d : ℕ} {octets : List ℕ} → call_owed past ≡ None → starts_with nat_eq (spelled (outbox e d past).said) (offered Responder d (wire past) ++ octets) ≡ true → IsOffer e past d octets
+pub next_offer : {e : End} {past : List Act} {d : ℕ} {octets : List ℕ} → call_owed past ≡ None → starts_with nat_eq (spelled (outbox e d past).said) (offered Responder d (wire past) ++ octets) ≡ true → IsOffer e past d octets
 next_offer free next = record { free = free; next = next }
 
 csq_there : GoodThere end (wire (after [] csq))
@@ -140,7 +140,7 @@ two_good =
     (refl, (refl, (refl, (next_offer refl refl, (next_offer refl refl, (refl, (refl, ready_two_allowed plain)))))))
     refl refl refl
 
-due : {e : End} {past : List Act} {act : StepAct} (next : Step) (later : List Step) → call_owed past ≡ None → left e past ≡ next ∷ later → next.act ≡ act → nat_le next.after (length (heard past)) ≡ true → list_all (λ d. is_open_on d past) (named_by act) ≡ true → MayDo e past act
+pub due : {e : End} {past : List Act} {act : StepAct} (next : Step) (later : List Step) → call_owed past ≡ None → left e past ≡ next ∷ later → next.act ≡ act → nat_le next.after (length (heard past)) ≡ true → list_all (λ d. is_open_on d past) (named_by act) ≡ true → MayDo e past act
 due next later free is_first is_its come they_are_open = record {
   free = free;
   due = record { next = next; later = later; is_first = is_first; is_its = is_its; come = come; open_are = they_are_open };

@@ -80,13 +80,13 @@ says_first e (Wire a ∷ past) d = by_open (is_open d (Wire a ∷ past)) refl (s
 
 -- ## The replies to all lines
 
-replied_on-append : (echo : Bool) (d : ℕ) (m : ModemState) (xs ys : List (ℕ × List ℕ)) → replied_on echo d m (xs ++ ys) ≡ replied_on echo d m xs ++ replied_on echo d (after_lines m (texts_of xs)) ys
+pub replied_on-append : (echo : Bool) (d : ℕ) (m : ModemState) (xs ys : List (ℕ × List ℕ)) → replied_on echo d m (xs ++ ys) ≡ replied_on echo d m xs ++ replied_on echo d (after_lines m (texts_of xs)) ys
 replied_on-append echo d m [] ys = refl
 replied_on-append echo d m (p ∷ xs) ys =
     ap (λ x. (if p.0 == d then written_for echo m p.1 ∷ [] else []) ++ x) (replied_on-append echo d (step m p.1).state xs ys)
     ∙ sym (append_assoc (if p.0 == d then written_for echo m p.1 ∷ [] else []) (replied_on echo d (step m p.1).state xs) (replied_on echo d (after_lines (step m p.1).state (texts_of xs)) ys))
 
-all-append : (xs ys : List (List (List ℕ))) → all_of (xs ++ ys) ≡ all_of xs ++ all_of ys
+pub all-append : (xs ys : List (List (List ℕ))) → all_of (xs ++ ys) ≡ all_of xs ++ all_of ys
 all-append [] ys = refl
 all-append (x ∷ xs) ys = ap (λ z. x ++ z) (all-append xs ys) ∙ sym (append_assoc x (all_of xs) (all_of ys))
 

@@ -39,7 +39,7 @@ use Rattle.modem_sim.proofs.KeptLemmas.{IsKept, IsContextKept, AreContextsKept, 
 use Rattle.at_cmds.proofs.FormLemmas.{if_some}
 
 -- an error's text, by which mode it is
-abbrev text_by : Bool → Bool → ℕ → List ℕ
+abbrev pub text_by : Bool → Bool → ℕ → List ℕ
 text_by plain numbered number =
     if plain then codes "ERROR"
     else if numbered then codes "+CME ERROR: " ++ decimal number
@@ -79,37 +79,42 @@ no_network true numbered = refl
 no_network false true = refl
 no_network false false = refl
 
-lock_refusals : (lock : Lock) → IfSome (lock_error lock) IsReadBack
-lock_refusals Ready = tt
-lock_refusals (NeedPin pin tries) = pin_required
-lock_refusals NeedPuk = puk_required
+-- ## What holds of each error that a command is refused with
 
-pin_refusals : (lock : Lock) (pin : List ℕ) → IfSome (pin_error lock pin) IsReadBack
-pin_refusals Ready pin = not_allowed
-pin_refusals (NeedPin wanted tries) pin = if_some _ None (Some 16) IsReadBack (λ is. tt) (λ other. incorrect_password)
-pin_refusals NeedPuk pin = puk_required
+lock_refusals : (P : ℕ → Type 0) → P 11 → P 12 → (lock : Lock) → IfSome (lock_error lock) P
+lock_refusals P pin puk Ready = tt
+lock_refusals P pin puk (NeedPin wanted tries) = pin
+lock_refusals P pin puk NeedPuk = puk
 
-attach_refusals : (o : Option ℕ) (registered : Bool) → IfSome o IsReadBack → IfSome (attach_error o registered) IsReadBack
-attach_refusals (Some number) registered is = is
-attach_refusals None true is = tt
-attach_refusals None false is = no_network
+pin_refusals : (P : ℕ → Type 0) → P 3 → P 12 → P 16 → (lock : Lock) (pin : List ℕ) → IfSome (pin_error lock pin) P
+pin_refusals P allowed puk wrong Ready pin = allowed
+pin_refusals P allowed puk wrong (NeedPin wanted tries) pin = if_some _ None (Some 16) P (λ is. tt) (λ other. wrong)
+pin_refusals P allowed puk wrong NeedPuk pin = puk
+
+attach_refusals : (P : ℕ → Type 0) → P 30 → (o : Option ℕ) (registered : Bool) → IfSome o P → IfSome (attach_error o registered) P
+attach_refusals P network (Some number) registered is = is
+attach_refusals P network None true is = tt
+attach_refusals P network None false is = network
+
+pub refusals_are : (P : ℕ → Type 0) → P 3 → P 11 → P 12 → P 16 → P 30 → (s : ModemState) (c : Command) → IfSome (refusal_of s c) P
+refusals_are P allowed pin puk wrong network s PinQuery = tt
+refusals_are P allowed pin puk wrong network s (PinEnter entered) = pin_refusals P allowed puk wrong s.lock entered
+refusals_are P allowed pin puk wrong network s (RegReport n) = tt
+refusals_are P allowed pin puk wrong network s RegQuery = tt
+refusals_are P allowed pin puk wrong network s Signal = tt
+refusals_are P allowed pin puk wrong network s OperQuery = lock_refusals P pin puk s.lock
+refusals_are P allowed pin puk wrong network s (OperChoose choice) = lock_refusals P pin puk s.lock
+refusals_are P allowed pin puk wrong network s (ContextSet cid pdp apn) = lock_refusals P pin puk s.lock
+refusals_are P allowed pin puk wrong network s ContextQuery = lock_refusals P pin puk s.lock
+refusals_are P allowed pin puk wrong network s (AttachSet true) = attach_refusals P network (lock_error s.lock) (is_registered s.lock s.oper) (lock_refusals P pin puk s.lock)
+refusals_are P allowed pin puk wrong network s (AttachSet false) = lock_refusals P pin puk s.lock
+refusals_are P allowed pin puk wrong network s AttachQuery = lock_refusals P pin puk s.lock
+refusals_are P allowed pin puk wrong network s (ErrorMode n) = tt
+refusals_are P allowed pin puk wrong network s Multiplex = allowed
 
 -- each error that a command is refused with is read back
 refusals : (s : ModemState) (c : Command) → IfSome (refusal_of s c) IsReadBack
-refusals s PinQuery = tt
-refusals s (PinEnter pin) = pin_refusals s.lock pin
-refusals s (RegReport n) = tt
-refusals s RegQuery = tt
-refusals s Signal = tt
-refusals s OperQuery = lock_refusals s.lock
-refusals s (OperChoose choice) = lock_refusals s.lock
-refusals s (ContextSet cid pdp apn) = lock_refusals s.lock
-refusals s ContextQuery = lock_refusals s.lock
-refusals s (AttachSet true) = attach_refusals (lock_error s.lock) (is_registered s.lock s.oper) (lock_refusals s.lock)
-refusals s (AttachSet false) = lock_refusals s.lock
-refusals s AttachQuery = lock_refusals s.lock
-refusals s (ErrorMode n) = tt
-refusals s Multiplex = not_allowed
+refusals s c = refusals_are IsReadBack not_allowed pin_required puk_required incorrect_password no_network s c
 
 pin_told : (lock : Lock) → reply_of PinQuery (good_answer (pin_text lock ∷ [])) ≡ Ok (Pin (wanted_pin lock))
 unfolding fault_of first_named

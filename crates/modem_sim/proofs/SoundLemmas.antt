@@ -1,9 +1,9 @@
 -- What is said on a connection is read as the lines of its pieces.
 use Rattle.std.specs.Prelude.{◌≡◌, ℕ, zero, suc, ◌≤◌, ◌==◌, ◌&&◌, not, nat_le, Bool, true, false, List, [], ◌∷◌, ◌++◌, length, take, map, filter, refl, if◌then◌else◌}
 use Rattle.std.specs.List.{list_all, list_any}
-use Rattle.std.proofs.Common.{arith, sym, ap, ◌∙◌, append_assoc, append-nil}
+use Rattle.std.proofs.Common.{arith, sym, ap, ◌∙◌, append_assoc}
 use Rattle.std.proofs.lemmas.Bool.Decides.{nat_tests}
-use Rattle.std.proofs.lemmas.List.{take_all}
+use Rattle.std.proofs.lemmas.Bool.{and_parts}
 use Rattle.mux_frame.specs.Frames.{Frame}
 use Rattle.mux_station.specs.declared.role.Role.TheVariants.{Responder}
 use Rattle.mux_station.specs.Acts as station
@@ -12,8 +12,9 @@ use Rattle.mux_station.specs.Written.{is_data_frame}
 use Rattle.at_text.specs.declared.answer.AnswerLine.{AnswerLine}
 use Rattle.at_text.specs.Lines.{is_line_end, ended_runs, onto_first, is_filled, cut, lines}
 use Rattle.at_text.specs.Unsolicited.{is_solicited}
-use Rattle.at_text.proofs.LineLemmas.{has_end, has_end-take, ended_runs-behind}
+use Rattle.at_text.proofs.LineLemmas.{has_end, has_end-take}
 use Rattle.modem_history.specs.Connections.{unfinished_on}
+use Rattle.modem_history.proofs.ReadAsSent.{IsLine, line_more}
 use Rattle.modem_sim.specs.declared.modem.ModemStart.{ModemStart}
 use Rattle.modem_sim.specs.declared.script.StepAct.TheVariants.{Announce, Flow, Hold, Disconnect, CloseDown}
 use Rattle.modem_sim.specs.Laws.{IsStart, after_lines, reached}
@@ -46,16 +47,6 @@ sound-append : (a b : List Piece) → AreSound a → AreSound b → AreSound (a 
 sound-append [] b first second = second
 sound-append (p ∷ a) b first second = (first.0, sound-append a b first.1 second)
 
-and_both : (a b : Bool) → (a && b) ≡ true → (a ≡ true) × (b ≡ true)
-and_both true true is = (refl, refl)
-and_both true false is = cc
-and_both false b is = cc
-
-record LineParts (text : List ℕ) : Type 0 where
-  filled : is_filled text ≡ true
-  short : length text ≤ 512
-  no_end : has_end text ≡ false
-
 within : (n : ℕ) → nat_le n 512 ≡ true → n ≤ 512
 within n is = grind (arith, nat_tests)
 
@@ -63,32 +54,24 @@ negated : (b : Bool) → not b ≡ true → b ≡ false
 negated true is = cc
 negated false is = refl
 
-line_parts : (text : List ℕ) → is_line text ≡ true → LineParts text
+line_parts : (text : List ℕ) → is_line text ≡ true → IsLine text
 line_parts text is =
-    let first = and_both (is_filled text) (nat_le (length text) 512 && not (list_any is_line_end text)) is in
-    let second = and_both (nat_le (length text) 512) (not (list_any is_line_end text)) first.1 in
-    record { filled = first.0; short = within (length text) second.0; no_end = negated (list_any is_line_end text) second.1 }
-
-filled_more : (c : List ℕ) → is_filled c ≡ true → (runs : List (List ℕ)) → map cut (filter is_filled (c ∷ runs)) ≡ cut c ∷ map cut (filter is_filled runs)
-filled_more [] is runs = cc
-filled_more (x ∷ c) is runs = refl
+    let first = and_parts (is_filled text) (nat_le (length text) 512 && not (list_any is_line_end text)) is in
+    let second = and_parts (nat_le (length text) 512) (not (list_any is_line_end text)) first.1 in
+    record { filled = first.0; no_end = negated (list_any is_line_end text) second.1; short = within (length text) second.0 }
 
 -- a line before its end
-line_before : (text y : List ℕ) → is_line text ≡ true → lines (text ++ 13 ∷ y) ≡ text ∷ lines y
-line_before text y is =
-    let parts = line_parts text is in
-    let runs : ended_runs (text ++ 13 ∷ y) ≡ (text ++ []) ∷ ended_runs y = ended_runs-behind text (13 ∷ y) parts.no_end in
-    ap (λ (v : List (List ℕ)). map cut (filter is_filled v)) (runs ∙ ap (λ (v : List ℕ). v ∷ ended_runs y) (append-nil text))
-    ∙ (filled_more text parts.filled (ended_runs y)
-    ∙ ap (λ (v : List ℕ). v ∷ lines y) (take_all 512 text parts.short))
+line_before : (text y : List ℕ) → is_line text ≡ true → lines ((text ++ 13 ∷ []) ++ y) ≡ text ∷ lines y
+line_before text y is = line_more text y (line_parts text is)
 
 framed_before : (text y : List ℕ) → is_line text ≡ true → lines (framed text ++ y) ≡ text ∷ lines y
 framed_before text y is =
-    let own : lines (text ++ 13 ∷ 10 ∷ y) ≡ text ∷ lines y = line_before text (10 ∷ y) is in
-    ap (λ (z : List ℕ). lines (13 ∷ 10 ∷ z)) (append_assoc text (13 ∷ 10 ∷ []) y) ∙ own
+    let own : lines ((text ++ 13 ∷ []) ++ 10 ∷ y) ≡ text ∷ lines y = line_before text (10 ∷ y) is in
+    let same : (text ++ 13 ∷ 10 ∷ []) ++ y ≡ (text ++ 13 ∷ []) ++ 10 ∷ y = append_assoc text (13 ∷ 10 ∷ []) y ∙ sym (append_assoc text (13 ∷ []) (10 ∷ y)) in
+    ap (λ (z : List ℕ). lines (13 ∷ 10 ∷ z)) same ∙ own
 
 piece_before : (p : Piece) (y : List ℕ) → IsSound p → lines (octets_of p ++ y) ≡ text_of p ∷ lines y
-piece_before (Echo line) y is = ap lines (append_assoc line (13 ∷ []) y) ∙ line_before line y is
+piece_before (Echo line) y is = line_before line y is
 piece_before (Answer line) y is = framed_before line y is
 piece_before (Announced line) y is = framed_before line y is.0
 
@@ -162,8 +145,8 @@ if_lines false text = tt
 answers_sound : (ls : List AnswerLine) → list_all is_answer_line ls ≡ true → AreSound (answers ls)
 answers_sound [] all = tt
 answers_sound (l ∷ ls) all =
-    let parts = and_both (is_answer_line l) (list_all is_answer_line ls) all in
-    ((and_both (is_line l.text) _ parts.0).0, answers_sound ls parts.1)
+    let parts = and_parts (is_answer_line l) (list_all is_answer_line ls) all in
+    ((and_parts (is_line l.text) _ parts.0).0, answers_sound ls parts.1)
 
 reply_sound : (start : ModemStart) → IsStart start → (echo : Bool) (before : List (List ℕ)) (line : List ℕ) → is_line line ≡ true → AreSound (reply echo (reached start before) line)
 reply_sound start is true before line own = (own, answers_sound (step (reached start before) line).answer (kept_told (reached start before) line (reached_kept start before is)))
@@ -222,7 +205,7 @@ announced_sound false line b is old = old
 pub says_sound : (e : End) → IsModem e.modem → (past : List Act) → EachAllowed e past → AnnouncesUnsolicited past → (d : ℕ) → SaysSound (outbox e d past)
 says_sound e m [] may un d = record { said = tt; held = tt }
 says_sound e m (Did (Announce x line) ∷ past) may un d =
-    let does = and_both (not (x.number == 0)) (is_line line) (does_act e past (Announce x line) may.0) in
+    let does = and_parts (not (x.number == 0)) (is_line line) (does_act e past (Announce x line) may.0) in
     announced_sound (x.number == d) line (outbox e d past) (does.1, un.0) (says_sound e m past may.1 un.1 d)
 says_sound e m (Did (Flow x go) ∷ past) may un d = says_sound e m past may.1 un d
 says_sound e m (Did (Hold x y) ∷ past) may un d = says_sound e m past may.1 un d

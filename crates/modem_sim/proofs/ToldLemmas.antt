@@ -1,15 +1,15 @@
 -- Each line of an answer is one line as the other end reads it, and no command line.
-use Rattle.std.specs.Prelude.{◌≡◌, ℕ, ◌+◌, ◌<◌, ◌≤◌, ◌==◌, ◌&&◌, nat_le, Bool, true, false, List, [], ◌∷◌, ◌++◌, length, map, Option, Some, None, IfSome, unwrap_or, refl, if◌then◌else◌, codes}
+use Rattle.std.specs.Prelude.{◌≡◌, ℕ, ◌+◌, ◌<◌, ◌≤◌, ◌==◌, ◌&&◌, nat_le, Bool, true, false, List, [], ◌∷◌, ◌++◌, length, map, Option, Some, None, IfSome, refl, if◌then◌else◌, codes}
 use Rattle.std.specs.Fmt.{decimal, digits}
 use Rattle.std.specs.List.{list_all, list_any}
 use Rattle.std.proofs.Common.{arith}
 use Rattle.std.proofs.lemmas.Bool.Decides.{nat_tests}
+use Rattle.std.proofs.lemmas.Bool.{and_parts}
 use Rattle.std.proofs.lemmas.List.{length-append}
 use Rattle.std.proofs.lemmas.Fmt.{length-decimal-le}
 use Rattle.at_text.specs.Commands.{has_at, is_printable}
 use Rattle.at_text.specs.Lines.{is_line_end, is_filled}
 use Rattle.at_text.specs.Octets.{is_digit}
-use Rattle.at_cmds.specs.Cme.{cme_text}
 use Rattle.at_cmds.specs.Commands.{pdp_text}
 use Rattle.at_cmds.specs.declared.command.Command.{Command}
 use Rattle.at_cmds.specs.declared.command.Command.TheVariants.{PinQuery, PinEnter, RegReport, RegQuery, Signal, OperQuery, OperChoose, ContextSet, ContextQuery, AttachSet, AttachQuery, ErrorMode, Multiplex}
@@ -18,7 +18,7 @@ use Rattle.at_cmds.specs.declared.command.OperChoice.TheVariants.{Automatic, Der
 use Rattle.at_cmds.specs.declared.command.Pdp.{Pdp}
 use Rattle.at_cmds.specs.declared.command.Pdp.TheVariants.{Ip, Ipv6, Ipv4v6}
 use Rattle.at_cmds.specs.Forms.{in_quotes, is_in_apn}
-use Rattle.at_cmds.proofs.FormLemmas.{if_some, holds_of}
+use Rattle.at_cmds.proofs.FormLemmas.{holds_of}
 use Rattle.at_cmds.proofs.LineLemmas.{all_append, all_weaker, both_true, run_is}
 use Rattle.modem_sim.specs.declared.contexts.PdpContext.{PdpContext}
 use Rattle.modem_sim.specs.declared.modem.ModemStart.{ModemStart}
@@ -26,11 +26,12 @@ use Rattle.modem_sim.specs.declared.state.Lock.{Lock}
 use Rattle.modem_sim.specs.declared.state.Lock.TheVariants.{Ready, NeedPin, NeedPuk}
 use Rattle.modem_sim.specs.declared.state.ModemState.{ModemState}
 use Rattle.modem_sim.specs.Reading.{is_attention, command_of}
-use Rattle.modem_sim.specs.Steps.{Step, line_of, error_text, lock_error, pin_error, attach_error, is_registered, refusal_of, pin_text, cell_text, reg_text, signal_text, oper_text, context_text, attached_text, told_texts, good_answer, obeyed_unless, step_by, step}
+use Rattle.modem_sim.specs.Steps.{Step, line_of, error_text, is_registered, refusal_of, pin_text, cell_text, reg_text, signal_text, oper_text, context_text, attached_text, told_texts, good_answer, obeyed_unless, step_by, step}
 use Rattle.modem_sim.specs.Laws.{IsStart}
 use Rattle.modem_sim.specs.Replied.{AnswersInLines, is_answer_line}
 use Rattle.modem_sim.proofs.KeptLemmas.{IsKept, IsContextKept, AreContextsKept, IsOperKept, reached_kept}
 use Rattle.modem_sim.proofs.NumberLemmas.{decimal_digits}
+use Rattle.modem_sim.proofs.ReplyLemmas.{refusals_are, text_by}
 
 -- ## Printable texts
 
@@ -38,16 +39,11 @@ record IsPlain (n : ℕ) (text : List ℕ) : Type 0 where
   all : list_all is_printable text ≡ true
   size : length text ≤ n
 
-and_both : (a b : Bool) → (a && b) ≡ true → (a ≡ true) × (b ≡ true)
-and_both true true is = (refl, refl)
-and_both true false is = cc
-and_both false b is = cc
-
 within : (m n : ℕ) → nat_le m n ≡ true → m ≤ n
 within m n is = grind (arith, nat_tests)
 
 plain : (n : ℕ) (text : List ℕ) → (list_all is_printable text && nat_le (length text) n) ≡ true → IsPlain n text
-plain n text is = let parts = and_both _ _ is in record { all = parts.0; size = within (length text) n parts.1 }
+plain n text is = let parts = and_parts _ _ is in record { all = parts.0; size = within (length text) n parts.1 }
 
 joined : (m n : ℕ) (a b : List ℕ) → IsPlain m a → IsPlain n b → IsPlain (m + n) (a ++ b)
 joined m n a b first second =
@@ -93,12 +89,6 @@ told text filled other is =
 
 -- ## Errors
 
-abbrev text_by : Bool → Bool → ℕ → List ℕ
-text_by plain numbered number =
-    if plain then codes "ERROR"
-    else if numbered then codes "+CME ERROR: " ++ decimal number
-    else codes "+CME ERROR: " ++ unwrap_or (cme_text number) []
-
 abbrev IsTold : ℕ → Type 0
 IsTold number = (plain numbered : Bool) → Told (text_by plain numbered number)
 
@@ -132,36 +122,8 @@ no_network true numbered = refl
 no_network false true = refl
 no_network false false = refl
 
-lock_refusals : (lock : Lock) → IfSome (lock_error lock) IsTold
-lock_refusals Ready = tt
-lock_refusals (NeedPin pin tries) = pin_required
-lock_refusals NeedPuk = puk_required
-
-pin_refusals : (lock : Lock) (pin : List ℕ) → IfSome (pin_error lock pin) IsTold
-pin_refusals Ready pin = not_allowed
-pin_refusals (NeedPin wanted tries) pin = if_some _ None (Some 16) IsTold (λ is. tt) (λ other. incorrect_password)
-pin_refusals NeedPuk pin = puk_required
-
-attach_refusals : (o : Option ℕ) (registered : Bool) → IfSome o IsTold → IfSome (attach_error o registered) IsTold
-attach_refusals (Some number) registered is = is
-attach_refusals None true is = tt
-attach_refusals None false is = no_network
-
 refusals : (s : ModemState) (c : Command) → IfSome (refusal_of s c) IsTold
-refusals s PinQuery = tt
-refusals s (PinEnter pin) = pin_refusals s.lock pin
-refusals s (RegReport n) = tt
-refusals s RegQuery = tt
-refusals s Signal = tt
-refusals s OperQuery = lock_refusals s.lock
-refusals s (OperChoose choice) = lock_refusals s.lock
-refusals s (ContextSet cid pdp apn) = lock_refusals s.lock
-refusals s ContextQuery = lock_refusals s.lock
-refusals s (AttachSet true) = attach_refusals (lock_error s.lock) (is_registered s.lock s.oper) (lock_refusals s.lock)
-refusals s (AttachSet false) = lock_refusals s.lock
-refusals s AttachQuery = lock_refusals s.lock
-refusals s (ErrorMode n) = tt
-refusals s Multiplex = not_allowed
+refusals s c = refusals_are IsTold not_allowed pin_required puk_required incorrect_password no_network s c
 
 -- ## What a command is told
 

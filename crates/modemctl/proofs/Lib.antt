@@ -7,3 +7,11 @@ pub mod Orders
 pub mod Readings
 pub mod Scripts
 pub mod ScriptNumbers
+pub mod FinalCodes
+pub mod AnswersBehind
+pub mod LineBack
+pub mod LineFacts
+pub mod Places
+pub mod ModemAnswers
+pub mod OneModemLaws
+pub mod OneModemFacts

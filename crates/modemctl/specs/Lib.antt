@@ -6,3 +6,5 @@ pub mod Script
 pub mod Statuses
 pub mod Texts
 pub mod Words
+pub mod OneModem
+pub mod OneModemRows

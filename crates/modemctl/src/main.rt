@@ -7,6 +7,7 @@ mod framing;
 #[cfg(test)]
 mod hostile;
 mod input;
+pub mod laws;
 #[cfg(test)]
 mod rows;
 mod runs;
