@@ -8,6 +8,10 @@ use std::test::*;
 
 mod entering;
 mod no_memory;
+mod rig;
+mod session_faults;
+mod session_rings;
+mod session_runs;
 mod steps;
 
 /// What an act is, as a test compares it.
