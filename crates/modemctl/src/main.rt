@@ -11,6 +11,10 @@ mod input;
 mod rows;
 mod runs;
 mod script;
+#[cfg(test)]
+mod scripts;
+#[cfg(test)]
+mod session_scripts;
 mod stop;
 #[cfg(test)]
 mod tests;
