@@ -64,22 +64,42 @@ impl<R: Wait + Drop + Copy> Rig<R> {
 }
 
 /// 512 lines wait for a listener: the other end is asked to stop, and told to go on when 127 wait.
-#[test]
-fn a_backlog_holds_a_connection(rt: HostRuntime) -> Result<(), Fail> {
-    let mut rig = Rig::new(rt, rt.alloc(), RINGS)?;
+fn is_held_back<R: Wait + Drop + Copy>(rig: &mut Rig<R>) -> Result<bool, Fail> {
     rig.open()?;
     let (opened, _) = rig.sent(GO);
     rig.ring(511)?;
-    assert_eq!(rt; rig.sent(GO), (opened, true));
+    let not_yet = rig.sent(GO) == (opened, true);
     rig.ring(1)?;
     let held = opened.saturating_add(STOP.len());
-    assert_eq!(rt; rig.sent(STOP), (held, true));
+    let stopped = rig.sent(STOP) == (held, true);
     rig.come(STOPPED)?;
     rig.hear(128)?;
-    assert_eq!(rt; rig.sent(STOP), (held, true));
+    let still = rig.sent(STOP) == (held, true);
     rig.hear(1)?;
-    assert_eq!(rt; rig.sent(GO), (held.saturating_add(GO.len()), true));
+    let freed = rig.sent(GO) == (held.saturating_add(GO.len()), true);
+    Ok(not_yet && stopped && still && freed)
+}
+
+#[test]
+fn a_backlog_holds_a_connection(rt: HostRuntime) -> Result<(), Fail> {
+    let mut rig = Rig::new(rt, rt.alloc(), RINGS)?;
+    assert!(rt; is_held_back(&mut rig)?);
     Ok(())
+}
+
+/// A caller that takes nothing holds up its own outcomes alone: the other one has its own.
+fn is_held_up_alone<R: Wait + Drop + Copy>(rig: &mut Rig<R>) -> Result<bool, Fail> {
+    for _request in 0..10 {
+        let ask = command(rig.alloc, b"AT")?;
+        rig.ask(0, ask)?;
+    }
+    let ask = command(rig.alloc, b"AT")?;
+    rig.ask(1, ask)?;
+    let waits = rig.run()? == Turn::Waiting(0);
+    let told = matches!(rig.told(1)?, Answer::NotOpen);
+    rig.told(0)?;
+    rig.run()?;
+    Ok(waits && told)
 }
 
 /// How many outcomes a session leaves unplaced, and how many the first caller hasn't taken at settlement.
@@ -100,56 +120,73 @@ fn ends<R: Wait + Drop + Copy>(rig: Rig<R>) -> Result<(usize, usize), Fail> {
     Ok((unplaced, untaken.len()))
 }
 
-/// A caller that takes nothing holds up its own outcomes alone: the other one has its own.
 #[test]
 fn a_full_ring_holds_up_its_own_caller(rt: HostRuntime) -> Result<(), Fail> {
     let mut rig = Rig::new(rt, rt.alloc(), TWO)?;
-    for _request in 0..10 {
-        rig.ask(0, command(rt.alloc(), b"AT")?)?;
-    }
-    rig.ask(1, command(rt.alloc(), b"AT")?)?;
-    assert_eq!(rt; rig.run()?, Turn::Waiting(0));
-    assert!(rt; matches!(rig.told(1)?, Answer::NotOpen));
-    rig.told(0)?;
-    rig.run()?;
+    assert!(rt; is_held_up_alone(&mut rig)?);
     assert_eq!(rt; ends(rig)?, (1, 8));
     Ok(())
 }
 
 /// A listener that takes nothing holds up its own lines alone: a command is answered meanwhile.
+fn is_blocked_alone<R: Wait + Drop + Copy>(rig: &mut Rig<R>) -> Result<bool, Fail> {
+    rig.open()?;
+    let blocked = rig.ring(257)? == Turn::Blocked(UrcKind::Ring);
+    let ask = csq(rig.alloc, 2)?;
+    rig.ask(0, ask)?;
+    rig.run()?;
+    rig.come(OK)?;
+    let answered = matches!(rig.told(0)?, Answer::Done(_));
+    let idle = rig.hear(1)? == Turn::Idle;
+    Ok(blocked && answered && idle)
+}
+
 #[test]
 fn a_full_ring_holds_up_its_own_listener(rt: HostRuntime) -> Result<(), Fail> {
     let mut rig = Rig::new(rt, rt.alloc(), RINGS)?;
-    rig.open()?;
-    assert_eq!(rt; rig.ring(257)?, Turn::Blocked(UrcKind::Ring));
-    rig.ask(0, csq(rt.alloc(), 2)?)?;
-    rig.run()?;
-    rig.come(OK)?;
-    assert!(rt; matches!(rig.told(0)?, Answer::Done(_)));
-    assert_eq!(rt; rig.hear(1)?, Turn::Idle);
+    assert!(rt; is_blocked_alone(&mut rig)?);
     Ok(())
 }
 
 /// A modem that doesn't answer an opening: it is asked four times, and given up with a DISC.
-#[test]
-fn an_opening_is_given_up(rt: HostRuntime) -> Result<(), Fail> {
-    let mut rig = Rig::new(rt, rt.alloc(), PLAIN)?;
-    rig.ask(0, csq(rt.alloc(), 0)?)?;
-    rig.run()?;
-    rig.come(COMES[0])?;
-    assert!(rt; matches!(rig.told(0)?, Answer::Opened));
-    rig.ask(0, csq(rt.alloc(), 1)?)?;
+fn is_given_up<R: Wait + Drop + Copy>(rig: &mut Rig<R>) -> Result<bool, Fail> {
+    let open = csq(rig.alloc, 1)?;
+    rig.ask(0, open)?;
     rig.run()?;
     for _tick in 0..4 {
         rig.session.tick()?;
         rig.run()?;
     }
-    assert_eq!(rt; rig.session.line_mut().sent(), GIVEN_UP);
-    assert!(rt; matches!(rig.told(0)?, Answer::NoAnswer));
+    let asked = rig.session.line_mut().sent() == GIVEN_UP;
+    let unanswered = matches!(rig.told(0)?, Answer::NoAnswer);
+    Ok(asked && unanswered)
+}
+
+/// Its UA comes too late, and nothing is sent on it.
+fn stays_shut<R: Wait + Drop + Copy>(rig: &mut Rig<R>) -> Result<bool, Fail> {
     rig.come(COMES[1])?;
-    rig.ask(0, command(rt.alloc(), b"AT")?)?;
+    let ask = command(rig.alloc, b"AT")?;
+    rig.ask(0, ask)?;
     rig.run()?;
-    assert!(rt; matches!(rig.told(0)?, Answer::NotOpen));
-    assert_eq!(rt; rig.session.line_mut().sent(), GIVEN_UP);
+    let refused = matches!(rig.told(0)?, Answer::NotOpen);
+    Ok(refused && rig.session.line_mut().sent() == GIVEN_UP)
+}
+
+/// Connection 0 is opened.
+fn is_opened<R: Wait + Drop + Copy>(rig: &mut Rig<R>) -> Result<bool, Fail> {
+    let open = csq(rig.alloc, 0)?;
+    rig.ask(0, open)?;
+    rig.run()?;
+    rig.come(COMES[0])?;
+    Ok(matches!(rig.told(0)?, Answer::Opened))
+}
+
+#[test]
+fn an_opening_is_given_up(rt: HostRuntime) -> Result<(), Fail> {
+    let mut rig = Rig::new(rt, rt.alloc(), PLAIN)?;
+    let opened = is_opened(&mut rig)?;
+    let given_up = is_given_up(&mut rig)?;
+    let shut = stays_shut(&mut rig)?;
+    assert!(rt; opened && given_up && shut);
     Ok(())
 }
