@@ -9,7 +9,11 @@ use std::test::*;
 mod answers;
 mod entering;
 mod no_memory;
+mod rig;
+mod session_faults;
 mod session_polls;
+mod session_rings;
+mod session_runs;
 mod steps;
 
 /// What an act is, as a test compares it.

@@ -1,5 +1,7 @@
 mod acts;
+mod refused;
 mod sim;
+mod table;
 
 use crate::{Modem, ModemStart, SimError};
 use at_cmds::Pin;

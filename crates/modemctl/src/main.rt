@@ -12,6 +12,10 @@ pub mod laws;
 mod rows;
 mod runs;
 mod script;
+#[cfg(test)]
+mod scripts;
+#[cfg(test)]
+mod session_scripts;
 mod stop;
 #[cfg(test)]
 mod tests;

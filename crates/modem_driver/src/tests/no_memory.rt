@@ -11,12 +11,12 @@ use std::process::Abort;
 use std::test::Fail;
 
 // The calls of this name begin.
-fn begin(rt: &impl Print, call: &str) {
+pub(super) fn begin(rt: &impl Print, call: &str) {
     let _ = rt.println(format_args!("> {call}"));
 }
 
 // They have ended.
-fn end(rt: &impl Print) {
+pub(super) fn end(rt: &impl Print) {
     let _ = rt.println("<");
 }
 
