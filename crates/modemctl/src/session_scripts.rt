@@ -1,7 +1,7 @@
 //! Scripts that a session runs on its line, beside what `replay` makes of them.
+use crate::random_scripts::SCRIPTS;
 use crate::rows::{AFTER_ZERO, AT_FIRST, COMMANDS, CONTROL, ENDS, ZERO};
 use crate::script::read_script;
-use crate::scripts::SCRIPTS;
 use crate::tests::P;
 use crate::texts::push_act;
 use modem_desk::{Ask, Caller, Desk};
