@@ -2,6 +2,9 @@
 //! driver does with requests and octets.
 #![tactic(auto)]
 
+mod bench;
+#[cfg(test)]
+mod bench_tests;
 mod dump;
 mod framing;
 #[cfg(test)]

@@ -41,7 +41,7 @@ pub fn give_up<E: Write>(faults: &mut E, stop: Stop) -> u8
 }
 
 /// Writes what a run gave, or says why it gave nothing; and gives the status.
-fn finish<W: Write, E: Write>(output: &mut W, faults: &mut E, built: Result<String, Stop>) -> u8
+pub fn finish<W: Write, E: Write>(output: &mut W, faults: &mut E, built: Result<String, Stop>) -> u8
     ensures ended { MatchResult built (λ _. result ≤ 1) (λ stop. result ≡ status_of stop) }
     ensures written { IfOk built (λ text. result ≡ 0 → Appends (W.contents output.old) (W.contents output.new) (string_bytes text)) }
     ensures nothing { OnErr built (output.new ≡ output.old) }
