@@ -6,4 +6,7 @@ pub mod Inputs
 pub mod Orders
 pub mod Readings
 pub mod Scripts
+pub mod Showing
+pub mod Submissions
+pub mod Working
 pub mod ScriptNumbers

@@ -36,6 +36,7 @@ fn main(rt: HostRuntime) -> ExitCode {
     };
     let status = match arguments {
         Ok(words) => words::run(
+            &rt,
             rt.alloc(),
             words.as_slice(),
             &mut rt.stdin(),

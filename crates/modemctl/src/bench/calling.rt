@@ -1,12 +1,18 @@
 //! What the callers of a bench do.
-use crate::bench::orders::{Order, names};
+ghost use Rattle.std.specs.Prelude.{◌≡◌, ◌≤◌, ◌<◌, ◌++◌, ◌∷◌, [], IfOk, OnOk, length};
+ghost use Rattle.std.specs.List.Sorted.{IsNonDecreasingBy, IsPermutation};
+ghost use Rattle.modem_desk.specs.declared.request.Ask.TheVariants as ask;
+ghost use Rattle.modemctl.specs.Calling.{Asks, Opens, OpensAll, PutsBehind, Stops, Works, asked};
+
 use crate::bench::signals::{Fault, Signals};
+use crate::bench::submissions::{Submission, names};
 use modem_desk::{Answer, Ask, Caller, Outcome};
 use mux_frame::Dlci;
+use std::alloc::Global;
 use std::sync::Wait;
 use std::thread;
 
-/// A caller that is back from its thread, and the outcomes that it took there.
+/// A caller that has worked, and the outcomes that it took meanwhile, by their numbers.
 #[derive(Drop)]
 pub struct Worked {
     pub caller: Caller,
@@ -14,7 +20,10 @@ pub struct Worked {
 }
 
 /// Takes the outcome that waits, if one does, and says whether one did.
-fn take_one(caller: &mut Caller, outcomes: &mut Vec<Outcome>) -> Result<bool, Fault> {
+fn take_one(caller: &mut Caller, outcomes: &mut Vec<Outcome>) -> Result<bool, Fault>
+    ensures stays { (caller.new.place ≡ caller.old.place) × (caller.new.submitted ≡ caller.old.submitted) }
+    ensures puts { OnOk result (PutsBehind caller.old caller.new outcomes.old.items outcomes.new.items) }
+{
     let Some(outcome) = caller.take() else {
         return Ok(false);
     };
@@ -29,12 +38,14 @@ fn submit<R: Wait>(
     ask: Ask,
     outcomes: &mut Vec<Outcome>,
     signals: &Signals,
-) -> Result<(), Fault> {
-    let mut ask = ask;
+) -> Result<(), Fault>
+    ensures { OnOk result (Asks caller.old caller.new (ask ∷ []) outcomes.old.items outcomes.new.items) }
+{
+    let mut left = ask;
     for _ in rt.forever() {
-        match caller.submit(rt, ask) {
+        match caller.submit(rt, left) {
             Ok(_) => return Ok(()),
-            Err((_, back)) => ask = back,
+            Err((_, back)) => left = back,
         }
         signals.check()?;
         if !take_one(caller, outcomes)? {
@@ -51,7 +62,10 @@ fn take_all<R: Wait>(
     count: usize,
     outcomes: &mut Vec<Outcome>,
     signals: &Signals,
-) -> Result<(), Fault> {
+) -> Result<(), Fault>
+    ensures asks { OnOk result (Asks caller.old caller.new [] outcomes.old.items outcomes.new.items) }
+    ensures all { OnOk result (count ≤ length outcomes.new.items) }
+{
     for _ in rt.forever() {
         if outcomes.len() >= count {
             return Ok(());
@@ -64,47 +78,83 @@ fn take_all<R: Wait>(
     unreachable!()
 }
 
-/// Submits requests in order, and takes the outcome of each.
-fn work_on<R: Wait>(
+/// Submits requests in order.
+fn submit_all<R: Wait>(
     rt: &R,
     caller: &mut Caller,
     asks: Vec<Ask>,
     outcomes: &mut Vec<Outcome>,
     signals: &Signals,
-) -> Result<(), Fault> {
-    let count = asks.len();
+) -> Result<(), Fault>
+    ensures { OnOk result (Asks caller.old caller.new asks.items outcomes.old.items outcomes.new.items) }
+{
     for ask in asks {
         submit(rt, caller, ask, outcomes, signals)?;
     }
-    take_all(rt, caller, count, outcomes, signals)
+    Ok(())
+}
+
+/// Puts outcomes in the order of their numbers.
+fn in_order(outcomes: Vec<Outcome>) -> Vec<Outcome>
+    ensures same { IsPermutation outcomes.items result.items }
+    ensures by_number { IsNonDecreasingBy (λ o. o.number) result.items }
+    ensures long { length result.items ≡ length outcomes.items }
+{
+    let mut sorted = outcomes;
+    sorted.sort_unstable_by_key(|outcome| outcome.number);
+    sorted
+}
+
+/// Submits requests in order, taking outcomes where it is refused, and then takes outcomes until it has as many.
+fn work_on<R: Wait>(
+    rt: &R,
+    alloc: Global,
+    caller: Caller,
+    asks: Vec<Ask>,
+    signals: &Signals,
+) -> Result<Worked, Fault>
+    ensures { IfOk result (λ w. Works caller w.caller asks.items w.outcomes.items) }
+{
+    let mut caller = caller;
+    let mut outcomes = Vec::new(alloc);
+    let count = asks.len();
+    submit_all(rt, &mut caller, asks, &mut outcomes, signals)?;
+    take_all(rt, &mut caller, count, &mut outcomes, signals)?;
+    let outcomes = in_order(outcomes);
+    Ok(Worked { caller, outcomes })
 }
 
 /// What a caller does in its thread.
 pub fn work<R: Wait>(
     rt: &R,
-    mut caller: Caller,
+    alloc: Global,
+    caller: Caller,
     asks: Vec<Ask>,
-    mut outcomes: Vec<Outcome>,
     signals: Signals,
-) -> Result<Worked, Fault> {
-    match work_on(rt, &mut caller, asks, &mut outcomes, &signals) {
-        Ok(()) => Ok(Worked { caller, outcomes }),
+) -> Result<Worked, Fault>
+    ensures { IfOk result (λ w. Works caller w.caller asks.items w.outcomes.items) }
+{
+    match work_on(rt, alloc, caller, asks, &signals) {
+        Ok(worked) => Ok(worked),
         Err(fault) => Err(signals.give_up(fault)),
     }
 }
 
-/// Waits until a request can be submitted.
+/// Submits a request once it can be.
 fn submit_alone<R: Wait>(
     rt: &R,
     caller: &mut Caller,
     ask: Ask,
     signals: &Signals,
-) -> Result<(), Fault> {
-    let mut ask = ask;
+) -> Result<(), Fault>
+    ensures { OnOk result ((caller.new.place ≡ caller.old.place) × (caller.new.got ≡ caller.old.got)
+        × (asked caller.new ≡ asked caller.old ++ ask ∷ [])) }
+{
+    let mut left = ask;
     for _ in rt.forever() {
-        match caller.submit(rt, ask) {
+        match caller.submit(rt, left) {
             Ok(_) => return Ok(()),
-            Err((_, back)) => ask = back,
+            Err((_, back)) => left = back,
         }
         signals.check()?;
         thread::yield_now();
@@ -113,7 +163,10 @@ fn submit_alone<R: Wait>(
 }
 
 /// Waits for an outcome.
-fn next_outcome<R: Wait>(rt: &R, caller: &mut Caller, signals: &Signals) -> Result<Outcome, Fault> {
+fn next_outcome<R: Wait>(rt: &R, caller: &mut Caller, signals: &Signals) -> Result<Outcome, Fault>
+    ensures stays { (caller.new.place ≡ caller.old.place) × (caller.new.submitted ≡ caller.old.submitted) }
+    ensures got { IfOk result (λ o. caller.new.got ≡ caller.old.got ++ o ∷ []) }
+{
     for _ in rt.forever() {
         if let Some(outcome) = caller.take() {
             return Ok(outcome);
@@ -125,27 +178,31 @@ fn next_outcome<R: Wait>(rt: &R, caller: &mut Caller, signals: &Signals) -> Resu
 }
 
 /// Opens a connection, and waits until it is open.
-fn open<R: Wait>(rt: &R, caller: &mut Caller, dlci: Dlci, signals: &Signals) -> Result<(), Fault> {
+fn open<R: Wait>(rt: &R, caller: &mut Caller, dlci: Dlci, signals: &Signals) -> Result<(), Fault>
+    ensures { OnOk result (Opens caller.old caller.new (ask.OpenChannel dlci ∷ [])) }
+{
     submit_alone(rt, caller, Ask::OpenChannel(dlci), signals)?;
     let outcome = next_outcome(rt, caller, signals)?;
-    match outcome.answer {
+    match &outcome.answer {
         Answer::Opened => Ok(()),
         _ => Err(Fault::GaveUp),
     }
 }
 
-/// Opens 0, and then each connection that an order is for, in rising order.
+/// Opens 0, and then each connection that a submission is for, in rising order, each once the one before is open.
 pub fn open_all<R: Wait>(
     rt: &R,
     caller: &mut Caller,
-    orders: &[Order],
+    submissions: &[Submission],
     signals: &Signals,
-) -> Result<(), Fault> {
+) -> Result<(), Fault>
+    ensures { OnOk result (OpensAll submissions.now 62 caller.old caller.new) }
+{
     for number in 0..62 {
         let Some(dlci) = Dlci::new(number) else {
-            continue;
+            unreachable!();
         };
-        if number == 0 || names(orders, dlci) {
+        if number == 0 || names(submissions, dlci) {
             open(rt, caller, dlci, signals)?;
         }
     }
@@ -153,10 +210,12 @@ pub fn open_all<R: Wait>(
 }
 
 /// Ends the multiplexer, and waits until it has ended.
-pub fn stop<R: Wait>(rt: &R, caller: &mut Caller, signals: &Signals) -> Result<(), Fault> {
+pub fn stop<R: Wait>(rt: &R, caller: &mut Caller, signals: &Signals) -> Result<(), Fault>
+    ensures { OnOk result (Stops caller.old caller.new) }
+{
     submit_alone(rt, caller, Ask::Stop, signals)?;
     let outcome = next_outcome(rt, caller, signals)?;
-    match outcome.answer {
+    match &outcome.answer {
         Answer::Stopped | Answer::NoAnswer => Ok(()),
         _ => Err(Fault::GaveUp),
     }

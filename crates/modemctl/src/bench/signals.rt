@@ -4,6 +4,7 @@ use std::io;
 use std::io::ErrorKind;
 use std::sync::atomic::{AtomicBool, Ordering};
 use std::sync::{Arc, OnceLock};
+use std::thread::SpawnError;
 
 /// Why a bench ends without its output.
 #[derive(Clone, Copy, PartialEq, Eq, Debug, Drop)]
@@ -24,6 +25,12 @@ impl From<AllocError> for Fault {
 
 impl<T: Drop> From<AllocFailed<T>> for Fault {
     fn from(_error: AllocFailed<T>) -> Fault {
+        Fault::NoMemory
+    }
+}
+
+impl<F: Drop> From<SpawnError<F>> for Fault {
+    fn from(_error: SpawnError<F>) -> Fault {
         Fault::NoMemory
     }
 }

@@ -4,7 +4,7 @@ use futures::Future;
 use futures::executor::block_on;
 use futures::task::{Context, Poll};
 use modem_sim::{Sim, SimError};
-use serial_line::ThreadLine;
+use serial_line::SerialLine;
 use std::alloc::AllocGlobal;
 use std::random::RandomSource;
 use std::sync::Wait;
@@ -12,8 +12,8 @@ use std::thread;
 
 /// A simulated modem that is polled to its end, or until the bench is given up.
 #[derive(Drop)]
-struct Simulated<'a> {
-    sim: Sim<ThreadLine>,
+struct Simulated<'a, L: SerialLine + Drop> {
+    sim: Sim<L>,
     signals: &'a Signals,
 }
 
@@ -24,7 +24,7 @@ fn fault_of(why: SimError) -> Fault {
     }
 }
 
-impl Future for Simulated<'_> {
+impl<L: SerialLine + Drop> Future for Simulated<'_, L> {
     type Output = Result<(), Fault>;
 
     fn poll(&mut self, cx: &mut Context<'_>) -> Poll<Result<(), Fault>> {
@@ -43,9 +43,9 @@ impl Future for Simulated<'_> {
 }
 
 /// Polls a simulated modem to its end.
-fn simulate_on<R: Wait + RandomSource + AllocGlobal>(
+fn simulate_on<L: SerialLine + Drop, R: Wait + RandomSource + AllocGlobal>(
     rt: &R,
-    sim: Sim<ThreadLine>,
+    sim: Sim<L>,
     signals: &Signals,
 ) -> Result<(), Fault> {
     match block_on(rt, Simulated { sim, signals }) {
@@ -55,9 +55,9 @@ fn simulate_on<R: Wait + RandomSource + AllocGlobal>(
 }
 
 /// What the simulated modem does in its thread.
-pub fn simulate<R: Wait + RandomSource + AllocGlobal>(
+pub fn simulate<L: SerialLine + Drop, R: Wait + RandomSource + AllocGlobal>(
     rt: &R,
-    sim: Sim<ThreadLine>,
+    sim: Sim<L>,
     signals: Signals,
 ) -> Result<(), Fault> {
     match simulate_on(rt, sim, &signals) {

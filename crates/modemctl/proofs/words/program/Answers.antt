@@ -1,7 +1,7 @@
 use Rattle.std.proofs.Common.{rules, ap, ap₂, codes, ◌≡◌, ◌∙◌}
 use Rattle.std.proofs.lemmas.Result.{IfOk-weaker}
 use Rattle.clap.specs.Words.{App, app_of, new_app, with_rule, with_subcommand}
-use Rattle.modemctl.specs.Words.{subcommand_app, wanting_one}
+use Rattle.modemctl.specs.Words.{subcommand_app, wanting_one, with_two}
 use Rattle.modemctl.proofs.words.program.Goals as goal
 
 pub returns : goal.returns
@@ -13,4 +13,6 @@ returns c =
     let top_is : app_of c.subcommand_required.result ≡ wanting_one = search rules in
     let one_is : app_of c.in_ok-subcommand.field-0 ≡ with_subcommand wanting_one (subcommand_app (codes "frames")).top
     = c.in_ok-subcommand.ensures.shape (search rules) ∙ ap₂ with_subcommand top_is (ap (λ (a : App). a.top) frames_is) in
-    IfOk-weaker c.subcommand-2.result _ _ (λ r h. h.shape (search rules) ∙ ap₂ with_subcommand one_is (ap (λ (a : App). a.top) replay_is)) c.subcommand-2.ensures
+    let two_is : app_of c.in_ok-subcommand-2.field-0 ≡ with_two
+    = c.in_ok-subcommand-2.ensures.shape (search rules) ∙ ap₂ with_subcommand one_is (ap (λ (a : App). a.top) replay_is) in
+    IfOk-weaker c.subcommand-3.result _ _ (λ r h. h.shape (search rules) ∙ ap₂ with_subcommand two_is (ap (λ (a : App). a.top) c.in_ok-bench.ensures)) c.subcommand-3.ensures

@@ -29,7 +29,24 @@ pub returns-in-Ok-try_get_matches_from-clause-replay :
 returns-in-Ok-try_get_matches_from-clause-replay g c zero for =
     c.run_named.ensures.replay zero (named c.in-Ok-try_get_matches_from.matches _ _ c.in-Ok.ensures (λ e. (c.in-Ok-try_get_matches_from.ensures.matches e).1) ∙ for.1)
 
+pub returns-in-Ok-try_get_matches_from-clause-bench :
+    goal.returns-in-Ok-try_get_matches_from-clause-bench
+returns-in-Ok-try_get_matches_from-clause-bench g c zero for =
+    c.run_named.ensures.bench zero (named c.in-Ok-try_get_matches_from.matches _ _ c.in-Ok.ensures (λ e. (c.in-Ok-try_get_matches_from.ensures.matches e).1) ∙ for.1)
+
 -- ## Rows
+
+bench_alone : fault_in (codes "modemctl" ∷ codes "bench" ∷ []) ≡ []
+unfolding clap_on_literals
+bench_alone = refl
+
+bench_with_most : fault_in (codes "modemctl" ∷ codes "bench" ∷ codes "--callers" ∷ codes "8" ∷ codes "--cut" ∷ codes "4096" ∷ []) ≡ []
+unfolding clap_on_literals
+bench_with_most = refl
+
+bench_with_nine : fault_in (codes "modemctl" ∷ codes "bench" ∷ codes "--callers" ∷ codes "9" ∷ []) ≢ []
+unfolding clap_on_literals
+bench_with_nine e = cc
 
 frames_alone : fault_in (codes "modemctl" ∷ codes "frames" ∷ []) ≡ []
 unfolding clap_on_literals
