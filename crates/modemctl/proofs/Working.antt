@@ -1,5 +1,5 @@
 -- Callers that go out, work and come back.
-use Rattle.std.specs.Prelude.{◌≡◌, ℕ, ◌+◌, ◌<◌, List, [], ◌∷◌, ◌++◌, length, map, refl, vec_items, Result, Ok, Err, OnOk, slice_index_or, slice_set}
+use Rattle.std.specs.Prelude.{◌≡◌, ℕ, ◌+◌, ◌<◌, List, [], ◌∷◌, ◌++◌, length, map, refl, vec_items, Result, Ok, Err, IfOk, OnOk, slice_index_or, slice_set}
 use Rattle.std.proofs.Common.{ap, ◌∙◌, sym, arith, subst}
 use Rattle.std.proofs.lemmas.List.{length-map}
 use Rattle.std.specs.declared.vec.Vec.{Vec}
@@ -9,8 +9,9 @@ use Rattle.modem_desk.specs.declared.request.Outcome.{Outcome}
 use Rattle.modem_desk.specs.Ends.{CallerView, Place, place_of}
 use Rattle.modemctl.specs.Bench.{asks_for}
 use Rattle.modemctl.specs.Calling.{OpensAll, Stops, Works}
-use Rattle.modemctl.specs.Running.{AllWork, AreBack, AreCalled, AreOut, IsBack, IsOut, Leads, OpensFirst, RanFor, StopsFirst, Work}
+use Rattle.modemctl.specs.Running.{AllWork, AreBack, AreCalled, AreOut, ComesBack, IsBack, IsOut, Leads, OpensFirst, Ran, RanFor, StopsFirst, Work}
 use Rattle.modemctl.specs.declared.bench.calling.Worked.{Worked}
+use Rattle.modemctl.specs.declared.bench.signals.Fault.{Fault}
 use Rattle.modemctl.specs.declared.bench.submissions.Submission.{Submission}
 
 pub out_none : (all : List Submission) (n : ℕ) → AreOut all n [] []
@@ -36,6 +37,10 @@ back_more [] [] h w back is = (is, tt)
 back_more [] (v ∷ ws) h w back is = absurd back
 back_more (k ∷ hs) [] h w back is = absurd back
 back_more (k ∷ hs) (v ∷ ws) h w back is = (back.0, back_more hs ws h w back.1 is)
+
+pub back_next : (end : Result (Unit {0}) Fault) (hs : List Work) (ws vs : List Worked) (h : Work) → OnOk end (AreBack hs ws) → ComesBack h ws vs → OnOk end (AreBack (hs ++ h ∷ []) vs)
+back_next (Ok x) hs ws vs h back comes = subst (AreBack (hs ++ h ∷ [])) (sym comes.items) (back_more hs ws h comes.worked back comes.is_back)
+back_next (Err e) hs ws vs h back comes = tt
 
 pub all_work : (all : List Submission) (n : ℕ) (cs : List CallerView) (hs : List Work) (ws : List Worked) → AreOut all n cs hs → AreBack hs ws → AllWork all n cs ws
 unfolding AreOut AreBack AllWork
@@ -131,3 +136,9 @@ ran_for all cs ws vs h e = record {
   outcomes_are = lists_through ws vs e;
   one_each = ap (length {A = List Outcome}) (lists_through ws vs e) ∙ length-map ws (λ (w : Worked). w.outcomes.items) ∙ called_long all cs ws h;
 }
+
+pub known_ok : {A E : Type 0} (P : A → Type 0) (r : Result A E) (x : A) → r ≡ Ok x → IfOk r P → P x
+known_ok {A} {E} P r x e h = subst (λ (s : Result A E). IfOk s P) e h
+
+pub ran_many : (all : List Submission) (count : ℕ) (os : List (List Outcome)) → Ran all count os → length os ≡ count
+ran_many all count os h = h.ran.one_each ∙ h.fresh.many

@@ -1,5 +1,5 @@
 -- Callers that are out in threads, and a bench as a whole.
-use Rattle.std.specs.Prelude.{◌≡◌, ℕ, ◌+◌, List, [], ◌∷◌, length, map, Result}
+use Rattle.std.specs.Prelude.{◌≡◌, ℕ, ◌+◌, List, [], ◌∷◌, ◌++◌, length, map, Result}
 use Rattle.std.specs.declared.thread.PromisedHandle.{PromisedHandle}
 use Rattle.modem_desk.specs.declared.request.Outcome.{Outcome}
 use Rattle.modem_desk.specs.Ends.{CallerView, Each, IsFresh}
@@ -29,6 +29,12 @@ AreOut all n (c ∷ cs) (h ∷ hs) = IsOut all n c h × AreOut all (n + 1) cs hs
 -- this caller is back from the thread, and has worked
 abbrev pub IsBack : Work → Worked → Type 0
 IsBack h w = Works h.promise.was.value w.caller h.promise.asks.value.items w.outcomes.items
+
+-- it stands behind those that were back before
+pub record ComesBack (h : Work) (old new : List Worked) : Type 0 where
+  pub worked : Worked
+  pub is_back : IsBack h worked
+  pub items : new ≡ old ++ worked ∷ []
 
 -- all are back, each from the thread at its place
 unfoldable pub AreBack : List Work → List Worked → Type 0

@@ -3,7 +3,7 @@ ghost use Rattle.std.specs.Prelude.{◌≡◌, ◌≢◌, ℕ, ◌<◌, ◌≤�
 ghost use Rattle.std.specs.String.{string_bytes};
 ghost use Rattle.clap.specs.Words.{app_of, rule_of, kind_of, found_of, one_text, subcommand_name_of};
 ghost use Rattle.modemctl.specs.Printed.{IsBenched, IsFramed, IsPrinted, IsReplayed};
-ghost use Rattle.modemctl.specs.Words.{bench_app, callers_rule, cut_rule, n1_rule, program_app, fault_in, AreFor, AsksNoHelp};
+ghost use Rattle.modemctl.specs.Words.{callers_rule, cut_rule, n1_rule, program_app, fault_in, with_two, AreFor, AsksNoHelp};
 
 use crate::bench::bench_run;
 use crate::runs::{frames_run, give_up, replay_run};
@@ -68,18 +68,9 @@ fn cut_option<'a>(alloc: Global) -> Arg<'a>
         .value_parser(value_parser!(u16).range(1..=4096))
 }
 
-/// The subcommand `bench`.
-fn bench_command<'a>(alloc: Global) -> Result<Command<'a>, AllocError>
-    ensures { IfOk result (λ c. app_of c ≡ bench_app) }
-{
-    Command::new(alloc, "bench")
-        .about("Has callers in threads share a simulated modem, and prints what they are told")
-        .arg(callers_option(alloc))?
-        .arg(cut_option(alloc))
-}
-
-fn program<'a>(alloc: Global) -> Result<Command<'a>, AllocError>
-    ensures { IfOk result (λ c. app_of c ≡ program_app) }
+/// The program with the subcommands that play what its input says.
+fn two_commands<'a>(alloc: Global) -> Result<Command<'a>, AllocError>
+    ensures { IfOk result (λ c. app_of c ≡ with_two) }
 {
     let frames = Command::new(alloc, "frames")
         .about("Reads octets, written in hexadecimal, as frames")
@@ -87,13 +78,22 @@ fn program<'a>(alloc: Global) -> Result<Command<'a>, AllocError>
     let replay = Command::new(alloc, "replay")
         .about("Says what the driver of a modem does with the events of a script")
         .arg(n1_option(alloc))?;
-    let bench = bench_command(alloc)?;
     Command::new(alloc, "modemctl")
         .about("The driver of a cellular modem, on the basic option of 3GPP TS 27.010")
         .subcommand_required(true)
         .subcommand(frames)?
-        .subcommand(replay)?
-        .subcommand(bench)
+        .subcommand(replay)
+}
+
+fn program<'a>(alloc: Global) -> Result<Command<'a>, AllocError>
+    ensures { IfOk result (λ c. app_of c ≡ program_app) }
+{
+    let command = two_commands(alloc)?;
+    let bench = Command::new(alloc, "bench")
+        .about("Has callers in threads share a simulated modem, and prints what they are told")
+        .arg(callers_option(alloc))?
+        .arg(cut_option(alloc))?;
+    command.subcommand(bench)
 }
 
 fn n1_of(matches: &ArgMatches<'_>) -> u16

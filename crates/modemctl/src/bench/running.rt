@@ -2,7 +2,7 @@
 ghost use Rattle.std.specs.Prelude.{◌≡◌, ◌≤◌, ◌<◌, ◌++◌, ◌∷◌, [], IfOk, OnOk, length, map, vec_items};
 ghost use Rattle.modem_desk.specs.Ends.{AreEars, IsWhole, Opened, ear_of, place_of};
 ghost use Rattle.modemctl.specs.Calling.{Works};
-ghost use Rattle.modemctl.specs.Running.{AllWork, AreBack, AreCalled, AreFresh, AreOut, OpensFirst, Ran, RanFor, StopsFirst};
+ghost use Rattle.modemctl.specs.Running.{AllWork, AreBack, AreCalled, AreFresh, AreOut, ComesBack, OpensFirst, Ran, RanFor, StopsFirst};
 
 use crate::bench::calling::{Worked, open_all, stop, work};
 use crate::bench::driving::{Later, drive};
@@ -107,20 +107,25 @@ fn keep(
     }
 }
 
+/// Waits for a caller.
+fn join_one(rt: &impl Threads, handle: Work, back: &mut Vec<Worked>) -> Result<(), Fault>
+    ensures { OnOk result (ComesBack handle back.old.items back.new.items) }
+{
+    let worked = handle.join(rt)?;
+    back.push(worked)?;
+    Ok(())
+}
+
 /// Waits for each caller.
-#[tactic(auto, using(crate::proofs::Working::back_none, crate::proofs::Working::back_more))]
+#[tactic(auto, using(crate::proofs::Working::back_none, crate::proofs::Working::back_next))]
 fn bring_back(rt: &impl Threads, alloc: Global, out: Vec<Work>) -> Result<Vec<Worked>, Fault>
     ensures { IfOk result (λ back. AreBack out.items back.items) }
 {
     let mut back = Vec::new(alloc);
     let mut end = Ok(());
     for handle in out {
-        match handle.join(rt) {
-            Ok(worked) => {
-                if back.push(worked).is_err() {
-                    end = Err(Fault::NoMemory);
-                }
-            }
+        match join_one(rt, handle, &mut back) {
+            Ok(()) => {}
             Err(fault) => end = Err(fault),
         }
     }
