@@ -2,6 +2,9 @@
 //! driver does with requests and octets.
 #![tactic(auto)]
 
+mod bench;
+#[cfg(test)]
+mod bench_tests;
 mod dump;
 mod framing;
 #[cfg(test)]
@@ -38,6 +41,7 @@ fn main(rt: HostRuntime) -> ExitCode {
     };
     let status = match arguments {
         Ok(words) => words::run(
+            &rt,
             rt.alloc(),
             words.as_slice(),
             &mut rt.stdin(),
