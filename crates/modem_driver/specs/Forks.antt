@@ -8,10 +8,12 @@ use Rattle.modem_desk.specs.declared.request.Answer.TheVariants.{Done}
 use Rattle.modem_history.specs.Acts.{Act, Told}
 use Rattle.modem_driver.specs.Lanes.{Lane}
 
+-- an answer that has lines
 abbrev pub has_lines : Answer → Bool
 has_lines (Done ls) = true
 has_lines _ = false
 
+-- these lines came before its own
 abbrev pub led_answer : List AnswerLine → Answer → Answer
 led_answer ls (Done more) = Done (ls ++ more)
 led_answer ls answer = answer
@@ -31,7 +33,7 @@ abbrev pub led_first : List AnswerLine → List Act → List Act
 led_first ls [] = []
 led_first ls (a ∷ acts) = if tells_lines a then led ls a ∷ acts else a ∷ led_first ls acts
 
--- what is said of a frame that was read on a fork, which shows this window then: an answer is told where that is closed
+-- what is said of a frame, by what was said on a fork and by its window then: no answer is told while that is open
 abbrev pub joined_acts : List AnswerLine → Option OpenWindow → List Act → List Act
 joined_acts ls None acts = led_first ls acts
 joined_acts ls (Some o) acts = acts

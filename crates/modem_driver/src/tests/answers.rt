@@ -1,4 +1,4 @@
-//! An answer that comes in several frames has all its lines, in order.
+//! An answer that comes in several frames has all its lines in order, and the next one none of them.
 use super::no_memory::{all_goes_out, dlci, takes, warmed_up};
 use crate::*;
 use at_text::{AnswerLine, AnswerLines, CommandLine, Text};
@@ -7,14 +7,8 @@ use std::alloc::{AllocError, Global};
 use std::process::Abort;
 use std::test::Fail;
 
-/// What comes, cut inside of a line, and the lines of it that are the answer.
-const FRAMES: [&[u8]; 3] = [
-    b"\r\n+CMGL: 1\r\n\r\nab\r\n\r\n+CM",
-    b"GL: 2\r\n\r\nRING\r\n\r\ncd\r\n",
-    b"\r\n+CMGL: 3\r\n\r\nOK\r\n\r\nRING\r\n",
-];
-
-const LINES: [&[u8]; 6] = [b"+CMGL: 1", b"ab", b"+CMGL: 2", b"cd", b"+CMGL: 3", b"OK"];
+/// The lines of the answer to what comes in `three_frames`, which is cut inside of a line.
+const LINES: &[&[u8]] = &[b"+CMGL: 1", b"ab", b"+CMGL: 2", b"cd", b"+CMGL: 3", b"OK"];
 
 fn answer(alloc: Global, texts: &[&[u8]]) -> Result<AnswerLines, AllocError> {
     let mut lines = Vec::new(alloc);
@@ -63,20 +57,29 @@ fn tells(rt: &impl Abort, acts: &[Act], want: &AnswerLines) -> Result<(), Fail> 
     Ok(())
 }
 
+fn three_frames(core: &mut Core) -> Result<Vec<Act>, Fail> {
+    comes(core, b"\r\n+CMGL: 1\r\n\r\nab\r\n\r\n+CM")?;
+    comes(core, b"GL: 2\r\n\r\nRING\r\n\r\ncd\r\n")?;
+    comes(core, b"\r\n+CMGL: 3\r\n\r\nOK\r\n\r\nRING\r\n")
+}
+
 #[test]
 fn an_answer_of_three_frames_has_its_lines_in_order(rt: HostRuntime) -> Result<(), Fail> {
     let alloc = rt.alloc();
     let mut core = warmed_up(&rt, alloc)?;
     sends(&rt, alloc, &mut core, 3)?;
-    assert_eq!(&rt; comes(&mut core, FRAMES[0])?.len(), 1);
-    let second = comes(&mut core, FRAMES[1])?;
-    assert_eq!(&rt; second.len(), 2);
-    assert!(&rt; matches!(&second[1], Act::Heard(_)));
-    let third = comes(&mut core, FRAMES[2])?;
-    assert_eq!(&rt; third.len(), 3);
-    assert!(&rt; matches!(&third[2], Act::Heard(_)));
-    tells(&rt, third.as_slice(), &answer(alloc, &LINES)?)?;
+    let acts = three_frames(&mut core)?;
+    assert_eq!(&rt; acts.len(), 3);
+    tells(&rt, acts.as_slice(), &answer(alloc, LINES)?)
+}
+
+#[test]
+fn the_next_answer_has_none_of_its_lines(rt: HostRuntime) -> Result<(), Fail> {
+    let alloc = rt.alloc();
+    let mut core = warmed_up(&rt, alloc)?;
+    sends(&rt, alloc, &mut core, 3)?;
+    three_frames(&mut core)?;
     sends(&rt, alloc, &mut core, 4)?;
-    let last = comes(&mut core, b"\r\nOK\r\n")?;
-    tells(&rt, last.as_slice(), &answer(alloc, &[b"OK"])?)
+    let acts = comes(&mut core, b"\r\nOK\r\n")?;
+    tells(&rt, acts.as_slice(), &answer(alloc, &[b"OK"])?)
 }
