@@ -11,12 +11,15 @@ use Rattle.mux_frame.specs.declared.frame.Kind.TheVariants.{Ua}
 use Rattle.mux_station.specs.declared.role.Role.TheVariants.{Responder}
 use Rattle.mux_station.specs.Written.{written}
 use Rattle.mux_frame.proofs.Readings.{one_reading}
+use Rattle.modem_desk.specs.declared.request.Answer.TheVariants.{Opened}
+use Rattle.modem_desk.specs.declared.request.Request.{Request}
+use Rattle.modem_desk.specs.declared.request.Outcome.{Outcome}
 use Rattle.modem_desk.specs.declared.request.Urc.{Urc}
 use Rattle.modem_history.specs.Acts.{Act, after}
 use Rattle.modem_history.specs.Sessions.{driving, gots, heard_as, backlog_in}
-use Rattle.modem_history.specs.SessionRows.{TurnRow, IsWrongTurn, Each, beginning, entry_answer, zero_came, ring}
-use Rattle.modem_history.specs.Turns.{counted, calls_made, octets_read, AllAreGot, Read}
-use Rattle.modem_history.specs.BadTurns.{wrong_turns, idle_with_frame, idle_with_unfed, idle_with_unsent, idle_with_queued, idle_with_aside, idle_with_outcome, idle_with_line, idle_with_command, idle_after_read, idle_without_read, moved_by_nothing, moved_by_a_mark, unfed_grows, full_unoffered, full_but_taken, full_of_nothing, full_without_read, full_with_frame, waiting_but_told, waiting_for_another, waiting_for_the_greater, waiting_with_unsent, waiting_with_frame, waiting_without_read, blocked_by_none, blocked_by_a_later, blocked_with_command, blocked_and_not_held, blocked_and_still_held, tick_in_a_turn, loss_in_a_turn, failed_and_moved, three_calls, held_too_early, moved_with_aside}
+use Rattle.modem_history.specs.SessionRows.{TurnRow, IsWrongTurn, Each, beginning, entry_answer, zero_came, outcome_of, ring}
+use Rattle.modem_history.specs.Turns.{counted, calls_made, octets_read, octets_written, request_given, AllAreGot, IsOffer, Offers, Read, Write}
+use Rattle.modem_history.specs.BadTurns.{wrong_turns, idle_with_frame, idle_with_unfed, idle_with_unsent, idle_with_queued, idle_with_aside, idle_with_outcome, idle_with_line, idle_with_command, idle_after_read, idle_without_read, moved_by_nothing, moved_by_a_mark, unfed_grows, full_unoffered, full_but_taken, full_of_nothing, full_without_read, full_with_frame, waiting_but_told, waiting_for_another, waiting_for_the_greater, waiting_with_unsent, waiting_with_frame, waiting_without_read, blocked_by_none, blocked_by_a_later, blocked_with_command, blocked_and_not_held, blocked_and_still_held, tick_in_a_turn, loss_in_a_turn, failed_and_moved, three_calls, read_twice, two_requests, told_at_once, held_too_early, moved_with_aside}
 use Rattle.modem_history.specs.Kinds.{kind_place}
 use Rattle.modem_history.proofs.Decided.{unquiet}
 use Rattle.modem_history.proofs.TurnTests.{no_more}
@@ -200,6 +203,39 @@ at_most_two (Some w) (Some r) e = omega arith
 three_calls_wrong : IsWrongTurn three_calls
 three_calls_wrong t turn = at_most_two t.write t.read turn.deals.calls
 
+nothing_joined : (xs ys : List ℕ) → xs ++ ys ≡ [] → 1 ≤ length xs → ⊥
+nothing_joined [] ys e some = omega arith
+nothing_joined (x ∷ xs) ys e some = not_empty e
+
+-- where nothing waits, and nothing was sent, nothing can have been offered
+none_offered : (w : Write) (before : List ℕ) → before ≡ before ++ octets_written (Some w) → IsOffer w [] → ⊥
+none_offered w before e offer =
+    let none : octets_written (Some w) ≡ [] = sym (append_cancel_left before [] (octets_written (Some w)) (append-nil before ∙ e)) in
+    nothing_joined w.offered offer.first.rest (offer.first.joins ∙ ap (λ (xs : List ℕ). xs ++ []) none) offer.some
+
+one_read : (w : Option Write) (r : Option Read) (before : List ℕ) → Offers w [] → before ≡ before ++ octets_written w → 42 ≡ counted 40 (calls_made w + calls_made r) → ⊥
+one_read None None before offers e calls = omega arith
+one_read None (Some r) before offers e calls = omega arith
+one_read (Some w) r before offers e calls = none_offered w before e offers
+
+read_twice_wrong : IsWrongTurn read_twice
+read_twice_wrong t turn = one_read t.write t.read read_twice.old.line.sent turn.offers turn.deals.went turn.deals.calls
+
+one_given : (next : Option (Option Request)) → 2 ≡ length (request_given next) → ⊥
+one_given None e = omega arith
+one_given (Some None) e = omega arith
+one_given (Some (Some q)) e = omega arith
+
+two_requests_wrong : IsWrongTurn two_requests
+two_requests_wrong t turn = one_given t.next (ap length turn.deals.taken)
+
+none_behind : (os : List Outcome) (o : Outcome) → [] ≡ os ++ o ∷ [] → ⊥
+none_behind [] o e = empty_not e
+none_behind (p ∷ os) o e = empty_not e
+
+told_at_once_wrong : IsWrongTurn told_at_once
+told_at_once_wrong t turn = none_behind t.still_told (outcome_of 1 Opened) turn.deals.outcomes_wait
+
 few_wait : (waiting : List Urc) (n : ℕ) (lines : List Act) → length lines ≡ n → n < 256 → lines ≡ map heard_as waiting ++ [] → nat_le 256 (backlog_in 1 waiting) ≡ true → ⊥
 few_wait waiting n lines len few e h =
     let all : length (map heard_as waiting ++ []) ≡ length waiting = ap length (append-nil (map heard_as waiting)) ∙ length-map waiting heard_as in
@@ -216,4 +252,4 @@ moved_with_aside_wrong : IsWrongTurn moved_with_aside
 moved_with_aside_wrong t turn = some_none turn.none_aside
 
 pub all_wrong_turns : Each IsWrongTurn wrong_turns
-all_wrong_turns = (idle_with_frame_wrong, (idle_with_unfed_wrong, (idle_with_unsent_wrong, (idle_with_queued_wrong, (idle_with_aside_wrong, (idle_with_outcome_wrong, (idle_with_line_wrong, (idle_with_command_wrong, (idle_after_read_wrong, (idle_without_read_wrong, (moved_by_nothing_wrong, (moved_by_a_mark_wrong, (unfed_grows_wrong, (full_unoffered_wrong, (full_but_taken_wrong, (full_of_nothing_wrong, (full_without_read_wrong, (full_with_frame_wrong, (waiting_but_told_wrong, (waiting_for_another_wrong, (waiting_for_the_greater_wrong, (waiting_with_unsent_wrong, (waiting_with_frame_wrong, (waiting_without_read_wrong, (blocked_by_none_wrong, (blocked_by_a_later_wrong, (blocked_with_command_wrong, (blocked_and_not_held_wrong, (blocked_and_still_held_wrong, (tick_in_a_turn_wrong, (loss_in_a_turn_wrong, (failed_and_moved_wrong, (three_calls_wrong, (held_too_early_wrong, (moved_with_aside_wrong, tt)))))))))))))))))))))))))))))))))))
+all_wrong_turns = (idle_with_frame_wrong, (idle_with_unfed_wrong, (idle_with_unsent_wrong, (idle_with_queued_wrong, (idle_with_aside_wrong, (idle_with_outcome_wrong, (idle_with_line_wrong, (idle_with_command_wrong, (idle_after_read_wrong, (idle_without_read_wrong, (moved_by_nothing_wrong, (moved_by_a_mark_wrong, (unfed_grows_wrong, (full_unoffered_wrong, (full_but_taken_wrong, (full_of_nothing_wrong, (full_without_read_wrong, (full_with_frame_wrong, (waiting_but_told_wrong, (waiting_for_another_wrong, (waiting_for_the_greater_wrong, (waiting_with_unsent_wrong, (waiting_with_frame_wrong, (waiting_without_read_wrong, (blocked_by_none_wrong, (blocked_by_a_later_wrong, (blocked_with_command_wrong, (blocked_and_not_held_wrong, (blocked_and_still_held_wrong, (tick_in_a_turn_wrong, (loss_in_a_turn_wrong, (failed_and_moved_wrong, (three_calls_wrong, (read_twice_wrong, (two_requests_wrong, (told_at_once_wrong, (held_too_early_wrong, (moved_with_aside_wrong, tt))))))))))))))))))))))))))))))))))))))

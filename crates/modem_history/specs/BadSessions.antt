@@ -10,6 +10,7 @@ use Rattle.modem_desk.specs.declared.request.Request.{Request}
 use Rattle.modem_history.specs.Rows.{zero, one, two, takes, tells, sends, comes, cr, framed, opening_zero, opening_one}
 use Rattle.modem_history.specs.SessionRows.{SessionRow, entry_answer, settled, zero_came, one_came, one_left, lf_octet, sabm_zero, ua_zero, broken_ua_zero, sabm_one, sabm_two, test_command, test_response, csq_one, ring_one, creg_one, first_request, second_request, third_request, fourth_request, opened_zero, opened_both, outcome_of, ring, line_on_one, last_flag}
 use Rattle.modem_history.specs.GoodSessions.{asked_zero, left_zero, ring_came}
+use Rattle.modem_history.specs.GoodTurns.{other_request, other_outcome, other_told}
 
 -- ## Octets that leave
 
@@ -69,6 +70,10 @@ data_overtakes_frame = record {
   view = settled one_came (one_left ++ csq_one) (first_request ∷ second_request ∷ third_request ∷ fourth_request ∷ []) opened_both [] [] last_flag;
   acts = csq_and_two ++ sends Uih 1 (codes "AT+CSQ" ++ cr) ∷ [];
 }
+
+-- the octets of a frame wait that nothing called for
+abbrev pub octets_of_none : SessionRow
+octets_of_none = record { view = record (settled [] [] [] [] [] [] []) { unwritten = sabm_zero }; acts = [] }
 
 -- ## Octets that come
 
@@ -187,6 +192,13 @@ told_to_another = record {
   acts = opening_zero;
 }
 
+-- callers 0 and 1 asked under the same number, and 0 was told both outcomes
+abbrev pub told_by_number : SessionRow
+told_by_number = record {
+  view = settled zero_came sabm_zero (first_request ∷ other_request ∷ []) (opened_zero ++ other_outcome ∷ []) [] [] last_flag;
+  acts = other_told;
+}
+
 -- outcomes were told in another order than they came
 abbrev pub told_in_other_order : SessionRow
 told_in_other_order = record {
@@ -232,6 +244,13 @@ announced_twice = record {
   acts = ring_came;
 }
 
+-- RING was heard, and neither announced nor waits
+abbrev pub line_dropped : SessionRow
+line_dropped = record {
+  view = settled (one_came ++ ring_one) one_left (first_request ∷ second_request ∷ []) opened_both [] [] last_flag;
+  acts = ring_came;
+}
+
 -- a line waits that nobody listens to
 abbrev pub unheard_line_waits : SessionRow
 unheard_line_waits = record {
@@ -244,7 +263,7 @@ unheard_line_waits = record {
 abbrev pub wrong_sessions : List SessionRow
 wrong_sessions =
     written_twice ∷ octet_left_out ∷ octet_waits_again ∷ marked_too_early ∷ marked_too_late ∷ two_marked ∷
-    data_overtakes_octets ∷ data_overtakes_frame ∷ broken_frame_got ∷ got_too_soon ∷ got_unfed ∷ frame_dropped ∷
+    data_overtakes_octets ∷ data_overtakes_frame ∷ octets_of_none ∷ broken_frame_got ∷ got_too_soon ∷ got_unfed ∷ frame_dropped ∷
     flag_dropped ∷ other_n1 ∷ request_dropped ∷ aside_and_taken ∷ request_invented ∷ number_twice ∷ caller_unknown ∷ sound_line_lost ∷ lost_twice ∷ told_and_kept ∷
-    outcome_dropped ∷ told_to_another ∷ told_in_other_order ∷ not_told_at_all ∷ announced_out_of_order ∷
-    announced_elsewhere ∷ announced_twice ∷ unheard_line_waits ∷ []
+    outcome_dropped ∷ told_to_another ∷ told_by_number ∷ told_in_other_order ∷ not_told_at_all ∷ announced_out_of_order ∷
+    announced_elsewhere ∷ announced_twice ∷ line_dropped ∷ unheard_line_waits ∷ []

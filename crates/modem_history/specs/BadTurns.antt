@@ -1,13 +1,14 @@
 -- Turns that don't mean what they say, whatever they dealt with their line and their desk.
 use Rattle.std.specs.Prelude.{List, [], ◌∷◌, ◌++◌, take, drop, codes, replicate}
-use Rattle.mux_frame.specs.declared.frame.Kind.TheVariants.{Uih}
+use Rattle.mux_frame.specs.declared.frame.Kind.TheVariants.{Ua, Uih}
 use Rattle.at_text.specs.declared.unsolicited.UrcKind.TheVariants.{Ring}
-use Rattle.modem_desk.specs.declared.request.Ask.TheVariants.{Command}
+use Rattle.modem_desk.specs.declared.request.Ask.TheVariants.{OpenChannel, Command}
+use Rattle.modem_desk.specs.declared.request.Answer.TheVariants.{Opened, NotOpen}
 use Rattle.modem_history.specs.Acts.{Act, Tick, Lost, Held, Given}
 use Rattle.modem_history.specs.Sessions.{SessionView}
 use Rattle.modem_history.specs.Turns.{TurnAnswer, Moved, WriterFull, Waiting, Blocked, Idle}
-use Rattle.modem_history.specs.Rows.{one, takes, sends, msc, opening_zero, opening_one}
-use Rattle.modem_history.specs.SessionRows.{TurnRow, settled, lf_octet, one_came, one_left, sabm_zero, first_request, second_request, third_request, opened_zero, opened_both, ring, last_flag}
+use Rattle.modem_history.specs.Rows.{one, takes, tells, sends, comes, msc, opening_zero, opening_one}
+use Rattle.modem_history.specs.SessionRows.{TurnRow, settled, lf_octet, one_came, one_left, sabm_zero, first_request, second_request, third_request, opened_zero, opened_both, outcome_of, ring, last_flag}
 use Rattle.modem_history.specs.GoodSessions.{left_zero, asked_zero, ring_came, sabm_queued, sabm_half_sent, ua_unfed, ua_at_hand, zero_opened, outcome_waits, request_aside, ring_waits}
 use Rattle.modem_history.specs.GoodTurns.{at_calls, other_outcome, other_told, one_waits, two_lines_wait, both_came}
 
@@ -234,6 +235,36 @@ three_calls = record {
   says = Moved;
 }
 
+-- the line was read twice
+abbrev pub read_twice : TurnRow
+read_twice = record {
+  old = settled [] [] [] [] [] [] [];
+  new = at_calls 42 (settled lf_octet [] [] [] [] [] []);
+  before = [];
+  acts = [];
+  says = Moved;
+}
+
+-- two requests are taken from the desk
+abbrev pub two_requests : TurnRow
+two_requests = record {
+  old = settled lf_octet [] [] [] [] [] [];
+  new = at_calls 41 (record (settled lf_octet [] (first_request ∷ second_request ∷ []) [] [] [] []) { unplaced = outcome_of 2 NotOpen ∷ [] });
+  before = [];
+  acts = asked_zero ++ takes 2 (OpenChannel one) ∷ tells 2 NotOpen ∷ [];
+  says = Moved;
+}
+
+-- the frame at hand is got, and its outcome is told in the same turn
+abbrev pub told_at_once : TurnRow
+told_at_once = record {
+  old = ua_at_hand.view;
+  new = at_calls 41 zero_opened.view;
+  before = left_zero;
+  acts = comes Ua 0 [] ∷ tells 1 Opened ∷ [];
+  says = Moved;
+}
+
 -- a connection is held although one line waits
 abbrev pub held_too_early : TurnRow
 held_too_early = record {
@@ -260,5 +291,5 @@ wrong_turns =
     idle_with_line ∷ idle_with_command ∷ idle_after_read ∷ idle_without_read ∷ moved_by_nothing ∷ moved_by_a_mark ∷
     unfed_grows ∷ full_unoffered ∷ full_but_taken ∷ full_of_nothing ∷ full_without_read ∷ full_with_frame ∷ waiting_but_told ∷ waiting_for_another ∷
     waiting_for_the_greater ∷ waiting_with_unsent ∷ waiting_with_frame ∷ waiting_without_read ∷ blocked_by_none ∷ blocked_by_a_later ∷ blocked_with_command ∷ blocked_and_not_held ∷
-    blocked_and_still_held ∷ tick_in_a_turn ∷ loss_in_a_turn ∷ failed_and_moved ∷ three_calls ∷ held_too_early ∷
-    moved_with_aside ∷ []
+    blocked_and_still_held ∷ tick_in_a_turn ∷ loss_in_a_turn ∷ failed_and_moved ∷ three_calls ∷ read_twice ∷ two_requests ∷
+    told_at_once ∷ held_too_early ∷ moved_with_aside ∷ []
