@@ -1,5 +1,5 @@
 -- What callers were told, one more line or one more caller.
-use Rattle.std.specs.Prelude.{◌≡◌, ℕ, suc, ◌+◌, ◌<◌, List, [], ◌∷◌, ◌++◌, length, map, take, refl, slice_index_or, vec_items}
+use Rattle.std.specs.Prelude.{◌≡◌, ℕ, suc, ◌+◌, ◌<◌, List, [], ◌∷◌, ◌++◌, length, map, take, slice_index_or, vec_items}
 use Rattle.std.proofs.Common.{ap, ◌∙◌, sym, arith, append_assoc}
 use Rattle.std.proofs.lemmas.List.{append-nil, length-map, length-take-le, map-append}
 use Rattle.std.proofs.Math.Seq.{take-suc}

@@ -1,11 +1,11 @@
 -- What the lines of a bench's input submit, read line by line.
 use Rattle.std.specs.Prelude.{◌≡◌, ◌≢◌, ℕ, ◌+◌, ◌<◌, ◌≤◌, nat_lt, List, [], ◌∷◌, ◌++◌, length, refl, None}
 use Rattle.std.specs.Str.Iter.{LacksByte}
-use Rattle.std.proofs.Common.{sym, ap, arith, ◌∙◌}
+use Rattle.std.proofs.Common.{sym, ap, ◌∙◌}
 use Rattle.std.proofs.lemmas.List.{append_assoc, append-nil}
 use Rattle.at_text.specs.Commands.{refusal_of}
 use Rattle.modemctl.specs.declared.bench.submissions.Submission.{Submission}
-use Rattle.modemctl.specs.Bench.{AreSubmitted, IsCommand, IsNoCommand, IsNoSubmission, Submits, SubmitsNothing}
+use Rattle.modemctl.specs.Bench.{AreSubmitted, IsNoCommand, IsNoSubmission, Submits, SubmitsNothing}
 use Rattle.modemctl.specs.Input.{input_lines}
 use Rattle.modemctl.specs.Script.{number_text}
 use Rattle.modemctl.proofs.Orders.{lacks_middle, lacks_number, same_front}

@@ -6,10 +6,11 @@ use Rattle.std.specs.declared.vec.Vec.{Vec}
 use Rattle.std.specs.declared.alloc.Global.{Global}
 use Rattle.modem_desk.specs.declared.request.Ask.{Ask}
 use Rattle.modem_desk.specs.declared.request.Outcome.{Outcome}
-use Rattle.modem_desk.specs.Ends.{CallerView, Place, place_of}
+use Rattle.modem_desk.specs.declared.settling.Settled.{Settled}
+use Rattle.modem_desk.specs.Ends.{CallerView, DeskId, DriverView, ListenerView, Place, place_of}
 use Rattle.modemctl.specs.Bench.{asks_for}
 use Rattle.modemctl.specs.Calling.{OpensAll, Stops, Works}
-use Rattle.modemctl.specs.Running.{AllWork, AreBack, AreCalled, AreOut, ComesBack, IsBack, IsOut, Leads, OpensFirst, Ran, RanFor, StopsFirst, Work}
+use Rattle.modemctl.specs.Running.{AllWork, AreBack, AreCalled, AreOut, ComesBack, IsBack, IsOut, OpensFirst, Ran, RanFor, Settles, StopsFirst, Work}
 use Rattle.modemctl.specs.declared.bench.calling.Worked.{Worked}
 use Rattle.modemctl.specs.declared.bench.signals.Fault.{Fault}
 use Rattle.modemctl.specs.declared.bench.submissions.Submission.{Submission}
@@ -129,12 +130,18 @@ unfolding StopsFirst
 stops_first [] w d lt e h = absurd (omega (arith, lt))
 stops_first (x ∷ ws) w d lt e h = (subst (λ (y : Worked). Stops y.caller d) e h, ap (λ (y : Worked). y.outcomes) e, refl)
 
-pub ran_for : (all : List Submission) (cs : List CallerView) (ws : List Worked) (vs : List (Vec Outcome Global)) → AreCalled all cs ws → vs ≡ map (λ (w : Worked). w.outcomes) ws → RanFor all cs (map vec_items vs)
-ran_for all cs ws vs h e = record {
+pub ran_for : (all : List Submission) (desk : DeskId) (fresh cs : List CallerView) (ws : List Worked) (vs : List (Vec Outcome Global)) (d : DriverView) (ls : List ListenerView) (s : Settled)
+    → AreCalled all fresh ws → cs ≡ map (λ (w : Worked). w.caller) ws → vs ≡ map (λ (w : Worked). w.outcomes) ws → d.desk ≡ desk → Settles d cs ls s → RanFor all desk fresh (map vec_items vs)
+ran_for all desk fresh cs ws vs d ls s h callers e same books = record {
   worked = ws;
   called = h;
   outcomes_are = lists_through ws vs e;
-  one_each = ap (length {A = List Outcome}) (lists_through ws vs e) ∙ length-map ws (λ (w : Worked). w.outcomes.items) ∙ called_long all cs ws h;
+  one_each = ap (length {A = List Outcome}) (lists_through ws vs e) ∙ length-map ws (λ (w : Worked). w.outcomes.items) ∙ called_long all fresh ws h;
+  driver = d;
+  desk_stays = same;
+  listeners = ls;
+  settled = s;
+  books = subst (λ (l : List CallerView). Settles d l ls s) callers books;
 }
 
 pub known_ok : {A E : Type 0} (P : A → Type 0) (r : Result A E) (x : A) → r ≡ Ok x → IfOk r P → P x

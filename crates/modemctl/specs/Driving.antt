@@ -1,5 +1,5 @@
 -- What the driver of a bench does, and what callers do beside it.
-use Rattle.std.specs.Prelude.{◌≡◌, List, map}
+use Rattle.std.specs.Prelude.{◌≡◌}
 use Rattle.modem_history.specs.Sessions.{LineView}
 use Rattle.modem_driver.specs.SessionStates.{SessionState}
 

@@ -1,8 +1,10 @@
 -- Callers that are out in threads, and a bench as a whole.
-use Rattle.std.specs.Prelude.{◌≡◌, ℕ, ◌+◌, List, [], ◌∷◌, ◌++◌, length, map, Result}
+use Rattle.std.specs.Prelude.{◌≡◌, ℕ, ◌+◌, List, [], ◌∷◌, ◌++◌, length, map, Result, vec_items}
 use Rattle.std.specs.declared.thread.PromisedHandle.{PromisedHandle}
 use Rattle.modem_desk.specs.declared.request.Outcome.{Outcome}
-use Rattle.modem_desk.specs.Ends.{CallerView, Each, IsFresh}
+use Rattle.modem_desk.specs.declared.settling.Settled.{Settled}
+use Rattle.modem_desk.specs.Books.{DeskBooks}
+use Rattle.modem_desk.specs.Ends.{CallerView, DeskId, DriverView, Each, IsFresh, IsWhole, ListenerView, place_of}
 use Rattle.modemctl.specs.Bench.{asks_for}
 use Rattle.modemctl.specs.Calling.{OpensAll, Stops, Works}
 use Rattle.modemctl.specs.declared.bench.calling.Worked.{Worked}
@@ -76,20 +78,32 @@ AreCalled all [] ws = ⊥
 AreCalled all (c ∷ cs) [] = ⊥
 AreCalled all (c ∷ cs) (w ∷ ws) = Leads all c w.caller w.outcomes.items × AllWork all 1 cs ws
 
--- these callers did what the submissions ask of them, and these are the outcomes that each took for it
-pub record RanFor (all : List Submission) (fresh : List CallerView) (outcomes : List (List Outcome)) : Type 0 where
+-- the desk books of this driver's end, all these callers and these listeners, by what their settlement gave
+abbrev pub Settles : DriverView → List CallerView → List ListenerView → Settled → Type 0
+Settles d cs ls s = DeskBooks d cs ls s.left.items (map vec_items s.untaken.items) (map vec_items s.unheard.items)
+
+-- These callers of this desk did what the submissions ask of them, and these are the outcomes that each took for it. They
+-- are all the callers of the desk, which was settled with them and with its driver's end as the session gave it back.
+pub record RanFor (all : List Submission) (desk : DeskId) (fresh : List CallerView) (outcomes : List (List Outcome)) : Type 0 where
   pub worked : List Worked
   pub called : AreCalled all fresh worked
   pub outcomes_are : outcomes ≡ map (λ (w : Worked). w.outcomes.items) worked
   pub one_each : length outcomes ≡ length fresh
+  pub driver : DriverView
+  pub desk_stays : driver.desk ≡ desk
+  pub listeners : List ListenerView
+  pub settled : Settled
+  pub books : Settles driver (map (λ (w : Worked). w.caller) worked) listeners settled
 
 -- so many callers, which have done nothing yet
 pub record AreFresh (count : ℕ) (cs : List CallerView) : Type 0 where
   pub many : length cs ≡ count
   pub fresh : Each (λ i c. IsFresh c) cs
 
--- so many callers, new at a desk, did what the submissions ask of them
+-- so many callers, new at a desk and all of it, did what the submissions ask of them
 pub record Ran (all : List Submission) (count : ℕ) (outcomes : List (List Outcome)) : Type 0 where
+  pub desk : DeskId
   pub callers : List CallerView
   pub fresh : AreFresh count callers
-  pub ran : RanFor all callers outcomes
+  pub whole : IsWhole desk (map place_of callers)
+  pub ran : RanFor all desk callers outcomes

@@ -2,14 +2,14 @@
 ghost use Rattle.std.specs.Prelude.{◌≡◌, ◌≤◌, ◌<◌, ◌++◌, ◌∷◌, [], IfOk, OnOk, length, map, vec_items};
 ghost use Rattle.modem_desk.specs.Ends.{AreEars, IsWhole, Opened, ear_of, place_of};
 ghost use Rattle.modemctl.specs.Calling.{Works};
-ghost use Rattle.modemctl.specs.Running.{AllWork, AreBack, AreCalled, AreFresh, AreOut, ComesBack, OpensFirst, Ran, RanFor, StopsFirst};
+ghost use Rattle.modemctl.specs.Running.{AllWork, AreBack, AreCalled, AreFresh, AreOut, ComesBack, OpensFirst, Ran, RanFor, Settles, StopsFirst};
 
 use crate::bench::calling::{Worked, open_all, stop, work};
 use crate::bench::driving::{Later, drive};
 use crate::bench::signals::{Fault, Signals};
 use crate::bench::simulating::simulate;
 use crate::bench::submissions::{Submission, asks_for};
-use modem_desk::{Ask, Caller, Desk, DriverEnd, Listener, Outcome, settle};
+use modem_desk::{Ask, Caller, Desk, DriverEnd, Listener, Outcome, Settled, settle};
 use modem_driver::Session;
 use modem_sim::{Modem, ModemStart, Script, Sim};
 use serial_line::{SerialLine, ThreadLine};
@@ -249,16 +249,17 @@ fn end_run<L, R>(
     session: Session<L, R>,
     callers: Vec<Caller>,
     listeners: Vec<Listener>,
-) -> Result<(), Fault>
+) -> Result<Settled, Fault>
 where
     L: SerialLine + Drop,
     R: Wait + Drop,
     requires callers { IsWhole session.driver.desk (map place_of callers.items) }
     requires listeners { AreEars session.driver.desk (map ear_of listeners.items) }
+    ensures { IfOk result (Settles session.driver callers.items listeners.items) }
 {
     let finished = session.finish();
     match settle(rt, alloc, finished.driver, callers, listeners) {
-        Ok(_) => Ok(()),
+        Ok(settled) => Ok(settled),
         Err(_) => Err(Fault::NoMemory),
     }
 }
@@ -286,7 +287,7 @@ where
     requires few { (0 < length ends.callers.items) × (length ends.callers.items ≤ 8) }
     requires callers { IsWhole ends.session.driver.desk (map place_of ends.callers.items) }
     requires listeners { AreEars ends.session.driver.desk (map ear_of ends.listeners.items) }
-    ensures { IfOk result (λ outcomes. RanFor submissions.now ends.callers.items (map vec_items outcomes.items)) }
+    ensures { IfOk result (λ outcomes. RanFor submissions.now ends.session.driver.desk ends.callers.items (map vec_items outcomes.items)) }
 {
     let Ends {
         session,
@@ -305,7 +306,8 @@ where
     let session = driving.join(rt)?;
     let back = called?;
     let (callers, outcomes) = parted(alloc, back)?;
-    end_run(rt, alloc, session, callers, listeners)?;
+    let settled = end_run(rt, alloc, session, callers, listeners)?;
+    drop(settled);
     Ok(outcomes)
 }
 

@@ -1,4 +1,4 @@
-use Rattle.std.proofs.Common.{ap, map, subst, sym}
+use Rattle.std.proofs.Common.{map, subst, sym}
 use Rattle.modem_desk.specs.Ends.{AreEars, DriverView, IsWhole, ear_of, place_of}
 use Rattle.modemctl.proofs.bench.running.begin.Goals as goal
 

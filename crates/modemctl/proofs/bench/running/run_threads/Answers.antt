@@ -23,4 +23,10 @@ end_run-requires-clause-listeners g c =
     subst (λ (d : DeskId). AreEars d (map ear_of c.args.ends.listeners.items)) (sym desk) c.requires.listeners
 
 pub returns : goal.returns
-returns g c = ran_for c.args.submissions.now c.args.ends.callers.items c.in_ok-back.back.items c.in_ok-callers.outcomes.items (known_ok (λ (v : Vec Worked Global). AreCalled c.args.submissions.now c.args.ends.callers.items v.items) c.call_modem-called.result c.in_ok-back.back c.in_ok-back.was c.call_modem-called.ensures) c.in_ok-callers.ensures.outcomes
+returns g c =
+    let was = ap (λ p. p.0.value) c.in_ok-driving.ensures.ok ∙ c.of.ensures in
+    let desk : c.in_ok-session.session.driver.desk ≡ c.args.ends.session.driver.desk = c.in_ok-session.ensures.desk ∙ ap (λ s. s.driver.desk) was in
+    ran_for c.args.submissions.now c.args.ends.session.driver.desk c.args.ends.callers.items c.in_ok-callers.callers.items c.in_ok-back.back.items c.in_ok-callers.outcomes.items
+    c.in_ok-session.session.driver c.args.ends.listeners.items c.in_ok-settled.settled
+    (known_ok (λ (v : Vec Worked Global). AreCalled c.args.submissions.now c.args.ends.callers.items v.items) c.call_modem-called.result c.in_ok-back.back c.in_ok-back.was c.call_modem-called.ensures)
+    c.in_ok-callers.ensures.callers c.in_ok-callers.ensures.outcomes desk c.in_ok-settled.ensures

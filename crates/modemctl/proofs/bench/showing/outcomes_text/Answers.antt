@@ -1,4 +1,4 @@
-use Rattle.std.proofs.Common.{◌≡◌, ◌+◌, ◌∙◌, ◌++◌, ap, sym}
+use Rattle.std.proofs.Common.{◌+◌, ◌∙◌, ◌++◌, ap, sym}
 use Rattle.std.specs.Prelude.{map, take, vec_items}
 use Rattle.modemctl.specs.Shown.{callers_from, told_from}
 use Rattle.modemctl.proofs.Showing.{callers_next}

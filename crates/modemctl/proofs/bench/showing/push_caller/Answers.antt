@@ -1,4 +1,4 @@
-use Rattle.std.proofs.Common.{◌≡◌, ◌+◌, ◌∙◌, ◌++◌, ap, sym, append_assoc}
+use Rattle.std.proofs.Common.{◌+◌, ◌∙◌, ◌++◌, ap, sym, append_assoc}
 use Rattle.std.specs.Prelude.{take}
 use Rattle.std.specs.String.{string_bytes}
 use Rattle.modemctl.specs.Shown.{told_from, told_text}
