@@ -1,7 +1,5 @@
 mod acts;
-mod refused;
 mod sim;
-mod table;
 
 use crate::{Modem, ModemStart, SimError};
 use at_cmds::Pin;

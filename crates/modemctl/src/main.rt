@@ -12,13 +12,9 @@ mod hostile;
 mod input;
 pub mod laws;
 #[cfg(test)]
-mod random_scripts;
-#[cfg(test)]
 mod rows;
 mod runs;
 mod script;
-#[cfg(test)]
-mod session_scripts;
 mod stop;
 #[cfg(test)]
 mod tests;
