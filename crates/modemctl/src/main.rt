@@ -2,9 +2,6 @@
 //! driver does with requests and octets.
 #![tactic(auto)]
 
-mod bench;
-#[cfg(test)]
-mod bench_tests;
 mod dump;
 mod framing;
 #[cfg(test)]
@@ -37,7 +34,6 @@ fn main(rt: HostRuntime) -> ExitCode {
     };
     let status = match arguments {
         Ok(words) => words::run(
-            &rt,
             rt.alloc(),
             words.as_slice(),
             &mut rt.stdin(),
