@@ -394,18 +394,5 @@ unfolding verdict_on by_header
 verdict_means n1 [] h = cut_none n1
 verdict_means n1 (x ∷ t) h = address_means n1 x t (x % 2 == 1) (nat_lt (x / 4) 62) refl refl (λ i. h (suc i))
 
--- the verdict on octets whose header fits goes by the end
-pub verdict_fits : (n1 : ℕ) (t : List ℕ) (h : Header) (x y l m o p : Option ℕ) (v : Verdict) → x ≡ slice_get t 0 → y ≡ slice_get t 1 → l ≡ slice_get t 2 → m ≡ slice_get t 3 → fits h ≡ by_header n1 x y l m → o ≡ slice_get t (h.size + h.info_len) → p ≡ slice_get t (h.size + h.info_len + 1) → v ≡ by_end h o p → v ≡ verdict_on n1 t
-unfolding verdict_on
-verdict_fits n1 t h x y l m o p v a b c d e f g k =
-    k ∙ ap (λ z. by_end h z p) f ∙ ap (by_end h (slice_get t (h.size + h.info_len))) g
-    ∙ ap (by_rest t) (e ∙ ap (λ z. by_header n1 z y l m) a ∙ ap (λ z. by_header n1 (slice_get t 0) z l m) b ∙ ap (λ z. by_header n1 (slice_get t 0) (slice_get t 1) z m) c ∙ ap (by_header n1 (slice_get t 0) (slice_get t 1) (slice_get t 2)) d)
-
 pub means_from : (n1 : ℕ) (t : List ℕ) (v : Verdict) → ((i : ℕ) → slice_index t i < 256) → v ≡ verdict_on n1 t → Means n1 t v
 means_from n1 t v o e = subst (Means n1 t) (sym e) (verdict_means n1 t o)
-
--- the verdict on octets that a header decides
-pub verdict_ends : (n1 : ℕ) (t : List ℕ) (x y l m : Option ℕ) (v : Verdict) → x ≡ slice_get t 0 → y ≡ slice_get t 1 → l ≡ slice_get t 2 → m ≡ slice_get t 3 → v ≡ by_header n1 x y l m → by_rest t v ≡ v → v ≡ verdict_on n1 t
-unfolding verdict_on
-verdict_ends n1 t x y l m v a b c d e f =
-    sym f ∙ ap (by_rest t) (e ∙ ap (λ z. by_header n1 z y l m) a ∙ ap (λ z. by_header n1 (slice_get t 0) z l m) b ∙ ap (λ z. by_header n1 (slice_get t 0) (slice_get t 1) z m) c ∙ ap (by_header n1 (slice_get t 0) (slice_get t 1) (slice_get t 2)) d)

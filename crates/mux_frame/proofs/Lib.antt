@@ -1,3 +1,4 @@
+pub mod Decisions
 pub mod Division
 pub mod Examples
 pub mod Flags
@@ -6,6 +7,5 @@ pub mod Judgements
 pub mod Pasts
 pub mod ReadingOn
 pub mod Readings
-pub mod Rings
 pub mod Slow
 pub mod Spellings

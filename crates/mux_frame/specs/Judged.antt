@@ -1,7 +1,9 @@
 -- Verdicts as the code has them.
-use Rattle.std.specs.Prelude.{◌≡◌, ℕ, ◌+◌, ◌≤◌, Bool, List, ◌∷◌, Option, None, Some, drop, length, if◌then◌else◌}
-use Rattle.mux_frame.specs.Deframing.{IsFront, IsSettled, decision_on, next_in}
-use Rattle.mux_frame.specs.Judging.{Header, Verdict, unfinished, refused, fits, frame_at, verdict_on}
+use Rattle.std.specs.Prelude.{◌≡◌, ◌≢◌, ℕ, ◌+◌, ◌≤◌, Bool, List, ◌∷◌, Option, None, Some, drop, length, if◌then◌else◌}
+use Rattle.mux_frame.specs.Deframing.{IsFront, IsSettled, SameReading, decision_on, next_in}
+use Rattle.mux_frame.specs.Judging.{Header, Verdict, unfinished, refused, fits, frame_at}
+use Rattle.mux_frame.specs.Laws.{AreOctets}
+use Rattle.mux_frame.specs.Places.{Held}
 use Rattle.mux_frame.specs.Spelling.{flag}
 use Rattle.mux_frame.specs.declared.judge.Header.{Header as HeaderValue}
 use Rattle.mux_frame.specs.declared.judge.Verdict.{Verdict as VerdictValue}
@@ -29,11 +31,11 @@ verdict_seen (Fits h) = fits (header_seen h)
 abbrev pub IsCandidate : List ℕ → Bool → List ℕ → Type 0
 IsCandidate octets is_second text = octets ≡ (if is_second then flag ∷ flag ∷ text else flag ∷ text)
 
--- the text after a flag begins with a whole frame, whose check octet stands at this place
-pub record IsWholeTo (n1 : ℕ) (text : List ℕ) (place : ℕ) : Type 0 where
-  pub header : Header
-  pub verdict : fits header ≡ verdict_on n1 text
-  pub place_is : place ≡ header.size + header.info_len
+-- what stands before this place begins no frame, and nothing is lost ahead of what can begin one
+pub record IsPassed (n1 : ℕ) (octets : List ℕ) (place : ℕ) : Type 0 where
+  pub within : place ≤ length octets
+  pub reads : SameReading n1 octets (drop place octets)
+  pub kept : decision_on n1 octets ≢ refused → drop place octets ≡ octets
 
 -- the frame at hand has this check place, counted from its address octet
 pub record IsAtPlace (n1 : ℕ) (undecided : List ℕ) (place : ℕ) : Type 0 where
@@ -53,3 +55,13 @@ IsAtHand n1 undecided (Some place) = IsAtPlace n1 undecided place
 pub record IsReady (n1 : ℕ) (undecided : List ℕ) (capacity : ℕ) (check_place : Option ℕ) : Type 0 where
   pub settled : IsSettled n1 undecided capacity
   pub at_hand : IsAtHand n1 undecided check_place
+
+-- from the front of octets goes what begins no frame; then this is the check place of the frame at hand, if there is one
+pub record Settles (n1 : ℕ) (old new : Held) (check_place : Option ℕ) : Type 0 where
+  pub decided : decision_on n1 new.items ≢ refused
+  pub reads : SameReading n1 old.items new.items
+  pub kept : decision_on n1 old.items ≢ refused → new ≡ old
+  pub octets : AreOctets new.items
+  pub shorter : length new.items ≤ length old.items
+  pub capacity : new.capacity ≡ old.capacity
+  pub at_hand : IsAtHand n1 new.items check_place

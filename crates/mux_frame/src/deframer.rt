@@ -9,14 +9,14 @@ ghost use Rattle.mux_frame.specs.Spelling.{most_info};
 use crate::error::FrameError;
 use crate::frame::FrameView;
 use crate::judge::front_frame;
-use crate::ring::settle;
+use crate::settling::{settle, take_in};
 use crate::undecided::Undecided;
 use std::alloc::Global;
 use std::marker::Model;
 
-/// Reads octets as frames, however they are cut. It keeps the octets that are not decided yet in a
-/// ring of N1 + 7 octets: two flags, address, control, two length octets, information and check
-/// octet. So a full ring is always decided.
+/// Reads octets as frames, however they are cut. It keeps the octets that are not decided yet, at most
+/// N1 + 7: two flags, address, control, two length octets, information and check octet. So many are
+/// always decided.
 #[derive(Drop)]
 pub struct Deframer {
     octets: Undecided,
@@ -71,7 +71,8 @@ impl Deframer {
         ensures stays { (f : Frame) → self.old.next ≡ Some f → self.new.next ≡ Some f }
         ensures past { TakesIn self.old (take result octets.now) self.new }
     {
-        let count = self.octets.fill(octets);
+        let count = octets.len().min(self.octets.room());
+        take_in(&mut self.octets, &octets[..count]);
         self.check_place = settle(&mut self.octets, self.n1);
         count
     }
@@ -85,7 +86,7 @@ impl Deframer {
         let Some(place) = self.check_place else {
             return None;
         };
-        Some(front_frame(self.n1, self.octets.one_slice(), place))
+        Some(front_frame(self.n1, self.octets.as_slice(), place))
     }
 
     /// Goes on behind the frame at hand. The condition is that there is one: that the last call was
@@ -111,10 +112,7 @@ impl Deframer {
         ensures err { OnErr result (out.new.items ≡ out.old.items) }
         ensures no_memory { OnErr result (result ≡ Err FrameError.NoMemory) }
     {
-        out.reserve(self.octets.len())?;
-        let (front, back) = self.octets.as_slices();
-        out.extend_from_slice(front).unwrap();
-        out.extend_from_slice(back).unwrap();
+        out.extend_from_slice(self.octets.as_slice())?;
         Ok(())
     }
 }

@@ -11,8 +11,7 @@ mod info;
 mod judge;
 pub mod laws;
 mod probe;
-mod ring;
-mod slice;
+mod settling;
 mod undecided;
 mod write;
 

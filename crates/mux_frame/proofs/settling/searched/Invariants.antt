@@ -1,9 +1,9 @@
 use Rattle.std.proofs.Common.{◌-◌, length}
-use Rattle.mux_frame.proofs.Rings.{SettlesAt}
-use Rattle.mux_frame.proofs.ring.searched_slice.Given as goal
+use Rattle.mux_frame.specs.Judged.{IsPassed}
+use Rattle.mux_frame.proofs.settling.searched.Given as goal
 
 abbrev pub invariant-loop-header : goal.invariant-loop-header
-invariant-loop-header l = SettlesAt l.n1 l.octets l.start
+invariant-loop-header l = IsPassed l.n1 l.octets l.start
 
 abbrev pub decreases-loop-header : goal.decreases-loop-header
 decreases-loop-header l = length l.octets - l.start

@@ -3,21 +3,18 @@ use Rattle.mux_frame.specs.Deframing.{decision_on}
 use Rattle.mux_frame.specs.Judged.{header_seen}
 use Rattle.mux_frame.specs.Judging.{unfinished, refused, fits}
 use Rattle.mux_frame.proofs.Pasts.{at_place, next_of}
-use Rattle.mux_frame.proofs.Rings.{settles_at_none, settles_at_more, refused_some}
-use Rattle.mux_frame.proofs.ring.searched_slice.Goals as goal
+use Rattle.mux_frame.proofs.Decisions.{octets-drop, passed_more, refused_some}
+use Rattle.mux_frame.proofs.settling.searched.Goals as goal
 
 pub returns-in-Fits-clause-at_hand : goal.returns-in-Fits-clause-at_hand
 returns-in-Fits-clause-at_hand c =
     let e : fits (header_seen c.in-Fits.header) ≡ decision_on c.args.n1 (drop c.loop-header.start c.args.octets.now) = rw c.split_at.ensures.back at c.in-Fits.ensures in
-    at_place c.args.n1 c.check_place.result (drop c.loop-header.start c.args.octets.now) (header_seen c.in-Fits.header) c.loop-header.invariant.settles.octets e c.check_place.ensures.value
+    at_place c.args.n1 c.check_place.result (drop c.loop-header.start c.args.octets.now) (header_seen c.in-Fits.header) (octets-drop c.loop-header.start c.args.octets.now c.requires.octets) e c.check_place.ensures.value
 
 pub returns-in-Unfinished-clause-at_hand : goal.returns-in-Unfinished-clause-at_hand
 returns-in-Unfinished-clause-at_hand c =
     let e : unfinished ≡ decision_on c.args.n1 (drop c.loop-header.start c.args.octets.now) = rw c.split_at.ensures.back at c.in-Unfinished.ensures in
     sym (next_of c.args.n1 (drop c.loop-header.start c.args.octets.now) unfinished e)
-
-pub loop-header-init : goal.loop-header-init
-loop-header-init c = settles_at_none c.args.n1 c.args.octets.now c.requires
 
 pub loop-header-smaller : goal.loop-header-smaller
 loop-header-smaller c =
@@ -28,6 +25,6 @@ loop-header-smaller c =
 pub loop-header-preserved : goal.loop-header-preserved
 loop-header-preserved c =
     let e : refused ≡ decision_on c.args.n1 (drop c.loop-header.start c.args.octets.now) = rw c.split_at.ensures.back at c.in-Refused.ensures in
-    settles_at_more c.args.n1 c.loop-header.start c.flag_in.result c.args.octets.now c.loop-header.invariant e
+    passed_more c.args.n1 c.loop-header.start c.flag_in.result c.args.octets.now c.requires.octets c.loop-header.invariant e
     (rw c.split_at-in-Refused.ensures.back at c.flag_in.ensures.within)
     (rw c.split_at-in-Refused.ensures.back at c.flag_in.ensures.rest)

@@ -1,5 +1,5 @@
-use Rattle.mux_frame.proofs.Rings.{decision_flags}
-use Rattle.mux_frame.proofs.ring.slice_verdict.Goals as goal
+use Rattle.mux_frame.proofs.Decisions.{decision_flags}
+use Rattle.mux_frame.proofs.settling.slice_verdict.Goals as goal
 
 pub returns-in-Some-eq249 : goal.returns-in-Some-eq249
 returns-in-Some-eq249 c =
