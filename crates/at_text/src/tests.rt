@@ -286,6 +286,34 @@ fn an_echo_after_another_line_is_part_of_the_answer(rt: HostRuntime) -> Result<(
 }
 
 #[test]
+fn a_fork_goes_on_without_the_lines_before(rt: HostRuntime) -> Result<(), Fail> {
+    let alloc = rt.alloc();
+    let mut window = waiting(alloc, "AT+CSQ")?;
+    assert_eq!(rt; window.see(b"at+csq")?, Seen::Kept);
+    let mut fork = window.fork();
+    assert_eq!(rt; fork.see(b"AT+CSQ")?, Seen::Kept);
+    fork.follow(&mut window)?;
+    let all = answer(alloc, &["at+csq", "AT+CSQ", "ERROR"])?;
+    assert_eq!(rt; fork.see(b"ERROR")?, Seen::Done(all));
+    Ok(())
+}
+
+#[test]
+fn an_answer_that_ends_on_a_fork_has_the_lines_before(rt: HostRuntime) -> Result<(), Fail> {
+    let alloc = rt.alloc();
+    let mut window = waiting(alloc, "AT+CSQ")?;
+    assert_eq!(rt; window.see(b"+CSQ: 18,99")?, Seen::Kept);
+    let mut fork = window.fork();
+    let Seen::Done(mut lines) = fork.see(b"OK")? else {
+        return Err("no final code".into());
+    };
+    assert_eq!(rt; lines, answer(alloc, &["OK"])?);
+    window.lead(&mut lines)?;
+    assert_eq!(rt; lines, answer(alloc, &["+CSQ: 18,99", "OK"])?);
+    Ok(())
+}
+
+#[test]
 fn a_line_of_512_octets_finds_memory_in_a_window(rt: HostRuntime) -> Result<(), Fail> {
     let alloc = rt.alloc();
     let line = vec![in alloc; b'x'; 512]?;
