@@ -19,7 +19,7 @@ use Rattle.modem_history.specs.Acts.{Act, after}
 use Rattle.modem_history.specs.Sessions.{driving, gots, heard_as, backlog_in}
 use Rattle.modem_history.specs.SessionRows.{TurnRow, IsWrongTurn, Each, beginning, entry_answer, zero_came, outcome_of, ring}
 use Rattle.modem_history.specs.Turns.{counted, calls_made, octets_read, octets_written, request_given, AllAreGot, IsOffer, Offers, Read, Write}
-use Rattle.modem_history.specs.BadTurns.{wrong_turns, idle_with_frame, idle_with_unfed, idle_with_unsent, idle_with_queued, idle_with_aside, idle_with_outcome, idle_with_line, idle_with_command, idle_after_read, idle_without_read, moved_by_nothing, moved_by_a_mark, unfed_grows, full_unoffered, full_but_taken, full_of_nothing, full_without_read, full_with_frame, waiting_but_told, waiting_for_another, waiting_for_the_greater, waiting_with_unsent, waiting_with_frame, waiting_without_read, blocked_by_none, blocked_by_a_later, blocked_with_command, blocked_and_not_held, blocked_and_still_held, tick_in_a_turn, loss_in_a_turn, failed_and_moved, three_calls, read_twice, two_requests, told_at_once, held_too_early, moved_with_aside}
+use Rattle.modem_history.specs.BadTurns.{wrong_turns, idle_with_frame, idle_with_unfed, idle_half_unfed, idle_with_unsent, idle_with_queued, idle_with_aside, idle_with_outcome, idle_with_line, idle_with_command, idle_after_read, idle_without_read, moved_by_nothing, moved_by_a_mark, unfed_grows, full_unoffered, full_but_taken, full_of_nothing, full_without_read, full_with_frame, full_with_unfed, waiting_but_told, waiting_for_another, waiting_for_the_greater, waiting_with_unsent, waiting_with_frame, waiting_without_read, blocked_by_none, blocked_by_a_later, blocked_with_command, blocked_and_not_held, blocked_and_still_held, tick_in_a_turn, loss_in_a_turn, failed_and_moved, three_calls, read_twice, read_while_unfed, two_frames, aside_and_another, two_requests, told_at_once, held_too_early, moved_with_aside}
 use Rattle.modem_history.specs.Kinds.{kind_place}
 use Rattle.modem_history.proofs.Decided.{unquiet}
 use Rattle.modem_history.proofs.TurnTests.{no_more}
@@ -30,6 +30,12 @@ never e = cc
 
 never_back : true ≡ false → ⊥
 never_back e = cc
+
+not_empty : {A : Type 0} {x : A} {xs : List A} → x ∷ xs ≡ [] → ⊥
+not_empty e = cc
+
+empty_not : {A : Type 0} {x : A} {xs : List A} → [] ≡ x ∷ xs → ⊥
+empty_not e = cc
 
 -- numbers differ
 numbers_differ : (n m : ℕ) → (n == m) ≡ false → n ≡ m → ⊥
@@ -54,6 +60,9 @@ idle_with_unfed_wrong : IsWrongTurn idle_with_unfed
 unfolding check_octet_of verdict_on by_header by_end
 idle_with_unfed_wrong t turn = unread idle_with_unfed zero_came refl refl refl turn.means.rest.all_got
 
+idle_half_unfed_wrong : IsWrongTurn idle_half_unfed
+idle_half_unfed_wrong t turn = not_empty turn.means.rest.fed
+
 idle_with_unsent_wrong : IsWrongTurn idle_with_unsent
 unfolding check_octet_of body_of
 idle_with_unsent_wrong t turn = octets_differ _ _ refl turn.means.rest.sent
@@ -67,12 +76,6 @@ some_none e = cc
 
 idle_with_aside_wrong : IsWrongTurn idle_with_aside
 idle_with_aside_wrong t turn = some_none turn.none_aside
-
-not_empty : {A : Type 0} {x : A} {xs : List A} → x ∷ xs ≡ [] → ⊥
-not_empty e = cc
-
-empty_not : {A : Type 0} {x : A} {xs : List A} → [] ≡ x ∷ xs → ⊥
-empty_not e = cc
 
 idle_with_outcome_wrong : IsWrongTurn idle_with_outcome
 idle_with_outcome_wrong t turn = not_empty turn.means.placed
@@ -141,6 +144,9 @@ full_without_read_wrong t turn =
 
 full_with_frame_wrong : IsWrongTurn full_with_frame
 full_with_frame_wrong t turn = never_back (turn.means.no_room (written Responder Ua 0 []) refl)
+
+full_with_unfed_wrong : IsWrongTurn full_with_unfed
+full_with_unfed_wrong t turn = not_empty (turn.means.fed refl)
 
 -- ## Waiting
 
@@ -221,6 +227,29 @@ one_read (Some w) r before offers e calls = none_offered w before e offers
 read_twice_wrong : IsWrongTurn read_twice
 read_twice_wrong t turn = one_read t.write t.read read_twice.old.line.sent turn.offers turn.deals.went turn.deals.calls
 
+-- octets came, so the line was read
+was_read : (read : Option Read) (before later : List ℕ) → length before < length later → later ≡ before ++ octets_read read → read ≡ None → ⊥
+was_read read before later more e none =
+    let same : later ≡ before = e ∙ (ap (λ (r : Option Read). before ++ octets_read r) none ∙ append-nil before) in
+    let size = ap length same in
+    omega (arith, more, size)
+
+read_while_unfed_wrong : IsWrongTurn read_while_unfed
+read_while_unfed_wrong t turn = not_empty (turn.deals.reads_fed (was_read t.read read_while_unfed.old.line.received read_while_unfed.new.line.received (lit< tt) turn.deals.came))
+
+two_frames_wrong : IsWrongTurn two_frames
+two_frames_wrong t turn = let few : 2 ≤ 1 = turn.deals.one_got in omega arith
+
+-- a request was taken from the desk, so it was asked
+was_asked : (next : Option (Option Request)) (before later : List Request) → length before < length later → later ≡ before ++ request_given next → next ≡ None → ⊥
+was_asked next before later more e none =
+    let same : later ≡ before = e ∙ (ap (λ (o : Option (Option Request)). before ++ request_given o) none ∙ append-nil before) in
+    let size = ap length same in
+    omega (arith, more, size)
+
+aside_and_another_wrong : IsWrongTurn aside_and_another
+aside_and_another_wrong t turn = some_none (turn.deals.asks_bare (was_asked t.next aside_and_another.old.desk.taken aside_and_another.new.desk.taken (lit< tt) turn.deals.taken))
+
 one_given : (next : Option (Option Request)) → 2 ≡ length (request_given next) → ⊥
 one_given None e = omega arith
 one_given (Some None) e = omega arith
@@ -252,4 +281,4 @@ moved_with_aside_wrong : IsWrongTurn moved_with_aside
 moved_with_aside_wrong t turn = some_none turn.none_aside
 
 pub all_wrong_turns : Each IsWrongTurn wrong_turns
-all_wrong_turns = (idle_with_frame_wrong, (idle_with_unfed_wrong, (idle_with_unsent_wrong, (idle_with_queued_wrong, (idle_with_aside_wrong, (idle_with_outcome_wrong, (idle_with_line_wrong, (idle_with_command_wrong, (idle_after_read_wrong, (idle_without_read_wrong, (moved_by_nothing_wrong, (moved_by_a_mark_wrong, (unfed_grows_wrong, (full_unoffered_wrong, (full_but_taken_wrong, (full_of_nothing_wrong, (full_without_read_wrong, (full_with_frame_wrong, (waiting_but_told_wrong, (waiting_for_another_wrong, (waiting_for_the_greater_wrong, (waiting_with_unsent_wrong, (waiting_with_frame_wrong, (waiting_without_read_wrong, (blocked_by_none_wrong, (blocked_by_a_later_wrong, (blocked_with_command_wrong, (blocked_and_not_held_wrong, (blocked_and_still_held_wrong, (tick_in_a_turn_wrong, (loss_in_a_turn_wrong, (failed_and_moved_wrong, (three_calls_wrong, (read_twice_wrong, (two_requests_wrong, (told_at_once_wrong, (held_too_early_wrong, (moved_with_aside_wrong, tt))))))))))))))))))))))))))))))))))))))
+all_wrong_turns = (idle_with_frame_wrong, (idle_with_unfed_wrong, (idle_half_unfed_wrong, (idle_with_unsent_wrong, (idle_with_queued_wrong, (idle_with_aside_wrong, (idle_with_outcome_wrong, (idle_with_line_wrong, (idle_with_command_wrong, (idle_after_read_wrong, (idle_without_read_wrong, (moved_by_nothing_wrong, (moved_by_a_mark_wrong, (unfed_grows_wrong, (full_unoffered_wrong, (full_but_taken_wrong, (full_of_nothing_wrong, (full_without_read_wrong, (full_with_frame_wrong, (full_with_unfed_wrong, (waiting_but_told_wrong, (waiting_for_another_wrong, (waiting_for_the_greater_wrong, (waiting_with_unsent_wrong, (waiting_with_frame_wrong, (waiting_without_read_wrong, (blocked_by_none_wrong, (blocked_by_a_later_wrong, (blocked_with_command_wrong, (blocked_and_not_held_wrong, (blocked_and_still_held_wrong, (tick_in_a_turn_wrong, (loss_in_a_turn_wrong, (failed_and_moved_wrong, (three_calls_wrong, (read_twice_wrong, (read_while_unfed_wrong, (two_frames_wrong, (aside_and_another_wrong, (two_requests_wrong, (told_at_once_wrong, (held_too_early_wrong, (moved_with_aside_wrong, tt)))))))))))))))))))))))))))))))))))))))))))

@@ -1,19 +1,23 @@
 -- The rows of faults and ticks, computed.
-use Rattle.std.proofs.Common.{ap, sym, ◌∙◌, lit<, lit≤, arith}
-use Rattle.std.specs.Prelude.{◌≡◌, ℕ, ◌<◌, ◌==◌, true, false, List, [], ◌∷◌, length, drop, refl, Some, None}
+use Rattle.std.proofs.Common.{ap, sym, ◌∙◌, inl, inr, lit<, lit≤, arith}
+use Rattle.std.specs.Prelude.{◌≡◌, ℕ, ◌<◌, ◌==◌, ◌⊎◌, true, false, List, [], ◌∷◌, ◌++◌, length, drop, map, refl, Some, None}
 use Rattle.std.specs.List.{list_all}
 use Rattle.std.proofs.lemmas.Bool.{eq-eqb}
 use Rattle.modem_history.specs.Wholes.{is_said}
+use Rattle.mux_frame.specs.Frames.{Frame}
+use Rattle.modem_desk.specs.declared.request.Outcome.{Outcome}
 use Rattle.mux_frame.specs.CheckOctet.{check_octet_of}
 use Rattle.mux_frame.specs.Spelling.{body_of}
 use Rattle.mux_frame.specs.Judging.{verdict_on, by_header, by_end}
-use Rattle.modem_history.specs.Acts.{Act, after}
-use Rattle.modem_history.specs.Sessions.{LineView, EndView, at_place}
-use Rattle.modem_history.specs.SessionRows.{IsRight, Each, zero_came, sabm_one, second_request, last_flag}
+use Rattle.modem_desk.specs.declared.request.Answer.TheVariants.{LineLost}
+use Rattle.modem_history.specs.Acts.{Act, Sent, Told, Lost, after}
+use Rattle.modem_history.specs.Sessions.{SessionView, EndView, at_place}
+use Rattle.modem_history.specs.Turns.{PlacesAlone}
+use Rattle.modem_history.specs.SessionRows.{IsRight, Each, beginning, zero_came, sabm_one, second_request, outcome_of, last_flag}
 use Rattle.modem_history.specs.GoodSessions.{loss_told}
 use Rattle.modem_history.specs.Rows.{opening_zero}
 use Rattle.modem_history.specs.GoodTurns.{dealt, offers}
-use Rattle.modem_history.specs.FaultRows.{AreRightFaults, IsRightFault, IsWrongFault, IsRightTick, IsWrongTick, wrong_faults, right_ticks, wrong_ticks, asked_one, one_half_sent, fails, fails_again, keeps_aside, fails_unfailed, lost_before, failed_too_soon, calls_lost_line, memory_for_loss, loss_untold, sends_again, only_ticks, tick_left_out, two_ticks, data_at_tick, places_at_tick, ticks_when_lost}
+use Rattle.modem_history.specs.FaultRows.{AreRightFaults, IsRightFault, IsWrongFault, IsRightTick, IsWrongTick, wrong_faults, right_ticks, wrong_ticks, asked_one, one_half_sent, fails, fails_again, keeps_aside, fails_unfailed, lost_before, failed_too_soon, calls_lost_line, memory_for_loss, loss_untold, loss_and_request, sends_behind_loss, feeds_when_lost, goes_on_faulty, sends_again, only_ticks, tick_left_out, two_ticks, data_at_tick, places_at_tick, ticks_when_lost}
 use Rattle.modem_history.proofs.SessionTests.{read_in, fits_none, outcomes_differ}
 use Rattle.modem_history.proofs.SessionRowFacts.{zero_opened_right, request_aside_right, line_lost_right}
 use Rattle.modem_history.proofs.GoodTurnFacts.{still_fits}
@@ -31,9 +35,9 @@ first_right = record {
   fitted = one_half_sent_right;
   fits = still_fits 41 _ (after [] loss_told) line_lost_right;
   fault = record {
-    deals = record { came = refl; room = tt; went = refl; calls = refl; taken = refl; hands_back = record { outcomes = λ c. refl; lines = λ k. refl }; outcomes_wait = refl; lines_wait = refl; unfed = lit≤ tt };
+    deals = record { came = refl; room = tt; went = refl; calls = refl; taken = refl; hands_back = record { outcomes = λ c. refl; lines = λ k. refl }; outcomes_wait = refl; lines_wait = refl; unfed = lit≤ tt; reads_fed = λ _. refl; asks_bare = λ _. refl; one_got = lit≤ tt };
     acts_may = refl;
-    means = record { live = refl; gone = refl; by_fault = lit< tt; none_in_hand = refl };
+    means = record { live = refl; gone = refl; by_fault = lit< tt; none_taken = refl; before = []; told = outcome_of 2 LineLost ∷ []; acts_are = refl; none_in_hand = refl };
   };
 }
 
@@ -42,9 +46,9 @@ later_right = record {
   fitted = line_lost_right;
   fits = fails_again_right;
   fault = record {
-    deals = record { came = refl; room = tt; went = refl; calls = refl; taken = refl; hands_back = record { outcomes = λ c. refl; lines = λ k. refl }; outcomes_wait = refl; lines_wait = refl; unfed = lit≤ tt };
+    deals = record { came = refl; room = tt; went = refl; calls = refl; taken = refl; hands_back = record { outcomes = λ c. refl; lines = λ k. refl }; outcomes_wait = refl; lines_wait = refl; unfed = lit≤ tt; reads_fed = λ _. refl; asks_bare = λ _. refl; one_got = lit≤ tt };
     acts_may = refl;
-    means = record { gone = refl; no_acts = refl; line_stays = refl; none_taken = refl };
+    means = record { gone = refl; places = record { no_acts = refl; stays = refl } };
   };
 }
 
@@ -53,9 +57,9 @@ memory_right = record {
   fitted = zero_opened_right;
   fits = still_fits 41 _ (after [] opening_zero) request_aside_right;
   fault = record {
-    deals = record { came = refl; room = lit≤ tt; went = refl; calls = refl; taken = refl; hands_back = record { outcomes = λ c. refl; lines = λ k. refl }; outcomes_wait = refl; lines_wait = refl; unfed = lit≤ tt };
+    deals = record { came = refl; room = lit≤ tt; went = refl; calls = refl; taken = refl; hands_back = record { outcomes = λ c. refl; lines = λ k. refl }; outcomes_wait = refl; lines_wait = refl; unfed = lit≤ tt; reads_fed = λ _. refl; asks_bare = λ _. refl; one_got = lit≤ tt };
     acts_may = refl;
-    means = refl;
+    means = record { live = refl; behind = inl refl };
   };
 }
 
@@ -81,31 +85,49 @@ failed_too_soon_wrong : IsWrongFault failed_too_soon
 failed_too_soon_wrong t f = never f.means.gone
 
 calls_lost_line_wrong : IsWrongFault calls_lost_line
-calls_lost_line_wrong t f = numbers_differ 41 40 refl (ap (λ (l : LineView). l.calls) f.means.line_stays)
+calls_lost_line_wrong t f = numbers_differ 41 40 refl (ap (λ (v : SessionView). v.line.calls) f.means.places.stays)
 
 memory_for_loss_wrong : IsWrongFault memory_for_loss
-memory_for_loss_wrong t f = never_back f.means
+memory_for_loss_wrong t f = never_back f.means.live
 
 loss_untold_wrong : IsWrongFault loss_untold
 loss_untold_wrong t f = numbers_differ 1 0 refl (ap length f.means.none_in_hand)
 
+loss_and_request_wrong : IsWrongFault loss_and_request
+loss_and_request_wrong t f = numbers_differ 3 2 refl (ap length f.means.none_taken)
+
+not_empty : {a : Act} {acts : List Act} → a ∷ acts ≡ [] → ⊥
+not_empty e = cc
+
+empty_not : {a : Act} {acts : List Act} → [] ≡ a ∷ acts → ⊥
+empty_not e = cc
+
+sends_behind_loss_wrong : IsWrongFault sends_behind_loss
+sends_behind_loss_wrong t f = by_before f.means.before f.means.told f.means.acts_are
+  where
+    by_told : {a : Frame} {xs : List Act} → (os : List Outcome) → Sent a ∷ xs ≡ map Told os → ⊥
+    by_told [] e = not_empty e
+    by_told (o ∷ os) e = cc
+
+    by_before : (before : List Act) (os : List Outcome) → sends_behind_loss.acts ≡ before ++ Lost ∷ map Told os → ⊥
+    by_before [] os e = by_told os (ap (drop 1) e)
+    by_before (a ∷ []) os e = cc
+    by_before (a ∷ b ∷ []) os e = cc
+    by_before (a ∷ b ∷ c ∷ []) os e = empty_not (ap (drop 3) e)
+    by_before (a ∷ b ∷ c ∷ d ∷ more) os e = empty_not (ap (drop 3) e)
+
+feeds_when_lost_wrong : IsWrongFault feeds_when_lost
+feeds_when_lost_wrong t f = numbers_differ 0 1 refl (ap (λ (v : SessionView). length v.unfed) f.means.places.stays)
+
+goes_on_faulty_wrong : IsWrongFault goes_on_faulty
+goes_on_faulty_wrong t f = by_side f.means.behind
+  where
+    by_side : (goes_on_faulty.old.line.failures ≡ beginning.line.failures) ⊎ PlacesAlone goes_on_faulty.old goes_on_faulty.new goes_on_faulty.acts → ⊥
+    by_side (inl e) = numbers_differ 1 0 refl e
+    by_side (inr p) = not_empty p.no_acts
+
 pub all_wrong_faults : Each IsWrongFault wrong_faults
-all_wrong_faults = (
-  fails_unfailed_wrong,
-  (
-    lost_before_wrong,
-    (
-      failed_too_soon_wrong,
-      (
-        calls_lost_line_wrong,
-        (
-          memory_for_loss_wrong,
-          (loss_untold_wrong, tt),
-        ),
-      ),
-    ),
-  ),
-)
+all_wrong_faults = (fails_unfailed_wrong, (lost_before_wrong, (failed_too_soon_wrong, (calls_lost_line_wrong, (memory_for_loss_wrong, (loss_untold_wrong, (loss_and_request_wrong, (sends_behind_loss_wrong, (feeds_when_lost_wrong, (goes_on_faulty_wrong, tt))))))))))
 
 -- ## Ticks
 

@@ -29,7 +29,7 @@ still_fits n v past f = record {
   received = record { fed = f.received.fed; received_are = f.received.received_are; bound = f.received.bound; deframes = f.received.deframes };
   sent = record { since = f.sent.since; sent_are = f.sent.sent_are; frames_are = f.sent.frames_are; written = f.sent.written; of_last = f.sent.of_last };
   told = record { each = λ c. let g = f.told.each c in record { since = g.since; told_are = g.told_are; outcomes_are = g.outcomes_are }; callers = f.told.callers };
-  heard = record { each = λ i k at. let g = f.heard.each i k at in record { since = g.since; announced_are = g.announced_are; lines_are = g.lines_are }; listened = f.heard.listened };
+  heard = record { each = λ i k at. let g = f.heard.each i k at in record { since = g.since; announced_are = g.announced_are; lines_are = g.lines_are }; listened = f.heard.listened; in_order = f.heard.in_order; nowhere_else = f.heard.nowhere_else };
 }
 
 not_empty : {x : ℕ} {xs : List ℕ} → x ∷ xs ≢ []
@@ -50,7 +50,7 @@ unfolding check_octet_of body_of verdict_on by_header by_end
 writes_right = record {
   fitted = sabm_half_sent_right;
   fits = fits_none (record { view = writes_on.new; acts = left_zero }) lf_octet [] 6 refl refl refl (read_in lf_octet refl) (read_in [] refl) refl;
-  turn = turn_by writes_on.old writes_on.new (dealt (offers (drop 2 sabm_zero) 4) None) (after [] writes_on.before) writes_on.acts writes_on.says refl refl (lit≤ tt)
+  turn = turn_by writes_on.old writes_on.new (dealt (offers (drop 2 sabm_zero) 4) None) (after [] writes_on.before) writes_on.acts writes_on.says refl refl refl refl (lit≤ tt)
       (record { some = lit≤ tt; bound = lit≤ tt; first = record { rest = []; joins = refl } }) (nothing_back _ _) refl tt;
 }
 
@@ -58,7 +58,7 @@ takes_right : IsRightTurn takes_request (dealt None (Some first_request))
 takes_right = record {
   fitted = none_blank;
   fits = still_fits 41 _ (after [] asked_zero) sabm_queued_right;
-  turn = turn_by takes_request.old takes_request.new (dealt None (Some first_request)) (after [] takes_request.before) takes_request.acts takes_request.says refl refl (lit≤ tt)
+  turn = turn_by takes_request.old takes_request.new (dealt None (Some first_request)) (after [] takes_request.before) takes_request.acts takes_request.says refl refl refl refl (lit≤ tt)
       refl (nothing_back _ _) refl tt;
 }
 
@@ -66,7 +66,7 @@ gets_right : IsRightTurn gets_frame (dealt None None)
 gets_right = record {
   fitted = ua_at_hand_right;
   fits = still_fits 41 _ (after [] opening_zero) outcome_waits_right;
-  turn = turn_by gets_frame.old gets_frame.new (dealt None None) (after [] gets_frame.before) gets_frame.acts gets_frame.says refl refl (lit≤ tt)
+  turn = turn_by gets_frame.old gets_frame.new (dealt None None) (after [] gets_frame.before) gets_frame.acts gets_frame.says refl refl refl refl (lit≤ tt)
       refl (nothing_back _ _) refl tt;
 }
 
@@ -74,7 +74,7 @@ places_right : IsRightTurn places_outcome (dealt None None)
 places_right = record {
   fitted = outcome_waits_right;
   fits = still_fits 41 _ (after [] opening_zero) zero_opened_right;
-  turn = turn_by places_outcome.old places_outcome.new (dealt None None) (after [] places_outcome.before) places_outcome.acts places_outcome.says refl refl (lit≤ tt)
+  turn = turn_by places_outcome.old places_outcome.new (dealt None None) (after [] places_outcome.before) places_outcome.acts places_outcome.says refl refl refl refl (lit≤ tt)
       refl (nothing_back _ _) refl tt;
 }
 
@@ -82,8 +82,8 @@ full_right : IsRightTurn writes_nothing (dealt (offers (drop 2 sabm_zero) 0) Non
 full_right = record {
   fitted = sabm_half_sent_right;
   fits = still_fits 42 _ (after [] left_zero) sabm_half_sent_right;
-  turn = turn_by writes_nothing.old writes_nothing.new (dealt (offers (drop 2 sabm_zero) 0) None) (after [] writes_nothing.before) writes_nothing.acts writes_nothing.says refl refl (lit≤ tt)
-      (record { some = lit≤ tt; bound = lit≤ tt; first = record { rest = []; joins = refl } }) (nothing_back _ _) refl (record { waits = not_empty; offered = drop 2 sabm_zero; some = not_empty; took_none = refl; reads = λ e. record { room = 64; some = lit≤ tt; nothing = refl }; no_room = λ f e. absurd (none_at_hand e); no_request = inl refl });
+  turn = turn_by writes_nothing.old writes_nothing.new (dealt (offers (drop 2 sabm_zero) 0) None) (after [] writes_nothing.before) writes_nothing.acts writes_nothing.says refl refl refl refl (lit≤ tt)
+      (record { some = lit≤ tt; bound = lit≤ tt; first = record { rest = []; joins = refl } }) (nothing_back _ _) refl (record { waits = not_empty; offered = drop 2 sabm_zero; some = not_empty; took_none = refl; reads = λ e. record { room = 64; some = lit≤ tt; nothing = refl }; fed = λ _. refl; no_room = λ f e. absurd (none_at_hand e); no_request = inl refl });
 }
 
 gives_right : IsRightTurn gives_on_in_vain (dealt (offers sabm_zero 0) None)
@@ -91,8 +91,8 @@ unfolding check_octet_of body_of verdict_on by_header by_end
 gives_right = record {
   fitted = sabm_queued_right;
   fits = fits_none (record { view = gives_on_in_vain.new; acts = left_zero }) lf_octet [] 0 refl refl refl (read_in lf_octet refl) (read_in [] refl) refl;
-  turn = turn_by gives_on_in_vain.old gives_on_in_vain.new (dealt (offers sabm_zero 0) None) (after [] gives_on_in_vain.before) gives_on_in_vain.acts gives_on_in_vain.says refl refl (lit≤ tt)
-      (record { some = lit≤ tt; bound = lit≤ tt; first = record { rest = []; joins = refl } }) (nothing_back _ _) refl (record { waits = not_empty; offered = sabm_zero; some = not_empty; took_none = refl; reads = λ e. record { room = 64; some = lit≤ tt; nothing = refl }; no_room = λ f e. absurd (none_at_hand e); no_request = inl refl });
+  turn = turn_by gives_on_in_vain.old gives_on_in_vain.new (dealt (offers sabm_zero 0) None) (after [] gives_on_in_vain.before) gives_on_in_vain.acts gives_on_in_vain.says refl refl refl refl (lit≤ tt)
+      (record { some = lit≤ tt; bound = lit≤ tt; first = record { rest = []; joins = refl } }) (nothing_back _ _) refl (record { waits = not_empty; offered = sabm_zero; some = not_empty; took_none = refl; reads = λ e. record { room = 64; some = lit≤ tt; nothing = refl }; fed = λ _. refl; no_room = λ f e. absurd (none_at_hand e); no_request = inl refl });
 }
 
 one_waits_right : IsRight (record { view = one_waits; acts = other_told })
@@ -108,7 +108,7 @@ unfolding check_octet_of body_of verdict_on by_header by_end
 waits_zero_right = record {
   fitted = outcome_waits_right;
   fits = still_fits 41 _ (after [] opening_zero) outcome_waits_right;
-  turn = turn_by waits_for_zero.old waits_for_zero.new (outcome_back (outcome_of 1 Opened)) (after [] waits_for_zero.before) waits_for_zero.acts waits_for_zero.says refl refl (lit≤ tt)
+  turn = turn_by waits_for_zero.old waits_for_zero.new (outcome_back (outcome_of 1 Opened)) (after [] waits_for_zero.before) waits_for_zero.acts waits_for_zero.says refl refl refl refl (lit≤ tt)
       refl (record { outcomes = one_back (outcome_of 1 Opened); lines = λ k. refl }) refl (record {
         written = refl;
         outcome = outcome_of 1 Opened;
@@ -119,6 +119,7 @@ waits_zero_right = record {
           quiet = (good (driving beginning) waits_for_zero.before refl refl refl).quiet;
           sent = refl;
           nothing_came = record { room = 64; some = lit≤ tt; nothing = refl };
+          fed = refl;
           all_got = record { octets = zero_came; since = refl; rest = last_flag; reads = read_in zero_came refl };
           no_request = inl refl;
           held = none_held waits_for_zero.new (after [] waits_for_zero.before) refl refl;
@@ -131,7 +132,7 @@ unfolding check_octet_of body_of verdict_on by_header by_end
 waits_one_right = record {
   fitted = one_waits_right;
   fits = still_fits 41 _ (after [] other_told) one_waits_right;
-  turn = turn_by waits_for_one.old waits_for_one.new (outcome_back other_outcome) (after [] waits_for_one.before) waits_for_one.acts waits_for_one.says refl refl (lit≤ tt)
+  turn = turn_by waits_for_one.old waits_for_one.new (outcome_back other_outcome) (after [] waits_for_one.before) waits_for_one.acts waits_for_one.says refl refl refl refl (lit≤ tt)
       refl (record { outcomes = one_back other_outcome; lines = λ k. refl }) refl (record {
         written = refl;
         outcome = other_outcome;
@@ -142,6 +143,7 @@ waits_one_right = record {
           quiet = (good (driving beginning) waits_for_one.before refl refl refl).quiet;
           sent = refl;
           nothing_came = record { room = 64; some = lit≤ tt; nothing = refl };
+          fed = refl;
           all_got = record { octets = zero_came; since = refl; rest = last_flag; reads = read_in zero_came refl };
           no_request = inl refl;
           held = none_held waits_for_one.new (after [] waits_for_one.before) refl refl;
@@ -154,7 +156,7 @@ unfolding check_octet_of body_of verdict_on by_header by_end
 ring_waits_turn = record {
   fitted = ring_waits_right;
   fits = still_fits 41 _ (after [] ring_came) ring_waits_right;
-  turn = turn_by blocked_by_ring.old blocked_by_ring.new (lines_back (ring ∷ [])) (after [] blocked_by_ring.before) blocked_by_ring.acts blocked_by_ring.says refl refl (lit≤ tt)
+  turn = turn_by blocked_by_ring.old blocked_by_ring.new (lines_back (ring ∷ [])) (after [] blocked_by_ring.before) blocked_by_ring.acts blocked_by_ring.says refl refl refl refl (lit≤ tt)
       refl (record { outcomes = λ c. refl; lines = of_kinds (λ k. of_kind k (ring ∷ []) ≡ take 1 (of_kind k (ring ∷ []))) (record { ring = refl; cring = refl; creg = refl; cgreg = refl; cgev = refl; ciev = refl; other = refl }) }) refl (record {
         written = refl;
         placed = refl;
@@ -166,6 +168,7 @@ ring_waits_turn = record {
           quiet = (good (driving beginning) blocked_by_ring.before refl refl refl).quiet;
           sent = refl;
           nothing_came = record { room = 64; some = lit≤ tt; nothing = refl };
+          fed = refl;
           all_got = record { octets = (one_came ++ ring_one); since = refl; rest = last_flag; reads = read_in (one_came ++ ring_one) refl };
           no_request = inl refl;
           held = none_held blocked_by_ring.new (after [] blocked_by_ring.before) refl refl;
@@ -178,7 +181,7 @@ unfolding check_octet_of body_of verdict_on by_header by_end
 both_wait_right = record {
   fitted = two_lines_right;
   fits = still_fits 41 _ (after [] both_came) two_lines_right;
-  turn = turn_by blocked_by_the_first.old blocked_by_the_first.new (lines_back (creg ∷ ring ∷ [])) (after [] blocked_by_the_first.before) blocked_by_the_first.acts blocked_by_the_first.says refl refl (lit≤ tt)
+  turn = turn_by blocked_by_the_first.old blocked_by_the_first.new (lines_back (creg ∷ ring ∷ [])) (after [] blocked_by_the_first.before) blocked_by_the_first.acts blocked_by_the_first.says refl refl refl refl (lit≤ tt)
       refl (record { outcomes = λ c. refl; lines = of_kinds (λ k. of_kind k (creg ∷ ring ∷ []) ≡ take 1 (of_kind k (creg ∷ ring ∷ []))) (record { ring = refl; cring = refl; creg = refl; cgreg = refl; cgev = refl; ciev = refl; other = refl }) }) refl (record {
         written = refl;
         placed = refl;
@@ -190,6 +193,7 @@ both_wait_right = record {
           quiet = (good (driving beginning) blocked_by_the_first.before refl refl refl).quiet;
           sent = refl;
           nothing_came = record { room = 64; some = lit≤ tt; nothing = refl };
+          fed = refl;
           all_got = record { octets = (one_came ++ creg_one 0x31 ++ ring_one); since = refl; rest = last_flag; reads = read_in (one_came ++ creg_one 0x31 ++ ring_one) refl };
           no_request = inl refl;
           held = none_held blocked_by_the_first.new (after [] blocked_by_the_first.before) refl refl;
@@ -202,7 +206,7 @@ unfolding check_octet_of body_of verdict_on by_header by_end
 idles_right = record {
   fitted = none_blank;
   fits = still_fits 41 _ (after [] []) none_blank;
-  turn = turn_by idle_at_first.old idle_at_first.new (dealt None None) (after [] idle_at_first.before) idle_at_first.acts idle_at_first.says refl refl (lit≤ tt)
+  turn = turn_by idle_at_first.old idle_at_first.new (dealt None None) (after [] idle_at_first.before) idle_at_first.acts idle_at_first.says refl refl refl refl (lit≤ tt)
       refl (nothing_back _ _) refl (record {
         written = refl;
         placed = refl;
@@ -212,6 +216,7 @@ idles_right = record {
           quiet = (good (driving beginning) idle_at_first.before refl refl refl).quiet;
           sent = refl;
           nothing_came = record { room = 64; some = lit≤ tt; nothing = refl };
+          fed = refl;
           all_got = record { octets = lf_octet; since = refl; rest = []; reads = read_in lf_octet refl };
           no_request = inl refl;
           held = none_held idle_at_first.new (after [] idle_at_first.before) refl refl;
@@ -224,7 +229,7 @@ unfolding check_octet_of body_of verdict_on by_header by_end
 idles_on_right = record {
   fitted = csq_sent_right;
   fits = still_fits 41 _ (after [] asked_csq) csq_sent_right;
-  turn = turn_by idle_under_way.old idle_under_way.new (dealt None None) (after [] idle_under_way.before) idle_under_way.acts idle_under_way.says refl refl (lit≤ tt)
+  turn = turn_by idle_under_way.old idle_under_way.new (dealt None None) (after [] idle_under_way.before) idle_under_way.acts idle_under_way.says refl refl refl refl (lit≤ tt)
       refl (nothing_back _ _) refl (record {
         written = refl;
         placed = refl;
@@ -234,6 +239,7 @@ idles_on_right = record {
           quiet = (good (driving beginning) idle_under_way.before refl refl refl).quiet;
           sent = refl;
           nothing_came = record { room = 64; some = lit≤ tt; nothing = refl };
+          fed = refl;
           all_got = record { octets = one_came; since = refl; rest = last_flag; reads = read_in one_came refl };
           no_request = inl refl;
           held = none_held idle_under_way.new (after [] idle_under_way.before) refl refl;

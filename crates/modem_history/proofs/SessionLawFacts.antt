@@ -123,7 +123,7 @@ begins_fitting b = record {
   received = record { fed = []; received_are = sym (append-nil (b.line.received ++ []) ∙ append-nil b.line.received); bound = refl; deframes = past_none b.n1 };
   sent = record { since = []; sent_are = sym (append-nil b.line.sent); frames_are = refl; written = 0; of_last = refl };
   told = record { each = λ c. record { since = []; told_are = sym (append-nil (at_place c b.desk.told)); outcomes_are = refl }; callers = refl };
-  heard = record { each = λ i k at. record { since = []; announced_are = sym (append-nil (at_place i b.desk.announced)); lines_are = refl }; listened = refl };
+  heard = record { each = λ i k at. record { since = []; announced_are = sym (append-nil (at_place i b.desk.announced)); lines_are = refl }; listened = refl; in_order = refl; nowhere_else = λ i far. refl };
 }
 
 -- ## Requests

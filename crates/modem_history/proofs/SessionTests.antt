@@ -29,7 +29,7 @@ use Rattle.modem_history.specs.Wholes.{CompleteCalls, is_said, taken, outcomes}
 use Rattle.modem_history.specs.Requests.{are_distinct}
 use Rattle.modem_history.specs.Kinds.{is_listened, of_kind}
 use Rattle.modem_history.specs.Entering.{entry_text}
-use Rattle.modem_history.specs.Sessions.{Beginning, AnnouncedTo, driving, gots, given_on, octets_of_frames, last_octets, heards, heard_as, IsHistory, TakesWithRoom, of_caller, at_place}
+use Rattle.modem_history.specs.Sessions.{Beginning, AnnouncedTo, driving, gots, given_on, octets_of_frames, last_octets, heards, heard_as, heard_behind, announced_of, IsHistory, TakesWithRoom, of_caller, at_place}
 use Rattle.modem_history.specs.SessionRows.{SessionRow, IsRight, beginning, entry_answer}
 use Rattle.modem_history.proofs.Decided.{good, steps_of, steps_test, run, quiet_test, is_nil, act_code}
 
@@ -230,6 +230,10 @@ at_each P [] h i m e = cc
 at_each P (k ∷ ks) h zero m e = some_is k m (P zero) e h.0
 at_each P (k ∷ ks) h (suc i) m e = at_each (λ j. P (suc j)) ks h.1 i m e
 
+-- beyond two listeners nothing was announced
+nothing_announced : (xss : List (List Urc)) (i : ℕ) → length xss ≤ 2 → 2 ≤ i → at_place i xss ≡ at_place i beginning.desk.announced
+nothing_announced xss i few far = get_or_past xss i [] (omega arith) ∙ sym (get_or_past beginning.desk.announced i [] far)
+
 -- ## Sessions
 
 -- all tests of a session and a history
@@ -245,9 +249,10 @@ row_test row =
     && (list_all (λ (q : Request). nat_lt q.caller 2) v.desk.taken
     && (nat_le (length (in_hand past) + length (option_to_list v.aside) + length v.unplaced) 128
     && (list_all (λ (u : Urc). is_listened beginning.kinds u.kind) v.unannounced
+    && (nat_le (length v.desk.announced) 2
     && (nat_le (length v.desk.told) 2
     && (list_all (λ (o : Outcome). nat_lt o.caller 2) v.unplaced
-    && list_all (λ (o : Outcome). nat_lt o.caller 2) (outcomes past))))))))))
+    && list_all (λ (o : Outcome). nat_lt o.caller 2) (outcomes past)))))))))))
 
 -- what two sides have of a session
 pub record Sides : Type 0 where
@@ -262,6 +267,7 @@ pub record Sides : Type 0 where
   pub told_one : List Outcome
   pub rings : List Act
   pub cregs : List Act
+  pub lines : List Act
 
 -- what is seen of it
 abbrev pub seen_side : SessionRow → Sides
@@ -279,6 +285,7 @@ seen_side row =
       told_one = at_place 1 v.desk.told ++ of_caller 1 v.unplaced;
       rings = map heard_as (at_place 0 v.desk.announced ++ of_kind Ring v.unannounced);
       cregs = map heard_as (at_place 1 v.desk.announced ++ of_kind Creg v.unannounced);
+      lines = map heard_as v.unannounced;
     }
 
 -- and what the history says
@@ -297,6 +304,7 @@ told_side row fed written =
       told_one = of_caller 1 (outcomes past);
       rings = heards Ring past;
       cregs = heards Creg past;
+      lines = heard_behind (announced_of row.view past) past;
     }
 
 lost_by : (lost : Bool) (failures : ℕ) → (not lost || nat_lt 0 failures) ≡ true → lost ≡ true → 0 < failures
@@ -316,6 +324,7 @@ fits_by row fed written h e deframes =
     let p8 = and_parts _ _ p7.1 in
     let p9 = and_parts _ _ p8.1 in
     let p10 = and_parts _ _ p9.1 in
+    let p11 = and_parts _ _ p10.1 in
     let lost = and_parts _ _ p4.0 in
     record {
       history = history_is beginning row.acts p1.0 (sym (ap (λ (x : Sides). x.acts) e)) p2.0 p3.0;
@@ -336,12 +345,12 @@ fits_by row fed written h e deframes =
           outcomes_are = told_is row.view.desk.told row.view.unplaced (outcomes (after [] row.acts)) (record {
             zero = ap (λ (x : Sides). x.told_zero) e;
             one = ap (λ (x : Sides). x.told_one) e;
-            told_two = p9.0;
-            waiting_two = p10.0;
-            said_two = p10.1;
+            told_two = p10.0;
+            waiting_two = p11.0;
+            said_two = p11.1;
           }) c;
         };
-        callers = p10.0;
+        callers = p11.0;
       };
       heard = record {
         each = at_each (AnnouncedTo beginning row.view (after [] row.acts)) (Ring ∷ Creg ∷ []) (
@@ -349,6 +358,8 @@ fits_by row fed written h e deframes =
           (record { since = at_place 1 row.view.desk.announced; announced_are = refl; lines_are = ap (λ (x : Sides). x.cregs) e }, tt),
         );
         listened = p8.0;
+        in_order = ap (λ (x : Sides). x.lines) e;
+        nowhere_else = λ i far. nothing_announced row.view.desk.announced i (leb-true _ 2 p9.0) far;
       };
     }
 

@@ -11,7 +11,7 @@ use Rattle.modem_desk.specs.declared.request.Outcome.{Outcome}
 use Rattle.modem_desk.specs.declared.request.Urc.{Urc}
 use Rattle.modem_history.specs.Acts.{Act, after}
 use Rattle.modem_history.specs.Holding.{is_held}
-use Rattle.modem_history.specs.Sessions.{SessionView, heard_as, of_caller, backlog}
+use Rattle.modem_history.specs.Sessions.{SessionView, gots, heard_as, of_caller, backlog}
 use Rattle.modem_history.specs.SessionRows.{beginning}
 use Rattle.modem_history.specs.Turns.{Dealings, Offers, HandsBack, TurnAnswer, HoldsByBacklog, octets_read, octets_written, request_given, calls_made, counted, outcomes_told, lines_heard, HasRoom, may_act, has_moved, says_moved, Means, IsTurn}
 use Rattle.modem_history.proofs.Decided.{all_below}
@@ -123,10 +123,11 @@ dealt_side old t acts says = record {
 }
 
 pub turn_by : (old new : SessionView) (t : Dealings) (past acts : List Act) (says : TurnAnswer) → after_side old new acts ≡ dealt_side old t acts says
-    → (list_all (may_act t.still_heard) acts && nat_le (length new.unfed) (length old.unfed + length (octets_read t.read))) ≡ true
-    → HasRoom t.read → Offers t.write new.unwritten → HandsBack t → new.aside ≡ None → Means beginning new t (after past acts) says → IsTurn beginning old new t past acts says
-turn_by old new t past acts says e h room offers back aside means =
-    let parts = and_parts (list_all (may_act t.still_heard) acts) (nat_le (length new.unfed) (length old.unfed + length (octets_read t.read))) h in
+    → (list_all (may_act t.still_heard) acts && (nat_le (length new.unfed) (length old.unfed + length (octets_read t.read)) && nat_le (length (gots acts)) 1)) ≡ true
+    → old.unfed ≡ [] → old.aside ≡ None → HasRoom t.read → Offers t.write new.unwritten → HandsBack t → new.aside ≡ None → Means beginning new t (after past acts) says → IsTurn beginning old new t past acts says
+turn_by old new t past acts says e h unfed bare room offers back aside means =
+    let parts = and_parts _ _ h in
+    let few = and_parts _ _ parts.1 in
     record {
       deals = record {
         came = ap (λ (x : TurnSides). x.received) e;
@@ -137,7 +138,10 @@ turn_by old new t past acts says e h room offers back aside means =
         hands_back = back;
         outcomes_wait = ap (λ (x : TurnSides). x.outcomes) e;
         lines_wait = ap (λ (x : TurnSides). x.lines) e;
-        unfed = leb-true _ _ parts.1;
+        unfed = leb-true _ _ few.0;
+        reads_fed = λ _. unfed;
+        asks_bare = λ _. bare;
+        one_got = leb-true _ 1 few.1;
       };
       offers = offers;
       sound = ap (λ (x : TurnSides). x.failures) e;

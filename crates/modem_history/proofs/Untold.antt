@@ -50,7 +50,7 @@ not_its r o (q ∷ qs) h k =
     by_test true e a m go = apart_differ q r o (is_for r o) refl a e
     by_test false e a m go = go m
 
-no_outcome : (r : Request) (qs : List Request) (os : List Outcome) → all_apart r qs ≡ true → list_all (λ o. list_any (λ q. is_for q o) qs) os ≡ true → list_any (λ o. is_for r o) os ≡ false
+pub no_outcome : (r : Request) (qs : List Request) (os : List Outcome) → all_apart r qs ≡ true → list_all (λ o. list_any (λ q. is_for q o) qs) os ≡ true → list_any (λ o. is_for r o) os ≡ false
 no_outcome r qs [] h k = refl
 no_outcome r qs (o ∷ os) h k =
     let parts = and_parts (list_any (λ q. is_for q o) qs) (list_all (λ o. list_any (λ q. is_for q o) qs) os) k in

@@ -9,8 +9,8 @@ use Rattle.modem_history.specs.Entering.{entry_text}
 use Rattle.modem_desk.specs.declared.request.Request.{Request}
 use Rattle.modem_history.specs.Rows.{zero, one, two, takes, tells, sends, comes, cr, framed, opening_zero, opening_one}
 use Rattle.modem_history.specs.SessionRows.{SessionRow, entry_answer, settled, zero_came, one_came, one_left, lf_octet, sabm_zero, ua_zero, broken_ua_zero, sabm_one, sabm_two, test_command, test_response, csq_one, ring_one, creg_one, first_request, second_request, third_request, fourth_request, opened_zero, opened_both, outcome_of, ring, line_on_one, last_flag}
-use Rattle.modem_history.specs.GoodSessions.{asked_zero, left_zero, ring_came}
-use Rattle.modem_history.specs.GoodTurns.{other_request, other_outcome, other_told}
+use Rattle.modem_history.specs.GoodSessions.{asked_zero, left_zero, ring_came, ring_announced}
+use Rattle.modem_history.specs.GoodTurns.{other_request, other_outcome, other_told, both_came, two_lines_wait, creg}
 
 -- ## Octets that leave
 
@@ -260,10 +260,21 @@ unheard_line_waits = record {
   acts = opening_one;
 }
 
+-- RING waits before the +CREG that was heard before it
+abbrev pub lines_change_places : SessionRow
+lines_change_places = record { view = record two_lines_wait { unannounced = ring ∷ creg ∷ [] }; acts = both_came }
+
+-- RING was announced where there is no listener too
+abbrev pub announced_beyond : SessionRow
+announced_beyond = record {
+  view = record ring_announced.view { desk = record ring_announced.view.desk { announced = (ring ∷ []) ∷ [] ∷ (ring ∷ []) ∷ [] } };
+  acts = ring_came;
+}
+
 abbrev pub wrong_sessions : List SessionRow
 wrong_sessions =
     written_twice ∷ octet_left_out ∷ octet_waits_again ∷ marked_too_early ∷ marked_too_late ∷ two_marked ∷
     data_overtakes_octets ∷ data_overtakes_frame ∷ octets_of_none ∷ broken_frame_got ∷ got_too_soon ∷ got_unfed ∷ frame_dropped ∷
     flag_dropped ∷ other_n1 ∷ request_dropped ∷ aside_and_taken ∷ request_invented ∷ number_twice ∷ caller_unknown ∷ sound_line_lost ∷ lost_twice ∷ told_and_kept ∷
     outcome_dropped ∷ told_to_another ∷ told_by_number ∷ told_in_other_order ∷ not_told_at_all ∷ announced_out_of_order ∷
-    announced_elsewhere ∷ announced_twice ∷ line_dropped ∷ unheard_line_waits ∷ []
+    announced_elsewhere ∷ announced_twice ∷ line_dropped ∷ unheard_line_waits ∷ lines_change_places ∷ announced_beyond ∷ []

@@ -1,6 +1,6 @@
 -- Turns that don't mean what they say, whatever they dealt with their line and their desk.
 use Rattle.std.specs.Prelude.{List, [], ◌∷◌, ◌++◌, take, drop, codes, replicate}
-use Rattle.mux_frame.specs.declared.frame.Kind.TheVariants.{Ua, Uih}
+use Rattle.mux_frame.specs.declared.frame.Kind.TheVariants.{Sabm, Ua, Uih}
 use Rattle.at_text.specs.declared.unsolicited.UrcKind.TheVariants.{Ring}
 use Rattle.modem_desk.specs.declared.request.Ask.TheVariants.{OpenChannel, Command}
 use Rattle.modem_desk.specs.declared.request.Answer.TheVariants.{Opened, NotOpen}
@@ -8,7 +8,7 @@ use Rattle.modem_history.specs.Acts.{Act, Tick, Lost, Held, Given}
 use Rattle.modem_history.specs.Sessions.{SessionView}
 use Rattle.modem_history.specs.Turns.{TurnAnswer, Moved, WriterFull, Waiting, Blocked, Idle}
 use Rattle.modem_history.specs.Rows.{one, takes, tells, sends, comes, msc, opening_zero, opening_one}
-use Rattle.modem_history.specs.SessionRows.{TurnRow, settled, lf_octet, one_came, one_left, sabm_zero, first_request, second_request, third_request, opened_zero, opened_both, outcome_of, ring, last_flag}
+use Rattle.modem_history.specs.SessionRows.{TurnRow, settled, lf_octet, zero_came, one_came, one_left, sabm_zero, ua_zero, ua_one, first_request, second_request, third_request, opened_zero, opened_both, outcome_of, ring, last_flag}
 use Rattle.modem_history.specs.GoodSessions.{left_zero, asked_zero, ring_came, sabm_queued, sabm_half_sent, ua_unfed, ua_at_hand, zero_opened, outcome_waits, request_aside, ring_waits}
 use Rattle.modem_history.specs.GoodTurns.{at_calls, other_outcome, other_told, one_waits, two_lines_wait, both_came}
 
@@ -25,6 +25,13 @@ idle_with_frame = nothing_but ua_at_hand.view left_zero Idle
 -- octets of a frame are not fed yet
 abbrev pub idle_with_unfed : TurnRow
 idle_with_unfed = nothing_but ua_unfed.view left_zero Idle
+
+-- the first octets of a frame were read and never given to the deframer
+abbrev pub half_unfed : SessionView
+half_unfed = record (settled (lf_octet ++ take 3 ua_zero) sabm_zero (first_request ∷ []) [] [] [] []) { unfed = take 3 ua_zero }
+
+abbrev pub idle_half_unfed : TurnRow
+idle_half_unfed = nothing_but half_unfed left_zero Idle
 
 -- octets wait for the line
 abbrev pub idle_with_unsent : TurnRow
@@ -132,6 +139,10 @@ full_with_frame = record {
   acts = [];
   says = WriterFull;
 }
+
+-- octets wait unfed, and no frame is at hand
+abbrev pub full_with_unfed : TurnRow
+full_with_unfed = nothing_but (record ua_unfed.view { unwritten = last_flag }) left_zero WriterFull
 
 -- ## Waiting
 
@@ -245,6 +256,39 @@ read_twice = record {
   says = Moved;
 }
 
+-- the line was read while octets wait that came before
+abbrev pub read_while_unfed : TurnRow
+read_while_unfed = record {
+  old = ua_unfed.view;
+  new = at_calls 41 (record (settled (zero_came ++ ua_one) sabm_zero (first_request ∷ []) [] [] [] []) { unfed = ua_zero ++ ua_one });
+  before = left_zero;
+  acts = [];
+  says = Moved;
+}
+
+-- a frame is handled, and the next one too
+abbrev pub two_frames : TurnRow
+two_frames = record {
+  old = ua_at_hand.view;
+  new = at_calls 41 (record zero_opened.view { unplaced = opened_zero });
+  before = left_zero;
+  acts = comes Ua 0 [] ∷ tells 1 Opened ∷ comes Uih 0 (msc 1 0x8d) ∷ [];
+  says = Moved;
+}
+
+-- the request kept aside is taken, and another one
+abbrev pub aside_and_another : TurnRow
+aside_and_another = record {
+  old = request_aside.view;
+  new = at_calls 41 (record zero_opened.view {
+    desk = record zero_opened.view.desk { taken = first_request ∷ second_request ∷ third_request ∷ [] };
+    unplaced = outcome_of 3 NotOpen ∷ [];
+  });
+  before = opening_zero;
+  acts = takes 2 (OpenChannel one) ∷ sends Sabm 1 [] ∷ takes 3 (Command one (codes "AT+CSQ")) ∷ tells 3 NotOpen ∷ [];
+  says = Moved;
+}
+
 -- two requests are taken from the desk
 abbrev pub two_requests : TurnRow
 two_requests = record {
@@ -287,9 +331,11 @@ moved_with_aside = record {
 
 abbrev pub wrong_turns : List TurnRow
 wrong_turns =
-    idle_with_frame ∷ idle_with_unfed ∷ idle_with_unsent ∷ idle_with_queued ∷ idle_with_aside ∷ idle_with_outcome ∷
-    idle_with_line ∷ idle_with_command ∷ idle_after_read ∷ idle_without_read ∷ moved_by_nothing ∷ moved_by_a_mark ∷
-    unfed_grows ∷ full_unoffered ∷ full_but_taken ∷ full_of_nothing ∷ full_without_read ∷ full_with_frame ∷ waiting_but_told ∷ waiting_for_another ∷
-    waiting_for_the_greater ∷ waiting_with_unsent ∷ waiting_with_frame ∷ waiting_without_read ∷ blocked_by_none ∷ blocked_by_a_later ∷ blocked_with_command ∷ blocked_and_not_held ∷
-    blocked_and_still_held ∷ tick_in_a_turn ∷ loss_in_a_turn ∷ failed_and_moved ∷ three_calls ∷ read_twice ∷ two_requests ∷
+    idle_with_frame ∷ idle_with_unfed ∷ idle_half_unfed ∷ idle_with_unsent ∷ idle_with_queued ∷ idle_with_aside ∷
+    idle_with_outcome ∷ idle_with_line ∷ idle_with_command ∷ idle_after_read ∷ idle_without_read ∷ moved_by_nothing ∷
+    moved_by_a_mark ∷ unfed_grows ∷ full_unoffered ∷ full_but_taken ∷ full_of_nothing ∷ full_without_read ∷
+    full_with_frame ∷ full_with_unfed ∷ waiting_but_told ∷ waiting_for_another ∷ waiting_for_the_greater ∷
+    waiting_with_unsent ∷ waiting_with_frame ∷ waiting_without_read ∷ blocked_by_none ∷ blocked_by_a_later ∷
+    blocked_with_command ∷ blocked_and_not_held ∷ blocked_and_still_held ∷ tick_in_a_turn ∷ loss_in_a_turn ∷
+    failed_and_moved ∷ three_calls ∷ read_twice ∷ read_while_unfed ∷ two_frames ∷ aside_and_another ∷ two_requests ∷
     told_at_once ∷ held_too_early ∷ moved_with_aside ∷ []

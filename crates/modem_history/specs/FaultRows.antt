@@ -1,14 +1,14 @@
 -- Faults of turns, and ticks, right and wrong.
 use Rattle.std.specs.Prelude.{List, [], ◌∷◌, ◌++◌, Some, None, take, drop, codes}
 use Rattle.mux_frame.specs.declared.frame.Kind.TheVariants.{Sabm, Uih}
-use Rattle.modem_desk.specs.declared.request.Ask.TheVariants.{OpenChannel}
+use Rattle.modem_desk.specs.declared.request.Ask.TheVariants.{OpenChannel, Command}
 use Rattle.modem_desk.specs.declared.request.Answer.TheVariants.{LineLost}
 use Rattle.modem_history.specs.Acts.{Act, Tick, Lost, Given, after}
 use Rattle.modem_history.specs.Sessions.{SessionView, SessionFits}
 use Rattle.modem_history.specs.Turns.{Dealings, TurnFault, NoMemory, LineFailed, Failed, IsFault, IsTick}
 use Rattle.modem_history.specs.Rows.{one, cr, takes, tells, sends, opening_zero}
-use Rattle.modem_history.specs.SessionRows.{beginning, settled, zero_came, sabm_zero, sabm_one, first_request, second_request, opened_zero, outcome_of, last_flag}
-use Rattle.modem_history.specs.GoodSessions.{csq_sent, asked_csq, zero_opened, outcome_waits, request_aside, line_lost, loss_told}
+use Rattle.modem_history.specs.SessionRows.{beginning, settled, lf_octet, zero_came, sabm_zero, sabm_one, first_request, second_request, third_request, opened_zero, outcome_of, last_flag}
+use Rattle.modem_history.specs.GoodSessions.{asked_zero, sabm_queued, csq_sent, asked_csq, zero_opened, outcome_waits, request_aside, line_lost, loss_told}
 use Rattle.modem_history.specs.GoodTurns.{at_calls, dealt, offers}
 
 -- a session before and after a turn, what happened before it and in it, and its fault
@@ -65,6 +65,10 @@ pub record AreRightFaults : Type 0 where
 
 -- ## Wrong faults
 
+-- nothing has happened yet
+abbrev pub blank : SessionView
+blank = settled lf_octet [] [] [] [] [] []
+
 -- no call has failed
 abbrev pub fails_unfailed : FaultRow
 fails_unfailed = record { old = zero_opened.view; new = at_calls 41 zero_opened.view; before = opening_zero; acts = Lost ∷ []; says = LineFailed }
@@ -89,8 +93,41 @@ memory_for_loss = record fails { says = NoMemory }
 abbrev pub loss_untold : FaultRow
 loss_untold = record { old = one_half_sent; new = at_calls 41 line_lost.view; before = asked_one; acts = Lost ∷ []; says = LineFailed }
 
+-- the write fails, and a request is taken all the same
+abbrev pub loss_and_request : FaultRow
+loss_and_request = record {
+  old = one_half_sent;
+  new = at_calls 42 (record line_lost.view {
+    desk = record line_lost.view.desk { taken = first_request ∷ second_request ∷ third_request ∷ [] };
+    unplaced = outcome_of 2 LineLost ∷ outcome_of 3 LineLost ∷ [];
+  });
+  before = asked_one;
+  acts = Lost ∷ tells 2 LineLost ∷ takes 3 (Command one (codes "AT+CSQ")) ∷ tells 3 LineLost ∷ [];
+  says = LineFailed;
+}
+
+-- a frame is sent behind the loss
+abbrev pub sends_behind_loss : FaultRow
+sends_behind_loss = record fails { acts = Lost ∷ sends Uih 1 (codes "AT" ++ cr) ∷ tells 2 LineLost ∷ [] }
+
+-- the line was lost, and octets that came before are fed
+abbrev pub feeds_when_lost : FaultRow
+feeds_when_lost = record { old = record line_lost.view { unfed = last_flag }; new = line_lost.view; before = loss_told; acts = []; says = Failed }
+
+-- a call failed before, and a request is taken
+abbrev pub goes_on_faulty : FaultRow
+goes_on_faulty = record {
+  old = record blank { line = record blank.line { failures = 1 } };
+  new = record sabm_queued.view { line = record sabm_queued.view.line { failures = 1 } };
+  before = [];
+  acts = asked_zero;
+  says = NoMemory;
+}
+
 abbrev pub wrong_faults : List FaultRow
-wrong_faults = fails_unfailed ∷ lost_before ∷ failed_too_soon ∷ calls_lost_line ∷ memory_for_loss ∷ loss_untold ∷ []
+wrong_faults =
+    fails_unfailed ∷ lost_before ∷ failed_too_soon ∷ calls_lost_line ∷ memory_for_loss ∷ loss_untold ∷ loss_and_request ∷
+    sends_behind_loss ∷ feeds_when_lost ∷ goes_on_faulty ∷ []
 
 -- ## Ticks
 

@@ -1,6 +1,6 @@
 -- What a session fits: of what its line and its desk's end did since it began, and of what it still has, one history
 -- tells all.
-use Rattle.std.specs.Prelude.{◌≡◌, ℕ, ◌+◌, ◌<◌, ◌≤◌, ◌==◌, true, List, [], ◌∷◌, ◌++◌, length, take, drop, map, filter, flat_map, Option, option_to_list, slice_index_or, if◌then◌else◌, nat_lt}
+use Rattle.std.specs.Prelude.{◌≡◌, ℕ, ◌+◌, ◌-◌, ◌<◌, ◌≤◌, ◌==◌, true, List, [], ◌∷◌, ◌++◌, length, take, drop, map, filter, flat_map, Option, option_to_list, slice_index_or, if◌then◌else◌, nat_lt, nat_le}
 use Rattle.std.specs.List.{list_all}
 use mathlib.Core.Option.{some}
 use lib.ListN.{get_elem?}
@@ -100,6 +100,13 @@ heards k [] = []
 heards k (Heard m d line ∷ past) = if is_same_kind k m then heards k past ++ Heard m d line ∷ [] else heards k past
 heards k (_ ∷ past) = heards k past
 
+-- the lines that were heard, in order, of each kind all but the first so many
+abbrev pub heard_behind : (UrcKind → ℕ) → List Act → List Act
+heard_behind n [] = []
+heard_behind n (Heard k d line ∷ past) =
+    if nat_le (n k) (length (heards k past)) then heard_behind n past ++ Heard k d line ∷ [] else heard_behind n past
+heard_behind n (_ ∷ past) = heard_behind n past
+
 abbrev pub heard_as : Urc → Act
 heard_as u = Heard u.kind u.dlci.number u.line
 
@@ -182,10 +189,17 @@ pub record AnnouncedTo (b : Beginning) (v : SessionView) (past : List Act) (i : 
   pub announced_are : at_place i v.desk.announced ≡ at_place i b.desk.announced ++ since
   pub lines_are : map heard_as (since ++ of_kind k v.unannounced) ≡ heards k past
 
--- that is so of each listener, and no line waits that nobody listens to
+-- how many of this kind were announced: of those heard all but those that wait
+abbrev pub announced_of : SessionView → List Act → UrcKind → ℕ
+announced_of v past k = length (heards k past) - length (of_kind k v.unannounced)
+
+-- That is so of each listener, and no line waits that nobody listens to. Those that wait are, in the order in which they
+-- were heard, all but the first of each kind, as many as were announced. Where there is no listener nothing is announced.
 pub record FitsHeard (b : Beginning) (v : SessionView) (past : List Act) : Type 0 where
   pub each : (i : ℕ) (k : UrcKind) → get_elem? b.kinds i ≡ some k → AnnouncedTo b v past i k
   pub listened : list_all (λ (u : Urc). is_listened b.kinds u.kind) v.unannounced ≡ true
+  pub in_order : map heard_as v.unannounced ≡ heard_behind (announced_of v past) past
+  pub nowhere_else : (i : ℕ) → length b.kinds ≤ i → at_place i v.desk.announced ≡ at_place i b.desk.announced
 
 -- the session fits the history
 pub record SessionFits (b : Beginning) (v : SessionView) (past : List Act) : Type 0 where

@@ -97,7 +97,8 @@ pub record HandsBack (t : Dealings) : Type 0 where
   pub outcomes : (c : ℕ) → of_caller c t.told_back ≡ take 1 (of_caller c t.still_told)
   pub lines : (k : UrcKind) → of_kind k t.heard_back ≡ take 1 (of_kind k t.still_heard)
 
--- so the turn dealt with its line and its desk
+-- so the turn dealt with its line and its desk: it read only where all octets that had come were fed, and asked the desk
+-- for a request only where none was kept aside; it handled one frame at most
 pub record Deals (old new : SessionView) (t : Dealings) (acts : List Act) : Type 0 where
   pub came : new.line.received ≡ old.line.received ++ octets_read t.read
   pub room : HasRoom t.read
@@ -108,6 +109,9 @@ pub record Deals (old new : SessionView) (t : Dealings) (acts : List Act) : Type
   pub outcomes_wait : new.unplaced ≡ t.still_told ++ outcomes_told acts
   pub lines_wait : map heard_as new.unannounced ≡ map heard_as t.still_heard ++ lines_heard acts
   pub unfed : length new.unfed ≤ length old.unfed + length (octets_read t.read)
+  pub reads_fed : t.read ≢ None → old.unfed ≡ []
+  pub asks_bare : t.next ≢ None → old.aside ≡ None
+  pub one_got : length (gots acts) ≤ 1
 
 -- ## Its acts
 
@@ -177,25 +181,27 @@ abbrev pub has_room_for : Beginning → List Act → Frame → Bool
 has_room_for b past f = have_room b.n1 (octets_of (queue (wire past))) (by_frame Initiator (λ d. state_of Initiator d (wire past)) f)
 
 -- Nothing is left to do but to place outcomes and lines: the history is quiet; the octets sent are all of the frames
--- sent; nothing came, and all that came was got; no request waits at the desk, or those in hand and the outcomes that
--- wait are 128; each connection is held by its backlog.
+-- sent; nothing came, all that came was fed, and of it all was got; no request waits at the desk, or those in hand and
+-- the outcomes that wait are 128; each connection is held by its backlog.
 pub record IsAtRest (b : Beginning) (v : SessionView) (t : Dealings) (past : List Act) : Type 0 where
   pub quiet : Quiet (driving b) past
   pub sent : v.line.sent ≡ b.line.sent ++ octets_of_frames (sents past)
   pub nothing_came : ReadsNothing t
+  pub fed : v.unfed ≡ []
   pub all_got : AllAreGot b v past
   pub no_request : (t.next ≡ Some None) ⊎ (length (in_hand past) + length v.unplaced ≡ 128)
   pub held : HoldsByBacklog v past
 
--- octets wait, the line was offered some of them in this turn and took none; and meanwhile nothing came, or octets that
--- came before wait; a frame at hand finds no room for what it calls for; no request waits at the desk, or those in hand
--- and the outcomes that wait are 128
+-- Octets wait, the line was offered some of them in this turn and took none; and meanwhile nothing came, or octets that
+-- came before wait, since a frame is at hand; one at hand finds no room for what it calls for; no request waits at the
+-- desk, or those in hand and the outcomes that wait are 128.
 pub record IsWriterFull (b : Beginning) (v : SessionView) (t : Dealings) (past : List Act) : Type 0 where
   pub waits : v.unwritten ≢ []
   pub offered : List ℕ
   pub some : offered ≢ []
   pub took_none : t.write ≡ Some (record { offered = offered; count = 0 })
   pub reads : v.unfed ≡ [] → ReadsNothing t
+  pub fed : v.deframer.next ≡ None → v.unfed ≡ []
   pub no_room : (f : Frame) → v.deframer.next ≡ Some f → has_room_for b past f ≡ false
   pub no_request : (t.next ≡ Some None) ⊎ (length (in_hand past) + length v.unplaced ≡ 128)
 
@@ -263,24 +269,40 @@ pub data TurnFault : Type 0 where
   LineFailed : TurnFault
   Failed : TurnFault
 
--- the line is lost in this turn, since a call on it has failed since the session began, and no request is in hand
-pub record LosesLine (b : Beginning) (new : SessionView) (past acts : List Act) : Type 0 where
+-- the line is lost in this turn, since a call on it has failed since the session began: behind the loss there are
+-- outcomes alone, no request was taken from the desk, and none is in hand
+pub record LosesLine (b : Beginning) (old new : SessionView) (past acts : List Act) : Type 0 where
   pub live : is_lost past ≡ false
   pub gone : is_lost (after past acts) ≡ true
   pub by_fault : b.line.failures < new.line.failures
+  pub none_taken : new.desk.taken ≡ old.desk.taken
+  pub before : List Act
+  pub told : List Outcome
+  pub acts_are : acts ≡ before ++ Lost ∷ map Told told
   pub none_in_hand : in_hand (after past acts) ≡ []
 
--- the line was lost before: what waits is still placed, and nothing else is done
+-- what waits is placed, and nothing else is done
+pub record PlacesAlone (old new : SessionView) (acts : List Act) : Type 0 where
+  pub no_acts : acts ≡ []
+  pub stays : new ≡ record old {
+    desk = record { taken = old.desk.taken; told = new.desk.told; announced = new.desk.announced };
+    unplaced = new.unplaced;
+    unannounced = new.unannounced;
+  }
+
+-- the line was lost before: what waits is still placed
 pub record HasFailed (old new : SessionView) (past acts : List Act) : Type 0 where
   pub gone : is_lost past ≡ true
-  pub no_acts : acts ≡ []
-  pub line_stays : new.line ≡ old.line
-  pub none_taken : new.desk.taken ≡ old.desk.taken
+  pub places : PlacesAlone old new acts
 
--- want of memory: the line isn't lost yet
+-- there is no memory: the line isn't lost yet; and where a call on it had failed before, what waits is placed alone
+pub record WantsMemory (b : Beginning) (old new : SessionView) (past acts : List Act) : Type 0 where
+  pub live : is_lost (after past acts) ≡ false
+  pub behind : (old.line.failures ≡ b.line.failures) ⊎ PlacesAlone old new acts
+
 abbrev pub FaultMeans : Beginning → SessionView → SessionView → List Act → List Act → TurnFault → Type 0
-FaultMeans b old new past acts NoMemory = is_lost (after past acts) ≡ false
-FaultMeans b old new past acts LineFailed = LosesLine b new past acts
+FaultMeans b old new past acts NoMemory = WantsMemory b old new past acts
+FaultMeans b old new past acts LineFailed = LosesLine b old new past acts
 FaultMeans b old new past acts Failed = HasFailed old new past acts
 
 -- the line may be lost too
