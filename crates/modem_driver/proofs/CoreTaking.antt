@@ -307,7 +307,7 @@ all_quiet s past q shown h (r ∷ rs) w =
     let ws = and_parts (may_wait shown r.ask) (list_all (λ (x : Request). may_wait shown x.ask) rs) w in
     (later_is v now (Took q) happened.Took shown (took_says v now q) h r r.ask (λ octets. refl) ∙ waits_none shown (has_ended v now) r.ask ws.0, all_quiet s past q shown h rs ws.1)
 
-once_now : (s : Setting) (past : List Act) (q : Request) (why : Answer) (d : ℕ) → at_once s (seen s past) q ≡ Some why → now_in s past (Took q) d ≡ state_of s.role d (wire past)
+pub once_now : (s : Setting) (past : List Act) (q : Request) (why : Answer) (d : ℕ) → at_once s (seen s past) q ≡ Some why → now_in s past (Took q) d ≡ state_of s.role d (wire past)
 once_now s past q why d h = ap (λ (fs : List Frame). states_now s (seen s past) (Took q ∷ map Sent fs) d) (once_frames s past q why h) ∙ now_is s past (Took q ∷ []) d
 
 -- what is left to show of a request that is told at once

@@ -13,7 +13,7 @@ use Rattle.modem_history.specs.Sessions.{SessionView, at_place, octets_of_frames
 use Rattle.modem_history.specs.SessionRows.{beginning}
 use Rattle.modem_history.proofs.SessionTests.{nothing_before, told_is}
 use Rattle.modem_driver.specs.Endings.{Begins, HasEnded, has_stopped}
-use Rattle.modem_driver.specs.EndingRows.{AreNoEndings, IsRightEnding, StaysEnded, answered, ends_in, going_rows, later, outcome, stopped_rows}
+use Rattle.modem_driver.specs.EndingRows.{AreNoEndings, IsNoGoing, IsRightEnding, StaysEnded, answered, ends_in, going_rows, later, outcome, stopped_rows}
 use Rattle.modem_driver.proofs.sessions.Ending.{stopped_after}
 
 pub all_stopped : list_all ends_in stopped_rows ≡ true
@@ -81,3 +81,7 @@ needs_all v h =
 pub no_endings : AreNoEndings
 unfolding AreNoEndings body_of check_octet_of
 no_endings = ((λ h. too_short _ _ (omega arith) (needs_all _ h).0), (λ h. too_short _ _ (omega arith) (needs_all _ h).1))
+
+pub no_going : IsNoGoing
+unfolding IsNoGoing
+no_going v e = cc

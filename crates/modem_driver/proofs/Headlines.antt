@@ -1,7 +1,7 @@
 -- What a session and its desk come to, from their opening to their settlement.
 use Rattle.std.proofs.Common.{ap, sym, subst, ◌∙◌, arith, eqb-true}
 use Rattle.std.proofs.lemmas.Bool.{and_parts, and_from, ltb-true}
-use Rattle.std.proofs.lemmas.List.{append_assoc}
+use Rattle.std.proofs.lemmas.List.{append_assoc, append-nil}
 use Rattle.std.proofs.lemmas.List.Elements.{filter-append, All-nil, All-cons, All-contains}
 use Rattle.std.proofs.lemmas.List.Folds.{list_any-append}
 use Rattle.std.specs.Prelude.{◌≡◌, ℕ, zero, suc, ◌+◌, ◌≤◌, ◌<◌, ◌==◌, ◌||◌, nat_lt, Bool, true, false, List, [], ◌∷◌, ◌++◌, length, map, drop, filter, option_to_list, slice_index_or, refl, if◌then◌else◌, All, Contains}
@@ -18,13 +18,13 @@ use Rattle.modem_desk.specs.Rule.{of_caller}
 use Rattle.modem_desk.specs.Ends.{CallerView, Each, ListenerView, Place, ear_of, place_of}
 use Rattle.modem_desk.proofs.Places.{map_at}
 use Rattle.at_text.specs.declared.unsolicited.UrcKind.{UrcKind}
-use Rattle.modem_history.specs.Acts.{Act, Sent, is_for, wire}
+use Rattle.modem_history.specs.Acts.{Act, Took, Got, Sent, Told, Heard, Tick, Lost, Held, Freed, Given, is_for, wire}
 use Rattle.modem_history.specs.Information.{command_on}
 use Rattle.modem_history.specs.Kinds.{of_kind}
 use Rattle.modem_history.specs.Lawful.{Gated, Lawful, When, owed}
 use Rattle.modem_history.specs.Requests.{are_distinct}
 use Rattle.modem_history.specs.Sessions as session
-use Rattle.modem_history.specs.Sessions.{AreOnce, IsHistory, SessionFits, driving, heard_as, heards, taken_since}
+use Rattle.modem_history.specs.Sessions.{AreOnce, IsHistory, SessionFits, TakesWithRoom, driving, heard_as, heards, taken_since}
 use Rattle.modem_history.specs.SessionLaws.{untold}
 use Rattle.modem_history.specs.Hearing.{HearsAll}
 use Rattle.modem_history.specs.Wholes.{TellsOwn, is_same, outcomes, taken}
@@ -85,18 +85,51 @@ submitted_are run s past f i c at =
     ∙ (ap (λ (qs : List Request). qs ++ of_caller n run.settlement.left) (filter-append (λ (q : Request). q.caller == n) (taken past) (aside_of run))
     ∙ append_assoc (of_caller n (taken past)) (of_caller n (aside_of run)) (of_caller n run.settlement.left)))
 
-in_order : (run : Run) (s : IsSettled run) (past : List Act) → SessionFits run.start run.session past → (d : ℕ) → Each (λ i c. InSubmittedOrder d past c.place.number c.submitted) run.callers
-in_order run s past f d i c at =
+room_before : (newer older : List Act) → TakesWithRoom (newer ++ older) → TakesWithRoom older
+room_before [] older h = h
+room_before (Took r ∷ newer) older h = room_before newer older h.1
+room_before (Got f ∷ newer) older h = room_before newer older h
+room_before (Sent f ∷ newer) older h = room_before newer older h
+room_before (Told o ∷ newer) older h = room_before newer older h
+room_before (Heard k d line ∷ newer) older h = room_before newer older h
+room_before (Tick ∷ newer) older h = room_before newer older h
+room_before (Lost ∷ newer) older h = room_before newer older h
+room_before (Held d ∷ newer) older h = room_before newer older h
+room_before (Freed d ∷ newer) older h = room_before newer older h
+room_before (Given ∷ newer) older h = room_before newer older h
+
+taken_both : (newer older : List Act) → taken (newer ++ older) ≡ taken older ++ taken newer
+taken_both [] older = sym (append-nil (taken older))
+taken_both (Took r ∷ newer) older = ap (λ (qs : List Request). qs ++ r ∷ []) (taken_both newer older) ∙ append_assoc (taken older) (taken newer) (r ∷ [])
+taken_both (Got f ∷ newer) older = taken_both newer older
+taken_both (Sent f ∷ newer) older = taken_both newer older
+taken_both (Told o ∷ newer) older = taken_both newer older
+taken_both (Heard k d line ∷ newer) older = taken_both newer older
+taken_both (Tick ∷ newer) older = taken_both newer older
+taken_both (Lost ∷ newer) older = taken_both newer older
+taken_both (Held d ∷ newer) older = taken_both newer older
+taken_both (Freed d ∷ newer) older = taken_both newer older
+taken_both (Given ∷ newer) older = taken_both newer older
+
+-- at every moment
+in_order : (run : Run) (s : IsSettled run) (past : List Act) → SessionFits run.start run.session past → (newer older : List Act) → past ≡ newer ++ older
+    → (d : ℕ) → Each (λ i c. InSubmittedOrder d older c.place.number c.submitted) run.callers
+in_order run s past f newer older joins d i c at =
     let n = c.place.number in
     let own = λ (q : Request). q.caller == n in
-    let st : Stretch d past = stretch_of d past f.history.room in
-    let after = of_caller n (aside_of run) ++ of_caller n run.settlement.left in
+    let st : Stretch d older = stretch_of d older (room_before newer older (subst TakesWithRoom joins f.history.room)) in
+    let last = of_caller n (aside_of run) ++ of_caller n run.settlement.left in
+    let after = of_caller n (taken newer) ++ last in
+    let first : c.submitted ≡ of_caller n (taken older) ++ after =
+    submitted_are run s past f i c at
+    ∙ (ap (λ (qs : List Request). of_caller n qs ++ last) (ap taken joins ∙ taken_both newer older)
+    ∙ (ap (λ (qs : List Request). qs ++ last) (filter-append own (taken older) (taken newer)) ∙ append_assoc (of_caller n (taken older)) (of_caller n (taken newer)) last)) in
     record {
       before = of_caller n st.before;
       stretch = of_caller n st.stretch;
       later = of_caller n st.later ++ after;
       submitted_are =
-          submitted_are run s past f i c at
+          first
           ∙ (ap (λ (qs : List Request). of_caller n qs ++ after) st.taken_are
           ∙ (ap (λ (qs : List Request). qs ++ after) (filter-append own st.before (st.stretch ++ st.later) ∙ ap (λ (qs : List Request). of_caller n st.before ++ qs) (filter-append own st.stretch st.later))
           ∙ (append_assoc (of_caller n st.before) (of_caller n st.stretch ++ of_caller n st.later) after
@@ -255,7 +288,10 @@ headline run s =
     record {
       past = e.past;
       fits = e.fits;
-      leaves = λ d. record { is_prefix = leaves_once (driving run.start) e.past e.fits.history.lawful d; order = in_order run s e.past e.fits d };
+      leaves = λ newer older joins d. record {
+        is_prefix = leaves_once (driving run.start) older (lawful_part (driving run.start) newer older (subst (Lawful (driving run.start)) joins e.fits.history.lawful)) d;
+        order = in_order run s e.past e.fits newer older joins d;
+      };
       none_after_close = while_open run e.past e.fits.history.lawful;
       answers = answers_own run s e.past e.fits;
       hears = hears_each run e.past e.fits;

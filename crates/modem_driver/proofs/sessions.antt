@@ -1,11 +1,16 @@
 -- What sessions fit, call by call.
 pub mod Afters
 pub mod Counting
+pub mod OneFrame
 pub mod Listening
+pub mod Staying
+pub mod HeardOrder
 pub mod Parts
 pub mod Kinds
 pub mod Keeping
 pub mod Ending
+pub mod StopsInHand
+pub mod Stopping
 pub mod Calls
 pub mod Ticking
 pub mod Lines
@@ -18,6 +23,8 @@ pub mod TurnMeans
 pub mod TurnFaults
 pub mod Exchanging
 pub mod TakingOne
+pub mod TakingMore
+pub mod NoPlace
 pub mod SendingPlain
 pub mod SendingOctets
 pub mod Sending

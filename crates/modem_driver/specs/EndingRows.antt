@@ -10,7 +10,8 @@ use Rattle.modem_history.specs.Entering.{entry_text}
 use Rattle.modem_history.specs.Sessions.{SessionView}
 use Rattle.modem_history.specs.Rows.{zero, takes, tells, sends, comes, cld, cld_response}
 use Rattle.modem_history.specs.SessionRows.{beginning, sabm_zero}
-use Rattle.modem_driver.specs.Endings.{HasEnded, has_stopped}
+use Rattle.modem_driver.specs.Endings.{HasCome, HasEnded, has_stopped}
+use Rattle.modem_driver.specs.declared.session.ending.Course.TheVariants.{GoesOn}
 
 -- ## Whether a Stop has ended
 
@@ -91,3 +92,9 @@ unfoldable pub AreNoEndings : Type 0
 AreNoEndings =
     (¬ HasEnded beginning (ending (sabm_zero ++ 0xF9 ∷ 0x03 ∷ 0xEF ∷ 0x05 ∷ 0xC3 ∷ 0x01 ∷ 0xF2 ∷ []) (outcome 1 Opened ∷ outcome 2 Stopped ∷ [])) (after [] answered))
     × (¬ HasEnded beginning (ending (sabm_zero ++ cld_octets) (outcome 1 Opened ∷ [])) (after [] answered))
+
+-- ## How far it has come
+
+-- once a Stop was answered by Stopped it is wrong that none was
+unfoldable pub IsNoGoing : Type 0
+IsNoGoing = (v : SessionView) → ¬ HasCome beginning v (after [] answered) GoesOn

@@ -66,9 +66,9 @@ IsEnd b v past (Err fault.NoMemory) = ⊥
 IsEnd b v past (Err fault.Line) = is_lost past ≡ true
 IsEnd b v past (Err fault.Failed) = is_lost past ≡ true
 
--- how far it has come: a Stop was answered so, and then it has ended
+-- how far it has come: no Stop was answered so; or one was; and then it has ended
 abbrev pub HasCome : Beginning → SessionView → List Act → Course → Type 0
-HasCome b v past course.GoesOn = Unit {0}
+HasCome b v past course.GoesOn = has_stopped past ≡ false
 HasCome b v past course.Stopped = has_stopped past ≡ true
 HasCome b v past (course.Ended end) = IsEnd b v past end
 

@@ -121,14 +121,14 @@ pub record Holds (run : Run) (i : ℕ) (c : CallerView) : Type 0 where
 
 -- ## The headline
 
--- Whatever the cuts, polls and schedule: what leaves on a connection since it opened is a prefix of its callers' command
--- lines taken since then, each once, each caller's in its submitted order, none after a close; each answered command has
--- exactly its solicited lines up to its final code; each subscribed unsolicited line is announced once; and at settle every
--- caller holds each of its outcomes once.
+-- Whatever the cuts, polls and schedule: at every moment what left on a connection since it opened is a prefix of its
+-- callers' command lines taken since then, each once, each caller's in its submitted order, none after a close; each
+-- answered command has exactly its solicited lines up to its final code; each subscribed unsolicited line is announced
+-- once; and at settle every caller holds each of its outcomes once.
 pub record Headline (run : Run) : Type 0 where
   pub past : List Act
   pub fits : SessionFits run.start run.session past
-  pub leaves : (d : ℕ) → Leaves d past run.callers
+  pub leaves : (newer older : List Act) → past ≡ newer ++ older → (d : ℕ) → Leaves d older run.callers
   pub none_after_close : NoneAfterClose past
   pub answers : AnswersOwn run.start past
   pub hears : HearsEach run.start past

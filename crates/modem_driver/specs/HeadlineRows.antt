@@ -1,11 +1,12 @@
--- Places of a request at the end of a run, worked by hand: right ones and wrong ones.
-use Rattle.std.specs.Prelude.{ℕ, List, [], ◌∷◌}
-use Rattle.modem_desk.specs.declared.request.Ask.TheVariants.{Stop}
+-- Places of a request at the end of a run, right ones and wrong ones, and commands that leave in a wrong order.
+use Rattle.std.specs.Prelude.{ℕ, List, [], ◌∷◌, ◌++◌, codes}
+use Rattle.modem_desk.specs.declared.request.Ask.TheVariants.{Command, Stop}
 use Rattle.modem_desk.specs.declared.request.Answer.TheVariants.{NotOpen, Stopped}
 use Rattle.modem_desk.specs.declared.request.Outcome.{Outcome}
 use Rattle.modem_desk.specs.declared.request.Request.{Request}
-use Rattle.modem_history.specs.Rows.{asks}
-use Rattle.modem_driver.specs.Headline.{HasOnePlace}
+use Rattle.modem_history.specs.Acts.{Act, after}
+use Rattle.modem_history.specs.Rows.{asks, one, opening_one, takes}
+use Rattle.modem_driver.specs.Headline.{HasOnePlace, InSubmittedOrder}
 
 -- the outcomes that a caller holds, the requests in hand, and those that were left
 pub record Places : Type 0 where
@@ -69,3 +70,16 @@ AreRight (p ∷ ps) = Has p × AreRight ps
 abbrev pub AreWrong : List Places → Type 0
 AreWrong [] = Unit {0}
 AreWrong (p ∷ ps) = (¬ Has p) × AreWrong ps
+
+-- ## What leaves
+
+-- caller 0 submits 3 and then 4, and 4 is accepted on 1 before 3
+abbrev pub csq_then_cops : List Request
+csq_then_cops = asks 3 (Command one (codes "AT+CSQ")) ∷ asks 4 (Command one (codes "AT+COPS?")) ∷ []
+
+abbrev pub turned_round : List Act
+turned_round = opening_one ++ takes 4 (Command one (codes "AT+COPS?")) ∷ takes 3 (Command one (codes "AT+CSQ")) ∷ []
+
+-- that is refused at this moment, even where 1 closes and opens again later
+unfoldable pub IsOtherOrder : Type 0
+IsOtherOrder = ¬ InSubmittedOrder 1 (after [] turned_round) 0 csq_then_cops

@@ -1,5 +1,5 @@
 -- What waits is offered to the rings of a desk, each to those of its key: an outcome by its caller, a line by its kind.
-use Rattle.std.specs.Prelude.{◌≡◌, ◌≢◌, ℕ, ◌+◌, ◌≤◌, ◌<◌, ◌==◌, ◌||◌, nat_lt, Bool, true, false, List, [], ◌++◌, length, filter, slice_index_or, Contains}
+use Rattle.std.specs.Prelude.{◌≡◌, ◌≢◌, ℕ, ◌+◌, ◌≤◌, ◌<◌, ◌==◌, ◌||◌, nat_lt, Bool, true, false, List, [], ◌∷◌, ◌++◌, length, filter, slice_index_or, Contains}
 use Rattle.std.specs.List.{list_all}
 use mathlib.Core.Option.{some}
 use lib.ListN.{get_elem?}
@@ -20,9 +20,17 @@ pub record Gave {X : Type 0} (key : X → ℕ) (before now : List (List X)) (wai
   pub given_are : at_place i now ≡ at_place i before ++ since
   pub rest_are : since ++ of_key key n waits ≡ of_key key n waited
 
+-- those that wait are some of those that waited, in their order: behind one that waits all of its key do
+pub data Stay {X : Type 0} (key : X → ℕ) : (waited waits : List X) → Type 0 where
+  stays_none : Stay key [] []
+  goes_first : (x : X) (xs ys : List X) → Stay key xs ys → Stay key (x ∷ xs) ys
+  stays_first : (x : X) (xs ys : List X) → of_key key (key x) xs ≡ of_key key (key x) ys → Stay key xs ys → Stay key (x ∷ xs) (x ∷ ys)
+
 -- Each of a key that the desk knows was offered until one was handed back: its rings are full where some still wait.
 pub record Placed {X : Type 0} (key : X → ℕ) (at : ℕ → ℕ → Type 0) (known : ℕ → Type 0) (before now : List (List X)) (free : List ℕ) (waited waits : List X) (moved : Bool) : Type 0 where
   pub each : (n i : ℕ) → at n i → Gave key before now waited waits n i
+  pub in_order : Stay key waited waits
+  pub elsewhere : (i : ℕ) → ((n : ℕ) → ¬ at n i) → at_place i now ≡ at_place i before
   pub full : (n i : ℕ) → at n i → known n → of_key key n waits ≢ [] → slice_index_or free i 0 ≡ 0
   pub all : (p : X → Bool) → list_all p waited ≡ true → list_all p waits ≡ true
   pub fewer : length waits ≤ length waited
@@ -32,6 +40,8 @@ pub record Placed {X : Type 0} (key : X → ℕ) (at : ℕ → ℕ → Type 0) (
 -- The same on the way: some wait to be offered, behind those that stay, of which none is of a key that isn't held up.
 pub record Placing {X : Type 0} (key : X → ℕ) (at : ℕ → ℕ → Type 0) (known : ℕ → Type 0) (before now : List (List X)) (free : List ℕ) (held : List Bool) (waited waits stay : List X) (moved : Bool) : Type 0 where
   pub each : (n i : ℕ) → at n i → Gave key before now waited (stay ++ waits) n i
+  pub in_order : Stay key waited (stay ++ waits)
+  pub elsewhere : (i : ℕ) → ((n : ℕ) → ¬ at n i) → at_place i now ≡ at_place i before
   pub free_way : (n : ℕ) → known n → slice_index_or held n false ≡ false → of_key key n stay ≡ []
   pub full : (n i : ℕ) → at n i → known n → slice_index_or held n false ≡ true → slice_index_or free i 0 ≡ 0
   pub all : (p : X → Bool) → list_all p waited ≡ true → list_all p (stay ++ waits) ≡ true

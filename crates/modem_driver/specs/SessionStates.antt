@@ -1,5 +1,5 @@
 -- What contracts see of a session, and which histories it fits.
-use Rattle.std.specs.Prelude.{◌≡◌, ℕ, ◌<◌, ◌++◌, map, Bool, true, false, List, [], length, Option, None}
+use Rattle.std.specs.Prelude.{◌≡◌, ℕ, ◌<◌, ◌≤◌, ◌++◌, filter, map, Bool, true, false, List, [], length, Option, None, nat_lt}
 use Rattle.std.specs.List.{list_all}
 use Rattle.mux_frame.specs.Deframing.{Deframing}
 use Rattle.at_text.specs.declared.unsolicited.UrcKind.{UrcKind}
@@ -7,12 +7,12 @@ use Rattle.modem_desk.specs.declared.request.Request.{Request}
 use Rattle.modem_desk.specs.declared.request.Outcome.{Outcome}
 use Rattle.modem_desk.specs.declared.request.Urc.{Urc}
 use Rattle.modem_desk.specs.Ends.{DriverView}
-use Rattle.modem_history.specs.Acts.{Act}
-use Rattle.modem_history.specs.Sessions.{LineView, EndView, Beginning, SessionView, Leftovers, FitsWith, Finishes, AreOnce, GoesBy, driving, heard_as}
+use Rattle.modem_history.specs.Acts.{Act, in_hand}
+use Rattle.modem_history.specs.Sessions.{LineView, EndView, Beginning, SessionView, Leftovers, FitsWith, Finishes, AreOnce, GoesBy, driving, gots, heard_as}
 use Rattle.modem_history.specs.Turns.{GoesTick, LosesLine, may_fail, outcomes_told, lines_heard}
 use Rattle.modem_driver.specs.Cores.{Core, Fits, IsSettingOf, new_core}
 use Rattle.modem_driver.specs.Holding.{HoldsFit}
-use Rattle.modem_driver.specs.Endings.{HasCome}
+use Rattle.modem_driver.specs.Endings.{HasCome, is_stop}
 use Rattle.modem_driver.specs.declared.session.ending.Course.{Course}
 use Rattle.modem_driver.specs.declared.session.ending.Course.TheVariants.{GoesOn}
 
@@ -79,8 +79,8 @@ seen look s = seen_by (look s.line) (end_of s.driver) s.kept
 -- ## Which histories it fits
 
 -- What isn't seen there: the core fits the history of this N1, this desk's kinds and callers, and knows which connections
--- are held; a call on the line has failed since the session began just where the session knows of one; and the session has come as
--- far on the way to its end as it knows.
+-- are held; a call on the line has failed since the session began just where the session knows of one; of the requests in hand one
+-- at most is a Stop; and the session has come as far on the way to its end as it knows.
 pub record KeptFits (b : Beginning) (l : LineView) (d : DriverView) (k : Kept) (past : List Act) : Type 0 where
   pub setting : IsSettingOf (driving b) k.core
   pub fits : Fits k.core past
@@ -89,6 +89,7 @@ pub record KeptFits (b : Beginning) (l : LineView) (d : DriverView) (k : Kept) (
   pub callers_are : length d.desk.rings ≡ b.callers
   pub sound : k.faulty ≡ false → l.failures ≡ b.line.failures
   pub by_fault : k.faulty ≡ true → b.line.failures < l.failures
+  pub one_stop : length (filter is_stop (in_hand past)) ≤ 1
   pub come : HasCome b (seen_by l (end_of d) k) past k.course
 
 abbrev pub FitsInside : {X : Type 0} → Beginning → (X → LineView) → SessionState X → List Act → Type 0
@@ -114,6 +115,13 @@ KeptTicks old new =
     (b : Beginning) (l : LineView) (d : DriverView)
     → GoesTick b (seen_by l (end_of d) old) (seen_by l (end_of d) new) (KeptFits b l d old) (KeptFits b l d new)
 
+-- the same desk, whose end took these requests more, each of a caller of that desk
+pub record TakesMore (old new : DriverView) : Type 0 where
+  pub desk : new.desk ≡ old.desk
+  pub more : List Request
+  pub taken : new.taken ≡ old.taken ++ more
+  pub callers : list_all (λ (q : Request). nat_lt q.caller (length old.desk.rings)) more ≡ true
+
 -- what is left of a session that ended is what each history that it fits says
 abbrev pub Ends : {X : Type 0} → (X → LineView) → SessionState X → Leftovers → Type 0
 Ends look s f = (b : Beginning) (past : List Act) → FitsAll b look s past → Finishes (seen look s) past f
@@ -130,16 +138,18 @@ unfoldable pub KeptMoves : (before later : LineView) → (old new : Kept) → Ty
 KeptMoves before later old new =
     (b : Beginning) (d : DriverView) → GoesBy b (seen_by before (end_of d) old) (seen_by later (end_of d) new) (KeptFits b before d old) (KeptFits b later d new) []
 
--- what was told waits behind what waited; nothing was heard; and the acts are such as a turn may have in which the line is lost
+-- what was told waits behind what waited; nothing was heard and no frame handled; and the acts are such as a turn may have in
+-- which the line is lost
 pub record AddsLost (old new : Kept) (acts : List Act) : Type 0 where
   pub outcomes : new.unplaced ≡ old.unplaced ++ outcomes_told acts
   pub lines : map heard_as new.unannounced ≡ map heard_as old.unannounced ++ lines_heard acts
   pub may : (waiting : List Urc) → list_all (may_fail waiting) acts ≡ true
+  pub none_got : gots acts ≡ []
 
 -- the line is lost in this step, and no request is in hand any more
 pub record KeptLoses (old new : Kept) : Type 0 where
   pub acts : List Act
   pub goes : KeptGoes old new acts
-  pub loses : (b : Beginning) (l : LineView) (d : DriverView) (past : List Act) → AreOnce b (seen_by l (end_of d) new) → FitsWith b (seen_by l (end_of d) old) (KeptFits b l d old) past → LosesLine b (seen_by l (end_of d) new) past acts
+  pub loses : (b : Beginning) (l : LineView) (d : DriverView) (past : List Act) → AreOnce b (seen_by l (end_of d) new) → FitsWith b (seen_by l (end_of d) old) (KeptFits b l d old) past → LosesLine b (seen_by l (end_of d) old) (seen_by l (end_of d) new) past acts
   pub adds : (b : Beginning) (l : LineView) (d : DriverView) (past : List Act) → FitsWith b (seen_by l (end_of d) old) (KeptFits b l d old) past → AddsLost old new acts
   pub stays : new ≡ record old { core = new.core; unplaced = new.unplaced; unannounced = new.unannounced }

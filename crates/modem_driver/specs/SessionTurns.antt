@@ -1,6 +1,8 @@
 -- Turns of a session: how each ends.
-use Rattle.std.specs.Prelude.{◌≡◌, ◌≢◌, ℕ, ◌+◌, ◌<◌, ◌≤◌, nat_le, length, drop, None, Some, Bool, true, false, List, [], ◌∷◌, take}
+use Rattle.std.specs.Prelude.{◌≡◌, ◌≢◌, ℕ, ◌+◌, ◌<◌, ◌≤◌, nat_le, length, drop, None, Some, Bool, true, false, List, [], ◌∷◌, take, slice_index_or}
 use Rattle.std.specs.List.{list_all}
+use mathlib.Core.Option.{some}
+use lib.ListN.{get_elem?}
 use Rattle.mux_frame.specs.Frames.{Frame}
 use Rattle.mux_frame.specs.Deframing.{TakesIn}
 use Rattle.at_text.specs.declared.unsolicited.UrcKind.{UrcKind}
@@ -83,6 +85,12 @@ pub record HasTurned (old new : Standing) : Type 0 where
   pub calls : new.line.calls ≤ old.line.calls + 2
   pub taken : Begins old.driver.taken new.driver.taken
   pub ended : KeepsEnd old.kept.course new.kept.course
+
+-- an outcome waits only where its caller's ring has no place that the desk's end knows to be free, and a line only where its listener's has none
+abbrev pub HasNoPlace : DriverView → TurnAnswer → Type 0
+HasNoPlace d (TurnAnswer.Waiting c) = c < length d.desk.rings → slice_index_or d.free c 0 ≡ 0
+HasNoPlace d (TurnAnswer.Blocked kind) = (i : ℕ) → get_elem? d.desk.kinds i ≡ some kind → slice_index_or d.free_lines i 0 ≡ 0
+HasNoPlace d _ = Unit {0}
 
 -- after a fault other than want of memory the line is lost
 abbrev pub LeavesLost : SessionFault → Kept → Type 0

@@ -12,7 +12,7 @@ use Rattle.modem_desk.specs.declared.request.Urc.{Urc}
 use Rattle.modem_desk.specs.Ends.{DriverView}
 use Rattle.modem_history.specs.Acts.{Act, after, in_hand}
 use Rattle.modem_history.specs.Kinds.{of_kind}
-use Rattle.modem_history.specs.Sessions.{Beginning, LineView, SessionView, FitsWith, AreOnce, GoesBy, driving, heard_as, of_caller}
+use Rattle.modem_history.specs.Sessions.{Beginning, LineView, SessionView, FitsWith, AreOnce, GoesBy, driving, gots, heard_as, of_caller}
 use Rattle.modem_history.specs.Turns.{Write, Read, Offers, HasRoom, HoldsByBacklog, octets_written, octets_read, request_given, calls_made, counted, outcomes_told, lines_heard, may_act, is_mark, amount, has_room_for}
 use Rattle.modem_driver.specs.GoingOut.{next_out}
 use Rattle.modem_driver.specs.Running.{IsIdle}
@@ -47,15 +47,17 @@ Leads old new acts = (b : Beginning) → GoesBy b (view_of old) (view_of new) (i
 abbrev pub is_more : Act → Bool
 is_more a = not (is_mark a)
 
--- what the acts told and heard waits behind what waited, and they are such as a turn may have while these lines wait
-pub record Adds (old new : Kept) (waiting : List Urc) (acts : List Act) : Type 0 where
+-- what the acts told and heard waits behind what waited, they are such as a turn may have while these lines wait, and so
+-- many frames were handled at most
+pub record Adds (old new : Kept) (waiting : List Urc) (most : ℕ) (acts : List Act) : Type 0 where
   pub outcomes : new.unplaced ≡ old.unplaced ++ outcomes_told acts
   pub lines : map heard_as new.unannounced ≡ map heard_as old.unannounced ++ lines_heard acts
   pub may : list_all (may_act waiting) acts ≡ true
+  pub few_got : length (gots acts) ≤ most
 
 -- that is so after every history of which no caller used a number twice
-unfoldable pub AddsAll : (old new : Standing) → List Urc → List Act → Type 0
-AddsAll old new waiting acts = (b : Beginning) (past : List Act) → AreOnce b (view_of new) → StandingFits b old past → Adds old.kept new.kept waiting acts
+unfoldable pub AddsAll : (old new : Standing) → List Urc → ℕ → List Act → Type 0
+AddsAll old new waiting most acts = (b : Beginning) (past : List Act) → AreOnce b (view_of new) → StandingFits b old past → Adds old.kept new.kept waiting most acts
 
 -- ## What waits is offered to the desk
 
@@ -82,7 +84,7 @@ pub record Places (old new : Standing) (moved : Bool) : Type 0 where
 pub record Minds (old new : Standing) (moved : Bool) : Type 0 where
   pub acts : List Act
   pub leads : Leads old new acts
-  pub adds : AddsAll old new old.kept.unannounced acts
+  pub adds : AddsAll old new old.kept.unannounced 0 acts
   pub moved_is : moved ≡ list_any is_more acts
   pub held : (b : Beginning) (past : List Act) → AreOnce b (view_of new) → StandingFits b old past → new.kept.core.lost ≡ false → new.kept.core.station.queue ≡ [] → HoldsByBacklog (view_of new) (after past acts)
   pub stays : new ≡ record old { kept = record old.kept { core = new.kept.core } }
@@ -91,7 +93,7 @@ pub record Minds (old new : Standing) (moved : Bool) : Type 0 where
 pub record MindsPart (old new : Standing) : Type 0 where
   pub acts : List Act
   pub leads : Leads old new acts
-  pub adds : AddsAll old new old.kept.unannounced acts
+  pub adds : AddsAll old new old.kept.unannounced 0 acts
   pub stays : new ≡ record old { kept = record old.kept { core = new.kept.core } }
 
 -- ## The next frame goes into the output
@@ -100,7 +102,7 @@ pub record MindsPart (old new : Standing) : Type 0 where
 pub record SendsOn (old new : Standing) (moved : Bool) : Type 0 where
   pub acts : List Act
   pub leads : Leads old new acts
-  pub adds : (waiting : List Urc) → AddsAll old new waiting acts
+  pub adds : (waiting : List Urc) → AddsAll old new waiting 0 acts
   pub moved_is : moved ≡ list_any is_more acts
   pub idle : new.kept.unwritten ≡ [] → (acts ≡ []) × ((new ≡ old) × IsIdle new.kept.core)
   pub none_left : new.kept.unwritten ≡ [] → (b : Beginning) (past : List Act) → StandingFits b new past → next_out (driving b) past ≡ None
@@ -127,7 +129,7 @@ pub record Writes (old new : Standing) (moved : Bool) : Type 0 where
 pub record Gets (old new : Standing) (moved : Bool) : Type 0 where
   pub acts : List Act
   pub leads : Leads old new acts
-  pub adds : (waiting : List Urc) → AddsAll old new waiting acts
+  pub adds : (waiting : List Urc) → AddsAll old new waiting 1 acts
   pub moved_is : moved ≡ list_any is_more acts
   pub still : moved ≡ false → (acts ≡ []) × (new ≡ old)
   pub ended : KeepsEnd old.kept.course new.kept.course
@@ -145,6 +147,7 @@ pub record ReadsOn (old new : Standing) (moved : Bool) : Type 0 where
   pub went_none : new.line.sent ≡ old.line.sent
   pub calls : new.line.calls ≡ counted old.line.calls (calls_made read)
   pub unfed : length new.kept.unfed ≤ length old.kept.unfed + length (octets_read read)
+  pub reads_fed : read ≢ None → old.kept.unfed ≡ []
   pub moved_is : moved ≡ (nat_lt (length old.line.received) (length new.line.received) || nat_lt (length new.kept.unfed) (length old.kept.unfed))
   pub nothing_came : moved ≡ false → new.kept.faulty ≡ old.kept.faulty → old.kept.unfed ≡ [] → (read ≡ Some (record { room = 512; octets = [] })) × (new.kept ≡ old.kept)
   pub feeds : moved ≡ false → old.kept.unfed ≢ [] → old.kept.deframer.next ≢ None
@@ -158,13 +161,16 @@ pub record TakesOne (old new : Standing) (moved : Bool) : Type 0 where
   pub next : Option (Option Request)
   pub acts : List Act
   pub leads : Leads old new acts
-  pub adds : (waiting : List Urc) → AddsAll old new waiting acts
+  pub adds : (waiting : List Urc) → AddsAll old new waiting 0 acts
   pub moved_is : moved ≡ list_any is_more acts
   pub taken : new.driver.taken ≡ old.driver.taken ++ request_given next
+  pub callers : list_all (λ (q : Request). nat_lt q.caller (length old.driver.desk.rings)) (request_given next) ≡ true
+  pub asks_bare : next ≢ None → old.kept.aside ≡ None
   pub none_aside : new.kept.aside ≡ None
   pub still : moved ≡ false → (acts ≡ []) × (new.kept ≡ old.kept)
   pub no_request : moved ≡ false → (next ≡ Some None) ⊎ ((b : Beginning) (past : List Act) → StandingFits b new past → length (in_hand past) + length new.kept.unplaced ≡ 128)
   pub desk_stays : (new.driver.desk ≡ old.driver.desk) × ((new.driver.told ≡ old.driver.told) × (new.driver.announced ≡ old.driver.announced))
+  pub places_stay : (new.driver.free ≡ old.driver.free) × (new.driver.free_lines ≡ old.driver.free_lines)
   pub stays : new ≡ record old { driver = new.driver; kept = record old.kept { core = new.kept.core; aside = None; unplaced = new.kept.unplaced; unannounced = new.kept.unannounced } }
 
 -- Where there was no memory for it, it is kept aside: the one that was, or else the one that the desk gave.
@@ -172,6 +178,8 @@ pub record KeepsAside (old new : Standing) : Type 0 where
   pub next : Option (Option Request)
   pub leads : Leads old new []
   pub taken : new.driver.taken ≡ old.driver.taken ++ request_given next
+  pub callers : list_all (λ (q : Request). nat_lt q.caller (length old.driver.desk.rings)) (request_given next) ≡ true
+  pub asks_bare : next ≢ None → old.kept.aside ≡ None
   pub one_aside : (new.kept.aside ≢ None) × (option_to_list new.kept.aside ≡ option_to_list old.kept.aside ++ request_given next)
   pub desk_stays : (new.driver.desk ≡ old.driver.desk) × ((new.driver.told ≡ old.driver.told) × (new.driver.announced ≡ old.driver.announced))
   pub stays : new ≡ record old { driver = new.driver; kept = record old.kept { aside = new.kept.aside } }

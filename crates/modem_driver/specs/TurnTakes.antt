@@ -1,6 +1,6 @@
 -- How a request is taken: the desk's next is put aside, and then the one that is aside is taken.
-use Rattle.std.specs.Prelude.{◌≡◌, ◌+◌, ◌≤◌, ◌⊎◌, Bool, true, false, List, [], ◌++◌, length, Option, None, Some, option_to_list}
-use Rattle.std.specs.List.{list_any}
+use Rattle.std.specs.Prelude.{◌≡◌, ◌≢◌, ◌+◌, ◌≤◌, ◌⊎◌, Bool, true, false, List, [], ◌++◌, length, Option, None, Some, option_to_list, nat_lt}
+use Rattle.std.specs.List.{list_any, list_all}
 use Rattle.modem_desk.specs.declared.request.Request.{Request}
 use Rattle.modem_desk.specs.declared.request.Urc.{Urc}
 use Rattle.modem_desk.specs.Ends.{DriverView}
@@ -16,8 +16,11 @@ pub record Fetches (old new : Standing) : Type 0 where
   pub leads : Leads old new []
   pub taken : new.driver.taken ≡ old.driver.taken ++ request_given next
   pub aside : option_to_list new.kept.aside ≡ option_to_list old.kept.aside ++ request_given next
+  pub callers : list_all (λ (q : Request). nat_lt q.caller (length old.driver.desk.rings)) (request_given next) ≡ true
+  pub asks_bare : next ≢ None → old.kept.aside ≡ None
   pub none : new.kept.aside ≡ None → (next ≡ Some None) ⊎ (128 ≤ length old.kept.core.hand + length old.kept.unplaced)
   pub desk_stays : (new.driver.desk ≡ old.driver.desk) × ((new.driver.told ≡ old.driver.told) × (new.driver.announced ≡ old.driver.announced))
+  pub places_stay : (new.driver.free ≡ old.driver.free) × (new.driver.free_lines ≡ old.driver.free_lines)
   pub stays : new.kept ≡ record old.kept { aside = new.kept.aside }
   pub line_stays : new.line ≡ old.line
 
@@ -25,7 +28,7 @@ pub record Fetches (old new : Standing) : Type 0 where
 pub record TakesAside (old new : Kept) : Type 0 where
   pub acts : List Act
   pub goes : KeptGoes old new acts
-  pub adds : (waiting : List Urc) (b : Beginning) (l : LineView) (d : DriverView) (past : List Act) → AreOnce b (seen_by l (end_of d) new) → FitsWith b (seen_by l (end_of d) old) (KeptFits b l d old) past → Adds old new waiting acts
+  pub adds : (waiting : List Urc) (b : Beginning) (l : LineView) (d : DriverView) (past : List Act) → AreOnce b (seen_by l (end_of d) new) → FitsWith b (seen_by l (end_of d) old) (KeptFits b l d old) past → Adds old new waiting 0 acts
   pub moves : list_any is_more acts ≡ true
   pub stays : new ≡ record old { core = new.core; aside = None; unplaced = new.unplaced; unannounced = new.unannounced }
 

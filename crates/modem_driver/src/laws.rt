@@ -1,9 +1,9 @@
 //! Laws of replays, the headline, and ends of a session.
 ghost use Rattle.std.specs.Prelude.{◌≡◌, ℕ, true, false, List};
 ghost use Rattle.std.specs.List.{list_all, list_any};
-ghost use Rattle.modem_driver.specs.EndingRows.{ends_in, going_rows, stopped_rows, AreNoEndings, IsRightEnding, StaysEnded};
+ghost use Rattle.modem_driver.specs.EndingRows.{ends_in, going_rows, stopped_rows, AreNoEndings, IsNoGoing, IsRightEnding, StaysEnded};
 ghost use Rattle.modem_driver.specs.Headline.{IsHeadline, Run};
-ghost use Rattle.modem_driver.specs.HeadlineRows.{AreRight, AreWrong, right_places, wrong_places};
+ghost use Rattle.modem_driver.specs.HeadlineRows.{AreRight, AreWrong, IsOtherOrder, right_places, wrong_places};
 ghost use Rattle.modem_driver.specs.Replays.{Brought, Replays};
 ghost use Rattle.modem_driver.specs.ReplayRows.{NoReplay, frame_invented, lost_by_itself, one_request, request_dropped, two_requests};
 ghost use Rattle.modem_driver.specs.declared.event.Event.{Event};
@@ -20,25 +20,28 @@ pub fn replays()
 {}
 
 /// The headline, of every run whose desk was settled with the driver's end that `finish` gave and with all its callers:
-/// what left on a connection since it opened is a prefix of its callers' command lines taken since then, each once, each
-/// caller's in its submitted order, none after a close; each answered command has just its solicited lines up to its final
-/// code; each subscribed unsolicited line was announced once; and every caller holds each of its outcomes once. A request
-/// that has two places, or none, is refused.
-#[tactic(auto, using(crate::proofs::Headlines::headline, crate::proofs::HeadlineRowFacts::all_right_places, crate::proofs::HeadlineRowFacts::all_wrong_places))]
+/// at every moment what left on a connection since it opened is a prefix of its callers' command lines taken since then,
+/// each once, each caller's in its submitted order, none after a close; each answered command has just its solicited lines
+/// up to its final code; each subscribed unsolicited line was announced once; and every caller holds each of its outcomes
+/// once. A request that has two places, or none, is refused, and so are commands that left in another order.
+#[tactic(auto, using(crate::proofs::Headlines::headline, crate::proofs::HeadlineRowFacts::all_right_places, crate::proofs::HeadlineRowFacts::all_wrong_places, crate::proofs::HeadlineRowFacts::other_order))]
 pub fn headlines()
     ensures headline { (run : Run) → IsHeadline run }
     ensures right { AreRight right_places }
     ensures wrong { AreWrong wrong_places }
+    ensures order { IsOtherOrder }
 {}
 
 /// Worked ends of a session, computed by the definitions: a Stop that is answered or given up has ended, and neither one that
 /// a loss of the line ends nor a probe that is given up; the session has ended where all frames sent are written and all
-/// outcomes told, and stays so; where an octet or an outcome waits it hasn't.
-#[tactic(auto, using(crate::proofs::EndingRowFacts::all_stopped, crate::proofs::EndingRowFacts::none_stopped, crate::proofs::EndingRowFacts::right_ending, crate::proofs::EndingRowFacts::stays_ended, crate::proofs::EndingRowFacts::no_endings))]
+/// outcomes told, and stays so; where an octet or an outcome waits it hasn't. A session whose Stop has ended doesn't go on as if
+/// none had.
+#[tactic(auto, using(crate::proofs::EndingRowFacts::all_stopped, crate::proofs::EndingRowFacts::none_stopped, crate::proofs::EndingRowFacts::right_ending, crate::proofs::EndingRowFacts::stays_ended, crate::proofs::EndingRowFacts::no_endings, crate::proofs::EndingRowFacts::no_going))]
 pub fn endings()
     ensures stopped { list_all ends_in stopped_rows ≡ true }
     ensures going { list_any ends_in going_rows ≡ false }
     ensures right { IsRightEnding }
     ensures stays { StaysEnded }
     ensures wrong { AreNoEndings }
+    ensures going_on { IsNoGoing }
 {}

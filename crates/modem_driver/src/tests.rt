@@ -6,8 +6,14 @@ use crate::*;
 use mux_frame::{Dlci, Kind};
 use std::test::*;
 
+mod answers;
 mod entering;
 mod no_memory;
+mod rig;
+mod session_faults;
+mod session_polls;
+mod session_rings;
+mod session_runs;
 mod steps;
 
 /// What an act is, as a test compares it.

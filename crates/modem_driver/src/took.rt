@@ -3,6 +3,7 @@ ghost use Rattle.std.specs.Prelude.{◌≡◌, ◌∷◌, [], ◌<◌, ◌≤◌
 ghost use Rattle.modem_history.specs.Acts.{act_of, Took};
 ghost use Rattle.std.specs.List.{list_any};
 ghost use Rattle.mux_station.specs.Stations.{setting_of};
+ghost use Rattle.mux_station.specs.declared.role.Role.TheVariants.{Initiator};
 ghost use Rattle.modem_history.specs.Information.{command_on, line_in, line_of};
 ghost use Rattle.modem_history.specs.Requests.{commands_on};
 ghost use Rattle.modem_driver.specs.Offers.{refused_command, TakesLine, OffersFirst};
@@ -98,6 +99,7 @@ impl Core {
         ensures no_memory { IfErr result (λ e. e.0 ≡ CoreError.NoMemory) }
         ensures back { IfErr result (λ e. e.1 ≡ request) }
         ensures n1 { self.new.station.n1 ≡ self.old.station.n1 }
+        ensures role { self.old.station.role ≡ Initiator }
     {
         if self.lost {
             return tell_once(self.alloc, request, Answer::LineLost);

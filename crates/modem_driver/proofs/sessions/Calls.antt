@@ -3,7 +3,7 @@ use Rattle.std.proofs.Common.{ap, sym, ◌∙◌, subst, arith}
 use Rattle.std.proofs.lemmas.Bool.{and_parts}
 use Rattle.std.proofs.lemmas.List.{length-append}
 use Rattle.std.proofs.lemmas.List.Folds.{list_all-append}
-use Rattle.std.specs.Prelude.{◌≡◌, ◌+◌, ◌≤◌, nat_lt, true, List, ◌∷◌, ◌++◌, length, map, refl, option_to_list, Option}
+use Rattle.std.specs.Prelude.{◌≡◌, ◌+◌, ◌≤◌, nat_lt, true, List, ◌∷◌, ◌++◌, length, filter, map, refl, option_to_list, Option}
 use Rattle.std.specs.List.{list_all}
 use Rattle.modem_desk.specs.declared.request.Request.{Request}
 use Rattle.modem_desk.specs.declared.request.Outcome.{Outcome}
@@ -19,12 +19,13 @@ use Rattle.modem_history.proofs.Stays.{distinct_front}
 use Rattle.modem_history.proofs.SessionLawFacts.{since_are}
 use Rattle.modem_driver.specs.Cores.{MayCome, GoesOn, IsRun}
 use Rattle.modem_driver.specs.Holding.{HoldsFit}
-use Rattle.modem_driver.specs.Endings.{HasCome}
+use Rattle.modem_driver.specs.Endings.{HasCome, is_stop}
 use Rattle.modem_driver.specs.SessionStates.{Kept, KeptFits, seen_by, end_of}
 use Rattle.modem_driver.proofs.sessions.Afters.{taken_after, given_after, room_after, has_listener}
 use Rattle.modem_driver.proofs.sessions.Counting.{is_caller, hand_counts, callers_told}
 use Rattle.modem_driver.proofs.sessions.Listening.{Hear, all_listened}
 use Rattle.modem_driver.proofs.sessions.Parts.{told_part, heard_part, sent_part}
+use Rattle.modem_driver.proofs.sessions.StopsInHand.{said_stops}
 
 -- the session fits the history
 abbrev pub FitsKept : Beginning → LineView → DriverView → Kept → List Act → Type 0
@@ -130,6 +131,7 @@ call_fits b l d old new past more a f bare goes holds said hear keeps aside unwr
         callers_are = f.inside.callers_are;
         sound = λ e. f.inside.sound (sym faulty ∙ e);
         by_fault = λ e. f.inside.by_fault (sym faulty ∙ e);
+        one_stop = let few = said_stops more (a ∷ past) said in let same = ap (λ (qs : List Request). length (filter is_stop qs)) bare.hand_is in let before = f.inside.one_stop in omega (arith, few, same, before);
         come = come;
       };
     }

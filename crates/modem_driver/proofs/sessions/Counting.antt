@@ -30,7 +30,7 @@ lawful_front s (a ∷ acts) past l = (lawful_front s acts (a ∷ past) l).1
 
 -- ## How many are in hand
 
-none_of : {A : Type 0} (t : A → Bool) (xs : List A) → length (filter t xs) ≡ 0 → list_any t xs ≡ false
+pub none_of : {A : Type 0} (t : A → Bool) (xs : List A) → length (filter t xs) ≡ 0 → list_any t xs ≡ false
 none_of t [] h = refl
 none_of t (x ∷ xs) h = by_test (t x) refl (none_of t xs)
   where
@@ -39,7 +39,7 @@ none_of t (x ∷ xs) h = by_test (t x) refl (none_of t xs)
     by_test true e go = absurd (let one : length (x ∷ filter t xs) ≡ 0 = sym (ap (λ (y : Bool). length (if y then x ∷ filter t xs else filter t xs)) e) ∙ h in omega arith)
 
 -- some that pass a test are left by a test that they all pass
-any_left : {A : Type 0} (t p : A → Bool) → ((x : A) → t x ≡ true → p x ≡ true) → (xs : List A) → list_any t xs ≡ true → list_any t (filter p xs) ≡ true
+pub any_left : {A : Type 0} (t p : A → Bool) → ((x : A) → t x ≡ true → p x ≡ true) → (xs : List A) → list_any t xs ≡ true → list_any t (filter p xs) ≡ true
 any_left t p both [] h = unsaid h
 any_left t p both (x ∷ xs) h = by_tests (t x) (p x) refl refl h (any_left t p both xs)
   where

@@ -136,13 +136,17 @@ ended_on b v w past acts g h = record {
   placed = λ c. begins_on _ _ _ (h.placed c) (g.told c);
 }
 
-pub come_on : (b : Beginning) (v w : SessionView) (past acts : List Act) (c : Course) → Grows v w → HasCome b v past c → HasCome b w (after past acts) c
-come_on b v w past acts GoesOn g h = tt
-come_on b v w past acts Stopped g h = stopped_after acts past h
-come_on b v w past acts (Ended (Ok ended.Stopped)) g h = ended_on b v w past acts g h
-come_on b v w past acts (Ended (Err fault.NoMemory)) g h = h
-come_on b v w past acts (Ended (Err fault.Line)) g h = lost_since acts past h
-come_on b v w past acts (Ended (Err fault.Failed)) g h = lost_since acts past h
+-- acts that end no Stop where none had ended
+abbrev pub NoneEnds : (past acts : List Act) → Type 0
+NoneEnds past acts = has_stopped past ≡ false → has_stopped (after past acts) ≡ false
+
+pub come_on : (b : Beginning) (v w : SessionView) (past acts : List Act) (c : Course) → NoneEnds past acts → Grows v w → HasCome b v past c → HasCome b w (after past acts) c
+come_on b v w past acts GoesOn none g h = none h
+come_on b v w past acts Stopped none g h = stopped_after acts past h
+come_on b v w past acts (Ended (Ok ended.Stopped)) none g h = ended_on b v w past acts g h
+come_on b v w past acts (Ended (Err fault.NoMemory)) none g h = h
+come_on b v w past acts (Ended (Err fault.Line)) none g h = lost_since acts past h
+come_on b v w past acts (Ended (Err fault.Failed)) none g h = lost_since acts past h
 
 -- a call notes nothing of an end that a poll gave
 pub ended_after : (c : Course) (answered : Bool) → KeepsEnd c (course_after c answered)
@@ -225,12 +229,15 @@ stopped_by past acts (Some q) e h =
     let its : is_stopped_by all q ≡ true = and_from (is_stop q) (list_any (λ (o : Outcome). is_for q o && ends_stop o.answer) all) (found_tests is_stop (in_hand past) q e) told in
     any_taken (is_stopped_by all) acts past (hand_taken (is_stopped_by all) past (any_found is_stop (is_stopped_by all) (in_hand past) q e its))
 
-pub come_noted : (b : Beginning) (v w : SessionView) (past acts : List Act) (hand : List Request) (c : Course) → in_hand past ≡ hand → Grows v w → HasCome b v past c
+pub come_noted : (b : Beginning) (v w : SessionView) (past acts : List Act) (hand : List Request) (c : Course) → in_hand past ≡ hand → (is_answered (option_map asker_of (find is_stop hand)) acts ≡ false → NoneEnds past acts) → Grows v w → HasCome b v past c
     → HasCome b w (after past acts) (course_after c (is_answered (option_map asker_of (find is_stop hand)) acts))
-come_noted b v w past acts hand GoesOn e g h = by_answer (is_answered (option_map asker_of (find is_stop hand)) acts) refl
+come_noted b v w past acts hand GoesOn e none g h = by_answer (is_answered (option_map asker_of (find is_stop hand)) acts) refl
   where
     by_answer : (a : Bool) → is_answered (option_map asker_of (find is_stop hand)) acts ≡ a → HasCome b w (after past acts) (course_after GoesOn a)
-    by_answer false k = tt
+    by_answer false k = none k h
     by_answer true k = stopped_by past acts (find is_stop hand) (ap (find is_stop) e) k
-come_noted b v w past acts hand Stopped e g h = come_on b v w past acts Stopped g h
-come_noted b v w past acts hand (Ended end) e g h = come_on b v w past acts (Ended end) g h
+come_noted b v w past acts hand Stopped e none g h = stopped_after acts past h
+come_noted b v w past acts hand (Ended (Ok ended.Stopped)) e none g h = ended_on b v w past acts g h
+come_noted b v w past acts hand (Ended (Err fault.NoMemory)) e none g h = h
+come_noted b v w past acts hand (Ended (Err fault.Line)) e none g h = lost_since acts past h
+come_noted b v w past acts hand (Ended (Err fault.Failed)) e none g h = lost_since acts past h

@@ -95,6 +95,7 @@ fed_there l old fed count some takes bound few more stays d = record {
   went_none = refl;
   calls = refl;
   unfed = let all = left_over old.unfed count few in omega (arith, all);
+  reads_fed = λ read. absurd (read refl);
   moved_is = fed_more count (length (drop count old.unfed)) (length old.unfed) (left_over old.unfed count few) ∙ ap (λ (c : Bool). c || nat_lt (length (drop count old.unfed)) (length old.unfed)) (never_less (length l.received));
   nothing_came = λ _ _ none. absurd (some none);
   feeds = λ still _ none. no_fewer (none_more count still) (more none (some_length old.unfed some));
@@ -119,6 +120,7 @@ reads_none l m old none received sent failures calls d = record {
   went_none = sent;
   calls = calls;
   unfed = omega arith;
+  reads_fed = λ _. none;
   moved_is =
       (never_less (length l.received) ∙ ap (λ (xs : List ℕ). nat_lt (length l.received) (length xs)) (sym (received ∙ append-nil l.received)))
       ∙ (or_no (nat_lt (length l.received) (length m.received)) ∙ ap (λ (xs : List ℕ). nat_lt (length l.received) (length m.received) || nat_lt 0 (length xs)) (sym none));
@@ -142,6 +144,7 @@ reads_failing l m old none received sent failures calls d = record {
   went_none = sent;
   calls = calls;
   unfed = omega arith;
+  reads_fed = λ _. none;
   moved_is =
       (never_less (length l.received) ∙ ap (λ (xs : List ℕ). nat_lt (length l.received) (length xs)) (sym received))
       ∙ (or_less (nat_lt (length l.received) (length m.received)) ∙ ap (λ (c : Bool). nat_lt (length l.received) (length m.received) || c) (never_less (length old.unfed)));
@@ -172,6 +175,7 @@ reads_some l m old came fed count none some few received sent failures calls tak
       went_none = sent;
       calls = calls;
       unfed = let rest = length-drop count came in omega (arith, rest);
+      reads_fed = λ _. none;
       moved_is = ap (λ (c : Bool). c || nat_lt (length (drop count came)) (length old.unfed)) (sym moved);
       nothing_came = λ h. absurd (true_false h);
       feeds = λ h. absurd (true_false h);

@@ -27,12 +27,13 @@ use Rattle.modem_driver.specs.Minding.{MindsOne}
 use Rattle.modem_driver.specs.TurnSteps.{is_more}
 use Rattle.modem_driver.specs.SessionStates.{Kept, KeptGoes, seen_by, end_of}
 use Rattle.modem_driver.proofs.Wires.{queue_seen}
-use Rattle.modem_driver.proofs.sessions.Afters.{gots_after, losses_after, lost_after}
+use Rattle.modem_driver.proofs.sessions.Afters.{gots_after, losses_after, lost_after, taken_after}
 use Rattle.modem_driver.proofs.sessions.Calls.{FitsKept, IsBare, KeepsMore, call_fits, is_run}
 use Rattle.modem_driver.proofs.sessions.Ending.{come_on, grows_none}
 use Rattle.modem_driver.proofs.sessions.Lines.{session_with, loss_with}
 use Rattle.modem_driver.proofs.sessions.Listening.{calls_hear}
 use Rattle.modem_driver.proofs.sessions.Parts.{received_part, sent_part}
+use Rattle.modem_driver.proofs.sessions.StopsInHand.{ends, none_ends}
 
 may_ask : (b : Beginning) (l : LineView) (d : DriverView) (k : Kept) (past : List Act) → FitsKept b l d k past → MayAsk (driving b) k.core past
 may_ask b l d k past f = record { setting = f.inside.setting; fits = f.inside.fits; holds = f.inside.holds; run = is_run b l d k past f }
@@ -113,7 +114,8 @@ none_fits b l d old new past f core aside unplaced lines unfed deframer unwritte
         callers_are = f.inside.callers_are;
         sound = λ h. f.inside.sound (sym faulty ∙ h);
         by_fault = λ h. f.inside.by_fault (sym faulty ∙ h);
-        come = subst (HasCome b w past) (sym course) (come_on b v w past [] old.course (grows_none v w refl refl) f.inside.come);
+        one_stop = f.inside.one_stop;
+        come = subst (HasCome b w past) (sym course) (come_on b v w past [] old.course (λ h. h) (grows_none v w refl refl) f.inside.come);
       };
     }
 
@@ -173,6 +175,11 @@ heard_due n None = refl
 heard_due n (Some true) = refl
 heard_due n (Some false) = refl
 
+got_due : (n : ℕ) (o : Option Bool) → gots (acts_due n o) ≡ []
+got_due n None = refl
+got_due n (Some true) = refl
+got_due n (Some false) = refl
+
 flown : (old : Kept) (core : Core) (n : ℕ) (acts : List Act) (x : Option Bool) → acts ≡ acts_due n x
     → (b : Beginning) (l : LineView) (d : DriverView) (past : List Act) → FitsKept b l d old past → (due : Option Bool) → due_by (driving b) past n (backlog_in n old.unannounced) ≡ due → FlowsOn (driving b) old.core core past n due acts
     → Flown b l d old (record old { core = core }) n past acts
@@ -206,7 +213,7 @@ flown old core n acts x are b l d past f (Some go) e on =
     } in
     let live : core.lost ≡ false = sym here.fits.lost_is ∙ (gone ∙ due_live (is_lost past) (n == 0) _ go e) in
     let waits : queue (wire (after past acts)) ≡ core.station.queue = ap (λ (xs : List Act). queue (wire (after past xs))) called ∙ live_queue core (after past (a ∷ more)) here.fits live in
-    let come = come_on b (seen_by l (end_of d) old) (seen_by l (end_of d) new) past (a ∷ more) old.course (grows_none (seen_by l (end_of d) old) (seen_by l (end_of d) new) refl refl) f.inside.come in
+    let come = come_on b (seen_by l (end_of d) old) (seen_by l (end_of d) new) past (a ∷ more) old.course (none_ends (a ∷ more) past (taken_after more (a ∷ past) said ∙ (flow_bare n go past).taken_is) (ap (list_any ends) (sym (ap outcomes_told called) ∙ none_told))) (grows_none (seen_by l (end_of d) old) (seen_by l (end_of d) new) refl refl) f.inside.come in
     record {
       fits = subst (λ (xs : List Act). FitsKept b l d new (after past xs)) (sym called)
           (call_fits b l d old new past more a f (flow_bare n go past) here hold said (calls_hear s (seen s past) a) keep refl refl refl come lost
@@ -231,6 +238,7 @@ minds_one old core n acts x are flows = record {
   goes = λ b l d past once f. (flown old core n acts x are b l d past f (due_by (driving b) past n (backlog_in n old.unannounced)) refl (flows (driving b) past (may_ask b l d old past f))).fits;
   none_told = ap outcomes_told are ∙ told_due n x;
   none_heard = ap lines_heard are ∙ heard_due n x;
+  none_got = ap gots are ∙ got_due n x;
   moved_is = ap (λ (xs : List Act). not (length xs == 0)) are ∙ (more_is n x ∙ ap (list_any is_more) (sym are));
   may = λ b l d past f. (flown old core n acts x are b l d past f (due_by (driving b) past n (backlog_in n old.unannounced)) refl (flows (driving b) past (may_ask b l d old past f))).may;
   settles = λ b l d past f. (flown old core n acts x are b l d past f (due_by (driving b) past n (backlog_in n old.unannounced)) refl (flows (driving b) past (may_ask b l d old past f))).settles;
@@ -245,6 +253,7 @@ minds_none old n h = record {
   goes = λ b l d past once f. f;
   none_told = refl;
   none_heard = refl;
+  none_got = refl;
   moved_is = refl;
   may = λ b l d past f. refl;
   settles = λ b l d past f empty. (refl, (refl, h b l d past f empty));

@@ -32,6 +32,9 @@ use Rattle.modem_driver.proofs.sessions.Flowing.{said_may}
 use Rattle.modem_driver.proofs.sessions.GettingLines.{few_called}
 use Rattle.modem_driver.proofs.sessions.Listening.{calls_hear}
 use Rattle.modem_driver.proofs.sessions.Sending.{stands_in}
+use Rattle.modem_driver.proofs.sessions.OneFrame.{one_few}
+use Rattle.modem_driver.proofs.sessions.Stopping.{none_noted}
+use Rattle.modem_history.specs.Lawful.{Lawful}
 
 got_bare : (f : Frame) (past : List Act) → IsBare (Got f) past
 got_bare f past = record { taken_is = refl; given_is = refl; hand_is = refl; room_is = λ h. h; told_is = λ more. refl; heard_is = λ more. refl }
@@ -43,7 +46,7 @@ came f acts = Got f ∷ drop 1 acts
 -- what handling it comes to
 record Gotten (b : Beginning) (l : LineView) (d : DriverView) (old new : Kept) (past : List Act) (f : Frame) (acts : List Act) : Type 0 where
   fits : FitsKept b l d new (after past (came f acts))
-  adds : (waiting : List Urc) → Adds old new waiting (came f acts)
+  adds : (waiting : List Urc) → Adds old new waiting 1 (came f acts)
 
 gotten : (old : Kept) (core : Core) (fed : Deframing) (room : ℕ) (w : WaitingLists) (acts : List Act) (f : Frame)
     → Handles old.core core (Got f) acts → KeepsHeld old.core core (Got f) acts → Keeps (record { outcomes = old.unplaced; lines = old.unannounced; room = room }) w acts → length f.info ≤ room
@@ -80,16 +83,17 @@ gotten old core fed room w acts f handles held keeps enough at_hand bound over b
     } in
     let come : HasCome b (seen_by l (end_of d) new) (after past (a ∷ more)) new.course =
     subst (λ (xs : List Act). HasCome b (seen_by l (end_of d) new) (after past xs) new.course) on.called
-    (come_noted b (seen_by l (end_of d) old) (seen_by l (end_of d) new) past acts old.core.hand old.course fit.inside.fits.hand_is (grows_none (seen_by l (end_of d) old) (seen_by l (end_of d) new) refl refl) fit.inside.come) in
+    (come_noted b (seen_by l (end_of d) old) (seen_by l (end_of d) new) past acts old.core.hand old.course fit.inside.fits.hand_is (none_noted b l d old past acts more a fit on.called refl (subst (λ (xs : List Act). Lawful s (after past xs)) (sym on.called) here.run.lawful) said refl) (grows_none (seen_by l (end_of d) old) (seen_by l (end_of d) new) refl refl) fit.inside.come) in
     let told = few_told b l d old new past more a fit (got_bare f past) here said in
     let fewer = fit.session.requests.few in
     record {
       fits = subst (λ (xs : List Act). FitsKept b l d new (after past xs)) (sym same)
           (call_fits b l d old new past more a fit (got_bare f past) here hold said (calls_hear s (seen s past) a) keep refl refl refl come lost received);
-      adds = λ waiting. subst (Adds old new waiting) (sym same) (record {
+      adds = λ waiting. subst (Adds old new waiting 1) (sym same) (record {
         outcomes = keep.outcomes (omega (arith, told, fewer));
         lines = keep.lines;
         may = said_may waiting more said;
+        few_got = one_few f more said;
       });
     }
 
@@ -146,7 +150,7 @@ unfolding KeptGets Leads AddsAll HasRoom
 still_gets old stays l d = record {
   acts = [];
   leads = λ b past once fit. fit;
-  adds = λ waiting b past once fit. record { outcomes = sym (append-nil old.unplaced); lines = sym (append-nil (map heard_as old.unannounced)); may = refl };
+  adds = λ waiting b past once fit. record { outcomes = sym (append-nil old.unplaced); lines = sym (append-nil (map heard_as old.unannounced)); may = refl; few_got = omega arith };
   moved_is = refl;
   still = λ e. (refl, refl);
   ended = λ end e. e;

@@ -91,7 +91,7 @@ same_place Other Cgev e = cc
 same_place Other Ciev e = cc
 same_place Other Other e = refl
 
-same_itself : (k : UrcKind) → is_same_kind k k ≡ true
+pub same_itself : (k : UrcKind) → is_same_kind k k ≡ true
 same_itself Ring = refl
 same_itself Cring = refl
 same_itself Creg = refl

@@ -76,7 +76,8 @@ feed_goes old fed count takes bound b l d past once f =
         callers_are = f.inside.callers_are;
         sound = f.inside.sound;
         by_fault = f.inside.by_fault;
-        come = come_on b v w past [] old.course (grows_none v w refl refl) f.inside.come;
+        one_stop = f.inside.one_stop;
+        come = come_on b v w past [] old.course (λ h. h) (grows_none v w refl refl) f.inside.come;
       };
     }
 
@@ -92,6 +93,7 @@ inside_sound b l m d old new past f core faulty same come = record {
   callers_are = f.callers_are;
   sound = λ h. same ∙ f.sound (sym faulty ∙ h);
   by_fault = λ h. let before = f.by_fault (sym faulty ∙ h) in omega arith;
+  one_stop = f.one_stop;
   come = come;
 }
 
@@ -105,6 +107,7 @@ inside_faulty b l m d old new past f core faulty more come = record {
   callers_are = f.callers_are;
   sound = λ h. no_fault (sym h ∙ faulty);
   by_fault = λ h. by_old old.faulty refl;
+  one_stop = f.one_stop;
   come = come;
 }
   where
@@ -133,7 +136,7 @@ read_goes l m old came none received sent failures b d past once f =
             deframes = r.deframes;
           })
           (sent_part b v w past past f.session.sent sent refl refl);
-      inside = inside_sound b l m d old new past f.inside refl refl failures (come_on b v w past [] old.course (grows_none v w sent refl) f.inside.come);
+      inside = inside_sound b l m d old new past f.inside refl refl failures (come_on b v w past [] old.course (λ h. h) (grows_none v w sent refl) f.inside.come);
     }
 
 -- a call that failed changed neither list
@@ -148,7 +151,7 @@ fault_goes l m old received sent failures b d past once f =
       session = session_with b v w past f.session refl refl refl refl (loss_with b v w past f.session (omega arith))
           (received_part b v w past past f.session.received received refl refl refl)
           (sent_part b v w past past f.session.sent sent refl refl);
-      inside = inside_faulty b l m d old new past f.inside refl refl failures (come_on b v w past [] old.course (grows_none v w sent refl) f.inside.come);
+      inside = inside_faulty b l m d old new past f.inside refl refl failures (come_on b v w past [] old.course (λ h. h) (grows_none v w sent refl) f.inside.come);
     }
 
 pub write_goes : (l m : LineView) (old : Kept) (count : ℕ) → m.received ≡ l.received → m.sent ≡ l.sent ++ take count old.unwritten → m.failures ≡ l.failures
@@ -171,5 +174,5 @@ write_goes l m old count received sent failures b d past once f =
             written = s.written + count;
             of_last = ap (drop count) s.of_last ∙ drop-drop count s.written (last_octets (given_on past));
           });
-      inside = inside_sound b l m d old new past f.inside refl refl failures (come_on b v w past [] old.course (grows_sent v w head sent refl) f.inside.come);
+      inside = inside_sound b l m d old new past f.inside refl refl failures (come_on b v w past [] old.course (λ h. h) (grows_sent v w head sent refl) f.inside.come);
     }

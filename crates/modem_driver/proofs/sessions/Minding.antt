@@ -4,7 +4,7 @@ use Rattle.std.proofs.lemmas.Bool.{and_from, eqb-true, le-leb, lt-ltb}
 use Rattle.std.proofs.lemmas.Bool.Decides.{eqb_tells}
 use Rattle.std.proofs.lemmas.List.{append-nil}
 use Rattle.std.proofs.lemmas.List.Folds.{list_all-append, list_any-append}
-use Rattle.std.specs.Prelude.{◌≡◌, ◌≢◌, ℕ, zero, suc, ◌+◌, ◌≤◌, ◌<◌, ◌==◌, ◌&&◌, ◌||◌, not, Bool, true, false, List, [], ◌∷◌, ◌++◌, map, refl, Option, None, Some, if◌then◌else◌, IfSome, Result, Ok, Err, OnErr}
+use Rattle.std.specs.Prelude.{◌≡◌, ◌≢◌, ℕ, zero, suc, ◌+◌, ◌≤◌, ◌<◌, ◌==◌, ◌&&◌, ◌||◌, not, Bool, true, false, List, [], ◌∷◌, ◌++◌, length, map, refl, Option, None, Some, if◌then◌else◌, IfSome, Result, Ok, Err, OnErr}
 use Rattle.std.specs.List.{list_all, list_any}
 use Rattle.mux_station.specs.declared.role.Role.TheVariants.{Initiator}
 use Rattle.mux_station.specs.Opening.{is_open}
@@ -17,7 +17,7 @@ use Rattle.modem_history.specs.Information.{opens_here}
 use Rattle.modem_history.specs.Holding.{last_held, is_held}
 use Rattle.modem_history.specs.Calls.{Setting, is_lost}
 use Rattle.modem_history.specs.Lawful.{Lawful}
-use Rattle.modem_history.specs.Sessions.{Beginning, LineView, SessionView, driving, backlog_in, heard_as}
+use Rattle.modem_history.specs.Sessions.{Beginning, LineView, SessionView, driving, backlog_in, gots, heard_as}
 use Rattle.modem_history.specs.Turns.{HoldsByBacklog, outcomes_told, lines_heard, may_act}
 use Rattle.modem_history.proofs.AfterActs.{after_both}
 use Rattle.modem_driver.specs.declared.session.error.SessionFault.{SessionFault}
@@ -28,6 +28,7 @@ use Rattle.modem_driver.specs.TurnSteps.{Leads, AddsAll, Minds, MindsPart, stand
 use Rattle.modem_driver.proofs.sessions.Calls.{FitsKept}
 use Rattle.modem_driver.proofs.sessions.Keeping.{told_both}
 use Rattle.modem_driver.proofs.sessions.Listening.{heard_both}
+use Rattle.modem_driver.proofs.sessions.OneFrame.{none_both}
 
 -- ## 0 is never held
 
@@ -121,6 +122,7 @@ pub record MindsSo (first now : Kept) (number : ℕ) (moved : Bool) : Type 0 whe
   pub goes : KeptGoes first now acts
   pub none_told : outcomes_told acts ≡ []
   pub none_heard : lines_heard acts ≡ []
+  pub none_got : gots acts ≡ []
   pub moved_is : moved ≡ list_any is_more acts
   pub may : (b : Beginning) (l : LineView) (e : DriverView) (past : List Act) → FitsKept b l e first past → list_all (may_act first.unannounced) acts ≡ true
   pub settled : (b : Beginning) (l : LineView) (e : DriverView) (past : List Act) → FitsKept b l e first past → now.core.station.queue ≡ [] → (acts ≡ []) × NoneDue b past first.unannounced number
@@ -133,6 +135,7 @@ minds_first k = record {
   goes = λ b l e past once f. f;
   none_told = refl;
   none_heard = refl;
+  none_got = refl;
   moved_is = refl;
   may = λ b l e past f. refl;
   settled = λ b l e past f empty. (refl, λ m least lt. absurd (omega arith));
@@ -158,6 +161,7 @@ minds_more first now next number moved earlier one so = record {
   goes = λ b l e past once f. subst (FitsKept b l e next) (sym (after_both so.acts one.acts past)) (one.goes b l e (after past so.acts) once (so.goes b l e past once f));
   none_told = told_both so.acts one.acts ∙ (ap (λ (os : List Outcome). os ++ outcomes_told one.acts) so.none_told ∙ one.none_told);
   none_heard = heard_both so.acts one.acts ∙ (ap (λ (hs : List Act). hs ++ lines_heard one.acts) so.none_heard ∙ one.none_heard);
+  none_got = none_both so.acts one.acts so.none_got one.none_got;
   moved_is = ap (λ (x : Bool). x || moved) so.moved_is ∙ (ap (λ (x : Bool). list_any is_more so.acts || x) one.moved_is ∙ sym (list_any-append is_more so.acts one.acts));
   may = λ b l e past f.
       list_all-append (may_act first.unannounced) so.acts one.acts
@@ -176,12 +180,13 @@ same_number o x n h e = subst (λ (y : Option Dlci). IfSome y (λ d. d.number �
 
 -- ## All of them
 
-adds_none : (first now : Kept) (number : ℕ) (moved : Bool) → (so : MindsSo first now number moved) → (l : LineView) (d : DriverView) → AddsAll (standing l d first) (standing l d now) first.unannounced so.acts
+adds_none : (first now : Kept) (number : ℕ) (moved : Bool) → (so : MindsSo first now number moved) → (l : LineView) (d : DriverView) → AddsAll (standing l d first) (standing l d now) first.unannounced 0 so.acts
 unfolding AddsAll
 adds_none first now number moved so l d b past once f = record {
   outcomes = ap (λ (k : Kept). k.unplaced) so.stays ∙ (sym (append-nil first.unplaced) ∙ ap (λ (os : List Outcome). first.unplaced ++ os) (sym so.none_told));
   lines = ap (λ (k : Kept). map heard_as k.unannounced) so.stays ∙ (sym (append-nil (map heard_as first.unannounced)) ∙ ap (λ (hs : List Act). map heard_as first.unannounced ++ hs) (sym so.none_heard));
   may = so.may b l d past f;
+  few_got = let none = ap length so.none_got in omega arith;
 }
 
 leads_by : (first now : Kept) (acts : List Act) → KeptGoes first now acts → (l : LineView) (d : DriverView) → Leads (standing l d first) (standing l d now) acts

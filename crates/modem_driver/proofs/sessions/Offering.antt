@@ -4,12 +4,13 @@ use Rattle.std.proofs.lemmas.Bool.{and_from, and_parts, eqb-true, eqb-false, lt-
 use Rattle.std.proofs.lemmas.List.{append_assoc, append-nil, length-append, get_or-set_same, get_or-set_other}
 use Rattle.std.proofs.lemmas.List.Elements.{filter-append}
 use Rattle.std.proofs.lemmas.List.Folds.{list_all-append}
-use Rattle.std.specs.Prelude.{◌≡◌, ◌≢◌, ℕ, zero, suc, replicate, ◌+◌, ◌≤◌, ◌<◌, ◌==◌, ◌||◌, ◌⊎◌, nat_lt, Bool, true, false, List, [], ◌∷◌, ◌++◌, length, refl, slice_index_or, slice_set, if◌then◌else◌}
+use Rattle.std.specs.Prelude.{◌≡◌, ◌≢◌, ℕ, zero, suc, replicate, ◌+◌, ◌≤◌, ◌<◌, ◌==◌, ◌||◌, ◌⊎◌, nat_lt, Bool, true, false, List, [], ◌∷◌, ◌++◌, length, refl, slice_index_or, slice_set}
 use Rattle.std.specs.List.{list_all}
 use Rattle.modem_history.specs.Sessions.{at_place}
 use Rattle.modem_history.specs.Turns.{amount}
-use Rattle.modem_driver.specs.Placing.{of_key, Gave, Placed, Placing, OneFewer, OffersFirst}
+use Rattle.modem_driver.specs.Placing.{of_key, Gave, Stay, Placed, Placing, OneFewer, OffersFirst}
 use Rattle.modem_driver.proofs.sessions.Amounts.{amount_more}
+use Rattle.modem_driver.proofs.sessions.Staying.{own, other_of, stay_all, stay_without}
 
 false_true : false ≡ true → ⊥
 false_true h = cc
@@ -30,12 +31,6 @@ none_held (suc m) (suc n) = none_held m n
 
 -- ## Those of a key
 
-own : {X : Type 0} (key : X → ℕ) (n : ℕ) (x : X) (xs : List X) → (key x == n) ≡ true → of_key key n (x ∷ xs) ≡ x ∷ of_key key n xs
-own key n x xs e = ap (λ (c : Bool). if c then x ∷ of_key key n xs else of_key key n xs) e
-
-other : {X : Type 0} (key : X → ℕ) (n : ℕ) (x : X) (xs : List X) → (key x == n) ≡ false → of_key key n (x ∷ xs) ≡ of_key key n xs
-other key n x xs e = ap (λ (c : Bool). if c then x ∷ of_key key n xs else of_key key n xs) e
-
 -- the first that is offered is the first of its key, where none of it stays
 first_of : {X : Type 0} (key : X → ℕ) (n : ℕ) (stay rest : List X) (x : X) → (key x == n) ≡ true → of_key key n stay ≡ [] → of_key key n (stay ++ x ∷ rest) ≡ x ∷ of_key key n (stay ++ rest)
 first_of {X} key n stay rest x e none =
@@ -43,12 +38,6 @@ first_of {X} key n stay rest x e none =
     ∙ (ap (λ (ys : List X). ys ++ of_key key n (x ∷ rest)) none
     ∙ (own key n x rest e
     ∙ ap (λ (ys : List X). x ∷ ys) (sym (filter-append (λ y. key y == n) stay rest ∙ ap (λ (ys : List X). ys ++ of_key key n rest) none))))
-
-other_of : {X : Type 0} (key : X → ℕ) (n : ℕ) (stay rest : List X) (x : X) → (key x == n) ≡ false → of_key key n (stay ++ x ∷ rest) ≡ of_key key n (stay ++ rest)
-other_of {X} key n stay rest x e =
-    filter-append (λ y. key y == n) stay (x ∷ rest)
-    ∙ (ap (λ (ys : List X). of_key key n stay ++ ys) (other key n x rest e)
-    ∙ sym (filter-append (λ y. key y == n) stay rest))
 
 all_without : {X : Type 0} (p : X → Bool) (stay rest : List X) (x : X) → list_all p (stay ++ x ∷ rest) ≡ true → list_all p (stay ++ rest) ≡ true
 all_without p stay rest x h =
@@ -108,6 +97,8 @@ placing_given {X} key at known before now later free freer held waited stay rest
     record {
       each = λ n i a. gave_more key at before now later free freer waited stay rest x n i apart g
           (λ e. let same = eqb-true (key x) n e in p.free_way n (subst known same k) (subst (λ (m : ℕ). slice_index_or held m false ≡ false) same way)) a (p.each n i a);
+      in_order = stay_without key waited stay rest x (p.free_way (key x) k way) p.in_order;
+      elsewhere = λ i o. g.others i (o (key x)) ∙ p.elsewhere i o;
       free_way = p.free_way;
       full = λ n i a kn h. g.free_others i (λ at_x. not_both (sym (ap (λ (m : ℕ). slice_index_or held m false) (apart.same (key x) n i at_x a)) ∙ way) h) ∙ p.full n i a kn h;
       all = λ q h. all_without q stay rest x (p.all q h);
@@ -142,6 +133,8 @@ pub placing_back : {X : Type 0} (key : X → ℕ) (at : ℕ → ℕ → Type 0) 
     → Placing key at known before now free held waited (x ∷ rest) stay moved → Placing key at known before now freer (slice_set held (key x) true) waited rest (stay ++ x ∷ []) moved
 placing_back {X} key at known before now free freer held waited stay rest x moved apart dry lt p = record {
   each = λ n i a. gave_same key before now waited stay rest x n i (p.each n i a);
+  in_order = subst (Stay key waited) (sym (append_assoc stay (x ∷ []) rest)) p.in_order;
+  elsewhere = p.elsewhere;
   free_way = λ n kn h. by_test n kn h (key x == n) refl;
   full = λ n i a kn h. ⊎_elim (λ (at_x : at (key x) i). dry.here i at_x) (λ (o : ¬ at (key x) i). dry.others i o ∙ p.full n i a kn (sym (get_or-set_other held (key x) n true false (λ e. o (subst (λ (m : ℕ). at m i) e a))) ∙ h)) (apart.tells (key x) i);
   all = λ q h. ap (list_all q) (append_assoc stay (x ∷ []) rest) ∙ p.all q h;
@@ -160,6 +153,8 @@ pub placing_passed : {X : Type 0} (key : X → ℕ) (at : ℕ → ℕ → Type 0
     → Placing key at known before now free held waited (x ∷ rest) stay moved → Placing key at known before now free held waited rest (stay ++ x ∷ []) moved
 placing_passed {X} key at known before now free held waited stay rest x moved way p = record {
   each = λ n i a. gave_same key before now waited stay rest x n i (p.each n i a);
+  in_order = subst (Stay key waited) (sym (append_assoc stay (x ∷ []) rest)) p.in_order;
+  elsewhere = p.elsewhere;
   free_way = λ n kn h. by_test n kn h (key x == n) refl;
   full = p.full;
   all = λ q h. ap (list_all q) (append_assoc stay (x ∷ []) rest) ∙ p.all q h;
@@ -185,6 +180,8 @@ placing_first key at known before free held waited none = record {
   left_are = refl;
   placing = record {
     each = λ n i a. record { since = []; given_are = sym (append-nil (at_place i before)); rest_are = refl };
+    in_order = stay_all key waited;
+    elsewhere = λ i o. refl;
     free_way = λ n kn h. refl;
     full = λ n i a kn h. absurd (not_both (none n) h);
     all = λ q h. h;
@@ -210,6 +207,8 @@ placed_last {X} key at known before now free held waited new moved o =
     let all : o.stay ++ o.waits ≡ new = ap (λ (ys : List X). o.stay ++ ys) none ∙ (append-nil o.stay ∙ sym are) in
     record {
       each = λ n i a. subst (λ (ys : List X). Gave key before now waited ys n i) all (p.each n i a);
+      in_order = subst (Stay key waited) all p.in_order;
+      elsewhere = p.elsewhere;
       full = λ n i a kn some. by_held n i a kn some are (slice_index_or held n false) refl;
       all = λ q h. sym (ap (list_all q) all) ∙ p.all q h;
       fewer = subst (λ (ys : List X). length ys ≤ length waited) all p.fewer;

@@ -16,6 +16,7 @@ use Rattle.modem_history.specs.Sessions.{Beginning, SessionView, FitsTold, FitsH
 use Rattle.modem_history.specs.Turns.{outcomes_told, lines_heard}
 use Rattle.modem_driver.proofs.sessions.Afters.{outcomes_after, heards_after, heard_of, is_heard_as, kind_heard, listened_heard, has_listener}
 use Rattle.modem_driver.proofs.sessions.Counting.{is_callers}
+use Rattle.modem_driver.proofs.sessions.HeardOrder.{behind_more}
 
 -- outcomes that were told wait behind the others
 pub told_part : (b : Beginning) (old new : SessionView) (past acts : List Act) → FitsTold b old past → new.desk.told ≡ old.desk.told → new.unplaced ≡ old.unplaced ++ outcomes_told acts → list_all (is_callers b.callers) (outcomes_told acts) ≡ true
@@ -63,6 +64,8 @@ heard_part b old new past acts f desk more listened = record {
       ∙ (ap (list_all (has_listener b.kinds)) more
       ∙ (list_all-append (has_listener b.kinds) (map heard_as old.unannounced) (lines_heard acts)
       ∙ and_from (list_all (has_listener b.kinds) (map heard_as old.unannounced)) (list_all (has_listener b.kinds) (lines_heard acts)) (sym (listened_heard b.kinds old.unannounced) ∙ f.listened) listened));
+  in_order = behind_more old new past acts f.in_order more;
+  nowhere_else = λ i far. ap (at_place i) desk ∙ f.nowhere_else i far;
 }
 
 -- nothing more was given on

@@ -1,10 +1,9 @@
 -- What waits was offered to the desk: the session fits its history as before.
-use Rattle.std.proofs.Common.{ap, sym, ◌∙◌, subst, arith, ⊎_elim}
-use Rattle.std.proofs.lemmas.Bool.{eqb-true, eqb-false, eq-eqb, ne_eqb}
-use Rattle.std.proofs.lemmas.Bool.Decides.{eqb_tells}
+use Rattle.std.proofs.Common.{ap, sym, ◌∙◌, subst, arith}
+use Rattle.std.proofs.lemmas.Bool.{eqb-true, eqb-false}
 use Rattle.std.proofs.lemmas.List.{append_assoc}
 use Rattle.std.proofs.lemmas.List.Elements.{Contains-append_right}
-use Rattle.std.specs.Prelude.{◌≡◌, ◌≢◌, ℕ, zero, suc, ◌<◌, ◌==◌, ◌||◌, not, nat_lt, Bool, true, false, List, [], ◌∷◌, ◌++◌, length, map, take, drop, filter, refl, Contains, if◌then◌else◌}
+use Rattle.std.specs.Prelude.{◌≡◌, ◌≢◌, ℕ, zero, suc, ◌<◌, ◌≤◌, ◌==◌, ◌||◌, not, nat_lt, Bool, true, false, List, [], ◌∷◌, ◌++◌, length, map, take, drop, filter, refl, Contains, if◌then◌else◌}
 use Rattle.std.specs.List.{list_all}
 use mathlib.Core.Option.{some, some-injective, some-ne-none}
 use lib.ListN.{get_elem?}
@@ -17,7 +16,7 @@ use Rattle.modem_history.specs.Acts.{Act}
 use Rattle.modem_history.specs.Kinds.{kind_place, of_kind, is_listened}
 use Rattle.modem_history.specs.Sessions.{Beginning, LineView, SessionView, FitsTold, FitsHeard, at_place, of_caller, heard_as}
 use Rattle.modem_history.specs.Turns.{amount}
-use Rattle.modem_driver.specs.Placing.{of_key, Gave, Placed, TellsAlone, AnnouncesAlone, caller_of, place_of, IsRingOf, IsCaller, IsEarOf, IsHeard}
+use Rattle.modem_driver.specs.Placing.{of_key, Gave, Stay, Placed, TellsAlone, AnnouncesAlone, caller_of, place_of, IsRingOf, IsCaller, IsEarOf, IsHeard}
 use Rattle.modem_driver.specs.Endings.{Begins}
 use Rattle.modem_driver.specs.SessionStates.{Kept, seen_by, end_of}
 use Rattle.modem_driver.specs.TurnSteps.{Leads, Places, standing}
@@ -25,6 +24,7 @@ use Rattle.modem_driver.proofs.sessions.Counting.{is_callers, is_caller}
 use Rattle.modem_driver.proofs.sessions.Ending.{Grows, begins_whole, come_on}
 use Rattle.modem_driver.proofs.sessions.Lines.{loss_with}
 use Rattle.modem_driver.proofs.sessions.Parts.{sent_part, received_part}
+use Rattle.modem_driver.proofs.sessions.HeardOrder.{kinds_of, behind_fewer}
 
 -- ## The first of each key
 
@@ -63,14 +63,10 @@ firsts_are {X} key n (x ∷ xs) = by_test (key x == n) refl (firsts_are key n xs
 
 -- ## Kinds
 
-swapped : (a b : ℕ) → (a == b) ≡ (b == a)
-swapped a b = ⊎_elim (λ (y : (a == b) ≡ true × a ≡ b). y.0 ∙ sym (eq-eqb b a (sym y.1))) (λ (y : (a == b) ≡ false × a ≢ b). y.0 ∙ sym (ne_eqb b a (λ e. y.1 (sym e)))) (eqb_tells a b)
-
-kinds_of : (k : UrcKind) (us : List Urc) → of_kind k us ≡ of_key place_of (kind_place k) us
-kinds_of k [] = refl
-kinds_of k (u ∷ us) =
-    ap (λ (c : Bool). if c then u ∷ of_kind k us else of_kind k us) (swapped (kind_place k) (kind_place u.kind))
-    ∙ ap (λ (vs : List Urc). if kind_place u.kind == kind_place k then u ∷ vs else vs) (kinds_of k us)
+none_beyond : (ks : List UrcKind) (i : ℕ) (k : UrcKind) → length ks ≤ i → get_elem? ks i ≡ some k → ⊥
+none_beyond [] i k far e = some-ne-none k (sym e)
+none_beyond (m ∷ ks) zero k far e = omega arith
+none_beyond (m ∷ ks) (suc i) k far e = none_beyond ks i k (omega arith) e
 
 has_at : (ks : List UrcKind) (i : ℕ) (k : UrcKind) → get_elem? ks i ≡ some k → Contains ks k
 has_at [] i k e = absurd (some-ne-none k (sym e))
@@ -95,8 +91,9 @@ told_more b old new past f gave callers = record {
 
 heard_more : (b : Beginning) (old new : SessionView) (past : List Act) → FitsHeard b old past
     → ((i : ℕ) (k : UrcKind) → get_elem? b.kinds i ≡ some k → Gave place_of old.desk.announced new.desk.announced old.unannounced new.unannounced (kind_place k) i)
-    → list_all (λ (u : Urc). is_listened b.kinds u.kind) new.unannounced ≡ true → FitsHeard b new past
-heard_more b old new past f gave listened = record {
+    → list_all (λ (u : Urc). is_listened b.kinds u.kind) new.unannounced ≡ true → Stay place_of old.unannounced new.unannounced
+    → ((i : ℕ) → length b.kinds ≤ i → at_place i new.desk.announced ≡ at_place i old.desk.announced) → FitsHeard b new past
+heard_more b old new past f gave listened stay elsewhere = record {
   each = λ i k at.
       let a = f.each i k at in
       let g = gave i k at in
@@ -107,6 +104,8 @@ heard_more b old new past f gave listened = record {
         lines_are = ap (λ (us : List Urc). map heard_as us) (append_assoc a.since g.since (of_kind k new.unannounced) ∙ ap (λ (us : List Urc). a.since ++ us) rest) ∙ a.lines_are;
       };
   listened = listened;
+  in_order = behind_fewer old new past f.in_order stay;
+  nowhere_else = λ i far. elsewhere i far ∙ f.nowhere_else i far;
 }
 
 -- ## The step
@@ -163,7 +162,8 @@ placed_fits l d e old ps vs told announced p b past once f =
         sent = sent_part b v w past past s.sent refl refl refl;
         told = told_more b v w past s.told (λ c. p.outcomes.each c c refl) (p.outcomes.all (is_callers b.callers) s.told.callers);
         heard = heard_more b v w past s.heard (λ i k at. p.lines.each (kind_place k) i (record { kind = k; is_place = refl; is_at = subst (λ (ks : List UrcKind). get_elem? ks i ≡ some k) (sym kinds) at }))
-            (p.lines.all (λ (u : Urc). is_listened b.kinds u.kind) s.heard.listened);
+            (p.lines.all (λ (u : Urc). is_listened b.kinds u.kind) s.heard.listened) p.lines.in_order
+            (λ i far. p.lines.elsewhere i (λ n ear. none_beyond b.kinds i ear.kind far (subst (λ (ks : List UrcKind). get_elem? ks i ≡ some ear.kind) kinds ear.is_at)));
       };
       inside = record {
         setting = f.inside.setting;
@@ -173,7 +173,8 @@ placed_fits l d e old ps vs told announced p b past once f =
         callers_are = ap (λ (k : DeskId). length k.rings) p.desk ∙ f.inside.callers_are;
         sound = f.inside.sound;
         by_fault = f.inside.by_fault;
-        come = come_on b v w past [] old.course (grows_told v w (λ c. p.outcomes.each c c refl) (begins_whole l.sent)) f.inside.come;
+        one_stop = f.inside.one_stop;
+        come = come_on b v w past [] old.course (λ h. h) (grows_told v w (λ c. p.outcomes.each c c refl) (begins_whole l.sent)) f.inside.come;
       };
     }
 

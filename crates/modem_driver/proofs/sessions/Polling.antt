@@ -76,6 +76,7 @@ module _ {X : Type 0} (look : X → LineView) where
         callers_are = f.inside.callers_are;
         sound = f.inside.sound;
         by_fault = f.inside.by_fault;
+        one_stop = f.inside.one_stop;
         come = says b past f;
       };
     };

@@ -35,6 +35,8 @@ use Rattle.modem_driver.proofs.sessions.Calls.{FitsKept, is_run}
 use Rattle.modem_driver.proofs.sessions.Ending.{come_on, grows_none}
 use Rattle.modem_driver.proofs.sessions.Parts.{told_part, heard_part, received_part}
 use Rattle.modem_driver.proofs.sessions.SendingPlain.{is_plain, queue_plain}
+use Rattle.modem_driver.proofs.sessions.StopsInHand.{ends, none_ends}
+use Rattle.modem_driver.specs.Endings.{is_stop}
 
 -- ## What goes out of a history
 
@@ -143,6 +145,10 @@ is_out : (c : Bool) (f : Frame) (past : List Act) → IsOut (out_act c f) past
 is_out true f past = record { taken_is = refl; hand_is = refl; room_is = λ h. h; gots_are = refl; losses_are = refl; lost_is = refl; told_are = refl; heard_are = refl; may = λ us. refl }
 is_out false f past = record { taken_is = refl; hand_is = refl; room_is = λ h. h; gots_are = refl; losses_are = refl; lost_is = refl; told_are = refl; heard_are = refl; may = λ us. refl }
 
+out_few : (c : Bool) (f : Frame) → length (gots (out_act c f ∷ [])) ≤ 0
+out_few true f = omega arith
+out_few false f = omega arith
+
 counts : (c : Bool) (f : Frame) → c ≡ list_any is_more (out_act c f ∷ [])
 counts true f = refl
 counts false f = refl
@@ -207,7 +213,8 @@ out_fits old c f out none short goes on holds writes b l d past fit =
         callers_are = fit.inside.callers_are;
         sound = fit.inside.sound;
         by_fault = fit.inside.by_fault;
-        come = come_on b v w past (a ∷ []) old.course (grows_none v w refl refl) fit.inside.come;
+        one_stop = subst (λ (qs : List Request). length (filter is_stop qs) ≤ 1) (sym more.hand_is) fit.inside.one_stop;
+        come = come_on b v w past (a ∷ []) old.course (none_ends (a ∷ []) past more.taken_is (ap (list_any ends) more.told_are)) (grows_none v w refl refl) fit.inside.come;
       };
     }
 
@@ -225,6 +232,7 @@ send_goes old o out none short goes on holds some writes l d =
             outcomes = sym (append-nil old.unplaced) ∙ ap (λ (os : List Outcome). old.unplaced ++ os) (sym more.told_are);
             lines = sym (append-nil (map heard_as old.unannounced)) ∙ ap (λ (xs : List Act). map heard_as old.unannounced ++ xs) (sym more.heard_are);
             may = more.may waiting;
+            few_got = out_few o.fresh o.frame;
           };
       moved_is = counts o.fresh o.frame;
       idle = λ e. absurd (some e);
@@ -239,7 +247,7 @@ unfolding KeptSends Leads AddsAll
 send_busy old some l d = record {
   acts = [];
   leads = λ b past once fit. fit;
-  adds = λ waiting b past once fit. record { outcomes = sym (append-nil old.unplaced); lines = sym (append-nil (map heard_as old.unannounced)); may = refl };
+  adds = λ waiting b past once fit. record { outcomes = sym (append-nil old.unplaced); lines = sym (append-nil (map heard_as old.unannounced)); may = refl; few_got = omega arith };
   moved_is = refl;
   idle = λ e. absurd (some e);
   none_left = λ e. absurd (some e);
@@ -255,7 +263,7 @@ send_none old core same goes idle none l d =
     (record {
       acts = [];
       leads = λ b past once fit. fit;
-      adds = λ waiting b past once fit. record { outcomes = sym (append-nil old.unplaced); lines = sym (append-nil (map heard_as old.unannounced)); may = refl };
+      adds = λ waiting b past once fit. record { outcomes = sym (append-nil old.unplaced); lines = sym (append-nil (map heard_as old.unannounced)); may = refl; few_got = omega arith };
       moved_is = refl;
       idle = λ e. (refl, (refl, idle));
       none_left = λ e b past fit. sym (goes (driving b) past (stands_in b l d old past fit));

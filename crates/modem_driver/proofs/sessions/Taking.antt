@@ -28,6 +28,9 @@ use Rattle.modem_driver.proofs.sessions.Ending.{come_on, grows_none}
 use Rattle.modem_driver.proofs.sessions.Flowing.{said_may}
 use Rattle.modem_driver.proofs.sessions.Listening.{calls_hear, lines_of_call, all_listened}
 use Rattle.modem_driver.proofs.sessions.Parts.{told_part, heard_part, sent_part, received_part}
+use Rattle.modem_driver.proofs.sessions.OneFrame.{said_few}
+use Rattle.modem_driver.proofs.sessions.Stopping.{took_none, took_stops}
+use Rattle.mux_station.specs.declared.role.Role.TheVariants.{Initiator}
 
 -- what was taken since the session began is what the history has, with the one kept aside
 all_taken : (b : Beginning) (l : LineView) (d : DriverView) (k : Kept) (q : Request) (past : List Act) → k.aside ≡ Some q → FitsKept b l d k past → taken_since b (seen_by l (end_of d) k) ≡ taken (Took q ∷ past)
@@ -44,18 +47,18 @@ took_may b l d k q past e f = record {
 -- what taking it comes to
 record Taken (b : Beginning) (l : LineView) (d : DriverView) (old new : Kept) (past acts : List Act) : Type 0 where
   fits : FitsKept b l d new (after past acts)
-  adds : (waiting : List Urc) → Adds old new waiting acts
+  adds : (waiting : List Urc) → Adds old new waiting 0 acts
 
 -- the request, and what the core's acts are after their first
 abbrev acts_of : Request → List Act → List Act
 acts_of q acts = Took q ∷ drop 1 acts
 
-takes_all : (old : Kept) (core : Core) (room : ℕ) (q : Request) (w : WaitingLists) (acts : List Act) → old.aside ≡ Some q
+takes_all : (old : Kept) (core : Core) (room : ℕ) (q : Request) (w : WaitingLists) (acts : List Act) → old.aside ≡ Some q → old.core.station.role ≡ Initiator
     → Handles old.core core (Took q) acts → KeepsHeld old.core core (Took q) acts → Keeps (record { outcomes = old.unplaced; lines = old.unannounced; room = room }) w acts
     → (b : Beginning) (l : LineView) (d : DriverView) (past : List Act) → FitsKept b l d old past
     → Taken b l d old (record old { core = core; aside = None; unplaced = w.outcomes; unannounced = w.lines }) past (acts_of q acts)
 unfolding Handles KeepsHeld
-takes_all old core room q w acts aside handles held keeps b l d past f =
+takes_all old core room q w acts aside role handles held keeps b l d past f =
     let new : Kept = record old { core = core; aside = None; unplaced = w.outcomes; unannounced = w.lines } in
     let s = driving b in
     let v = seen_by l (end_of d) old in
@@ -115,20 +118,21 @@ takes_all old core room q w acts aside handles held keeps b l d past f =
           callers_are = f.inside.callers_are;
           sound = f.inside.sound;
           by_fault = f.inside.by_fault;
-          come = come_on b v u past (Took q ∷ more) old.course (grows_none v u refl refl) f.inside.come;
+          one_stop = took_stops s old.core past q role may f.inside.one_stop;
+          come = come_on b v u past (Took q ∷ more) old.course (took_none s old.core past q role may f.session.history.lawful said distinct) (grows_none v u refl refl) f.inside.come;
         };
       };
-      adds = λ waiting. record { outcomes = unplaced; lines = lines; may = said_may waiting more said };
+      adds = λ waiting. record { outcomes = unplaced; lines = lines; may = said_may waiting more said; few_got = said_few more 0 said };
     })
 
-pub takes : (old : Kept) (core : Core) (room : ℕ) (q : Request) (w : WaitingLists) (acts : List Act) → old.aside ≡ Some q
+pub takes : (old : Kept) (core : Core) (room : ℕ) (q : Request) (w : WaitingLists) (acts : List Act) → old.aside ≡ Some q → old.core.station.role ≡ Initiator
     → Handles old.core core (Took q) acts → KeepsHeld old.core core (Took q) acts → Keeps (record { outcomes = old.unplaced; lines = old.unannounced; room = room }) w acts
     → TakesAside old (record old { core = core; aside = None; unplaced = w.outcomes; unannounced = w.lines })
 unfolding KeptGoes
-takes old core room q w acts aside handles held keeps = record {
+takes old core room q w acts aside role handles held keeps = record {
   acts = acts_of q acts;
-  goes = λ b l d past once f. (takes_all old core room q w acts aside handles held keeps b l d past f).fits;
-  adds = λ waiting b l d past once f. (takes_all old core room q w acts aside handles held keeps b l d past f).adds waiting;
+  goes = λ b l d past once f. (takes_all old core room q w acts aside role handles held keeps b l d past f).fits;
+  adds = λ waiting b l d past once f. (takes_all old core room q w acts aside role handles held keeps b l d past f).adds waiting;
   moves = refl;
   stays = refl;
 }

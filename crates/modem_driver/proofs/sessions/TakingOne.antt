@@ -28,16 +28,17 @@ pub record Gives (d e : DriverView) (o : Option Request) : Type 0 where
   pub desk : e.desk ≡ d.desk
   pub told : e.told ≡ d.told
   pub announced : e.announced ≡ d.announced
+  pub places : (e.free ≡ d.free) × (e.free_lines ≡ d.free_lines)
   pub more : e.taken ≡ d.taken ++ option_to_list o
   pub callers : list_all (is_caller (length d.desk.rings)) (option_to_list o) ≡ true
 
 caller_of : (d : DriverView) (q : Request) → q.caller < length d.desk.rings → list_all (is_caller (length d.desk.rings)) (q ∷ []) ≡ true
 caller_of d q h = grind arith
 
-pub gives : (d e : DriverView) (o : Option Request) → e.desk ≡ d.desk → e.told ≡ d.told → e.announced ≡ d.announced
+pub gives : (d e : DriverView) (o : Option Request) → e.desk ≡ d.desk → e.told ≡ d.told → e.announced ≡ d.announced → (e.free ≡ d.free) × (e.free_lines ≡ d.free_lines)
     → MatchOption o (e.taken ≡ d.taken) (λ q. (e.taken ≡ d.taken ++ q ∷ []) × (q.caller < length d.desk.rings)) → Gives d e o
-gives d e None desk told announced h = record { desk = desk; told = told; announced = announced; more = h ∙ sym (append-nil d.taken); callers = refl }
-gives d e (Some q) desk told announced h = record { desk = desk; told = told; announced = announced; more = h.0; callers = caller_of d q h.1 }
+gives d e None desk told announced places h = record { desk = desk; told = told; announced = announced; places = places; more = h ∙ sym (append-nil d.taken); callers = refl }
+gives d e (Some q) desk told announced places h = record { desk = desk; told = told; announced = announced; places = places; more = h.0; callers = caller_of d q h.1 }
 
 pub is_none : (o : Option Request) → is_some o ≡ false → o ≡ None
 is_none None h = refl
@@ -88,7 +89,8 @@ asks_next l d e old o none room g b past once f =
         callers_are = ap (λ (x : DeskId). length x.rings) g.desk ∙ f.inside.callers_are;
         sound = f.inside.sound;
         by_fault = f.inside.by_fault;
-        come = come_on b v w past [] old.course (grows_none v w refl g.told) f.inside.come;
+        one_stop = f.inside.one_stop;
+        come = come_on b v w past [] old.course (λ h. h) (grows_none v w refl g.told) f.inside.come;
       };
     }
 
@@ -97,9 +99,12 @@ fetches l d e old o none room g = record {
   next = Some o;
   leads = asks_next l d e old o none room g;
   taken = g.more;
+  callers = g.callers;
   aside = ap (λ (x : Option Request). option_to_list x ++ option_to_list o) (sym none);
+  asks_bare = λ _. none;
   none = λ h. inl (ap (λ (x : Option Request). Some x) h);
   desk_stays = (g.desk, (g.told, g.announced));
+  places_stay = g.places;
   stays = refl;
   line_stays = refl;
 }
@@ -114,9 +119,12 @@ fetches_none l d k full = record {
   next = None;
   leads = leads_still (standing l d k);
   taken = sym (append-nil d.taken);
+  callers = refl;
   aside = sym (append-nil (option_to_list k.aside));
+  asks_bare = λ asked. absurd (asked refl);
   none = λ h. inr (full h);
   desk_stays = (refl, (refl, refl));
+  places_stay = (refl, refl);
   stays = refl;
   line_stays = refl;
 }
@@ -140,13 +148,17 @@ takes_none l d e old mid h none =
         outcomes = ap (λ (k : Kept). k.unplaced) same ∙ sym (append-nil old.unplaced);
         lines = ap (λ (k : Kept). map heard_as k.unannounced) same ∙ sym (append-nil (map heard_as old.unannounced));
         may = refl;
+        few_got = omega arith;
       };
       moved_is = refl;
       taken = h.taken;
+      callers = h.callers;
+      asks_bare = h.asks_bare;
       none_aside = none;
       still = λ _. (refl, same);
       no_request = λ _. ⊎_elim (λ (n : h.next ≡ Some None). inl n) (λ (full : 128 ≤ length old.core.hand + length old.unplaced). inr (at_most full)) (h.none none);
       desk_stays = h.desk_stays;
+      places_stay = h.places_stay;
       stays = ap (standing l e) (h.stays ∙ (ap (λ (o : Option Request). record old { aside = o }) none
           ∙ ap (λ (k : Kept). record old { core = k.core; aside = None; unplaced = k.unplaced; unannounced = k.unannounced }) (sym same)));
     }
@@ -172,13 +184,17 @@ takes_some l d e old mid new h t = record {
         outcomes = a.outcomes ∙ ap (λ (k : Kept). k.unplaced ++ outcomes_told t.acts) h.stays;
         lines = a.lines ∙ ap (λ (k : Kept). map heard_as k.unannounced ++ lines_heard t.acts) h.stays;
         may = a.may;
+        few_got = a.few_got;
       };
   moved_is = sym t.moves;
   taken = h.taken;
+  callers = h.callers;
+  asks_bare = h.asks_bare;
   none_aside = ap (λ (k : Kept). k.aside) t.stays;
   still = λ n. cc;
   no_request = λ n. cc;
   desk_stays = h.desk_stays;
+  places_stay = h.places_stay;
   stays = ap (standing l e) (t.stays ∙ ap (λ (k : Kept). record k { core = new.core; aside = None; unplaced = new.unplaced; unannounced = new.unannounced }) h.stays);
 }
 
@@ -198,6 +214,8 @@ keep_two d e old mid new h same some l = subst (λ (k : Kept). KeepsAside (stand
   next = (h l).next;
   leads = (h l).leads;
   taken = (h l).taken;
+  callers = (h l).callers;
+  asks_bare = (h l).asks_bare;
   one_aside = (some, (h l).aside);
   desk_stays = (h l).desk_stays;
   stays = ap (standing l e) (h l).stays;

@@ -22,6 +22,8 @@ use Rattle.modem_driver.proofs.sessions.Ending.{come_noted, grows_none}
 use Rattle.modem_driver.proofs.sessions.Kinds.{listened_in, in_listened}
 use Rattle.modem_driver.proofs.sessions.Listening.{calls_hear, lines_of_call}
 use Rattle.modem_driver.proofs.sessions.Parts.{received_part}
+use Rattle.modem_driver.proofs.sessions.Stopping.{none_noted}
+use Rattle.modem_history.specs.Lawful.{Lawful}
 
 -- ## The beginning
 
@@ -46,7 +48,8 @@ kept_begins n1 ks k d e same fits holds l = record {
   callers_are = refl;
   sound = λ h. refl;
   by_fault = λ h. unsound (sym h ∙ ap (λ (v : Kept). v.faulty) e);
-  come = subst (HasCome (beginning_of n1 l d) (seen_by l (end_of d) k) []) (sym (ap (λ (v : Kept). v.course) e)) tt;
+  come = subst (HasCome (beginning_of n1 l d) (seen_by l (end_of d) k) []) (sym (ap (λ (v : Kept). v.course) e)) refl;
+  one_stop = omega arith;
 }
 
 pub begins_over : (n1 : ℕ) (ks : List UrcKind) (k : Kept) (l : LineView) (d : DriverView) → k ≡ new_kept n1 ks → KeptFits (beginning_of n1 l d) l d k [] → FitsKept (beginning_of n1 l d) l d k []
@@ -88,7 +91,7 @@ tick_goes old core room w acts handles held keeps live b l d =
           } in
           let come : HasCome b (seen_by l (end_of d) new) (after past (Tick ∷ more)) new.course =
           subst (λ (xs : List Act). HasCome b (seen_by l (end_of d) new) (after past xs) new.course) on.called
-          (come_noted b (seen_by l (end_of d) old) (seen_by l (end_of d) new) past acts old.core.hand old.course f.inside.fits.hand_is (grows_none (seen_by l (end_of d) old) (seen_by l (end_of d) new) refl refl) f.inside.come) in
+          (come_noted b (seen_by l (end_of d) old) (seen_by l (end_of d) new) past acts old.core.hand old.course f.inside.fits.hand_is (none_noted b l d old past acts more Tick f on.called refl (subst (λ (xs : List Act). Lawful s (after past xs)) (sym on.called) here.run.lawful) said refl) (grows_none (seen_by l (end_of d) old) (seen_by l (end_of d) new) refl refl) f.inside.come) in
           subst (λ (xs : List Act). FitsKept b l d new (after past xs)) (sym on.called)
           (call_fits b l d old new past more Tick f (tick_bare past) here hold said (calls_hear s (seen s past) Tick) keep refl refl refl come lost
           (received_part b (seen_by l (end_of d) old) (seen_by l (end_of d) new) past (after past (Tick ∷ more)) f.session.received refl refl refl (gots_after more (Tick ∷ past) said)));

@@ -118,26 +118,42 @@ module _ {s0 s1 s2 s3 s4 s5 s6 s7 : Standing} {m1 m2 m3 m4 m5 m6 m7 : Bool} wher
   all_acts r = ((r.minds.acts ++ r.sends.acts) ++ r.gets.acts) ++ r.takes.acts
 
   -- as far as the frame went into the output
-  pub went_out : (r : Run s0 s1 s2 s3 s4 s5 s6 s7 m1 m2 m3 m4 m5 m6 m7) → Went s0 s3 (placed r.places) (r.minds.acts ++ r.sends.acts)
+  pub went_out : (r : Run s0 s1 s2 s3 s4 s5 s6 s7 m1 m2 m3 m4 m5 m6 m7) → Went s0 s3 (placed r.places) 0 (r.minds.acts ++ r.sends.acts)
   went_out r =
       let t = placed r.places in
       let w1 = went_placed s0 s1 m1 r.places in
       let heard : s1.kept.unannounced ≡ s1.kept.unannounced = refl in
-      let w2 = went_step s0 s1 s2 t [] r.minds.acts refl w1 r.minds.leads r.minds.adds (ap (λ (s : Standing). s.line) r.minds.stays) (ap (λ (s : Standing). s.driver.taken) r.minds.stays) (ap (λ (s : Standing). s.kept.unfed) r.minds.stays) (λ end e. ap (λ (s : Standing). s.kept.course) r.minds.stays ∙ e) in
-      went_step s0 s2 s3 t r.minds.acts r.sends.acts refl w2 r.sends.leads (r.sends.adds t.still_heard) (ap (λ (s : Standing). s.line) r.sends.stays) (ap (λ (s : Standing). s.driver.taken) r.sends.stays) (ap (λ (s : Standing). s.kept.unfed) r.sends.stays) (λ end e. ap (λ (s : Standing). s.kept.course) r.sends.stays ∙ e)
+      let w2 = went_step s0 s1 s2 t 0 0 [] r.minds.acts refl w1 r.minds.leads r.minds.adds (ap (λ (s : Standing). s.line) r.minds.stays) (ap (λ (s : Standing). s.driver.taken) r.minds.stays) (ap (λ (s : Standing). s.kept.unfed) r.minds.stays) (λ end e. ap (λ (s : Standing). s.kept.course) r.minds.stays ∙ e) in
+      went_step s0 s2 s3 t 0 0 r.minds.acts r.sends.acts refl w2 r.sends.leads (r.sends.adds t.still_heard) (ap (λ (s : Standing). s.line) r.sends.stays) (ap (λ (s : Standing). s.driver.taken) r.sends.stays) (ap (λ (s : Standing). s.kept.unfed) r.sends.stays) (λ end e. ap (λ (s : Standing). s.kept.course) r.sends.stays ∙ e)
 
   -- and as far as the frame at hand was handled
-  pub went_got : (r : Run s0 s1 s2 s3 s4 s5 s6 s7 m1 m2 m3 m4 m5 m6 m7) → Went s0 s5 (record (placed r.places) { write = r.writes.write }) ((r.minds.acts ++ r.sends.acts) ++ r.gets.acts)
+  pub went_got : (r : Run s0 s1 s2 s3 s4 s5 s6 s7 m1 m2 m3 m4 m5 m6 m7) → Went s0 s5 (record (placed r.places) { write = r.writes.write }) 1 ((r.minds.acts ++ r.sends.acts) ++ r.gets.acts)
   went_got r =
       let t = record (placed r.places) { write = r.writes.write } in
-      let w4 = went_wrote s0 s3 s4 (placed r.places) (r.minds.acts ++ r.sends.acts) m4 refl refl refl (went_out r) r.writes in
-      went_step s0 s4 s5 t (r.minds.acts ++ r.sends.acts) r.gets.acts refl w4 r.gets.leads (r.gets.adds (placed r.places).still_heard) (ap (λ (s : Standing). s.line) r.gets.stays) (ap (λ (s : Standing). s.driver.taken) r.gets.stays) (ap (λ (s : Standing). s.kept.unfed) r.gets.stays) r.gets.ended
+      let w4 = went_wrote s0 s3 s4 (placed r.places) 0 (r.minds.acts ++ r.sends.acts) m4 refl refl refl (went_out r) r.writes in
+      went_step s0 s4 s5 t 0 1 (r.minds.acts ++ r.sends.acts) r.gets.acts refl w4 r.gets.leads (r.gets.adds (placed r.places).still_heard) (ap (λ (s : Standing). s.line) r.gets.stays) (ap (λ (s : Standing). s.driver.taken) r.gets.stays) (ap (λ (s : Standing). s.kept.unfed) r.gets.stays) r.gets.ended
 
-  pub went_all : (r : Run s0 s1 s2 s3 s4 s5 s6 s7 m1 m2 m3 m4 m5 m6 m7) → Went s0 s7 (all_dealings r) (all_acts r)
+  -- what was unfed and aside stays but in its own step
+  unfed_at_five : Run s0 s1 s2 s3 s4 s5 s6 s7 m1 m2 m3 m4 m5 m6 m7 → s5.kept.unfed ≡ s0.kept.unfed
+  unfed_at_five r =
+      ap (λ (s : Standing). s.kept.unfed) r.gets.stays
+      ∙ (ap (λ (s : Standing). s.kept.unfed) r.writes.stays
+      ∙ (ap (λ (s : Standing). s.kept.unfed) r.sends.stays
+      ∙ (ap (λ (s : Standing). s.kept.unfed) r.minds.stays ∙ ap (λ (s : Standing). s.kept.unfed) r.places.stays)))
+
+  aside_at_six : Run s0 s1 s2 s3 s4 s5 s6 s7 m1 m2 m3 m4 m5 m6 m7 → s6.kept.aside ≡ s0.kept.aside
+  aside_at_six r =
+      ap (λ (s : Standing). s.kept.aside) r.reads.stays
+      ∙ (ap (λ (s : Standing). s.kept.aside) r.gets.stays
+      ∙ (ap (λ (s : Standing). s.kept.aside) r.writes.stays
+      ∙ (ap (λ (s : Standing). s.kept.aside) r.sends.stays
+      ∙ (ap (λ (s : Standing). s.kept.aside) r.minds.stays ∙ ap (λ (s : Standing). s.kept.aside) r.places.stays))))
+
+  pub went_all : (r : Run s0 s1 s2 s3 s4 s5 s6 s7 m1 m2 m3 m4 m5 m6 m7) → Went s0 s7 (all_dealings r) 1 (all_acts r)
   went_all r =
       let t = record (placed r.places) { write = r.writes.write } in
-      let w6 = went_read s0 s5 s6 t ((r.minds.acts ++ r.sends.acts) ++ r.gets.acts) m6 refl refl (went_got r) r.reads in
-      went_took s0 s6 s7 (record t { read = r.reads.read }) ((r.minds.acts ++ r.sends.acts) ++ r.gets.acts) m7 refl w6 r.takes
+      let w6 = went_read s0 s5 s6 t 1 ((r.minds.acts ++ r.sends.acts) ++ r.gets.acts) m6 refl refl (unfed_at_five r) (went_got r) r.reads in
+      went_took s0 s6 s7 (record t { read = r.reads.read }) 1 ((r.minds.acts ++ r.sends.acts) ++ r.gets.acts) m7 refl (aside_at_six r) w6 r.takes
 
   -- ## What moved
 
@@ -154,13 +170,6 @@ module _ {s0 s1 s2 s3 s4 s5 s6 s7 : Standing} {m1 m2 m3 m4 m5 m6 m7 : Bool} wher
       ∙ (ap (λ (s : Standing). s.driver) r.gets.stays
       ∙ (ap (λ (s : Standing). s.driver) r.writes.stays
       ∙ (ap (λ (s : Standing). s.driver) r.sends.stays ∙ ap (λ (s : Standing). s.driver) r.minds.stays)))
-
-  unfed_at_five : Run s0 s1 s2 s3 s4 s5 s6 s7 m1 m2 m3 m4 m5 m6 m7 → s5.kept.unfed ≡ s0.kept.unfed
-  unfed_at_five r =
-      ap (λ (s : Standing). s.kept.unfed) r.gets.stays
-      ∙ (ap (λ (s : Standing). s.kept.unfed) r.writes.stays
-      ∙ (ap (λ (s : Standing). s.kept.unfed) r.sends.stays
-      ∙ (ap (λ (s : Standing). s.kept.unfed) r.minds.stays ∙ ap (λ (s : Standing). s.kept.unfed) r.places.stays)))
 
   received_at_five : Run s0 s1 s2 s3 s4 s5 s6 s7 m1 m2 m3 m4 m5 m6 m7 → s5.line.received ≡ s0.line.received
   received_at_five r = ap (λ (s : Standing). s.line.received) r.gets.stays ∙ (r.writes.came_none ∙ ap (λ (l : LineView). l.received) (line_at_three r))

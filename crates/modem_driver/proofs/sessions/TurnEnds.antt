@@ -1,16 +1,16 @@
 -- How a turn ends, by what each of its steps did.
-use Rattle.std.proofs.Common.{ap, sym, ◌∙◌, subst}
-use Rattle.std.specs.Prelude.{◌≡◌, ◌||◌, Bool, true, false, List, [], ◌++◌, refl, None}
+use Rattle.std.proofs.Common.{ap, sym, ◌∙◌, inl, inr, subst}
+use Rattle.std.specs.Prelude.{◌≡◌, ◌⊎◌, ◌||◌, Bool, true, false, List, [], ◌++◌, refl, None}
 use Rattle.modem_history.specs.Acts.{Act, after}
 use Rattle.modem_history.specs.Calls.{is_lost}
 use Rattle.modem_history.specs.Sessions.{Beginning}
-use Rattle.modem_history.specs.Turns.{Dealings, TurnFault, GoesFault}
+use Rattle.modem_history.specs.Turns.{Dealings, TurnFault, GoesFault, PlacesAlone}
 use Rattle.modem_driver.specs.declared.session.error.SessionFault.{SessionFault}
 use Rattle.modem_driver.specs.SessionStates.{Kept, KeptLoses}
 use Rattle.modem_driver.specs.SessionTurns.{HasTurned, LosesOr, fault_of}
 use Rattle.modem_driver.specs.TurnSteps.{Standing, StandingFits, Leads, Places, Minds, MindsPart, SendsOn, Writes, Gets, ReadsOn, TakesOne, KeepsAside, view_of, inside}
-use Rattle.modem_driver.proofs.sessions.Turning.{Went, has_turned, placed, went_placed, went_step, went_wrote, went_read, went_took, went_aside}
-use Rattle.modem_driver.proofs.sessions.TurnFaults.{has_failed, none_loses, wants_memory, loses_line}
+use Rattle.modem_driver.proofs.sessions.Turning.{Went, one_at_most, has_turned, placed, went_placed, went_step, went_wrote, went_read, went_took, went_aside}
+use Rattle.modem_driver.proofs.sessions.TurnFaults.{has_failed, places_alone, none_loses, wants_memory, loses_line}
 
 -- a fault of any kind by which a turn ended, and what is so whichever way it ends
 pub record FaultBy (s0 s : Standing) (why : TurnFault) : Type 0 where
@@ -18,14 +18,14 @@ pub record FaultBy (s0 s : Standing) (why : TurnFault) : Type 0 where
   pub turned : HasTurned s0 s
 
 -- there was no memory for a step
-in_vain : (s0 s : Standing) (t : Dealings) (acts : List Act) → Went s0 s t acts → s0.kept.core.lost ≡ false → FaultBy s0 s TurnFault.NoMemory
-in_vain s0 s t acts w live = record { fault = wants_memory s0 s t acts w live; turned = has_turned s0 s t acts w }
+in_vain : (s0 s : Standing) (t : Dealings) (acts : List Act) → Went s0 s t 1 acts → (s0.kept.faulty ≡ false) ⊎ PlacesAlone (view_of s0) (view_of s) acts → s0.kept.core.lost ≡ false → FaultBy s0 s TurnFault.NoMemory
+in_vain s0 s t acts w sound live = record { fault = wants_memory s0 s t acts w sound live; turned = has_turned s0 s t 1 acts w }
 
 true_false : true ≡ false → ⊥
 true_false h = cc
 
 -- a line that isn't lost before a turn isn't lost by what a turn does
-lost_before : (s0 s : Standing) (t : Dealings) (acts : List Act) → Went s0 s t acts → s0.kept.core.lost ≡ false → s.kept.core.lost ≡ true → (b : Beginning) → GoesFault b (view_of s0) (view_of s) (inside b s0) (inside b s) TurnFault.Failed
+lost_before : (s0 s : Standing) (t : Dealings) (acts : List Act) → Went s0 s t 1 acts → s0.kept.core.lost ≡ false → s.kept.core.lost ≡ true → (b : Beginning) → GoesFault b (view_of s0) (view_of s) (inside b s0) (inside b s) TurnFault.Failed
 unfolding Leads
 lost_before s0 s t acts w live lost b = record {
   acts = acts;
@@ -39,67 +39,86 @@ lost_before s0 s t acts w live lost b = record {
 }
 
 -- the loss of the line is no call on it
-lost_turned : (s0 s1 s2 : Standing) (t : Dealings) (xs : List Act) → Went s0 s1 t xs → s2 ≡ record s1 { kept = s2.kept } → KeptLoses s1.kept s2.kept → HasTurned s0 s2
+lost_turned : (s0 s1 s2 : Standing) (t : Dealings) (xs : List Act) → Went s0 s1 t 1 xs → s2 ≡ record s1 { kept = s2.kept } → KeptLoses s1.kept s2.kept → HasTurned s0 s2
 lost_turned s0 s1 s2 t xs w same k =
-    let h = has_turned s0 s1 t xs w in
+    let h = has_turned s0 s1 t 1 xs w in
     subst (HasTurned s0) (sym same) (record {
       calls = h.calls;
       taken = h.taken;
       ended = λ end e. ap (λ (v : Kept). v.course) k.stays ∙ h.ended end e;
     })
 
-pub lost_after : (why : SessionFault) (s0 s1 s2 : Standing) (t : Dealings) (xs : List Act) → t.next ≡ None → Went s0 s1 t xs → LosesOr why s1 s2 → s0.kept.core.lost ≡ false → FaultBy s0 s2 (fault_of why)
-lost_after SessionFault.Line s0 s1 s2 t xs none w k live = record { fault = loses_line s0 s1 s2 t xs none w k.0 k.1 live; turned = lost_turned s0 s1 s2 t xs w k.0 k.1 }
-lost_after SessionFault.NoMemory s0 s1 s2 t xs none w k live = subst (λ (s : Standing). FaultBy s0 s TurnFault.NoMemory) (sym k) (in_vain s0 s1 t xs w live)
-lost_after SessionFault.Failed s0 s1 s2 t xs none w k live = subst (λ (s : Standing). FaultBy s0 s TurnFault.Failed) (sym k.0) (record { fault = lost_before s0 s1 t xs w live k.1; turned = has_turned s0 s1 t xs w })
+pub lost_after : (why : SessionFault) (s0 s1 s2 : Standing) (t : Dealings) (xs : List Act) → t.next ≡ None → Went s0 s1 t 1 xs → LosesOr why s1 s2 → (s0.kept.faulty ≡ false) ⊎ PlacesAlone (view_of s0) (view_of s1) xs → s0.kept.core.lost ≡ false → FaultBy s0 s2 (fault_of why)
+lost_after SessionFault.Line s0 s1 s2 t xs none w k sound live = record { fault = loses_line s0 s1 s2 t xs none w k.0 k.1 live; turned = lost_turned s0 s1 s2 t xs w k.0 k.1 }
+lost_after SessionFault.NoMemory s0 s1 s2 t xs none w k sound live = subst (λ (s : Standing). FaultBy s0 s TurnFault.NoMemory) (sym k) (in_vain s0 s1 t xs w sound live)
+lost_after SessionFault.Failed s0 s1 s2 t xs none w k sound live = subst (λ (s : Standing). FaultBy s0 s TurnFault.Failed) (sym k.0) (record { fault = lost_before s0 s1 t xs w live k.1; turned = has_turned s0 s1 t 1 xs w })
 
-minded : {s0 s1 s2 : Standing} {m1 m2 : Bool} → (p : Places s0 s1 m1) (k : Minds s1 s2 m2) → Went s0 s2 (placed p) k.acts
-minded {s0} {s1} {s2} {m1} {m2} p k = went_step s0 s1 s2 (placed p) [] k.acts refl (went_placed s0 s1 m1 p) k.leads k.adds (ap (λ (s : Standing). s.line) k.stays) (ap (λ (s : Standing). s.driver.taken) k.stays) (ap (λ (s : Standing). s.kept.unfed) k.stays) (λ end e. ap (λ (s : Standing). s.kept.course) k.stays ∙ e)
+minded : {s0 s1 s2 : Standing} {m1 m2 : Bool} → (p : Places s0 s1 m1) (k : Minds s1 s2 m2) → Went s0 s2 (placed p) 0 k.acts
+minded {s0} {s1} {s2} {m1} {m2} p k = went_step s0 s1 s2 (placed p) 0 0 [] k.acts refl (went_placed s0 s1 m1 p) k.leads k.adds (ap (λ (s : Standing). s.line) k.stays) (ap (λ (s : Standing). s.driver.taken) k.stays) (ap (λ (s : Standing). s.kept.unfed) k.stays) (λ end e. ap (λ (s : Standing). s.kept.course) k.stays ∙ e)
 
-sent : {s0 s1 s2 s3 : Standing} {m1 m2 m3 : Bool} → (p : Places s0 s1 m1) (k : Minds s1 s2 m2) (n : SendsOn s2 s3 m3) → Went s0 s3 (placed p) (k.acts ++ n.acts)
-sent {s0} {s1} {s2} {s3} {m1} {m2} {m3} p k n = went_step s0 s2 s3 (placed p) k.acts n.acts refl (minded p k) n.leads (n.adds s1.kept.unannounced) (ap (λ (s : Standing). s.line) n.stays) (ap (λ (s : Standing). s.driver.taken) n.stays) (ap (λ (s : Standing). s.kept.unfed) n.stays) (λ end e. ap (λ (s : Standing). s.kept.course) n.stays ∙ e)
+sent : {s0 s1 s2 s3 : Standing} {m1 m2 m3 : Bool} → (p : Places s0 s1 m1) (k : Minds s1 s2 m2) (n : SendsOn s2 s3 m3) → Went s0 s3 (placed p) 0 (k.acts ++ n.acts)
+sent {s0} {s1} {s2} {s3} {m1} {m2} {m3} p k n = went_step s0 s2 s3 (placed p) 0 0 k.acts n.acts refl (minded p k) n.leads (n.adds s1.kept.unannounced) (ap (λ (s : Standing). s.line) n.stays) (ap (λ (s : Standing). s.driver.taken) n.stays) (ap (λ (s : Standing). s.kept.unfed) n.stays) (λ end e. ap (λ (s : Standing). s.kept.course) n.stays ∙ e)
 
-wrote : {s0 s1 s2 s3 s4 : Standing} {m1 m2 m3 m4 : Bool} → (p : Places s0 s1 m1) (k : Minds s1 s2 m2) (n : SendsOn s2 s3 m3) (w : Writes s3 s4 m4) → Went s0 s4 (record (placed p) { write = w.write }) (k.acts ++ n.acts)
-wrote {s0} {s1} {s2} {s3} {s4} {m1} {m2} {m3} {m4} p k n w = went_wrote s0 s3 s4 (placed p) (k.acts ++ n.acts) m4 refl refl refl (sent p k n) w
+wrote : {s0 s1 s2 s3 s4 : Standing} {m1 m2 m3 m4 : Bool} → (p : Places s0 s1 m1) (k : Minds s1 s2 m2) (n : SendsOn s2 s3 m3) (w : Writes s3 s4 m4) → Went s0 s4 (record (placed p) { write = w.write }) 0 (k.acts ++ n.acts)
+wrote {s0} {s1} {s2} {s3} {s4} {m1} {m2} {m3} {m4} p k n w = went_wrote s0 s3 s4 (placed p) 0 (k.acts ++ n.acts) m4 refl refl refl (sent p k n) w
 
-got : {s0 s1 s2 s3 s4 s5 : Standing} {m1 m2 m3 m4 m5 : Bool} → (p : Places s0 s1 m1) (k : Minds s1 s2 m2) (n : SendsOn s2 s3 m3) (w : Writes s3 s4 m4) (g : Gets s4 s5 m5) → Went s0 s5 (record (placed p) { write = w.write }) ((k.acts ++ n.acts) ++ g.acts)
+got : {s0 s1 s2 s3 s4 s5 : Standing} {m1 m2 m3 m4 m5 : Bool} → (p : Places s0 s1 m1) (k : Minds s1 s2 m2) (n : SendsOn s2 s3 m3) (w : Writes s3 s4 m4) (g : Gets s4 s5 m5) → Went s0 s5 (record (placed p) { write = w.write }) 1 ((k.acts ++ n.acts) ++ g.acts)
 got {s0} {s1} {s2} {s3} {s4} {s5} {m1} {m2} {m3} {m4} {m5} p k n w g =
-    went_step s0 s4 s5 (record (placed p) { write = w.write }) (k.acts ++ n.acts) g.acts refl (wrote p k n w) g.leads (g.adds s1.kept.unannounced) (ap (λ (s : Standing). s.line) g.stays) (ap (λ (s : Standing). s.driver.taken) g.stays) (ap (λ (s : Standing). s.kept.unfed) g.stays) g.ended
+    went_step s0 s4 s5 (record (placed p) { write = w.write }) 0 1 (k.acts ++ n.acts) g.acts refl (wrote p k n w) g.leads (g.adds s1.kept.unannounced) (ap (λ (s : Standing). s.line) g.stays) (ap (λ (s : Standing). s.driver.taken) g.stays) (ap (λ (s : Standing). s.kept.unfed) g.stays) g.ended
 
-read : {s0 s1 s2 s3 s4 s5 s6 : Standing} {m1 m2 m3 m4 m5 m6 : Bool} → (p : Places s0 s1 m1) (k : Minds s1 s2 m2) (n : SendsOn s2 s3 m3) (w : Writes s3 s4 m4) (g : Gets s4 s5 m5) (r : ReadsOn s5 s6 m6) → Went s0 s6 (record (placed p) { write = w.write; read = r.read }) ((k.acts ++ n.acts) ++ g.acts)
-read {s0} {s1} {s2} {s3} {s4} {s5} {s6} {m1} {m2} {m3} {m4} {m5} {m6} p k n w g r = went_read s0 s5 s6 (record (placed p) { write = w.write }) ((k.acts ++ n.acts) ++ g.acts) m6 refl refl (got p k n w g) r
+-- what was unfed and aside stays but in its own step
+unfed_before : {s0 s1 s2 s3 s4 s5 : Standing} {m1 m2 m3 m4 m5 : Bool} → Places s0 s1 m1 → Minds s1 s2 m2 → SendsOn s2 s3 m3 → Writes s3 s4 m4 → Gets s4 s5 m5 → s5.kept.unfed ≡ s0.kept.unfed
+unfed_before p k n w g =
+    ap (λ (s : Standing). s.kept.unfed) g.stays
+    ∙ (ap (λ (s : Standing). s.kept.unfed) w.stays
+    ∙ (ap (λ (s : Standing). s.kept.unfed) n.stays
+    ∙ (ap (λ (s : Standing). s.kept.unfed) k.stays ∙ ap (λ (s : Standing). s.kept.unfed) p.stays)))
+
+aside_before : {s0 s1 s2 s3 s4 s5 s6 : Standing} {m1 m2 m3 m4 m5 m6 : Bool} → Places s0 s1 m1 → Minds s1 s2 m2 → SendsOn s2 s3 m3 → Writes s3 s4 m4 → Gets s4 s5 m5 → ReadsOn s5 s6 m6 → s6.kept.aside ≡ s0.kept.aside
+aside_before p k n w g r =
+    ap (λ (s : Standing). s.kept.aside) r.stays
+    ∙ (ap (λ (s : Standing). s.kept.aside) g.stays
+    ∙ (ap (λ (s : Standing). s.kept.aside) w.stays
+    ∙ (ap (λ (s : Standing). s.kept.aside) n.stays
+    ∙ (ap (λ (s : Standing). s.kept.aside) k.stays ∙ ap (λ (s : Standing). s.kept.aside) p.stays))))
+
+read : {s0 s1 s2 s3 s4 s5 s6 : Standing} {m1 m2 m3 m4 m5 m6 : Bool} → (p : Places s0 s1 m1) (k : Minds s1 s2 m2) (n : SendsOn s2 s3 m3) (w : Writes s3 s4 m4) (g : Gets s4 s5 m5) (r : ReadsOn s5 s6 m6) → Went s0 s6 (record (placed p) { write = w.write; read = r.read }) 1 ((k.acts ++ n.acts) ++ g.acts)
+read {s0} {s1} {s2} {s3} {s4} {s5} {s6} {m1} {m2} {m3} {m4} {m5} {m6} p k n w g r = went_read s0 s5 s6 (record (placed p) { write = w.write }) 1 ((k.acts ++ n.acts) ++ g.acts) m6 refl refl (unfed_before p k n w g) (got p k n w g) r
 
 -- ## The line is lost
 
 -- it was lost before
 pub failed_before : {s0 s1 : Standing} {m1 : Bool} → (p : Places s0 s1 m1) → s0.kept.core.lost ≡ true → FaultBy s0 s1 TurnFault.Failed
-failed_before {s0} {s1} {m1} p lost = record { fault = has_failed s0 s1 m1 p lost; turned = has_turned s0 s1 (placed p) [] (went_placed s0 s1 m1 p) }
+failed_before {s0} {s1} {m1} p lost = record { fault = has_failed s0 s1 m1 p lost; turned = has_turned s0 s1 (placed p) 0 [] (went_placed s0 s1 m1 p) }
 
 pub lost_first : {s0 s1 : Standing} {m1 : Bool} → (why : SessionFault) (s : Standing) (p : Places s0 s1 m1) → LosesOr why s1 s → s0.kept.core.lost ≡ false → FaultBy s0 s (fault_of why)
-lost_first {s0} {s1} {m1} why s p = lost_after why s0 s1 s (placed p) [] refl (went_placed s0 s1 m1 p)
+lost_first {s0} {s1} {m1} why s p k = lost_after why s0 s1 s (placed p) [] refl (one_at_most s0 s1 (placed p) [] (went_placed s0 s1 m1 p)) k (inr (places_alone s0 s1 m1 p))
 
-pub lost_writing : {s0 s1 s2 s3 s4 : Standing} {m1 m2 m3 m4 : Bool} → (why : SessionFault) (s : Standing) (p : Places s0 s1 m1) (k : Minds s1 s2 m2) (n : SendsOn s2 s3 m3) (w : Writes s3 s4 m4) → LosesOr why s4 s → s0.kept.core.lost ≡ false → FaultBy s0 s (fault_of why)
-lost_writing {s0} {s1} {s2} {s3} {s4} {m1} {m2} {m3} {m4} why s p k n w = lost_after why s0 s4 s (record (placed p) { write = w.write }) (k.acts ++ n.acts) refl (wrote p k n w)
+pub lost_writing : {s0 s1 s2 s3 s4 : Standing} {m1 m2 m3 m4 : Bool} → (why : SessionFault) (s : Standing) (p : Places s0 s1 m1) (k : Minds s1 s2 m2) (n : SendsOn s2 s3 m3) (w : Writes s3 s4 m4) → LosesOr why s4 s → s0.kept.faulty ≡ false → s0.kept.core.lost ≡ false → FaultBy s0 s (fault_of why)
+lost_writing {s0} {s1} {s2} {s3} {s4} {m1} {m2} {m3} {m4} why s p k n w l sound =
+    let t = record (placed p) { write = w.write } in
+    lost_after why s0 s4 s t (k.acts ++ n.acts) refl (one_at_most s0 s4 t (k.acts ++ n.acts) (wrote p k n w)) l (inl sound)
 
-pub lost_reading : {s0 s1 s2 s3 s4 s5 s6 : Standing} {m1 m2 m3 m4 m5 m6 : Bool} → (why : SessionFault) (s : Standing) (p : Places s0 s1 m1) (k : Minds s1 s2 m2) (n : SendsOn s2 s3 m3) (w : Writes s3 s4 m4) (g : Gets s4 s5 m5) (r : ReadsOn s5 s6 m6) → LosesOr why s6 s → s0.kept.core.lost ≡ false → FaultBy s0 s (fault_of why)
-lost_reading {s0} {s1} {s2} {s3} {s4} {s5} {s6} {m1} {m2} {m3} {m4} {m5} {m6} why s p k n w g r = lost_after why s0 s6 s (record (placed p) { write = w.write; read = r.read }) ((k.acts ++ n.acts) ++ g.acts) refl (read p k n w g r)
+pub lost_reading : {s0 s1 s2 s3 s4 s5 s6 : Standing} {m1 m2 m3 m4 m5 m6 : Bool} → (why : SessionFault) (s : Standing) (p : Places s0 s1 m1) (k : Minds s1 s2 m2) (n : SendsOn s2 s3 m3) (w : Writes s3 s4 m4) (g : Gets s4 s5 m5) (r : ReadsOn s5 s6 m6) → LosesOr why s6 s → s0.kept.faulty ≡ false → s0.kept.core.lost ≡ false → FaultBy s0 s (fault_of why)
+lost_reading {s0} {s1} {s2} {s3} {s4} {s5} {s6} {m1} {m2} {m3} {m4} {m5} {m6} why s p k n w g r l sound = lost_after why s0 s6 s (record (placed p) { write = w.write; read = r.read }) ((k.acts ++ n.acts) ++ g.acts) refl (read p k n w g r) l (inl sound)
 
 -- ## There is no memory
 
-pub minds_in_vain : {s0 s1 : Standing} {m1 : Bool} → (s : Standing) (p : Places s0 s1 m1) → MindsPart s1 s → s0.kept.core.lost ≡ false → FaultBy s0 s TurnFault.NoMemory
-minds_in_vain {s0} {s1} {m1} s p k live =
+pub minds_in_vain : {s0 s1 : Standing} {m1 : Bool} → (s : Standing) (p : Places s0 s1 m1) → MindsPart s1 s → s0.kept.faulty ≡ false → s0.kept.core.lost ≡ false → FaultBy s0 s TurnFault.NoMemory
+minds_in_vain {s0} {s1} {m1} s p k sound live =
     in_vain s0 s (placed p) k.acts
-    (went_step s0 s1 s (placed p) [] k.acts refl (went_placed s0 s1 m1 p) k.leads k.adds (ap (λ (s : Standing). s.line) k.stays) (ap (λ (s : Standing). s.driver.taken) k.stays) (ap (λ (s : Standing). s.kept.unfed) k.stays) (λ end e. ap (λ (s : Standing). s.kept.course) k.stays ∙ e)) live
+    (one_at_most s0 s (placed p) k.acts (went_step s0 s1 s (placed p) 0 0 [] k.acts refl (went_placed s0 s1 m1 p) k.leads k.adds (ap (λ (s : Standing). s.line) k.stays) (ap (λ (s : Standing). s.driver.taken) k.stays) (ap (λ (s : Standing). s.kept.unfed) k.stays) (λ end e. ap (λ (s : Standing). s.kept.course) k.stays ∙ e))) (inl sound) live
 
-pub gets_in_vain : {s0 s1 s2 s3 s4 : Standing} {m1 m2 m3 m4 : Bool} → (s : Standing) (p : Places s0 s1 m1) (k : Minds s1 s2 m2) (n : SendsOn s2 s3 m3) (w : Writes s3 s4 m4) → s ≡ s4 → s0.kept.core.lost ≡ false → FaultBy s0 s TurnFault.NoMemory
-gets_in_vain {s0} {s1} {s2} {s3} {s4} {m1} {m2} {m3} {m4} s p k n w same live =
-    subst (λ (s : Standing). FaultBy s0 s TurnFault.NoMemory) (sym same) (in_vain s0 s4 (record (placed p) { write = w.write }) (k.acts ++ n.acts) (wrote p k n w) live)
+pub gets_in_vain : {s0 s1 s2 s3 s4 : Standing} {m1 m2 m3 m4 : Bool} → (s : Standing) (p : Places s0 s1 m1) (k : Minds s1 s2 m2) (n : SendsOn s2 s3 m3) (w : Writes s3 s4 m4) → s ≡ s4 → s0.kept.faulty ≡ false → s0.kept.core.lost ≡ false → FaultBy s0 s TurnFault.NoMemory
+gets_in_vain {s0} {s1} {s2} {s3} {s4} {m1} {m2} {m3} {m4} s p k n w same sound live =
+    let t = record (placed p) { write = w.write } in
+    subst (λ (s : Standing). FaultBy s0 s TurnFault.NoMemory) (sym same) (in_vain s0 s4 t (k.acts ++ n.acts) (one_at_most s0 s4 t (k.acts ++ n.acts) (wrote p k n w)) (inl sound) live)
 
-pub takes_in_vain : {s0 s1 s2 s3 s4 s5 s6 : Standing} {m1 m2 m3 m4 m5 m6 : Bool} → (s : Standing) (p : Places s0 s1 m1) (k : Minds s1 s2 m2) (n : SendsOn s2 s3 m3) (w : Writes s3 s4 m4) (g : Gets s4 s5 m5) (r : ReadsOn s5 s6 m6) → KeepsAside s6 s → s0.kept.core.lost ≡ false → FaultBy s0 s TurnFault.NoMemory
-takes_in_vain {s0} {s1} {s2} {s3} {s4} {s5} {s6} {m1} {m2} {m3} {m4} {m5} {m6} s p k n w g r a live =
+pub takes_in_vain : {s0 s1 s2 s3 s4 s5 s6 : Standing} {m1 m2 m3 m4 m5 m6 : Bool} → (s : Standing) (p : Places s0 s1 m1) (k : Minds s1 s2 m2) (n : SendsOn s2 s3 m3) (w : Writes s3 s4 m4) (g : Gets s4 s5 m5) (r : ReadsOn s5 s6 m6) → KeepsAside s6 s → s0.kept.faulty ≡ false → s0.kept.core.lost ≡ false → FaultBy s0 s TurnFault.NoMemory
+takes_in_vain {s0} {s1} {s2} {s3} {s4} {s5} {s6} {m1} {m2} {m3} {m4} {m5} {m6} s p k n w g r a sound live =
     let acts = (k.acts ++ n.acts) ++ g.acts in
     let t = record (placed p) { write = w.write; read = r.read } in
-    in_vain s0 s (record t { next = a.next }) acts (went_aside s0 s6 s t acts refl (read p k n w g r) a) live
+    in_vain s0 s (record t { next = a.next }) acts (went_aside s0 s6 s t 1 acts refl (aside_before p k n w g r) (read p k n w g r) a) (inl sound) live
 
 -- ## It ends in an answer
 
@@ -107,7 +126,7 @@ pub all_turned : {s0 s1 s2 s3 s4 s5 s6 s7 : Standing} {m1 m2 m3 m4 m5 m6 m7 : Bo
 all_turned {s0} {s1} {s2} {s3} {s4} {s5} {s6} {s7} {m1} {m2} {m3} {m4} {m5} {m6} {m7} p k n w g r q =
     let acts = (k.acts ++ n.acts) ++ g.acts in
     let t = record (placed p) { write = w.write; read = r.read } in
-    has_turned s0 s7 (record t { next = q.next }) (acts ++ q.acts) (went_took s0 s6 s7 t acts m7 refl (read p k n w g r) q)
+    has_turned s0 s7 (record t { next = q.next }) 1 (acts ++ q.acts) (went_took s0 s6 s7 t 1 acts m7 refl (aside_before p k n w g r) (read p k n w g r) q)
 
 -- ## What a turn began with
 

@@ -1,22 +1,24 @@
 -- Turns that end in a fault.
-use Rattle.std.proofs.Common.{ap, sym, ◌∙◌, subst, arith}
+use Rattle.std.proofs.Common.{ap, sym, ◌∙◌, inl, inr, subst, arith, ⊎_elim}
 use Rattle.std.proofs.lemmas.Bool.{and_from, and_parts}
 use Rattle.std.proofs.lemmas.List.{append_assoc}
 use Rattle.std.proofs.lemmas.List.Folds.{list_all-append}
-use Rattle.std.specs.Prelude.{◌≡◌, length, Bool, true, false, List, [], ◌∷◌, ◌++◌, map, refl, None}
+use Rattle.std.specs.Prelude.{◌≡◌, ◌⊎◌, length, Bool, true, false, List, [], ◌∷◌, ◌++◌, map, refl, None}
 use Rattle.std.specs.List.{list_all}
 use Rattle.modem_desk.specs.declared.request.Outcome.{Outcome}
+use Rattle.modem_desk.specs.declared.request.Request.{Request}
 use Rattle.modem_desk.specs.declared.request.Urc.{Urc}
 use Rattle.modem_history.specs.Acts.{Act, Took, Got, Sent, Told, Heard, Tick, Lost, Held, Freed, Given, after, in_hand}
 use Rattle.modem_history.specs.Calls.{is_lost}
 use Rattle.modem_history.specs.Sessions.{Beginning, heard_as}
-use Rattle.modem_history.specs.Turns.{Dealings, TurnFault, GoesFault, outcomes_told, lines_heard, may_act, may_fail}
+use Rattle.modem_history.specs.Turns.{Dealings, TurnFault, GoesFault, PlacesAlone, outcomes_told, lines_heard, may_act, may_fail}
 use Rattle.modem_history.proofs.AfterActs.{after_both}
 use Rattle.modem_driver.specs.SessionStates.{Kept, KeptGoes, KeptLoses}
 use Rattle.modem_driver.specs.TurnSteps.{Standing, StandingFits, Leads, Places, view_of, inside}
 use Rattle.modem_driver.proofs.sessions.Keeping.{told_both}
 use Rattle.modem_driver.proofs.sessions.Listening.{heard_both}
 use Rattle.modem_driver.proofs.sessions.Losing.{fail_all}
+use Rattle.modem_driver.proofs.sessions.OneFrame.{few_both}
 use Rattle.modem_driver.proofs.sessions.Turning.{Went, placed, went_placed, once_still, taken_still}
 
 -- acts that a turn may have don't lose the line
@@ -39,10 +41,10 @@ none_loses us (a ∷ acts) past h live =
     one_loses Given e = live
 
 -- there was no memory for a step of a turn
-pub wants_memory : (s0 s : Standing) (t : Dealings) (acts : List Act) → Went s0 s t acts → s0.kept.core.lost ≡ false
+pub wants_memory : (s0 s : Standing) (t : Dealings) (acts : List Act) → Went s0 s t 1 acts → (s0.kept.faulty ≡ false) ⊎ PlacesAlone (view_of s0) (view_of s) acts → s0.kept.core.lost ≡ false
     → (b : Beginning) → GoesFault b (view_of s0) (view_of s) (inside b s0) (inside b s) TurnFault.NoMemory
 unfolding Leads
-wants_memory s0 s t acts w live b = record {
+wants_memory s0 s t acts w sound live b = record {
   acts = acts;
   dealings = t;
   goes = w.leads b;
@@ -59,18 +61,24 @@ wants_memory s0 s t acts w live b = record {
           outcomes_wait = adds.outcomes;
           lines_wait = adds.lines;
           unfed = w.unfed;
+          reads_fed = w.reads_fed;
+          asks_bare = w.asks_bare;
+          one_got = adds.few_got;
         };
         acts_may = fail_all t.still_heard acts adds.may;
-        means = none_loses t.still_heard acts past adds.may (f.inside.fits.lost_is ∙ live);
+        means = record {
+          live = none_loses t.still_heard acts past adds.may (f.inside.fits.lost_is ∙ live);
+          behind = ⊎_elim (λ (e : s0.kept.faulty ≡ false). inl (f.inside.sound e)) (λ (p : PlacesAlone (view_of s0) (view_of s) acts). inr p) sound;
+        };
       };
 }
 
 -- the line is lost after so much of a turn
-lost_there : (s0 s1 : Standing) (new : Kept) (t : Dealings) (xs : List Act) → t.next ≡ None → Went s0 s1 t xs → KeptLoses s1.kept new → s0.kept.core.lost ≡ false
+lost_there : (s0 s1 : Standing) (new : Kept) (t : Dealings) (xs : List Act) → t.next ≡ None → Went s0 s1 t 1 xs → KeptLoses s1.kept new → s0.kept.core.lost ≡ false
     → (b : Beginning) → GoesFault b (view_of s0) (view_of (record s1 { kept = new })) (inside b s0) (inside b (record s1 { kept = new })) TurnFault.LineFailed
 unfolding Leads KeptGoes
 lost_there s0 s1 new t xs none w k live b =
-    let still = taken_still s0 s1 t xs none w in
+    let still = taken_still s0 s1 t 1 xs none w in
     let unfed : length new.unfed ≡ length s1.kept.unfed = ap (λ (v : Kept). length v.unfed) k.stays in
     record {
       acts = xs ++ k.acts;
@@ -104,6 +112,9 @@ lost_there s0 s1 new t xs none w k live b =
                   ∙ (append_assoc (map heard_as t.still_heard) (lines_heard xs) (lines_heard k.acts)
                   ∙ ap (λ (hs : List Act). map heard_as t.still_heard ++ hs) (sym (heard_both xs k.acts))));
               unfed = let before = w.unfed in omega (arith, before, unfed);
+              reads_fed = w.reads_fed;
+              asks_bare = w.asks_bare;
+              one_got = few_both xs k.acts 1 0 first.few_got (let none = ap length more.none_got in omega arith);
             };
             acts_may =
                 list_all-append (may_fail t.still_heard) xs k.acts
@@ -112,15 +123,28 @@ lost_there s0 s1 new t xs none w k live b =
               live = f.inside.fits.lost_is ∙ live;
               gone = ap is_lost both ∙ lost.gone;
               by_fault = lost.by_fault;
+              none_taken = still;
+              before = xs ++ lost.before;
+              told = lost.told;
+              acts_are = ap (λ (ys : List Act). xs ++ ys) lost.acts_are ∙ sym (append_assoc xs lost.before (Lost ∷ map Told lost.told));
               none_in_hand = ap in_hand both ∙ lost.none_in_hand;
             };
           };
     }
 
-pub loses_line : (s0 s1 s2 : Standing) (t : Dealings) (xs : List Act) → t.next ≡ None → Went s0 s1 t xs → s2 ≡ record s1 { kept = s2.kept } → KeptLoses s1.kept s2.kept → s0.kept.core.lost ≡ false
+pub loses_line : (s0 s1 s2 : Standing) (t : Dealings) (xs : List Act) → t.next ≡ None → Went s0 s1 t 1 xs → s2 ≡ record s1 { kept = s2.kept } → KeptLoses s1.kept s2.kept → s0.kept.core.lost ≡ false
     → (b : Beginning) → GoesFault b (view_of s0) (view_of s2) (inside b s0) (inside b s2) TurnFault.LineFailed
 loses_line s0 s1 s2 t xs none w same k live b =
     subst (λ (s : Standing). GoesFault b (view_of s0) (view_of s) (inside b s0) (inside b s) TurnFault.LineFailed) (sym same) (lost_there s0 s1 s2.kept t xs none w k live b)
+
+-- what waits was placed, and nothing else is done
+pub places_alone : (s0 s1 : Standing) (moved : Bool) → Places s0 s1 moved → PlacesAlone (view_of s0) (view_of s1) []
+places_alone s0 s1 moved p = record {
+  no_acts = refl;
+  stays =
+      ap view_of p.stays
+      ∙ ap (λ (qs : List Request). record (view_of s0) { desk = record { taken = qs; told = s1.driver.told; announced = s1.driver.announced }; unplaced = s1.kept.unplaced; unannounced = s1.kept.unannounced }) p.taken_stays;
+}
 
 -- the line was lost before
 pub has_failed : (s0 s1 : Standing) (moved : Bool) → Places s0 s1 moved → s0.kept.core.lost ≡ true
@@ -145,8 +169,11 @@ has_failed s0 s1 moved p lost b =
               outcomes_wait = adds.outcomes;
               lines_wait = adds.lines;
               unfed = w.unfed;
+              reads_fed = w.reads_fed;
+              asks_bare = w.asks_bare;
+              one_got = omega arith;
             };
             acts_may = refl;
-            means = record { gone = f.inside.fits.lost_is ∙ lost; no_acts = refl; line_stays = ap (λ (s : Standing). s.line) p.stays; none_taken = p.taken_stays };
+            means = record { gone = f.inside.fits.lost_is ∙ lost; places = places_alone s0 s1 moved p };
           };
     }

@@ -93,7 +93,7 @@ module _ {s0 s1 s2 s3 s4 s5 s6 s7 : Standing} {m1 m2 m3 m4 m5 m6 m7 : Bool} wher
   unfolding Leads
   fits_three b past r f =
       let w = went_out r in
-      w.leads b past (once_still b s0 s3 past (taken_still s0 s3 (placed r.places) (r.minds.acts ++ r.sends.acts) refl w) f) f
+      w.leads b past (once_still b s0 s3 past (taken_still s0 s3 (placed r.places) 0 (r.minds.acts ++ r.sends.acts) refl w) f) f
 
   fits_seven : (b : Beginning) (past : List Act) (r : Run s0 s1 s2 s3 s4 s5 s6 s7 m1 m2 m3 m4 m5 m6 m7) → AreOnce b (view_of s7) → StandingFits b s0 past → StandingFits b s7 (after past (all_acts r))
   unfolding Leads
@@ -185,6 +185,7 @@ module _ {s0 s1 s2 s3 s4 s5 s6 s7 : Standing} {m1 m2 m3 m4 m5 m6 m7 : Bool} wher
         quiet = drained_quiet (driving b) end refl (is_run b s3.line s3.driver s3.kept end here) none;
         sent = all_sent b s7 end last h (all_given b s7 end last live queued);
         nothing_came = record { room = 512; some = lit≤ tt; nothing = k.nothing_came };
+        fed = k.unfed_seven;
         all_got = all_got b s7 end last k.unfed_seven k.no_frame_seven;
         no_request = no_request b end r q last;
         held = holds_still b s2 s7 end (ap (λ (u : Kept). u.unannounced) k.kept_still ∙ ap (λ (s : Standing). s.kept.unannounced) k.sent_still) held;
@@ -204,7 +205,7 @@ module _ {s0 s1 s2 s3 s4 s5 s6 s7 : Standing} {m1 m2 m3 m4 m5 m6 m7 : Bool} wher
       let t = record (placed r.places) { write = r.writes.write } in
       let acts = (r.minds.acts ++ r.sends.acts) ++ r.gets.acts in
       let w = went_got r in
-      let five : StandingFits b s5 (after past acts) = w.leads b past (once_still b s0 s5 past (taken_still s0 s5 t acts refl w) f) f in
+      let five : StandingFits b s5 (after past acts) = w.leads b past (once_still b s0 s5 past (taken_still s0 s5 t 1 acts refl w) f) f in
       let same : acts ≡ all_acts r = sym (ap (λ (xs : List Act). acts ++ xs) q.took_none ∙ append-nil acts) in
       subst (λ (s : Standing). StandingFits b s (after past (all_acts r))) q.got_still (subst (λ (xs : List Act). StandingFits b s5 (after past xs)) same five)
 
@@ -233,6 +234,21 @@ module _ {s0 s1 s2 s3 s4 s5 s6 s7 : Standing} {m1 m2 m3 m4 m5 m6 m7 : Bool} wher
           let same : Some f' ≡ Some g = sym six ∙ at_six in
           subst (λ (x : Frame). has_room_for b (after past (all_acts r)) x ≡ false) (one_frame same) ((r.gets.no_room f' q.got h).1 b (after past (all_acts r)) (fits_four b past r q f))
 
+  -- where no frame is at hand all was fed
+  all_fed : (r : Run s0 s1 s2 s3 s4 s5 s6 s7 m1 m2 m3 m4 m5 m6 m7) → Still r → s7.kept.deframer.next ≡ None → s7.kept.unfed ≡ []
+  all_fed r q none = by_frame s5.kept.deframer.next refl
+    where
+      at_six : s6.kept.deframer.next ≡ None
+      at_six = sym (ap (λ (k : Kept). k.deframer.next) q.took_still) ∙ none
+
+      by_unfed : (xs : List ℕ) → s5.kept.unfed ≡ xs → s5.kept.deframer.next ≡ None → s7.kept.unfed ≡ []
+      by_unfed [] u e = ap (λ (k : Kept). k.unfed) (q.took_still ∙ (r.reads.nothing_came q.read (sound_five r q) u).1) ∙ u
+      by_unfed (x ∷ xs) u e = absurd (r.reads.feeds q.read (λ v. let both : x ∷ xs ≡ [] = sym u ∙ v in cc) e)
+
+      by_frame : (o : Option Frame) → s5.kept.deframer.next ≡ o → s7.kept.unfed ≡ []
+      by_frame None e = by_unfed s5.kept.unfed refl e
+      by_frame (Some f) e = let both : Some f ≡ None = sym (r.reads.frame_stays f e) ∙ at_six in cc
+
   -- ## Octets wait
 
   pub is_full : (b : Beginning) (past : List Act) (r : Run s0 s1 s2 s3 s4 s5 s6 s7 m1 m2 m3 m4 m5 m6 m7) → Still r → AreOnce b (view_of s7) → StandingFits b s0 past → s7.kept.unwritten ≢ []
@@ -249,6 +265,7 @@ module _ {s0 s1 s2 s3 s4 s5 s6 s7 : Standing} {m1 m2 m3 m4 m5 m6 m7 : Bool} wher
         some = offer.some;
         took_none = offer.none;
         reads = λ e. record { room = 512; some = lit≤ tt; nothing = (r.reads.nothing_came q.read (sound_five r q) (unfed_still r q (sym five ∙ e))).0 };
+        fed = λ none. all_fed r q none;
         no_room = λ g e. room_none b past r q once f g e;
         no_request = no_request b end r q last;
       }
@@ -315,6 +332,9 @@ module _ {s0 s1 s2 s3 s4 s5 s6 s7 : Standing} {m1 m2 m3 m4 m5 m6 m7 : Bool} wher
                 outcomes_wait = adds.outcomes;
                 lines_wait = adds.lines;
                 unfed = w.unfed;
+                reads_fed = w.reads_fed;
+                asks_bare = w.asks_bare;
+                one_got = adds.few_got;
               };
               offers = subst (Offers r.writes.write) (sym (unwritten_four r)) r.writes.offers;
               sound = last.inside.sound (sound_seven r);

@@ -3,14 +3,14 @@ use Rattle.std.proofs.Common.{ap, sym, ◌∙◌, subst, arith}
 use Rattle.std.proofs.lemmas.List.{append_assoc, append-nil}
 use Rattle.std.proofs.lemmas.List.Folds.{list_all-append}
 use Rattle.std.proofs.lemmas.Bool.{and_from}
-use Rattle.std.specs.Prelude.{◌≡◌, ℕ, Bool, ◌+◌, ◌≤◌, true, List, [], ◌++◌, length, map, drop, refl, Option, None, Some}
+use Rattle.std.specs.Prelude.{◌≡◌, ◌≢◌, ℕ, Bool, ◌+◌, ◌≤◌, true, List, [], ◌++◌, length, map, drop, refl, Option, None, Some}
 use Rattle.std.specs.List.{list_all}
 use Rattle.modem_desk.specs.declared.request.Request.{Request}
 use Rattle.modem_desk.specs.declared.request.Outcome.{Outcome}
 use Rattle.modem_history.specs.Acts.{Act, after}
 use Rattle.modem_history.specs.Requests.{are_distinct}
 use Rattle.modem_desk.specs.Ends.{DriverView}
-use Rattle.modem_history.specs.Sessions.{Beginning, LineView, AreOnce, heard_as}
+use Rattle.modem_history.specs.Sessions.{Beginning, LineView, AreOnce, gots, heard_as}
 use Rattle.modem_history.specs.Turns.{Write, Read, Dealings, HandsBack, HasRoom, octets_written, octets_read, request_given, calls_made, counted, outcomes_told, lines_heard, may_act}
 use Rattle.modem_history.proofs.AfterActs.{after_both}
 use Rattle.modem_driver.specs.Endings.{KeepsEnd}
@@ -19,6 +19,7 @@ use Rattle.modem_driver.specs.SessionTurns.{HasTurned}
 use Rattle.modem_driver.specs.TurnSteps.{Standing, StandingFits, Leads, Adds, AddsAll, Places, Writes, ReadsOn, TakesOne, KeepsAside, view_of}
 use Rattle.modem_driver.proofs.sessions.Keeping.{told_both}
 use Rattle.modem_driver.proofs.sessions.Listening.{heard_both}
+use Rattle.modem_driver.proofs.sessions.OneFrame.{few_both}
 
 -- ## One step after the other
 
@@ -36,13 +37,15 @@ leads_still s0 s1 s2 xs same l m = subst (Leads s0 s2) (append-nil xs) (leads_on
 
 -- ## What a turn has done so far
 
--- what its acts told and heard waits behind what still waited, and they are such as a turn may have
-pub record AddsTo (t : Dealings) (now : Kept) (acts : List Act) : Type 0 where
+-- what its acts told and heard waits behind what still waited, they are such as a turn may have, and so many frames were
+-- handled at most
+pub record AddsTo (t : Dealings) (now : Kept) (most : ℕ) (acts : List Act) : Type 0 where
   pub outcomes : now.unplaced ≡ t.still_told ++ outcomes_told acts
   pub lines : map heard_as now.unannounced ≡ map heard_as t.still_heard ++ lines_heard acts
   pub may : list_all (may_act t.still_heard) acts ≡ true
+  pub few_got : length (gots acts) ≤ most
 
-pub record Went (start now : Standing) (t : Dealings) (acts : List Act) : Type 0 where
+pub record Went (start now : Standing) (t : Dealings) (most : ℕ) (acts : List Act) : Type 0 where
   pub leads : Leads start now acts
   pub came : now.line.received ≡ start.line.received ++ octets_read t.read
   pub room : HasRoom t.read
@@ -51,8 +54,10 @@ pub record Went (start now : Standing) (t : Dealings) (acts : List Act) : Type 0
   pub taken : now.driver.taken ≡ start.driver.taken ++ request_given t.next
   pub hands_back : HandsBack t
   pub unfed : length now.kept.unfed ≤ length start.kept.unfed + length (octets_read t.read)
+  pub reads_fed : t.read ≢ None → start.kept.unfed ≡ []
+  pub asks_bare : t.next ≢ None → start.kept.aside ≡ None
   pub ended : KeepsEnd start.kept.course now.kept.course
-  pub adds : (b : Beginning) (past : List Act) → AreOnce b (view_of now) → StandingFits b start past → AddsTo t now.kept acts
+  pub adds : (b : Beginning) (past : List Act) → AreOnce b (view_of now) → StandingFits b start past → AddsTo t now.kept most acts
 
 -- what the desk was offered first
 abbrev pub placed : {old new : Standing} {moved : Bool} → Places old new moved → Dealings
@@ -63,7 +68,7 @@ placed {old} {new} p = record { still_told = new.kept.unplaced; still_heard = ne
 line_still : (s0 s1 : Standing) → s1.line ≡ s0.line → s1.line.received ≡ s0.line.received ++ []
 line_still s0 s1 e = ap (λ (l : LineView). l.received) e ∙ sym (append-nil s0.line.received)
 
-pub went_placed : (s0 s1 : Standing) (moved : Bool) (p : Places s0 s1 moved) → Went s0 s1 (placed p) []
+pub went_placed : (s0 s1 : Standing) (moved : Bool) (p : Places s0 s1 moved) → Went s0 s1 (placed p) 0 []
 went_placed s0 s1 moved p =
     let line : s1.line ≡ s0.line = ap (λ (s : Standing). s.line) p.stays in
     let unfed : s1.kept.unfed ≡ s0.kept.unfed = ap (λ (s : Standing). s.kept.unfed) p.stays in
@@ -76,20 +81,23 @@ went_placed s0 s1 moved p =
       taken = p.taken_stays ∙ sym (append-nil s0.driver.taken);
       hands_back = record { outcomes = p.outcomes_back; lines = p.lines_back };
       unfed = let e = ap length unfed in omega (arith, e);
+      reads_fed = λ read. absurd (read refl);
+      asks_bare = λ asked. absurd (asked refl);
       ended = λ end e. ap (λ (s : Standing). s.kept.course) p.stays ∙ e;
       adds = λ b past once f. record {
         outcomes = sym (append-nil s1.kept.unplaced);
         lines = sym (append-nil (map heard_as s1.kept.unannounced));
         may = refl;
+        few_got = omega arith;
       };
     }
 
 -- no request was asked for yet
-pub taken_still : (s0 s1 : Standing) (t : Dealings) (xs : List Act) → t.next ≡ None → Went s0 s1 t xs → s1.driver.taken ≡ s0.driver.taken
-taken_still s0 s1 t xs none w = w.taken ∙ (ap (λ (o : Option (Option Request)). s0.driver.taken ++ request_given o) none ∙ append-nil s0.driver.taken)
+pub taken_still : (s0 s1 : Standing) (t : Dealings) (n : ℕ) (xs : List Act) → t.next ≡ None → Went s0 s1 t n xs → s1.driver.taken ≡ s0.driver.taken
+taken_still s0 s1 t n xs none w = w.taken ∙ (ap (λ (o : Option (Option Request)). s0.driver.taken ++ request_given o) none ∙ append-nil s0.driver.taken)
 
-adds_on : (t : Dealings) (k1 k2 : Kept) (xs ys : List Act) → AddsTo t k1 xs → Adds k1 k2 t.still_heard ys → AddsTo t k2 (xs ++ ys)
-adds_on t k1 k2 xs ys a d = record {
+adds_on : (t : Dealings) (k1 k2 : Kept) (n m : ℕ) (xs ys : List Act) → AddsTo t k1 n xs → Adds k1 k2 t.still_heard m ys → AddsTo t k2 (n + m) (xs ++ ys)
+adds_on t k1 k2 n m xs ys a d = record {
   outcomes =
       d.outcomes
       ∙ (ap (λ (os : List Outcome). os ++ outcomes_told ys) a.outcomes
@@ -101,14 +109,15 @@ adds_on t k1 k2 xs ys a d = record {
       ∙ (append_assoc (map heard_as t.still_heard) (lines_heard xs) (lines_heard ys)
       ∙ ap (λ (hs : List Act). map heard_as t.still_heard ++ hs) (sym (heard_both xs ys))));
   may = list_all-append (may_act t.still_heard) xs ys ∙ and_from (list_all (may_act t.still_heard) xs) (list_all (may_act t.still_heard) ys) a.may d.may;
+  few_got = few_both xs ys n m a.few_got d.few_got;
 }
 
 -- a step of the core: the line, what the desk gave and the octets not yet fed stay
-pub went_step : (s0 s1 s2 : Standing) (t : Dealings) (xs ys : List Act) → t.next ≡ None → Went s0 s1 t xs → Leads s1 s2 ys → AddsAll s1 s2 t.still_heard ys
-    → s2.line ≡ s1.line → s2.driver.taken ≡ s1.driver.taken → s2.kept.unfed ≡ s1.kept.unfed → KeepsEnd s1.kept.course s2.kept.course → Went s0 s2 t (xs ++ ys)
+pub went_step : (s0 s1 s2 : Standing) (t : Dealings) (n m : ℕ) (xs ys : List Act) → t.next ≡ None → Went s0 s1 t n xs → Leads s1 s2 ys → AddsAll s1 s2 t.still_heard m ys
+    → s2.line ≡ s1.line → s2.driver.taken ≡ s1.driver.taken → s2.kept.unfed ≡ s1.kept.unfed → KeepsEnd s1.kept.course s2.kept.course → Went s0 s2 t (n + m) (xs ++ ys)
 unfolding Leads AddsAll
-went_step s0 s1 s2 t xs ys none w leads adds line taken unfed ended =
-    let still = taken_still s0 s1 t xs none w in
+went_step s0 s1 s2 t n m xs ys none w leads adds line taken unfed ended =
+    let still = taken_still s0 s1 t n xs none w in
     record {
       leads = leads_on s0 s1 s2 xs ys still w.leads leads;
       came = ap (λ (l : LineView). l.received) line ∙ w.came;
@@ -118,20 +127,22 @@ went_step s0 s1 s2 t xs ys none w leads adds line taken unfed ended =
       taken = taken ∙ w.taken;
       hands_back = w.hands_back;
       unfed = let e = ap length unfed in let before = w.unfed in omega (arith, e, before);
+      reads_fed = w.reads_fed;
+      asks_bare = w.asks_bare;
       ended = λ end e. ended end (w.ended end e);
       adds = λ b past once f.
           let mid = once_still b s0 s1 past still f in
-          adds_on t s1.kept s2.kept xs ys (w.adds b past mid f) (adds b (after past xs) once (w.leads b past mid f));
+          adds_on t s1.kept s2.kept n m xs ys (w.adds b past mid f) (adds b (after past xs) once (w.leads b past mid f));
     }
 
 -- what was told and heard still waits as it did
-adds_still : (t : Dealings) (k1 k2 : Kept) (xs : List Act) → AddsTo t k1 xs → k2.unplaced ≡ k1.unplaced → k2.unannounced ≡ k1.unannounced → AddsTo t k2 xs
-adds_still t k1 k2 xs a told heard = record { outcomes = told ∙ a.outcomes; lines = ap (map heard_as) heard ∙ a.lines; may = a.may }
+adds_still : (t : Dealings) (k1 k2 : Kept) (n : ℕ) (xs : List Act) → AddsTo t k1 n xs → k2.unplaced ≡ k1.unplaced → k2.unannounced ≡ k1.unannounced → AddsTo t k2 n xs
+adds_still t k1 k2 n xs a told heard = record { outcomes = told ∙ a.outcomes; lines = ap (map heard_as) heard ∙ a.lines; may = a.may; few_got = a.few_got }
 
-pub went_wrote : (s0 s1 s2 : Standing) (t : Dealings) (xs : List Act) (moved : Bool) → t.next ≡ None → t.write ≡ None → t.read ≡ None → Went s0 s1 t xs → (k : Writes s1 s2 moved)
-    → Went s0 s2 (record t { write = k.write }) xs
-went_wrote s0 s1 s2 t xs moved none unwritten unread w k =
-    let still = taken_still s0 s1 t xs none w in
+pub went_wrote : (s0 s1 s2 : Standing) (t : Dealings) (n : ℕ) (xs : List Act) (moved : Bool) → t.next ≡ None → t.write ≡ None → t.read ≡ None → Went s0 s1 t n xs → (k : Writes s1 s2 moved)
+    → Went s0 s2 (record t { write = k.write }) n xs
+went_wrote s0 s1 s2 t n xs moved none unwritten unread w k =
+    let still = taken_still s0 s1 t n xs none w in
     let same : s2.driver ≡ s1.driver = ap (λ (s : Standing). s.driver) k.stays in
     let sent : s1.line.sent ≡ s0.line.sent = w.went ∙ (ap (λ (o : Option Write). s0.line.sent ++ octets_written o) unwritten ∙ append-nil s0.line.sent) in
     let count : s1.line.calls ≡ s0.line.calls = w.calls ∙ (ap (λ (o : Option Write). counted s0.line.calls (calls_made o + calls_made t.read)) unwritten ∙ ap (λ (o : Option Read). counted s0.line.calls (0 + calls_made o)) unread) in
@@ -145,9 +156,11 @@ went_wrote s0 s1 s2 t xs moved none unwritten unread w k =
       hands_back = record { outcomes = w.hands_back.outcomes; lines = w.hands_back.lines };
       ended = λ end e. ap (λ (s : Standing). s.kept.course) k.stays ∙ w.ended end e;
       unfed = let e = ap (λ (s : Standing). length s.kept.unfed) k.stays in let before = w.unfed in omega (arith, e, before);
+      reads_fed = w.reads_fed;
+      asks_bare = w.asks_bare;
       adds = λ b past once f.
-          let a = adds_still t s1.kept s2.kept xs (w.adds b past (once_still b s0 s1 past still f) f) (ap (λ (s : Standing). s.kept.unplaced) k.stays) (ap (λ (s : Standing). s.kept.unannounced) k.stays) in
-          record { outcomes = a.outcomes; lines = a.lines; may = a.may };
+          let a = adds_still t s1.kept s2.kept n xs (w.adds b past (once_still b s0 s1 past still f) f) (ap (λ (s : Standing). s.kept.unplaced) k.stays) (ap (λ (s : Standing). s.kept.unannounced) k.stays) in
+          record { outcomes = a.outcomes; lines = a.lines; may = a.may; few_got = a.few_got };
     }
   where
     one_alone : (n : ℕ) → n + 0 ≡ n
@@ -160,10 +173,10 @@ counted_both n None (Some r) = refl
 counted_both n (Some w) None = refl
 counted_both n (Some w) (Some r) = omega arith
 
-pub went_read : (s0 s1 s2 : Standing) (t : Dealings) (xs : List Act) (moved : Bool) → t.next ≡ None → t.read ≡ None → Went s0 s1 t xs → (k : ReadsOn s1 s2 moved)
-    → Went s0 s2 (record t { read = k.read }) xs
-went_read s0 s1 s2 t xs moved none unread w k =
-    let still = taken_still s0 s1 t xs none w in
+pub went_read : (s0 s1 s2 : Standing) (t : Dealings) (n : ℕ) (xs : List Act) (moved : Bool) → t.next ≡ None → t.read ≡ None → s1.kept.unfed ≡ s0.kept.unfed → Went s0 s1 t n xs → (k : ReadsOn s1 s2 moved)
+    → Went s0 s2 (record t { read = k.read }) n xs
+went_read s0 s1 s2 t n xs moved none unread same_unfed w k =
+    let still = taken_still s0 s1 t n xs none w in
     let same : s2.driver ≡ s1.driver = ap (λ (s : Standing). s.driver) k.stays in
     let came : s1.line.received ≡ s0.line.received = w.came ∙ (ap (λ (o : Option Read). s0.line.received ++ octets_read o) unread ∙ append-nil s0.line.received) in
     let before : length s1.kept.unfed ≤ length s0.kept.unfed + 0 = subst (λ (o : Option Read). length s1.kept.unfed ≤ length s0.kept.unfed + length (octets_read o)) unread w.unfed in
@@ -179,19 +192,21 @@ went_read s0 s1 s2 t xs moved none unread w k =
       hands_back = record { outcomes = w.hands_back.outcomes; lines = w.hands_back.lines };
       ended = λ end e. ap (λ (s : Standing). s.kept.course) k.stays ∙ w.ended end e;
       unfed = omega (arith, before, more);
+      reads_fed = λ read. sym same_unfed ∙ k.reads_fed read;
+      asks_bare = w.asks_bare;
       adds = λ b past once f.
-          let a = adds_still t s1.kept s2.kept xs (w.adds b past (once_still b s0 s1 past still f) f) (ap (λ (s : Standing). s.kept.unplaced) k.stays) (ap (λ (s : Standing). s.kept.unannounced) k.stays) in
-          record { outcomes = a.outcomes; lines = a.lines; may = a.may };
+          let a = adds_still t s1.kept s2.kept n xs (w.adds b past (once_still b s0 s1 past still f) f) (ap (λ (s : Standing). s.kept.unplaced) k.stays) (ap (λ (s : Standing). s.kept.unannounced) k.stays) in
+          record { outcomes = a.outcomes; lines = a.lines; may = a.may; few_got = a.few_got };
     }
   where
     one_alone : (n : ℕ) → n + 0 ≡ n
     one_alone n = omega arith
 
-pub went_took : (s0 s1 s2 : Standing) (t : Dealings) (xs : List Act) (moved : Bool) → t.next ≡ None → Went s0 s1 t xs → (k : TakesOne s1 s2 moved)
-    → Went s0 s2 (record t { next = k.next }) (xs ++ k.acts)
+pub went_took : (s0 s1 s2 : Standing) (t : Dealings) (n : ℕ) (xs : List Act) (moved : Bool) → t.next ≡ None → s1.kept.aside ≡ s0.kept.aside → Went s0 s1 t n xs → (k : TakesOne s1 s2 moved)
+    → Went s0 s2 (record t { next = k.next }) (n + 0) (xs ++ k.acts)
 unfolding Leads AddsAll
-went_took s0 s1 s2 t xs moved none w k =
-    let still = taken_still s0 s1 t xs none w in
+went_took s0 s1 s2 t n xs moved none same_aside w k =
+    let still = taken_still s0 s1 t n xs none w in
     let line : s2.line ≡ s1.line = ap (λ (s : Standing). s.line) k.stays in
     record {
       leads = leads_on s0 s1 s2 xs k.acts still w.leads k.leads;
@@ -203,16 +218,18 @@ went_took s0 s1 s2 t xs moved none w k =
       hands_back = record { outcomes = w.hands_back.outcomes; lines = w.hands_back.lines };
       ended = λ end e. ap (λ (s : Standing). s.kept.course) k.stays ∙ w.ended end e;
       unfed = let e = ap (λ (s : Standing). length s.kept.unfed) k.stays in let before = w.unfed in omega (arith, e, before);
+      reads_fed = w.reads_fed;
+      asks_bare = λ asked. sym same_aside ∙ k.asks_bare asked;
       adds = λ b past once f.
           let mid = once_still b s0 s1 past still f in
-          let a = adds_on t s1.kept s2.kept xs k.acts (w.adds b past mid f) (k.adds t.still_heard b (after past xs) once (w.leads b past mid f)) in
-          record { outcomes = a.outcomes; lines = a.lines; may = a.may };
+          let a = adds_on t s1.kept s2.kept n 0 xs k.acts (w.adds b past mid f) (k.adds t.still_heard b (after past xs) once (w.leads b past mid f)) in
+          record { outcomes = a.outcomes; lines = a.lines; may = a.may; few_got = a.few_got };
     }
 
-pub went_aside : (s0 s1 s2 : Standing) (t : Dealings) (xs : List Act) → t.next ≡ None → Went s0 s1 t xs → (k : KeepsAside s1 s2)
-    → Went s0 s2 (record t { next = k.next }) xs
-went_aside s0 s1 s2 t xs none w k =
-    let still = taken_still s0 s1 t xs none w in
+pub went_aside : (s0 s1 s2 : Standing) (t : Dealings) (n : ℕ) (xs : List Act) → t.next ≡ None → s1.kept.aside ≡ s0.kept.aside → Went s0 s1 t n xs → (k : KeepsAside s1 s2)
+    → Went s0 s2 (record t { next = k.next }) n xs
+went_aside s0 s1 s2 t n xs none same_aside w k =
+    let still = taken_still s0 s1 t n xs none w in
     let line : s2.line ≡ s1.line = ap (λ (s : Standing). s.line) k.stays in
     record {
       leads = leads_still s0 s1 s2 xs still w.leads k.leads;
@@ -224,10 +241,31 @@ went_aside s0 s1 s2 t xs none w k =
       hands_back = record { outcomes = w.hands_back.outcomes; lines = w.hands_back.lines };
       ended = λ end e. ap (λ (s : Standing). s.kept.course) k.stays ∙ w.ended end e;
       unfed = let e = ap (λ (s : Standing). length s.kept.unfed) k.stays in let before = w.unfed in omega (arith, e, before);
+      reads_fed = w.reads_fed;
+      asks_bare = λ asked. sym same_aside ∙ k.asks_bare asked;
       adds = λ b past once f.
-          let a = adds_still t s1.kept s2.kept xs (w.adds b past (once_still b s0 s1 past still f) f) (ap (λ (s : Standing). s.kept.unplaced) k.stays) (ap (λ (s : Standing). s.kept.unannounced) k.stays) in
-          record { outcomes = a.outcomes; lines = a.lines; may = a.may };
+          let a = adds_still t s1.kept s2.kept n xs (w.adds b past (once_still b s0 s1 past still f) f) (ap (λ (s : Standing). s.kept.unplaced) k.stays) (ap (λ (s : Standing). s.kept.unannounced) k.stays) in
+          record { outcomes = a.outcomes; lines = a.lines; may = a.may; few_got = a.few_got };
     }
+
+-- where none was handled, one at most was
+pub one_at_most : (s0 s : Standing) (t : Dealings) (acts : List Act) → Went s0 s t 0 acts → Went s0 s t 1 acts
+one_at_most s0 s t acts w = record {
+  leads = w.leads;
+  came = w.came;
+  room = w.room;
+  went = w.went;
+  calls = w.calls;
+  taken = w.taken;
+  hands_back = w.hands_back;
+  unfed = w.unfed;
+  reads_fed = w.reads_fed;
+  asks_bare = w.asks_bare;
+  ended = w.ended;
+  adds = λ b past once f.
+      let a = w.adds b past once f in
+      record { outcomes = a.outcomes; lines = a.lines; may = a.may; few_got = let none = a.few_got in omega arith };
+}
 
 -- ## Whichever way it ends
 
@@ -237,8 +275,8 @@ few_calls n m None (Some r) e = omega (arith, e)
 few_calls n m (Some w) None e = omega (arith, e)
 few_calls n m (Some w) (Some r) e = omega (arith, e)
 
-pub has_turned : (s0 s : Standing) (t : Dealings) (acts : List Act) → Went s0 s t acts → HasTurned s0 s
-has_turned s0 s t acts w = record {
+pub has_turned : (s0 s : Standing) (t : Dealings) (n : ℕ) (acts : List Act) → Went s0 s t n acts → HasTurned s0 s
+has_turned s0 s t n acts w = record {
   calls = few_calls s0.line.calls s.line.calls t.write t.read w.calls;
   taken = record { rest = request_given t.next; joins = sym w.taken };
   ended = w.ended;

@@ -1,6 +1,6 @@
 //! A session as a future.
 ghost use Rattle.std.specs.Prelude.{◌≡◌, ◌+◌, ◌≤◌, IfErr, IfSome};
-ghost use Rattle.modem_driver.specs.SessionStates.{line_by};
+ghost use Rattle.modem_driver.specs.SessionStates.{line_by, TakesMore};
 ghost use Rattle.modem_history.specs.Turns.{says_moved};
 ghost use Rattle.modem_driver.specs.SessionTurns.{answer_of, LeavesLost};
 ghost use Rattle.modem_driver.specs.Polls.{has_ended, is_stopped, end_given, with_end, GoesOn, Runs, PollsOn, Polls, Gives};
@@ -63,6 +63,7 @@ impl<L: SerialLine, R: Wait + Drop> Session<L, R> {
         ensures runs { Runs (line_by L.received L.sent L.calls L.failures) self.old self.new result }
         ensures goes { GoesOn (line_by L.received L.sent L.calls L.failures) self.old self.new }
         ensures bounded { L.calls self.new.line ≤ L.calls self.old.line + 128 }
+        ensures takes { TakesMore self.old.driver self.new.driver }
         ensures lost { IfErr result (λ why. LeavesLost why self.new.kept) }
     {
         for _ in 0..TURNS {
@@ -108,6 +109,7 @@ impl<L: SerialLine, R: Wait + Drop> Session<L, R> {
         ensures goes { GoesOn (line_by L.received L.sent L.calls L.failures) self.old self.new }
         ensures gives { IfSome result (Gives (line_by L.received L.sent L.calls L.failures) self.old) }
         ensures bounded { L.calls self.new.line ≤ L.calls self.old.line + 128 }
+        ensures takes { TakesMore self.old.driver self.new.driver }
     {
         match self.turns() {
             Ok(()) => {
@@ -125,12 +127,14 @@ impl<L: SerialLine, R: Wait + Drop> Session<L, R> {
     }
 
     /// What a poll gives, if anything: the end that one gave before, after which nothing is done; else that
-    /// to which at most 64 turns lead.
-    fn advance(&mut self) -> Option<Result<Ended, SessionFault>>
+    /// to which at most 64 turns lead. A future of one's own that hands the session on calls it, since of a
+    /// session that is polled only the output is known.
+    pub fn advance(&mut self) -> Option<Result<Ended, SessionFault>>
         ensures polls { Polls (line_by L.received L.sent L.calls L.failures) self.old self.new result }
         ensures goes { GoesOn (line_by L.received L.sent L.calls L.failures) self.old self.new }
         ensures gives { IfSome result (Gives (line_by L.received L.sent L.calls L.failures) self.old) }
         ensures bounded { L.calls self.new.line ≤ L.calls self.old.line + 128 }
+        ensures takes { TakesMore self.old.driver self.new.driver }
     {
         match self.end() {
             Some(end) => Some(end),

@@ -1,8 +1,8 @@
 //! Turns of a session.
 ghost use Rattle.std.specs.Prelude.{◌≡◌, true, Err, IfOk, IfErr, OnErr};
-ghost use Rattle.modem_driver.specs.SessionStates.{line_by};
+ghost use Rattle.modem_driver.specs.SessionStates.{line_by, TakesMore};
 ghost use Rattle.modem_driver.specs.TurnSteps.{Places, Minds, MindsPart, SendsOn, Writes, Gets, ReadsOn, TakesOne, KeepsAside};
-ghost use Rattle.modem_driver.specs.SessionTurns.{standing_of, answer_of, fault_of, Answers, HasTurned, LeavesLost, LosesOr, Turns, Faults};
+ghost use Rattle.modem_driver.specs.SessionTurns.{standing_of, answer_of, fault_of, Answers, HasNoPlace, HasTurned, LeavesLost, LosesOr, Turns, Faults};
 ghost use Rattle.modem_driver.specs.declared.session.error.SessionFault.TheVariants as fault;
 
 use crate::session::Session;
@@ -178,7 +178,8 @@ impl<L: SerialLine, R: Wait + Drop> Session<L, R> {
             (standing_of (line_by L.received L.sent L.calls L.failures) self.new) }
         ensures lost { IfErr result (λ why. LeavesLost why self.new.kept) }
         ensures failed { self.old.kept.core.lost ≡ true → result ≡ Err fault.Failed }
-        ensures desk { self.new.driver.desk ≡ self.old.driver.desk }
+        ensures takes { TakesMore self.old.driver self.new.driver }
+        ensures full { IfOk result (λ says. HasNoPlace self.new.driver (answer_of says)) }
     {
         let placed = self.place();
         if self.is_lost() {

@@ -11,22 +11,22 @@ use std::process::Abort;
 use std::test::Fail;
 
 // The calls of this name begin.
-fn begin(rt: &impl Print, call: &str) {
+pub(super) fn begin(rt: &impl Print, call: &str) {
     let _ = rt.println(format_args!("> {call}"));
 }
 
 // They have ended.
-fn end(rt: &impl Print) {
+pub(super) fn end(rt: &impl Print) {
     let _ = rt.println("<");
 }
 
-fn dlci(number: u8) -> Result<Dlci, Fail> {
+pub(super) fn dlci(number: u8) -> Result<Dlci, Fail> {
     let dlci = Dlci::new(number).ok_or("no such DLCI")?;
     Ok(dlci)
 }
 
 // A request is taken: how many acts come of it.
-fn takes(core: &mut Core, number: u64, ask: Ask) -> Result<usize, Fail> {
+pub(super) fn takes(core: &mut Core, number: u64, ask: Ask) -> Result<usize, Fail> {
     let request = Request {
         caller: 0,
         number,
@@ -58,7 +58,7 @@ fn comes(core: &mut Core, number: u8, kind: Kind, info: &[u8]) -> Result<usize, 
 }
 
 // All that waits goes out: how many frames.
-fn all_goes_out(core: &mut Core) -> u32 {
+pub(super) fn all_goes_out(core: &mut Core) -> u32 {
     for count in 0..600 {
         if core.outgoing().is_none() {
             return count;
@@ -68,7 +68,7 @@ fn all_goes_out(core: &mut Core) -> u32 {
 }
 
 // A core that listens to RING, with 0 and 1 open, whose first command has its answer.
-fn warmed_up(rt: &impl Abort, alloc: Global) -> Result<Core, Fail> {
+pub(super) fn warmed_up(rt: &impl Abort, alloc: Global) -> Result<Core, Fail> {
     let mut core = Core::new(alloc, 31, &[UrcKind::Ring])?;
     for number in 0..2 {
         takes(&mut core, 1, Ask::OpenChannel(dlci(number)?))?;
@@ -100,7 +100,30 @@ fn calls_that_take_no_memory(rt: HostRuntime) -> Result<(), Fail> {
     Ok(())
 }
 
-// A command of one frame is answered by one line and a final code, each in a frame of its own, and a RING comes between.
+// A line comes in a frame of its own, between marks: so many acts come of it.
+fn line_comes<R: Abort + Print>(
+    rt: &R,
+    core: &mut Core,
+    call: &str,
+    line: &[u8],
+    acts: usize,
+) -> Result<(), Fail> {
+    begin(rt, call);
+    let came = comes(core, 1, Kind::Uih, line)?;
+    end(rt);
+    assert_eq!(rt; came, acts);
+    Ok(())
+}
+
+// A hundred lines come, each in a frame of its own.
+fn hundred_lines(core: &mut Core) -> Result<(), Fail> {
+    for _ in 0..100 {
+        comes(core, 1, Kind::Uih, b"\r\n+CMGL: 1\r\n")?;
+    }
+    Ok(())
+}
+
+// A command of one frame is answered by lines and a final code, each in a frame of its own; a RING comes between.
 #[test]
 fn calls_of_a_command(rt: HostRuntime) -> Result<(), Fail> {
     let alloc = rt.alloc();
@@ -113,14 +136,27 @@ fn calls_of_a_command(rt: HostRuntime) -> Result<(), Fail> {
     begin(&rt, "Core::outgoing of a command");
     assert_eq!(&rt; all_goes_out(&mut core), 1);
     end(&rt);
-    begin(&rt, "Core::got of a line");
-    assert_eq!(&rt; comes(&mut core, 1, Kind::Uih, b"\r\n+CSQ: 18,99\r\n")?, 1);
-    end(&rt);
-    begin(&rt, "Core::got of a RING");
-    assert_eq!(&rt; comes(&mut core, 1, Kind::Uih, b"\r\nRING\r\n")?, 2);
-    end(&rt);
-    begin(&rt, "Core::got of the final code");
-    assert_eq!(&rt; comes(&mut core, 1, Kind::Uih, b"\r\nOK\r\n")?, 2);
-    end(&rt);
-    Ok(())
+    line_comes(
+        &rt,
+        &mut core,
+        "Core::got of a line",
+        b"\r\n+CSQ: 18,99\r\n",
+        1,
+    )?;
+    line_comes(&rt, &mut core, "Core::got of a RING", b"\r\nRING\r\n", 2)?;
+    hundred_lines(&mut core)?;
+    line_comes(
+        &rt,
+        &mut core,
+        "Core::got of a line after a hundred",
+        b"\r\n+CSQ: 18,99\r\n",
+        1,
+    )?;
+    line_comes(
+        &rt,
+        &mut core,
+        "Core::got of the final code",
+        b"\r\nOK\r\n",
+        2,
+    )
 }

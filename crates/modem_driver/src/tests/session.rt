@@ -2,36 +2,83 @@
 
 use crate::*;
 use at_text::UrcKind;
-use modem_desk::Desk;
+use modem_desk::{Caller, Desk, DriverEnd};
 use mux_frame::Dlci;
 use serial_line::CutLine;
+use std::alloc::Global;
+use std::sync::Wait;
 use std::test::Fail;
 
-/// A session that has ample memory ticks and is finished: nothing was taken, nothing waits, and line and desk are
-/// as they were. N1 that is too small is refused, and both are handed back.
-#[test]
-fn a_session_begins_and_ends(rt: HostRuntime) -> Result<(), Fail> {
-    let alloc = rt.alloc();
-    let (driver, mut callers, _listeners) = Desk::open(alloc, 1, &[UrcKind::Ring])?;
-    let line = CutLine::new(alloc, b"", &[], &[], 64)?;
-    let Err(refused) = Session::new(rt, alloc, line, driver, 30) else {
-        return Err("made".into());
-    };
-    assert_eq!(rt; refused.why, SessionError::BadN1);
-    let Ok(mut session) = Session::new(rt, alloc, refused.line, refused.driver, 31) else {
+/// N1 that is too small is refused, and both are handed back.
+fn refuses<R: Wait + Drop>(
+    rt: R,
+    alloc: Global,
+    line: CutLine,
+    driver: DriverEnd,
+) -> Result<SessionRefused<CutLine>, Fail> {
+    match Session::new(rt, alloc, line, driver, 30) {
+        Ok(_) => Err("made".into()),
+        Err(refused) => Ok(refused),
+    }
+}
+
+/// It ticks and is finished.
+fn finishes<R: Wait + Drop>(
+    rt: R,
+    alloc: Global,
+    line: CutLine,
+    driver: DriverEnd,
+) -> Result<Finished<CutLine>, Fail> {
+    let Ok(mut session) = Session::new(rt, alloc, line, driver, 31) else {
         return Err("no memory".into());
     };
     session.tick()?;
-    assert_eq!(rt; session.line_mut().put(b"\xF9"), 1);
-    let mut finished = session.finish();
-    assert_eq!(rt; finished.in_hand.len(), 0);
-    assert_eq!(rt; finished.unplaced.len(), 0);
-    assert_eq!(rt; finished.unannounced.len(), 0);
+    if session.line_mut().put(b"\xF9") != 1 {
+        return Err("no room".into());
+    }
+    Ok(session.finish())
+}
+
+/// Nothing was taken, and nothing waits.
+fn is_bare(finished: &Finished<CutLine>) -> bool {
+    finished.in_hand.is_empty() && finished.unplaced.is_empty() && finished.unannounced.is_empty()
+}
+
+/// The desk goes on: what the caller submits is the driver's next.
+fn goes_on<R: Wait>(rt: &R, caller: &mut Caller, driver: &mut DriverEnd) -> Result<bool, Fail> {
     let zero = Dlci::new(0).ok_or("no such DLCI")?;
-    let Ok(number) = callers[0].submit(&rt, Ask::OpenChannel(zero)) else {
+    let Ok(number) = caller.submit(rt, Ask::OpenChannel(zero)) else {
         return Err("refused".into());
     };
-    let request = finished.driver.next(&rt).ok_or("no request")?;
-    assert_eq!(rt; (request.caller, request.number), (0, number));
+    let request = driver.next(rt).ok_or("no request")?;
+    Ok(request.caller == 0 && request.number == number)
+}
+
+/// Its ends are of this desk and this line.
+fn begins_and_ends<R: Wait + Drop + Copy>(
+    rt: R,
+    alloc: Global,
+    line: CutLine,
+    driver: DriverEnd,
+) -> Result<Finished<CutLine>, Fail> {
+    let refused = refuses(rt, alloc, line, driver)?;
+    if refused.why != SessionError::BadN1 {
+        return Err("another refusal".into());
+    }
+    finishes(rt, alloc, refused.line, refused.driver)
+}
+
+/// A session that has ample memory: line and desk are as they were.
+fn leaves_all<R: Wait + Drop + Copy>(rt: R, alloc: Global) -> Result<bool, Fail> {
+    let line = CutLine::new(alloc, b"", &[], &[], 64)?;
+    let (driver, mut callers, _listeners) = Desk::open(alloc, 1, &[UrcKind::Ring])?;
+    let mut finished = begins_and_ends(rt, alloc, line, driver)?;
+    let caller = callers.first_mut().ok_or("no caller")?;
+    Ok(is_bare(&finished) && goes_on(&rt, caller, &mut finished.driver)?)
+}
+
+#[test]
+fn a_session_begins_and_ends(rt: HostRuntime) -> Result<(), Fail> {
+    assert!(rt; leaves_all(rt, rt.alloc())?);
     Ok(())
 }

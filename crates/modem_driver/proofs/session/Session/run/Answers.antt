@@ -4,7 +4,7 @@ use Rattle.std.specs.Prelude.{refl, if◌then◌else◌, Option, None, Some, Ok,
 use Rattle.modem_driver.specs.declared.session.ending.Ended.{Ended}
 use Rattle.modem_driver.specs.declared.session.ending.Ended.TheVariants.{Stopped}
 use Rattle.modem_driver.specs.declared.session.error.SessionFault.{SessionFault}
-use Rattle.modem_driver.specs.SessionStates.{SessionState, line_by}
+use Rattle.modem_driver.specs.SessionStates.{SessionState, TakesMore, line_by}
 use Rattle.modem_driver.specs.Polls.{GoesOn, has_ended, with_end}
 use Rattle.modem_driver.proofs.sessions.Polling.{ends_failing, ends_stopped, gives_end, gives_failing, goes_then}
 use Rattle.modem_driver.proofs.session.Session.run.Goals as goal
@@ -49,4 +49,5 @@ returns-in-Err g c =
       goes = subst (GoesOn look old) (sym kept) goes;
       gives = gives_failing look old mid why goes;
       bounded = subst Few (sym kept) c.in-Err.ensures.bounded;
+      takes = subst (λ (s : SessionState g.row.L.Denot). TakesMore old.driver s.driver) (sym kept) c.in-Err.ensures.takes;
     }

@@ -4,12 +4,13 @@ use Rattle.modem_driver.specs.SessionStates.{line_by}
 use Rattle.modem_driver.specs.SessionTurns.{Turns, answer_of, fault_of}
 use Rattle.modem_driver.specs.Polls.{MovesOn, moves_none, moves_once, goes_on, ends, rests, fails}
 use Rattle.modem_driver.proofs.sessions.Polling.{fault_goes, goes_none, goes_then, moved_is, turn_goes}
+use Rattle.modem_driver.proofs.sessions.TakingMore.{takes_none, takes_then}
 use Rattle.modem_driver.proofs.session.Session.turns.Goals as goal
 
 pub loop-init : goal.loop-init
 loop-init g c =
     let look = line_by g.L.SerialLine.received g.L.SerialLine.sent g.L.SerialLine.calls g.L.SerialLine.failures in
-    record { goes = goes_none look c.args.self.now; moves = moves_none; calls = omega arith }
+    record { goes = goes_none look c.args.self.now; moves = moves_none; takes = takes_none c.args.self.now.driver; calls = omega arith }
 
 pub loop-preserved : goal.loop-preserved
 loop-preserved g c =
@@ -22,6 +23,7 @@ loop-preserved g c =
       goes = goes_then look c.args.self.now c.loop.self c.turn.new.self c.loop.invariant.goes (turn_goes look c.loop.self c.turn.new.self says c.in-Ok.ensures.turns turned);
       moves = moves_once c.loop.counter c.loop.self c.turn.new.self c.loop.invariant.moves (sym c.has_ended.ensures ∙ c.if-has_ended.false)
           (subst (Turns look c.loop.self c.turn.new.self) (moved_is says (sym c.is_moved.ensures ∙ c.if-not-is_moved.false)) c.in-Ok.ensures.turns);
+      takes = takes_then c.args.self.now.driver c.loop.self.driver c.turn.new.self.driver c.loop.invariant.takes c.in-Ok.ensures.takes;
       calls = omega (arith, one, before);
     }
 
@@ -57,3 +59,9 @@ returns-clause-runs g c =
     let last = c.loop-test.false in
     let all : c.loop.counter ≡ 64 = omega arith in
     goes_on (subst At all c.loop.invariant.moves)
+
+pub returns-in-Err-clause-takes : goal.returns-in-Err-clause-takes
+returns-in-Err-clause-takes g c = takes_then c.args.self.now.driver c.loop.self.driver c.turn.new.self.driver c.loop.invariant.takes c.in-Err.ensures.takes
+
+pub returns-then-not-is_moved-clause-takes : goal.returns-then-not-is_moved-clause-takes
+returns-then-not-is_moved-clause-takes g c = takes_then c.args.self.now.driver c.loop.self.driver c.turn.new.self.driver c.loop.invariant.takes c.in-Ok.ensures.takes

@@ -1,6 +1,6 @@
 -- So many turns were made, each where it hadn't ended, and each of which answered Moved.
 use Rattle.std.proofs.Common.{◌+◌, ◌*◌, ◌≤◌}
-use Rattle.modem_driver.specs.SessionStates.{line_by}
+use Rattle.modem_driver.specs.SessionStates.{line_by, TakesMore}
 use Rattle.modem_driver.specs.Polls.{GoesOn, MovesOn}
 use Rattle.modem_driver.proofs.session.Session.turns.Given as goal
 
@@ -10,5 +10,6 @@ invariant-loop g l =
     record {
       goes : GoesOn look l.fn.self l.self;
       moves : MovesOn look l.fn.self l.counter l.self;
+      takes : TakesMore l.fn.self.driver l.self.driver;
       calls : g.L.SerialLine.calls l.self.line ≤ g.L.SerialLine.calls l.fn.self.line + 2 * l.counter;
     }

@@ -28,4 +28,4 @@ returns-in-Ok-clause-takes c =
     let new : Option Request → Kept = λ o. record old { core = c.took.new.self; aside = o; unplaced = c.keep.new.self.outcomes; unannounced = c.keep.new.self.lines } in
     subst (λ (v : Kept). TakesAside v (new c.take.new.self)) c.self.view_is
     (subst (λ (o : Option Request). TakesAside old (new o)) (sym gone)
-    (takes old c.took.new.self k.waiting.room q c.keep.new.self (map act_of c.in-Ok.acts.items) aside c.in-Ok.ensures.past c.in-Ok.ensures.holds c.keep.ensures))
+    (takes old c.took.new.self k.waiting.room q c.keep.new.self (map act_of c.in-Ok.acts.items) aside c.took.ensures.role c.in-Ok.ensures.past c.in-Ok.ensures.holds c.keep.ensures))
