@@ -6,6 +6,10 @@ pub mod Inputs
 pub mod Orders
 pub mod Readings
 pub mod Scripts
+pub mod Showing
+pub mod Submissions
+pub mod Working
+pub mod Settlements
 pub mod ScriptNumbers
 pub mod FinalCodes
 pub mod AnswersBehind

@@ -23,7 +23,7 @@ tails c d xs ys e = cc
 
 -- Numbers.
 
-lacks_number : (b : Bool) (n : ℕ) → LacksByte 32 (if b then (48 + n) ∷ [] else (48 + n / 10) ∷ (48 + n % 10) ∷ [])
+pub lacks_number : (b : Bool) (n : ℕ) → LacksByte 32 (if b then (48 + n) ∷ [] else (48 + n / 10) ∷ (48 + n % 10) ∷ [])
 lacks_number true n = lacks_cons 32 (48 + n) [] (λ e. omega (arith, e)) (lacks_nil 32)
 lacks_number false n =
     lacks_cons 32 (48 + n / 10) ((48 + n % 10) ∷ []) (λ e. omega (arith, e))
@@ -31,11 +31,11 @@ lacks_number false n =
 
 -- Cuts at the first blank.
 
-lacks_middle : (c : ℕ) (f t : List ℕ) → LacksByte c (f ++ c ∷ t) → ⊥
+pub lacks_middle : (c : ℕ) (f t : List ℕ) → LacksByte c (f ++ c ∷ t) → ⊥
 lacks_middle c [] t h = h 0 (omega arith) refl
 lacks_middle c (x ∷ f) t h = lacks_middle c f t (lacks_tail c x (f ++ c ∷ t) h)
 
-same_front : (c : ℕ) (f g t u : List ℕ) → LacksByte c f → LacksByte c g → f ++ c ∷ t ≡ g ++ c ∷ u → (f ≡ g) × (t ≡ u)
+pub same_front : (c : ℕ) (f g t u : List ℕ) → LacksByte c f → LacksByte c g → f ++ c ∷ t ≡ g ++ c ∷ u → (f ≡ g) × (t ≡ u)
 same_front c [] [] t u h i e = (refl, tails c c t u e)
 same_front c [] (y ∷ g) t u h i e = absurd (lacks_head c y g i (sym (heads c y t (g ++ c ∷ u) e)))
 same_front c (x ∷ f) [] t u h i e = absurd (lacks_head c x f h (heads x c (f ++ c ∷ t) u e))

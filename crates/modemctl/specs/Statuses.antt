@@ -8,7 +8,11 @@ abbrev pub status_of : Stop → ℕ
 status_of Stop.NoMemory = 1
 status_of Stop.Input = 1
 status_of Stop.Output = 1
+status_of Stop.Line = 1
+status_of Stop.GaveUp = 1
 status_of Stop.BadN1 = 2
+status_of Stop.BadCallers = 2
+status_of Stop.BadCut = 2
 status_of (Stop.BadLine _) = 2
 
 -- a line that is bad is named; else memory was refused

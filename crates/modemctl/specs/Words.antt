@@ -19,13 +19,41 @@ n1_rule = record (new_rule (codes "n1")) {
 abbrev pub subcommand_app : Text → App
 subcommand_app name = with_rule (new_app name) n1_rule
 
+-- the option `--callers`: a number from 1 to 8, and 2 where it isn't there
+abbrev pub callers_rule : Rule
+callers_rule = record (new_rule (codes "callers")) {
+  long = Some (codes "callers");
+  action = Some Set;
+  value_names = 1;
+  defaults = codes "2" ∷ [];
+  parser = Some (Signed (pos 1) (pos 8));
+}
+
+-- the option `--cut`: a number from 1 to 4096, and 64 where it isn't there
+abbrev pub cut_rule : Rule
+cut_rule = record (new_rule (codes "cut")) {
+  long = Some (codes "cut");
+  action = Some Set;
+  value_names = 1;
+  defaults = codes "64" ∷ [];
+  parser = Some (Signed (pos 1) (pos 4096));
+}
+
+-- the subcommand with these two options
+abbrev pub bench_app : App
+bench_app = with_rule (with_rule (new_app (codes "bench")) callers_rule) cut_rule
+
 -- the program's own name, which wants a subcommand behind it
 abbrev pub wanting_one : App
 wanting_one = record (new_app (codes "modemctl")) { top = record (new_app (codes "modemctl")).top { subcommand_required = true } }
 
--- the program, with its two subcommands
+-- the same with two subcommands
+abbrev pub with_two : App
+with_two = with_subcommand (with_subcommand wanting_one (subcommand_app (codes "frames")).top) (subcommand_app (codes "replay")).top
+
+-- the program, with its three subcommands
 abbrev pub program_app : App
-program_app = with_subcommand (with_subcommand wanting_one (subcommand_app (codes "frames")).top) (subcommand_app (codes "replay")).top
+program_app = with_subcommand with_two bench_app.top
 
 -- what is wrong with words, or the help that they ask for; nothing where they name a subcommand to run
 abbrev pub fault_in : List Text → Kinds

@@ -2,6 +2,7 @@
 //! driver does with requests and octets.
 #![tactic(auto)]
 
+mod bench;
 mod dump;
 mod framing;
 #[cfg(test)]
@@ -9,9 +10,15 @@ mod hostile;
 mod input;
 pub mod laws;
 #[cfg(test)]
+mod pair_tests;
+#[cfg(test)]
+mod random_scripts;
+#[cfg(test)]
 mod rows;
 mod runs;
 mod script;
+#[cfg(test)]
+mod session_scripts;
 mod stop;
 #[cfg(test)]
 mod tests;
@@ -34,6 +41,7 @@ fn main(rt: HostRuntime) -> ExitCode {
     };
     let status = match arguments {
         Ok(words) => words::run(
+            &rt,
             rt.alloc(),
             words.as_slice(),
             &mut rt.stdin(),

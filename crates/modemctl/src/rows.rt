@@ -4,12 +4,12 @@ use std::process::Abort;
 use std::test::Fail;
 
 // Connection 0 opens.
-const ZERO: &str = "open 0\nin f9037301d7f9\n";
+pub const ZERO: &str = "open 0\nin f9037301d7f9\n";
 
 const ZERO_ACTS: &str = "took 1 open 0\nsent f9033f011cf9\ngot 0 UA 1 1 -\ntold 1 opened\n";
 
 // Scripts in which nothing is open yet, and what they come to.
-const AT_FIRST: [(&str, &str); 3] = [
+pub const AT_FIRST: [(&str, &str); 3] = [
     (
         "open 0\nin f9037301d7f9\nopen 0",
         "took 1 open 0\nsent f9033f011cf9\ngot 0 UA 1 1 -\ntold 1 opened\n\
@@ -28,7 +28,7 @@ const AT_FIRST: [(&str, &str); 3] = [
 ];
 
 // Scripts that go on where 0 is open.
-const AFTER_ZERO: [(&str, &str); 2] = [
+pub const AFTER_ZERO: [(&str, &str); 2] = [
     (
         "open 1\ntick\ntick\ntick\ntick\nin f907730115f9\ncmd 1 AT\n",
         "took 2 open 1\nsent f9073f01def9\ntick\nsent f9073f01def9\ntick\nsent f9073f01def9\n\
@@ -43,7 +43,7 @@ const AFTER_ZERO: [(&str, &str); 2] = [
 ];
 
 // Scripts that go on where 0 and 1 are open: commands and their answers.
-const COMMANDS: [(&str, &str); 3] = [
+pub const COMMANDS: [(&str, &str); 2] = [
     (
         "cmd 1 AT+CGREG?\nin f905ef1b0d0a2b43475245473a20320d0aa7f9\n\
         in f905ef1f0d0a2b43475245473a20302c310d0aa0f9\nin f905ef0d0d0a4f4b0d0a5ff9\n",
@@ -56,15 +56,10 @@ const COMMANDS: [(&str, &str); 3] = [
         "in f901ef09e105070f9af9\ncmd 1 AT+CSQ\n",
         "got 0 UIH 0 0 e105070f\ntook 3 cmd 1 AT+CSQ\nsent f907ef0f41542b4353510dddf9\n",
     ),
-    (
-        "cmd 1 AT+CSQ\nlost\nopen 0\n",
-        "took 3 cmd 1 AT+CSQ\nsent f907ef0f41542b4353510dddf9\nlost\ntold 3 linelost\n\
-        took 4 open 0\ntold 4 linelost\n",
-    ),
 ];
 
 // The same: the messages of the control channel.
-const CONTROL: [(&str, &str); 6] = [
+pub const CONTROL: [(&str, &str); 6] = [
     (
         "in f901ef05630193f9\ncmd 1 AT+CSQ\nprobe 4142\nprobe 43\nin f901ef09210541429af9\n\
         in f901ef05a30193f9\n",
@@ -94,7 +89,7 @@ const CONTROL: [(&str, &str); 6] = [
 ];
 
 // The same: connections close, and the multiplexer ends.
-const ENDS: [(&str, &str); 5] = [
+pub const ENDS: [(&str, &str); 4] = [
     (
         "close 1\ntick\ntick\ntick\ntick\n",
         "took 3 close 1\nsent f90753013ff9\ntick\nsent f90753013ff9\ntick\nsent f90753013ff9\n\
@@ -117,6 +112,15 @@ const ENDS: [(&str, &str); 5] = [
     (
         "in f9053f01bff9\ncmd 1 AT\n",
         "got 1 SABM 0 1 -\nsent f9051f0195f9\ntook 3 cmd 1 AT\ntold 3 notopen\n",
+    ),
+];
+
+// The same: the line is lost.
+const LOSSES: [(&str, &str); 2] = [
+    (
+        "cmd 1 AT+CSQ\nlost\nopen 0\n",
+        "took 3 cmd 1 AT+CSQ\nsent f907ef0f41542b4353510dddf9\nlost\ntold 3 linelost\n\
+        took 4 open 0\ntold 4 linelost\n",
     ),
     (
         "cmd 1 AT+CSQ\nstop\nin f901ef05c10193f9\ncmd 1 AT\ncmd 0 AT\nlost\nopen 0\n",
@@ -148,7 +152,12 @@ fn scripts_come_to_their_acts(rt: HostRuntime) -> Result<(), Fail> {
     let alloc = rt.alloc();
     play(&rt, alloc, ("", ""), AT_FIRST.as_slice())?;
     play(&rt, alloc, (ZERO, ZERO_ACTS), AFTER_ZERO.as_slice())?;
-    for rows in [COMMANDS.as_slice(), CONTROL.as_slice(), ENDS.as_slice()] {
+    for rows in [
+        COMMANDS.as_slice(),
+        CONTROL.as_slice(),
+        ENDS.as_slice(),
+        LOSSES.as_slice(),
+    ] {
         play(&rt, alloc, (P, P_ACTS), rows)?;
     }
     Ok(())

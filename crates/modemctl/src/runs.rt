@@ -41,7 +41,7 @@ pub fn give_up<E: Write>(faults: &mut E, stop: Stop) -> u8
 }
 
 /// Writes what a run gave, or says why it gave nothing; and gives the status.
-fn finish<W: Write, E: Write>(output: &mut W, faults: &mut E, built: Result<String, Stop>) -> u8
+pub fn finish<W: Write, E: Write>(output: &mut W, faults: &mut E, built: Result<String, Stop>) -> u8
     ensures ended { MatchResult built (λ _. result ≤ 1) (λ stop. result ≡ status_of stop) }
     ensures written { IfOk built (λ text. result ≡ 0 → Appends (W.contents output.old) (W.contents output.new) (string_bytes text)) }
     ensures nothing { OnErr built (output.new ≡ output.old) }
@@ -95,7 +95,7 @@ fn replayed<R: Read>(alloc: Global, input: &mut R, n1: u16) -> Result<String, St
     requires { (31 ≤ n1) × (n1 ≤ 32767) }
     ensures ok { IfOk result (λ text. IfSome (R.remaining input.old) (λ all. IsReplayed n1 all (string_bytes text))) }
     ensures bad_line { (place : ℕ) → IsErrOf result (Stop.BadLine place) → IfSome (R.remaining input.old) (λ text. IsFirstBad IsNoOrder (input_lines text) place) }
-    ensures others { result ≢ Err Stop.BadN1 }
+    ensures others { (result ≢ Err Stop.BadN1) × (result ≢ Err Stop.BadCallers) × (result ≢ Err Stop.BadCut) }
 {
     let script = read_whole(alloc, input)?;
     let events = read_script(alloc, script.as_slice())?;
@@ -109,7 +109,7 @@ fn framed<R: Read>(alloc: Global, input: &mut R, n1: u16) -> Result<String, Stop
     requires { (31 ≤ n1) × (n1 ≤ 32767) }
     ensures ok { IfOk result (λ text. IfSome (R.remaining input.old) (λ all. IsFramed n1 all (string_bytes text))) }
     ensures bad_line { (place : ℕ) → IsErrOf result (Stop.BadLine place) → IfSome (R.remaining input.old) (λ text. IsFirstBad IsNoDump (input_lines text) place) }
-    ensures others { result ≢ Err Stop.BadN1 }
+    ensures others { (result ≢ Err Stop.BadN1) × (result ≢ Err Stop.BadCallers) × (result ≢ Err Stop.BadCut) }
 {
     let dump = read_whole(alloc, input)?;
     let octets = read_dump(alloc, dump.as_slice())?;

@@ -36,7 +36,7 @@ fn dlci_of(word: &[u8]) -> Option<Dlci>
 }
 
 /// The same, and every other word is refused.
-fn connection_of(word: &[u8]) -> Result<Dlci, Refusal>
+pub fn connection_of(word: &[u8]) -> Result<Dlci, Refusal>
     ensures { MatchResult result
         (λ dlci. word.now ≡ number_text dlci.number)
         (λ why. (why ≡ Refusal.Bad) × ((n : ℕ) → n < 62 → word.now ≢ number_text n)) }

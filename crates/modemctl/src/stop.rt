@@ -23,9 +23,21 @@ pub enum Stop {
     /// The writer failed.
     #[error("fault: output")]
     Output,
+    /// The line failed.
+    #[error("fault: line")]
+    Line,
+    /// A bench didn't come to its end.
+    #[error("fault: gave up")]
+    GaveUp,
     /// N1 isn't 31 to 32767.
     #[error("error: N1 is 31 to 32767")]
     BadN1,
+    /// Callers aren't 1 to 8.
+    #[error("error: callers are 1 to 8")]
+    BadCallers,
+    /// The octets that are under way each way aren't 1 to 4096.
+    #[error("error: the cut is 1 to 4096")]
+    BadCut,
     /// This line of the input is bad, counted from 1.
     #[error("bad line {0}")]
     BadLine(u64),
@@ -37,8 +49,8 @@ impl Stop {
         ensures { result ≡ status_of self }
     {
         match self {
-            Stop::NoMemory | Stop::Input | Stop::Output => 1,
-            Stop::BadN1 | Stop::BadLine(_) => 2,
+            Stop::NoMemory | Stop::Input | Stop::Output | Stop::Line | Stop::GaveUp => 1,
+            Stop::BadN1 | Stop::BadCallers | Stop::BadCut | Stop::BadLine(_) => 2,
         }
     }
 }

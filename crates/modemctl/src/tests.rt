@@ -5,12 +5,15 @@ use at_text::{Text, UrcKind};
 use modem_desk::Urc;
 use modem_driver::Act;
 use mux_frame::Dlci;
-use std::alloc::Global;
+use std::alloc::{AllocGlobal, Global};
 use std::fmt::Write as _;
 use std::io;
 use std::io::{ErrorKind, Read, Write};
 use std::process::Abort;
+use std::random::RandomSource;
+use std::sync::Wait;
 use std::test::Fail;
+use std::thread::Threads;
 
 pub const P: &str = "open 0\nin f9037301d7f9\nopen 1\nin f907730115f9\n";
 
@@ -407,13 +410,24 @@ fn a_bad_n1_is_refused_before_anything_is_read(rt: HostRuntime) {
 }
 
 // The status of the program at these words, and how many octets it wrote to its output and beside it.
-fn status_at(alloc: Global, said: &[&str]) -> Result<(u8, usize, usize), Fail> {
-    let (status, output, faults) = program_at(alloc, said, b"")?;
+fn status_at<R>(rt: &R, alloc: Global, said: &[&str]) -> Result<(u8, usize, usize), Fail>
+where
+    R: Threads + Wait + RandomSource + AllocGlobal + Copy + Send + Drop + 'static,
+{
+    let (status, output, faults) = program_at(rt, alloc, said, b"")?;
     Ok((status, output.len(), faults.len()))
 }
 
 // The status of the program at these words and this input, and what it wrote to its output and beside it.
-fn program_at(alloc: Global, said: &[&str], input: &[u8]) -> Result<(u8, Vec<u8>, Vec<u8>), Fail> {
+fn program_at<R>(
+    rt: &R,
+    alloc: Global,
+    said: &[&str],
+    input: &[u8],
+) -> Result<(u8, Vec<u8>, Vec<u8>), Fail>
+where
+    R: Threads + Wait + RandomSource + AllocGlobal + Copy + Send + Drop + 'static,
+{
     let mut words = Vec::new(alloc);
     for word in said {
         words.push(String::from_str(alloc, *word)?)?;
@@ -422,6 +436,7 @@ fn program_at(alloc: Global, said: &[&str], input: &[u8]) -> Result<(u8, Vec<u8>
     let mut output = Vec::new(alloc);
     let mut faults = Vec::new(alloc);
     let status = run(
+        rt,
         alloc,
         words.as_slice(),
         &mut input,
@@ -436,11 +451,11 @@ fn frames_have_at_most_31_octets_where_no_word_says_more(rt: HostRuntime) -> Res
     let alloc = rt.alloc();
     let frame = dump_of_letters(alloc, "F905EF41", 32, "26F9")?;
     let said = ["modemctl", "frames"];
-    let (status, output, _) = program_at(alloc, said.as_slice(), frame.as_bytes())?;
+    let (status, output, _) = program_at(&rt, alloc, said.as_slice(), frame.as_bytes())?;
     assert_eq!(rt; status, 0);
     assert_eq!(rt; output.as_slice(), b"rest f9\n".as_slice());
     let said = ["modemctl", "frames", "--n1", "32"];
-    let (status, output, _) = program_at(alloc, said.as_slice(), frame.as_bytes())?;
+    let (status, output, _) = program_at(&rt, alloc, said.as_slice(), frame.as_bytes())?;
     assert_eq!(rt; status, 0);
     let whole = dump_of_letters(alloc, "1 UIH 0 0 ", 32, "\nrest f9\n")?;
     assert_eq!(rt; output.as_slice(), whole.as_bytes());
@@ -451,10 +466,14 @@ fn frames_have_at_most_31_octets_where_no_word_says_more(rt: HostRuntime) -> Res
 fn words_are_read(rt: HostRuntime) -> Result<(), Fail> {
     let alloc = rt.alloc();
     let most = ["modemctl", "frames", "--n1", "32767"];
-    assert_eq!(rt; status_at(alloc, most.as_slice())?, (0, 7, 0));
+    assert_eq!(rt; status_at(&rt, alloc, most.as_slice())?, (0, 7, 0));
     let replay = ["modemctl", "replay", "--n1=31"];
-    assert_eq!(rt; status_at(alloc, replay.as_slice())?, (0, 0, 0));
+    assert_eq!(rt; status_at(&rt, alloc, replay.as_slice())?, (0, 0, 0));
+    let bench = ["modemctl", "bench", "--callers", "1", "--cut", "4096"];
+    assert_eq!(rt; status_at(&rt, alloc, bench.as_slice())?, (0, 0, 0));
     for bad in [
+        ["modemctl", "bench", "--callers", "9"].as_slice(),
+        ["modemctl", "bench", "--cut", "0"].as_slice(),
         ["modemctl", "frames", "--n1", "32768"].as_slice(),
         ["modemctl", "replay", "--n1", "30"].as_slice(),
         ["modemctl", "replay", "--n1", "x"].as_slice(),
@@ -462,15 +481,16 @@ fn words_are_read(rt: HostRuntime) -> Result<(), Fail> {
         ["modemctl", "none"].as_slice(),
         ["modemctl"].as_slice(),
     ] {
-        let (status, written, said) = status_at(alloc, bad)?;
+        let (status, written, said) = status_at(&rt, alloc, bad)?;
         assert_eq!(rt; (status, written), (2, 0), "{bad:?}");
         assert!(rt; said > 0, "{bad:?}");
     }
     for help in [
         ["modemctl", "--help"].as_slice(),
         ["modemctl", "replay", "--help"].as_slice(),
+        ["modemctl", "bench", "--help"].as_slice(),
     ] {
-        let (status, written, said) = status_at(alloc, help)?;
+        let (status, written, said) = status_at(&rt, alloc, help)?;
         assert_eq!(rt; (status, said), (0, 0), "{help:?}");
         assert!(rt; written > 0, "{help:?}");
     }

@@ -139,7 +139,7 @@ fn push_request(alloc: Global, request: &Request, text: &mut String) -> Result<(
     text.push_str("\n")
 }
 
-fn answer_word(answer: &Answer) -> &'static str
+pub fn answer_word(answer: &Answer) -> &'static str
     ensures { result.now ≡ answer_text answer.now }
 {
     match answer {
@@ -160,7 +160,7 @@ fn answer_word(answer: &Answer) -> &'static str
 }
 
 /// The lines of an answer.
-fn push_lines(alloc: Global, lines: &[AnswerLine], text: &mut String) -> Result<(), AllocError>
+pub fn push_lines(alloc: Global, lines: &[AnswerLine], text: &mut String) -> Result<(), AllocError>
     ensures { OnOk result (string_bytes text.new ≡ string_bytes text.old ++ flat_map answer_line_text lines.now) }
 {
     for line in lines {

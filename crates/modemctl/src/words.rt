@@ -2,18 +2,29 @@
 ghost use Rattle.std.specs.Prelude.{◌≡◌, ◌≢◌, ℕ, ◌<◌, ◌≤◌, [], map, Some, None, IfOk, false, codes};
 ghost use Rattle.std.specs.String.{string_bytes};
 ghost use Rattle.clap.specs.Words.{app_of, rule_of, kind_of, found_of, one_text, subcommand_name_of};
-ghost use Rattle.modemctl.specs.Printed.{IsFramed, IsPrinted, IsReplayed};
-ghost use Rattle.modemctl.specs.Words.{n1_rule, program_app, fault_in, AreFor, AsksNoHelp};
+ghost use Rattle.modemctl.specs.Printed.{IsBenched, IsFramed, IsPrinted, IsReplayed};
+ghost use Rattle.modemctl.specs.Words.{callers_rule, cut_rule, n1_rule, program_app, fault_in, with_two, AreFor, AsksNoHelp};
 
+use crate::bench::bench_run;
 use crate::runs::{frames_run, give_up, replay_run};
 use crate::stop::Stop;
 use clap::error::ErrorKind;
 use clap::{Arg, ArgAction, ArgMatches, Command, Error, value_parser};
-use std::alloc::{AllocError, Global};
+use modem_sim::{Script, Steps};
+use std::alloc::{AllocError, AllocGlobal, Global};
 use std::io::{Read, Write};
+use std::random::RandomSource;
+use std::sync::Wait;
+use std::thread::Threads;
 
 /// N1 where no word gives it.
 const DEFAULT_N1: u16 = 31;
+
+/// The callers of a bench where no word gives them.
+const DEFAULT_CALLERS: u8 = 2;
+
+/// The octets under way each way where no word gives them.
+const DEFAULT_CUT: u16 = 64;
 
 /// The option `--n1`.
 fn n1_option<'a>(alloc: Global) -> Arg<'a>
@@ -29,8 +40,37 @@ fn n1_option<'a>(alloc: Global) -> Arg<'a>
         .value_parser(value_parser!(u16).range(31..=32767))
 }
 
-fn program<'a>(alloc: Global) -> Result<Command<'a>, AllocError>
-    ensures { IfOk result (λ c. app_of c ≡ program_app) }
+/// The option `--callers`.
+fn callers_option<'a>(alloc: Global) -> Arg<'a>
+    ensures rule { rule_of result ≡ callers_rule }
+    ensures own { result.global ≡ false }
+{
+    Arg::new(alloc, "callers")
+        .long("callers")
+        .value_name("N")
+        .help("Callers, each in a thread of its own, 1 to 8")
+        .action(ArgAction::Set)
+        .default_value("2")
+        .value_parser(value_parser!(u8).range(1..=8))
+}
+
+/// The option `--cut`.
+fn cut_option<'a>(alloc: Global) -> Arg<'a>
+    ensures rule { rule_of result ≡ cut_rule }
+    ensures own { result.global ≡ false }
+{
+    Arg::new(alloc, "cut")
+        .long("cut")
+        .value_name("K")
+        .help("Octets that the line has room for each way, 1 to 4096")
+        .action(ArgAction::Set)
+        .default_value("64")
+        .value_parser(value_parser!(u16).range(1..=4096))
+}
+
+/// The program with the subcommands that play what its input says.
+fn two_commands<'a>(alloc: Global) -> Result<Command<'a>, AllocError>
+    ensures { IfOk result (λ c. app_of c ≡ with_two) }
 {
     let frames = Command::new(alloc, "frames")
         .about("Reads octets, written in hexadecimal, as frames")
@@ -45,10 +85,33 @@ fn program<'a>(alloc: Global) -> Result<Command<'a>, AllocError>
         .subcommand(replay)
 }
 
+fn program<'a>(alloc: Global) -> Result<Command<'a>, AllocError>
+    ensures { IfOk result (λ c. app_of c ≡ program_app) }
+{
+    let command = two_commands(alloc)?;
+    let bench = Command::new(alloc, "bench")
+        .about("Has callers in threads share a simulated modem, and prints what they are told")
+        .arg(callers_option(alloc))?
+        .arg(cut_option(alloc))?;
+    command.subcommand(bench)
+}
+
 fn n1_of(matches: &ArgMatches<'_>) -> u16
     ensures none { one_text (found_of matches.now) (codes "n1") ≡ None → result ≡ 31 }
 {
     matches.get_one::<u16>("n1").unwrap_or(DEFAULT_N1)
+}
+
+fn callers_of(matches: &ArgMatches<'_>) -> u8
+    ensures none { one_text (found_of matches.now) (codes "callers") ≡ None → result ≡ 2 }
+{
+    matches.get_one::<u8>("callers").unwrap_or(DEFAULT_CALLERS)
+}
+
+fn cut_of(matches: &ArgMatches<'_>) -> u16
+    ensures none { one_text (found_of matches.now) (codes "cut") ≡ None → result ≡ 64 }
+{
+    matches.get_one::<u16>("cut").unwrap_or(DEFAULT_CUT)
 }
 
 /// Says what is wrong with the words, or the help that they ask for; and gives the status.
@@ -72,55 +135,93 @@ fn explain<W: Write, E: Write>(output: &mut W, faults: &mut E, error: &Error) ->
     }
 }
 
-/// Runs the subcommand that a parse met.
-fn run_named<R: Read, W: Write, E: Write>(
+/// Runs a bench with a simulated modem that does nothing of its own accord.
+fn bench_plain<R, I: Read, W: Write, E: Write>(
+    rt: &R,
     alloc: Global,
     matches: &ArgMatches<'_>,
-    input: &mut R,
+    input: &mut I,
     output: &mut W,
     faults: &mut E,
 ) -> u8
+where
+    R: Threads + Wait + RandomSource + AllocGlobal + Copy + Send + Drop + 'static,
+    ensures status { result ≤ 2 }
+    ensures bad { result ≡ 2 → output.new ≡ output.old }
+    ensures done { result ≡ 0 → (callers : ℕ)
+        × IsPrinted (IsBenched callers) (I.remaining input.old) (W.contents output.old) (W.contents output.new) }
+{
+    let callers = callers_of(matches);
+    let cut = usize::from(cut_of(matches));
+    let script = Script {
+        echo: false,
+        steps: Steps::from(Vec::new(alloc)),
+    };
+    bench_run(rt, alloc, input, output, faults, callers, cut, script)
+}
+
+/// Runs the subcommand that a parse met.
+fn run_named<R, I: Read, W: Write, E: Write>(
+    rt: &R,
+    alloc: Global,
+    matches: &ArgMatches<'_>,
+    input: &mut I,
+    output: &mut W,
+    faults: &mut E,
+) -> u8
+where
+    R: Threads + Wait + RandomSource + AllocGlobal + Copy + Send + Drop + 'static,
     ensures status { result ≤ 2 }
     ensures bad { result ≡ 2 → output.new ≡ output.old }
     ensures frames { result ≡ 0 → subcommand_name_of matches.now ≡ Some (codes "frames") → (n1 : ℕ)
-        × IsPrinted (IsFramed n1) (R.remaining input.old) (W.contents output.old) (W.contents output.new) }
+        × IsPrinted (IsFramed n1) (I.remaining input.old) (W.contents output.old) (W.contents output.new) }
     ensures replay { result ≡ 0 → subcommand_name_of matches.now ≡ Some (codes "replay") → (n1 : ℕ)
-        × IsPrinted (IsReplayed n1) (R.remaining input.old) (W.contents output.old) (W.contents output.new) }
+        × IsPrinted (IsReplayed n1) (I.remaining input.old) (W.contents output.old) (W.contents output.new) }
+    ensures bench { result ≡ 0 → subcommand_name_of matches.now ≡ Some (codes "bench") → (callers : ℕ)
+        × IsPrinted (IsBenched callers) (I.remaining input.old) (W.contents output.old) (W.contents output.new) }
 {
     if let Some(matches) = matches.subcommand_matches("frames") {
         return frames_run(alloc, input, output, faults, n1_of(matches));
     }
-    match matches.subcommand_matches("replay") {
-        Some(matches) => replay_run(alloc, input, output, faults, n1_of(matches)),
+    if let Some(matches) = matches.subcommand_matches("replay") {
+        return replay_run(alloc, input, output, faults, n1_of(matches));
+    }
+    match matches.subcommand_matches("bench") {
+        Some(matches) => bench_plain(rt, alloc, matches, input, output, faults),
         None => 2,
     }
 }
 
 /// Runs the subcommand that the words name, the program's own name before them, and gives the exit
 /// status: 0 where it is done, 1 at a fault, 2 at bad words or a bad line.
-pub fn run<R: Read, W: Write, E: Write>(
+pub fn run<R, I: Read, W: Write, E: Write>(
+    rt: &R,
     alloc: Global,
     words: &[String],
-    input: &mut R,
+    input: &mut I,
     output: &mut W,
     faults: &mut E,
 ) -> u8
+where
+    R: Threads + Wait + RandomSource + AllocGlobal + Copy + Send + Drop + 'static,
     ensures status { result ≤ 2 }
     ensures bad { result ≡ 2 → output.new ≡ output.old }
     ensures wrong { fault_in (map string_bytes words.now) ≢ []
         → AsksNoHelp (fault_in (map string_bytes words.now)) → 0 < result }
     ensures unread { fault_in (map string_bytes words.now) ≢ [] → input.new ≡ input.old }
     ensures frames { result ≡ 0 → AreFor (codes "frames") (map string_bytes words.now) → (n1 : ℕ)
-        × IsPrinted (IsFramed n1) (R.remaining input.old) (W.contents output.old) (W.contents output.new) }
+        × IsPrinted (IsFramed n1) (I.remaining input.old) (W.contents output.old) (W.contents output.new) }
     ensures replay { result ≡ 0 → AreFor (codes "replay") (map string_bytes words.now) → (n1 : ℕ)
-        × IsPrinted (IsReplayed n1) (R.remaining input.old) (W.contents output.old) (W.contents output.new) }
+        × IsPrinted (IsReplayed n1) (I.remaining input.old) (W.contents output.old) (W.contents output.new) }
+    ensures bench { result ≡ 0 → AreFor (codes "bench") (map string_bytes words.now) → (callers : ℕ)
+        × IsPrinted (IsBenched callers) (I.remaining input.old) (W.contents output.old) (W.contents output.new) }
 {
     let command = match program(alloc) {
         Ok(command) => command,
         Err(_) => return give_up(faults, Stop::NoMemory),
     };
     match command.try_get_matches_from(words) {
-        Ok(matches) => run_named(alloc, &matches, input, output, faults),
+        Ok(matches) => run_named(rt, alloc, &matches, input, output, faults),
         Err(error) => explain(output, faults, &error),
     }
 }

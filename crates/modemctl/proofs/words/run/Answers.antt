@@ -1,8 +1,10 @@
-use Rattle.std.proofs.Common.{◌≡◌, ◌≢◌, ◌∙◌, ap, refl, true, List, [], ◌∷◌, Option, None, Some, option_map, codes}
-use Rattle.clap.specs.Words.{App, Text, is_simple, subcommand_of, subcommand_name_of, subcommand_rows_of}
+use Rattle.std.proofs.Common.{◌≡◌, ◌≢◌, ◌∙◌, ◌<◌, ◌⊎◌, ℕ, ⊎_elim, ap, arith, refl, subst, true, List, [], ◌∷◌, Option, None, Some, option_map, codes}
+use Rattle.clap.specs.Words.{App, HasKind, IsAmong, Kinds, Text, fault_of, is_simple, is_simple_and_free, subcommand_of, subcommand_name_of, subcommand_rows_of}
 use Rattle.clap.specs.declared.ArgMatches.{ArgMatches}
+use Rattle.clap.specs.declared.error.ErrorKind.{ErrorKind}
+use Rattle.clap.specs.declared.error.ErrorKind.TheVariants.{DisplayHelp, DisplayVersion, OutOfMemory}
 use Rattle.clap.proofs.OnLiterals.{clap_on_literals}
-use Rattle.modemctl.specs.Words.{program_app, fault_in, named_in}
+use Rattle.modemctl.specs.Words.{AsksNoHelp, program_app, fault_in, named_in}
 use Rattle.modemctl.proofs.words.run.Goals as goal
 
 simple : is_simple program_app ≡ true
@@ -29,7 +31,78 @@ pub returns-in-Ok-try_get_matches_from-clause-replay :
 returns-in-Ok-try_get_matches_from-clause-replay g c zero for =
     c.run_named.ensures.replay zero (named c.in-Ok-try_get_matches_from.matches _ _ c.in-Ok.ensures (λ e. (c.in-Ok-try_get_matches_from.ensures.matches e).1) ∙ for.1)
 
+pub returns-in-Ok-try_get_matches_from-clause-bench :
+    goal.returns-in-Ok-try_get_matches_from-clause-bench
+returns-in-Ok-try_get_matches_from-clause-bench g c zero for =
+    c.run_named.ensures.bench zero (named c.in-Ok-try_get_matches_from.matches _ _ c.in-Ok.ensures (λ e. (c.in-Ok-try_get_matches_from.ensures.matches e).1) ∙ for.1)
+
+-- ## What is wrong with the words
+
+free : is_simple_and_free program_app ≡ true
+unfolding clap_on_literals
+free = refl
+
+-- what holds of what is wrong with the words for the program
+at_program : (P : Kinds → Type 0) (a : App) (words : List Text) → a ≡ program_app → (is_simple_and_free a ≡ true → P (fault_of a words)) → P (fault_in words)
+at_program P a words same h = subst (λ (b : App). P (fault_of b words)) same (h (ap is_simple_and_free same ∙ free))
+
+-- an error that is a wish for neither help nor the version
+is_wrong : (k : ErrorKind) (kinds : Kinds) (status : ℕ) → (k ≡ OutOfMemory) ⊎ IsAmong k kinds → (k ≡ OutOfMemory → status ≡ 1) → (k ≢ DisplayHelp → k ≢ DisplayVersion → 0 < status) → AsksNoHelp kinds → 0 < status
+is_wrong k kinds status has memory wrong none =
+    ⊎_elim (λ (m : k ≡ OutOfMemory). let e = memory m in omega (arith, e))
+    (λ (a : IsAmong k kinds). wrong (λ e. none.0 (subst (λ (l : ErrorKind). IsAmong l kinds) e a)) (λ e. none.1 (subst (λ (l : ErrorKind). IsAmong l kinds) e a)))
+    has
+
+-- where nothing is wrong, memory was refused
+is_memory : (k : ErrorKind) (kinds : Kinds) (status : ℕ) → (k ≡ OutOfMemory) ⊎ IsAmong k kinds → (k ≡ OutOfMemory → status ≡ 1) → status ≡ 0 → kinds ≡ [] → ⊥
+is_memory k kinds status has memory zero none =
+    ⊎_elim (λ (m : k ≡ OutOfMemory). let e = memory m in omega (arith, e, zero))
+    (λ (a : IsAmong k kinds). subst (IsAmong k) none a)
+    has
+
+pub returns-in-Ok-try_get_matches_from-clause-wrong :
+    goal.returns-in-Ok-try_get_matches_from-clause-wrong
+returns-in-Ok-try_get_matches_from-clause-wrong g c wrong none =
+    absurd (wrong (at_program (λ kinds. kinds ≡ []) _ _ c.in-Ok.ensures c.in-Ok-try_get_matches_from.ensures.kinds))
+
+pub returns-in-Ok-try_get_matches_from-clause-unread :
+    goal.returns-in-Ok-try_get_matches_from-clause-unread
+returns-in-Ok-try_get_matches_from-clause-unread g c wrong =
+    absurd (wrong (at_program (λ kinds. kinds ≡ []) _ _ c.in-Ok.ensures c.in-Ok-try_get_matches_from.ensures.kinds))
+
+pub returns-in-Err-try_get_matches_from-clause-wrong :
+    goal.returns-in-Err-try_get_matches_from-clause-wrong
+returns-in-Err-try_get_matches_from-clause-wrong g c wrong none =
+    is_wrong _ _ _ (at_program (λ kinds. HasKind kinds c.in-Err-try_get_matches_from.error) _ _ c.in-Ok.ensures c.in-Err-try_get_matches_from.ensures.kinds) c.explain.ensures.memory c.explain.ensures.wrong none
+
+pub returns-in-Err-try_get_matches_from-clause-frames :
+    goal.returns-in-Err-try_get_matches_from-clause-frames
+returns-in-Err-try_get_matches_from-clause-frames g c zero for =
+    absurd (is_memory _ _ _ (at_program (λ kinds. HasKind kinds c.in-Err-try_get_matches_from.error) _ _ c.in-Ok.ensures c.in-Err-try_get_matches_from.ensures.kinds) c.explain.ensures.memory zero for.0)
+
+pub returns-in-Err-try_get_matches_from-clause-replay :
+    goal.returns-in-Err-try_get_matches_from-clause-replay
+returns-in-Err-try_get_matches_from-clause-replay g c zero for =
+    absurd (is_memory _ _ _ (at_program (λ kinds. HasKind kinds c.in-Err-try_get_matches_from.error) _ _ c.in-Ok.ensures c.in-Err-try_get_matches_from.ensures.kinds) c.explain.ensures.memory zero for.0)
+
+pub returns-in-Err-try_get_matches_from-clause-bench :
+    goal.returns-in-Err-try_get_matches_from-clause-bench
+returns-in-Err-try_get_matches_from-clause-bench g c zero for =
+    absurd (is_memory _ _ _ (at_program (λ kinds. HasKind kinds c.in-Err-try_get_matches_from.error) _ _ c.in-Ok.ensures c.in-Err-try_get_matches_from.ensures.kinds) c.explain.ensures.memory zero for.0)
+
 -- ## Rows
+
+bench_alone : fault_in (codes "modemctl" ∷ codes "bench" ∷ []) ≡ []
+unfolding clap_on_literals
+bench_alone = refl
+
+bench_with_most : fault_in (codes "modemctl" ∷ codes "bench" ∷ codes "--callers" ∷ codes "8" ∷ codes "--cut" ∷ codes "4096" ∷ []) ≡ []
+unfolding clap_on_literals
+bench_with_most = refl
+
+bench_with_nine : fault_in (codes "modemctl" ∷ codes "bench" ∷ codes "--callers" ∷ codes "9" ∷ []) ≢ []
+unfolding clap_on_literals
+bench_with_nine e = cc
 
 frames_alone : fault_in (codes "modemctl" ∷ codes "frames" ∷ []) ≡ []
 unfolding clap_on_literals
