@@ -1,6 +1,6 @@
 /* Measures the deframer: it decodes buffers through the static library of mux_frame_c, and prints
  * how long that takes for each octet, as a multiple of memchr over the same buffer and beside a
- * plain decoder. ./run builds and runs it. */
+ * plain decoder, and beside oFono's reader where it is linked with that. ./run builds and runs it. */
 #include <stdbool.h>
 #include <stdint.h>
 #include <stdio.h>
@@ -73,8 +73,19 @@ static struct counts plain(const struct buffer *b)
 	return plain_decode(b->octets, b->length, b->n1);
 }
 
+#ifdef OFONO
+struct counts ofono_decode(const uint8_t *octets, size_t length);
+
+static struct counts ofono(const struct buffer *b)
+{
+	return ofono_decode(b->octets, b->length);
+}
+enum { SCAN, FLAGS, DEFRAME, PLAIN, PEER, PASSES };
+static struct counts (*const passes[PASSES])(const struct buffer *) = { scan, each_flag, deframe, plain, ofono };
+#else
 enum { SCAN, FLAGS, DEFRAME, PLAIN, PASSES };
 static struct counts (*const passes[PASSES])(const struct buffer *) = { scan, each_flag, deframe, plain };
+#endif
 
 /* A random octet other than 0xFE; the same ones come in each run. */
 static uint8_t octet_of(uint64_t *seed)
@@ -135,6 +146,15 @@ static void damage(struct buffer *b)
 		b->octets[i] = octet_of(&seed);
 }
 
+/* The check octet of each fourth frame is another one. */
+static void spoil(struct buffer *b, size_t info)
+{
+	size_t size = info + 6;
+
+	for (size_t check = info + 4; check < b->length; check += 4 * size)
+		b->octets[check] ^= b->octets[check] == (FLAG ^ 1) ? 2 : 1;
+}
+
 static double now(void)
 {
 	struct timespec t;
@@ -185,11 +205,33 @@ static struct middle middle_of(double *x)
 	return (struct middle){ x[REPEATS / 2], 100 * (x[REPEATS - 1] - x[0]) / x[REPEATS / 2] };
 }
 
-/* One row. The passes take turns within each repeat, so each repeat has its own ratios, all under
- * the same noise. */
+/* The passes take turns within each repeat, so each repeat has its own ratios, all under the same
+ * noise. */
+static void time_passes(const struct buffer *b, const struct counts *wanted, double seconds[PASSES][REPEATS])
+{
+	for (int r = -1; r < REPEATS; r++) /* the first warms up */
+		for (int pass = 0; pass < PASSES; pass++) {
+			double took = seconds_of(b, pass, &wanted[pass]);
+
+			if (r >= 0)
+				seconds[pass][r] = took;
+		}
+}
+
+/* One pass's time as a multiple of another's. */
+static struct middle ratio(double seconds[PASSES][REPEATS], int pass, int other)
+{
+	double each[REPEATS];
+
+	for (int r = 0; r < REPEATS; r++)
+		each[r] = seconds[pass][r] / seconds[other][r];
+	return middle_of(each);
+}
+
+/* One row. */
 static void measure(const struct buffer *b)
 {
-	double seconds[PASSES][REPEATS], to_scan[REPEATS], to_flags[REPEATS], to_plain[REPEATS];
+	double seconds[PASSES][REPEATS];
 	struct counts wanted[PASSES];
 
 	for (int pass = 0; pass < PASSES; pass++)
@@ -199,65 +241,109 @@ static void measure(const struct buffer *b)
 	deframe(b);
 	long taken = blocks;
 
-	for (int r = -1; r < REPEATS; r++) /* the first warms up */
-		for (int pass = 0; pass < PASSES; pass++) {
-			double took = seconds_of(b, pass, &wanted[pass]);
-
-			if (r >= 0)
-				seconds[pass][r] = took;
-		}
-	for (int r = 0; r < REPEATS; r++) {
-		to_scan[r] = seconds[DEFRAME][r] / seconds[SCAN][r];
-		to_flags[r] = seconds[DEFRAME][r] / seconds[FLAGS][r];
-		to_plain[r] = seconds[PLAIN][r] / seconds[DEFRAME][r];
-	}
-	struct middle scan = middle_of(to_scan), flags = middle_of(to_flags), plain = middle_of(to_plain);
-	double ours = middle_of(seconds[DEFRAME]).value;
-
-	printf("| %s | %zu | %.0f | %.1f (%.0f%%) | %.2f (%.0f%%) | %.1f (%.0f%%) | %ld |\n", b->name,
-	       wanted[DEFRAME].frames, b->length / ours / 1e6, scan.value, scan.spread, flags.value, flags.spread,
-	       plain.value, plain.spread, taken);
+	time_passes(b, wanted, seconds);
+	struct middle scan = ratio(seconds, DEFRAME, SCAN), flags = ratio(seconds, DEFRAME, FLAGS);
+	struct middle plain = ratio(seconds, PLAIN, DEFRAME);
+#ifdef OFONO
+	struct middle peer = ratio(seconds, DEFRAME, PEER);
+#endif
+	printf("| %s | %zu | %.0f | %.1f (%.0f%%) | %.2f (%.0f%%) | %.1f (%.0f%%) | %ld |", b->name,
+	       wanted[DEFRAME].frames, b->length / middle_of(seconds[DEFRAME]).value / 1e6, scan.value, scan.spread,
+	       flags.value, flags.spread, plain.value, plain.spread, taken);
+#ifdef OFONO
+	printf(" %.2f (%.0f%%) | %zu |", peer.value, peer.spread, wanted[PEER].frames);
+#endif
+	putchar('\n');
 	fflush(stdout);
 }
 
 enum { RING_OF_4096 = 4089 }; /* the ring has N1 + 7 octets */
 
-int main(void)
+static void print_head(void)
 {
-	static uint8_t octets[OCTETS];
-	static const struct { const char *name; uint16_t n1; int info; bool damaged; } framed[] = {
-		{ "frames of 0", RING_OF_4096, 0, false },
-		{ "frames of 31", RING_OF_4096, 31, false },
-		{ "frames of 127", RING_OF_4096, 127, false },
-		{ "frames of 0, N1 31", 31, 0, false },
-		{ "frames of 31, N1 31", 31, 31, false },
-		{ "frames of 127, N1 127", 127, 127, false },
-		{ "frames of 31, damaged", RING_OF_4096, 31, true },
+	printf("| Octets | Frames | MB/s | Time over memchr, no hit | Time over memchr, each flag | Plain decoder's time over it | Blocks |");
+#ifdef OFONO
+	printf(" Time over oFono's | Frames of oFono |");
+#endif
+	printf("\n|---|---|---|---|---|---|---|");
+#ifdef OFONO
+	printf("---|---|");
+#endif
+	putchar('\n');
+}
+
+static uint8_t octets[OCTETS];
+
+static void measure_frames(void)
+{
+	enum damage { NONE, ANY, CHECK };
+	static const struct { const char *name; uint16_t n1; int info; enum damage damage; } rows[] = {
+		{ "frames of 0", RING_OF_4096, 0, NONE },
+		{ "frames of 31", RING_OF_4096, 31, NONE },
+		{ "frames of 127", RING_OF_4096, 127, NONE },
+		{ "frames of 0, N1 31", 31, 0, NONE },
+		{ "frames of 31, N1 31", 31, 31, NONE },
+		{ "frames of 127, N1 127", 127, 127, NONE },
+		{ "frames of 31, damaged", RING_OF_4096, 31, ANY },
+		{ "frames of 31, damaged, N1 31", 31, 31, ANY },
+		{ "frames of 31, bad check octets", RING_OF_4096, 31, CHECK },
+		{ "frames of 31, bad check octets, N1 31", 31, 31, CHECK },
+		{ "frames of 127, bad check octets, N1 127", 127, 127, CHECK },
 	};
-	static const struct { const char *name, *text; size_t length; } hostile[] = {
+
+	for (size_t k = 0; k < sizeof rows / sizeof *rows; k++) {
+		struct buffer b = { rows[k].name, rows[k].n1, octets, OCTETS };
+
+		fill_frames(&b, rows[k].info);
+		if (rows[k].damage == ANY)
+			damage(&b);
+		else if (rows[k].damage == CHECK)
+			spoil(&b, rows[k].info);
+		measure(&b);
+	}
+}
+
+static void measure_random(void)
+{
+	static const struct { const char *name; uint16_t n1; bool flags; } rows[] = {
+		{ "random", RING_OF_4096, true },
+		{ "random, N1 31", 31, true },
+		{ "random without flags, N1 31", 31, false },
+	};
+
+	for (size_t k = 0; k < sizeof rows / sizeof *rows; k++) {
+		struct buffer b = { rows[k].name, rows[k].n1, octets, OCTETS };
+
+		fill_random(&b);
+		for (size_t i = 0; i < b.length && !rows[k].flags; i++)
+			if (octets[i] == FLAG)
+				octets[i] = 0;
+		measure(&b);
+	}
+}
+
+/* The plain decoder goes over these again and again, so they are shorter. */
+static void measure_hostile(void)
+{
+	static const struct { const char *name, *text; size_t length; } rows[] = {
 		{ "flags alone", "\xF9", 1 },
 		{ "F9 05 EF alone", "\xF9\x05\xEF", 3 },
 		{ "F9 05 EF 00 1E alone", "\xF9\x05\xEF\x00\x1E", 5 }, /* each calls for 3840 octets */
 	};
-	struct buffer b = { .n1 = RING_OF_4096, .octets = octets };
 
-	puts("| Octets | Frames | MB/s | Time over memchr, no hit | Time over memchr, each flag | Plain decoder's time over it | Blocks |");
-	puts("|---|---|---|---|---|---|---|");
-	for (size_t k = 0; k < sizeof framed / sizeof *framed; k++) {
-		b = (struct buffer){ framed[k].name, framed[k].n1, octets, OCTETS };
-		fill_frames(&b, framed[k].info);
-		if (framed[k].damaged)
-			damage(&b);
+	for (size_t k = 0; k < sizeof rows / sizeof *rows; k++) {
+		struct buffer b = { rows[k].name, RING_OF_4096, octets, OCTETS / 64 };
+
+		fill_with(&b, rows[k].text, rows[k].length);
 		measure(&b);
 	}
-	b = (struct buffer){ "random", RING_OF_4096, octets, OCTETS };
-	fill_random(&b);
-	measure(&b);
-	b.length = OCTETS / 64; /* the plain decoder goes over these again and again */
-	for (size_t k = 0; k < sizeof hostile / sizeof *hostile; k++) {
-		b.name = hostile[k].name;
-		fill_with(&b, hostile[k].text, hostile[k].length);
-		measure(&b);
-	}
+}
+
+int main(void)
+{
+	print_head();
+	measure_frames();
+	measure_random();
+	measure_hostile();
 	return 0;
 }

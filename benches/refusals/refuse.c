@@ -1,5 +1,6 @@
 /* Loaded before the C library: refuses the allocation whose number is in REFUSE, counted from 1, and then creates the
- * file that REFUSED names. */
+ * file that REFUSED names. Where MARKED is set, only those count that come between a line that begins with `> ` and one that
+ * begins with `<` on standard output. */
 #define _GNU_SOURCE
 #include <dlfcn.h>
 #include <fcntl.h>
@@ -8,6 +9,19 @@
 #include <unistd.h>
 
 static atomic_long count;
+static atomic_int between;
+
+ssize_t write(int file, const void *text, size_t size)
+{
+	static ssize_t (*next)(int, const void *, size_t);
+	const char *words = text;
+
+	if (!next)
+		next = (ssize_t (*)(int, const void *, size_t)) dlsym(RTLD_NEXT, "write");
+	if (file == STDOUT_FILENO && size > 0 && (words[0] == '<' || words[0] == '>'))
+		atomic_store(&between, words[0] == '>');
+	return next(file, text, size);
+}
 
 static int is_refused(void)
 {
@@ -19,6 +33,8 @@ static int is_refused(void)
 		text = getenv("REFUSE");
 		which = text ? atol(text) : 0;
 	}
+	if (getenv("MARKED") && !atomic_load(&between))
+		return 0;
 	if (atomic_fetch_add(&count, 1) + 1 != which)
 		return 0;
 	mark = getenv("REFUSED");
