@@ -29,6 +29,3 @@ pub use modem_desk::{Answer, Ask, Outcome, Request, Urc};
 pub use modem_history::Act;
 pub use run::replay;
 pub use session::{Ended, Finished, Session, SessionError, SessionFault, SessionRefused, Turn};
-
-#[cfg(test)]
-mod tests;

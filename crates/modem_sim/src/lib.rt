@@ -18,8 +18,6 @@ mod script;
 mod sim;
 mod sim_core;
 mod state;
-#[cfg(test)]
-mod tests;
 
 pub use error::SimError;
 pub use modem::{Modem, ModemStart};

@@ -1,15 +1,1 @@
-pub mod Bench
-pub mod Calling
-pub mod Driving
-pub mod Dump
-pub mod Framing
-pub mod Input
-pub mod Printed
-pub mod Script
-pub mod Running
-pub mod Shown
-pub mod Statuses
-pub mod Texts
 pub mod Words
-pub mod OneModem
-pub mod OneModemRows

@@ -1,30 +1,11 @@
-//! `modemctl` shows the driver of a cellular modem at work: what octets of the line are read as, and what the
-//! driver does with requests and octets.
+//! `modemctl` shows the driver of a cellular modem at work: what octets of the line are read as, what the driver does with
+//! requests and octets, and what callers in threads are told by a simulated modem.
 #![tactic(auto)]
 
-mod bench;
-mod dump;
-mod framing;
-#[cfg(test)]
-mod hostile;
-mod input;
-pub mod laws;
-#[cfg(test)]
-mod pair_tests;
-#[cfg(test)]
-mod random_scripts;
-#[cfg(test)]
-mod rows;
-mod runs;
-mod script;
-#[cfg(test)]
-mod session_scripts;
-mod stop;
-#[cfg(test)]
-mod tests;
-mod texts;
 mod words;
 
+pub use modem_runs::{bench_run, frames_run, laws, replay_run};
+use modem_runs::{Stop, give_up};
 use std::env;
 use std::io::ErrorKind;
 use std::process::ExitCode;
@@ -48,7 +29,7 @@ fn main(rt: HostRuntime) -> ExitCode {
             &mut rt.stdout(),
             &mut faults,
         ),
-        Err(_) => runs::give_up(&mut faults, stop::Stop::NoMemory),
+        Err(_) => give_up(&mut faults, Stop::NoMemory),
     };
     ExitCode::from(status)
 }

@@ -2,14 +2,12 @@
 ghost use Rattle.std.specs.Prelude.{◌≡◌, ◌≢◌, ℕ, ◌<◌, ◌≤◌, [], map, Some, None, IfOk, false, codes};
 ghost use Rattle.std.specs.String.{string_bytes};
 ghost use Rattle.clap.specs.Words.{app_of, rule_of, kind_of, found_of, one_text, subcommand_name_of};
-ghost use Rattle.modemctl.specs.Printed.{IsBenched, IsFramed, IsPrinted, IsReplayed};
+ghost use Rattle.modem_runs.specs.Printed.{IsBenched, IsFramed, IsPrinted, IsReplayed};
 ghost use Rattle.modemctl.specs.Words.{callers_rule, cut_rule, n1_rule, program_app, fault_in, with_two, AreFor, AsksNoHelp};
 
-use crate::bench::bench_run;
-use crate::runs::{frames_run, give_up, replay_run};
-use crate::stop::Stop;
 use clap::error::ErrorKind;
 use clap::{Arg, ArgAction, ArgMatches, Command, Error, value_parser};
+use modem_runs::{Stop, bench_run, frames_run, give_up, replay_run};
 use modem_sim::{Script, Steps};
 use std::alloc::{AllocError, AllocGlobal, Global};
 use std::io::{Read, Write};

@@ -1,0 +1,53 @@
+-- How a run ends, where the octets of its reader are known.
+use Rattle.std.specs.Prelude.{◌≡◌, ◌≢◌, ℕ, ◌≤◌, List, Option, None, Some, Result, Ok, Err, IfOk, IfSome, IsErrOf, MatchResult, refl}
+use Rattle.std.proofs.Common.{arith, subst, ◌∙◌}
+use Rattle.std.specs.Io.KnownBytes.{Appends}
+use Rattle.modem_runs.specs.Printed.{IsPrinted}
+use Rattle.modem_runs.specs.Input.{HasBad, IsFirstBad, input_lines}
+use Rattle.modem_runs.specs.Statuses.{status_of}
+use Rattle.modem_runs.specs.declared.stop.Stop.{Stop}
+
+-- what holds of the octets that were read
+pub at_known : (P : List ℕ → Type 0) (known : Option (List ℕ)) (octets read : List ℕ) → IfSome known (λ all. octets ≡ all) → read ≡ octets → P read → IfSome known P
+at_known P None octets read h e p = tt
+at_known P (Some all) octets read h e p = subst P (e ∙ h) p
+
+has_bad : (IsBad : List ℕ → Type 0) (known : Option (List ℕ)) (place : ℕ) → IfSome known (λ text. IsFirstBad IsBad (input_lines text) place) → IfSome known (λ text. HasBad IsBad (input_lines text))
+has_bad IsBad None place h = tt
+has_bad IsBad (Some text) place h = (place, h)
+
+-- status 2 is that of a bad line alone
+pub refused_for : {T : Type 0} (built : Result T Stop) (status : ℕ) (known : Option (List ℕ)) (IsBad : List ℕ → Type 0)
+    → MatchResult built (λ _. status ≤ 1) (λ stop. status ≡ status_of stop)
+    → ((place : ℕ) → IsErrOf built (Stop.BadLine place) → IfSome known (λ text. IsFirstBad IsBad (input_lines text) place))
+    → (built ≢ Err Stop.BadN1) × (built ≢ Err Stop.BadCallers) × (built ≢ Err Stop.BadCut)
+    → status ≡ 2
+    → IfSome known (λ text. HasBad IsBad (input_lines text))
+refused_for (Ok x) status known IsBad h line settings e = absurd (omega (arith, h, e))
+refused_for (Err Stop.NoMemory) status known IsBad h line settings e = absurd (omega (arith, h, e))
+refused_for (Err Stop.Input) status known IsBad h line settings e = absurd (omega (arith, h, e))
+refused_for (Err Stop.Output) status known IsBad h line settings e = absurd (omega (arith, h, e))
+refused_for (Err Stop.Line) status known IsBad h line settings e = absurd (omega (arith, h, e))
+refused_for (Err Stop.GaveUp) status known IsBad h line settings e = absurd (omega (arith, h, e))
+refused_for (Err Stop.BadN1) status known IsBad h line settings e = absurd (settings.0 refl)
+refused_for (Err Stop.BadCallers) status known IsBad h line settings e = absurd (settings.1 refl)
+refused_for (Err Stop.BadCut) status known IsBad h line settings e = absurd (settings.2 refl)
+refused_for (Err (Stop.BadLine place)) status known IsBad h line settings e = has_bad IsBad known place (line place refl)
+
+-- status 0 is that of an output that is written whole
+pub printed_for : {T : Type 0} (bytes : T → List ℕ) (built : Result T Stop) (status : ℕ) (Makes : List ℕ → List ℕ → Type 0) (known before after : Option (List ℕ))
+    → MatchResult built (λ _. status ≤ 1) (λ stop. status ≡ status_of stop)
+    → IfOk built (λ text. status ≡ 0 → Appends before after (bytes text))
+    → IfOk built (λ text. IfSome known (λ all. Makes all (bytes text)))
+    → status ≡ 0
+    → IsPrinted Makes known before after
+printed_for bytes (Ok text) status Makes known before after h w m e = record { shown = bytes text; made = m; appended = w e }
+printed_for bytes (Err Stop.NoMemory) status Makes known before after h w m e = absurd (omega (arith, h, e))
+printed_for bytes (Err Stop.Input) status Makes known before after h w m e = absurd (omega (arith, h, e))
+printed_for bytes (Err Stop.Output) status Makes known before after h w m e = absurd (omega (arith, h, e))
+printed_for bytes (Err Stop.Line) status Makes known before after h w m e = absurd (omega (arith, h, e))
+printed_for bytes (Err Stop.GaveUp) status Makes known before after h w m e = absurd (omega (arith, h, e))
+printed_for bytes (Err Stop.BadCallers) status Makes known before after h w m e = absurd (omega (arith, h, e))
+printed_for bytes (Err Stop.BadCut) status Makes known before after h w m e = absurd (omega (arith, h, e))
+printed_for bytes (Err Stop.BadN1) status Makes known before after h w m e = absurd (omega (arith, h, e))
+printed_for bytes (Err (Stop.BadLine place)) status Makes known before after h w m e = absurd (omega (arith, h, e))

@@ -1,0 +1,13 @@
+use Rattle.std.proofs.lemmas.Result.{err_from_is_err_and}
+use Rattle.modem_runs.proofs.Orders.{cmd_nothing, without_blank, without_command}
+use Rattle.modem_runs.proofs.script.command_of.Goals as goal
+
+pub returns-in_default : goal.returns-in_default
+returns-in_default c = λ _. cmd_nothing c.args.words.now (without_blank c.args.words.now c.in_default.ensures)
+
+pub returns-in_err-dlci : goal.returns-in_err-dlci
+returns-in_err-dlci c =
+    let cut = c.in-Some.ensures in
+    let unknown = c.in_err-dlci.ensures in
+    let given = err_from_is_err_and c.from_residual.result c.from_residual.ensures.1 in
+    rw given.1 (λ _. cmd_nothing c.args.words.now (without_command c.args.words.now c.in-Some.word.now c.in-Some.text.now cut.0 cut.1 (λ n s e r. unknown.1 n s e)))

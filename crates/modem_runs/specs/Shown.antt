@@ -1,0 +1,24 @@
+-- What `bench` prints.
+use Rattle.std.specs.Prelude.{ℕ, ◌+◌, List, [], ◌∷◌, ◌++◌, codes}
+use Rattle.std.specs.Fmt.{decimal}
+use Rattle.modem_desk.specs.declared.request.Answer.{Answer}
+use Rattle.modem_desk.specs.declared.request.Outcome.{Outcome}
+use Rattle.modem_runs.specs.Texts.{answer_text, lines_text}
+
+-- what a caller was told of its line at this place
+abbrev pub told_text : ℕ → ℕ → Answer → List ℕ
+told_text caller place a = decimal caller ++ codes " " ++ decimal place ++ codes " " ++ answer_text a ++ codes "\n" ++ lines_text a
+
+-- what it was told of its lines from this place on
+abbrev pub told_from : ℕ → ℕ → List Outcome → List ℕ
+told_from caller place [] = []
+told_from caller place (o ∷ outcomes) = told_text caller place o.answer ++ told_from caller (place + 1) outcomes
+
+-- what the callers from this one on were told
+abbrev pub callers_from : ℕ → List (List Outcome) → List ℕ
+callers_from caller [] = []
+callers_from caller (outcomes ∷ more) = told_from caller 1 outcomes ++ callers_from (caller + 1) more
+
+-- what the callers were told
+abbrev pub outcomes_text : List (List Outcome) → List ℕ
+outcomes_text all = callers_from 0 all

@@ -1,0 +1,116 @@
+//! `bench`: callers, the driver and a simulated modem, in threads of their own.
+ghost use Rattle.std.specs.Prelude.{◌≡◌, ◌≢◌, ℕ, ◌≤◌, ◌<◌, ◌⊎◌, Err, IfOk, IfSome, IsErrOf, false, true};
+ghost use Rattle.std.specs.String.{string_bytes};
+ghost use Rattle.modem_runs.specs.Bench.{IsNoSubmission};
+ghost use Rattle.modem_runs.specs.Input.{HasBad, IsFirstBad, input_lines};
+ghost use Rattle.modem_runs.specs.Printed.{IsBenched, IsNoBench, IsPrinted};
+ghost use Rattle.modem_runs.specs.declared.stop.Stop.TheVariants as Stop;
+
+mod calling;
+mod driving;
+mod running;
+mod showing;
+mod signals;
+mod simulating;
+mod submissions;
+
+use crate::input::read_whole;
+use crate::runs::{finish, give_up};
+use crate::stop::Stop;
+use modem_sim::Script;
+use running::run_bench;
+use showing::outcomes_text;
+use signals::Fault;
+use std::alloc::{AllocGlobal, Global};
+use std::io::{Read, Write};
+use std::random::RandomSource;
+use std::sync::Wait;
+use std::thread::Threads;
+use submissions::read_submissions;
+
+impl From<Fault> for Stop {
+    ghost use Rattle.std.specs.Prelude.{◌≡◌, ◌⊎◌};
+    ghost use Rattle.modem_runs.specs.declared.stop.Stop.TheVariants.{NoMemory, Line, GaveUp};
+
+    ghost from_gives = { λ _ stop. (stop ≡ NoMemory) ⊎ ((stop ≡ Line) ⊎ (stop ≡ GaveUp)) };
+
+    fn from(fault: Fault) -> Stop {
+        match fault {
+            Fault::NoMemory => Stop::NoMemory,
+            Fault::Line => Stop::Line,
+            Fault::GaveUp => Stop::GaveUp,
+        }
+    }
+}
+
+/// What the callers of a bench were told, as text.
+fn benched<R, I: Read>(
+    rt: &R,
+    alloc: Global,
+    input: &mut I,
+    callers: u8,
+    cut: usize,
+    script: Script,
+) -> Result<String, Stop>
+where
+    R: Threads + Wait + RandomSource + AllocGlobal + Copy + Send + Drop + 'static,
+    requires { (1 ≤ callers) × (callers ≤ 8) }
+    ensures ok { IfOk result (λ text. IfSome (I.remaining input.old) (λ all. IsBenched callers all (string_bytes text))) }
+    ensures bad_line { (place : ℕ) → IsErrOf result (Stop.BadLine place) → IfSome (I.remaining input.old) (λ text. IsFirstBad (IsNoSubmission callers) (input_lines text) place) }
+    ensures others { (result ≢ Err Stop.BadN1) × (result ≢ Err Stop.BadCallers) × (result ≢ Err Stop.BadCut) }
+{
+    let text = read_whole(alloc, input)?;
+    let submissions = read_submissions(alloc, callers, text.as_slice())?;
+    let outcomes = run_bench(rt, alloc, submissions.as_slice(), callers, cut, script)?;
+    let text = outcomes_text(alloc, outcomes.as_slice())?;
+    Ok(text)
+}
+
+/// Whether a bench may have so many callers.
+fn takes_callers(callers: u8) -> bool
+    ensures good { result ≡ true → (1 ≤ callers) × (callers ≤ 8) }
+    ensures bad { result ≡ false → (callers < 1) ⊎ (8 < callers) }
+{
+    (1..=8).contains(&callers)
+}
+
+/// Whether so many octets may be under way each way.
+fn takes_cut(cut: usize) -> bool
+    ensures good { result ≡ true → (1 ≤ cut) × (cut ≤ 4096) }
+    ensures bad { result ≡ false → (cut < 1) ⊎ (4096 < cut) }
+{
+    (1..=4096).contains(&cut)
+}
+
+/// Runs a bench: submits the lines of `input`, each caller in a thread of its own, to a driver whose line has room for
+/// `cut` octets each way, with a simulated modem at its other end that has its default start and this script; and writes
+/// what each line was told to `output`. The status is 0 where all is written, 1 at a fault, 2 at a bad line; at 1 and 2 it
+/// says on `faults` why. It is 2 where callers aren't 1 to 8 or `cut` isn't 1 to 4096, and then nothing is read.
+pub fn bench_run<R, I: Read, W: Write, E: Write>(
+    rt: &R,
+    alloc: Global,
+    input: &mut I,
+    output: &mut W,
+    faults: &mut E,
+    callers: u8,
+    cut: usize,
+    script: Script,
+) -> u8
+where
+    R: Threads + Wait + RandomSource + AllocGlobal + Copy + Send + Drop + 'static,
+    ensures status { result ≤ 2 }
+    ensures done { result ≡ 0 → IsPrinted (IsBenched callers) (I.remaining input.old) (W.contents output.old) (W.contents output.new) }
+    ensures refused { result ≡ 2 → IsNoBench callers cut ⊎ IfSome (I.remaining input.old) (λ text. HasBad (IsNoSubmission callers) (input_lines text)) }
+    ensures bad { result ≡ 2 → output.new ≡ output.old }
+    ensures no_bench { IsNoBench callers cut → (result ≡ 2) × (input.new ≡ input.old) }
+    ensures silent { result ≡ 0 → faults.new ≡ faults.old }
+{
+    if !takes_callers(callers) {
+        return give_up(faults, Stop::BadCallers);
+    }
+    if !takes_cut(cut) {
+        return give_up(faults, Stop::BadCut);
+    }
+    let built = benched(rt, alloc, input, callers, cut, script);
+    finish(output, faults, built)
+}

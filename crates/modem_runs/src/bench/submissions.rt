@@ -1,0 +1,126 @@
+//! The input of a bench: a line for each command.
+ghost use Rattle.std.specs.Prelude.{◌≡◌, ◌≢◌, ℕ, ◌<◌, ◌≤◌, IfOk, MatchResult};
+ghost use Rattle.modem_runs.specs.Bench.{AreSubmitted, IsCommand, IsNoCommand, IsNoSubmission, Submits, SubmitsNothing, asks_for, is_named};
+ghost use Rattle.modem_runs.specs.Input.{IsReason, input_lines};
+ghost use Rattle.modem_runs.specs.Script.{number_text};
+ghost use Rattle.modem_runs.specs.declared.stop.Refusal.TheVariants as Refusal;
+
+use crate::input::{next_line, split_once};
+use crate::script::connection_of;
+use crate::stop::{Refusal, Stop};
+use at_text::CommandLine;
+use modem_desk::Ask;
+use mux_frame::Dlci;
+use std::alloc::{AllocError, Global};
+
+/// A line: a caller, a connection that isn't 0, and a command line.
+#[derive(Drop, Debug)]
+pub struct Submission {
+    pub caller: u8,
+    pub dlci: Dlci,
+    pub line: CommandLine,
+}
+
+/// The number of a caller in decimal: below the number of callers.
+fn caller_of(callers: u8, word: &[u8]) -> Result<u8, Refusal>
+    requires { callers ≤ 8 }
+    ensures { MatchResult result
+        (λ caller. (caller < callers) × (word.now ≡ number_text caller))
+        (λ why. (why ≡ Refusal.Bad) × ((n : ℕ) → n < callers → word.now ≢ number_text n)) }
+{
+    match word {
+        [digit] if digit.is_ascii_digit() && *digit - b'0' < callers => Ok(*digit - b'0'),
+        _ => Err(Refusal::Bad),
+    }
+}
+
+/// The number of a connection that carries commands: 1 to 61.
+fn carrier_of(word: &[u8]) -> Result<Dlci, Refusal>
+    ensures { MatchResult result
+        (λ dlci. (1 ≤ dlci.number) × (word.now ≡ number_text dlci.number))
+        (λ why. (why ≡ Refusal.Bad) × ((n : ℕ) → 1 ≤ n → n < 62 → word.now ≢ number_text n)) }
+{
+    let dlci = connection_of(word)?;
+    if dlci.number() == 0 {
+        return Err(Refusal::Bad);
+    }
+    Ok(dlci)
+}
+
+/// The words behind the caller: a connection, one blank and a command line.
+fn command_of(alloc: Global, words: &[u8]) -> Result<(Dlci, CommandLine), Refusal>
+    ensures { MatchResult result (λ r. IsCommand words.now r.0.number r.1) (λ why. why ≡ Refusal.Bad → IsNoCommand words.now) }
+{
+    let Some((word, text)) = split_once(words, b' ') else {
+        return Err(Refusal::Bad);
+    };
+    let dlci = carrier_of(word)?;
+    let line = CommandLine::new(alloc, text)?;
+    Ok((dlci, line))
+}
+
+/// A line that isn't empty.
+fn submission_of(alloc: Global, callers: u8, line: &[u8]) -> Result<Submission, Refusal>
+    requires { callers ≤ 8 }
+    ensures { MatchResult result (Submits callers line.now) (λ why. why ≡ Refusal.Bad → SubmitsNothing callers line.now) }
+{
+    let Some((word, words)) = split_once(line, b' ') else {
+        return Err(Refusal::Bad);
+    };
+    let caller = caller_of(callers, word)?;
+    let (dlci, line) = command_of(alloc, words)?;
+    Ok(Submission { caller, dlci, line })
+}
+
+/// What the lines of an input submit. Refusals: the first bad line; NoMemory.
+pub fn read_submissions(alloc: Global, callers: u8, input: &[u8]) -> Result<Vec<Submission>, Stop>
+    requires { callers ≤ 8 }
+    ensures { MatchResult result (λ all. AreSubmitted callers (input_lines input.now) all.items)
+        (IsReason (IsNoSubmission callers) (input_lines input.now)) }
+{
+    let mut all = Vec::new(alloc);
+    let mut place = 0;
+    let mut left = input;
+    while let Some((line, rest)) = next_line(left) {
+        left = rest;
+        place += 1;
+        if line.is_empty() {
+            continue;
+        }
+        match submission_of(alloc, callers, line) {
+            Ok(submission) => all.push(submission)?,
+            Err(refusal) => return Err(refusal.at_line(place)),
+        }
+    }
+    Ok(all)
+}
+
+/// Whether one of these is for this connection.
+pub fn names(submissions: &[Submission], dlci: Dlci) -> bool
+    ensures { result ≡ is_named submissions.now dlci.number }
+{
+    for submission in submissions {
+        if submission.dlci.number() == dlci.number() {
+            return true;
+        }
+    }
+    false
+}
+
+/// What this caller asks for, in order.
+pub fn asks_for(
+    alloc: Global,
+    submissions: &[Submission],
+    caller: u8,
+) -> Result<Vec<Ask>, AllocError>
+    ensures { IfOk result (λ asks. asks.items ≡ asks_for caller submissions.now) }
+{
+    let mut asks = Vec::new(alloc);
+    for submission in submissions {
+        if submission.caller == caller {
+            let line = submission.line.copy()?;
+            asks.push(Ask::Command(submission.dlci, line))?;
+        }
+    }
+    Ok(asks)
+}

@@ -1,0 +1,51 @@
+//! The octets that `frames` reads, written as pairs of hexadecimal digits.
+ghost use Rattle.std.specs.Prelude.{◌≡◌, ◌<◌, Some, length, MatchResult};
+ghost use Rattle.std.specs.Result.{result_ok};
+ghost use Rattle.hex.specs.Hex.{decode_of};
+ghost use Rattle.modem_runs.specs.Dump.{IsNoDump, dump_octets, joined, line_octets};
+ghost use Rattle.modem_runs.specs.Input.{IsReason, input_lines};
+ghost use Rattle.modem_runs.specs.declared.stop.Refusal.TheVariants as Refusal;
+
+use crate::input::{next_line, split_once};
+use crate::stop::{Refusal, Stop};
+use std::alloc::Global;
+
+/// What stands before the first blank of a line that isn't empty, and what behind it.
+fn next_word(line: &[u8]) -> (&[u8], &[u8])
+    requires { 0 < length line.now }
+    ensures cut { line_octets line.now ≡ joined (result_ok (decode_of result.0.now)) (line_octets result.1.now) }
+    ensures shorter { length result.1.now < length line.now }
+{
+    split_once(line, b' ').unwrap_or((line, &[]))
+}
+
+/// Appends the octets of one line: pairs with any blanks before, between and after them.
+fn push_pairs(alloc: Global, line: &[u8], octets: &mut Vec<u8>) -> Result<(), Refusal>
+    ensures { MatchResult result (λ _. Some octets.new.items ≡ joined (Some octets.old.items) (line_octets line.now)) (λ why. why ≡ Refusal.Bad → IsNoDump line.now) }
+{
+    let mut left = line;
+    while !left.is_empty() {
+        let (word, rest) = next_word(left);
+        let pairs = hex::decode(alloc, word)?;
+        octets.extend_from_slice(pairs.as_slice())?;
+        left = rest;
+    }
+    Ok(())
+}
+
+/// The octets of all lines. Refusals: the first bad line; NoMemory.
+pub fn read_dump(alloc: Global, dump: &[u8]) -> Result<Vec<u8>, Stop>
+    ensures { MatchResult result (λ octets. dump_octets (input_lines dump.now) ≡ Some octets.items) (IsReason IsNoDump (input_lines dump.now)) }
+{
+    let mut octets = Vec::new(alloc);
+    let mut place = 0;
+    let mut left = dump;
+    while let Some((line, rest)) = next_line(left) {
+        left = rest;
+        place += 1;
+        if let Err(refusal) = push_pairs(alloc, line, &mut octets) {
+            return Err(refusal.at_line(place));
+        }
+    }
+    Ok(octets)
+}

@@ -1,0 +1,19 @@
+//! What `modemctl` does at each of its words: reads octets as frames, replays a script, and runs a bench of callers in threads
+//! with a simulated modem.
+#![tactic(auto)]
+
+mod bench;
+mod dump;
+mod framing;
+mod input;
+pub mod laws;
+mod runs;
+mod script;
+mod stop;
+mod texts;
+
+pub use bench::bench_run;
+pub use runs::{frames_run, give_up, replay_run};
+pub use script::read_script;
+pub use stop::Stop;
+pub use texts::{push_act, push_frame};

@@ -1,0 +1,166 @@
+//! The subcommands, each over a reader and two writers.
+ghost use Rattle.std.specs.Prelude.{◌≡◌, ◌≢◌, ℕ, ◌≤◌, ◌<◌, ◌⊎◌, map, Ok, Err, IfOk, IfSome, IsErrOf, OnErr, MatchResult, true, false};
+ghost use Rattle.std.specs.Io.KnownBytes.{Appends};
+ghost use Rattle.std.specs.String.{string_bytes};
+ghost use Rattle.mux_frame.specs.Frames.{kept_frame};
+ghost use Rattle.mux_frame.specs.Reading.{Reads};
+ghost use Rattle.modem_history.specs.Acts.{act_of};
+ghost use Rattle.modem_driver.specs.Replays.{Replays, requests};
+ghost use Rattle.modem_history.specs.Wholes.{UsesOnce};
+ghost use Rattle.modem_runs.specs.Dump.{IsNoDump};
+ghost use Rattle.modem_runs.specs.Input.{HasBad, IsFirstBad, input_lines};
+ghost use Rattle.modem_runs.specs.Printed.{IsFramed, IsPrinted, IsReplayed};
+ghost use Rattle.modem_runs.specs.Script.{IsNoOrder};
+ghost use Rattle.modem_runs.specs.Statuses.{status_of};
+ghost use Rattle.modem_runs.specs.declared.stop.Stop.TheVariants as Stop;
+
+use crate::dump::read_dump;
+use crate::framing::read_frames;
+use crate::input::read_whole;
+use crate::script::read_script;
+use crate::stop::Stop;
+use crate::texts::{acts_text, frames_text};
+use modem_driver::{Act, CoreError, Event, replay};
+use mux_frame::{FrameBuf, FrameError};
+use std::alloc::{AllocError, Global};
+use std::io::{Read, Write};
+
+/// Writes the output whole, and says whether the writer took it.
+fn put<W: Write>(output: &mut W, text: &str) -> bool
+    ensures { result ≡ true → Appends (W.contents output.old) (W.contents output.new) text.now }
+{
+    output.write_all(text.as_bytes()).is_ok() && output.flush().is_ok()
+}
+
+/// Says why a run ended, and gives the status. A writer that fails changes nothing.
+pub fn give_up<E: Write>(faults: &mut E, stop: Stop) -> u8
+    ensures { result ≡ status_of stop }
+{
+    let _ = writeln!(faults, "{stop}");
+    stop.status()
+}
+
+/// Writes what a run gave, or says why it gave nothing; and gives the status.
+pub fn finish<W: Write, E: Write>(output: &mut W, faults: &mut E, built: Result<String, Stop>) -> u8
+    ensures ended { MatchResult built (λ _. result ≤ 1) (λ stop. result ≡ status_of stop) }
+    ensures written { IfOk built (λ text. result ≡ 0 → Appends (W.contents output.old) (W.contents output.new) (string_bytes text)) }
+    ensures nothing { OnErr built (output.new ≡ output.old) }
+    ensures silent { result ≡ 0 → faults.new ≡ faults.old }
+{
+    let text = match built {
+        Ok(text) => text,
+        Err(stop) => return give_up(faults, stop),
+    };
+    if put(output, text.as_str()) {
+        0
+    } else {
+        give_up(faults, Stop::Output)
+    }
+}
+
+/// Whether frames may have so many octets of information.
+fn takes_n1(n1: u16) -> bool
+    ensures good { result ≡ true → (31 ≤ n1) × (n1 ≤ 32767) }
+    ensures bad { result ≡ false → (n1 < 31) ⊎ (32767 < n1) }
+{
+    (31..=32767).contains(&n1)
+}
+
+/// What events come to.
+fn acts_of(alloc: Global, n1: u16, events: &[Event]) -> Result<Vec<Act>, AllocError>
+    requires { (31 ≤ n1) × (n1 ≤ 32767) }
+    ensures { IfOk result (λ acts. UsesOnce (requests events.now) → Replays n1 events.now (map act_of acts.items)) }
+{
+    match replay(alloc, n1, events) {
+        Ok(acts) => Ok(acts),
+        Err(CoreError::NoMemory) => Err(AllocError),
+        Err(CoreError::BadN1 | CoreError::NoRoom) => unreachable!(),
+    }
+}
+
+/// What octets are read as: frames, and the octets of the rest.
+fn frames_of(alloc: Global, n1: u16, octets: &[u8]) -> Result<(Vec<FrameBuf>, Vec<u8>), AllocError>
+    requires { (31 ≤ n1) × (n1 ≤ 32767) }
+    ensures { IfOk result (λ read. Reads n1 octets.now (map kept_frame read.0.items) read.1.items) }
+{
+    match read_frames(alloc, n1, octets) {
+        Ok(read) => Ok(read),
+        Err(FrameError::NoMemory) => Err(AllocError),
+        Err(FrameError::BadN1 | FrameError::TooLong) => unreachable!(),
+    }
+}
+
+/// The acts that a script comes to, as text.
+fn replayed<R: Read>(alloc: Global, input: &mut R, n1: u16) -> Result<String, Stop>
+    requires { (31 ≤ n1) × (n1 ≤ 32767) }
+    ensures ok { IfOk result (λ text. IfSome (R.remaining input.old) (λ all. IsReplayed n1 all (string_bytes text))) }
+    ensures bad_line { (place : ℕ) → IsErrOf result (Stop.BadLine place) → IfSome (R.remaining input.old) (λ text. IsFirstBad IsNoOrder (input_lines text) place) }
+    ensures others { (result ≢ Err Stop.BadN1) × (result ≢ Err Stop.BadCallers) × (result ≢ Err Stop.BadCut) }
+{
+    let script = read_whole(alloc, input)?;
+    let events = read_script(alloc, script.as_slice())?;
+    let acts = acts_of(alloc, n1, events.as_slice())?;
+    let text = acts_text(alloc, acts.as_slice())?;
+    Ok(text)
+}
+
+/// The frames that octets are read as, and the rest, as text.
+fn framed<R: Read>(alloc: Global, input: &mut R, n1: u16) -> Result<String, Stop>
+    requires { (31 ≤ n1) × (n1 ≤ 32767) }
+    ensures ok { IfOk result (λ text. IfSome (R.remaining input.old) (λ all. IsFramed n1 all (string_bytes text))) }
+    ensures bad_line { (place : ℕ) → IsErrOf result (Stop.BadLine place) → IfSome (R.remaining input.old) (λ text. IsFirstBad IsNoDump (input_lines text) place) }
+    ensures others { (result ≢ Err Stop.BadN1) × (result ≢ Err Stop.BadCallers) × (result ≢ Err Stop.BadCut) }
+{
+    let dump = read_whole(alloc, input)?;
+    let octets = read_dump(alloc, dump.as_slice())?;
+    let (frames, rest) = frames_of(alloc, n1, octets.as_slice())?;
+    let text = frames_text(alloc, frames.as_slice(), rest.as_slice())?;
+    Ok(text)
+}
+
+/// Replays the script of `input`, and writes the acts to `output`. The status is 0 where all of them are
+/// written, 1 at a fault, 2 at a bad line; at 1 and 2 it says on `faults` why. It is 2 at a bad N1, one
+/// that isn't 31 to 32767, and then nothing is read.
+pub fn replay_run<R: Read, W: Write, E: Write>(
+    alloc: Global,
+    input: &mut R,
+    output: &mut W,
+    faults: &mut E,
+    n1: u16,
+) -> u8
+    ensures status { result ≤ 2 }
+    ensures done { result ≡ 0 → IsPrinted (IsReplayed n1) (R.remaining input.old) (W.contents output.old) (W.contents output.new) }
+    ensures refused { result ≡ 2 → ((n1 < 31) ⊎ (32767 < n1)) ⊎ IfSome (R.remaining input.old) (λ text. HasBad IsNoOrder (input_lines text)) }
+    ensures bad { result ≡ 2 → output.new ≡ output.old }
+    ensures bad_n1 { (n1 < 31) ⊎ (32767 < n1) → (result ≡ 2) × (input.new ≡ input.old) }
+    ensures silent { result ≡ 0 → faults.new ≡ faults.old }
+{
+    if !takes_n1(n1) {
+        return give_up(faults, Stop::BadN1);
+    }
+    let built = replayed(alloc, input, n1);
+    finish(output, faults, built)
+}
+
+/// Reads the octets of `input` as frames, and writes these and the rest to `output`. The status is as that of
+/// `replay_run`.
+pub fn frames_run<R: Read, W: Write, E: Write>(
+    alloc: Global,
+    input: &mut R,
+    output: &mut W,
+    faults: &mut E,
+    n1: u16,
+) -> u8
+    ensures status { result ≤ 2 }
+    ensures done { result ≡ 0 → IsPrinted (IsFramed n1) (R.remaining input.old) (W.contents output.old) (W.contents output.new) }
+    ensures refused { result ≡ 2 → ((n1 < 31) ⊎ (32767 < n1)) ⊎ IfSome (R.remaining input.old) (λ text. HasBad IsNoDump (input_lines text)) }
+    ensures bad { result ≡ 2 → output.new ≡ output.old }
+    ensures bad_n1 { (n1 < 31) ⊎ (32767 < n1) → (result ≡ 2) × (input.new ≡ input.old) }
+    ensures silent { result ≡ 0 → faults.new ≡ faults.old }
+{
+    if !takes_n1(n1) {
+        return give_up(faults, Stop::BadN1);
+    }
+    let built = framed(alloc, input, n1);
+    finish(output, faults, built)
+}

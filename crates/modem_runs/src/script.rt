@@ -1,0 +1,147 @@
+//! The script that `replay` reads: a line for each event.
+ghost use Rattle.std.specs.Prelude.{◌≡◌, ◌≢◌, ℕ, ◌<◌, ◌≤◌, ◌++◌, List, length, MatchOption, MatchResult, codes};
+ghost use Rattle.modem_runs.specs.Input.{IsReason, input_lines};
+ghost use Rattle.modem_runs.specs.Script.{ArePairsOf, IsNoOrder, IsNoWord, IsScript, Says, SaysNothing, number_text};
+ghost use Rattle.modem_runs.specs.declared.stop.Refusal.TheVariants as Refusal;
+
+use crate::input::{next_line, split_once};
+use crate::stop::{Refusal, Stop};
+use at_text::CommandLine;
+use modem_desk::{Ask, Request};
+use modem_driver::{Event, Octets};
+use mux_frame::{Dlci, ProbeData};
+use std::alloc::Global;
+
+/// What a line says.
+#[derive(Drop, Debug)]
+enum Order {
+    Ask(Ask),
+    Octets(Octets),
+    Tick,
+    Lost,
+}
+
+/// The number of a connection in decimal without leading zeros: 0 to 61.
+fn dlci_of(word: &[u8]) -> Option<Dlci>
+    ensures { MatchOption result ((n : ℕ) → n < 62 → word.now ≢ number_text n) (λ dlci. word.now ≡ number_text dlci.number) }
+{
+    let number = match word {
+        [ones] if ones.is_ascii_digit() => *ones - b'0',
+        [tens, ones] if *tens != b'0' && tens.is_ascii_digit() && ones.is_ascii_digit() => {
+            10 * (*tens - b'0') + (*ones - b'0')
+        }
+        _ => return None,
+    };
+    Dlci::new(number)
+}
+
+/// The same, and every other word is refused.
+pub fn connection_of(word: &[u8]) -> Result<Dlci, Refusal>
+    ensures { MatchResult result
+        (λ dlci. word.now ≡ number_text dlci.number)
+        (λ why. (why ≡ Refusal.Bad) × ((n : ℕ) → n < 62 → word.now ≢ number_text n)) }
+{
+    dlci_of(word).ok_or(Refusal::Bad)
+}
+
+/// Pairs of hexadecimal digits, at least one.
+fn octets_of(alloc: Global, word: &[u8]) -> Result<Octets, Refusal>
+    ensures { MatchResult result
+        (λ octets. ArePairsOf octets word.now)
+        (λ why. why ≡ Refusal.Bad → (x : List ℕ) → ArePairsOf x word.now → ⊥) }
+{
+    let octets = hex::decode(alloc, word)?;
+    if octets.is_empty() {
+        return Err(Refusal::Bad);
+    }
+    Ok(Octets::from_vec(octets))
+}
+
+/// The same, at most 16.
+fn probe_of(alloc: Global, word: &[u8]) -> Result<ProbeData, Refusal>
+    ensures { MatchResult result
+        (λ octets. ArePairsOf octets word.now × (length octets ≤ 16))
+        (λ why. why ≡ Refusal.Bad → (x : List ℕ) → ArePairsOf x word.now → length x ≤ 16 → ⊥) }
+{
+    let octets = octets_of(alloc, word)?;
+    ProbeData::new(octets.as_slice()).ok_or(Refusal::Bad)
+}
+
+/// The words after `cmd`: a connection, one blank and a command line.
+fn command_of(alloc: Global, words: &[u8]) -> Result<Order, Refusal>
+    ensures { MatchResult result (Says (codes "cmd " ++ words.now)) (λ why. why ≡ Refusal.Bad → SaysNothing (codes "cmd " ++ words.now)) }
+{
+    let Some((word, text)) = split_once(words, b' ') else {
+        return Err(Refusal::Bad);
+    };
+    let dlci = connection_of(word)?;
+    let line = CommandLine::new(alloc, text)?;
+    Ok(Order::Ask(Ask::Command(dlci, line)))
+}
+
+/// A line of one word.
+fn word_of(line: &[u8]) -> Option<Order>
+    ensures { MatchOption result (IsNoWord line.now) (Says line.now) }
+{
+    match line {
+        b"stop" => Some(Order::Ask(Ask::Stop)),
+        b"tick" => Some(Order::Tick),
+        b"lost" => Some(Order::Lost),
+        _ => None,
+    }
+}
+
+/// A line that isn't empty.
+fn order_of(alloc: Global, line: &[u8]) -> Result<Order, Refusal>
+    ensures { MatchResult result (Says line.now) (λ why. why ≡ Refusal.Bad → SaysNothing line.now) }
+{
+    if let Some(word) = line.strip_prefix(b"open ") {
+        return Ok(Order::Ask(Ask::OpenChannel(connection_of(word)?)));
+    }
+    if let Some(word) = line.strip_prefix(b"close ") {
+        return Ok(Order::Ask(Ask::CloseChannel(connection_of(word)?)));
+    }
+    if let Some(words) = line.strip_prefix(b"cmd ") {
+        return command_of(alloc, words);
+    }
+    if let Some(word) = line.strip_prefix(b"probe ") {
+        return Ok(Order::Ask(Ask::Probe(probe_of(alloc, word)?)));
+    }
+    if let Some(word) = line.strip_prefix(b"in ") {
+        return Ok(Order::Octets(octets_of(alloc, word)?));
+    }
+    word_of(line).ok_or(Refusal::Bad)
+}
+
+/// The events of a script. Requests are caller 0's and have the numbers from 1 in order. Refusals: the first bad
+/// line; NoMemory.
+pub fn read_script(alloc: Global, script: &[u8]) -> Result<Vec<Event>, Stop>
+    ensures { MatchResult result (λ events. IsScript 1 (input_lines script.now) events.items) (IsReason IsNoOrder (input_lines script.now)) }
+{
+    let mut events = Vec::new(alloc);
+    let mut asked = 0;
+    let mut place = 0;
+    let mut left = script;
+    while let Some((line, rest)) = next_line(left) {
+        left = rest;
+        place += 1;
+        if line.is_empty() {
+            continue;
+        }
+        match order_of(alloc, line) {
+            Ok(Order::Octets(octets)) => events.push(Event::Octets(octets))?,
+            Ok(Order::Tick) => events.push(Event::Tick)?,
+            Ok(Order::Lost) => events.push(Event::Lost)?,
+            Ok(Order::Ask(ask)) => {
+                asked += 1;
+                events.push(Event::Ask(Request {
+                    caller: 0,
+                    number: asked,
+                    ask,
+                }))?;
+            }
+            Err(refusal) => return Err(refusal.at_line(place)),
+        }
+    }
+    Ok(events)
+}

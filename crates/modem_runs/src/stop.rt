@@ -1,0 +1,131 @@
+//! Why a run ends without its output.
+ghost use Rattle.std.specs.Prelude.{◌≡◌, ◌↔◌};
+ghost use Rattle.hex.specs.declared.error.FromHexError.TheVariants.{OutOfMemory};
+ghost use Rattle.at_text.specs.declared.error.TextError.TheVariants as TextError;
+ghost use Rattle.modem_runs.specs.Statuses.{status_of, stop_at};
+ghost use Rattle.modem_runs.specs.declared.stop.Stop.TheVariants.{NoMemory};
+ghost use Rattle.modem_runs.specs.declared.stop.Refusal.TheVariants as Refused;
+
+use at_text::TextError;
+use hex::FromHexError;
+use std::alloc::{AllocError, AllocFailed};
+use thiserror::Error;
+
+/// Why a run ends without its whole output.
+#[derive(Clone, Copy, PartialEq, Eq, Debug, Error)]
+pub enum Stop {
+    /// A growth was refused.
+    #[error("fault: no memory")]
+    NoMemory,
+    /// The reader failed, or gave no end.
+    #[error("fault: input")]
+    Input,
+    /// The writer failed.
+    #[error("fault: output")]
+    Output,
+    /// The line failed.
+    #[error("fault: line")]
+    Line,
+    /// A bench didn't come to its end.
+    #[error("fault: gave up")]
+    GaveUp,
+    /// N1 isn't 31 to 32767.
+    #[error("error: N1 is 31 to 32767")]
+    BadN1,
+    /// Callers aren't 1 to 8.
+    #[error("error: callers are 1 to 8")]
+    BadCallers,
+    /// The octets that are under way each way aren't 1 to 4096.
+    #[error("error: the cut is 1 to 4096")]
+    BadCut,
+    /// This line of the input is bad, counted from 1.
+    #[error("bad line {0}")]
+    BadLine(u64),
+}
+
+impl Stop {
+    /// The exit status: 1 for a fault, 2 for words or a line that are bad.
+    pub fn status(self) -> u8
+        ensures { result ≡ status_of self }
+    {
+        match self {
+            Stop::NoMemory | Stop::Input | Stop::Output | Stop::Line | Stop::GaveUp => 1,
+            Stop::BadN1 | Stop::BadCallers | Stop::BadCut | Stop::BadLine(_) => 2,
+        }
+    }
+}
+
+impl From<AllocError> for Stop {
+    ghost from_gives = { λ _ e. e ≡ NoMemory };
+
+    fn from(_error: AllocError) -> Stop {
+        Stop::NoMemory
+    }
+}
+
+impl<T: Drop> From<AllocFailed<T>> for Stop {
+    ghost from_gives = { λ _ e. e ≡ NoMemory };
+
+    fn from(_error: AllocFailed<T>) -> Stop {
+        Stop::NoMemory
+    }
+}
+
+/// Why a line of the input isn't read.
+#[derive(Clone, Copy, PartialEq, Eq, Debug)]
+pub enum Refusal {
+    /// It is bad.
+    Bad,
+    /// A growth was refused.
+    NoMemory,
+}
+
+impl Refusal {
+    /// The end of a run at this line, counted from 1.
+    pub fn at_line(self, place: u64) -> Stop
+        ensures { result ≡ stop_at place self }
+    {
+        match self {
+            Refusal::Bad => Stop::BadLine(place),
+            Refusal::NoMemory => Stop::NoMemory,
+        }
+    }
+}
+
+impl From<AllocError> for Refusal {
+    ghost from_gives = { λ _ refusal. refusal ≡ Refused.NoMemory };
+
+    fn from(_error: AllocError) -> Refusal {
+        Refusal::NoMemory
+    }
+}
+
+impl<T: Drop> From<AllocFailed<T>> for Refusal {
+    ghost from_gives = { λ _ refusal. refusal ≡ Refused.NoMemory };
+
+    fn from(_error: AllocFailed<T>) -> Refusal {
+        Refusal::NoMemory
+    }
+}
+
+impl From<FromHexError> for Refusal {
+    ghost from_gives = { λ error refusal. (refusal ≡ Refused.NoMemory) ↔ (error ≡ OutOfMemory) };
+
+    fn from(error: FromHexError) -> Refusal {
+        match error {
+            FromHexError::OutOfMemory => Refusal::NoMemory,
+            _ => Refusal::Bad,
+        }
+    }
+}
+
+impl From<TextError> for Refusal {
+    ghost from_gives = { λ error refusal. (refusal ≡ Refused.NoMemory) ↔ (error ≡ TextError.NoMemory) };
+
+    fn from(error: TextError) -> Refusal {
+        match error {
+            TextError::NoMemory => Refusal::NoMemory,
+            _ => Refusal::Bad,
+        }
+    }
+}

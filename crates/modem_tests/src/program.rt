@@ -1,0 +1,172 @@
+//! Tests of the runs of the program, over readers and writers of their own.
+mod gate;
+mod hostile;
+
+use at_text::{Text, UrcKind};
+use modem_desk::Urc;
+use modem_driver::Act;
+use modem_runs::{frames_run, push_act, replay_run};
+use mux_frame::Dlci;
+use std::io;
+use std::io::{ErrorKind, Read, Write};
+use std::test::Fail;
+
+#[test]
+fn acts_without_a_request_are_printed(rt: HostRuntime) -> Result<(), Fail> {
+    let alloc = rt.alloc();
+    let dlci = Dlci::new(61).ok_or("61 is a connection")?;
+    let mut text = String::new(alloc);
+    for act in [Act::Tick, Act::Lost, Act::Held(dlci), Act::Freed(dlci)] {
+        push_act(alloc, &act, &mut text)?;
+    }
+    let line = Text::from(vec![in alloc; 0x20, 0x7E, 0x7F, 0xFF, 0x1F]?);
+    let kind = UrcKind::Cgreg;
+    push_act(alloc, &Act::Heard(Urc { kind, dlci, line }), &mut text)?;
+    let want = "tick\nlost\nheld 61\nfreed 61\nheard CGREG 61  ~\\x7f\\xff\\x1f\n";
+    assert_eq!(rt; text.as_str(), want);
+    Ok(())
+}
+
+// Gives or takes so many octets one by one, and fails then.
+#[derive(Drop)]
+struct Failing {
+    left: usize,
+}
+
+impl Read for Failing {
+    fn read(&mut self, buf: &mut [u8]) -> io::Result<usize> {
+        if self.left == 0 || buf.is_empty() {
+            return Err(io::Error::from(ErrorKind::BrokenPipe));
+        }
+        self.left -= 1;
+        buf[0] = b'\n';
+        Ok(1)
+    }
+}
+
+impl Write for Failing {
+    fn write(&mut self, buf: &[u8]) -> io::Result<usize> {
+        if self.left == 0 || buf.is_empty() {
+            return Err(io::Error::from(ErrorKind::BrokenPipe));
+        }
+        self.left -= 1;
+        Ok(1)
+    }
+
+    fn flush(&mut self) -> io::Result<()> {
+        Ok(())
+    }
+}
+
+#[test]
+fn readers_and_writers_may_fail(rt: HostRuntime) {
+    let alloc = rt.alloc();
+    for left in [0, 3] {
+        let mut output = Vec::new(alloc);
+        let mut faults = Vec::new(alloc);
+        let mut input = Failing { left };
+        assert_eq!(rt;
+            replay_run(alloc, &mut input, &mut output, &mut faults, 31),
+            1
+        );
+        assert_eq!(rt; faults.as_slice(), b"fault: input\n".as_slice());
+        assert_eq!(rt; output.len(), 0);
+        let mut input = b"open 0\n".as_slice();
+        let mut faults = Vec::new(alloc);
+        let mut output = Failing { left };
+        assert_eq!(rt;
+            replay_run(alloc, &mut input, &mut output, &mut faults, 31),
+            1
+        );
+        assert_eq!(rt; faults.as_slice(), b"fault: output\n".as_slice());
+        let mut input = b"x".as_slice();
+        let mut output = Vec::new(alloc);
+        let mut faults = Failing { left };
+        assert_eq!(rt;
+            frames_run(alloc, &mut input, &mut output, &mut faults, 31),
+            2
+        );
+    }
+}
+
+// Gives its octets one by one, and is interrupted once before the first.
+#[derive(Drop)]
+struct OneByOne<'a> {
+    interrupted: bool,
+    left: &'a [u8],
+}
+
+impl Read for OneByOne<'_> {
+    fn read(&mut self, buf: &mut [u8]) -> io::Result<usize> {
+        if !self.interrupted {
+            self.interrupted = true;
+            return Err(io::Error::from(ErrorKind::Interrupted));
+        }
+        let Some((first, rest)) = self.left.split_first() else {
+            return Ok(0);
+        };
+        if buf.is_empty() {
+            return Ok(0);
+        }
+        buf[0] = *first;
+        self.left = rest;
+        Ok(1)
+    }
+}
+
+// Takes all, and fails when it is flushed.
+#[derive(Drop)]
+struct Unflushed;
+
+impl Write for Unflushed {
+    fn write(&mut self, buf: &[u8]) -> io::Result<usize> {
+        Ok(buf.len())
+    }
+
+    fn flush(&mut self) -> io::Result<()> {
+        Err(io::Error::from(ErrorKind::BrokenPipe))
+    }
+}
+
+#[test]
+fn a_reader_may_give_octets_one_by_one_and_be_interrupted(rt: HostRuntime) {
+    let alloc = rt.alloc();
+    for interrupted in [false, true] {
+        let left = b"F9 03 73 01 D7 F9\r\nF9".as_slice();
+        let mut input = OneByOne { interrupted, left };
+        let mut output = Vec::new(alloc);
+        let mut faults = Vec::new(alloc);
+        let got = frames_run(alloc, &mut input, &mut output, &mut faults, 31);
+        assert_eq!(rt; output.as_slice(), b"0 UA 1 1 -\nrest f9\n".as_slice());
+        assert_eq!(rt; (got, faults.len()), (0, 0));
+    }
+}
+
+#[test]
+fn output_that_is_not_flushed_is_a_fault(rt: HostRuntime) {
+    let alloc = rt.alloc();
+    let mut faults = Vec::new(alloc);
+    let script = b"open 0\n".as_slice();
+    let got = replay_run(alloc, &mut &*script, &mut Unflushed, &mut faults, 31);
+    assert_eq!(rt; faults.as_slice(), b"fault: output\n".as_slice());
+    assert_eq!(rt; got, 1);
+}
+
+#[test]
+fn a_bad_n1_is_refused_before_anything_is_read(rt: HostRuntime) {
+    let alloc = rt.alloc();
+    for n1 in [0, 30, 32768, u16::MAX] {
+        for of_frames in [false, true] {
+            let mut input = b"x".as_slice();
+            let mut output = Vec::new(alloc);
+            let mut faults = Vec::new(alloc);
+            let got = if of_frames {
+                frames_run(alloc, &mut input, &mut output, &mut faults, n1)
+            } else {
+                replay_run(alloc, &mut input, &mut output, &mut faults, n1)
+            };
+            assert_eq!(rt; (got, input.len(), output.len()), (2, 1, 0), "{n1}");
+            assert_eq!(rt; faults.as_slice(), b"error: N1 is 31 to 32767\n".as_slice());
+        }
+    }
+}

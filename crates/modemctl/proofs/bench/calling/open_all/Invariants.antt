@@ -1,5 +1,0 @@
-use Rattle.modemctl.specs.Calling.{OpensAll}
-use Rattle.modemctl.proofs.bench.calling.open_all.Given as goal
-
-abbrev pub invariant-loop-number : goal.invariant-loop-number
-invariant-loop-number g l = OpensAll l.submissions l.number l.initial.caller l.caller
