@@ -96,6 +96,13 @@ impl Core {
         })
     }
 
+    /// How many octets of information a frame may have, as `new` was told.
+    pub fn n1(&self) -> u16
+        ensures { result ≡ self.now.station.n1 }
+    {
+        self.n1
+    }
+
     /// How a connection stands. After a loss all are Shut.
     pub fn state(&self, dlci: Dlci) -> ChannelState
         ensures { result ≡ state_shown self.now.station self.now.lost dlci.number }

@@ -23,7 +23,7 @@ fn answer(alloc: Global, texts: &[&[u8]]) -> Result<AnswerLines, AllocError> {
 
 /// Data of the other end comes on 1.
 fn comes(core: &mut Core, info: &[u8]) -> Result<Vec<Act>, Fail> {
-    if info.len() > usize::from(core.n1) {
+    if info.len() > usize::from(core.n1()) {
         return Err("too long".into());
     }
     let acts = core.got(FrameView {

@@ -41,7 +41,7 @@ pub(super) fn takes(core: &mut Core, number: u64, ask: Ask) -> Result<usize, Fai
 // A frame of the other end comes: how many acts come of it.
 fn comes(core: &mut Core, number: u8, kind: Kind, info: &[u8]) -> Result<usize, Fail> {
     let most = match kind {
-        Kind::Uih => core.n1,
+        Kind::Uih => core.n1(),
         _ => 0,
     };
     if info.len() > usize::from(most) {

@@ -114,7 +114,7 @@ fn got(alloc: Global, core: &mut Core, octets: &[u8]) -> Result<(), Fail> {
     deframer.feed(octets);
     let frame = deframer.peek().ok_or("no frame")?;
     let most = match frame.kind {
-        Kind::Uih => core.n1,
+        Kind::Uih => core.n1(),
         _ => 0,
     };
     if frame.info.len() > usize::from(most) {
