@@ -60,7 +60,7 @@ got_first : (fs : List Frame) → list_all is_first (map Got fs) ≡ true
 got_first [] = refl
 got_first (f ∷ fs) = got_first fs
 
-brought_first : (n1 : ℕ) (heard : List ℕ) (events : List Event) (firsts : List Act) → Begins n1 heard events firsts → list_all is_first firsts ≡ true
+pub brought_first : (n1 : ℕ) (heard : List ℕ) (events : List Event) (firsts : List Act) → Begins n1 heard events firsts → list_all is_first firsts ≡ true
 brought_first n1 _ _ _ (ends heard) = refl
 brought_first n1 _ _ _ (asks heard q events firsts b) = brought_first n1 heard events firsts b
 brought_first n1 _ _ _ (ticks heard events firsts b) = brought_first n1 heard events firsts b

@@ -109,7 +109,7 @@ live_none : (s : Setting) (past : List Act) (fs : List Frame) → out_by s past 
 live_none s past [] h = refl
 live_none s past (f ∷ fs) h = cc
 
-queue_drained : (s : Setting) (past : List Act) → Lawful s past → next_out s past ≡ None → queue (wire past) ≡ []
+pub queue_drained : (s : Setting) (past : List Act) → Lawful s past → next_out s past ≡ None → queue (wire past) ≡ []
 queue_drained s past l h = by_loss (is_lost past) refl
   where
     by_loss : (b : Bool) → is_lost past ≡ b → queue (wire past) ≡ []
@@ -126,7 +126,7 @@ found_from test a (suc n) d h = by_test (test a) (λ k. found_from test (a + 1) 
     by_test true k h = let same : a ≡ d = cc in omega (arith, same)
     by_test false k h = let x = k h in omega (arith, x)
 
-turn_found : (a b : Option ℕ) (d : ℕ) → else_by a b ≡ Some d → (a ≡ Some d) ⊎ (b ≡ Some d)
+pub turn_found : (a b : Option ℕ) (d : ℕ) → else_by a b ≡ Some d → (a ≡ Some d) ⊎ (b ≡ Some d)
 turn_found (Some e) b d h = inl h
 turn_found None b d h = inr h
 
@@ -142,14 +142,14 @@ record NextIs (s : Setting) (past : List Act) (f : Frame) : Type 0 where
   live : is_lost past ≡ false
   out : out_by s past (queue (wire past)) ≡ Some (with_freshness true f)
 
-next_live : (s : Setting) (past : List Act) (o : Outgoing) → next_out s past ≡ Some o → (is_lost past ≡ false) × (out_by s past (queue (wire past)) ≡ Some o)
+pub next_live : (s : Setting) (past : List Act) (o : Outgoing) → next_out s past ≡ Some o → (is_lost past ≡ false) × (out_by s past (queue (wire past)) ≡ Some o)
 next_live s past o h = by_loss (is_lost past) refl h
   where
     by_loss : (b : Bool) → is_lost past ≡ b → (if b then None else out_by s past (queue (wire past))) ≡ Some o → (is_lost past ≡ false) × (out_by s past (queue (wire past)) ≡ Some o)
     by_loss true n h = cc
     by_loss false n h = (n, h)
 
-abbrev frame_out : Frame → Option Outgoing → Frame
+abbrev pub frame_out : Frame → Option Outgoing → Frame
 frame_out f None = f
 frame_out f (Some o) = o.frame
 
@@ -165,7 +165,7 @@ control_next s past [] f h = absurd (no_control (next_turn s.role past) h)
     no_control None h = cc
     no_control (Some d) h = let x : true ≡ false = ap is_fresh h in cc
 
-data_next : (s : Setting) (past : List Act) (q : List Frame) (f : Frame) → out_by s past q ≡ Some (with_freshness true f) → (q ≡ []) × (is_data_frame f ≡ true)
+pub data_next : (s : Setting) (past : List Act) (q : List Frame) (f : Frame) → out_by s past q ≡ Some (with_freshness true f) → (q ≡ []) × (is_data_frame f ≡ true)
 data_next s past (g ∷ q) f h = absurd (let x : false ≡ true = ap is_fresh h in cc)
 data_next s past [] f h = (refl, by_turn (next_turn s.role past) refl h)
   where

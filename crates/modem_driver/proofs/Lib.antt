@@ -2,6 +2,8 @@ pub mod SentTexts
 pub mod LeftOut
 pub mod Coming
 pub mod Brought
+pub mod FullFrames
+pub mod Emptied
 pub mod Wires
 pub mod Tells
 pub mod Later

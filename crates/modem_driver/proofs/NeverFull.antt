@@ -20,18 +20,18 @@ use Rattle.modem_driver.specs.Running.{IsIdle}
 use Rattle.modem_driver.proofs.GoingCores.{IsSound}
 use Rattle.modem_driver.proofs.FrameEnds.{AreShort, answer_short}
 
-at_most : (n1 : ℕ) (k : Kind) → most_info n1 k ≤ n1
+pub at_most : (n1 : ℕ) (k : Kind) → most_info n1 k ≤ n1
 at_most n1 Sabm = omega arith
 at_most n1 Ua = omega arith
 at_most n1 Dm = omega arith
 at_most n1 Disc = omega arith
 at_most n1 Uih = omega arith
 
-with_flags : (n : ℕ) (b : Bool) → n + (if b then 6 else 7) ≤ n + 7
+pub with_flags : (n : ℕ) (b : Bool) → n + (if b then 6 else 7) ≤ n + 7
 with_flags n true = omega arith
 with_flags n false = omega arith
 
-short_fits : (n1 room : ℕ) (fs : List Frame) → AreShort room fs → room ≤ n1 + 4 → have_room n1 0 fs ≡ true
+pub short_fits : (n1 room : ℕ) (fs : List Frame) → AreShort room fs → room ≤ n1 + 4 → have_room n1 0 fs ≡ true
 short_fits n1 room [] h l = refl
 short_fits n1 room (f ∷ []) h l =
     let w = with_flags (length f.info) (nat_le (length f.info) 127) in

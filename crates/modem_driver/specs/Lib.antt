@@ -14,6 +14,7 @@ pub mod SentTexts
 pub mod Replays
 pub mod Running
 pub mod ReplayRows
+pub mod Room
 pub mod Ticked
 pub mod Reports
 pub mod Handing

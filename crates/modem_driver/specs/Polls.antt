@@ -26,9 +26,9 @@ has_ended k = is_stopped k.course && (not k.core.lost && ((length k.unwritten ==
 
 -- ## Its turns
 
--- it went on by some acts, the same whatever history it had
+-- it went on by some acts, the same whatever it began with and whatever history it had
 unfoldable pub GoesOn : {X : Type 0} → (X → LineView) → (old new : SessionState X) → Type 0
-GoesOn look old new = (b : Beginning) → Goes b (seen look old) (seen look new) (FitsInside b look old) (FitsInside b look new)
+GoesOn look old new = Goes (seen look old) (seen look new) (λ b. FitsInside b look old) (λ b. FitsInside b look new)
 
 -- so many turns, each where it hasn't ended, and each of which answers Moved
 pub data MovesOn {X : Type 0} (look : X → LineView) (old : SessionState X) : ℕ → SessionState X → Type 0 where

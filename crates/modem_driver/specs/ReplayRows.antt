@@ -1,10 +1,10 @@
--- Replays that no driver may give: acts of which no event says anything.
-use Rattle.std.specs.Prelude.{List, [], ◌∷◌}
-use Rattle.mux_frame.specs.declared.frame.Kind.TheVariants.{Sabm, Ua}
-use Rattle.modem_desk.specs.declared.request.Ask.TheVariants.{OpenChannel}
+-- Replays that no driver may give: acts of which no event says anything, and a command in frames that are too short.
+use Rattle.std.specs.Prelude.{ℕ, List, [], ◌∷◌, ◌++◌, codes, drop, replicate, take}
+use Rattle.mux_frame.specs.declared.frame.Kind.TheVariants.{Sabm, Ua, Uih}
+use Rattle.modem_desk.specs.declared.request.Ask.TheVariants.{Command, OpenChannel}
 use Rattle.modem_desk.specs.declared.request.Answer.TheVariants.{Opened, LineLost}
 use Rattle.modem_history.specs.Acts.{Act, Lost}
-use Rattle.modem_history.specs.Rows.{zero, one, asks, takes, tells, sends, comes}
+use Rattle.modem_history.specs.Rows.{zero, one, asks, takes, tells, sends, comes, cr, msc}
 use Rattle.modem_driver.specs.declared.event.Event.{Event}
 use Rattle.modem_driver.specs.declared.event.Event.TheVariants as event
 use Rattle.modem_driver.specs.Replays.{Replays}
@@ -31,3 +31,30 @@ request_dropped = takes 1 (OpenChannel zero) ∷ sends Sabm 0 [] ∷ []
 
 abbrev pub NoReplay : List Event → List Act → Type 0
 NoReplay events acts = ¬ Replays 31 events acts
+
+-- ## A command in more than one frame
+
+-- a text of 40 octets, and with its CR
+abbrev pub long_text : List ℕ
+long_text = codes "AT" ++ replicate 38 68
+
+abbrev pub long_command : List ℕ
+long_command = long_text ++ cr
+
+-- it leaves in a frame of so many octets and a frame of the others
+abbrev pub leaves_in_two : ℕ → List Act
+leaves_in_two n =
+    takes 1 (OpenChannel zero) ∷ sends Sabm 0 [] ∷ comes Ua 0 [] ∷ tells 1 Opened ∷
+    takes 2 (OpenChannel one) ∷ sends Sabm 1 [] ∷ comes Ua 1 [] ∷ sends Uih 0 (msc 1 0x8d) ∷ tells 2 Opened ∷
+    takes 3 (Command one long_text) ∷ sends Uih 1 (take n long_command) ∷ sends Uih 1 (drop n long_command) ∷ []
+
+-- N1 octets and the other ten; and two that N1 leaves too short
+abbrev pub full_frames : List Act
+full_frames = leaves_in_two 31
+
+abbrev pub half_frames : List Act
+half_frames = leaves_in_two 20
+
+-- whatever the events
+abbrev pub NoReplayOfAny : List Act → Type 0
+NoReplayOfAny acts = (events : List Event) → NoReplay events acts

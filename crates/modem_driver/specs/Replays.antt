@@ -1,5 +1,5 @@
 -- What a replay of events is.
-use Rattle.std.specs.Prelude.{◌≡◌, ℕ, true, List, [], ◌∷◌, ◌++◌, map, filter, filter_map, Option, Some, None, if◌then◌else◌}
+use Rattle.std.specs.Prelude.{◌≡◌, ℕ, ◌==◌, ◌||◌, not, Bool, true, false, List, [], ◌∷◌, ◌++◌, length, map, filter, filter_map, Option, Some, None, if◌then◌else◌}
 use Rattle.std.specs.List.{list_all, flat_map}
 use Rattle.mux_frame.specs.Frames.{Frame}
 use Rattle.mux_frame.specs.Reading.{Reads}
@@ -107,3 +107,18 @@ pub record Replays (n1 : ℕ) (events : List Event) (acts : List Act) : Type 0 w
 -- the requests taken, frames got, ticks and losses are those that the events bring, in their order, and no others
 unfoldable pub Brought : ℕ → List Event → List Act → Type 0
 Brought n1 events acts = Begins n1 [] events (filter is_first acts)
+
+-- the octets end with the CR of a command; a command has no other (V.250, 5.2.1)
+abbrev pub ends_command : List ℕ → Bool
+ends_command [] = false
+ends_command (x ∷ []) = x == 13
+ends_command (x ∷ y ∷ rest) = ends_command (y ∷ rest)
+
+-- a data frame has N1 octets of information, or is the last of its command
+abbrev pub is_full : ℕ → Act → Bool
+is_full n1 (Sent f) = not (is_data_frame f) || ((length f.info == n1) || ends_command f.info)
+is_full n1 _ = true
+
+-- of each command all data frames but the last have N1 octets of information
+abbrev pub AreFull : ℕ → List Act → Type 0
+AreFull n1 acts = list_all (is_full n1) acts ≡ true

@@ -9,10 +9,10 @@ use Rattle.modem_desk.specs.declared.request.Urc.{Urc}
 use Rattle.modem_desk.specs.Ends.{DriverView}
 use Rattle.modem_history.specs.Acts.{Act, in_hand}
 use Rattle.modem_history.specs.Sessions.{LineView, EndView, Beginning, SessionView, Leftovers, FitsWith, Finishes, AreOnce, GoesBy, driving, gots, heard_as}
-use Rattle.modem_history.specs.Turns.{GoesTick, LosesLine, may_fail, outcomes_told, lines_heard}
+use Rattle.modem_history.specs.Turns.{GoesTick, IsTick, LosesLine, may_fail, outcomes_told, lines_heard}
 use Rattle.modem_driver.specs.Cores.{Core, Fits, IsSettingOf, new_core}
 use Rattle.modem_driver.specs.Holding.{HoldsFit}
-use Rattle.modem_driver.specs.Endings.{HasCome, is_stop}
+use Rattle.modem_driver.specs.Endings.{HasCome, KeepsEnd, is_stop}
 use Rattle.modem_driver.specs.declared.session.ending.Course.{Course}
 use Rattle.modem_driver.specs.declared.session.ending.Course.TheVariants.{GoesOn}
 
@@ -50,6 +50,14 @@ pub record SessionState (X : Type 0) : Type 0 where
   pub line : X
   pub driver : DriverView
   pub kept : Kept
+
+-- its line is lost: each history that it fits says so too
+abbrev pub has_lost_line : {X : Type 0} → SessionState X → Bool
+has_lost_line s = s.kept.core.lost
+
+-- an end that a poll gave stays
+abbrev pub KeepsItsEnd : {X : Type 0} → (old new : SessionState X) → Type 0
+KeepsItsEnd old new = KeepsEnd old.kept.course new.kept.course
 
 -- ## What a history speaks of
 
@@ -107,13 +115,7 @@ beginning_of n1 l d = record { n1 = n1; callers = length d.desk.rings; kinds = d
 
 -- a tick, whatever the session began with
 unfoldable pub Ticks : {X : Type 0} → (X → LineView) → (old new : SessionState X) → Type 0
-Ticks look old new = (b : Beginning) → GoesTick b (seen look old) (seen look new) (FitsInside b look old) (FitsInside b look new)
-
--- the same of what is kept beside the line and the desk's end
-unfoldable pub KeptTicks : (old new : Kept) → Type 0
-KeptTicks old new =
-    (b : Beginning) (l : LineView) (d : DriverView)
-    → GoesTick b (seen_by l (end_of d) old) (seen_by l (end_of d) new) (KeptFits b l d old) (KeptFits b l d new)
+Ticks look old new = GoesTick (seen look old) (seen look new) (λ b. FitsInside b look old) (λ b. FitsInside b look new)
 
 -- the same desk, whose end took these requests more, each of a caller of that desk
 pub record TakesMore (old new : DriverView) : Type 0 where
@@ -126,12 +128,18 @@ pub record TakesMore (old new : DriverView) : Type 0 where
 abbrev pub Ends : {X : Type 0} → (X → LineView) → SessionState X → Leftovers → Type 0
 Ends look s f = (b : Beginning) (past : List Act) → FitsAll b look s past → Finishes (seen look s) past f
 
--- ## Steps of a turn
+-- ## What is kept goes on
 
 -- what is kept goes on by these acts, whatever history it had, over the same line and the same desk's end
 unfoldable pub KeptGoes : (old new : Kept) → List Act → Type 0
 KeptGoes old new acts =
     (b : Beginning) (l : LineView) (d : DriverView) → GoesBy b (seen_by l (end_of d) old) (seen_by l (end_of d) new) (KeptFits b l d old) (KeptFits b l d new) acts
+
+-- a tick of what is kept, by some acts
+pub record KeptTicks (old new : Kept) : Type 0 where
+  pub acts : List Act
+  pub goes : KeptGoes old new acts
+  pub tick : (b : Beginning) (l : LineView) (d : DriverView) (past : List Act) → FitsWith b (seen_by l (end_of d) old) (KeptFits b l d old) past → IsTick (seen_by l (end_of d) old) (seen_by l (end_of d) new) past acts
 
 -- what is kept goes on by a call on the line, without an act
 unfoldable pub KeptMoves : (before later : LineView) → (old new : Kept) → Type 0

@@ -9,12 +9,12 @@ use Rattle.at_text.specs.declared.unsolicited.UrcKind.{UrcKind}
 use Rattle.modem_desk.specs.declared.request.Outcome.{Outcome}
 use Rattle.modem_desk.specs.declared.request.Urc.{Urc}
 use Rattle.modem_desk.specs.Ends.{DriverView}
-use Rattle.modem_history.specs.Sessions.{Beginning, LineView, of_caller}
+use Rattle.modem_history.specs.Sessions.{LineView, of_caller}
 use Rattle.modem_history.specs.Turns.{TurnAnswer, TurnFault, GoesTurn, GoesFault}
 use Rattle.modem_driver.specs.declared.session.error.SessionFault.{SessionFault}
 use Rattle.modem_driver.specs.declared.session.turn.Turn.{Turn}
 use Rattle.modem_driver.specs.Endings.{Begins, KeepsEnd}
-use Rattle.modem_driver.specs.SessionStates.{Kept, KeptLoses, SessionState, FitsInside, seen}
+use Rattle.modem_driver.specs.SessionStates.{Kept, KeptLoses, SessionState, FitsInside, has_lost_line, seen}
 use Rattle.modem_driver.specs.TurnSteps.{Standing, Writes, ReadsOn}
 
 -- a session as its turn sees it
@@ -75,10 +75,10 @@ fault_of SessionFault.Failed = TurnFault.Failed
 -- ## Turns and faults, whatever the session began with
 
 unfoldable pub Turns : {X : Type 0} → (X → LineView) → (old new : SessionState X) → TurnAnswer → Type 0
-Turns look old new says = (b : Beginning) → GoesTurn b (seen look old) (seen look new) (FitsInside b look old) (FitsInside b look new) says
+Turns look old new says = GoesTurn (seen look old) (seen look new) (λ b. FitsInside b look old) (λ b. FitsInside b look new) says
 
 unfoldable pub Faults : {X : Type 0} → (X → LineView) → (old new : SessionState X) → TurnFault → Type 0
-Faults look old new says = (b : Beginning) → GoesFault b (seen look old) (seen look new) (FitsInside b look old) (FitsInside b look new) says
+Faults look old new says = GoesFault (seen look old) (seen look new) (λ b. FitsInside b look old) (λ b. FitsInside b look new) says
 
 -- Whichever way it ends: the line had at most two calls more, the desk's end keeps what it took, and an end that a poll gave stays.
 pub record HasTurned (old new : Standing) : Type 0 where
@@ -93,10 +93,10 @@ HasNoPlace d (TurnAnswer.Blocked kind) = (i : ℕ) → get_elem? d.desk.kinds i 
 HasNoPlace d _ = Unit {0}
 
 -- after a fault other than want of memory the line is lost
-abbrev pub LeavesLost : SessionFault → Kept → Type 0
-LeavesLost SessionFault.NoMemory k = Unit {0}
-LeavesLost SessionFault.Line k = k.core.lost ≡ true
-LeavesLost SessionFault.Failed k = k.core.lost ≡ true
+abbrev pub LeavesLost : {X : Type 0} → SessionFault → SessionState X → Type 0
+LeavesLost SessionFault.NoMemory s = Unit {0}
+LeavesLost SessionFault.Line s = has_lost_line s ≡ true
+LeavesLost SessionFault.Failed s = has_lost_line s ≡ true
 
 -- after a failing call on the line: the line is lost; or there is no memory for it, and nothing changes; or it was lost before
 abbrev pub LosesOr : SessionFault → (old new : Standing) → Type 0

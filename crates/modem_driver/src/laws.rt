@@ -4,19 +4,29 @@ ghost use Rattle.std.specs.List.{list_all, list_any};
 ghost use Rattle.modem_driver.specs.EndingRows.{ends_in, going_rows, stopped_rows, AreNoEndings, IsNoGoing, IsRightEnding, StaysEnded};
 ghost use Rattle.modem_driver.specs.Headline.{IsHeadline, Run};
 ghost use Rattle.modem_driver.specs.HeadlineRows.{AreRight, AreWrong, IsOtherOrder, right_places, wrong_places};
-ghost use Rattle.modem_driver.specs.Replays.{Brought, Replays};
-ghost use Rattle.modem_driver.specs.ReplayRows.{NoReplay, frame_invented, lost_by_itself, one_request, request_dropped, two_requests};
+ghost use Rattle.modem_driver.specs.Replays.{AreFull, Brought, Replays};
+ghost use Rattle.modem_driver.specs.ReplayRows.{NoReplay, NoReplayOfAny, frame_invented, full_frames, half_frames, lost_by_itself, one_request, request_dropped, two_requests};
+ghost use Rattle.modem_driver.specs.Room.{EachBeginsEmpty, FitsEmpty};
 ghost use Rattle.modem_driver.specs.declared.event.Event.{Event};
 ghost use Rattle.modem_history.specs.Acts.{Act};
 
 /// The requests taken, frames got, ticks and losses of a replay are those that its events bring, in their order, and no
-/// others. So no replay loses the line by itself, gets a frame of which no octet came, or drops a request.
-#[tactic(auto, using(crate::proofs::Brought::brought, crate::proofs::Brought::no_loss, crate::proofs::Brought::no_invention, crate::proofs::Brought::no_request_dropped))]
+/// others. So no replay loses the line by itself, gets a frame of which no octet came, or drops a request. Of each command
+/// all data frames but the last have N1 octets of information: a command of 41 octets leaves in frames of 31 and 10, not
+/// of 20 and 21, where N1 is 31. Each call begins where no control frame waits: so nothing is refused for want of room.
+#[tactic(auto, using(crate::proofs::Brought::brought, crate::proofs::Brought::no_loss, crate::proofs::Brought::no_invention, crate::proofs::Brought::no_request_dropped, crate::proofs::FullFrames::full, crate::proofs::FullFrames::no_halves, crate::proofs::Emptied::begin_empty, crate::proofs::Emptied::fits_empty))]
 pub fn replays()
-    ensures brought { (n1 : ℕ) (events : List Event) (acts : List Act) → Replays n1 events acts → Brought n1 events acts }
+    ensures brought { (n1 : ℕ) (events : List Event) (acts : List Act)
+        → Replays n1 events acts → Brought n1 events acts }
     ensures no_loss { NoReplay two_requests lost_by_itself }
     ensures no_invention { NoReplay one_request frame_invented }
     ensures none_dropped { NoReplay two_requests request_dropped }
+    ensures full { (n1 : ℕ) (events : List Event) (acts : List Act)
+        → Replays n1 events acts → AreFull n1 acts }
+    ensures filled { AreFull 31 full_frames }
+    ensures no_halves { NoReplayOfAny half_frames }
+    ensures room { (n1 : ℕ) (events : List Event) (acts : List Act) → EachBeginsEmpty n1 events acts }
+    ensures fits { (n1 : ℕ) → FitsEmpty n1 }
 {}
 
 /// The headline, of every run whose desk was settled with the driver's end that `finish` gave and with all its callers:

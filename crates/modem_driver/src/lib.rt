@@ -21,6 +21,7 @@ mod tick;
 mod took;
 mod written;
 
+pub use at_text::{AnswerLine, CommandLine};
 pub use driver::Core;
 pub use entering::{EntryError, enter};
 pub use error::CoreError;

@@ -2,8 +2,7 @@
 ghost use Rattle.std.specs.Prelude.{◌≡◌, ◌≢◌, ◌↔◌, ◌<◌, ◌⊎◌, [], true, Contains, IfOk, IfErr, IsErr, IsErrOf, OnOk, OnErr};
 ghost use Rattle.std.specs.Borrow.{Lends, sem};
 ghost use Rattle.modem_history.specs.Sessions.{LineView};
-ghost use Rattle.modem_driver.specs.Endings.{KeepsEnd};
-ghost use Rattle.modem_driver.specs.SessionStates.{beginning_of, new_kept, line_by, end_of, FitsAll, KeptFits, Ends, Ticks};
+ghost use Rattle.modem_driver.specs.SessionStates.{beginning_of, has_lost_line, new_kept, line_by, end_of, FitsAll, KeptFits, Ends, KeepsItsEnd, Ticks};
 ghost use Rattle.at_text.specs.declared.unsolicited.UrcKind.{UrcKind};
 ghost use Rattle.modem_driver.specs.declared.session.error.SessionError.TheVariants as why;
 ghost use Rattle.modem_driver.specs.declared.session.error.SessionFault.TheVariants as fault;
@@ -139,9 +138,9 @@ impl<L: SerialLine, R: Wait + Drop> Session<L, R> {
     /// given up. Refusals, which change nothing: 3 Failed where a turn has answered Line; 1 NoMemory.
     pub fn tick(&mut self) -> Result<(), SessionFault>
         ensures ticks { OnOk result (Ticks (line_by L.received L.sent L.calls L.failures) self.old self.new) }
-        ensures ended { KeepsEnd self.old.kept.course self.new.kept.course }
+        ensures ended { KeepsItsEnd self.old self.new }
         ensures err { OnErr result (self.new ≡ self.old) }
-        ensures failed { (result ≡ Err fault.Failed) ↔ (self.old.kept.core.lost ≡ true) }
+        ensures failed { (result ≡ Err fault.Failed) ↔ (has_lost_line self.old ≡ true) }
         ensures not_line { result ≢ Err fault.Line }
     {
         self.kept.tick()?;

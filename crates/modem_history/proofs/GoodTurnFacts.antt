@@ -1,6 +1,6 @@
 -- The rows of right turns, computed.
-use Rattle.std.proofs.Common.{inl, lit≤}
-use Rattle.std.specs.Prelude.{◌≡◌, ◌≢◌, ℕ, List, [], ◌∷◌, ◌++◌, take, drop, refl, Option, Some, None}
+use Rattle.std.proofs.Common.{inl, arith, eqb-true, lit≤}
+use Rattle.std.specs.Prelude.{◌≡◌, ◌≢◌, ℕ, ◌==◌, Bool, true, false, List, [], ◌∷◌, ◌++◌, take, drop, refl, Option, Some, None, if◌then◌else◌}
 use Rattle.mux_frame.specs.Frames.{Frame}
 use Rattle.mux_frame.specs.CheckOctet.{check_octet_of}
 use Rattle.mux_frame.specs.Spelling.{body_of}
@@ -9,12 +9,12 @@ use Rattle.modem_desk.specs.declared.request.Request.{Request}
 use Rattle.modem_desk.specs.declared.request.Answer.TheVariants.{Opened}
 use Rattle.modem_history.specs.Acts.{Act, after}
 use Rattle.modem_history.specs.Kinds.{of_kind}
-use Rattle.modem_history.specs.Sessions.{SessionView, SessionFits, driving}
+use Rattle.modem_history.specs.Sessions.{SessionView, SessionFits, driving, of_caller}
 use Rattle.modem_history.specs.SessionRows.{IsRight, IsRightTurn, beginning, lf_octet, zero_came, one_came, ring_one, creg_one, sabm_zero, last_flag, first_request, outcome_of, ring}
 use Rattle.modem_history.specs.GoodSessions.{left_zero, asked_zero, asked_csq, ring_came}
 use Rattle.modem_history.specs.Rows.{opening_zero}
 use Rattle.modem_history.specs.Turns.{Write, HandsBack}
-use Rattle.modem_history.specs.GoodTurns.{AreRightTurns, at_calls, dealt, offers, outcome_back, lines_back, other_outcome, other_told, both_came, one_waits, two_lines_wait, creg, writes_on, takes_request, gets_frame, places_outcome, writes_nothing, gives_on_in_vain, waits_for_zero, waits_for_one, blocked_by_ring, blocked_by_the_first, idle_at_first, idle_under_way}
+use Rattle.modem_history.specs.GoodTurns.{AreRightTurns, at_calls, dealt, offers, outcome_back, outcomes_back, lines_back, other_outcome, both_outcomes, both_wait, other_told, both_came, one_waits, two_lines_wait, creg, writes_on, takes_request, gets_frame, places_outcome, writes_nothing, gives_on_in_vain, waits_for_zero, waits_for_one, waits_for_both, blocked_by_ring, blocked_by_the_first, idle_at_first, idle_under_way}
 use Rattle.modem_history.proofs.Decided.{good}
 use Rattle.modem_history.proofs.SessionTests.{read_in, fits_none}
 use Rattle.modem_history.proofs.SessionRowFacts.{sabm_queued_right, sabm_half_sent_right, ua_at_hand_right, zero_opened_right, outcome_waits_right, csq_sent_right, ring_waits_right}
@@ -151,6 +151,45 @@ waits_one_right = record {
       });
 }
 
+both_waiting_right : IsRight (record { view = both_wait; acts = other_told })
+unfolding check_octet_of body_of verdict_on by_header by_end
+both_waiting_right = fits_none (record { view = both_wait; acts = other_told }) zero_came last_flag 6 refl refl refl (read_in zero_came refl) (read_in last_flag refl) refl
+
+two_back : (c : ℕ) → of_caller c both_outcomes ≡ take 1 (of_caller c both_outcomes)
+two_back c = by_callers (0 == c) (1 == c) refl refl
+  where
+    by_callers : (a b : Bool) → (0 == c) ≡ a → (1 == c) ≡ b
+        → (if a then outcome_of 1 Opened ∷ (if b then other_outcome ∷ [] else []) else (if b then other_outcome ∷ [] else []))
+        ≡ take 1 (if a then outcome_of 1 Opened ∷ (if b then other_outcome ∷ [] else []) else (if b then other_outcome ∷ [] else []))
+    by_callers true true e h = let same : 0 ≡ c = eqb-true 0 c e in let other : 1 ≡ c = eqb-true 1 c h in let x : ⊥ = omega (arith, same, other) in absurd x
+    by_callers true false e h = refl
+    by_callers false true e h = refl
+    by_callers false false e h = refl
+
+waits_both_right : IsRightTurn waits_for_both (outcomes_back both_outcomes)
+unfolding check_octet_of body_of verdict_on by_header by_end
+waits_both_right = record {
+  fitted = both_waiting_right;
+  fits = still_fits 41 _ (after [] other_told) both_waiting_right;
+  turn = turn_by waits_for_both.old waits_for_both.new (outcomes_back both_outcomes) (after [] waits_for_both.before) waits_for_both.acts waits_for_both.says refl refl refl refl (lit≤ tt)
+      refl (record { outcomes = two_back; lines = λ k. refl }) refl (record {
+        written = refl;
+        outcome = outcome_of 1 Opened;
+        waits = refl;
+        handed_back = refl;
+        least = refl;
+        rest = record {
+          quiet = (good (driving beginning) waits_for_both.before refl refl refl).quiet;
+          sent = refl;
+          nothing_came = record { room = 64; some = lit≤ tt; nothing = refl };
+          fed = refl;
+          all_got = record { octets = zero_came; since = refl; rest = last_flag; reads = read_in zero_came refl };
+          no_request = inl refl;
+          held = none_held waits_for_both.new (after [] waits_for_both.before) refl refl;
+        };
+      });
+}
+
 ring_waits_turn : IsRightTurn blocked_by_ring (lines_back (ring ∷ []))
 unfolding check_octet_of body_of verdict_on by_header by_end
 ring_waits_turn = record {
@@ -257,6 +296,7 @@ are_right = record {
   gives = gives_right;
   waits_zero = waits_zero_right;
   waits_one = waits_one_right;
+  waits_both = waits_both_right;
   ring_waits = ring_waits_turn;
   both_wait = both_wait_right;
   idles = idles_right;

@@ -28,6 +28,7 @@ pub mod Growing
 pub mod PlacedLines
 pub mod PlacedCommands
 pub mod MarksPlaced
+pub mod AllPlaced
 pub mod ConnectionRowFacts
 pub mod WithoutCalls
 pub mod ReadAsSent
@@ -38,6 +39,8 @@ pub mod SessionRowFacts
 pub mod TurnTests
 pub mod GoodTurnFacts
 pub mod BadTurnFacts
+pub mod BadDealingFacts
+pub mod BacklogRowFacts
 pub mod EntryRowFacts
 pub mod FaultRowFacts
 pub mod LineOrder

@@ -76,7 +76,7 @@ gone : (c : Bool) (ms ns xs ys : List Mark) → ms ≡ ns → xs ≡ ys → (if 
 gone true ms ns xs ys h e = ap (λ (v : List Mark). v ++ ys) (sym h) ∙ ap (λ (v : List Mark). ms ++ v) (sym e)
 gone false ms ns xs ys h e = sym h
 
-are_placed : (s : Setting) (past : List Act) → Lawful s past → (d : ℕ) → marks s.role d past ≡ placed s.role d (map line_of (accepted s.role d past)) (wire past)
+pub are_placed : (s : Setting) (past : List Act) → Lawful s past → (d : ℕ) → marks s.role d past ≡ placed s.role d (map line_of (accepted s.role d past)) (wire past)
 unfolding Lawful
 are_placed s [] l d = refl
 are_placed s (Took q ∷ past) l d =

@@ -66,7 +66,7 @@ After cs out = wholly_sent (length out) cs
 still : (r : Role) (d : ℕ) (past : List Act) (a : Act) (cs bs : List (List ℕ)) → is_got a ≡ false → is_sent a ≡ false → bs ≡ After cs (information_sent r d past) → bs ≡ After cs (information_sent r d (a ∷ past))
 still r d past a cs bs g s h = h ∙ ap (After cs) (sym (sent_still r d past a g s))
 
-placed_commands : (r : Role) (d : ℕ) (cs : List (List ℕ)) (past : List Act) → begun_in (placed r d cs past) ≡ After cs (information_sent r d past)
+pub placed_commands : (r : Role) (d : ℕ) (cs : List (List ℕ)) (past : List Act) → begun_in (placed r d cs past) ≡ After cs (information_sent r d past)
 placed_commands r d cs [] = sym (none_whole cs)
 placed_commands r d cs (Got f ∷ past) =
     got_by (opens_now r d past (Got f)) (carries d f && is_open r d past) (placed r d cs past) (information_sent r d past) (lines_ended r d past f) cs (placed_commands r d cs past)

@@ -23,7 +23,7 @@ use Rattle.modem_history.specs.Requests.{are_distinct}
 use Rattle.std.specs.List.{list_all}
 use Rattle.modem_history.specs.Lawful.{Lawful, Complete}
 use Rattle.modem_history.specs.Sessions.{Beginning, SessionView, SessionFits, FitsSent, FitsWith, AreOnce, driving, taken_since, gots, given_on, octets_of_frames, at_place, of_caller}
-use Rattle.modem_history.specs.SessionLaws.{BeginsFitting, GotAreRead, SendsSpellings, HasMarks, TellsOnce, FitsSays, RunsOn, KeepsHistory, untold}
+use Rattle.modem_history.specs.SessionLaws.{BeginsFitting, GotAreRead, SendsSpellings, HasMarks, TellsOnce, FitsSays, RunsOn, KeepsHistory, CallsRunOn, CallsKeepHistory, by_test, untold}
 use Rattle.modem_history.specs.SessionRows.{HasNone, beginning, first_request, opened_zero}
 use Rattle.modem_history.specs.BadSessions.{told_and_kept}
 use Rattle.modem_history.proofs.LineOrder.{gives_in_order}
@@ -182,19 +182,27 @@ once_between b old mid new past xs ys f e h once =
     ∙ ap (λ (qs : List Request). qs ++ ys) (sym (since_more b old mid past xs f e))) in
     (distinct_front (taken_since b mid) ys (sym (ap are_distinct since) ∙ once)).0
 
-pub runs_on : (b : Beginning) (old mid new : SessionView) (first second third : List Act → Type 0) → RunsOn b old mid new first second third
-runs_on b old mid new first second third one other = record {
+pub runs_on : (old mid new : SessionView) (first second third : Beginning → List Act → Type 0) → RunsOn old mid new first second third
+runs_on old mid new first second third one other = record {
   acts = one.acts ++ other.acts;
   more = one.more ++ other.more;
   takes_more = other.takes_more ∙ (ap (λ (qs : List Request). qs ++ other.more) one.takes_more ∙ append_assoc old.desk.taken one.more other.more);
-  goes = λ past once f.
+  goes = λ b past once f.
       let between = once_between b old mid new past one.more other.more f.session one.takes_more other.takes_more once in
-      let there = other.goes (after past one.acts) once (one.goes past between f) in
-      subst (FitsWith b new third) (sym (after_both one.acts other.acts past)) there;
+      let there = other.goes b (after past one.acts) once (one.goes b past between f) in
+      subst (FitsWith b new (third b)) (sym (after_both one.acts other.acts past)) there;
 }
 
-pub keeps_history : (b : Beginning) (old new : SessionView) (core later : List Act → Type 0) → KeepsHistory b old new core later
-keeps_history b old new core later h g once = record { past = after h.past g.acts; fits = g.goes h.past once h.fits }
+pub keeps_history : (b : Beginning) (old new : SessionView) (core later : Beginning → List Act → Type 0) → KeepsHistory b old new core later
+keeps_history b old new core later h g once = record { past = after h.past g.acts; fits = g.goes b h.past once h.fits }
+
+pub calls_run_on : CallsRunOn
+unfolding CallsRunOn
+calls_run_on old mid new first second third = runs_on old mid new (by_test first) (by_test second) (by_test third)
+
+pub calls_keep_history : (b : Beginning) → CallsKeepHistory b
+unfolding CallsKeepHistory
+calls_keep_history b old new core later = keeps_history b old new (by_test core) (by_test later)
 
 -- an outcome that was told and waits again has no history
 pub kept_has_none : HasNone told_and_kept

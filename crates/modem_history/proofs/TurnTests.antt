@@ -62,7 +62,7 @@ last_or_below : (test : ℕ → Bool) (n d : ℕ) (b : Bool) → (d == n) ≡ b 
 last_or_below test n d true e here below small = subst (λ (m : ℕ). test m ≡ true) (sym (eqb-true d n e)) here
 last_or_below test n d false e here below small = let x : d ≢ n = eqb-false d n e in below (omega arith)
 
-holds_below : (test : ℕ → Bool) (n d : ℕ) → all_below test n ≡ true → d < n → test d ≡ true
+pub holds_below : (test : ℕ → Bool) (n d : ℕ) → all_below test n ≡ true → d < n → test d ≡ true
 holds_below test zero d h small = let x : ⊥ = omega arith in absurd x
 holds_below test (suc n) d h small =
     let parts = and_parts (test n) (all_below test n) h in

@@ -1,20 +1,64 @@
 -- Turns that don't mean what they say, whatever they dealt with their line and their desk.
-use Rattle.std.specs.Prelude.{List, [], ◌∷◌, ◌++◌, take, drop, codes, replicate}
+use Rattle.std.specs.Prelude.{ℕ, List, [], ◌∷◌, ◌++◌, Some, None, take, drop, codes, replicate}
+use Rattle.mux_frame.specs.Frames.{Frame}
 use Rattle.mux_frame.specs.declared.frame.Kind.TheVariants.{Sabm, Ua, Uih}
-use Rattle.at_text.specs.declared.unsolicited.UrcKind.TheVariants.{Ring}
+use Rattle.at_text.specs.declared.unsolicited.UrcKind.TheVariants.{Ring, Creg}
+use Rattle.mux_station.specs.declared.role.Role.TheVariants.{Responder}
+use Rattle.mux_station.specs.Written.{written}
 use Rattle.modem_desk.specs.declared.request.Ask.TheVariants.{OpenChannel, Command}
 use Rattle.modem_desk.specs.declared.request.Answer.TheVariants.{Opened, NotOpen}
-use Rattle.modem_history.specs.Acts.{Act, Tick, Lost, Held, Given}
+use Rattle.modem_desk.specs.declared.request.Request.{Request}
+use Rattle.modem_desk.specs.declared.request.Outcome.{Outcome}
+use Rattle.modem_desk.specs.declared.request.Urc.{Urc}
+use Rattle.modem_history.specs.Acts.{Act, Heard, Tick, Lost, Held, Given}
 use Rattle.modem_history.specs.Sessions.{SessionView}
 use Rattle.modem_history.specs.Turns.{TurnAnswer, Moved, WriterFull, Waiting, Blocked, Idle}
-use Rattle.modem_history.specs.Rows.{one, takes, tells, sends, comes, msc, opening_zero, opening_one}
-use Rattle.modem_history.specs.SessionRows.{TurnRow, settled, lf_octet, zero_came, one_came, one_left, sabm_zero, ua_zero, ua_one, first_request, second_request, third_request, opened_zero, opened_both, outcome_of, ring, last_flag}
-use Rattle.modem_history.specs.GoodSessions.{left_zero, asked_zero, ring_came, sabm_queued, sabm_half_sent, ua_unfed, ua_at_hand, zero_opened, outcome_waits, request_aside, ring_waits}
-use Rattle.modem_history.specs.GoodTurns.{at_calls, other_outcome, other_told, one_waits, two_lines_wait, both_came}
+use Rattle.modem_history.specs.Rows.{one, two, takes, tells, sends, comes, msc, framed, opening_zero, opening_one}
+use Rattle.modem_history.specs.SessionRows.{TurnRow, settled, entry_answer, lf_octet, zero_came, one_came, one_left, sabm_zero, ua_zero, ua_one, ring_one, test_command, first_request, second_request, third_request, fourth_request, opened_zero, opened_both, outcome_of, ring, last_flag}
+use Rattle.modem_history.specs.GoodSessions.{left_zero, asked_zero, ring_came, sabm_queued, sabm_half_sent, ua_unfed, ua_at_hand, zero_opened, outcome_waits, request_aside, ring_announced, ring_waits}
+use Rattle.modem_history.specs.GoodTurns.{at_calls, other_told, both_wait, two_lines_wait, both_came}
 
 -- nothing happens but one call on the line
 abbrev pub nothing_but : SessionView → List Act → TurnAnswer → TurnRow
 nothing_but v before says = record { old = v; new = at_calls 41 v; before = before; acts = []; says = says }
+
+-- nothing happens but two calls on the line, and it says that it takes nothing
+abbrev pub offers_in_vain : SessionView → List Act → TurnRow
+offers_in_vain v before = record { old = v; new = at_calls 42 v; before = before; acts = []; says = WriterFull }
+
+-- by one call on the line the one becomes the other, and nothing happens
+abbrev pub goes_to : (old new : SessionView) → List Act → TurnAnswer → TurnRow
+goes_to old new before says = record { old = old; new = at_calls 41 new; before = before; acts = []; says = says }
+
+-- a call on its line failed
+abbrev pub failing : SessionView → SessionView
+failing v = record v { line = record v.line { failures = 1 } }
+
+-- 1 is held, and the MSC that says so left
+abbrev pub held_one : List Act
+held_one = Held 1 ∷ sends Uih 0 (msc 1 0x8f) ∷ Given ∷ []
+
+abbrev pub stop_one : List ℕ
+stop_one = 0xF9 ∷ 0x03 ∷ 0xEF ∷ 0x09 ∷ 0xE3 ∷ 0x05 ∷ 0x07 ∷ 0x8F ∷ 0xFB ∷ 0xF9 ∷ []
+
+-- 0 and 1 are open; these octets came more, and these left; these outcomes were told, and these wait
+abbrev pub with_one : (came left : List ℕ) → (told : List Outcome) → (waits : List Outcome) → SessionView
+with_one came left told waits =
+    record (settled (one_came ++ came) (one_left ++ left) (first_request ∷ second_request ∷ []) told [] [] last_flag) {
+      unplaced = waits;
+    }
+
+-- a session that took these requests more
+abbrev pub asking : List Request → SessionView → SessionView
+asking more v = record v { desk = record v.desk { taken = v.desk.taken ++ more } }
+
+-- where these lines wait
+abbrev pub hearing : List Urc → SessionView → SessionView
+hearing lines v = record v { unannounced = lines }
+
+-- where a frame is at hand
+abbrev pub at_hand : SessionView → (octets : List ℕ) → Frame → SessionView
+at_hand v octets f = record v { deframer = record { n1 = 31; undecided = octets; next = Some f } }
 
 -- ## Idle
 
@@ -58,7 +102,7 @@ abbrev pub command_stays : List Act
 command_stays = opening_one ++ takes 3 (Command one (codes "AT+CSQ")) ∷ []
 
 abbrev pub idle_with_command : TurnRow
-idle_with_command = nothing_but (settled one_came one_left (first_request ∷ second_request ∷ third_request ∷ []) opened_both [] [] last_flag) command_stays Idle
+idle_with_command = nothing_but (asking (third_request ∷ []) (with_one [] [] opened_both [])) command_stays Idle
 
 -- this turn's read gave octets
 abbrev pub idle_after_read : TurnRow
@@ -79,6 +123,34 @@ idle_without_read = record {
   acts = [];
   says = Idle;
 }
+
+-- the outcome that waited was told
+abbrev pub idle_though_told : TurnRow
+idle_though_told = goes_to outcome_waits.view zero_opened.view opening_zero Idle
+
+-- octets were sent
+abbrev pub idle_though_sent : TurnRow
+idle_though_sent = goes_to sabm_half_sent.view (settled lf_octet sabm_zero (first_request ∷ []) [] [] [] []) left_zero Idle
+
+-- a line was announced
+abbrev pub idle_though_announced : TurnRow
+idle_though_announced = goes_to ring_waits.view ring_announced.view ring_came Idle
+
+-- the frame that came was thrown away
+abbrev pub idle_with_lost_frame : TurnRow
+idle_with_lost_frame = nothing_but (settled zero_came sabm_zero (first_request ∷ []) [] [] [] last_flag) left_zero Idle
+
+-- the request that was kept aside was thrown away
+abbrev pub idle_with_lost_request : TurnRow
+idle_with_lost_request = goes_to request_aside.view (record request_aside.view { aside = None }) opening_zero Idle
+
+-- no line waits, and the connection is still held
+abbrev pub idle_and_still_held : TurnRow
+idle_and_still_held = nothing_but (with_one ring_one stop_one opened_both []) (ring_came ++ held_one) Idle
+
+-- a call on the line failed
+abbrev pub idle_and_failed : TurnRow
+idle_and_failed = goes_to zero_opened.view (failing zero_opened.view) opening_zero Idle
 
 -- ## Moved
 
@@ -132,17 +204,84 @@ full_without_read = nothing_but sabm_half_sent.view left_zero WriterFull
 
 -- a frame is at hand that calls for nothing
 abbrev pub full_with_frame : TurnRow
-full_with_frame = record {
-  old = record ua_at_hand.view { unwritten = drop 2 sabm_zero };
-  new = at_calls 42 (record ua_at_hand.view { unwritten = drop 2 sabm_zero });
+full_with_frame = offers_in_vain (record ua_at_hand.view { unwritten = drop 2 sabm_zero }) left_zero
+
+-- octets wait unfed, and no frame is at hand
+abbrev pub full_with_unfed : TurnRow
+full_with_unfed = nothing_but (record ua_unfed.view { unwritten = last_flag }) left_zero WriterFull
+
+-- a Test command is at hand, and its response finds room
+abbrev pub test_frame : Frame
+test_frame = written Responder Uih 0 (0x23 ∷ 5 ∷ 0x41 ∷ 0x42 ∷ [])
+
+abbrev pub test_at_hand : SessionView
+test_at_hand =
+    record (at_hand (settled (zero_came ++ test_command) sabm_zero (first_request ∷ []) opened_zero [] [] []) test_command test_frame) {
+      unwritten = last_flag;
+    }
+
+abbrev pub full_with_test : TurnRow
+full_with_test = offers_in_vain test_at_hand opening_zero
+
+-- the outcome that waited was told
+abbrev pub full_though_told : TurnRow
+full_though_told = record {
+  old = record outcome_waits.view { unwritten = last_flag };
+  new = at_calls 42 (record zero_opened.view { unwritten = last_flag });
+  before = opening_zero;
+  acts = [];
+  says = WriterFull;
+}
+
+-- octets came
+abbrev pub full_though_read : TurnRow
+full_though_read = record {
+  old = sabm_half_sent.view;
+  new = at_calls 42 (record sabm_half_sent.view {
+    line = record { received = entry_answer ++ lf_octet ++ last_flag; sent = sabm_half_sent.view.line.sent; calls = 40; failures = 0 };
+    deframer = record { n1 = 31; undecided = last_flag; next = None };
+  });
   before = left_zero;
   acts = [];
   says = WriterFull;
 }
 
--- octets wait unfed, and no frame is at hand
-abbrev pub full_with_unfed : TurnRow
-full_with_unfed = nothing_but (record ua_unfed.view { unwritten = last_flag }) left_zero WriterFull
+-- a request was taken
+abbrev pub full_though_taken : TurnRow
+full_though_taken = record {
+  old = sabm_half_sent.view;
+  new = at_calls 42 (record sabm_half_sent.view {
+    desk = record sabm_half_sent.view.desk { taken = first_request ∷ second_request ∷ [] };
+    unplaced = outcome_of 2 NotOpen ∷ [];
+  });
+  before = left_zero;
+  acts = takes 2 (OpenChannel one) ∷ tells 2 NotOpen ∷ [];
+  says = WriterFull;
+}
+
+-- a request is kept aside
+abbrev pub full_with_aside : TurnRow
+full_with_aside = offers_in_vain (record request_aside.view { unwritten = last_flag }) opening_zero
+
+-- the request that was kept aside was thrown away
+abbrev pub full_with_lost_request : TurnRow
+full_with_lost_request = record {
+  old = record request_aside.view { unwritten = last_flag };
+  new = at_calls 42 (record request_aside.view { unwritten = last_flag; aside = None });
+  before = opening_zero;
+  acts = [];
+  says = WriterFull;
+}
+
+-- the line didn't take them since it failed
+abbrev pub full_and_failed : TurnRow
+full_and_failed = record {
+  old = sabm_half_sent.view;
+  new = at_calls 42 (failing sabm_half_sent.view);
+  before = left_zero;
+  acts = [];
+  says = WriterFull;
+}
 
 -- ## Waiting
 
@@ -160,11 +299,7 @@ waiting_but_told = record {
 abbrev pub waiting_for_another : TurnRow
 waiting_for_another = nothing_but outcome_waits.view opening_zero (Waiting 1)
 
--- outcomes of both callers wait
-abbrev pub both_wait : SessionView
-both_wait = record one_waits { desk = record one_waits.desk { told = [] ∷ [] ∷ [] }; unplaced = other_outcome ∷ opened_zero }
-
--- and the greater is named
+-- outcomes of both callers wait, and the greater is named
 abbrev pub waiting_for_the_greater : TurnRow
 waiting_for_the_greater = nothing_but both_wait other_told (Waiting 1)
 
@@ -180,6 +315,64 @@ waiting_with_frame = nothing_but (record ua_at_hand.view { unplaced = opened_zer
 abbrev pub waiting_without_read : TurnRow
 waiting_without_read = record { old = outcome_waits.view; new = outcome_waits.view; before = opening_zero; acts = []; says = Waiting 0 }
 
+-- no outcome waits
+abbrev pub waiting_for_none : TurnRow
+waiting_for_none = nothing_but zero_opened.view opening_zero (Waiting 0)
+
+-- the outcome comes of this turn, and its ring wasn't tried
+abbrev pub waiting_untried : TurnRow
+waiting_untried = record {
+  old = ua_at_hand.view;
+  new = at_calls 41 outcome_waits.view;
+  before = left_zero;
+  acts = comes Ua 0 [] ∷ tells 1 Opened ∷ [];
+  says = Waiting 0;
+}
+
+-- 0 is open, and its outcome waits; these octets came, and these requests were taken
+abbrev pub told_late : List ℕ → List Request → SessionView
+told_late came requests = record (settled came sabm_zero requests [] [] [] last_flag) { unplaced = opened_zero }
+
+-- octets of a frame came, and weren't given to the deframer
+abbrev pub waiting_half_unfed : TurnRow
+waiting_half_unfed =
+    nothing_but (record (told_late (zero_came ++ take 3 ua_one) (first_request ∷ [])) { unfed = take 3 ua_one }) opening_zero (Waiting 0)
+
+-- the frame that came was thrown away
+abbrev pub waiting_with_lost_frame : TurnRow
+waiting_with_lost_frame = nothing_but (told_late (zero_came ++ test_command) (first_request ∷ [])) opening_zero (Waiting 0)
+
+-- a frame waits in the control queue, which the outcome holds up
+abbrev pub asked_one : List Act
+asked_one = opening_zero ++ takes 2 (OpenChannel one) ∷ sends Sabm 1 [] ∷ []
+
+abbrev pub waiting_with_queued : TurnRow
+waiting_with_queued = nothing_but (told_late zero_came (first_request ∷ second_request ∷ [])) asked_one (Waiting 0)
+
+-- a command could leave, which the outcome holds up
+abbrev pub waiting_with_command : TurnRow
+waiting_with_command =
+    nothing_but (asking (third_request ∷ []) (with_one [] [] opened_zero (outcome_of 2 Opened ∷ []))) command_stays (Waiting 0)
+
+-- a request is kept aside
+abbrev pub waiting_with_aside : TurnRow
+waiting_with_aside =
+    nothing_but (record (told_late zero_came (first_request ∷ second_request ∷ [])) { aside = Some second_request }) opening_zero (Waiting 0)
+
+-- so many lines wait too that the connection had to be held, and it isn't
+abbrev pub waiting_and_not_held : TurnRow
+waiting_and_not_held =
+    nothing_but (hearing (replicate 256 ring) (with_one ring_one [] opened_zero (outcome_of 2 Opened ∷ []))) ring_came (Waiting 0)
+
+-- no line waits, and the connection is still held
+abbrev pub waiting_and_still_held : TurnRow
+waiting_and_still_held =
+    nothing_but (with_one ring_one stop_one opened_zero (outcome_of 2 Opened ∷ [])) (ring_came ++ held_one) (Waiting 0)
+
+-- a call on the line failed
+abbrev pub waiting_and_failed : TurnRow
+waiting_and_failed = goes_to outcome_waits.view (failing outcome_waits.view) opening_zero (Waiting 0)
+
 -- ## Blocked
 
 -- no line of this kind waits
@@ -193,8 +386,8 @@ blocked_by_a_later = nothing_but two_lines_wait both_came (Blocked Ring)
 -- a command could leave, which the line holds up
 abbrev pub blocked_with_command : TurnRow
 blocked_with_command =
-    nothing_but (record (settled one_came one_left (first_request ∷ second_request ∷ third_request ∷ []) opened_both [] [] last_flag) { unannounced = ring ∷ [] })
-    command_stays (Blocked Ring)
+    nothing_but (hearing (ring ∷ []) (asking (third_request ∷ []) (with_one ring_one [] opened_both [])))
+    (ring_came ++ takes 3 (Command one (codes "AT+CSQ")) ∷ []) (Blocked Ring)
 
 -- so many lines wait that the connection had to be held, and it isn't
 abbrev pub blocked_and_not_held : TurnRow
@@ -202,7 +395,72 @@ blocked_and_not_held = nothing_but (record ring_waits.view { unannounced = repli
 
 -- one line waits, and the connection is still held
 abbrev pub blocked_and_still_held : TurnRow
-blocked_and_still_held = nothing_but ring_waits.view (ring_came ++ Held 1 ∷ sends Uih 0 (msc 1 0x8f) ∷ Given ∷ []) (Blocked Ring)
+blocked_and_still_held =
+    nothing_but (hearing (ring ∷ []) (with_one ring_one stop_one opened_both [])) (ring_came ++ held_one) (Blocked Ring)
+
+-- one of another kind does
+abbrev pub blocked_by_another : TurnRow
+blocked_by_another = nothing_but ring_waits.view ring_came (Blocked Creg)
+
+-- the listener's ring took the line
+abbrev pub blocked_though_announced : TurnRow
+blocked_though_announced = goes_to ring_waits.view ring_announced.view ring_came (Blocked Ring)
+
+-- the line comes of this turn, and its ring wasn't tried
+abbrev pub ring_frame : Frame
+ring_frame = written Responder Uih 1 (framed (codes "RING"))
+
+abbrev pub ring_at_hand : SessionView
+ring_at_hand = at_hand (with_one ring_one [] opened_both []) ring_one ring_frame
+
+abbrev pub blocked_untried : TurnRow
+blocked_untried = record {
+  old = ring_at_hand;
+  new = at_calls 41 ring_waits.view;
+  before = opening_one;
+  acts = comes Uih 1 (framed (codes "RING")) ∷ Heard Ring 1 (codes "RING") ∷ [];
+  says = Blocked Ring;
+}
+
+-- octets wait too
+abbrev pub blocked_with_unsent : TurnRow
+blocked_with_unsent = nothing_but (record ring_waits.view { unwritten = last_flag }) ring_came (Blocked Ring)
+
+-- an outcome waits too
+abbrev pub blocked_with_outcome : TurnRow
+blocked_with_outcome =
+    nothing_but (hearing (ring ∷ []) (with_one ring_one [] opened_zero (outcome_of 2 Opened ∷ []))) ring_came (Blocked Ring)
+
+-- a frame is at hand, which the line holds up
+abbrev pub blocked_with_frame : TurnRow
+blocked_with_frame =
+    nothing_but (hearing (ring ∷ []) (at_hand (with_one (ring_one ++ ring_one) [] opened_both []) ring_one ring_frame)) ring_came
+    (Blocked Ring)
+
+-- octets of a frame came, and weren't given to the deframer
+abbrev pub blocked_half_unfed : TurnRow
+blocked_half_unfed =
+    nothing_but (record (with_one (ring_one ++ take 3 ring_one) [] opened_both []) { unfed = take 3 ring_one; unannounced = ring ∷ [] })
+    ring_came (Blocked Ring)
+
+-- the line was not read
+abbrev pub blocked_without_read : TurnRow
+blocked_without_read = record { old = ring_waits.view; new = ring_waits.view; before = ring_came; acts = []; says = Blocked Ring }
+
+-- a frame waits in the control queue, which the line holds up
+abbrev pub blocked_with_queued : TurnRow
+blocked_with_queued =
+    nothing_but (asking (fourth_request ∷ []) ring_waits.view) (ring_came ++ takes 4 (OpenChannel two) ∷ sends Sabm 2 [] ∷ [])
+    (Blocked Ring)
+
+-- a request is kept aside
+abbrev pub blocked_with_aside : TurnRow
+blocked_with_aside =
+    nothing_but (record (asking (third_request ∷ []) ring_waits.view) { aside = Some third_request }) ring_came (Blocked Ring)
+
+-- a call on the line failed
+abbrev pub blocked_and_failed : TurnRow
+blocked_and_failed = goes_to ring_waits.view (failing ring_waits.view) ring_came (Blocked Ring)
 
 -- ## Acts of a turn
 
@@ -332,10 +590,17 @@ moved_with_aside = record {
 abbrev pub wrong_turns : List TurnRow
 wrong_turns =
     idle_with_frame ∷ idle_with_unfed ∷ idle_half_unfed ∷ idle_with_unsent ∷ idle_with_queued ∷ idle_with_aside ∷
-    idle_with_outcome ∷ idle_with_line ∷ idle_with_command ∷ idle_after_read ∷ idle_without_read ∷ moved_by_nothing ∷
-    moved_by_a_mark ∷ unfed_grows ∷ full_unoffered ∷ full_but_taken ∷ full_of_nothing ∷ full_without_read ∷
-    full_with_frame ∷ full_with_unfed ∷ waiting_but_told ∷ waiting_for_another ∷ waiting_for_the_greater ∷
-    waiting_with_unsent ∷ waiting_with_frame ∷ waiting_without_read ∷ blocked_by_none ∷ blocked_by_a_later ∷
-    blocked_with_command ∷ blocked_and_not_held ∷ blocked_and_still_held ∷ tick_in_a_turn ∷ loss_in_a_turn ∷
-    failed_and_moved ∷ three_calls ∷ read_twice ∷ read_while_unfed ∷ two_frames ∷ aside_and_another ∷ two_requests ∷
-    told_at_once ∷ held_too_early ∷ moved_with_aside ∷ []
+    idle_with_outcome ∷ idle_with_line ∷ idle_with_command ∷ idle_after_read ∷ idle_without_read ∷
+    idle_though_told ∷ idle_though_sent ∷ idle_though_announced ∷ idle_with_lost_frame ∷ idle_with_lost_request ∷
+    idle_and_still_held ∷ idle_and_failed ∷ moved_by_nothing ∷ moved_by_a_mark ∷ unfed_grows ∷ full_unoffered ∷
+    full_but_taken ∷ full_of_nothing ∷ full_without_read ∷ full_with_frame ∷ full_with_unfed ∷ full_with_test ∷
+    full_though_told ∷ full_though_read ∷ full_though_taken ∷ full_with_aside ∷ full_with_lost_request ∷
+    full_and_failed ∷ waiting_but_told ∷ waiting_for_another ∷ waiting_for_the_greater ∷ waiting_with_unsent ∷
+    waiting_with_frame ∷ waiting_without_read ∷ waiting_for_none ∷ waiting_untried ∷ waiting_half_unfed ∷
+    waiting_with_lost_frame ∷ waiting_with_queued ∷ waiting_with_command ∷ waiting_with_aside ∷
+    waiting_and_not_held ∷ waiting_and_still_held ∷ waiting_and_failed ∷ blocked_by_none ∷ blocked_by_a_later ∷
+    blocked_with_command ∷ blocked_and_not_held ∷ blocked_and_still_held ∷ blocked_by_another ∷
+    blocked_though_announced ∷ blocked_untried ∷ blocked_with_unsent ∷ blocked_with_outcome ∷ blocked_with_frame ∷
+    blocked_half_unfed ∷ blocked_without_read ∷ blocked_with_queued ∷ blocked_with_aside ∷ blocked_and_failed ∷
+    tick_in_a_turn ∷ loss_in_a_turn ∷ failed_and_moved ∷ three_calls ∷ read_twice ∷ read_while_unfed ∷ two_frames ∷
+    aside_and_another ∷ two_requests ∷ told_at_once ∷ held_too_early ∷ moved_with_aside ∷ []

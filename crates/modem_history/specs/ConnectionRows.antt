@@ -6,7 +6,7 @@ use Rattle.mux_station.specs.declared.role.Role.TheVariants.{Initiator, Responde
 use Rattle.mux_station.specs.Written.{written}
 use Rattle.mux_station.specs.Acts.{Act, Got, Sent}
 use Rattle.at_text.specs.Windows.{Line, Begun}
-use Rattle.modem_history.specs.Connections.{all_information_got, lines_got, placed}
+use Rattle.modem_history.specs.Connections.{all_information_got, all_placed, lines_got, placed}
 use Rattle.modem_history.specs.Rows.{cr, framed}
 
 -- the past of acts, of which the first comes first
@@ -72,3 +72,10 @@ at_a_driver_again =
 
 abbrev pub PlacedAgain : Type 0
 PlacedAgain = placed Initiator 1 (codes "ATZ" ∷ []) (past_of [] at_a_driver_again) ≡ Begun (codes "ATZ") ∷ []
+
+-- before 1 opened first, in its first opening and in its second
+abbrev pub PlacedByOpenings : Type 0
+PlacedByOpenings =
+    all_placed Initiator 1 ([] ∷ (codes "AT+CSQ" ∷ codes "ATI" ∷ []) ∷ (codes "ATZ" ∷ []) ∷ []) (past_of [] at_a_driver_again)
+    ≡ [] ∷ (Begun (codes "AT+CSQ") ∷ Line (codes "RING") ∷ Line (codes "+CSQ: 18,99") ∷ Line (codes "OK") ∷
+    Begun (codes "ATI") ∷ Line (codes "OK") ∷ []) ∷ (Begun (codes "ATZ") ∷ []) ∷ []

@@ -1,7 +1,7 @@
 -- What comes and goes on a connection, over the acts at an end of the line: its information, and its lines and commands,
 -- each at its place (27.010, 5.4; V.250, 5.2.1, 5.7). It needs no requests: a modem has the same.
 use Rattle.std.specs.Prelude.{◌≡◌, ℕ, ◌+◌, ◌-◌, ◌==◌, ◌&&◌, not, nat_le, nat_lt, Bool, List, [], ◌∷◌, ◌++◌, length, take, drop, map, filter_map, Some, None, if◌then◌else◌}
-use Rattle.std.specs.List.{flat_map}
+use Rattle.std.specs.List.{flat_map, zip}
 use Rattle.mux_frame.specs.Frames.{Frame}
 use Rattle.mux_frame.specs.declared.frame.Kind.TheVariants.{Uih}
 use Rattle.mux_station.specs.declared.role.Role.{Role}
@@ -127,6 +127,21 @@ placed r d commands (Sent f ∷ past) =
     else placed r d commands past
 placed r d commands (_ ∷ past) = placed r d commands past
 
+-- the past at the end of each opening of d but the last, in turn; a connection opens at a frame that comes
+abbrev pub earlier_pasts : Role → ℕ → List Act → List (List Act)
+earlier_pasts r d [] = []
+earlier_pasts r d (Got f ∷ past) = earlier_pasts r d past ++ (if opens_now r d past (Got f) then past ∷ [] else [])
+earlier_pasts r d (_ ∷ past) = earlier_pasts r d past
+
+-- what is placed at each of these pasts, where the commands beside it go out
+abbrev pub placed_at : Role → ℕ → List (List (List ℕ)) → (pasts : List (List Act)) → List (List Mark)
+placed_at r d commands pasts = map (λ (p : List (List ℕ) × List Act). placed r d p.0 p.1) (zip commands pasts)
+
+-- what is placed on d in each of its openings, in turn, where these commands go out on it in each of them; before the
+-- first there is nothing
+abbrev pub all_placed : Role → ℕ → (commands : List (List (List ℕ))) → List Act → List (List Mark)
+all_placed r d commands past = placed_at r d commands (earlier_pasts r d past ++ past ∷ [])
+
 -- ## Laws
 
 -- the commands that began, in order
@@ -145,6 +160,17 @@ pub record IsPlaced (r : Role) (d : ℕ) (commands : List (List ℕ)) (past : Li
 
 unfoldable pub PlacesAll : Role → List Act → Type 0
 PlacesAll r past = (d : ℕ) (commands : List (List ℕ)) → IsPlaced r d commands past
+
+-- and so in each opening: its lines, and of the commands beside it those that are wholly sent
+pub record ArePlacedInEach (r : Role) (d : ℕ) (commands : List (List (List ℕ))) (past : List Act) : Type 0 where
+  pub lines_are : map lines_of (all_placed r d commands past) ≡ map lines (all_information_got r d past)
+  pub commands_are : map begun_in (all_placed r d commands past)
+      ≡ map (λ (p : List (List ℕ) × List ℕ). wholly_sent (length p.1) p.0) (zip commands (all_information_sent r d past))
+
+unfoldable pub PlacesEach : Role → List Act → Type 0
+PlacesEach r past =
+    (d : ℕ) (commands : List (List (List ℕ))) → length commands ≡ length (openings r d past)
+    → ArePlacedInEach r d commands past
 
 -- all this is said alike where the calls of a station's user stand among the acts and where they don't
 pub record IsSaidAlike (r : Role) (past : List Act) : Type 0 where

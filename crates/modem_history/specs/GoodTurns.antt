@@ -143,6 +143,16 @@ one_waits = record (settled zero_came sabm_zero (first_request ∷ other_request
 abbrev pub waits_for_one : TurnRow
 waits_for_one = record { old = one_waits; new = at_calls 41 one_waits; before = other_told; acts = []; says = Waiting 1 }
 
+-- those of both find none, and the lesser caller is named
+abbrev pub both_outcomes : List Outcome
+both_outcomes = outcome_of 1 Opened ∷ other_outcome ∷ []
+
+abbrev pub both_wait : SessionView
+both_wait = record one_waits { desk = record one_waits.desk { told = [] ∷ [] ∷ [] }; unplaced = both_outcomes }
+
+abbrev pub waits_for_both : TurnRow
+waits_for_both = record { old = both_wait; new = at_calls 41 both_wait; before = other_told; acts = []; says = Waiting 0 }
+
 -- ## Blocked
 
 -- RING finds no place
@@ -187,8 +197,11 @@ abbrev pub idle_under_way : TurnRow
 idle_under_way = record { old = csq_sent.view; new = at_calls 41 csq_sent.view; before = asked_csq; acts = []; says = Idle }
 
 -- by these dealings
+abbrev pub outcomes_back : List Outcome → Dealings
+outcomes_back os = record (dealt None None) { still_told = os; told_back = os }
+
 abbrev pub outcome_back : Outcome → Dealings
-outcome_back o = record (dealt None None) { still_told = o ∷ []; told_back = o ∷ [] }
+outcome_back o = outcomes_back (o ∷ [])
 
 abbrev pub lines_back : List Urc → Dealings
 lines_back lines = record (dealt None None) { still_heard = lines; heard_back = lines }
@@ -203,6 +216,7 @@ pub record AreRightTurns : Type 0 where
   pub gives : IsRightTurn gives_on_in_vain (dealt (offers sabm_zero 0) None)
   pub waits_zero : IsRightTurn waits_for_zero (outcome_back (outcome_of 1 Opened))
   pub waits_one : IsRightTurn waits_for_one (outcome_back other_outcome)
+  pub waits_both : IsRightTurn waits_for_both (outcomes_back both_outcomes)
   pub ring_waits : IsRightTurn blocked_by_ring (lines_back (ring ∷ []))
   pub both_wait : IsRightTurn blocked_by_the_first (lines_back (creg ∷ ring ∷ []))
   pub idles : IsRightTurn idle_at_first (dealt None None)

@@ -6,7 +6,7 @@ use Rattle.mux_station.specs.Opening.{is_open, opens_now}
 use Rattle.modem_desk.specs.declared.request.Ask.{Ask}
 use Rattle.modem_desk.specs.declared.request.Ask.TheVariants.{Command}
 use Rattle.modem_desk.specs.declared.request.Request.{Request}
-use Rattle.modem_history.specs.Acts.{Act, Took, wire_act, wire, in_hand}
+use Rattle.modem_history.specs.Acts.{Act, Took, Got, wire_act, wire, in_hand}
 use Rattle.modem_history.specs.Connections.{information_got, information_sent}
 pub use Rattle.modem_history.specs.Connections.{carries, info_of, info_got, info_sent}
 
@@ -40,6 +40,16 @@ accepted r d [] = []
 accepted r d (Took q ∷ past) = if is_accepted r d past q then accepted r d past ++ q ∷ [] else accepted r d past
 accepted r d (a ∷ past) = if opens_here r d past a then [] else accepted r d past
 
+-- those that were accepted in each of its openings, in turn; before the first there are none
+abbrev pub earlier_accepted : Role → ℕ → List Act → List (List Request)
+earlier_accepted r d [] = []
+earlier_accepted r d (Got f ∷ past) =
+    earlier_accepted r d past ++ (if opens_here r d past (Got f) then accepted r d past ∷ [] else [])
+earlier_accepted r d (_ ∷ past) = earlier_accepted r d past
+
+abbrev pub all_accepted : Role → ℕ → List Act → List (List Request)
+all_accepted r d past = earlier_accepted r d past ++ accepted r d past ∷ []
+
 abbrev pub line_in : Ask → List ℕ
 line_in (Command d line) = line
 line_in _ = []
@@ -47,6 +57,9 @@ line_in _ = []
 -- the text of the command
 abbrev pub line_of : Request → List ℕ
 line_of q = line_in q.ask
+
+abbrev pub lines_by_opening : List (List Request) → List (List (List ℕ))
+lines_by_opening qss = map (λ (qs : List Request). map line_of qs) qss
 
 -- commands as they go out: each its text and CR
 abbrev pub texts : List Request → List (List ℕ)

@@ -24,6 +24,8 @@ pub mod GoodSessions
 pub mod BadSessions
 pub mod GoodTurns
 pub mod BadTurns
+pub mod BadDealings
+pub mod BacklogRows
 pub mod EntryRows
 pub mod FinishRows
 pub mod FaultRows

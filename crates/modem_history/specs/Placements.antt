@@ -5,8 +5,8 @@ use Rattle.at_text.specs.Lines.{lines}
 use Rattle.at_text.specs.Windows.{lines_of}
 use Rattle.at_text.specs.Commands.{refusal_of}
 use Rattle.modem_history.specs.Acts.{Act, wire}
-use Rattle.modem_history.specs.Connections.{lines_got, lines_on, placed, with_cr, wholly_sent}
-use Rattle.modem_history.specs.Information.{accepted, line_of, information_out}
+use Rattle.modem_history.specs.Connections.{lines_got, lines_on, placed, all_placed, with_cr, wholly_sent}
+use Rattle.modem_history.specs.Information.{accepted, all_accepted, line_of, lines_by_opening, information_out}
 use Rattle.modem_history.specs.Placing.{marks, whole_after}
 use Rattle.modem_history.specs.Calls.{Setting}
 use Rattle.modem_history.specs.Wholes.{IsPrefixOf}
@@ -16,6 +16,11 @@ use Rattle.modem_history.specs.Hearing.{all_marks}
 unfoldable pub AreMarksPlaced : Setting → List Act → Type 0
 AreMarksPlaced s past =
     (d : ℕ) → marks s.role d past ≡ placed s.role d (map line_of (accepted s.role d past)) (wire past)
+
+-- and so they are in each of its openings
+unfoldable pub AreAllMarksPlaced : Setting → List Act → Type 0
+AreAllMarksPlaced s past =
+    (d : ℕ) → all_marks s.role d past ≡ all_placed s.role d (lines_by_opening (all_accepted s.role d past)) (wire past)
 
 -- the lines that are placed on d in all its openings are its lines among those of all connections
 unfoldable pub HaveMarksAllLines : Setting → List Act → Type 0

@@ -1,5 +1,5 @@
 -- What it says of a session that it fits a history.
-use Rattle.std.specs.Prelude.{◌≡◌, ℕ, not, false, List, [], ◌++◌, filter, None, length, ◌≤◌}
+use Rattle.std.specs.Prelude.{◌≡◌, ℕ, not, Bool, true, false, List, [], ◌++◌, filter, None, length, ◌≤◌}
 use Rattle.std.specs.List.{list_any}
 use Rattle.mux_frame.specs.Frames.{Frame}
 use Rattle.mux_frame.specs.Reading.{Reads}
@@ -93,9 +93,23 @@ FitsSays b v past = SessionFits b v past → Says b v past
 -- ## Calls
 
 -- one call after another is as one call
-abbrev pub RunsOn : Beginning → (old mid new : SessionView) → (first second third : List Act → Type 0) → Type 0
-RunsOn b old mid new first second third = Goes b old mid first second → Goes b mid new second third → Goes b old new first third
+abbrev pub RunsOn : (old mid new : SessionView) → (first second third : Beginning → List Act → Type 0) → Type 0
+RunsOn old mid new first second third = Goes old mid first second → Goes mid new second third → Goes old new first third
 
 -- what had a history has one after a call, where no caller used a number twice
-abbrev pub KeepsHistory : Beginning → (old new : SessionView) → (core later : List Act → Type 0) → Type 0
-KeepsHistory b old new core later = HasHistory b old core → Goes b old new core later → AreOnce b new → HasHistory b new later
+abbrev pub KeepsHistory : Beginning → (old new : SessionView) → (core later : Beginning → List Act → Type 0) → Type 0
+KeepsHistory b old new core later = HasHistory b old (core b) → Goes old new core later → AreOnce b new → HasHistory b new (later b)
+
+-- the histories that a core fits, by a test of them: a clause can speak of all tests, but not of all types
+abbrev pub by_test : (Beginning → List Act → Bool) → Beginning → List Act → Type 0
+by_test test b past = test b past ≡ true
+
+unfoldable pub CallsRunOn : Type 0
+CallsRunOn =
+    (old mid new : SessionView) (first second third : Beginning → List Act → Bool)
+    → RunsOn old mid new (by_test first) (by_test second) (by_test third)
+
+unfoldable pub CallsKeepHistory : Beginning → Type 0
+CallsKeepHistory b =
+    (old new : SessionView) (core later : Beginning → List Act → Bool)
+    → KeepsHistory b old new (by_test core) (by_test later)

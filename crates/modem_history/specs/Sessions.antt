@@ -226,12 +226,13 @@ pub record HasHistory (b : Beginning) (v : SessionView) (core : List Act → Typ
 abbrev pub GoesBy : Beginning → (old new : SessionView) → (core later : List Act → Type 0) → List Act → Type 0
 GoesBy b old new core later acts = (past : List Act) → AreOnce b new → FitsWith b old core past → FitsWith b new later (after past acts)
 
--- a call led from the one to the other by some acts, the same whatever history it had, and took these requests more
-pub record Goes (b : Beginning) (old new : SessionView) (core later : List Act → Type 0) : Type 0 where
+-- a call led from the one to the other by some acts, the same whatever it began with and whatever history it had, and took
+-- these requests more
+pub record Goes (old new : SessionView) (core later : Beginning → List Act → Type 0) : Type 0 where
   pub acts : List Act
   pub more : List Request
   pub takes_more : new.desk.taken ≡ old.desk.taken ++ more
-  pub goes : GoesBy b old new core later acts
+  pub goes : (b : Beginning) → GoesBy b old new (core b) (later b) acts
 
 -- ## Backlogs
 

@@ -255,12 +255,13 @@ pub record IsTurn (b : Beginning) (old new : SessionView) (t : Dealings) (past a
   pub none_aside : new.aside ≡ None
   pub means : Means b new t (after past acts) says
 
--- a turn: some acts and dealings, the same whatever history the session had, by which it ends in this answer
-pub record GoesTurn (b : Beginning) (old new : SessionView) (core later : List Act → Type 0) (says : TurnAnswer) : Type 0 where
+-- a turn: some acts and dealings, the same whatever the session began with and whatever history it had, by which it ends
+-- in this answer
+pub record GoesTurn (old new : SessionView) (core later : Beginning → List Act → Type 0) (says : TurnAnswer) : Type 0 where
   pub acts : List Act
   pub dealings : Dealings
-  pub goes : GoesBy b old new core later acts
-  pub turn : (past : List Act) → AreOnce b new → FitsWith b old core past → IsTurn b old new dealings past acts says
+  pub goes : (b : Beginning) → GoesBy b old new (core b) (later b) acts
+  pub turn : (b : Beginning) (past : List Act) → AreOnce b new → FitsWith b old (core b) past → IsTurn b old new dealings past acts says
 
 -- ## Faults
 
@@ -317,11 +318,11 @@ pub record IsFault (b : Beginning) (old new : SessionView) (t : Dealings) (past 
   pub means : FaultMeans b old new past acts says
 
 -- a turn by which it ends in this fault
-pub record GoesFault (b : Beginning) (old new : SessionView) (core later : List Act → Type 0) (says : TurnFault) : Type 0 where
+pub record GoesFault (old new : SessionView) (core later : Beginning → List Act → Type 0) (says : TurnFault) : Type 0 where
   pub acts : List Act
   pub dealings : Dealings
-  pub goes : GoesBy b old new core later acts
-  pub fault : (past : List Act) → AreOnce b new → FitsWith b old core past → IsFault b old new dealings past acts says
+  pub goes : (b : Beginning) → GoesBy b old new (core b) (later b) acts
+  pub fault : (b : Beginning) (past : List Act) → AreOnce b new → FitsWith b old (core b) past → IsFault b old new dealings past acts says
 
 -- ## Ticks
 
@@ -336,8 +337,8 @@ pub record IsTick (old new : SessionView) (past acts : List Act) : Type 0 where
   pub aside_stays : new.aside ≡ old.aside
   pub unfed_stay : new.unfed ≡ old.unfed
 
--- a tick, whatever history the session had
-pub record GoesTick (b : Beginning) (old new : SessionView) (core later : List Act → Type 0) : Type 0 where
+-- a tick by some acts, the same whatever the session began with and whatever history it had
+pub record GoesTick (old new : SessionView) (core later : Beginning → List Act → Type 0) : Type 0 where
   pub acts : List Act
-  pub goes : GoesBy b old new core later acts
-  pub tick : (past : List Act) → FitsWith b old core past → IsTick old new past acts
+  pub goes : (b : Beginning) → GoesBy b old new (core b) (later b) acts
+  pub tick : (b : Beginning) (past : List Act) → FitsWith b old (core b) past → IsTick old new past acts

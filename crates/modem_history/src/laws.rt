@@ -8,20 +8,22 @@ ghost use Rattle.modem_history.specs.Lawful.{Lawful};
 ghost use Rattle.modem_history.specs.BadRows.{NotItsOwn, refused_rows, incomplete_rows, unquiet_rows};
 ghost use Rattle.modem_history.specs.GoodRows.{good_rows};
 ghost use Rattle.modem_history.specs.Sessions.{Beginning, SessionView};
-ghost use Rattle.modem_history.specs.SessionLaws.{BeginsFitting, FitsSays};
+ghost use Rattle.modem_history.specs.SessionLaws.{BeginsFitting, CallsKeepHistory, CallsRunOn, FitsSays};
 ghost use Rattle.modem_history.specs.SessionRows.{Each, HasNone, IsRight, IsWrong, IsWrongTurn};
 ghost use Rattle.modem_history.specs.GoodTurns.{AreRightTurns};
 ghost use Rattle.modem_history.specs.BadTurns.{wrong_turns};
+ghost use Rattle.modem_history.specs.BadDealings.{IsWronglyDealt, wrongly_dealt};
+ghost use Rattle.modem_history.specs.BacklogRows.{CountsByConnection, IsHeldRight, IsHeldWrong, MayHoldAndFree, rightly_held, wrongly_held};
 ghost use Rattle.modem_history.specs.FaultRows.{AreRightFaults, IsRightTick, IsWrongFault, IsWrongTick, right_ticks, wrong_faults, wrong_ticks};
 ghost use Rattle.modem_history.specs.EntryRows.{IsRightEntry, IsWrongEntry, right_entries, wrong_entries};
 ghost use Rattle.modem_history.specs.FinishRows.{IsRightEnd, IsWrongEnd, right_ends, wrong_ends};
 ghost use Rattle.modem_history.specs.GoodSessions.{right_sessions};
 ghost use Rattle.modem_history.specs.BadSessions.{told_and_kept, wrong_sessions};
 ghost use Rattle.modem_history.specs.Rows.{AllAre, IsGood, IsIncomplete, IsRefused, IsUnquiet};
-ghost use Rattle.modem_history.specs.ConnectionRows.{CommandsAmongLines, InformationByOpenings, LinesInOrder, PlacedAgain};
-ghost use Rattle.modem_history.specs.Connections.{HasAllLines, NeedsNoCalls, PlacesAll};
+ghost use Rattle.modem_history.specs.ConnectionRows.{CommandsAmongLines, InformationByOpenings, LinesInOrder, PlacedAgain, PlacedByOpenings};
+ghost use Rattle.modem_history.specs.Connections.{HasAllLines, NeedsNoCalls, PlacesAll, PlacesEach};
 ghost use Rattle.modem_history.specs.HearingRows.{RingsOnce};
-ghost use Rattle.modem_history.specs.Placements.{AreMarksPlaced, AreReadAsSent, HaveMarksAllLines, ReadsAccepted};
+ghost use Rattle.modem_history.specs.Placements.{AreAllMarksPlaced, AreMarksPlaced, AreReadAsSent, HaveMarksAllLines, ReadsAccepted};
 ghost use Rattle.modem_history.specs.Hearing.{HearsAll, HearsInOrder};
 ghost use Rattle.modem_history.specs.TwoEnds.{ReadsInOrder};
 ghost use Rattle.modem_history.specs.Wholes.{AnswersOnce, BeginsInTurn, CallGoesOn, IsBeginning, LeavesOnce, NoneAfterLoss, StaysInStep, TellsAnswers, TellsOwn};
@@ -62,15 +64,18 @@ pub fn hearings()
 {}
 
 /// At either end of the line the lines of a connection, among those of all in the order in which they end, are the lines
-/// of its information over all its openings in turn; and what is placed on it since it opened are the lines of what came
-/// and the commands that are wholly sent. The calls of a station's user change nothing of it. A history's own places are
-/// these, read off its frames and the commands that it accepted, and over all openings they have all lines.
-#[tactic(auto, using(crate::proofs::PlacedLines::has_all_lines, crate::proofs::PlacedCommands::places_all, crate::proofs::WithoutCalls::needs_no_calls, crate::proofs::MarksPlaced::are_marks_placed, crate::proofs::MarksPlaced::have_marks_all_lines))]
+/// of its information over all its openings in turn; and what is placed on it since it opened, and in each opening before,
+/// are the lines of what came and the commands that are wholly sent. The calls of a station's user change nothing of it.
+/// A history's own places are these, read off its frames and the commands that it accepted, in each opening; and over all
+/// openings they have all lines.
+#[tactic(auto, using(crate::proofs::PlacedLines::has_all_lines, crate::proofs::PlacedCommands::places_all, crate::proofs::AllPlaced::places_each, crate::proofs::WithoutCalls::needs_no_calls, crate::proofs::MarksPlaced::are_marks_placed, crate::proofs::AllPlaced::are_all_marks_placed, crate::proofs::MarksPlaced::have_marks_all_lines))]
 pub fn connections()
     ensures lines { (r : Role) (past : List WireAct) → HasAllLines r past }
     ensures places { (r : Role) (past : List WireAct) → PlacesAll r past }
+    ensures each { (r : Role) (past : List WireAct) → PlacesEach r past }
     ensures calls { (r : Role) (past : List WireAct) → NeedsNoCalls r past }
     ensures marks { (s : Setting) (past : List Act) → Lawful s past → AreMarksPlaced s past }
+    ensures openings { (s : Setting) (past : List Act) → Lawful s past → AreAllMarksPlaced s past }
     ensures all { (s : Setting) (past : List Act) → HaveMarksAllLines s past }
 {}
 
@@ -104,34 +109,39 @@ pub fn worked_examples()
 
 /// Worked examples of lines and commands on two connections, and of what is heard over two openings, computed by the
 /// definitions.
-#[tactic(auto, using(crate::proofs::ConnectionRowFacts::lines_in_order, crate::proofs::ConnectionRowFacts::information_by_openings, crate::proofs::ConnectionRowFacts::commands_among_lines, crate::proofs::ConnectionRowFacts::placed_again, crate::proofs::ConnectionRowFacts::rings_once))]
+#[tactic(auto, using(crate::proofs::ConnectionRowFacts::lines_in_order, crate::proofs::ConnectionRowFacts::information_by_openings, crate::proofs::ConnectionRowFacts::commands_among_lines, crate::proofs::ConnectionRowFacts::placed_again, crate::proofs::ConnectionRowFacts::placed_by_openings, crate::proofs::ConnectionRowFacts::rings_once))]
 pub fn worked_connections()
     ensures lines { LinesInOrder }
     ensures information { InformationByOpenings }
     ensures commands { CommandsAmongLines }
     ensures again { PlacedAgain }
+    ensures openings { PlacedByOpenings }
     ensures heard { RingsOnce }
 {}
 
 /// A new session fits the empty history. Of every session and each history that it fits: the frames got are the first
 /// that are read in the octets received since it began; the octets sent are the first of the spellings of the frames
 /// sent, in order; those frames that are wholly among them were given on; the requests in hand are those taken and not
-/// told; and no caller is told an outcome twice.
-#[tactic(auto, using(crate::proofs::SessionLawFacts::begins_fitting, crate::proofs::SessionLawFacts::fits_says))]
+/// told; and no caller is told an outcome twice. One call after another is as one call, and what had a history has one
+/// after a call, where no caller used a number twice.
+#[tactic(auto, using(crate::proofs::SessionLawFacts::begins_fitting, crate::proofs::SessionLawFacts::fits_says, crate::proofs::SessionLawFacts::calls_run_on, crate::proofs::SessionLawFacts::calls_keep_history))]
 pub fn sessions()
     ensures begins { (b : Beginning) → BeginsFitting b }
     ensures says { (b : Beginning) (v : SessionView) (past : List Act) → FitsSays b v past }
+    ensures runs { CallsRunOn }
+    ensures keeps { (b : Beginning) → CallsKeepHistory b }
 {}
 
 /// Worked sessions, turns, faults, ticks, entries and ends, computed by the definitions: those of a right driver, and
-/// those that don't fit what happened or don't mean what they say.
-#[tactic(auto, using(crate::proofs::SessionRowFacts::all_right, crate::proofs::SessionRowFacts::all_wrong, crate::proofs::SessionLawFacts::kept_has_none, crate::proofs::GoodTurnFacts::are_right, crate::proofs::BadTurnFacts::all_wrong_turns, crate::proofs::EntryRowFacts::all_right_entries, crate::proofs::EntryRowFacts::all_wrong_entries, crate::proofs::EntryRowFacts::all_right_ends, crate::proofs::EntryRowFacts::all_wrong_ends, crate::proofs::FaultRowFacts::are_right_faults, crate::proofs::FaultRowFacts::all_wrong_faults, crate::proofs::FaultRowFacts::all_right_ticks, crate::proofs::FaultRowFacts::all_wrong_ticks))]
+/// those that don't fit what happened, don't mean what they say, or don't go with what line and desk answered.
+#[tactic(auto, using(crate::proofs::SessionRowFacts::all_right, crate::proofs::SessionRowFacts::all_wrong, crate::proofs::SessionLawFacts::kept_has_none, crate::proofs::GoodTurnFacts::are_right, crate::proofs::BadTurnFacts::all_wrong_turns, crate::proofs::BadDealingFacts::all_wrongly_dealt, crate::proofs::EntryRowFacts::all_right_entries, crate::proofs::EntryRowFacts::all_wrong_entries, crate::proofs::EntryRowFacts::all_right_ends, crate::proofs::EntryRowFacts::all_wrong_ends, crate::proofs::FaultRowFacts::are_right_faults, crate::proofs::FaultRowFacts::all_wrong_faults, crate::proofs::FaultRowFacts::all_right_ticks, crate::proofs::FaultRowFacts::all_wrong_ticks))]
 pub fn session_examples()
     ensures fit { Each IsRight right_sessions }
     ensures unfit { Each IsWrong wrong_sessions }
     ensures none { HasNone told_and_kept }
     ensures turns { AreRightTurns }
     ensures wrong_turns { Each IsWrongTurn wrong_turns }
+    ensures wrongly_dealt { Each IsWronglyDealt wrongly_dealt }
     ensures faults { AreRightFaults }
     ensures wrong_faults { Each IsWrongFault wrong_faults }
     ensures ticks { Each IsRightTick right_ticks }
@@ -140,4 +150,14 @@ pub fn session_examples()
     ensures wrong_entries { Each IsWrongEntry wrong_entries }
     ensures ends { Each IsRightEnd right_ends }
     ensures wrong_ends { Each IsWrongEnd wrong_ends }
+{}
+
+/// Worked backlogs of two connections: how many lines wait on each, which connections have to be held by them and which
+/// mustn't be, and where a turn may hold one or free it.
+#[tactic(auto, using(crate::proofs::BacklogRowFacts::counts_by_connection, crate::proofs::BacklogRowFacts::all_rightly_held, crate::proofs::BacklogRowFacts::all_wrongly_held, crate::proofs::BacklogRowFacts::may_hold_and_free))]
+pub fn worked_backlogs()
+    ensures counts { CountsByConnection }
+    ensures held { Each IsHeldRight rightly_held }
+    ensures wrong { Each IsHeldWrong wrongly_held }
+    ensures acts { MayHoldAndFree }
 {}

@@ -1,5 +1,5 @@
 -- The run of a bench: its session begins, goes on and is finished, and then its desk is settled.
-use Rattle.std.specs.Prelude.{◌≡◌, ℕ, zero, suc, replicate, true, List, [], ◌∷◌, ◌++◌, drop, length, map, nat_lt, refl, vec_items, slice_index_or, Option, None, Some, IfSome}
+use Rattle.std.specs.Prelude.{◌≡◌, ℕ, zero, suc, replicate, true, List, [], ◌++◌, drop, length, map, nat_lt, refl, vec_items, slice_index_or, Option, Some, IfSome}
 use Rattle.std.specs.List.{list_all}
 use Rattle.std.proofs.Common.{ap, ◌∙◌, sym, subst}
 use Rattle.std.proofs.lemmas.List.{length-map}
@@ -11,10 +11,10 @@ use Rattle.modem_desk.specs.declared.request.Request.{Request}
 use Rattle.modem_desk.specs.declared.settling.Settled.{Settled}
 use Rattle.modem_desk.specs.Ends.{AreEars, CallerView, DeskId, DriverView, IsWhole, ListenerView, Opened, ear_of, place_of}
 use Rattle.modem_history.specs.Acts.{after}
-use Rattle.modem_history.specs.Sessions.{Beginning, EndView, LineView, at_place, taken_since}
-use Rattle.modem_driver.specs.Headline.{HasEnd, IsHeadline, IsSettled, Run, Settlement}
+use Rattle.modem_history.specs.Sessions.{EndView, LineView, at_place, taken_since}
+use Rattle.modem_driver.specs.Headline.{IsHeadline, IsSettled, Run}
 use Rattle.modem_driver.specs.Polls.{GoesOn}
-use Rattle.modem_driver.specs.SessionStates.{FitsAll, SessionState, TakesMore, beginning_of, end_of, seen}
+use Rattle.modem_driver.specs.SessionStates.{FitsAll, SessionState, beginning_of, end_of, seen}
 use Rattle.modem_driver.proofs.Headlines.{headline}
 use Rattle.modem_driver.proofs.sessions.Polling.{goes_none, goes_then}
 use Rattle.modem_driver.proofs.sessions.TakingMore.{takes_none, takes_then}
@@ -85,15 +85,14 @@ module _ {X : Type 0} (look : X → LineView) where
       → IsWhole s1.driver.desk (map place_of cs) → AreEars s1.driver.desk (map ear_of ls) → (over : IsOver look s1 cs ls settled) → IsSettled (run_of s0 s1 cs ls settled begun over)
   unfolding GoesOn
   settles s0 s1 cs ls settled begun h whole ears over =
-      let went = h.goes begun.start in
       record {
         none_taken = begun.none_taken;
         none_told = begun.none_told;
         none_announced = begun.none_announced;
         callers = of_callers s0 s1 begun h;
         history = λ once.
-            let fits = went.goes [] once begun.fits in
-            record { past = after [] went.acts; fits = fits.session; finishes = over.ends begun.start (after [] went.acts) fits };
+            let fits = h.goes.goes begun.start [] once begun.fits in
+            record { past = after [] h.goes.acts; fits = fits.session; finishes = over.ends begun.start (after [] h.goes.acts) fits };
         desk = over.desk;
         taken = ap (λ (e : EndView). e.taken) (sym over.desk);
         told = ap (λ (e : EndView). e.told) (sym over.desk);

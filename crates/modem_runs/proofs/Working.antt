@@ -1,7 +1,6 @@
 -- Callers that go out, work and come back.
 use Rattle.std.specs.Prelude.{◌≡◌, ℕ, ◌+◌, ◌<◌, List, [], ◌∷◌, ◌++◌, length, map, refl, vec_items, Result, Ok, Err, IfOk, OnOk, slice_index_or, slice_set}
 use Rattle.std.proofs.Common.{ap, ◌∙◌, sym, arith, subst}
-use Rattle.std.proofs.lemmas.List.{length-map}
 use Rattle.std.specs.declared.vec.Vec.{Vec}
 use Rattle.std.specs.declared.alloc.Global.{Global}
 use Rattle.modem_desk.specs.declared.request.Ask.{Ask}

@@ -28,3 +28,4 @@ pub mod ToldLemmas
 pub mod SoundLemmas
 pub mod RepliedLemmas
 pub mod TurnFacts
+pub mod PollLemmas

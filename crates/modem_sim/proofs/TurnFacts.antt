@@ -1,17 +1,19 @@
 -- The worked turns, computed.
-use Rattle.std.specs.Prelude.{◌≡◌, ℕ, nat_lt, ◌||◌, codes, Bool, true, false, List, [], ◌∷◌, length, Option, Some, None, refl}
+use Rattle.std.specs.Prelude.{◌≡◌, ℕ, nat_lt, ◌||◌, codes, Bool, true, false, List, [], ◌∷◌, length, Option, Some, None, Ok, Err, IsErrOf, refl}
 use Rattle.std.proofs.Common.{arith, sym, ap, ◌∙◌}
 use Rattle.std.proofs.lemmas.Bool.Decides.{nat_tests}
 use Rattle.mux_frame.specs.Reading.{no_flag}
+use Rattle.modem_sim.specs.declared.error.SimError.TheVariants as why
 use Rattle.modem_sim.specs.declared.script.StepAct.TheVariants.{Announce}
 use Rattle.modem_sim.specs.declared.script.Step.{Step}
+use Rattle.modem_sim.specs.declared.sim.SimTurn.{SimTurn}
 use Rattle.modem_sim.specs.Acts.{after}
 use Rattle.modem_sim.specs.Doing.{IsDue}
-use Rattle.modem_sim.specs.Sims.{Kept, SimState}
+use Rattle.modem_sim.specs.Sims.{Kept, SimState, has_failed}
 use Rattle.modem_sim.specs.Cores.{all_unhanded}
 use Rattle.modem_sim.specs.Turns.{IsAtRest, IsHeldUp, IsIdle, NoneCanBeDone, Write, at_rest, has_moved, is_fewer, line_is_full}
 use Rattle.modem_sim.specs.HistoryRows.{announcing, one, plain, ready_one, silent, step_at}
-use Rattle.modem_sim.specs.TurnRows.{MovedRows, OneWaits, RightIdle, WrongIdle, nothing_asked, offered_one, only_read}
+use Rattle.modem_sim.specs.TurnRows.{ComesTo, EndRows, MovedRows, OneWaits, RightIdle, WrongFailures, WrongIdle, nothing_asked, offered_one, only_read}
 use Rattle.modem_sim.proofs.RefusedFacts.{said_nothing}
 
 none_left : (next : Step) (later : List Step) → [] ≡ next ∷ later → ⊥
@@ -88,3 +90,34 @@ stays s =
 
 pub moved_rows : MovedRows
 moved_rows = (λ k. refl, λ s a. refl, stays)
+
+not_both : (b : Bool) → b ≡ true → b ≡ false → ⊥
+not_both true is other = cc
+not_both false is other = cc
+
+not_before : (old new : SimState ℕ) → has_failed old ≡ false → ¬ ComesTo old new (Err why.Failed)
+not_before old new sound turn = not_both (has_failed old) (turn.failed.0 refl) sound
+
+done_before : {says : SimTurn} → IsErrOf (Ok says) why.Failed → ⊥
+done_before same = cc
+
+not_after : (old new : SimState ℕ) (says : SimTurn) → has_failed new ≡ true → ¬ ComesTo old new (Ok says)
+not_after old new says failed turn = done_before (turn.failed.1 (sym turn.fails ∙ failed))
+
+refused_before : IsErrOf {T = SimTurn} (Err why.NoMemory) why.Failed → ⊥
+refused_before same = cc
+
+not_by_memory : (old new : SimState ℕ) → has_failed new ≡ true → ¬ ComesTo old new (Err why.NoMemory)
+not_by_memory old new failed turn = refused_before (turn.failed.1 (sym turn.fails ∙ failed))
+
+failing_before : IsErrOf {T = SimTurn} (Err why.Line) why.Failed → ⊥
+failing_before same = cc
+
+not_twice : (old new : SimState ℕ) → has_failed old ≡ true → ¬ ComesTo old new (Err why.Line)
+not_twice old new failed turn = failing_before (turn.failed.1 failed)
+
+pub wrong_failures : WrongFailures
+wrong_failures = (not_before, not_after, not_by_memory, not_twice)
+
+pub end_rows : EndRows
+end_rows = (refl, refl, refl)

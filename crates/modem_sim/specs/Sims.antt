@@ -1,10 +1,14 @@
 -- A simulated modem at its line.
-use Rattle.std.specs.Prelude.{◌≡◌, ℕ, ◌==◌, ◌&&◌, Bool, true, List, [], ◌++◌, Option, Some, None, is_none, length, replicate}
+use Rattle.std.specs.Prelude.{◌≡◌, ℕ, ◌==◌, ◌&&◌, Bool, true, List, [], ◌++◌, Option, Some, None, is_none, Result, Err, length, replicate}
 use Rattle.std.specs.List.{flat_map}
 use Rattle.mux_frame.specs.Frames.{Frame}
 use Rattle.mux_frame.specs.Deframing.{Deframing, Deframes}
 use Rattle.mux_frame.specs.Spelling as spelling
+use Rattle.modem_sim.specs.declared.error.SimError.{SimError}
+use Rattle.modem_sim.specs.declared.error.SimError.TheVariants.{Line}
 use Rattle.modem_sim.specs.declared.kept.Pending.{Pending}
+use Rattle.modem_sim.specs.declared.sim.SimTurn.{SimTurn}
+use Rattle.modem_sim.specs.declared.state.ModemState.{ModemState}
 use Rattle.mux_station.specs.declared.role.Role.TheVariants.{Responder}
 use Rattle.mux_station.specs.Stations as stations
 use Rattle.mux_station.specs.Fitting as fitting
@@ -19,7 +23,7 @@ abbrev pub pending_frame : Pending → Frame
 pending_frame p = record { dlci = p.dlci.number; kind = p.kind; cr = p.cr; pf = p.pf; info = p.info.items }
 
 -- An end, the octets that were read and that its deframer hasn't taken, its deframer, the frame that is to be written next, the
--- octets that the line hasn't taken, and whether the line failed.
+-- octets that the line hasn't taken, whether the line failed, and the end that a poll gave, if one did.
 pub record Kept : Type 0 where
   pub core : Core
   pub n1 : ℕ
@@ -28,6 +32,7 @@ pub record Kept : Type 0 where
   pub pending : Option Frame
   pub out : List ℕ
   pub failed : Bool
+  pub end : Option (Result SimTurn SimError)
 
 abbrev pub spelled_next : Option Frame → List ℕ
 spelled_next None = []
@@ -81,6 +86,27 @@ pub record Receives (before after : List ℕ) (old new : Kept) : Type 0 where
 pub record SimState (X : Type 0) : Type 0 where
   pub line : X
   pub kept : Kept
+
+-- it has closed down, and all is written
+abbrev pub has_ended : {X : Type 0} → SimState X → Bool
+has_ended s = is_ended s.kept
+
+-- a turn of it answered Line
+abbrev pub has_failed : {X : Type 0} → SimState X → Bool
+has_failed s = s.kept.failed
+
+-- the end that a poll of it gave, if one did
+abbrev pub end_given : {X : Type 0} → SimState X → Option (Result SimTurn SimError)
+end_given s = s.kept.end
+
+-- its modem, as it is
+abbrev pub modem_of : {X : Type 0} → SimState X → ModemState
+modem_of s = s.kept.core.modem
+
+-- once a turn answers Line, it has failed; nothing else changes that
+abbrev pub failed_by : {A : Type 0} → Bool → Result A SimError → Bool
+failed_by before (Err Line) = true
+failed_by before _ = before
 
 -- what a line had received and sent
 pub record LineAt : Type 0 where

@@ -1,7 +1,12 @@
 -- Worked turns of a simulated modem with N1 31: what Idle and Moved say, and what they don't.
-use Rattle.std.specs.Prelude.{◌≡◌, ℕ, true, false, List, [], ◌∷◌, Some, None}
+use Rattle.std.specs.Prelude.{◌≡◌, ℕ, true, false, List, [], ◌∷◌, Some, None, Result, Ok, Err}
+use Rattle.modem_sim.specs.declared.error.SimError.{SimError}
+use Rattle.modem_sim.specs.declared.error.SimError.TheVariants as why
+use Rattle.modem_sim.specs.declared.sim.SimTurn.{SimTurn}
+use Rattle.modem_sim.specs.declared.sim.SimTurn.TheVariants.{Ended}
 use Rattle.modem_sim.specs.Acts.{Act, after}
-use Rattle.modem_sim.specs.Sims.{Kept, SimState}
+use Rattle.modem_sim.specs.Polls.{Turned, kept_end}
+use Rattle.modem_sim.specs.Sims.{Kept, SimState, has_failed}
 use Rattle.modem_sim.specs.Turns.{Dealings, IsAtRest, IsHeldUp, IsIdle, has_moved}
 use Rattle.modem_sim.specs.HistoryRows.{announcing, one, plain, ready_one, silent}
 
@@ -41,3 +46,23 @@ MovedRows =
     ((k : Kept) → has_moved (λ (l : List ℕ). l) (λ l. []) (record { line = []; kept = k }) (record { line = 7 ∷ []; kept = k }) [] ≡ true)
     × ((s : SimState ℕ) (a : Act) → has_moved (λ (l : ℕ). []) (λ l. []) s s (a ∷ []) ≡ true)
     × ((s : SimState ℕ) → has_moved (λ (l : ℕ). []) (λ l. []) s s [] ≡ false)
+
+-- of a line without octets, whose counts aren't looked at
+abbrev pub ComesTo : (old new : SimState ℕ) → Result SimTurn SimError → Type 0
+ComesTo old new says = Turned (λ (l : ℕ). []) (λ l. []) (λ l. 0) (λ l. 0) old new says
+
+-- A turn doesn't answer Failed where the line hadn't failed; and it has failed neither after a turn that did something nor after want
+-- of memory; and where it had, a turn answers nothing else.
+abbrev pub WrongFailures : Type 0
+WrongFailures =
+    ((old new : SimState ℕ) → has_failed old ≡ false → ¬ ComesTo old new (Err why.Failed))
+    × ((old new : SimState ℕ) (says : SimTurn) → has_failed new ≡ true → ¬ ComesTo old new (Ok says))
+    × ((old new : SimState ℕ) → has_failed new ≡ true → ¬ ComesTo old new (Err why.NoMemory))
+    × ((old new : SimState ℕ) → has_failed old ≡ true → ¬ ComesTo old new (Err why.Line))
+
+-- what a poll gave is the end, but for want of memory
+abbrev pub EndRows : Type 0
+EndRows =
+    (kept_end None (Ok Ended) ≡ Some (Ok Ended))
+    × (kept_end None (Err why.Line) ≡ Some (Err why.Line))
+    × (kept_end None (Err why.NoMemory) ≡ None)

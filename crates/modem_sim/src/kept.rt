@@ -10,6 +10,7 @@ use crate::error::SimError;
 use crate::input::Input;
 use crate::modem::Modem;
 use crate::script::Script;
+use crate::sim::SimTurn;
 use crate::sim_core::{Parts, SimCore};
 use arrayvec::ArrayVec;
 use mux_frame::{Deframer, Dlci, FrameView, Kind, write_frame};
@@ -57,7 +58,8 @@ impl Pending {
     }
 }
 
-/// An end, what was read and not taken by its deframer yet, what is to be written, and whether the line failed.
+/// An end, what was read and not taken by its deframer yet, what is to be written, whether the line failed, and the end that a
+/// poll gave.
 #[derive(Drop)]
 pub(crate) struct Kept {
     pub(crate) core: SimCore,
@@ -67,6 +69,7 @@ pub(crate) struct Kept {
     pub(crate) pending: Option<Pending>,
     pub(crate) out: Vec<u8>,
     pub(crate) failed: bool,
+    pub(crate) end: Option<Result<SimTurn, SimError>>,
 }
 
 impl Model for Kept {
@@ -83,6 +86,7 @@ impl Model for Kept {
       pending = option_map pending_frame k.pending;
       out = k.out.items;
       failed = k.failed;
+      end = k.end;
     } };
 
     ghost invariant = { λ k. k.deframer.n1 ≡ k.n1 };
@@ -124,7 +128,9 @@ impl Kept {
     /// Nothing has happened yet.
     pub(crate) fn start(room: Room, modem: Modem, script: Script) -> Kept
         requires { BeginsAt room.n1 room.parts.station room.parts.channels.items room.n1 room.unfed room.deframer room.out.items }
-        ensures { KeptFits (end_of room.n1 modem script) [] [] result [] }
+        ensures begins { KeptFits (end_of room.n1 modem script) [] [] result [] }
+        ensures sound { result.failed ≡ false }
+        ensures goes_on { result.end ≡ None }
     {
         let Room {
             parts,
@@ -141,6 +147,7 @@ impl Kept {
             pending: None,
             out,
             failed: false,
+            end: None,
         }
     }
 

@@ -10,7 +10,7 @@ ghost use Rattle.modem_sim.specs.Acts.{Act, End};
 ghost use Rattle.modem_sim.specs.Histories.{Lawful, LeavesInPieces, SaysReplies, DoesInOrder};
 ghost use Rattle.modem_sim.specs.Replied.{AnswersInLines, SendsReplies};
 ghost use Rattle.modem_sim.specs.Sims.{IsOver, Kept, KeptFits, Simulates, is_ended};
-ghost use Rattle.modem_sim.specs.TurnRows.{MovedRows, RightIdle, WrongIdle};
+ghost use Rattle.modem_sim.specs.TurnRows.{EndRows, MovedRows, RightIdle, WrongFailures, WrongIdle};
 ghost use Rattle.modem_sim.specs.HistoryRows.{GoodRows, WrongAnswers, WrongSteps, WrongOtherwise};
 
 /// The command that the step takes a line for is the only one whose text it is, and there is none where it is
@@ -73,12 +73,15 @@ pub fn worked_histories()
     ensures otherwise { WrongOtherwise }
 {}
 
-/// Worked turns: what Idle and Moved say of a right simulated modem, and what they don't say of a wrong one.
-#[tactic(auto, using(crate::proofs::TurnFacts::right_idle, crate::proofs::TurnFacts::wrong_idle, crate::proofs::TurnFacts::moved_rows))]
+/// Worked turns: what Idle and Moved say of a right simulated modem, and what they don't say of a wrong one; when its line has failed,
+/// and which end is kept.
+#[tactic(auto, using(crate::proofs::TurnFacts::right_idle, crate::proofs::TurnFacts::wrong_idle, crate::proofs::TurnFacts::moved_rows, crate::proofs::TurnFacts::wrong_failures, crate::proofs::TurnFacts::end_rows))]
 pub fn worked_turns()
     ensures right { RightIdle }
     ensures wrong { WrongIdle }
     ensures moved { MovedRows }
+    ensures failures { WrongFailures }
+    ensures ends { EndRows }
 {}
 
 /// Whatever past a simulated modem fits, that past keeps the laws of its histories and nothing is owed in it; the frames that came are

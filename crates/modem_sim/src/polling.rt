@@ -1,7 +1,7 @@
 //! A simulated modem as a future.
-ghost use Rattle.std.specs.Prelude.{◌≡◌};
-ghost use Rattle.modem_sim.specs.Sims.{SimGoes};
-ghost use Rattle.modem_sim.specs.Polls.{Polls};
+ghost use Rattle.std.specs.Prelude.{◌≡◌, ◌+◌, ◌≤◌};
+ghost use Rattle.modem_sim.specs.Sims.{SimGoes, end_given};
+ghost use Rattle.modem_sim.specs.Polls.{Polls, Runs, with_given};
 
 use crate::error::SimError;
 use crate::sim::{Sim, SimTurn};
@@ -15,8 +15,9 @@ const TURNS: usize = 64;
 impl<L: SerialLine> Sim<L> {
     /// At most 64 turns, and none behind one that doesn't answer Moved. Nothing where there is more to come.
     fn turns(&mut self) -> Option<Result<SimTurn, SimError>>
+        ensures runs { Runs L.received L.sent L.calls L.failures self.old self.new result }
         ensures goes { SimGoes L.received L.sent self.old self.new }
-        ensures polls { Polls L.received L.sent L.calls self.old self.new result }
+        ensures bounded { L.calls self.new.line ≤ L.calls self.old.line + 128 }
     {
         for _ in 0..TURNS {
             match self.turn() {
@@ -28,20 +29,52 @@ impl<L: SerialLine> Sim<L> {
         }
         None
     }
+
+    /// The end that a poll gave, if one did.
+    fn end(&self) -> Option<Result<SimTurn, SimError>>
+        ensures { result ≡ end_given self.now }
+    {
+        self.kept.end
+    }
+
+    /// What a poll gives is kept as the end, but for 1 NoMemory.
+    fn keep(&mut self, given: Option<Result<SimTurn, SimError>>)
+        ensures { self.new ≡ with_given given self.old }
+    {
+        match given {
+            None | Some(Err(SimError::NoMemory)) => {}
+            Some(end) => self.kept.end = Some(end),
+        }
+    }
+
+    /// What a poll gives, if anything: the end that one gave before, after which nothing is done; else that to which at most 64
+    /// turns lead, which is kept as the end, but for 1 NoMemory. A future of one's own that hands the simulated modem on calls it,
+    /// since of one that is polled only the output is known.
+    pub fn advance(&mut self) -> Option<Result<SimTurn, SimError>>
+        ensures polls { Polls L.received L.sent L.calls L.failures self.old self.new result }
+        ensures goes { SimGoes L.received L.sent self.old self.new }
+        ensures bounded { L.calls self.new.line ≤ L.calls self.old.line + 128 }
+    {
+        if let Some(end) = self.end() {
+            return Some(end);
+        }
+        let given = self.turns();
+        self.keep(given);
+        given
+    }
 }
 
-/// A poll makes at most 64 turns, up to the first that doesn't answer Moved, and then yields. It is done with Ended, and with
-/// each refusal of a turn; a poll after that makes turns again.
+/// A poll makes at most 64 turns, up to the first that doesn't answer Moved. It is done with Ended, and with each refusal of a
+/// turn; else it yields. A poll after an end makes no turn and gives the same end; after 1 NoMemory, which is no end, a poll goes on.
 impl<L: SerialLine + Drop> Future for Sim<L> {
-    ghost use Rattle.std.specs.Prelude.{◌≡◌, IfOk};
-    ghost use Rattle.modem_sim.specs.declared.sim.SimTurn.TheVariants.{Ended};
+    ghost use Rattle.modem_sim.specs.Polls.{Gives};
 
     type Output = Result<SimTurn, SimError>;
 
-    ghost gives = { λ s out. IfOk out (λ turn. turn ≡ Ended) };
+    ghost gives = { λ s given. Gives L.received L.sent L.calls L.failures s given };
 
     fn poll(&mut self, cx: &mut Context<'_>) -> Poll<Result<SimTurn, SimError>> {
-        match self.turns() {
+        match self.advance() {
             Some(end) => Poll::Ready(end),
             None => cx.yield_now(),
         }

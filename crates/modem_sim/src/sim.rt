@@ -1,8 +1,8 @@
 //! A simulated modem at its line.
-ghost use Rattle.std.specs.Prelude.{◌≡◌, ◌≢◌, ◌↔◌, ◌⊎◌, ◌+◌, ◌<◌, ◌≤◌, [], true, false, Ok, Err, IfOk, IfErr, IsErr, OnOk, OnErr, IsErrOf};
+ghost use Rattle.std.specs.Prelude.{◌≡◌, ◌≢◌, ◌↔◌, ◌⊎◌, ◌+◌, ◌<◌, ◌≤◌, [], true, false, None, Ok, Err, IfOk, IfErr, IsErr, OnOk, OnErr, IsErrOf};
 ghost use Rattle.std.specs.Borrow.{Lends, sem};
 ghost use Rattle.modem_sim.specs.Acts.{end_of};
-ghost use Rattle.modem_sim.specs.Sims.{FitsSim, SimGoes, is_ended};
+ghost use Rattle.modem_sim.specs.Sims.{FitsSim, SimGoes, end_given, failed_by, has_ended, has_failed, modem_of};
 ghost use Rattle.modem_sim.specs.Turns.{GoesTurn};
 
 use crate::error::SimError;
@@ -37,7 +37,7 @@ pub struct SimRefused<L: SerialLine> {
 #[derive(Drop)]
 pub struct Sim<L: SerialLine> {
     line: L,
-    kept: Kept,
+    pub(crate) kept: Kept,
 }
 
 impl<L: SerialLine> Model for Sim<L> {
@@ -62,6 +62,8 @@ impl<L: SerialLine> Sim<L> {
     ) -> Result<Sim<L>, SimRefused<L>>
         ensures begins { IfOk result (λ s. FitsSim L.received L.sent (record { received = L.received line; sent = L.sent line }) (end_of n1 modem script) s []) }
         ensures line { IfOk result (λ s. s.line ≡ line) }
+        ensures sound { IfOk result (λ s. has_failed s ≡ false) }
+        ensures goes_on { IfOk result (λ s. end_given s ≡ None) }
         ensures bad_n1 { (IfErr result (λ r. r.why ≡ SimError.BadN1 → ((n1 < 31) ⊎ (32767 < n1))))
             × (((n1 < 31) ⊎ (32767 < n1)) → IsErr result × IfErr result (λ r. r.why ≡ SimError.BadN1)) }
         ensures others { IfErr result (λ r. (r.why ≡ SimError.BadN1) ⊎ (r.why ≡ SimError.NoMemory)) }
@@ -87,12 +89,14 @@ impl<L: SerialLine> Sim<L> {
     pub fn turn(&mut self) -> Result<SimTurn, SimError>
         ensures goes { SimGoes L.received L.sent self.old self.new }
         ensures turn { IfOk result (λ says. GoesTurn L.received L.sent L.calls self.old self.new says) }
-        ensures failed { self.old.kept.failed ≡ true → (result ≡ Err SimError.Failed) × (self.new ≡ self.old) }
-        ensures over { self.old.kept.failed ≡ false → is_ended self.old.kept ≡ true → (result ≡ Ok SimTurn.Ended) × (self.new ≡ self.old) }
-        ensures fault { result ≡ Err SimError.Line → self.new.kept.failed ≡ true }
+        ensures failed { IsErrOf result SimError.Failed ↔ (has_failed self.old ≡ true) }
+        ensures fails { has_failed self.new ≡ failed_by (has_failed self.old) result }
+        ensures still { has_failed self.old ≡ true → self.new ≡ self.old }
+        ensures over { has_failed self.old ≡ false → has_ended self.old ≡ true → (result ≡ Ok SimTurn.Ended) × (self.new ≡ self.old) }
         ensures others { OnErr result (IsErrOf result SimError.Line ⊎ (IsErrOf result SimError.NoMemory ⊎ IsErrOf result SimError.Failed)) }
-        ensures ended { IfOk result (λ turn. turn ≡ SimTurn.Ended → is_ended self.new.kept ≡ true) }
-        ensures goes_on { IfOk result (λ turn. is_ended self.new.kept ≡ true → turn ≡ SimTurn.Ended) }
+        ensures ended { IfOk result (λ turn. turn ≡ SimTurn.Ended → has_ended self.new ≡ true) }
+        ensures goes_on { IfOk result (λ turn. has_ended self.new ≡ true → turn ≡ SimTurn.Ended) }
+        ensures end { end_given self.new ≡ end_given self.old }
         ensures bounded { L.calls self.new.line ≤ L.calls self.old.line + 2 }
         ensures sound { result ≢ Err SimError.Line → L.failures self.new.line ≡ L.failures self.old.line }
         ensures failure { result ≡ Err SimError.Line → L.failures self.new.line ≡ L.failures self.old.line + 1 }
@@ -124,7 +128,7 @@ impl<L: SerialLine> Sim<L> {
 
     /// The line and the modem, as they are.
     pub fn finish(self) -> (L, Modem)
-        ensures { (result.0 ≡ self.line) × (result.1 ≡ self.kept.core.modem) }
+        ensures { (result.0 ≡ self.line) × (result.1 ≡ modem_of self) }
     {
         let Sim { line, kept } = self;
         (line, kept.into_modem())

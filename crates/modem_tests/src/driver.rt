@@ -3,12 +3,11 @@ use modem_driver::*;
 use mux_frame::{Dlci, Kind};
 use std::test::*;
 
-mod answers;
 mod entering;
 mod no_memory;
 mod rig;
+mod rows;
 mod scripts;
-mod session;
 mod session_faults;
 mod session_polls;
 mod session_rings;

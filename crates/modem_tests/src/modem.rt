@@ -216,22 +216,3 @@ AT+CGDCONT=1,"ip","a" > ERROR
     assert_eq!(rt; first_other(&mut modem, rows)?, None);
     Ok(())
 }
-
-#[test]
-fn a_copy_goes_its_own_way(rt: HostRuntime) -> Result<(), Fail> {
-    let mut modem = locked(rt.alloc())?;
-    let entered = r#"AT+CPIN="1234" > OK
-AT+COPS=1,2,"26201" > OK
-AT+CGDCONT=1,"IP","a" > OK
-"#;
-    assert_eq!(rt; first_other(&mut modem, entered)?, None);
-    let mut copy = modem.copy()?;
-    let left = r#"AT+COPS=2 > OK
-"#;
-    assert_eq!(rt; first_other(&mut modem, left)?, None);
-    let kept = r#"AT+COPS? > +COPS: 1,2,"26201",7 | OK
-AT+CGDCONT? > +CGDCONT: 1,"IP","a" | OK
-"#;
-    assert_eq!(rt; first_other(&mut copy, kept)?, None);
-    Ok(())
-}

@@ -12,7 +12,19 @@ use std::test::Fail;
 /// The most turns of each in a row.
 const TURNS: usize = 100_000;
 
-/// A session with one caller and a listener of RING, and a simulated modem.
+/// So many octets may be under way each way.
+const CUTS: [usize; 3] = [1, 7, 64];
+
+/// What a pair is made with.
+#[derive(Clone, Copy)]
+struct Plan {
+    callers: u8,
+    /// So many octets may be under way each way.
+    cut: usize,
+    echo: bool,
+}
+
+/// A session with its callers and a listener of RING, and a simulated modem.
 #[derive(Drop)]
 struct Pair<R: Wait + Drop> {
     rt: R,
@@ -29,9 +41,14 @@ fn dlci(number: u8) -> Result<Dlci, Fail> {
 }
 
 /// A simulated modem that does this of its own accord, at its end of a line.
-fn sim_at(alloc: Global, line: ThreadLine, steps: Vec<Step>) -> Result<Sim<ThreadLine>, Fail> {
+fn sim_at(
+    alloc: Global,
+    line: ThreadLine,
+    echo: bool,
+    steps: Vec<Step>,
+) -> Result<Sim<ThreadLine>, Fail> {
     let script = Script {
-        echo: false,
+        echo,
         steps: Steps::from(steps),
     };
     let modem = Modem::new(alloc, ModemStart::default());
@@ -42,10 +59,10 @@ fn sim_at(alloc: Global, line: ThreadLine, steps: Vec<Step>) -> Result<Sim<Threa
 }
 
 impl<R: Wait + Drop + Copy> Pair<R> {
-    fn new(rt: R, alloc: Global, steps: Vec<Step>) -> Result<Pair<R>, Fail> {
-        let (near, far) = ThreadLine::pair(alloc, 64)?;
-        let sim = sim_at(alloc, far, steps)?;
-        let (driver, callers, listeners) = Desk::open(alloc, 1, &[UrcKind::Ring])?;
+    fn of(rt: R, alloc: Global, plan: Plan, steps: Vec<Step>) -> Result<Pair<R>, Fail> {
+        let (near, far) = ThreadLine::pair(alloc, plan.cut)?;
+        let sim = sim_at(alloc, far, plan.echo, steps)?;
+        let (driver, callers, listeners) = Desk::open(alloc, plan.callers, &[UrcKind::Ring])?;
         match Session::new(rt, alloc, near, driver, 31) {
             Ok(session) => Ok(Pair {
                 rt,
@@ -57,6 +74,16 @@ impl<R: Wait + Drop + Copy> Pair<R> {
             }),
             Err(_) => Err("no memory".into()),
         }
+    }
+
+    /// One caller, and no echo.
+    fn new(rt: R, alloc: Global, cut: usize, steps: Vec<Step>) -> Result<Pair<R>, Fail> {
+        let plan = Plan {
+            callers: 1,
+            cut,
+            echo: false,
+        };
+        Pair::of(rt, alloc, plan, steps)
     }
 
     /// A turn of each, the modem first, and whether either moved.
@@ -76,17 +103,17 @@ impl<R: Wait + Drop + Copy> Pair<R> {
         Err("too many turns".into())
     }
 
-    fn ask(&mut self, ask: Ask) -> Result<(), Fail> {
-        let caller = self.callers.first_mut().ok_or("no caller")?;
+    fn ask(&mut self, caller: usize, ask: Ask) -> Result<(), Fail> {
+        let caller = self.callers.get_mut(caller).ok_or("no caller")?;
         match caller.submit(&self.rt, ask) {
             Ok(_number) => Ok(()),
             Err(_) => Err("refused".into()),
         }
     }
 
-    /// What the caller is told next, if anything.
-    fn told(&mut self) -> Result<Option<Answer>, Fail> {
-        let caller = self.callers.first_mut().ok_or("no caller")?;
+    /// What a caller is told next, if anything.
+    fn told(&mut self, caller: usize) -> Result<Option<Answer>, Fail> {
+        let caller = self.callers.get_mut(caller).ok_or("no caller")?;
         Ok(caller.take().map(|outcome| outcome.answer))
     }
 
@@ -104,24 +131,29 @@ impl<R: Wait + Drop + Copy> Pair<R> {
         Err("too many lines".into())
     }
 
-    /// Connections 0 to 2 are opened.
-    fn open(&mut self) -> Result<bool, Fail> {
-        for number in 0..3 {
+    /// So many connections are opened beside 0.
+    fn open_so_many(&mut self, connections: u8) -> Result<bool, Fail> {
+        for number in 0..=connections {
             let ask = Ask::OpenChannel(dlci(number)?);
-            self.ask(ask)?;
+            self.ask(0, ask)?;
             self.run()?;
-            if !matches!(self.told()?, Some(Answer::Opened)) {
+            if !matches!(self.told(0)?, Some(Answer::Opened)) {
                 return Ok(false);
             }
         }
         Ok(true)
     }
 
+    /// Connections 0 to 2 are opened.
+    fn open(&mut self) -> Result<bool, Fail> {
+        self.open_so_many(2)
+    }
+
     /// A command is asked on a connection, and turns follow.
     fn command(&mut self, number: u8) -> Result<(), Fail> {
         let line = CommandLine::new(self.alloc, b"AT")?;
         let ask = Ask::Command(dlci(number)?, line);
-        self.ask(ask)?;
+        self.ask(0, ask)?;
         self.run()
     }
 }
@@ -171,15 +203,17 @@ fn hears<R: Wait + Drop + Copy>(pair: &mut Pair<R>) -> Result<usize, Fail> {
     pair.heard()
 }
 
-fn announces_one<R: Wait + Drop + Copy>(rt: R, alloc: Global) -> Result<usize, Fail> {
+fn announces_one<R: Wait + Drop + Copy>(rt: R, alloc: Global, cut: usize) -> Result<usize, Fail> {
     let steps = one_step(alloc, 0, ring(alloc)?)?;
-    let mut pair = Pair::new(rt, alloc, steps)?;
+    let mut pair = Pair::new(rt, alloc, cut, steps)?;
     hears(&mut pair)
 }
 
 #[test]
 fn an_announced_line_is_heard_once(rt: HostRuntime) -> Result<(), Fail> {
-    assert_eq!(rt; announces_one(rt, rt.alloc())?, 1);
+    for cut in CUTS {
+        assert_eq!(rt; announces_one(rt, rt.alloc(), cut)?, 1);
+    }
     Ok(())
 }
 
@@ -198,23 +232,29 @@ fn waits<R: Wait + Drop + Copy>(pair: &mut Pair<R>) -> Result<[Told; 3], Fail> {
         return Err("not opened".into());
     }
     pair.command(1)?;
-    let held = kind_of(pair.told()?);
+    let held = kind_of(pair.told(0)?);
     pair.command(2)?;
-    let first = kind_of(pair.told()?);
-    let second = kind_of(pair.told()?);
+    let first = kind_of(pair.told(0)?);
+    let second = kind_of(pair.told(0)?);
     Ok([held, first, second])
 }
 
-fn stops_and_goes<R: Wait + Drop + Copy>(rt: R, alloc: Global) -> Result<[Told; 3], Fail> {
+fn stops_and_goes<R: Wait + Drop + Copy>(
+    rt: R,
+    alloc: Global,
+    cut: usize,
+) -> Result<[Told; 3], Fail> {
     let steps = stop_and_go(alloc)?;
-    let mut pair = Pair::new(rt, alloc, steps)?;
+    let mut pair = Pair::new(rt, alloc, cut, steps)?;
     waits(&mut pair)
 }
 
 #[test]
 fn no_command_leaves_where_the_modem_lets_no_data_come(rt: HostRuntime) -> Result<(), Fail> {
-    let told = stops_and_goes(rt, rt.alloc())?;
-    assert_eq!(rt; told, [Told::Nothing, Told::Done, Told::Done]);
+    for cut in CUTS {
+        let told = stops_and_goes(rt, rt.alloc(), cut)?;
+        assert_eq!(rt; told, [Told::Nothing, Told::Done, Told::Done]);
+    }
     Ok(())
 }
 
@@ -224,33 +264,42 @@ fn tells<R: Wait + Drop + Copy>(pair: &mut Pair<R>) -> Result<[Told; 3], Fail> {
         return Err("not opened".into());
     }
     pair.command(2)?;
-    let first = kind_of(pair.told()?);
+    let first = kind_of(pair.told(0)?);
     pair.command(1)?;
-    let second = kind_of(pair.told()?);
+    let second = kind_of(pair.told(0)?);
     pair.command(2)?;
-    let third = kind_of(pair.told()?);
+    let third = kind_of(pair.told(0)?);
     Ok([first, second, third])
 }
 
 /// The modem does this when a command has come.
-fn does<R: Wait + Drop + Copy>(rt: R, alloc: Global, act: StepAct) -> Result<[Told; 3], Fail> {
+fn does<R: Wait + Drop + Copy>(
+    rt: R,
+    alloc: Global,
+    cut: usize,
+    act: StepAct,
+) -> Result<[Told; 3], Fail> {
     let steps = one_step(alloc, 1, act)?;
-    let mut pair = Pair::new(rt, alloc, steps)?;
+    let mut pair = Pair::new(rt, alloc, cut, steps)?;
     tells(&mut pair)
 }
 
 #[test]
 fn a_connection_that_the_modem_closes_is_not_open(rt: HostRuntime) -> Result<(), Fail> {
-    let told = does(rt, rt.alloc(), StepAct::Disconnect(dlci(1)?))?;
-    assert_eq!(rt; told, [Told::Done, Told::NotOpen, Told::Done]);
+    for cut in CUTS {
+        let told = does(rt, rt.alloc(), cut, StepAct::Disconnect(dlci(1)?))?;
+        assert_eq!(rt; told, [Told::Done, Told::NotOpen, Told::Done]);
+    }
     Ok(())
 }
 
 /// The modem closes down when a command has come, and doesn't answer it any more.
 #[test]
 fn no_connection_is_open_after_the_modem_closes_down(rt: HostRuntime) -> Result<(), Fail> {
-    let told = does(rt, rt.alloc(), StepAct::CloseDown)?;
-    assert_eq!(rt; told, [Told::Closed, Told::NotOpen, Told::NotOpen]);
+    for cut in CUTS {
+        let told = does(rt, rt.alloc(), cut, StepAct::CloseDown)?;
+        assert_eq!(rt; told, [Told::Closed, Told::NotOpen, Told::NotOpen]);
+    }
     Ok(())
 }
 
@@ -276,14 +325,21 @@ fn rings(alloc: Global, times: usize) -> Result<Vec<Step>, Fail> {
     Ok(steps)
 }
 
-fn announces<R: Wait + Drop + Copy>(rt: R, alloc: Global, times: usize) -> Result<usize, Fail> {
+fn announces<R: Wait + Drop + Copy>(
+    rt: R,
+    alloc: Global,
+    cut: usize,
+    times: usize,
+) -> Result<usize, Fail> {
     let steps = rings(alloc, times)?;
-    let mut pair = Pair::new(rt, alloc, steps)?;
+    let mut pair = Pair::new(rt, alloc, cut, steps)?;
     takes_all(&mut pair)
 }
 
 #[test]
 fn a_listener_takes_six_hundred_lines(rt: HostRuntime) -> Result<(), Fail> {
-    assert_eq!(rt; announces(rt, rt.alloc(), 600)?, 600);
+    for cut in CUTS {
+        assert_eq!(rt; announces(rt, rt.alloc(), cut, 600)?, 600);
+    }
     Ok(())
 }

@@ -43,30 +43,30 @@ module _ {X : Type 0} (look : X → LineView) where
 
   pub goes_none : (s : SessionState X) → GoesOn look s s
   unfolding GoesOn
-  goes_none s b = record { acts = []; more = []; takes_more = sym (append-nil s.driver.taken); goes = λ past once f. f }
+  goes_none s = record { acts = []; more = []; takes_more = sym (append-nil s.driver.taken); goes = λ b past once f. f }
 
   pub goes_then : (old mid new : SessionState X) → GoesOn look old mid → GoesOn look mid new → GoesOn look old new
   unfolding GoesOn
-  goes_then old mid new g h b = runs_on b (seen look old) (seen look mid) (seen look new) (FitsInside b look old) (FitsInside b look mid) (FitsInside b look new) (g b) (h b)
+  goes_then old mid new g h = runs_on (seen look old) (seen look mid) (seen look new) (λ b. FitsInside b look old) (λ b. FitsInside b look mid) (λ b. FitsInside b look new) g h
 
   pub turn_goes : (old new : SessionState X) (says : TurnAnswer) → Turns look old new says → HasTurned (standing_of look old) (standing_of look new) → GoesOn look old new
   unfolding GoesOn Turns
-  turn_goes old new says t h b = let g = t b in record { acts = g.acts; more = h.taken.rest; takes_more = sym h.taken.joins; goes = g.goes }
+  turn_goes old new says t h = record { acts = t.acts; more = h.taken.rest; takes_more = sym h.taken.joins; goes = t.goes }
 
   pub fault_goes : (old new : SessionState X) (why : TurnFault) → Faults look old new why → HasTurned (standing_of look old) (standing_of look new) → GoesOn look old new
   unfolding GoesOn Faults
-  fault_goes old new why t h b = let g = t b in record { acts = g.acts; more = h.taken.rest; takes_more = sym h.taken.joins; goes = g.goes }
+  fault_goes old new why t h = record { acts = t.acts; more = h.taken.rest; takes_more = sym h.taken.joins; goes = t.goes }
 
   -- ## The end
 
   -- it goes on to an end where every history says so
   comes_to : (s : SessionState X) (end : Result Ended SessionFault) → ((b : Beginning) (past : List Act) → FitsAll b look s past → IsEnd b (seen look s) past end) → GoesOn look s (record s { kept = record s.kept { course = course.Ended end } })
   unfolding GoesOn
-  comes_to s end says b = record {
+  comes_to s end says = record {
     acts = [];
     more = [];
     takes_more = sym (append-nil s.driver.taken);
-    goes = λ past once f. record {
+    goes = λ b past once f. record {
       session = f.session;
       inside = record {
         setting = f.inside.setting;
@@ -122,7 +122,7 @@ module _ {X : Type 0} (look : X → LineView) where
   pub ends_stopped : (s : SessionState X) → has_ended s.kept ≡ true → GoesOn look s (with_end (Ok Stopped) s)
   ends_stopped s e = comes_to s (Ok Stopped) (has_ended_says s e)
 
-  pub ends_failing : (s : SessionState X) (why : SessionFault) → LeavesLost why s.kept → GoesOn look s (with_end (Err why) s)
+  pub ends_failing : (s : SessionState X) (why : SessionFault) → LeavesLost why s → GoesOn look s (with_end (Err why) s)
   ends_failing s fault.NoMemory lost = goes_none s
   ends_failing s fault.Line lost = comes_to s (Err fault.Line) (λ b past f. f.inside.fits.lost_is ∙ lost)
   ends_failing s fault.Failed lost = comes_to s (Err fault.Failed) (λ b past f. f.inside.fits.lost_is ∙ lost)

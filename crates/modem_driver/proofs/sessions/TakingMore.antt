@@ -9,7 +9,7 @@ use Rattle.modem_desk.specs.declared.request.Request.{Request}
 use Rattle.modem_desk.specs.Ends.{DeskId, DriverView}
 use Rattle.modem_history.specs.Turns.{request_given}
 use Rattle.modem_driver.specs.declared.session.error.SessionFault.{SessionFault}
-use Rattle.modem_driver.specs.SessionStates.{Kept, TakesMore}
+use Rattle.modem_driver.specs.SessionStates.{TakesMore}
 use Rattle.modem_driver.specs.SessionTurns.{LosesOr}
 use Rattle.modem_driver.specs.TurnSteps.{Standing, Places, Minds, MindsPart, SendsOn, Writes, Gets, ReadsOn, TakesOne, KeepsAside}
 use Rattle.modem_driver.proofs.sessions.Counting.{is_caller}

@@ -13,7 +13,7 @@ use Rattle.modem_history.proofs.SessionLawFacts.{begins_fitting}
 use Rattle.modem_driver.specs.Cores.{Core, Fits, Handles, GoesOn}
 use Rattle.modem_driver.specs.Holding.{HoldsFit, KeepsHeld}
 use Rattle.modem_driver.specs.Endings.{HasCome, asker_of, course_after, is_answered, is_stop}
-use Rattle.modem_driver.specs.SessionStates.{SessionState, Kept, KeptFits, KeptTicks, Ticks, new_kept, beginning_of, seen_by, end_of}
+use Rattle.modem_driver.specs.SessionStates.{SessionState, Kept, KeptFits, KeptGoes, KeptTicks, Ticks, new_kept, beginning_of, seen_by, end_of}
 use Rattle.modem_driver.specs.declared.session.error.SessionError.{SessionError}
 use Rattle.modem_driver.specs.WaitingLists.{WaitingLists, Keeps}
 use Rattle.modem_driver.proofs.sessions.Afters.{gots_after, losses_after, lost_after}
@@ -67,12 +67,12 @@ tick_bare past = record { taken_is = refl; given_is = refl; hand_is = refl; room
 pub tick_goes : (old : Kept) (core : Core) (room : ℕ) (w : WaitingLists) (acts : List Act)
     → Handles old.core core Tick acts → KeepsHeld old.core core Tick acts → Keeps (record { outcomes = old.unplaced; lines = old.unannounced; room = room }) w acts → old.core.lost ≡ false
     → KeptTicks old (record old { core = core; unplaced = w.outcomes; unannounced = w.lines; course = course_after old.course (is_answered (option_map asker_of (find is_stop old.core.hand)) acts) })
-unfolding KeptTicks Handles KeepsHeld
-tick_goes old core room w acts handles held keeps live b l d =
+unfolding KeptGoes Handles KeepsHeld
+tick_goes old core room w acts handles held keeps live =
     let new : Kept = record old { core = core; unplaced = w.outcomes; unannounced = w.lines; course = course_after old.course (is_answered (option_map asker_of (find is_stop old.core.hand)) acts) } in
     record {
       acts = acts;
-      goes = λ past once f.
+      goes = λ b l d past once f.
           let s = driving b in
           let may = may_come b l d old past Tick f refl in
           let on = handles s past may in
@@ -95,7 +95,7 @@ tick_goes old core room w acts handles held keeps live b l d =
           subst (λ (xs : List Act). FitsKept b l d new (after past xs)) (sym on.called)
           (call_fits b l d old new past more Tick f (tick_bare past) here hold said (calls_hear s (seen s past) Tick) keep refl refl refl come lost
           (received_part b (seen_by l (end_of d) old) (seen_by l (end_of d) new) past (after past (Tick ∷ more)) f.session.received refl refl refl (gots_after more (Tick ∷ past) said)));
-      tick = λ past f.
+      tick = λ b l d past f.
           let s = driving b in
           let on = handles s past (may_come b l d old past Tick f refl) in
           record {
@@ -112,8 +112,9 @@ tick_goes old core room w acts handles held keeps live b l d =
 
 -- a session over any line and desk
 pub session_ticks : {X : Type 0} (look : X → LineView) (x : X) (d : DriverView) (s : SessionState X) (old new : Kept) → record { line = x; driver = d; kept = old } ≡ s → KeptTicks old new → Ticks look s (record { line = x; driver = d; kept = new })
-unfolding KeptTicks Ticks
-session_ticks {X} look x d s old new e h = subst (λ (v : SessionState X). Ticks look v (record { line = x; driver = d; kept = new })) e (λ b. h b (look x) d)
+unfolding KeptGoes Ticks
+session_ticks {X} look x d s old new e h = subst (λ (v : SessionState X). Ticks look v (record { line = x; driver = d; kept = new })) e
+    (record { acts = h.acts; goes = λ b. h.goes b (look x) d; tick = λ b. h.tick b (look x) d })
 
 pub all_begin : (n1 : ℕ) (ks lent : List UrcKind) (r : Result Kept SessionError) (d : DriverView) → lent ≡ ks → ((m : UrcKind) → Contains ks m ↔ Contains d.desk.kinds m)
     → IfOk r (λ k. k ≡ new_kept n1 lent) → IfOk r (λ k. Fits k.core []) → IfOk r (λ k. HoldsFit k.core [])

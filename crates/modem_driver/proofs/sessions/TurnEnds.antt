@@ -3,7 +3,6 @@ use Rattle.std.proofs.Common.{ap, sym, ◌∙◌, inl, inr, subst}
 use Rattle.std.specs.Prelude.{◌≡◌, ◌⊎◌, ◌||◌, Bool, true, false, List, [], ◌++◌, refl, None}
 use Rattle.modem_history.specs.Acts.{Act, after}
 use Rattle.modem_history.specs.Calls.{is_lost}
-use Rattle.modem_history.specs.Sessions.{Beginning}
 use Rattle.modem_history.specs.Turns.{Dealings, TurnFault, GoesFault, PlacesAlone}
 use Rattle.modem_driver.specs.declared.session.error.SessionFault.{SessionFault}
 use Rattle.modem_driver.specs.SessionStates.{Kept, KeptLoses}
@@ -14,7 +13,7 @@ use Rattle.modem_driver.proofs.sessions.TurnFaults.{has_failed, places_alone, no
 
 -- a fault of any kind by which a turn ended, and what is so whichever way it ends
 pub record FaultBy (s0 s : Standing) (why : TurnFault) : Type 0 where
-  pub fault : (b : Beginning) → GoesFault b (view_of s0) (view_of s) (inside b s0) (inside b s) why
+  pub fault : GoesFault (view_of s0) (view_of s) (λ b. inside b s0) (λ b. inside b s) why
   pub turned : HasTurned s0 s
 
 -- there was no memory for a step
@@ -25,13 +24,13 @@ true_false : true ≡ false → ⊥
 true_false h = cc
 
 -- a line that isn't lost before a turn isn't lost by what a turn does
-lost_before : (s0 s : Standing) (t : Dealings) (acts : List Act) → Went s0 s t 1 acts → s0.kept.core.lost ≡ false → s.kept.core.lost ≡ true → (b : Beginning) → GoesFault b (view_of s0) (view_of s) (inside b s0) (inside b s) TurnFault.Failed
+lost_before : (s0 s : Standing) (t : Dealings) (acts : List Act) → Went s0 s t 1 acts → s0.kept.core.lost ≡ false → s.kept.core.lost ≡ true → GoesFault (view_of s0) (view_of s) (λ b. inside b s0) (λ b. inside b s) TurnFault.Failed
 unfolding Leads
-lost_before s0 s t acts w live lost b = record {
+lost_before s0 s t acts w live lost = record {
   acts = acts;
   dealings = t;
-  goes = w.leads b;
-  fault = λ past once f.
+  goes = w.leads;
+  fault = λ b past once f.
       let adds = w.adds b past once f in
       let here : StandingFits b s (after past acts) = w.leads b past once f in
       let still : is_lost (after past acts) ≡ false = none_loses t.still_heard acts past adds.may (f.inside.fits.lost_is ∙ live) in

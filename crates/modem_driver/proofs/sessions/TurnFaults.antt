@@ -10,7 +10,7 @@ use Rattle.modem_desk.specs.declared.request.Request.{Request}
 use Rattle.modem_desk.specs.declared.request.Urc.{Urc}
 use Rattle.modem_history.specs.Acts.{Act, Took, Got, Sent, Told, Heard, Tick, Lost, Held, Freed, Given, after, in_hand}
 use Rattle.modem_history.specs.Calls.{is_lost}
-use Rattle.modem_history.specs.Sessions.{Beginning, heard_as}
+use Rattle.modem_history.specs.Sessions.{heard_as}
 use Rattle.modem_history.specs.Turns.{Dealings, TurnFault, GoesFault, PlacesAlone, outcomes_told, lines_heard, may_act, may_fail}
 use Rattle.modem_history.proofs.AfterActs.{after_both}
 use Rattle.modem_driver.specs.SessionStates.{Kept, KeptGoes, KeptLoses}
@@ -42,13 +42,13 @@ none_loses us (a ∷ acts) past h live =
 
 -- there was no memory for a step of a turn
 pub wants_memory : (s0 s : Standing) (t : Dealings) (acts : List Act) → Went s0 s t 1 acts → (s0.kept.faulty ≡ false) ⊎ PlacesAlone (view_of s0) (view_of s) acts → s0.kept.core.lost ≡ false
-    → (b : Beginning) → GoesFault b (view_of s0) (view_of s) (inside b s0) (inside b s) TurnFault.NoMemory
+    → GoesFault (view_of s0) (view_of s) (λ b. inside b s0) (λ b. inside b s) TurnFault.NoMemory
 unfolding Leads
-wants_memory s0 s t acts w sound live b = record {
+wants_memory s0 s t acts w sound live = record {
   acts = acts;
   dealings = t;
-  goes = w.leads b;
-  fault = λ past once f.
+  goes = w.leads;
+  fault = λ b past once f.
       let adds = w.adds b past once f in
       record {
         deals = record {
@@ -75,18 +75,18 @@ wants_memory s0 s t acts w sound live b = record {
 
 -- the line is lost after so much of a turn
 lost_there : (s0 s1 : Standing) (new : Kept) (t : Dealings) (xs : List Act) → t.next ≡ None → Went s0 s1 t 1 xs → KeptLoses s1.kept new → s0.kept.core.lost ≡ false
-    → (b : Beginning) → GoesFault b (view_of s0) (view_of (record s1 { kept = new })) (inside b s0) (inside b (record s1 { kept = new })) TurnFault.LineFailed
+    → GoesFault (view_of s0) (view_of (record s1 { kept = new })) (λ b. inside b s0) (λ b. inside b (record s1 { kept = new })) TurnFault.LineFailed
 unfolding Leads KeptGoes
-lost_there s0 s1 new t xs none w k live b =
+lost_there s0 s1 new t xs none w k live =
     let still = taken_still s0 s1 t 1 xs none w in
     let unfed : length new.unfed ≡ length s1.kept.unfed = ap (λ (v : Kept). length v.unfed) k.stays in
     record {
       acts = xs ++ k.acts;
       dealings = t;
-      goes = λ past once f.
+      goes = λ b past once f.
           let mid = once_still b s0 s1 past still f in
           subst (StandingFits b (record s1 { kept = new })) (sym (after_both xs k.acts past)) (k.goes b s1.line s1.driver (after past xs) once (w.leads b past mid f));
-      fault = λ past once f.
+      fault = λ b past once f.
           let mid = once_still b s0 s1 past still f in
           let at : StandingFits b s1 (after past xs) = w.leads b past mid f in
           let first = w.adds b past mid f in
@@ -133,9 +133,9 @@ lost_there s0 s1 new t xs none w k live b =
     }
 
 pub loses_line : (s0 s1 s2 : Standing) (t : Dealings) (xs : List Act) → t.next ≡ None → Went s0 s1 t 1 xs → s2 ≡ record s1 { kept = s2.kept } → KeptLoses s1.kept s2.kept → s0.kept.core.lost ≡ false
-    → (b : Beginning) → GoesFault b (view_of s0) (view_of s2) (inside b s0) (inside b s2) TurnFault.LineFailed
-loses_line s0 s1 s2 t xs none w same k live b =
-    subst (λ (s : Standing). GoesFault b (view_of s0) (view_of s) (inside b s0) (inside b s) TurnFault.LineFailed) (sym same) (lost_there s0 s1 s2.kept t xs none w k live b)
+    → GoesFault (view_of s0) (view_of s2) (λ b. inside b s0) (λ b. inside b s2) TurnFault.LineFailed
+loses_line s0 s1 s2 t xs none w same k live =
+    subst (λ (s : Standing). GoesFault (view_of s0) (view_of s) (λ b. inside b s0) (λ b. inside b s) TurnFault.LineFailed) (sym same) (lost_there s0 s1 s2.kept t xs none w k live)
 
 -- what waits was placed, and nothing else is done
 pub places_alone : (s0 s1 : Standing) (moved : Bool) → Places s0 s1 moved → PlacesAlone (view_of s0) (view_of s1) []
@@ -148,15 +148,15 @@ places_alone s0 s1 moved p = record {
 
 -- the line was lost before
 pub has_failed : (s0 s1 : Standing) (moved : Bool) → Places s0 s1 moved → s0.kept.core.lost ≡ true
-    → (b : Beginning) → GoesFault b (view_of s0) (view_of s1) (inside b s0) (inside b s1) TurnFault.Failed
+    → GoesFault (view_of s0) (view_of s1) (λ b. inside b s0) (λ b. inside b s1) TurnFault.Failed
 unfolding Leads
-has_failed s0 s1 moved p lost b =
+has_failed s0 s1 moved p lost =
     let w = went_placed s0 s1 moved p in
     record {
       acts = [];
       dealings = placed p;
-      goes = w.leads b;
-      fault = λ past once f.
+      goes = w.leads;
+      fault = λ b past once f.
           let adds = w.adds b past once f in
           record {
             deals = record {

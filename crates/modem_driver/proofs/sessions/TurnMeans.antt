@@ -310,15 +310,15 @@ module _ {s0 s1 s2 s3 s4 s5 s6 s7 : Standing} {m1 m2 m3 m4 m5 m6 m7 : Bool} wher
   }
 
   pub goes_turn : (r : Run s0 s1 s2 s3 s4 s5 s6 s7 m1 m2 m3 m4 m5 m6 m7) (says : TurnAnswer) → Answers s7.kept (m1 || (m2 || (m3 || (m4 || (m5 || (m6 || m7)))))) says
-      → (b : Beginning) → GoesTurn b (view_of s0) (view_of s7) (inside b s0) (inside b s7) says
+      → GoesTurn (view_of s0) (view_of s7) (λ b. inside b s0) (λ b. inside b s7) says
   unfolding Leads
-  goes_turn r says a b =
+  goes_turn r says a =
       let w = went_all r in
       record {
         acts = all_acts r;
         dealings = all_dealings r;
-        goes = w.leads b;
-        turn = λ past once f.
+        goes = w.leads;
+        turn = λ b past once f.
             let adds = w.adds b past once f in
             let last : StandingFits b s7 (after past (all_acts r)) = w.leads b past once f in
             record {

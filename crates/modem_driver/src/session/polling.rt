@@ -64,7 +64,7 @@ impl<L: SerialLine, R: Wait + Drop> Session<L, R> {
         ensures goes { GoesOn (line_by L.received L.sent L.calls L.failures) self.old self.new }
         ensures bounded { L.calls self.new.line ≤ L.calls self.old.line + 128 }
         ensures takes { TakesMore self.old.driver self.new.driver }
-        ensures lost { IfErr result (λ why. LeavesLost why self.new.kept) }
+        ensures lost { IfErr result (λ why. LeavesLost why self.new) }
     {
         for _ in 0..TURNS {
             if self.has_ended() {

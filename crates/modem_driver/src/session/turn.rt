@@ -1,6 +1,6 @@
 //! Turns of a session.
 ghost use Rattle.std.specs.Prelude.{◌≡◌, true, Err, IfOk, IfErr, OnErr};
-ghost use Rattle.modem_driver.specs.SessionStates.{line_by, TakesMore};
+ghost use Rattle.modem_driver.specs.SessionStates.{has_lost_line, line_by, TakesMore};
 ghost use Rattle.modem_driver.specs.TurnSteps.{Places, Minds, MindsPart, SendsOn, Writes, Gets, ReadsOn, TakesOne, KeepsAside};
 ghost use Rattle.modem_driver.specs.SessionTurns.{standing_of, answer_of, fault_of, Answers, HasNoPlace, HasTurned, LeavesLost, LosesOr, Turns, Faults};
 ghost use Rattle.modem_driver.specs.declared.session.error.SessionFault.TheVariants as fault;
@@ -52,7 +52,7 @@ impl Kept {
 impl<L: SerialLine, R: Wait + Drop> Session<L, R> {
     /// Whether the line is lost.
     fn is_lost(&self) -> bool
-        ensures { result ≡ self.now.kept.core.lost }
+        ensures { result ≡ has_lost_line self.now }
     {
         self.kept.core.lost
     }
@@ -148,7 +148,7 @@ impl<L: SerialLine, R: Wait + Drop> Session<L, R> {
     /// the fault by which the turn ends.
     fn lose_line(&mut self) -> SessionFault
         requires { self.old.kept.faulty ≡ true }
-        ensures lost { LeavesLost result self.new.kept }
+        ensures lost { LeavesLost result self.new }
         ensures loses { LosesOr result (standing_of (line_by L.received L.sent L.calls L.failures) self.old)
             (standing_of (line_by L.received L.sent L.calls L.failures) self.new) }
     {
@@ -176,8 +176,8 @@ impl<L: SerialLine, R: Wait + Drop> Session<L, R> {
             self.old self.new (fault_of why)) }
         ensures turned { HasTurned (standing_of (line_by L.received L.sent L.calls L.failures) self.old)
             (standing_of (line_by L.received L.sent L.calls L.failures) self.new) }
-        ensures lost { IfErr result (λ why. LeavesLost why self.new.kept) }
-        ensures failed { self.old.kept.core.lost ≡ true → result ≡ Err fault.Failed }
+        ensures lost { IfErr result (λ why. LeavesLost why self.new) }
+        ensures failed { has_lost_line self.old ≡ true → result ≡ Err fault.Failed }
         ensures takes { TakesMore self.old.driver self.new.driver }
         ensures full { IfOk result (λ says. HasNoPlace self.new.driver (answer_of says)) }
     {

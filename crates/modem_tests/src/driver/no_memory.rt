@@ -1,5 +1,6 @@
 //! The calls that take no memory, and what the calls of a command take, each between two marks on standard output, by
 //! which a counter of allocations knows them.
+use super::rig::{PLAIN, Rig};
 use at_text::{CommandLine, UrcKind};
 use modem_driver::*;
 use mux_frame::{Dlci, FrameView, Kind};
@@ -8,6 +9,7 @@ use serial_line::CutLine;
 use std::alloc::Global;
 use std::io::Print;
 use std::process::Abort;
+use std::sync::Wait;
 use std::test::Fail;
 
 // The calls of this name begin.
@@ -83,6 +85,21 @@ pub(super) fn warmed_up(rt: &impl Abort, alloc: Global) -> Result<Core, Fail> {
     Ok(core)
 }
 
+// A session's line is lent, and the session ends, between marks.
+fn ends_a_session<R: Wait + Print + Drop + Copy>(rt: R, alloc: Global) -> Result<(), Fail> {
+    let Rig { mut session, .. } = Rig::new(rt, alloc, PLAIN)?;
+    begin(&rt, "Session::line_mut");
+    let put = session.line_mut().put(b"\xF9");
+    end(&rt);
+    begin(&rt, "Session::finish");
+    let finished = session.finish();
+    end(&rt);
+    if put != 1 || !finished.in_hand.is_empty() {
+        return Err("another session".into());
+    }
+    Ok(())
+}
+
 #[test]
 fn calls_that_take_no_memory(rt: HostRuntime) -> Result<(), Fail> {
     let alloc = rt.alloc();
@@ -97,7 +114,7 @@ fn calls_that_take_no_memory(rt: HostRuntime) -> Result<(), Fail> {
     begin(&rt, "enter");
     enter(&mut line, 100)?;
     end(&rt);
-    Ok(())
+    ends_a_session(rt, alloc)
 }
 
 // A line comes in a frame of its own, between marks: so many acts come of it.

@@ -48,29 +48,47 @@ fn a_read_fails(rt: HostRuntime) -> Result<(), Fail> {
     Ok(())
 }
 
-/// Turns until nothing moves or the line has failed, and says whether a turn answered Line. None does so twice.
-fn turns<R: Wait + Drop + Copy>(rig: &mut Rig<R>) -> Result<bool, Fail> {
-    let mut lost = false;
+/// Turns until nothing moves, or one fails behind the loss of the line, and says whether the line is lost. One turn says
+/// so, and every turn after it fails.
+fn turns<R: Wait + Drop + Copy>(rig: &mut Rig<R>, before: bool) -> Result<bool, Fail> {
+    let mut lost = before;
     for _turn in 0..TURNS {
         match rig.session.turn() {
-            Ok(Turn::Moved) => {}
-            Ok(_) | Err(SessionFault::Failed) => return Ok(lost),
+            Ok(Turn::Moved) if !lost => {}
+            Ok(_) if !lost => return Ok(false),
             Err(SessionFault::Line) if !lost => lost = true,
-            Err(_) => return Err("another fault".into()),
+            Err(SessionFault::Failed) if lost => return Ok(true),
+            _ => return Err("another turn".into()),
         }
     }
     Err("too many turns".into())
 }
 
-/// How many outcomes wait for the caller, three at most, numbered from 1.
-fn count_told<R: Wait + Drop + Copy>(rig: &mut Rig<R>) -> Result<u64, Fail> {
+/// Whether an outcome is that of a request of csq, by its number; it is a loss of the line for each that has no other.
+fn is_of_csq(outcome: &Outcome, lost: bool) -> bool {
+    match &outcome.answer {
+        Answer::LineLost => true,
+        Answer::Opened => !lost && outcome.number < 3,
+        Answer::Done(_) => !lost && outcome.number == 3,
+        _ => false,
+    }
+}
+
+/// How many outcomes wait for the caller, three at most, numbered from 1. Behind one that says that the line was lost
+/// all say so; none does where it wasn't lost.
+fn count_told<R: Wait + Drop + Copy>(rig: &mut Rig<R>, lost: bool) -> Result<u64, Fail> {
     let caller = rig.callers.first_mut().ok_or("no caller")?;
+    let mut says_lost = false;
     for told in 0..3 {
         let Some(outcome) = caller.take() else {
             return Ok(told);
         };
-        if outcome.number != told + 1 {
-            return Err("out of order".into());
+        if outcome.number != told + 1 || !is_of_csq(&outcome, says_lost) {
+            return Err("another outcome".into());
+        }
+        says_lost = matches!(outcome.answer, Answer::LineLost);
+        if says_lost && !lost {
+            return Err("no loss".into());
         }
     }
     Ok(3)
@@ -86,42 +104,35 @@ fn count_left<R: Wait>(rt: &R, driver: &mut DriverEnd) -> u64 {
     3
 }
 
-/// A step of csq: whether its turns said that the line failed. Nothing is sent where it had failed before.
+/// A step of csq: whether the line is lost by its end. Nothing is sent where it was lost before.
 fn step<R: Wait + Drop + Copy>(rig: &mut Rig<R>, step: usize, lost: bool) -> Result<bool, Fail> {
     let octets = COMES.get(step).ok_or("no such step")?;
     let ask = csq(rig.alloc, step)?;
     let before = rig.session.line_mut().sent().len();
     rig.ask(0, ask)?;
-    let first = turns(rig)?;
+    let asked = turns(rig, lost)?;
     rig.session.line_mut().put(octets);
-    let second = turns(rig)?;
+    let came = turns(rig, asked)?;
     let now = rig.session.line_mut().sent().len();
     if lost && now != before {
         return Err("sent after a loss".into());
     }
-    if first && second {
-        return Err("lost twice".into());
-    }
-    Ok(first || second)
+    Ok(came)
 }
 
 /// The steps of csq: whether the line failed in one of them.
 fn steps<R: Wait + Drop + Copy>(rig: &mut Rig<R>) -> Result<bool, Fail> {
     let mut lost = false;
     for place in 0..COMES.len() {
-        let fails = step(rig, place, lost)?;
-        if fails && lost {
-            return Err("lost twice".into());
-        }
-        lost |= fails;
+        lost = step(rig, place, lost)?;
     }
     Ok(lost)
 }
 
 /// Each of the three requests has one outcome, or was never taken from the desk.
-fn is_told_once<R: Wait + Drop + Copy>(rig: Rig<R>) -> Result<bool, Fail> {
+fn is_told_once<R: Wait + Drop + Copy>(rig: Rig<R>, lost: bool) -> Result<bool, Fail> {
     let mut rig = rig;
-    let told = count_told(&mut rig)?;
+    let told = count_told(&mut rig, lost)?;
     let Rig { rt, session, .. } = rig;
     let mut finished = session.finish();
     let left = count_left(&rt, &mut finished.driver);
@@ -133,7 +144,7 @@ fn is_told_once<R: Wait + Drop + Copy>(rig: Rig<R>) -> Result<bool, Fail> {
 fn loses<R: Wait + Drop + Copy>(rt: R, alloc: Global, setup: Setup<'_>) -> Result<bool, Fail> {
     let mut rig = Rig::new(rt, alloc, setup)?;
     let lost = steps(&mut rig)?;
-    if is_told_once(rig)? {
+    if is_told_once(rig, lost)? {
         Ok(lost)
     } else {
         Err("not told once".into())

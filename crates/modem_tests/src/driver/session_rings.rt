@@ -26,13 +26,6 @@ const RING: &[u8] = b"\xF9\x05\xEF\x11\x0D\x0ARING\x0D\x0A\x4A\xF9";
 /// A frame on 1 that has the line OK.
 const OK: &[u8] = b"\xF9\x05\xEF\x0D\x0D\x0AOK\x0D\x0A\x5F\xF9";
 
-/// The MSC that asks the other end to stop sending on 1, its answer, and the MSC that lets it go on.
-const STOP: &[u8] = b"\xF9\x03\xEF\x09\xE3\x05\x07\x8F\xFB\xF9";
-
-const STOPPED: &[u8] = b"\xF9\x01\xEF\x09\xE1\x05\x07\x8F\x9A\xF9";
-
-const GO: &[u8] = b"\xF9\x03\xEF\x09\xE3\x05\x07\x8D\xFB\xF9";
-
 /// What is sent where 1 is given up: SABM on 0, SABM on 1 four times, and DISC.
 const GIVEN_UP: &[u8] =
     b"\xF9\x03\x3F\x01\x1C\xF9\xF9\x07\x3F\x01\xDE\xF9\xF9\x07\x3F\x01\xDE\xF9\xF9\x07\x3F\x01\xDE\xF9\xF9\x07\x3F\x01\xDE\xF9\xF9\x07\x53\x01\x3F\xF9";
@@ -62,34 +55,6 @@ impl<R: Wait + Drop + Copy> Rig<R> {
         let sent = self.session.line_mut().sent();
         (sent.len(), sent.ends_with(last))
     }
-}
-
-/// 512 lines wait for a listener: the other end is asked to stop, and told to go on when 127 wait.
-fn is_held_back<R: Wait + Drop + Copy>(rig: &mut Rig<R>) -> Result<bool, Fail> {
-    rig.open()?;
-    let (opened, _) = rig.sent(GO);
-    rig.ring(511)?;
-    let not_yet = rig.sent(GO) == (opened, true);
-    rig.ring(1)?;
-    let held = opened.saturating_add(STOP.len());
-    let stopped = rig.sent(STOP) == (held, true);
-    rig.come(STOPPED)?;
-    rig.hear(128)?;
-    let still = rig.sent(STOP) == (held, true);
-    rig.hear(1)?;
-    let freed = rig.sent(GO) == (held.saturating_add(GO.len()), true);
-    Ok(not_yet && stopped && still && freed)
-}
-
-fn holds_back<R: Wait + Drop + Copy>(rt: R, alloc: Global) -> Result<bool, Fail> {
-    let mut rig = Rig::new(rt, alloc, RINGS)?;
-    is_held_back(&mut rig)
-}
-
-#[test]
-fn a_backlog_holds_a_connection(rt: HostRuntime) -> Result<(), Fail> {
-    assert!(rt; holds_back(rt, rt.alloc())?);
-    Ok(())
 }
 
 /// A caller that takes nothing holds up its own outcomes alone: the other one has its own.

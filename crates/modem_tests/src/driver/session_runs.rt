@@ -32,13 +32,15 @@ fn is_answered(outcome: &Outcome) -> bool {
     }
 }
 
-/// The requests of csq are asked in turn, and what comes of each of them comes: whether what was sent is right.
+/// The requests of csq are asked in turn, and what comes of each of them comes: whether the session is idle behind each
+/// and what was sent is right.
 fn plays<R: Wait + Drop + Copy>(rig: &mut Rig<R>) -> Result<bool, Fail> {
     for step in 0..3 {
         let ask = csq(rig.alloc, step)?;
         rig.ask(0, ask)?;
-        rig.run()?;
-        rig.come(COMES[step])?;
+        if rig.run()? != Turn::Idle || rig.come(COMES[step])? != Turn::Idle {
+            return Ok(false);
+        }
     }
     Ok(rig.session.line_mut().sent() == SENT)
 }

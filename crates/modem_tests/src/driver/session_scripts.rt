@@ -1,5 +1,6 @@
 //! Scripts that a session runs on its line, beside what `replay` makes of them.
-use super::scripts::{ROWS, SCRIPTS};
+use super::rows::ROWS;
+use super::scripts::SCRIPTS;
 use modem_desk::{Ask, Caller, Desk};
 use modem_driver::{Act, Event, Session, SessionFault, Turn, replay};
 use modem_runs::{push_act, read_script};

@@ -1,7 +1,7 @@
 //! A simulated modem that acts by itself, and whose line takes nothing, fails or comes in pieces.
 use super::sim::{INPUT, last_turn, made};
 use at_text::Text;
-use modem_sim::{Script, Sim, SimError, SimTurn, Step, StepAct, Steps};
+use modem_sim::{Script, SimTurn, Step, StepAct, Steps};
 use mux_frame::laws::read_plain;
 use mux_frame::{Dlci, FrameBuf, Kind};
 use serial_line::{Cut, CutLine};
@@ -10,10 +10,6 @@ use std::test::Fail;
 
 /// SABM on 0 and on 1.
 const OPENINGS: usize = 12;
-
-/// UA on 0 and on 1 and the MSC of the opening; MSC that stop and start; DISC on 1; CLD.
-const ACTED: &[u8] =
-    b"\xf9\x03\x73\x01\xd7\xf9\xf9\x07\x73\x01\x15\xf9\xf9\x01\xef\x09\xe3\x05\x07\x8d\x9a\xf9\xf9\x01\xef\x09\xe3\x05\x07\x8f\x9a\xf9\xf9\x01\xef\x09\xe3\x05\x07\x8d\x9a\xf9\xf9\x05\x53\x01\x5e\xf9\xf9\x01\xef\x05\xc3\x01\x93\xf9";
 
 fn dlci(number: u8) -> Result<Dlci, Fail> {
     let dlci = Dlci::new(number).ok_or("no such DLCI")?;
@@ -67,25 +63,6 @@ fn six_hundred_lines_go_out(rt: HostRuntime) -> Result<(), Fail> {
     Ok(())
 }
 
-#[test]
-fn steps_ask_the_station(rt: HostRuntime) -> Result<(), Fail> {
-    let alloc = rt.alloc();
-    let mut steps = Vec::new(alloc);
-    for act in [
-        StepAct::Flow(dlci(1)?, false),
-        StepAct::Flow(dlci(1)?, true),
-        StepAct::Disconnect(dlci(1)?),
-        StepAct::CloseDown,
-    ] {
-        steps.push(Step { after: 0, act })?;
-    }
-    let line = CutLine::new(alloc, &INPUT[..OPENINGS], &[], &[], 4096)?;
-    let mut sim = made(alloc, line, plain(steps))?;
-    assert_eq!(rt; last_turn(&mut sim)?, SimTurn::Ended);
-    assert_eq!(rt; sim.line_mut().sent(), ACTED);
-    Ok(())
-}
-
 /// More MSC are asked for than the control queue has room for, while the line takes nothing.
 #[test]
 fn a_step_waits_for_room_in_the_queue(rt: HostRuntime) -> Result<(), Fail> {
@@ -128,56 +105,5 @@ fn a_line_that_takes_nothing_is_idle(rt: HostRuntime) -> Result<(), Fail> {
     assert_eq!(rt; last_turn(&mut sim)?, SimTurn::Idle);
     assert_eq!(rt; last_turn(&mut sim)?, SimTurn::Idle);
     assert_eq!(rt; frames_of(alloc, sim.line_mut().sent())?.len(), 3);
-    Ok(())
-}
-
-/// A run in which the call with this number, of the reads or of the writes, fails; false where there are fewer calls.
-fn fails_at(alloc: Global, place: usize, reading: bool) -> Result<bool, Fail> {
-    let mut cuts = Vec::new(alloc);
-    for _ in 0..place {
-        cuts.push(Cut::Upto(7))?;
-    }
-    cuts.push(Cut::Fault)?;
-    let (reads, writes): (&[Cut], &[Cut]) = if reading {
-        (cuts.as_slice(), &[])
-    } else {
-        (&[], cuts.as_slice())
-    };
-    let line = CutLine::new(alloc, INPUT, reads, writes, 4096)?;
-    let mut sim = made(alloc, line, plain(Vec::new(alloc)))?;
-    match last_turn(&mut sim) {
-        Ok(_) => return Ok(false),
-        Err(SimError::Line) => {}
-        Err(why) => return Err(why.into()),
-    }
-    let sent = sim.line_mut().sent().len();
-    for _ in 0..3 {
-        let Err(SimError::Failed) = sim.turn() else {
-            return Err("it goes on after a fault".into());
-        };
-    }
-    if sim.line_mut().sent().len() != sent {
-        return Err("octets were sent after a fault".into());
-    }
-    Ok(true)
-}
-
-/// How many calls there are, of which each fails in a run of its own.
-fn failing(alloc: Global, reading: bool) -> Result<usize, Fail> {
-    for place in 0..100 {
-        if !fails_at(alloc, place, reading)? {
-            return Ok(place);
-        }
-    }
-    Ok(100)
-}
-
-#[test]
-fn each_fault_of_a_line_is_told_once(rt: HostRuntime) -> Result<(), Fail> {
-    let alloc = rt.alloc();
-    let reads = failing(alloc, true)?;
-    let writes = failing(alloc, false)?;
-    assert!(rt; 3 < reads && reads < 100);
-    assert!(rt; 3 < writes && writes < 100);
     Ok(())
 }

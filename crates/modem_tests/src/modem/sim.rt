@@ -2,7 +2,7 @@
 use at_text::Text;
 use modem_sim::{Modem, ModemStart, Script, Sim, SimError, SimTurn, Step, StepAct, Steps};
 use mux_frame::Dlci;
-use serial_line::{Cut, CutLine};
+use serial_line::CutLine;
 use std::alloc::{AllocError, Global};
 use std::test::Fail;
 
@@ -13,9 +13,6 @@ pub(super) const INPUT: &[u8] =
 /// UA on 0 and on 1, the MSC of the opening; then the line of the script and the answer.
 const OUTPUT: &[u8] =
     b"\xf9\x03\x73\x01\xd7\xf9\xf9\x07\x73\x01\x15\xf9\xf9\x01\xef\x09\xe3\x05\x07\x8d\x9a\xf9\xf9\x05\xef\x3b\r\nRING\r\n\r\n+CSQ: 18,99\r\n\r\nOK\r\n\x9f\xf9";
-
-/// UA on 0, and a CLD.
-const CLOSED: &[u8] = b"\xf9\x03\x73\x01\xd7\xf9\xf9\x01\xef\x05\xc3\x01\x93\xf9";
 
 /// A script with one step, due at once.
 fn script(alloc: Global, act: StepAct) -> Result<Script, AllocError> {
@@ -55,28 +52,5 @@ fn a_command_is_answered_behind_a_line_of_the_script(rt: HostRuntime) -> Result<
     let mut sim = made(alloc, line, script(alloc, act)?)?;
     assert_eq!(rt; last_turn(&mut sim)?, SimTurn::Idle);
     assert_eq!(rt; sim.line_mut().sent(), OUTPUT);
-    Ok(())
-}
-
-#[test]
-fn closing_down_is_the_end(rt: HostRuntime) -> Result<(), Fail> {
-    let alloc = rt.alloc();
-    let line = CutLine::new(alloc, &INPUT[..6], &[], &[], 4096)?;
-    let mut sim = made(alloc, line, script(alloc, StepAct::CloseDown)?)?;
-    assert_eq!(rt; last_turn(&mut sim)?, SimTurn::Ended);
-    assert_eq!(rt; last_turn(&mut sim)?, SimTurn::Ended);
-    let (line, _modem) = sim.finish();
-    assert_eq!(rt; line.sent(), CLOSED);
-    Ok(())
-}
-
-#[test]
-fn a_line_fails_once(rt: HostRuntime) -> Result<(), Fail> {
-    let alloc = rt.alloc();
-    let line = CutLine::new(alloc, INPUT, &[Cut::Upto(6), Cut::Fault], &[], 4096)?;
-    let mut sim = made(alloc, line, script(alloc, StepAct::CloseDown)?)?;
-    assert_eq!(rt; last_turn(&mut sim), Err(SimError::Line));
-    assert_eq!(rt; last_turn(&mut sim), Err(SimError::Failed));
-    assert_eq!(rt; last_turn(&mut sim), Err(SimError::Failed));
     Ok(())
 }

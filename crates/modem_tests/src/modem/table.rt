@@ -141,8 +141,11 @@ fn with_sim(t: &mut Table) -> Result<(), SimError> {
         no,
         Told::Done,
     )?;
+    row(t, ["AT+COPS=0", "at+cops=0"], no, Told::Done)?;
+    row(t, ["AT+COPS=2", "at+cops=2"], no, Told::Done)?;
     row(t, ["AT+CGDCONT?", "at+cgdcont?"], no, Told::Done)?;
     row(t, ["AT+CGATT=1", "at+cgatt=1"], no, Told::Done)?;
+    row(t, ["AT+CGATT=0", "at+cgatt=0"], no, Told::Done)?;
     row(t, ["AT+CGATT?", "at+cgatt?"], no, detached)
 }
 
@@ -167,18 +170,33 @@ fn each_command_is_told_what_the_table_says(rt: HostRuntime) -> Result<(), Fail>
     Ok(())
 }
 
-#[test]
-fn the_mode_of_errors_is_set_in_either_case_of_letters(rt: HostRuntime) -> Result<(), Fail> {
-    let mut modem = locked(rt.alloc())?;
-    for line in [
-        "AT+CMEE=2",
-        "at+cmee=2",
-        "AT+CMEE=1",
-        "at+cmee=1",
-        "AT+CMEE=0",
-        "at+cmee=0",
-    ] {
-        assert!(&rt; tells(&mut modem, line, Told::Done, Mode::Plain)?);
+/// A mode of errors is set, from each mode and in either case of letters, and errors are told in it from then on.
+fn is_set(modem: &mut Modem, lines: [&str; 2], mode: Mode) -> Result<bool, SimError> {
+    for before in ["AT+CMEE=0", "AT+CMEE=1", "AT+CMEE=2"] {
+        for line in lines {
+            answer(modem, before)?;
+            let done = tells(modem, line, Told::Done, mode)?;
+            if !done || !tells(modem, "AT+CMUX=0", Told::NotAllowed, mode)? {
+                return Ok(false);
+            }
+        }
     }
+    Ok(true)
+}
+
+fn are_set(modem: &mut Modem) -> Result<bool, SimError> {
+    let words = is_set(modem, ["AT+CMEE=2", "at+cmee=2"], Mode::Words)?;
+    let numbers = is_set(modem, ["AT+CMEE=1", "at+cmee=1"], Mode::Numbers)?;
+    let plain = is_set(modem, ["AT+CMEE=0", "at+cmee=0"], Mode::Plain)?;
+    Ok(words && numbers && plain)
+}
+
+#[test]
+fn the_mode_of_errors_is_set_whether_the_pin_was_given_or_not(rt: HostRuntime) -> Result<(), Fail> {
+    let mut modem = locked(rt.alloc())?;
+    assert!(&rt; are_set(&mut modem)?);
+    let entered = tells(&mut modem, "AT+CPIN=\"1234\"", Told::Done, Mode::Plain)?;
+    assert!(&rt; entered);
+    assert!(&rt; are_set(&mut modem)?);
     Ok(())
 }

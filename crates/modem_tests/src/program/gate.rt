@@ -14,8 +14,11 @@ const TWO: &str = "0 1 AT+CSQ\n1 2 AT+CGATT?\n";
 
 const TWO_TOLD: &str = "0 1 done\n| +CSQ: 18,99\n| OK\n1 1 done\n| +CGATT: 0\n| OK\n";
 
-// Two callers on a line with room for 64 octets each way come to TWO_TOLD.
-fn expect_two<R>(rt: &R, alloc: Global, script: Script)
+// So many octets may be under way each way.
+const CUTS: [usize; 3] = [1, 7, 64];
+
+// Two callers on such a line come to TWO_TOLD.
+fn expect_two<R>(rt: &R, alloc: Global, cut: usize, script: Script)
 where
     R: Threads + Wait + RandomSource + AllocGlobal + Abort + Copy + Send + Drop + 'static,
 {
@@ -29,7 +32,7 @@ where
         &mut output,
         &mut faults,
         2,
-        64,
+        cut,
         script,
     );
     assert_eq!(rt; faults.len(), 0);
@@ -40,27 +43,34 @@ where
 #[test]
 fn a_modem_may_echo(rt: HostRuntime) {
     let alloc = rt.alloc();
-    let script = Script {
-        echo: true,
-        steps: Steps::from(Vec::new(alloc)),
-    };
-    expect_two(&rt, alloc, script);
+    for cut in CUTS {
+        let script = Script {
+            echo: true,
+            steps: Steps::from(Vec::new(alloc)),
+        };
+        expect_two(&rt, alloc, cut, script);
+    }
 }
 
 // Each answer is held back until a command has come on the other connection.
-#[test]
-fn connections_and_callers_run_side_by_side(rt: HostRuntime) -> Result<(), Fail> {
-    let alloc = rt.alloc();
+fn held_back(alloc: Global) -> Result<Script, Fail> {
     let one = Dlci::new(1).ok_or("1 is a connection")?;
     let two = Dlci::new(2).ok_or("2 is a connection")?;
     let mut steps = Vec::new(alloc);
     for act in [StepAct::Hold(one, two), StepAct::Hold(two, one)] {
         steps.push(Step { after: 0, act })?;
     }
-    let script = Script {
+    Ok(Script {
         echo: false,
         steps: Steps::from(steps),
-    };
-    expect_two(&rt, alloc, script);
+    })
+}
+
+#[test]
+fn connections_and_callers_run_side_by_side(rt: HostRuntime) -> Result<(), Fail> {
+    let alloc = rt.alloc();
+    for cut in CUTS {
+        expect_two(&rt, alloc, cut, held_back(alloc)?);
+    }
     Ok(())
 }

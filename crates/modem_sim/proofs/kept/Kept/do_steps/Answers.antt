@@ -13,6 +13,7 @@ returns-in_err-do_steps-clause-goes c =
       pending = option_map pending_frame c.self.inside.pending;
       out = c.self.inside.out.items;
       failed = c.self.inside.failed;
+      end = c.self.inside.end;
     } in
     let Goes_to : Kept → Type 0 = λ k. KeptGoes k (record old { core = c.do_steps.new.self }) in
     subst Goes_to c.self.view_is (kept_core old c.do_steps.new.self c.do_steps.ensures.goes)
@@ -27,6 +28,7 @@ returns-clause-goes c =
       pending = option_map pending_frame c.self.inside.pending;
       out = c.self.inside.out.items;
       failed = c.self.inside.failed;
+      end = c.self.inside.end;
     } in
     let Goes_to : Kept → Type 0 = λ k. KeptGoes k (record old { core = c.do_steps.new.self }) in
     subst Goes_to c.self.view_is (kept_core old c.do_steps.new.self c.do_steps.ensures.goes)

@@ -16,6 +16,7 @@ returns-clause-goes c =
       pending = option_map pending_frame c.self.inside.pending;
       out = c.self.inside.out.items;
       failed = c.self.inside.failed;
+      end = c.self.inside.end;
     } in
     let new : Kept = record old { unfed = c.pass.new.self; deframer = c.feed-count.new.self } in
     let Goes_to : Kept → Type 0 = λ k. KeptGoes k new in
@@ -35,6 +36,7 @@ returns-clause-none c = λ none.
       pending = option_map pending_frame c.self.inside.pending;
       out = c.self.inside.out.items;
       failed = c.self.inside.failed;
+      end = c.self.inside.end;
     } in
     let new : Kept = record old { unfed = c.pass.new.self; deframer = c.feed-count.new.self } in
     let From : Kept → Type 0 = λ k. FeedsNone k new in

@@ -15,6 +15,7 @@ returns-in_err-offered-clause-goes c =
       pending = option_map pending_frame c.self.inside.pending;
       out = c.self.inside.out.items;
       failed = c.self.inside.failed;
+      end = c.self.inside.end;
     } in
     let Goes_to : Kept → Type 0 = λ k. KeptGoes k (record old { core = c.offer_all.new.self }) in
     subst Goes_to c.self.view_is (kept_core old c.offer_all.new.self c.offer_all.ensures.goes)
@@ -29,6 +30,7 @@ returns-in_default-clause-goes c =
       pending = option_map pending_frame c.self.inside.pending;
       out = c.self.inside.out.items;
       failed = c.self.inside.failed;
+      end = c.self.inside.end;
     } in
     let Goes_to : Kept → Type 0 = λ k. KeptGoes k (record old { core = c.outgoing.follows.lender-at-none }) in
     subst Goes_to c.self.view_is
@@ -49,6 +51,7 @@ returns-clause-goes c =
       pending = option_map pending_frame c.self.inside.pending;
       out = c.self.inside.out.items;
       failed = c.self.inside.failed;
+      end = c.self.inside.end;
     } in
     let Goes_to : Kept → Type 0 = λ k. KeptGoes k (record old { core = c.outgoing.follows.lender-at-none; pending = Some (pending_frame c.of.result) }) in
     subst Goes_to c.self.view_is
@@ -66,6 +69,7 @@ returns-in_default-clause-same c = λ none.
       pending = option_map pending_frame c.self.inside.pending;
       out = c.self.inside.out.items;
       failed = c.self.inside.failed;
+      end = c.self.inside.end;
     } in
     ap (λ (core : Core). record old { core = core })
     (fetched_nothing c.self.inside.core c.offer_all.new.self c.outgoing.follows.lender-at-none (length c.offer_all.new.self.station.queue == 0)

@@ -14,6 +14,7 @@ returns-then-not-is_empty-clause-reads g c =
       pending = option_map pending_frame c.self.inside.pending;
       out = c.self.inside.out.items;
       failed = c.self.inside.failed;
+      end = c.self.inside.end;
     } in
     let received = g.L.SerialLine.received c.args.line.now in
     let calls = g.L.SerialLine.calls c.args.line.now in
@@ -30,6 +31,7 @@ returns-in-Ok-clause-reads g c =
       pending = option_map pending_frame c.self.inside.pending;
       out = c.self.inside.out.items;
       failed = c.self.inside.failed;
+      end = c.self.inside.end;
     } in
     let new : Kept = record old { unfed = c.read.new.self } in
     let before = g.L.SerialLine.received c.args.line.now in

@@ -16,6 +16,7 @@ returns-clause-goes c =
       pending = option_map pending_frame c.self.inside.pending;
       out = c.self.inside.out.items;
       failed = c.self.inside.failed;
+      end = c.self.inside.end;
     } in
     let Hands : Deframing → Type 0 = λ d. HandsOver d c.advance.new.self in
     let holds = c.peek.follows.holds-at-none in
@@ -36,6 +37,7 @@ returns-clause-does c = λ _.
       pending = option_map pending_frame c.self.inside.pending;
       out = c.self.inside.out.items;
       failed = c.self.inside.failed;
+      end = c.self.inside.end;
     } in
     let Hands : Deframing → Type 0 = λ d. HandsOver d c.advance.new.self in
     let holds = c.peek.follows.holds-at-none in

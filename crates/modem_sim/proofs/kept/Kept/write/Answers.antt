@@ -14,6 +14,7 @@ returns-then-is_empty-clause-writes g c =
       pending = option_map pending_frame c.self.inside.pending;
       out = c.self.inside.out.items;
       failed = c.self.inside.failed;
+      end = c.self.inside.end;
     } in
     let sent = g.L.SerialLine.sent c.args.line.now in
     let calls = g.L.SerialLine.calls c.args.line.now in
