@@ -1,10 +1,3 @@
-pub mod ValueLemmas
-pub mod ParamLemmas
-pub mod LineLemmas
-pub mod ReadingLemmas
-pub mod FormLemmas
-pub mod NameLemmas
-pub mod CommandLemmas
-pub mod ReadLemmas
-pub mod LawLemmas
-pub mod AnswerLemmas
+pub mod values_read
+pub mod command_texts
+pub mod AnswerLines

@@ -16,7 +16,8 @@ pdp_text Ipv6 = codes "IPV6"
 pdp_text Ipv4v6 = codes "IPV4V6"
 
 abbrev pub context_text : ℕ → Pdp → List ℕ → List ℕ
-context_text cid pdp apn = codes "AT+CGDCONT=" ++ numeral cid ++ codes "," ++ in_quotes (pdp_text pdp) ++ codes "," ++ in_quotes apn
+context_text cid pdp apn =
+    codes "AT+CGDCONT=" ++ numeral cid ++ codes "," ++ in_quotes (pdp_text pdp) ++ codes "," ++ in_quotes apn
 
 -- the text of a command
 abbrev pub text_of : Command → List ℕ
@@ -125,7 +126,8 @@ pub record IsUnread (Holds : Command → Type 0) (c : Command) : Type 0 where
   pub only : IsOnly Holds c
   pub has_text : has_own_text c ≡ true
 
--- what reading a text answers: the only command whose text it is, that there is none, or that memory was refused
+-- what reading a text answers: the only command whose text it is, that there is none, or that memory was
+-- refused
 abbrev pub Reads : (Command → Type 0) → Result (Option Command) CmdError → Type 0
 Reads Holds (Ok None) = (c : Command) → ¬ Holds c
 Reads Holds (Ok (Some c)) = IsOnly Holds c

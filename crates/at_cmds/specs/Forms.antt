@@ -11,7 +11,8 @@ numeral n = if nat_lt n 10 then (48 + n) ∷ [] else (48 + n / 10) ∷ (48 + n %
 -- the number that such a numeral stands for
 unfoldable pub numeral_in : List ℕ → Option ℕ
 numeral_in (low ∷ []) = if is_digit low then Some (low - 48) else None
-numeral_in (high ∷ low ∷ []) = if not (high == 48) && (is_digit high && is_digit low) then Some ((high - 48) * 10 + (low - 48)) else None
+numeral_in (high ∷ low ∷ []) =
+    if not (high == 48) && (is_digit high && is_digit low) then Some ((high - 48) * 10 + (low - 48)) else None
 numeral_in _ = None
 
 -- a text between two quotes

@@ -8,12 +8,15 @@ use Rattle.at_cmds.specs.Commands.{head, name_of, Writes, IsTextOf, Reads, IsEqu
 -- what was written is read as what it was written from
 abbrev pub WrittenIsRead : Command → List ℕ → Result (Option Command) CmdError → Type 0
 WrittenIsRead c line read =
-    Writes c (Ok line) → Reads (IsTextOf line) read → MatchResult read (λ found. found ≡ Some c) (λ why. why ≡ NoMemory)
+    Writes c (Ok line) → Reads (IsTextOf line) read
+    → MatchResult read (λ found. found ≡ Some c) (λ why. why ≡ NoMemory)
 
 -- what was read is written as it was, but for the case of the letters of AT and of the name
 abbrev pub ReadIsWritten : Command → List ℕ → Result (List ℕ) CmdError → Type 0
 ReadIsWritten c text line =
-    Reads (IsTextOf text) (Ok (Some c)) → Writes c line → MatchResult line (λ written. IsEqualBehind (length (head (name_of c))) text written) (λ why. why ≡ NoMemory)
+    Reads (IsTextOf text) (Ok (Some c)) → Writes c line
+    → MatchResult line (λ written. IsEqualBehind (length (head (name_of c))) text written)
+    (λ why. why ≡ NoMemory)
 
 -- a text is that of one command at most
 abbrev pub IsOfOne : List ℕ → Command → Command → Type 0

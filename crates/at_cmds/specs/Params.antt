@@ -39,14 +39,18 @@ pub record EndsAt (text : List ℕ) (end : ℕ) : Type 0 where
 unfoldable pub number_of : List ℕ → Option ℕ
 number_of param =
     let digits = skip_blanks param in
-    if list_all is_digit digits && (nat_le 1 (length digits) && (nat_le (length digits) 3 && nat_le (decimal digits) 255)) then Some (decimal digits) else None
+    if list_all is_digit digits
+    && (nat_le 1 (length digits) && (nat_le (length digits) 3 && nat_le (decimal digits) 255))
+    then Some (decimal digits) else None
 
 -- a quoted text: a quote, the text and a quote, the text without quotes
 unfoldable pub unquoted : List ℕ → Option (List ℕ)
 unquoted quoted =
     let behind = drop 1 quoted in
     let inner = take (length behind - 1) behind in
-    if bytes_eq (take 1 quoted) (codes "\"") && (bytes_eq (drop (length behind - 1) behind) (codes "\"") && not (list_any is_quote inner)) then Some inner else None
+    if bytes_eq (take 1 quoted) (codes "\"")
+    && (bytes_eq (drop (length behind - 1) behind) (codes "\"") && not (list_any is_quote inner))
+    then Some inner else None
 
 -- a quoted text after any blanks
 abbrev pub quoted_of : List ℕ → Option (List ℕ)
@@ -59,7 +63,8 @@ hexadecimal digits = fold (λ n c. n * 16 + digit_value c) 0 digits
 -- 1 to 8 hexadecimal digits
 unfoldable pub hex_of : List ℕ → Option ℕ
 hex_of digits =
-    if list_all is_ascii_hexdigit digits && (nat_le 1 (length digits) && nat_le (length digits) 8) then Some (hexadecimal digits) else None
+    if list_all is_ascii_hexdigit digits && (nat_le 1 (length digits) && nat_le (length digits) 8)
+    then Some (hexadecimal digits) else None
 
 -- what may be left out: nothing at all between the commas, or the form
 abbrev pub optional : {A : Type 0} → (List ℕ → Option A) → List ℕ → Option (Option A)

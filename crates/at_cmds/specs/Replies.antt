@@ -102,7 +102,9 @@ attached_of text =
 -- the first line from an index on that begins with a name: its index, and what follows the name
 abbrev pub named_from : List ℕ → ℕ → List AnswerLine → Option (ℕ × List ℕ)
 named_from name i [] = None
-named_from name i (line ∷ lines) = if starts_with nat_eq line.text name then Some (i, drop (length name) line.text) else named_from name (i + 1) lines
+named_from name i (line ∷ lines) =
+    if starts_with nat_eq line.text name then Some (i, drop (length name) line.text)
+    else named_from name (i + 1) lines
 
 unfoldable pub first_named : List ℕ → List AnswerLine → Option (ℕ × List ℕ)
 first_named name lines = named_from name 0 lines
@@ -119,11 +121,14 @@ read_line form (Some line) = formed line.0 (form line.1)
 
 -- the context of a line, where it has one
 abbrev pub context_in : AnswerLine → Option Context
-context_in line = if starts_with nat_eq line.text (codes "+CGDCONT:") then context_of (parameters (drop 9 line.text)) else None
+context_in line =
+    if starts_with nat_eq line.text (codes "+CGDCONT:") then context_of (parameters (drop 9 line.text))
+    else None
 
 -- a line that begins with the name of contexts, and isn't of their form
 abbrev pub is_malformed_context : AnswerLine → Bool
-is_malformed_context line = starts_with nat_eq line.text (codes "+CGDCONT:") && is_none (context_of (parameters (drop 9 line.text)))
+is_malformed_context line =
+    starts_with nat_eq line.text (codes "+CGDCONT:") && is_none (context_of (parameters (drop 9 line.text)))
 
 -- the contexts of all lines, if none of those with their name is of another form
 abbrev pub contexts_unless : Option ℕ → List AnswerLine → Result Reply ReplyFault
@@ -140,9 +145,12 @@ oper_reply_of text = do
 
 -- the reply to a command whose answer ends with OK
 abbrev pub good_reply_of : Command → List AnswerLine → Result Reply ReplyFault
-good_reply_of PinQuery lines = read_line (λ text. Some (Pin (pin_of text))) (first_named (codes "+CPIN:") lines)
-good_reply_of RegQuery lines = read_line (λ text. reg_of (parameters text)) (first_named (codes "+CREG:") lines)
-good_reply_of SignalQuery lines = read_line (λ text. signal_of (parameters text)) (first_named (codes "+CSQ:") lines)
+good_reply_of PinQuery lines =
+    read_line (λ text. Some (Pin (pin_of text))) (first_named (codes "+CPIN:") lines)
+good_reply_of RegQuery lines =
+    read_line (λ text. reg_of (parameters text)) (first_named (codes "+CREG:") lines)
+good_reply_of SignalQuery lines =
+    read_line (λ text. signal_of (parameters text)) (first_named (codes "+CSQ:") lines)
 good_reply_of OperQuery lines = read_line oper_reply_of (first_named (codes "+COPS:") lines)
 good_reply_of ContextQuery lines = contexts_of lines
 good_reply_of AttachQuery lines = read_line attached_of (first_named (codes "+CGATT:") lines)
@@ -186,5 +194,6 @@ takes_memory _ = false
 
 -- what is answered is the reply or the fault, but where memory for the reply is refused
 abbrev pub Answers : Result Reply ReplyFault → Result Reply ReplyFault → Type 0
-Answers result (Ok reply) = MatchResult result (λ r. r ≡ reply) (λ why. (why ≡ NoMemory) × (takes_memory reply ≡ true))
+Answers result (Ok reply) =
+    MatchResult result (λ r. r ≡ reply) (λ why. (why ≡ NoMemory) × (takes_memory reply ≡ true))
 Answers result (Err why) = result ≡ Err why

@@ -45,19 +45,19 @@ pdp_in text =
     else if bytes_eq text (codes "IPV4V6") then Some Ipv4v6
     else None
 
-abbrev pub context_in : List (List ℕ) → Option (ℕ × Pdp × List ℕ)
-context_in (cid ∷ pdp ∷ apn ∷ []) = do
+abbrev pub context_value : List (List ℕ) → Option (ℕ × Pdp × List ℕ)
+context_value (cid ∷ pdp ∷ apn ∷ []) = do
   n ← numeral_in cid
   kind ← unquoted pdp
   k ← pdp_in kind
   a ← unquoted apn
   if is_cid n && is_apn a then Some (n, k, a) else None
-context_in _ = None
+context_value _ = None
 
 abbrev pub context_set_in : List ℕ → Option (ℕ × Pdp × List ℕ)
 context_set_in value = do
   text ← after_equals value
-  context_in (parameters text)
+  context_value (parameters text)
 
 -- a command of a name with this value
 unfoldable pub command_in : Name → List ℕ → Option Command

@@ -14,7 +14,8 @@ use crate::error::ReplyFault;
 use crate::params::first_param;
 use crate::reply::{Context, Contexts, NamedOper, PinState, Reply};
 use crate::texts::Quoted;
-use crate::values::{number_of, quoted_of, skip_blanks};
+use crate::values::{number_of, quoted_of};
+use at_text::octets::skip_blanks;
 use at_text::{AnswerLine, Final, Text, final_of};
 use std::alloc::{AllocError, Global};
 
@@ -35,7 +36,7 @@ pub(crate) fn fault_in(lines: &[AnswerLine]) -> Option<ReplyFault>
     }
 }
 
-#[tactic(auto, using(crate::proofs::AnswerLemmas::cme_long))]
+#[tactic(auto, using(crate::proofs::AnswerLines::cme_long))]
 fn fault_by(text: &[u8]) -> Option<ReplyFault>
     ensures { result ≡ fault_by (final_of text.now) text.now }
 {
@@ -60,7 +61,7 @@ fn words_fault(code: &[u8]) -> ReplyFault
 }
 
 /// The first line that begins with a name: its index, and what follows the name.
-#[tactic(auto, using(crate::proofs::AnswerLemmas::named_here, crate::proofs::AnswerLemmas::named_passed), unfolding(crate::specs::Replies::first_named))]
+#[tactic(auto, using(crate::proofs::AnswerLines::named_here, crate::proofs::AnswerLines::named_passed), unfolding(crate::specs::Replies::first_named))]
 fn first_named<'a>(lines: &'a [AnswerLine], name: &[u8]) -> Option<(usize, &'a [u8])>
     ensures { option_map (λ line. (line.0, line.1.now)) result ≡ first_named name.now lines.now }
 {
@@ -74,7 +75,8 @@ fn first_named<'a>(lines: &'a [AnswerLine], name: &[u8]) -> Option<(usize, &'a [
 }
 
 pub(crate) fn pin_reply(alloc: Global, lines: &[AnswerLine]) -> Result<Reply, ReplyFault>
-    ensures { Answers result (read_line (λ text. Some (Pin (pin_of text))) (first_named (codes "+CPIN:") lines.now)) }
+    ensures { Answers result
+        (read_line (λ text. Some (Pin (pin_of text))) (first_named (codes "+CPIN:") lines.now)) }
 {
     let Some((_, text)) = first_named(lines, b"+CPIN:") else {
         return Err(ReplyFault::Missing);
@@ -93,7 +95,8 @@ pub(crate) fn pin_reply(alloc: Global, lines: &[AnswerLine]) -> Result<Reply, Re
 }
 
 pub(crate) fn reg_reply(lines: &[AnswerLine]) -> Result<Reply, ReplyFault>
-    ensures { Answers result (read_line (λ text. reg_of (parameters text)) (first_named (codes "+CREG:") lines.now)) }
+    ensures { Answers result
+        (read_line (λ text. reg_of (parameters text)) (first_named (codes "+CREG:") lines.now)) }
 {
     let Some((index, text)) = first_named(lines, b"+CREG:") else {
         return Err(ReplyFault::Missing);
@@ -112,7 +115,8 @@ fn reg_in(text: &[u8]) -> Option<Reply>
 }
 
 pub(crate) fn signal_reply(lines: &[AnswerLine]) -> Result<Reply, ReplyFault>
-    ensures { Answers result (read_line (λ text. signal_of (parameters text)) (first_named (codes "+CSQ:") lines.now)) }
+    ensures { Answers result
+        (read_line (λ text. signal_of (parameters text)) (first_named (codes "+CSQ:") lines.now)) }
 {
     let Some((index, text)) = first_named(lines, b"+CSQ:") else {
         return Err(ReplyFault::Missing);
@@ -189,7 +193,7 @@ fn is_malformed_context(text: &[u8]) -> bool
     text.starts_with(CONTEXT) && context_in(&text[CONTEXT.len()..]).is_none()
 }
 
-#[tactic(auto, using(crate::proofs::AnswerLemmas::more_none, crate::proofs::AnswerLemmas::more_some, crate::proofs::AnswerLemmas::one_left))]
+#[tactic(auto, using(crate::proofs::AnswerLines::more_none, crate::proofs::AnswerLines::more_some, crate::proofs::AnswerLines::one_left))]
 /// The contexts of the lines that have one. Memory is wanted only where there is a context.
 fn contexts_in(alloc: Global, lines: &[AnswerLine]) -> Result<Vec<Context>, AllocError>
     ensures ok { IfOk result (λ contexts. contexts.items ≡ filter_map context_in lines.now) }
@@ -206,7 +210,8 @@ fn contexts_in(alloc: Global, lines: &[AnswerLine]) -> Result<Vec<Context>, Allo
 
 /// The parts of the context that a line tells, if it begins with their name.
 fn context_in_line(text: &[u8]) -> Option<ContextParts<'_>>
-    ensures { option_map (λ x. context_parts x.0 x.1.now x.2.now) result ≡ context_in (record { text = text.now }) }
+    ensures { option_map (λ x. context_parts x.0 x.1.now x.2.now) result
+        ≡ context_in (record { text = text.now }) }
 {
     if !text.starts_with(CONTEXT) {
         return None;
@@ -218,7 +223,8 @@ fn context_in_line(text: &[u8]) -> Option<ContextParts<'_>>
 type ContextParts<'a> = (u8, &'a [u8], &'a [u8]);
 
 fn context_of(alloc: Global, parts: ContextParts<'_>) -> Result<Context, AllocError>
-    ensures { IfOk result (λ context. context ≡ context_parts parts.entry.0 parts.entry.1.now parts.entry.2.now) }
+    ensures { IfOk result
+        (λ context. context ≡ context_parts parts.entry.0 parts.entry.1.now parts.entry.2.now) }
 {
     let (cid, pdp, apn) = parts;
     Ok(Context {
@@ -248,7 +254,8 @@ type NamedParts<'a> = (u8, &'a [u8], Option<u8>);
 
 #[tactic(auto, unfolding(crate::specs::Replies::oper_of))]
 fn oper_in(text: &[u8]) -> Option<OperParts<'_>>
-    ensures { option_map (λ x. (x.0, option_map (λ named. named_parts named.0 named.1.now named.2) x.1)) result ≡ oper_of (parameters text.now) }
+    ensures { option_map (λ x. (x.0, option_map (λ named. named_parts named.0 named.1.now named.2) x.1))
+        result ≡ oper_of (parameters text.now) }
 {
     let (mode, rest) = first_param(text);
     let mode = number_of(mode)?;
@@ -259,7 +266,8 @@ fn oper_in(text: &[u8]) -> Option<OperParts<'_>>
 }
 
 fn named_in(text: &[u8]) -> Option<NamedParts<'_>>
-    ensures { option_map (λ named. Some (named_parts named.0 named.1.now named.2)) result ≡ named_of (parameters text.now) }
+    ensures { option_map (λ named. Some (named_parts named.0 named.1.now named.2)) result
+        ≡ named_of (parameters text.now) }
 {
     let (format, rest) = first_param(text);
     let (oper, rest) = first_param(rest?);

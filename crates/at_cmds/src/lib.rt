@@ -11,8 +11,6 @@ mod params;
 mod reading;
 mod registration;
 mod reply;
-#[cfg(test)]
-mod tests;
 mod texts;
 mod values;
 mod writing;

@@ -3,7 +3,7 @@ ghost use Rattle.std.specs.Prelude.{◌≡◌, length, map, drop, option_map, Ma
 ghost use Rattle.at_cmds.specs.Params.{parameters, unquoted};
 ghost use Rattle.at_cmds.specs.Forms.{numeral_in};
 ghost use Rattle.at_cmds.specs.Commands.{HasHead, Cpin, Creg, Csq, Cops, Cgdcont, Cgatt, Cmee, Cmux};
-ghost use Rattle.at_cmds.specs.Values.{Gives, command_in, after_equals, pin_in, mode_in, oper_in, pdp_in, context_in, context_set_in};
+ghost use Rattle.at_cmds.specs.Values.{Gives, command_in, after_equals, pin_in, mode_in, oper_in, pdp_in, context_value, context_set_in};
 
 use crate::command::{Command, OperChoice, Pdp};
 use crate::error::CmdError;
@@ -18,7 +18,8 @@ const QUERY: &[u8] = b"?";
 
 /// What follows the beginning of a text, if it is this one with its letters in either case.
 pub(crate) fn after_head<'a>(text: &'a [u8], head: &[u8]) -> Option<&'a [u8]>
-    ensures { MatchOption result (¬ HasHead head.now text.now) (λ value. HasHead head.now text.now × (value.now ≡ drop (length head.now) text.now)) }
+    ensures { MatchOption result (¬ HasHead head.now text.now)
+        (λ value. HasHead head.now text.now × (value.now ≡ drop (length head.now) text.now)) }
 {
     let (front, value) = text.split_at_checked(head.len())?;
     if !front.eq_ignore_ascii_case(head) {
@@ -192,15 +193,17 @@ fn pdp_in(text: &[u8]) -> Option<Pdp>
 }
 
 fn context_set_in(value: &[u8]) -> Option<(u8, Pdp, &[u8])>
-    ensures { option_map (λ context. (context.0, context.1, context.2.now)) result ≡ context_set_in value.now }
+    ensures { option_map (λ context. (context.0, context.1, context.2.now)) result
+        ≡ context_set_in value.now }
 {
     context_in(after_equals(value)?)
 }
 
-#[tactic(auto, using(crate::proofs::ReadingLemmas::too_many))]
+#[tactic(auto, using(crate::proofs::values_read::ParameterCounts::too_many))]
 /// A context's number, its kind and its access point's name, and nothing behind them.
 fn context_in(text: &[u8]) -> Option<(u8, Pdp, &[u8])>
-    ensures { option_map (λ context. (context.0, context.1, context.2.now)) result ≡ context_in (parameters text.now) }
+    ensures { option_map (λ context. (context.0, context.1, context.2.now)) result
+        ≡ context_value (parameters text.now) }
 {
     let (cid, rest) = first_param(text);
     let (pdp, rest) = first_param(rest?);

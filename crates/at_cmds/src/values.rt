@@ -2,19 +2,9 @@
 ghost use Rattle.std.specs.Prelude.{◌≡◌, ◌^◌, ◌<◌, ◌≤◌, length, IsTrue, option_map};
 ghost use Rattle.std.specs.List.{list_all};
 ghost use Rattle.std.specs.Char.{is_ascii_hexdigit, digit_value};
-ghost use Rattle.at_text.specs.Octets.{is_digit, skip_blanks as from_first, decimal};
 ghost use Rattle.at_cmds.specs.Params.{number_of, quoted_of, unquoted, hex_of, cell_code_of, hexadecimal, optional};
 
-/// A text from its first octet on that is no blank.
-pub(crate) fn skip_blanks(text: &[u8]) -> &[u8]
-    ensures { result.now ≡ from_first text.now }
-{
-    let mut rest = text;
-    while let [b' ', more @ ..] = rest {
-        rest = more;
-    }
-    rest
-}
+use at_text::octets::{all_digits, skip_blanks, value_of};
 
 /// A number: after any blanks 1 to 3 digits, at most 255.
 #[tactic(auto, unfolding(crate::specs::Params::number_of))]
@@ -26,24 +16,6 @@ pub(crate) fn number_of(param: &[u8]) -> Option<u8>
         return None;
     }
     u8::try_from(value_of(digits)).ok()
-}
-
-pub(crate) fn all_digits(text: &[u8]) -> bool
-    ensures { result ≡ list_all is_digit text.now }
-{
-    text.iter().all(|octet| octet.is_ascii_digit())
-}
-
-fn value_of(digits: &[u8]) -> u32
-    requires digits { IsTrue (list_all is_digit digits.now) }
-    requires short { length digits.now ≤ 3 }
-    ensures { result ≡ decimal digits.now }
-{
-    let mut value = 0;
-    for digit in digits {
-        value = value * 10 + u32::from(digit - b'0');
-    }
-    value
 }
 
 /// A quoted text: a quote, the text and a quote, the text without quotes.

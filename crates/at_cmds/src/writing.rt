@@ -7,8 +7,8 @@ ghost use Rattle.at_cmds.specs.Commands.{pdp_text, context_text};
 
 use crate::command::Pdp;
 use crate::error::CmdError;
-use crate::values::all_digits;
 use at_text::CommandLine;
+use at_text::octets::all_digits;
 use std::alloc::{AllocError, Global};
 
 /// A text that is a command line.
@@ -22,10 +22,11 @@ pub(crate) fn fixed_line(alloc: Global, text: &[u8]) -> Result<CommandLine, CmdE
     }
 }
 
-#[tactic(auto, using(crate::proofs::LineLemmas::pin_fits))]
+#[tactic(auto, using(crate::proofs::command_texts::CommandLines::pin_fits))]
 pub(crate) fn pin_line(alloc: Global, pin: &[u8]) -> Result<CommandLine, CmdError>
     ensures { MatchBool (is_pin pin.now)
-        (MatchResult result (λ line. line ≡ codes "AT+CPIN=" ++ in_quotes pin.now) (λ why. why ≡ CmdError.NoMemory))
+        (MatchResult result (λ line. line ≡ codes "AT+CPIN=" ++ in_quotes pin.now)
+        (λ why. why ≡ CmdError.NoMemory))
         (result ≡ Err CmdError.BadPin) }
 {
     if !is_pin(pin) {
@@ -34,10 +35,11 @@ pub(crate) fn pin_line(alloc: Global, pin: &[u8]) -> Result<CommandLine, CmdErro
     quoted_line(alloc, b"AT+CPIN=", pin)
 }
 
-#[tactic(auto, using(crate::proofs::LineLemmas::oper_fits))]
+#[tactic(auto, using(crate::proofs::command_texts::CommandLines::oper_fits))]
 pub(crate) fn oper_line(alloc: Global, oper: &[u8]) -> Result<CommandLine, CmdError>
     ensures { MatchBool (is_oper oper.now)
-        (MatchResult result (λ line. line ≡ codes "AT+COPS=1,2," ++ in_quotes oper.now) (λ why. why ≡ CmdError.NoMemory))
+        (MatchResult result (λ line. line ≡ codes "AT+COPS=1,2," ++ in_quotes oper.now)
+        (λ why. why ≡ CmdError.NoMemory))
         (result ≡ Err CmdError.BadNumber) }
 {
     if !is_oper(oper) {
@@ -61,7 +63,7 @@ pub(crate) fn mode_line(alloc: Global, head: &[u8], n: u8) -> Result<CommandLine
     fixed_line(alloc, &line)
 }
 
-#[tactic(auto, using(crate::proofs::LineLemmas::context_fits))]
+#[tactic(auto, using(crate::proofs::command_texts::CommandLines::context_fits))]
 pub(crate) fn context_line(
     alloc: Global,
     cid: u8,
@@ -91,7 +93,8 @@ pub(crate) fn context_line(
 
 fn quoted_line(alloc: Global, head: &[u8], text: &[u8]) -> Result<CommandLine, CmdError>
     requires { refusal_of (head.now ++ in_quotes text.now) ≡ None }
-    ensures { MatchResult result (λ line. line ≡ head.now ++ in_quotes text.now) (λ why. why ≡ CmdError.NoMemory) }
+    ensures { MatchResult result (λ line. line ≡ head.now ++ in_quotes text.now)
+        (λ why. why ≡ CmdError.NoMemory) }
 {
     let mut line = Vec::from_slice(alloc, head)?;
     push_quoted(&mut line, text)?;

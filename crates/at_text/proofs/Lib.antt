@@ -1,10 +1,6 @@
-pub mod CommandLemmas
-pub mod Computed
-pub mod OctetLemmas
-pub mod CommaLemmas
-pub mod LineLemmas
-pub mod ReaderLemmas
-pub mod WindowLemmas
-pub mod ForkLemmas
-pub mod WholeLemmas
-pub mod PlacingLemmas
+pub mod CommandTexts
+pub mod RowFacts
+pub mod ShortNumbers
+pub mod Commas
+pub mod lines
+pub mod windows

@@ -41,4 +41,5 @@ decimal digits = fold (λ n c. n * 10 + (c - 48)) 0 digits
 abbrev pub number_in : List ℕ → Option ℕ
 number_in text =
     let digits = skip_blanks text in
-    if list_all is_digit digits && (nat_le 1 (length digits) && nat_le (length digits) 9) then Some (decimal digits) else None
+    if list_all is_digit digits && (nat_le 1 (length digits) && nat_le (length digits) 9)
+    then Some (decimal digits) else None

@@ -9,7 +9,8 @@ use Rattle.at_text.specs.Unsolicited.{unsolicited_of, is_solicited}
 use Rattle.at_text.specs.Windows.{Mark, Line, Window, answer_of, open_window, IsInTurn}
 use Rattle.at_text.specs.Seeing.{answer_lines, is_fresh, by_kind, seen_after}
 
--- a command whose answer isn't whole: its text, the answer so far, and whether the next line that isn't unsolicited may be the echo
+-- a command whose answer isn't whole: its text, the answer so far, and whether the next line that isn't
+-- unsolicited may be the echo
 pub record OpenWindow : Type 0 where
   pub command : List ℕ
   pub lines : List AnswerLine
@@ -23,7 +24,8 @@ opened command = record { command = command; lines = []; fresh = true }
 abbrev pub shown : Window → OpenWindow
 shown w = record { command = w.command; lines = answer_lines (answer_of w); fresh = is_fresh w }
 
--- these marks were placed since the window was made or its command dropped: each command where none was under way, and the window shows what is open
+-- these marks were placed since the window was made or its command dropped: each command where none was under
+-- way, and the window shows what is open
 pub record FitsMarks (window : Option OpenWindow) (past : List Mark) : Type 0 where
   pub in_turn : IsInTurn past
   pub shows : window ≡ option_map shown (open_window past)
@@ -39,7 +41,8 @@ is_echo o line = o.fresh && bytes_eq line o.command
 
 -- the answer with one more line
 abbrev pub with_line : OpenWindow → List ℕ → OpenWindow
-with_line o line = record { command = o.command; lines = o.lines ++ record { text = line } ∷ []; fresh = false }
+with_line o line =
+    record { command = o.command; lines = o.lines ++ record { text = line } ∷ []; fresh = false }
 
 -- one step: what a line that isn't unsolicited is, by what the window shows, and what the window shows then
 abbrev pub solicited_by : Option OpenWindow → List ℕ → Seen

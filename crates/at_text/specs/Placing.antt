@@ -17,13 +17,17 @@ octets_of (Command text ∷ parts) = octets_of parts
 -- the marks of what comes after an unfinished run: each line where its end comes
 abbrev pub marks_from : List ℕ → List Part → List Mark
 marks_from run [] = []
-marks_from run (Octets text ∷ parts) = map Line (lines (run ++ text)) ++ marks_from (kept_run (run ++ text)) parts
+marks_from run (Octets text ∷ parts) =
+    map Line (lines (run ++ text)) ++ marks_from (kept_run (run ++ text)) parts
 marks_from run (Command text ∷ parts) = Begun text ∷ marks_from run parts
 
 abbrev pub marks_of : List Part → List Mark
 marks_of parts = marks_from [] parts
 
--- the lines that are placed are the lines of all octets, whatever commands come between, and where octets are cut changes no mark
+-- the lines that are placed are the lines of all octets, whatever commands come between, and where octets are
+-- cut changes no mark
 pub record PlacesLines (parts : List Part) : Type 0 where
   pub all : lines_of (marks_of parts) ≡ lines (octets_of parts)
-  pub cut : (before : List Part) (x y : List ℕ) → marks_of (before ++ Octets (x ++ y) ∷ parts) ≡ marks_of (before ++ Octets x ∷ Octets y ∷ parts)
+  pub cut :
+      (before : List Part) (x y : List ℕ)
+      → marks_of (before ++ Octets (x ++ y) ∷ parts) ≡ marks_of (before ++ Octets x ∷ Octets y ∷ parts)

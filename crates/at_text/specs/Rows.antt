@@ -15,7 +15,8 @@ abbrev pub written : List ℕ → List ℕ
 written line = 13 ∷ 10 ∷ line ++ 13 ∷ 10 ∷ []
 
 pub record AreLines : Type 0 where
-  pub two : lines (written (codes "+CSQ: 18,99") ++ written (codes "OK")) ≡ codes "+CSQ: 18,99" ∷ codes "OK" ∷ []
+  pub two :
+      lines (written (codes "+CSQ: 18,99") ++ written (codes "OK")) ≡ codes "+CSQ: 18,99" ∷ codes "OK" ∷ []
   pub none : lines (13 ∷ 10 ∷ 13 ∷ 10 ∷ []) ≡ []
   pub by_lf : lines (codes "RING" ++ 10 ∷ codes "OK") ≡ codes "RING" ∷ []
   pub rest : unfinished (codes "RING" ++ 10 ∷ codes "OK") ≡ codes "OK"
@@ -72,7 +73,8 @@ CregBoth =
 abbrev pub CgregBoth : Type 0
 CgregBoth =
     Reads
-    (Begun (codes "AT+CGREG?") ∷ Line (codes "+CGREG: 2") ∷ Line (codes "+CGREG: 0,1") ∷ Line (codes "OK") ∷ [])
+    (Begun (codes "AT+CGREG?") ∷ Line (codes "+CGREG: 2") ∷ Line (codes "+CGREG: 0,1") ∷ Line (codes "OK")
+    ∷ [])
     (Unsolicited Cgreg ∷ Kept ∷ done (codes "+CGREG: 0,1" ∷ codes "OK" ∷ []) ∷ [])
     ((codes "+CGREG: 0,1" ∷ codes "OK" ∷ []) ∷ [])
 
@@ -86,13 +88,15 @@ EarlyOk =
 abbrev pub EchoOnce : Type 0
 EchoOnce =
     Reads
-    (Begun (codes "AT+CSQ") ∷ Line (codes "RING") ∷ Line (codes "AT+CSQ") ∷ Line (codes "AT+CSQ") ∷ Line (codes "OK") ∷ [])
+    (Begun (codes "AT+CSQ") ∷ Line (codes "RING") ∷ Line (codes "AT+CSQ") ∷ Line (codes "AT+CSQ")
+    ∷ Line (codes "OK") ∷ [])
     (Unsolicited Ring ∷ Echo ∷ Kept ∷ done (codes "AT+CSQ" ∷ codes "OK" ∷ []) ∷ [])
     ((codes "AT+CSQ" ∷ codes "OK" ∷ []) ∷ [])
 
 abbrev pub TwoCommands : Type 0
 TwoCommands =
     Reads
-    (Begun (codes "AT") ∷ Line (codes "ERROR") ∷ Begun (codes "AT+CSQ") ∷ Line (codes "+CSQ: 18,99") ∷ Line (codes "OK") ∷ [])
+    (Begun (codes "AT") ∷ Line (codes "ERROR") ∷ Begun (codes "AT+CSQ") ∷ Line (codes "+CSQ: 18,99")
+    ∷ Line (codes "OK") ∷ [])
     (done (codes "ERROR" ∷ []) ∷ Kept ∷ done signal ∷ [])
     ((codes "ERROR" ∷ []) ∷ signal ∷ [])

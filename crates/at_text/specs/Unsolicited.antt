@@ -11,10 +11,12 @@ use Rattle.at_text.specs.Octets.{is_digit, is_quote, skip_blanks, begins, after_
 abbrev pub is_without_second : List ℕ → Bool
 is_without_second line = option_map_or (λ rest. begins is_quote (skip_blanks rest)) (after_comma line) true
 
--- the line is this name, any blanks and a digit, then anything without a second number: it reports, and answers no query
+-- the line is this name, any blanks and a digit, then anything without a second number: it reports, and
+-- answers no query
 abbrev pub is_report : List ℕ → List ℕ → Bool
 is_report name line =
-    starts_with nat_eq line name && (begins is_digit (skip_blanks (drop (length name) line)) && is_without_second line)
+    starts_with nat_eq line name
+    && (begins is_digit (skip_blanks (drop (length name) line)) && is_without_second line)
 
 -- the kind of a line that no command asked for, by octet
 abbrev pub unsolicited_of : List ℕ → Option UrcKind

@@ -21,9 +21,9 @@ abbrev pub parts : List (List ℕ) → List Seen → List (List ℕ)
 parts ls seen = filter_map (λ p. if is_part p.1 then Some p.0 else None) (zip ls seen)
 
 -- an answer that is given whole
-abbrev pub given : Seen → Option (List AnswerLine)
-given (Done lines) = Some lines
-given _ = None
+abbrev pub done_lines : Seen → Option (List AnswerLine)
+done_lines (Done lines) = Some lines
+done_lines _ = None
 
 -- a line is an echo
 abbrev pub is_repeat : Seen → Bool
@@ -47,11 +47,14 @@ is_of_kind (kind, l) = true
 pub record NoneLost (ms : List Mark) : Type 0 where
   -- each line is seen once, as part of an answer, as an echo, or announced
   pub each : length (seen_in ms) ≡ length (lines_of ms)
-  pub once : length (lines_of ms) ≡ length (parts (lines_of ms) (seen_in ms)) + (length (filter is_repeat (seen_in ms)) + length (announced (lines_of ms) (seen_in ms)))
+  pub once :
+      length (lines_of ms)
+      ≡ length (parts (lines_of ms) (seen_in ms))
+      + (length (filter is_repeat (seen_in ms)) + length (announced (lines_of ms) (seen_in ms)))
   -- the parts are the lines of all answers, in order
   pub joined : parts (lines_of ms) (seen_in ms) ≡ flat_map (λ ls. ls) (answers ms)
   -- the answers given whole are those with their final code, in order: those of the first commands
-  pub whole : filter_map given (seen_in ms) ≡ map answer_lines (filter has_final (answers ms))
+  pub whole : filter_map done_lines (seen_in ms) ≡ map answer_lines (filter has_final (answers ms))
   pub in_order : filter has_final (answers ms) ≡ take (answered ms) (answers ms)
   -- there are at most as many echoes as commands
   pub echoes : length (filter is_repeat (seen_in ms)) ≤ length (windows ms)

@@ -5,7 +5,8 @@ use Rattle.std.specs.Str.{bytes_eq}
 use Rattle.at_text.specs.Finals.{is_final}
 use Rattle.at_text.specs.Unsolicited.{is_solicited}
 
--- what is placed on a connection, in order: a line where its end stands, a command's text where the command is wholly sent
+-- what is placed on a connection, in order: a line where its end stands, a command's text where the command
+-- is wholly sent
 pub data Mark : Type 0 where
   Line : (text : List ℕ) → Mark
   Begun : (command : List ℕ) → Mark
@@ -84,4 +85,6 @@ open_window ms = open_of (last_window ms)
 
 -- each command begins where no window is open
 abbrev pub IsInTurn : List Mark → Type 0
-IsInTurn ms = (before after : List Mark) (command : List ℕ) → ms ≡ before ++ Begun command ∷ after → open_window before ≡ None
+IsInTurn ms =
+    (before after : List Mark) (command : List ℕ) → ms ≡ before ++ Begun command ∷ after
+    → open_window before ≡ None

@@ -28,7 +28,7 @@ impl Model for CommandLine {
     ghost invariant = { λ c. refusal_of c.text ≡ None };
 }
 
-#[tactic(auto, using(crate::proofs::CommandLemmas::refused_long, crate::proofs::CommandLemmas::taken))]
+#[tactic(auto, using(crate::proofs::CommandTexts::refused_long, crate::proofs::CommandTexts::taken))]
 impl CommandLine {
     /// This text as a command line, without its CR. It is refused by the first of: 1 NoAt, 2 BadOctet, 3 TooLong, 4 NoMemory.
     pub fn new(alloc: Global, text: &[u8]) -> Result<CommandLine, TextError>

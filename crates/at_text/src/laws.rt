@@ -10,7 +10,7 @@ ghost use Rattle.at_text.specs.Whole.{NoneLost};
 ghost use Rattle.at_text.specs.Rows.{AreLines, AreFinals, AreReports, RingInside, CregBoth, CgregBoth, EarlyOk, EchoOnce, TwoCommands};
 
 /// Worked examples of lines, final codes, unsolicited kinds and windows, computed by the definitions.
-#[tactic(auto, using(crate::proofs::Computed::are_lines, crate::proofs::Computed::are_finals, crate::proofs::Computed::are_reports, crate::proofs::Computed::ring_inside, crate::proofs::Computed::creg_both, crate::proofs::Computed::cgreg_both, crate::proofs::Computed::early_ok, crate::proofs::Computed::echo_once, crate::proofs::Computed::two_commands))]
+#[tactic(auto, using(crate::proofs::RowFacts::are_lines, crate::proofs::RowFacts::are_finals, crate::proofs::RowFacts::are_reports, crate::proofs::RowFacts::ring_inside, crate::proofs::RowFacts::creg_both, crate::proofs::RowFacts::cgreg_both, crate::proofs::RowFacts::early_ok, crate::proofs::RowFacts::echo_once, crate::proofs::RowFacts::two_commands))]
 pub fn worked_examples()
     ensures lines { AreLines }
     ensures finals { AreFinals }

@@ -6,10 +6,8 @@ mod command;
 mod error;
 mod finals;
 pub mod laws;
-mod octets;
+pub mod octets;
 mod reader;
-#[cfg(test)]
-mod tests;
 mod text;
 mod unsolicited;
 mod window;

@@ -4,7 +4,7 @@ ghost use Rattle.std.specs.List.{list_all};
 ghost use Rattle.at_text.specs.Octets.{is_digit, skip_blanks as from_first, decimal, number_in as number_of};
 
 /// A text from its first octet on that is no blank.
-pub(crate) fn skip_blanks(text: &[u8]) -> &[u8]
+pub fn skip_blanks(text: &[u8]) -> &[u8]
     ensures { result.now ≡ from_first text.now }
 {
     let mut rest = text;
@@ -25,13 +25,15 @@ pub(crate) fn number_in(text: &[u8]) -> Option<u32>
     Some(value_of(digits))
 }
 
-fn all_digits(text: &[u8]) -> bool
+/// Whether all are digits, 30 to 39 hex.
+pub fn all_digits(text: &[u8]) -> bool
     ensures { result ≡ list_all is_digit text.now }
 {
     text.iter().all(|octet| octet.is_ascii_digit())
 }
 
-fn value_of(digits: &[u8]) -> u32
+/// The number that at most nine digits spell.
+pub fn value_of(digits: &[u8]) -> u32
     requires digits { IsTrue (list_all is_digit digits.now) }
     requires short { length digits.now ≤ 9 }
     ensures { result ≡ decimal digits.now }

@@ -53,7 +53,8 @@ impl LineReader {
     /// Reads an octet, and lends the line that it ends, until the next call.
     pub fn push(&mut self, octet: u8) -> Option<Line<'_>>
         ensures line { lines_in result ≡ lines (self.old ++ octet ∷ []) }
-        ensures past { (octets : List ℕ) → HasRead self.old octets → lines (octets ++ octet ∷ []) ≡ lines octets ++ lines_in result }
+        ensures past { (octets : List ℕ) → HasRead self.old octets
+            → lines (octets ++ octet ∷ []) ≡ lines octets ++ lines_in result }
         ensures* after { sem 𝓛 (Rests the_row self.entry (λ new. HasRead new (self.old ++ octet ∷ []))) }
     {
         drop_ended(&mut self.run, self.has_ended);
@@ -91,11 +92,12 @@ fn drop_ended(run: &mut ArrayVec<u8, LINE_LEN>, has_ended: bool)
     }
 }
 
-#[tactic(auto, using(crate::proofs::ReaderLemmas::cut_room, crate::proofs::ReaderLemmas::cut_full))]
+#[tactic(auto, using(crate::proofs::lines::KeptOctets::cut_room, crate::proofs::lines::KeptOctets::cut_full))]
 /// Reads one more octet of a line, and says whether it ends the line. What doesn't fit is cut off.
 fn read_octet(run: &mut ArrayVec<u8, LINE_LEN>, octet: u8) -> bool
     ensures ends { result ≡ is_line_end octet }
-    ensures run { run.new.items ≡ (if is_line_end octet then run.old.items else cut (run.old.items ++ octet ∷ [])) }
+    ensures run { run.new.items
+        ≡ (if is_line_end octet then run.old.items else cut (run.old.items ++ octet ∷ [])) }
 {
     if octet == b'\r' || octet == b'\n' {
         return true;
@@ -106,7 +108,7 @@ fn read_octet(run: &mut ArrayVec<u8, LINE_LEN>, octet: u8) -> bool
     false
 }
 
-#[tactic(auto, using(crate::proofs::ReaderLemmas::cut_fits))]
+#[tactic(auto, using(crate::proofs::lines::KeptOctets::cut_fits))]
 fn ended_line(run: &ArrayVec<u8, LINE_LEN>, has_ended: bool) -> Option<Line<'_>>
     ensures { lines_in result ≡ line_in run.now.items has_ended }
 {

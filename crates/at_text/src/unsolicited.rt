@@ -62,7 +62,7 @@ fn is_without_second(line: &[u8]) -> bool
     }
 }
 
-#[tactic(auto, using(crate::proofs::CommaLemmas::behind_none, crate::proofs::CommaLemmas::behind_some))]
+#[tactic(auto, using(crate::proofs::Commas::behind_none, crate::proofs::Commas::behind_some))]
 /// What follows the first comma.
 fn behind_comma(line: &[u8]) -> Option<&[u8]>
     ensures { option_map (λ rest. rest.now) result ≡ after_comma line.now }

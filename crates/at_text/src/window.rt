@@ -118,7 +118,7 @@ impl Model for Window {
     ghost view = { λ w. w.open };
 }
 
-#[tactic(auto, using(crate::proofs::WindowLemmas::fits_nothing))]
+#[tactic(auto, using(crate::proofs::windows::AnswerWindows::fits_nothing))]
 impl Window {
     /// No command is under way.
     pub fn new(alloc: Global) -> Window
@@ -139,7 +139,8 @@ impl Window {
     pub fn begin(&mut self, line: &CommandLine)
         requires { IsNone self.old }
         ensures opens { self.new ≡ Some (opened line.now) }
-        ensures past { (past : List Mark) → FitsMarks self.old past → FitsMarks self.new (past ++ Begun line.now ∷ []) }
+        ensures past { (past : List Mark) → FitsMarks self.old past
+            → FitsMarks self.new (past ++ Begun line.now ∷ []) }
     {
         self.open = Some(Open::begun(self.alloc, line));
     }
@@ -156,7 +157,8 @@ impl Window {
     pub fn see(&mut self, line: &[u8]) -> Result<Seen, TextError>
         ensures seen { IfOk result (λ seen. seen ≡ seen_by self.old line.now) }
         ensures after { OnOk result (self.new ≡ after_line self.old line.now) }
-        ensures past { IfOk result (λ seen. (past : List Mark) → FitsMarks self.old past → Sees past line.now seen self.new) }
+        ensures past { IfOk result
+            (λ seen. (past : List Mark) → FitsMarks self.old past → Sees past line.now seen self.new) }
         ensures refused { IfErr result (λ why. why ≡ TextError.NoMemory) }
         ensures err { OnErr result (self.new ≡ self.old) }
     {

@@ -1,6 +1,2 @@
-pub mod Seats
-pub mod Rules
-pub mod Rings
-pub mod KindLemmas
-pub mod Places
-pub mod Leavings
+pub mod queue_rule
+pub mod desk_places

@@ -22,10 +22,12 @@ pub record RingId : Type 0 where
 
 module _ {T P : Type 0} where
   abbrev pub ring_of_producer : Producer T Global P → RingId
-  ring_of_producer p = record { words = p.end.words; slots = p.end.slots; names = p.end.names; heap = p.end.heap }
+  ring_of_producer p =
+      record { words = p.end.words; slots = p.end.slots; names = p.end.names; heap = p.end.heap }
 
   abbrev pub ring_of_consumer : Consumer T Global P → RingId
-  ring_of_consumer c = record { words = c.end.words; slots = c.end.slots; names = c.end.names; heap = c.end.heap }
+  ring_of_consumer c =
+      record { words = c.end.words; slots = c.end.slots; names = c.end.names; heap = c.end.heap }
 
 -- a caller's place at a desk: its number, the ring of its outcomes, the number of its first request
 pub record Place : Type 0 where
@@ -34,7 +36,8 @@ pub record Place : Type 0 where
   pub ring : RingId
   pub first : ℕ
 
--- a caller: what it submitted, the outcomes that it took and those that it has seen to wait for it, and its count of untaken ones
+-- a caller: what it submitted, the outcomes that it took and those that it has seen to wait for it, and its
+-- count of untaken ones
 pub record CallerView : Type 0 where
   pub place : Place
   pub submitted : List Request
@@ -42,15 +45,15 @@ pub record CallerView : Type 0 where
   pub seen : List Outcome
   pub untaken : ℕ
 
--- a listener's place at a desk: which of its listeners it is, its kind, the ring of its lines
-pub record Ear : Type 0 where
+-- a listener's subscription at a desk: its place among the listeners, its kind, the ring of its lines
+pub record Subscription : Type 0 where
   pub place : ℕ
   pub kind : UrcKind
   pub ring : RingId
 
 -- a listener: the lines that it took, and those that it has seen to wait for it
 pub record ListenerView : Type 0 where
-  pub ear : Ear
+  pub subscription : Subscription
   pub heard : List Urc
   pub seen : List Urc
 
@@ -59,9 +62,10 @@ pub record DeskId : Type 0 where
   pub queue : TableId
   pub rings : List RingId
   pub kinds : List UrcKind
-  pub ears : List RingId
+  pub line_rings : List RingId
 
--- the driver's end: what it took, what it told each caller, and what it announced to each listener; and of each caller's and each listener's ring, how many places it knows to be free
+-- the driver's end: what it took, what it told each caller, and what it announced to each listener; and of
+-- each caller's and each listener's ring, how many places it knows to be free
 pub record DriverView : Type 0 where
   pub desk : DeskId
   pub taken : List Request
@@ -82,8 +86,8 @@ IsNumbered first rs = map (λ r. r.number) rs ≡ count_from first (length rs)
 abbrev pub place_of : CallerView → Place
 place_of c = c.place
 
-abbrev pub ear_of : ListenerView → Ear
-ear_of l = l.ear
+abbrev pub subscription_of : ListenerView → Subscription
+subscription_of l = l.subscription
 
 -- a caller that has done nothing yet
 abbrev pub IsFresh : CallerView → Type 0
@@ -98,19 +102,23 @@ EachOnce (k ∷ ks) = (¬ Contains ks k) × EachOnce ks
 abbrev pub IsAt : DeskId → Place → Type 0
 IsAt d p = (p.queue ≡ d.queue) × (get_elem? d.rings p.number ≡ some p.ring)
 
--- the listener's place is one at the desk
-abbrev pub IsEarAt : DeskId → Ear → Type 0
-IsEarAt d e = (get_elem? d.kinds e.place ≡ some e.kind) × (get_elem? d.ears e.place ≡ some e.ring)
+-- the listener's subscription is one at the desk
+abbrev pub IsSubscribed : DeskId → Subscription → Type 0
+IsSubscribed d e = (get_elem? d.kinds e.place ≡ some e.kind) × (get_elem? d.line_rings e.place ≡ some e.ring)
 
 -- of lists by place, that at n has the element more, and every other is the same
 pub record Appends {A : Type 0} (n : ℕ) (x : A) (old new : List (List A)) : Type 0 where
   pub here : slice_index_or new n [] ≡ slice_index_or old n [] ++ x ∷ []
   pub others : (k : ℕ) → k ≢ n → slice_index_or new k [] ≡ slice_index_or old k []
 
--- of what was announced to each listener, that of the line's kind has the line more, and every other is the same
+-- of what was announced to each listener, that of the line's kind has the line more, and every other is the
+-- same
 pub record Announces (kinds : List UrcKind) (line : Urc) (old new : List (List Urc)) : Type 0 where
-  pub here : (k : ℕ) → get_elem? kinds k ≡ some line.kind → slice_index_or new k [] ≡ slice_index_or old k [] ++ line ∷ []
-  pub others : (k : ℕ) → (get_elem? kinds k ≡ some line.kind → ⊥) → slice_index_or new k [] ≡ slice_index_or old k []
+  pub here :
+      (k : ℕ) → get_elem? kinds k ≡ some line.kind
+      → slice_index_or new k [] ≡ slice_index_or old k [] ++ line ∷ []
+  pub others :
+      (k : ℕ) → (get_elem? kinds k ≡ some line.kind → ⊥) → slice_index_or new k [] ≡ slice_index_or old k []
 
 -- of counts by place, those at these places changed in this way, and every other is the same
 pub record Changes (at : ℕ → Type 0) (how : ℕ → ℕ → Type 0) (old new : List ℕ) : Type 0 where
@@ -133,13 +141,16 @@ Hears kinds kind k = get_elem? kinds k ≡ some kind
 abbrev pub Each : {A : Type 0} → (ℕ → A → Type 0) → List A → Type 0
 Each {A} P xs = (i : ℕ) (a : A) → get_elem? xs i ≡ some a → P i a
 
--- the i-th caller has the number i and its place at the desk, begins with this first number, and has done nothing yet
-abbrev pub Dealt : DeskId → ℕ → List CallerView → Type 0
-Dealt d first = Each (λ i c. IsAt d c.place × (c.place.number ≡ i) × (c.place.first ≡ first) × IsFresh c)
+-- the i-th caller has the number i and its place at the desk, begins with this first number, and has done
+-- nothing yet
+abbrev pub AreNewCallers : DeskId → ℕ → List CallerView → Type 0
+AreNewCallers d first =
+    Each (λ i c. IsAt d c.place × (c.place.number ≡ i) × (c.place.first ≡ first) × IsFresh c)
 
 -- the i-th listener has the i-th place of the desk, and has taken nothing yet
-abbrev pub Seated : DeskId → List ListenerView → Type 0
-Seated d = Each (λ i l. IsEarAt d l.ear × (l.ear.place ≡ i) × (l.heard ≡ []) × (l.seen ≡ []))
+abbrev pub AreNewListeners : DeskId → List ListenerView → Type 0
+AreNewListeners d =
+    Each (λ i l. IsSubscribed d l.subscription × (l.subscription.place ≡ i) × (l.heard ≡ []) × (l.seen ≡ []))
 
 -- a desk may be opened with so many callers, these kinds and this first number
 abbrev pub CanOpen : ℕ → List UrcKind → ℕ → Type 0
@@ -147,21 +158,25 @@ CanOpen callers kinds first = (1 ≤ callers) × (callers ≤ 8) × (1 ≤ first
 
 -- the places are all at this desk, and each number that it gave out is that of one of them
 abbrev pub IsWhole : DeskId → List Place → Type 0
-IsWhole d ps = Each (λ _ p. IsAt d p) ps × ((k : ℕ) → k < length d.rings → (i : ℕ) × (p : Place) × (get_elem? ps i ≡ some p) × (p.number ≡ k))
+IsWhole d ps =
+    Each (λ _ p. IsAt d p) ps
+    × ((k : ℕ) → k < length d.rings → (i : ℕ) × (p : Place) × (get_elem? ps i ≡ some p) × (p.number ≡ k))
 
--- the listeners' places are all at this desk
-abbrev pub AreEars : DeskId → List Ear → Type 0
-AreEars d = Each (λ _ e. IsEarAt d e)
+-- the listeners' subscriptions are all at this desk
+abbrev pub AreSubscribed : DeskId → List Subscription → Type 0
+AreSubscribed d = Each (λ _ e. IsSubscribed d e)
 
--- a desk as it is opened: so many callers with this first number, a listener for each of these kinds, and nothing done yet
-pub record Opened (count : ℕ) (listened : List UrcKind) (first : ℕ) (d : DriverView) (cs : List CallerView) (ls : List ListenerView) : Type 0 where
+-- a desk as it is opened: so many callers with this first number, a listener for each of these kinds, and
+-- nothing done yet
+pub record Opened (count : ℕ) (listened : List UrcKind) (first : ℕ) (d : DriverView) (cs : List CallerView)
+    (ls : List ListenerView) : Type 0 where
   pub rings : length d.desk.rings ≡ count
   pub kinds : d.desk.kinds ≡ listened
   pub taken : d.taken ≡ []
   pub told : d.told ≡ replicate count []
   pub announced : d.announced ≡ replicate (length listened) []
   pub free : (d.free ≡ replicate count 8) × (d.free_lines ≡ replicate (length listened) 256)
-  pub callers : (length cs ≡ count) × Dealt d.desk first cs
-  pub listeners : (length ls ≡ length listened) × Seated d.desk ls
+  pub callers : (length cs ≡ count) × AreNewCallers d.desk first cs
+  pub listeners : (length ls ≡ length listened) × AreNewListeners d.desk ls
   pub whole : IsWhole d.desk (map place_of cs)
-  pub ears : AreEars d.desk (map ear_of ls)
+  pub subscribed : AreSubscribed d.desk (map subscription_of ls)

@@ -1,4 +1,5 @@
--- The rule of a desk's request queue: of each caller, what the driver has taken and then what the queue holds is what the caller submitted.
+-- The rule of a desk's request queue: of each caller, what the driver has taken and then what the queue holds
+-- is what the caller submitted.
 use Rattle.std.specs.Prelude.{◌≡◌, ℕ, ◌<◌, ◌≤◌, ◌==◌, true, false, List, [], ◌∷◌, ◌++◌, length, Option, Some, None}
 use Rattle.std.specs.List.{filter}
 use mathlib.Core.Option.{some}
@@ -17,65 +18,115 @@ known n submitted = record { number = n; submitted = submitted }
 
 -- what the driver's pass knows: how many numbers were given out, what it took, and whom it knows to have left
 abbrev pub driver : ℕ → List Request → List Known → View
-driver given taken known = record { drives = true; submits = false; number = 0; submitted = []; given = given; taken = taken; known = known; counted = false; waiting = [] }
+driver given taken known = record {
+  drives = true;
+  submits = false;
+  number = 0;
+  submitted = [];
+  given = given;
+  taken = taken;
+  known = known;
+  counted = false;
+  waiting = [];
+}
 
 -- the same at a settlement, where it knows what waits too
 abbrev pub draining : ℕ → List Request → List Known → List Request → View
-draining given taken known waiting = record { drives = true; submits = false; number = 0; submitted = []; given = given; taken = taken; known = known; counted = true; waiting = waiting }
+draining given taken known waiting = record {
+  drives = true;
+  submits = false;
+  number = 0;
+  submitted = [];
+  given = given;
+  taken = taken;
+  known = known;
+  counted = true;
+  waiting = waiting;
+}
 
 -- what a caller's pass knows: its number, and what it submitted
 abbrev pub caller : ℕ → List Request → View
-caller n submitted = record { drives = false; submits = true; number = n; submitted = submitted; given = 0; taken = []; known = []; counted = false; waiting = [] }
+caller n submitted = record {
+  drives = false;
+  submits = true;
+  number = n;
+  submitted = submitted;
+  given = 0;
+  taken = [];
+  known = [];
+  counted = false;
+  waiting = [];
+}
 
 -- what a pass knows that was taken back
-abbrev pub spent_view : View
-spent_view = record { drives = false; submits = false; number = 0; submitted = []; given = 0; taken = []; known = []; counted = false; waiting = [] }
+abbrev pub returned_view : View
+returned_view = record {
+  drives = false;
+  submits = false;
+  number = 0;
+  submitted = [];
+  given = 0;
+  taken = [];
+  known = [];
+  counted = false;
+  waiting = [];
+}
 
--- what all passes share: the driver's pass, the pass of each caller that has not left, and the driver's own counts and lists
+-- what all passes share: the driver's pass, the pass of each caller that has not left, and the driver's own
+-- counts and lists
 pub record Shared : Type 0 where
   pub reader : ℕ
-  pub seat : ℕ → Option ℕ
+  pub pass_of : ℕ → Option ℕ
   pub given : ℕ
   pub taken : List Request
   pub known : List Known
   pub all : List Request
 
--- The driver knows how many numbers were given out, what it took, and what each caller that has left had submitted.
--- Once it has counted what waits, nothing more comes.
+-- The driver knows how many numbers were given out, what it took, and what each caller that has left had
+-- submitted. Once it has counted what waits, nothing more comes.
 pub record FitsDriver (d : Shared) (items : List Request) (pass : ℕ) (v : View) : Type 0 where
   pub here : pass ≡ d.reader
   pub given : v.given ≡ d.given
   pub taken : v.taken ≡ d.taken
   pub known : v.known ≡ d.known
-  pub counted : v.counted ≡ true → (v.waiting ≡ items) × ((n : ℕ) → d.seat n ≡ None)
+  pub counted : v.counted ≡ true → (v.waiting ≡ items) × ((n : ℕ) → d.pass_of n ≡ None)
 
 -- A caller knows its number and what it submitted.
 pub record FitsCaller (d : Shared) (pass : ℕ) (v : View) : Type 0 where
-  pub here : d.seat v.number ≡ Some pass
+  pub here : d.pass_of v.number ≡ Some pass
   pub below : v.number < d.given
   pub submitted : of_caller v.number d.all ≡ v.submitted
 
 -- A pass that was taken back is of neither kind, and nothing is asked of it.
-abbrev pub Fits : Shared → List Request → ℕ → View → Type 0
-Fits d items pass v = (v.drives ≡ true → FitsDriver d items pass v) × (v.submits ≡ true → FitsCaller d pass v)
+abbrev pub FitsPass : Shared → List Request → ℕ → View → Type 0
+FitsPass d items pass v =
+    (v.drives ≡ true → FitsDriver d items pass v) × (v.submits ≡ true → FitsCaller d pass v)
 
--- All that came through the queue is what the driver took and then what is queued. Of a number that wasn't given out nothing came, and nobody has it. Of a caller that has left, what came is what it had submitted. Each pass knows what fits.
-pub record Kept (items : List Request) (views : List View) : Type 0 where
+-- All that came through the queue is what the driver took and then what is queued. Of a number that wasn't
+-- given out nothing came, and nobody has it. Of a caller that has left, what came is what it had submitted.
+-- Each pass knows what fits.
+pub record RuleKept (items : List Request) (views : List View) : Type 0 where
   pub desk : Shared
   pub whole : desk.all ≡ desk.taken ++ items
   pub room : length items ≤ 64
-  pub later : (n : ℕ) → desk.given ≤ n → (desk.seat n ≡ None) × (of_caller n desk.all ≡ [])
-  pub left : (i : ℕ) (k : Known) → get_elem? desk.known i ≡ some k → (k.number < desk.given) × (desk.seat k.number ≡ None) × (of_caller k.number desk.all ≡ k.submitted)
-  pub each : (pass : ℕ) (v : View) → get_elem? views pass ≡ some v → Fits desk items pass v
+  pub later : (n : ℕ) → desk.given ≤ n → (desk.pass_of n ≡ None) × (of_caller n desk.all ≡ [])
+  pub left :
+      (i : ℕ) (k : Known) → get_elem? desk.known i ≡ some k
+      → (k.number < desk.given) × (desk.pass_of k.number ≡ None) × (of_caller k.number desk.all ≡ k.submitted)
+  pub each : (pass : ℕ) (v : View) → get_elem? views pass ≡ some v → FitsPass desk items pass v
 
 -- every number that was given out is of a caller that has left
 abbrev pub AllLeft : View → Type 0
 AllLeft v = (n : ℕ) → n < v.given → (i : ℕ) × (k : Known) × (get_elem? v.known i ≡ some k) × (k.number ≡ n)
 
 -- the driver took x, and knows what waits behind it
-abbrev pub Drained : View → Request → View → Type 0
-Drained v x w = (rest : List Request) × (w ≡ draining v.given (v.taken ++ x ∷ []) v.known rest) × (x.caller < v.given) × (length rest < 64) × (v.counted ≡ true → v.waiting ≡ x ∷ rest)
+abbrev pub DrainsOne : View → Request → View → Type 0
+DrainsOne v x w =
+    (rest : List Request) × (w ≡ draining v.given (v.taken ++ x ∷ []) v.known rest) × (x.caller < v.given)
+    × (length rest < 64) × (v.counted ≡ true → v.waiting ≡ x ∷ rest)
 
 -- of each caller that has left, what was taken and what waits is what it had submitted
-abbrev pub Ends : View → List Request → Type 0
-Ends v items = ((i : ℕ) (k : Known) → get_elem? v.known i ≡ some k → of_caller k.number (v.taken ++ items) ≡ k.submitted) × (v.counted ≡ true → v.waiting ≡ items)
+abbrev pub IsDrained : View → List Request → Type 0
+IsDrained v items =
+    ((i : ℕ) (k : Known) → get_elem? v.known i ≡ some k → of_caller k.number (v.taken ++ items) ≡ k.submitted)
+    × (v.counted ≡ true → v.waiting ≡ items)

@@ -9,7 +9,7 @@ use Rattle.modem_desk.specs.declared.request.Urc.{Urc}
 use Rattle.modem_desk.specs.declared.rule.Known.{Known}
 use Rattle.modem_desk.specs.declared.settling.Room.{Room}
 use Rattle.modem_desk.specs.Rule.{known}
-use Rattle.modem_desk.specs.Ends.{CallerView, ListenerView, DeskId, Each, IsAt, IsEarAt}
+use Rattle.modem_desk.specs.Ends.{CallerView, ListenerView, DeskId, Each, IsAt, IsSubscribed}
 
 -- so many lists, all empty, with room for this much each
 abbrev pub AreRooms : {T : Type 0} → ℕ → ℕ → List (Vec T Global) → Type 0
@@ -25,19 +25,23 @@ AreWhole d n cs = Each (λ _ c. IsAt d c.place) cs
     × ((k : ℕ) → k < n → (i : ℕ) × (c : CallerView) × (get_elem? cs i ≡ some c) × (c.place.number ≡ k))
 
 -- the listeners are all at this desk
-abbrev pub AreSeated : DeskId → List ListenerView → Type 0
-AreSeated d = Each (λ _ l. IsEarAt d l.ear)
+abbrev pub AreListenersAt : DeskId → List ListenerView → Type 0
+AreListenersAt d = Each (λ _ l. IsSubscribed d l.subscription)
 
 -- what each caller took, and then what waited for it, is what it was told
 abbrev pub HeldFor : List (List Outcome) → List CallerView → List (List Outcome) → Type 0
-HeldFor told cs waiting = Each (λ i c. c.got ++ slice_index_or waiting i [] ≡ slice_index_or told c.place.number []) cs
+HeldFor told cs waiting =
+    Each (λ i c. c.got ++ slice_index_or waiting i [] ≡ slice_index_or told c.place.number []) cs
 
 -- what each listener took, and then what waited for it, is what was announced to it
 abbrev pub HeardBy : List (List Urc) → List ListenerView → List (List Urc) → Type 0
-HeardBy announced ls waiting = Each (λ i l. l.heard ++ slice_index_or waiting i [] ≡ slice_index_or announced l.ear.place []) ls
+HeardBy announced ls waiting =
+    Each (λ i l. l.heard ++ slice_index_or waiting i [] ≡ slice_index_or announced l.subscription.place []) ls
 
 -- there is memory for what may be left, and for what may wait for so many callers and listeners
 abbrev pub IsRoomFor : ℕ → ℕ → Room → Type 0
 IsRoomFor callers listeners r = (r.left.items ≡ []) × (64 ≤ vec_capacity r.left)
-    × AreRooms callers 8 r.outcomes.empty.items × (r.outcomes.filled.items ≡ []) × (callers ≤ vec_capacity r.outcomes.filled)
-    × AreRooms listeners 256 r.lines.empty.items × (r.lines.filled.items ≡ []) × (listeners ≤ vec_capacity r.lines.filled)
+    × AreRooms callers 8 r.outcomes.empty.items × (r.outcomes.filled.items ≡ [])
+    × (callers ≤ vec_capacity r.outcomes.filled)
+    × AreRooms listeners 256 r.lines.empty.items × (r.lines.filled.items ≡ [])
+    × (listeners ≤ vec_capacity r.lines.filled)

@@ -82,9 +82,10 @@ impl Caller {
         number: u8,
         first: u64,
     ) -> Caller
-        requires seat { IsPassOf (arc_value queue) pass × (ruled_capacity (arc_value queue) ≡ 64)
+        requires pass { IsPassOf (arc_value queue) pass × (ruled_capacity (arc_value queue) ≡ 64)
             × (view pass ≡ caller number []) }
-        requires fresh { (received outcomes ≡ []) × (known_items outcomes ≡ []) × (consumer_capacity outcomes ≡ 8) × (1 ≤ first) }
+        requires fresh { (received outcomes ≡ []) × (known_items outcomes ≡ [])
+            × (consumer_capacity outcomes ≡ 8) × (1 ≤ first) }
         ensures { result ≡ record {
           place = record {
             queue = pass.table_id;
@@ -134,11 +135,13 @@ impl Caller {
     ///
     /// Refused, in this order, with TooMany, Exhausted or Full, and the ask handed back. A refusal uses up no number.
     pub fn submit<R: Wait>(&mut self, rt: &R, ask: Ask) -> Result<u64, (SubmitError, Ask)>
-        ensures place { (self.new.place ≡ self.old.place) × (self.new.got ≡ self.old.got) × (self.new.seen ≡ self.old.seen) }
+        ensures place { (self.new.place ≡ self.old.place) × (self.new.got ≡ self.old.got)
+            × (self.new.seen ≡ self.old.seen) }
         ensures next { IfOk result (λ n. n ≡ self.old.place.first + length self.old.submitted) }
         ensures submitted { IfOk result (λ n. self.new.submitted ≡ self.old.submitted
             ++ record { caller = self.old.place.number; number = n; ask = ask } ∷ []) }
-        ensures untaken { IfOk result (λ n. (self.old.untaken < 16) × (self.new.untaken ≡ self.old.untaken + 1)) }
+        ensures untaken { IfOk result
+            (λ n. (self.old.untaken < 16) × (self.new.untaken ≡ self.old.untaken + 1)) }
 
         // A full queue is the only other refusal.
         ensures refused { IfErr result (λ e. (e.1 ≡ ask) × (self.new ≡ self.old)) }

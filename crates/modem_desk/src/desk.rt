@@ -1,6 +1,6 @@
 //! How a desk is opened.
 ghost use Rattle.std.specs.Prelude.{◌≡◌, ◌↔◌, ◌+◌, ◌≤◌, ◌<◌, ◌^◌, [], ◌∷◌, ◌++◌, length, map, replicate, IfOk, IfErr, IsTrue, Contains};
-ghost use Rattle.modem_desk.specs.Ends.{Opened, Dealt, Seated, EachOnce, CanOpen};
+ghost use Rattle.modem_desk.specs.Ends.{Opened, AreNewCallers, AreNewListeners, EachOnce, CanOpen};
 ghost use Rattle.modem_desk.specs.declared.error.DeskError.TheVariants.{BadCount};
 
 use crate::caller::{Caller, QUEUED, Queue};
@@ -49,9 +49,9 @@ impl Desk {
         if callers == 0 || callers > CALLERS || first == 0 || !are_each_once(kinds) {
             return Err(DeskError::BadCount);
         }
-        let mut driver = vacant(alloc)?;
-        let all = enrol_all(alloc, &mut driver, callers, first)?;
-        let listeners = seat_all(alloc, &mut driver, kinds)?;
+        let mut driver = unconnected(alloc)?;
+        let all = add_callers(alloc, &mut driver, callers, first)?;
+        let listeners = add_listeners(alloc, &mut driver, kinds)?;
         Ok((driver, all, listeners))
     }
 }
@@ -66,9 +66,9 @@ fn are_each_once(kinds: &[UrcKind]) -> bool
     }
 }
 
-// A desk with nobody at it yet.
-fn vacant(alloc: Global) -> Result<DriverEnd, AllocError>
-    ensures { IfOk result (λ d. (d.desk.rings ≡ []) × (d.desk.kinds ≡ []) × (d.desk.ears ≡ [])
+// The driver's end of a desk without callers and listeners.
+fn unconnected(alloc: Global) -> Result<DriverEnd, AllocError>
+    ensures { IfOk result (λ d. (d.desk.rings ≡ []) × (d.desk.kinds ≡ []) × (d.desk.line_rings ≡ [])
         × (d.taken ≡ []) × (d.told ≡ []) × (d.announced ≡ []) × (d.free ≡ []) × (d.free_lines ≡ [])) }
 {
     let (queue, pass) = Queue::ruled(alloc, QUEUED)?;
@@ -83,7 +83,7 @@ fn vacant(alloc: Global) -> Result<DriverEnd, AllocError>
 }
 
 // So many callers more, at a desk that has none.
-fn enrol_all(
+fn add_callers(
     alloc: Global,
     driver: &mut DriverEnd,
     callers: u8,
@@ -98,24 +98,25 @@ fn enrol_all(
         × (driver.new.free_lines ≡ driver.old.free_lines)) }
     ensures desk { IfOk result (λ all. (length driver.new.desk.rings ≡ callers)
         × (driver.new.desk.kinds ≡ driver.old.desk.kinds)
-        × (driver.new.desk.ears ≡ driver.old.desk.ears)) }
-    ensures callers { IfOk result (λ all. (length all.items ≡ callers) × Dealt driver.new.desk first all.items) }
+        × (driver.new.desk.line_rings ≡ driver.old.desk.line_rings)) }
+    ensures callers { IfOk result
+        (λ all. (length all.items ≡ callers) × AreNewCallers driver.new.desk first all.items) }
 {
     let mut all = Vec::new(alloc);
     for _ in 0..callers {
-        let caller = driver.enrol(alloc, first)?;
+        let caller = driver.add_caller(alloc, first)?;
         all.push(caller)?;
     }
     Ok(all)
 }
 
 // A listener for each of these kinds, at a desk that has none.
-fn seat_all(
+fn add_listeners(
     alloc: Global,
     driver: &mut DriverEnd,
     kinds: &[UrcKind],
 ) -> Result<Vec<Listener>, AllocError>
-    requires { EachOnce kinds.now × (driver.old.desk.kinds ≡ []) × (driver.old.desk.ears ≡ [])
+    requires { EachOnce kinds.now × (driver.old.desk.kinds ≡ []) × (driver.old.desk.line_rings ≡ [])
         × (driver.old.announced ≡ []) × (driver.old.free_lines ≡ []) }
     ensures driver { IfOk result (λ all. (driver.new.taken ≡ driver.old.taken)
         × (driver.new.told ≡ driver.old.told)
@@ -125,11 +126,11 @@ fn seat_all(
     ensures desk { IfOk result (λ all. (driver.new.desk.queue ≡ driver.old.desk.queue)
         × (driver.new.desk.rings ≡ driver.old.desk.rings) × (driver.new.desk.kinds ≡ kinds.now)) }
     ensures listeners { IfOk result (λ all. (length all.items ≡ length kinds.now)
-        × Seated driver.new.desk all.items) }
+        × AreNewListeners driver.new.desk all.items) }
 {
     let mut all = Vec::new(alloc);
     for kind in kinds {
-        let listener = driver.seat(alloc, *kind)?;
+        let listener = driver.add_listener(alloc, *kind)?;
         all.push(listener)?;
     }
     Ok(all)

@@ -6,7 +6,7 @@ ghost use lib.ListN.{get_elem?};
 use crate::caller::{Caller, Queue, WAITING};
 use crate::listener::{LINES, Listener};
 use crate::request::{Outcome, Request, Urc};
-use crate::rule::{Enrols, Takes, View};
+use crate::rule::{AddsCaller, Takes, View};
 use at_text::UrcKind;
 use crossbeam_queue::Pass;
 use rtrb::{Producer, PushError, RingBuffer};
@@ -41,7 +41,7 @@ impl Model for DriverEnd {
         queue = d.pass.table_id;
         rings = map ring_of_producer d.rings.items;
         kinds = d.kinds.items;
-        ears = map ring_of_producer d.lines.items;
+        line_rings = map ring_of_producer d.lines.items;
       };
       taken = (knows d.pass).taken;
       told = map sent d.rings.items;
@@ -70,7 +70,7 @@ impl DriverEnd {
         kinds: Vec<UrcKind>,
         lines: Vec<Producer<Urc>>,
     ) -> DriverEnd
-        requires seat { IsPassOf (arc_value queue) pass × (ruled_capacity (arc_value queue) ≡ 64)
+        requires pass { IsPassOf (arc_value queue) pass × (ruled_capacity (arc_value queue) ≡ 64)
             × (view pass ≡ driver 0 [] []) }
         requires none { (rings.items ≡ []) × (kinds.items ≡ []) × (lines.items ≡ []) }
         ensures { result ≡ record {
@@ -78,7 +78,7 @@ impl DriverEnd {
             queue = pass.table_id;
             rings = [];
             kinds = [];
-            ears = [];
+            line_rings = [];
           };
           taken = [];
           told = [];
@@ -108,7 +108,7 @@ impl DriverEnd {
             × (view result.1 ≡ driver (length self.desk.rings) self.taken []) }
         ensures rings { (map ring_of_producer result.2.items ≡ self.desk.rings)
             × (map sent result.2.items ≡ self.told) }
-        ensures lines { (map ring_of_producer result.3.items ≡ self.desk.ears)
+        ensures lines { (map ring_of_producer result.3.items ≡ self.desk.line_rings)
             × (map sent result.3.items ≡ self.announced) }
     {
         let DriverEnd {
@@ -122,7 +122,7 @@ impl DriverEnd {
     }
 
     // One more caller.
-    pub(crate) fn enrol(&mut self, alloc: Global, first: u64) -> Result<Caller, AllocError>
+    pub(crate) fn add_caller(&mut self, alloc: Global, first: u64) -> Result<Caller, AllocError>
         requires { (length self.old.desk.rings < 8) × (1 ≤ first) }
         ensures driver { IfOk result (λ c. (self.new.taken ≡ self.old.taken) × (self.new.told ≡ self.old.told
             ++ [] ∷ []) × (self.new.announced ≡ self.old.announced)) }
@@ -140,12 +140,16 @@ impl DriverEnd {
         let (producer, consumer) = RingBuffer::new(alloc, WAITING)?;
         let number = self.rings.len() as u8;
         self.rings.push(producer)?;
-        let pass = queue.another::<Enrols>(&mut self.pass);
+        let pass = queue.another::<AddsCaller>(&mut self.pass);
         Ok(Caller::new(queue, pass, consumer, number, first))
     }
 
     // One more listener, of a kind that no other has.
-    pub(crate) fn seat(&mut self, alloc: Global, kind: UrcKind) -> Result<Listener, AllocError>
+    pub(crate) fn add_listener(
+        &mut self,
+        alloc: Global,
+        kind: UrcKind,
+    ) -> Result<Listener, AllocError>
         requires { ¬ Contains self.old.desk.kinds kind }
         ensures driver { IfOk result (λ l. (self.new.taken ≡ self.old.taken) × (self.new.told ≡ self.old.told)
             × (self.new.announced ≡ self.old.announced ++ [] ∷ [])) }
@@ -154,10 +158,11 @@ impl DriverEnd {
         ensures desk { IfOk result (λ l. self.new.desk ≡ record self.old.desk {
           kinds = self.old.desk.kinds
               ++ kind ∷ [];
-          ears = self.old.desk.ears ++ l.ear.ring ∷ [];
+          line_rings = self.old.desk.line_rings ++ l.subscription.ring ∷ [];
         }) }
-        ensures listener { IfOk result (λ l. (l.ear.place ≡ length self.old.desk.kinds)
-            × (l.ear.place ≡ length self.old.desk.ears) × (l.ear.kind ≡ kind) × (l.heard ≡ []) × (l.seen ≡ [])) }
+        ensures listener { IfOk result (λ l. (l.subscription.place ≡ length self.old.desk.kinds)
+            × (l.subscription.place ≡ length self.old.desk.line_rings) × (l.subscription.kind ≡ kind)
+            × (l.heard ≡ []) × (l.seen ≡ [])) }
     {
         let (producer, consumer) = RingBuffer::new(alloc, LINES)?;
         let place = self.kinds.len();
@@ -200,8 +205,10 @@ impl DriverEnd {
             × (self.new.announced ≡ self.old.announced) × (self.new.free_lines ≡ self.old.free_lines) }
         ensures told { IfOk result (λ _. Appends outcome.caller outcome self.old.told self.new.told) }
         ensures back { IfErr result (λ back. (back ≡ outcome) × (self.new.told ≡ self.old.told)) }
-        ensures free { IfOk result (λ _. Changes (λ k. k ≡ outcome.caller) FallsByOne self.old.free self.new.free) }
-        ensures full { IfErr result (λ _. Changes (λ k. k ≡ outcome.caller) RunsOut self.old.free self.new.free) }
+        ensures free { IfOk result
+            (λ _. Changes (λ k. k ≡ outcome.caller) FallsByOne self.old.free self.new.free) }
+        ensures full { IfErr result
+            (λ _. Changes (λ k. k ≡ outcome.caller) RunsOut self.old.free self.new.free) }
         ensures fits { 0 < slice_index_or self.old.free outcome.caller 0 → IsOk result }
     {
         let ring = &mut self.rings[outcome.caller as usize];
@@ -217,13 +224,15 @@ impl DriverEnd {
         requires { Contains self.old.desk.kinds line.kind }
         ensures desk { (self.new.desk ≡ self.old.desk) × (self.new.taken ≡ self.old.taken)
             × (self.new.told ≡ self.old.told) × (self.new.free ≡ self.old.free) }
-        ensures announced { IfOk result (λ _. Announces self.old.desk.kinds line self.old.announced self.new.announced) }
+        ensures announced { IfOk result
+            (λ _. Announces self.old.desk.kinds line self.old.announced self.new.announced) }
         ensures back { IfErr result (λ back. (back ≡ line) × (self.new.announced ≡ self.old.announced)) }
         ensures free { IfOk result (λ _. Changes (Hears self.old.desk.kinds line.kind) FallsByOne
             self.old.free_lines self.new.free_lines) }
         ensures full { IfErr result (λ _. Changes (Hears self.old.desk.kinds line.kind) RunsOut
             self.old.free_lines self.new.free_lines) }
-        ensures fits { (k : ℕ) → Hears self.old.desk.kinds line.kind k → 0 < slice_index_or self.old.free_lines k 0 → IsOk result }
+        ensures fits { (k : ℕ) → Hears self.old.desk.kinds line.kind k
+            → 0 < slice_index_or self.old.free_lines k 0 → IsOk result }
     {
         let place = place_in(&self.kinds, line.kind);
         let ring = &mut self.lines[place];

@@ -19,6 +19,3 @@ pub use error::{DeskError, SubmitError};
 pub use listener::Listener;
 pub use request::{Answer, Ask, Outcome, Request, Urc};
 pub use settling::{SettleRefused, Settled, settle};
-
-#[cfg(test)]
-mod tests;

@@ -12,7 +12,7 @@ pub(crate) const LINES: usize = 256;
 
 /// The one that hears the unsolicited lines of one kind.
 ///
-/// Contracts see its seat at the desk, the lines that it took, and those that it has seen to wait for it.
+/// Contracts see its subscription at the desk, the lines that it took, and those that it has seen to wait for it.
 #[derive(Drop)]
 pub struct Listener {
     lines: Consumer<Urc>,
@@ -28,7 +28,7 @@ impl Model for Listener {
     ghost Value = { ListenerView };
 
     ghost view = { λ l. record {
-      ear = record {
+      subscription = record {
         place = l.place;
         kind = l.kind;
         ring = ring_of_consumer l.lines;
@@ -47,7 +47,7 @@ impl Listener {
     pub(crate) fn new(lines: Consumer<Urc>, kind: UrcKind, place: usize) -> Listener
         requires { (received lines ≡ []) × (known_items lines ≡ []) × (consumer_capacity lines ≡ 256) }
         ensures { result ≡ record {
-          ear = record {
+          subscription = record {
             place = place;
             kind = kind;
             ring = ring_of_consumer lines;
@@ -60,9 +60,9 @@ impl Listener {
     }
 
     pub(crate) fn into_parts(self) -> (Consumer<Urc>, usize)
-        ensures ring { (ring_of_consumer result.0 ≡ self.ear.ring) × (received result.0 ≡ self.heard)
+        ensures ring { (ring_of_consumer result.0 ≡ self.subscription.ring) × (received result.0 ≡ self.heard)
             × (consumer_capacity result.0 ≡ 256) }
-        ensures place { result.1 ≡ self.ear.place }
+        ensures place { result.1 ≡ self.subscription.place }
     {
         let Listener {
             lines,
@@ -74,14 +74,14 @@ impl Listener {
 
     /// The kind of line that it hears.
     pub fn kind(&self) -> UrcKind
-        ensures { result ≡ self.now.ear.kind }
+        ensures { result ≡ self.now.subscription.kind }
     {
         self.kind
     }
 
     /// The oldest line that waits for this listener. `None` only where it has seen none to wait.
     pub fn take(&mut self) -> Option<Urc>
-        ensures ear { self.new.ear ≡ self.old.ear }
+        ensures subscription { self.new.subscription ≡ self.old.subscription }
         ensures heard { MatchOption result (self.new.heard ≡ self.old.heard) (λ line.
             self.new.heard ≡ self.old.heard ++ line ∷ []) }
         ensures seen { MatchOption result (self.new.seen ≡ []) (λ line. IsPrefix self.old.seen (line

@@ -29,17 +29,17 @@ pub struct InOrder;
 
 impl Protocol<Request, View> for InOrder {
     ghost use Rattle.std.specs.Prelude.{[]};
-    ghost use Rattle.modem_desk.specs.Rule.{driver, Kept};
+    ghost use Rattle.modem_desk.specs.Rule.{driver, RuleKept};
 
-    ghost holds = { Kept };
+    ghost holds = { RuleKept };
 
     ghost first = { driver 0 [] [] };
 }
 
 /// One more caller gets a pass, and the next number.
-pub struct Enrols;
+pub struct AddsCaller;
 
-impl Split<View> for Enrols {
+impl Split<View> for AddsCaller {
     ghost use Rattle.std.specs.Prelude.{[], ◌+◌};
     ghost use Rattle.modem_desk.specs.Rule.{driver, caller};
 
@@ -53,11 +53,11 @@ pub struct Leaves;
 
 impl Join<View> for Leaves {
     ghost use Rattle.std.specs.Prelude.{[], ◌++◌, ◌∷◌};
-    ghost use Rattle.modem_desk.specs.Rule.{driver, known, spent_view};
+    ghost use Rattle.modem_desk.specs.Rule.{driver, known, returned_view};
 
     ghost both = { λ v w. driver v.given v.taken (v.known ++ known w.number w.submitted ∷ []) };
 
-    ghost spent = { spent_view };
+    ghost spent = { returned_view };
 }
 
 /// A caller's list grows by the request.
@@ -96,13 +96,13 @@ impl Lesson<Request, View> for Takes {
 pub struct Drains;
 
 impl Outcome<Request, View> for Drains {
-    ghost use Rattle.modem_desk.specs.Rule.{Drained};
+    ghost use Rattle.modem_desk.specs.Rule.{DrainsOne};
 
-    ghost then = { Drained };
+    ghost then = { DrainsOne };
 }
 
 impl Lesson<Request, View> for Drains {
-    ghost use Rattle.modem_desk.specs.Rule.{Ends};
+    ghost use Rattle.modem_desk.specs.Rule.{IsDrained};
 
-    ghost fact = { Ends };
+    ghost fact = { IsDrained };
 }

@@ -4,9 +4,9 @@ ghost use mathlib.Core.Option.{some};
 ghost use lib.ListN.{get_elem?};
 ghost use Rattle.rtrb.specs.Ring.{sent, received, IsPair, consumer_capacity};
 ghost use Rattle.crossbeam_queue.specs.Passes.{view, IsPassOf, IsSamePass};
-ghost use Rattle.modem_desk.specs.Ends.{ring_of_producer, ring_of_consumer, place_of, ear_of, Each, IsNumbered, IsWhole, AreEars};
+ghost use Rattle.modem_desk.specs.Ends.{ring_of_producer, ring_of_consumer, place_of, subscription_of, Each, IsNumbered, IsWhole, AreSubscribed};
 ghost use Rattle.modem_desk.specs.Books.{DeskBooks};
-ghost use Rattle.modem_desk.specs.Settling.{AreRooms, AreWhole, AreSeated, HeldFor, HeardBy, IsRoomFor, known_of};
+ghost use Rattle.modem_desk.specs.Settling.{AreRooms, AreWhole, AreListenersAt, HeldFor, HeardBy, IsRoomFor, known_of};
 ghost use Rattle.modem_desk.specs.Rule.{driver, known, of_caller, AllLeft};
 ghost use Rattle.modem_desk.specs.declared.rule.Known.{Known};
 ghost use Rattle.modem_desk.specs.declared.error.DeskError.TheVariants.{NoMemory};
@@ -86,14 +86,15 @@ fn leave(
     queue.absorb::<Leaves>(pass, theirs);
 }
 
-// Takes a listener back: the lines that wait for it.
-fn fall_silent(lines: &mut Vec<Producer<Urc>>, listener: Listener, into: &mut Vec<Urc>)
-    requires place { get_elem? (map ring_of_producer lines.old.items) listener.ear.place ≡ some listener.ear.ring }
+// Takes a listener back: its ring is drained of the lines that wait.
+fn drain_listener(lines: &mut Vec<Producer<Urc>>, listener: Listener, into: &mut Vec<Urc>)
+    requires place { get_elem? (map ring_of_producer lines.old.items) listener.subscription.place
+        ≡ some listener.subscription.ring }
     requires room { (into.old.items ≡ []) × (256 ≤ vec_capacity into.old) }
     ensures rings { (map ring_of_producer lines.new.items ≡ map ring_of_producer lines.old.items)
         × (map sent lines.new.items ≡ map sent lines.old.items) }
     ensures lines { listener.heard
-        ++ into.new.items ≡ slice_index_or (map sent lines.old.items) listener.ear.place [] }
+        ++ into.new.items ≡ slice_index_or (map sent lines.old.items) listener.subscription.place [] }
 {
     let (theirs, place) = listener.into_parts();
     let ring = &mut lines[place];
@@ -105,8 +106,8 @@ fn drain<R: Wait>(rt: &R, queue: &Queue, pass: &mut Pass<Request, View>, left: &
     requires pass { IsPassOf queue.now pass.old × ((view pass.old).drives ≡ true)
         × ((view pass.old).counted ≡ false) × AllLeft (view pass.old) }
     requires room { (left.old.items ≡ []) × (64 ≤ vec_capacity left.old) }
-    ensures order { (i : ℕ) (k : Known) → get_elem? (view pass.old).known i ≡ some k → of_caller k.number ((view pass.old).taken
-        ++ left.new.items) ≡ k.submitted }
+    ensures order { (i : ℕ) (k : Known) → get_elem? (view pass.old).known i ≡ some k
+        → of_caller k.number ((view pass.old).taken ++ left.new.items) ≡ k.submitted }
     ensures of_callers { All (λ r. r.caller < (view pass.old).given) left.new.items }
 {
     for _ in rt.forever() {
@@ -119,12 +120,12 @@ fn drain<R: Wait>(rt: &R, queue: &Queue, pass: &mut Pass<Request, View>, left: &
 
 // Memory for what may wait in some rings: an empty list for each, and room for those that are filled.
 #[derive(Drop)]
-struct Shelf<T> {
+struct Buffers<T> {
     empty: Vec<Vec<T>>,
     filled: Vec<Vec<T>>,
 }
 
-fn make_shelf<T: Drop>(alloc: Global, rings: usize, each: usize) -> Result<Shelf<T>, AllocError>
+fn make_buffers<T: Drop>(alloc: Global, rings: usize, each: usize) -> Result<Buffers<T>, AllocError>
     ensures { IfOk result (λ s. AreRooms rings each s.empty.items × (s.filled.items ≡ [])
         × (rings ≤ vec_capacity s.filled)) }
 {
@@ -133,7 +134,7 @@ fn make_shelf<T: Drop>(alloc: Global, rings: usize, each: usize) -> Result<Shelf
     for _ in 0..rings {
         empty.push(Vec::with_capacity(alloc, each)?)?;
     }
-    Ok(Shelf { empty, filled })
+    Ok(Buffers { empty, filled })
 }
 
 // The next of the empty lists.
@@ -163,24 +164,25 @@ fn gather_outcomes(
     pass: &mut Pass<Request, View>,
     mut rings: Vec<Producer<Outcome>>,
     callers: Vec<Caller>,
-    shelf: Shelf<Outcome>,
+    buffers: Buffers<Outcome>,
 ) -> Vec<Vec<Outcome>>
     requires pass { IsPassOf queue.now pass.old
         × (view pass.old ≡ driver (view pass.old).given (view pass.old).taken []) }
     requires places { Each (λ _ c. (c.place.queue ≡ pass.old.table_id)
         × (get_elem? (map ring_of_producer rings.items) c.place.number ≡ some c.place.ring)) callers.items }
-    requires room { AreRooms (length callers.items) 8 shelf.empty.items × (shelf.filled.items ≡ [])
-        × (length callers.items ≤ vec_capacity shelf.filled) }
+    requires room { AreRooms (length callers.items) 8 buffers.empty.items × (buffers.filled.items ≡ [])
+        × (length callers.items ≤ vec_capacity buffers.filled) }
     ensures pass { IsPassOf queue.now pass.new
         × (view pass.new ≡ driver (view pass.old).given (view pass.old).taken (map known_of callers.items)) }
-    ensures outcomes { (length result.items ≡ length callers.items) × HeldFor (map sent rings.items) callers.items
+    ensures outcomes { (length result.items ≡ length callers.items)
+        × HeldFor (map sent rings.items) callers.items
         (map vec_items result.items) }
     ensures numbered { Each (λ _ c. IsNumbered c.place.first c.submitted) callers.items }
 {
-    let Shelf {
+    let Buffers {
         mut empty,
         mut filled,
-    } = shelf;
+    } = buffers;
     for caller in callers {
         let mut waiting = next_room(&mut empty);
         leave(queue, pass, &mut rings, caller, &mut waiting);
@@ -193,21 +195,23 @@ fn gather_outcomes(
 fn gather_lines(
     mut lines: Vec<Producer<Urc>>,
     listeners: Vec<Listener>,
-    shelf: Shelf<Urc>,
+    buffers: Buffers<Urc>,
 ) -> Vec<Vec<Urc>>
-    requires places { Each (λ _ l. get_elem? (map ring_of_producer lines.items) l.ear.place ≡ some l.ear.ring) listeners.items }
-    requires room { AreRooms (length listeners.items) 256 shelf.empty.items × (shelf.filled.items ≡ [])
-        × (length listeners.items ≤ vec_capacity shelf.filled) }
+    requires places { Each
+        (λ _ l. get_elem? (map ring_of_producer lines.items) l.subscription.place ≡ some l.subscription.ring)
+        listeners.items }
+    requires room { AreRooms (length listeners.items) 256 buffers.empty.items × (buffers.filled.items ≡ [])
+        × (length listeners.items ≤ vec_capacity buffers.filled) }
     ensures { (length result.items ≡ length listeners.items)
         × HeardBy (map sent lines.items) listeners.items (map vec_items result.items) }
 {
-    let Shelf {
+    let Buffers {
         mut empty,
         mut filled,
-    } = shelf;
+    } = buffers;
     for listener in listeners {
         let mut waiting = next_room(&mut empty);
-        fall_silent(&mut lines, listener, &mut waiting);
+        drain_listener(&mut lines, listener, &mut waiting);
         put_away(&mut filled, waiting);
     }
     filled
@@ -217,16 +221,16 @@ fn gather_lines(
 #[derive(Drop)]
 struct Room {
     left: Vec<Request>,
-    outcomes: Shelf<Outcome>,
-    lines: Shelf<Urc>,
+    outcomes: Buffers<Outcome>,
+    lines: Buffers<Urc>,
 }
 
 fn make_room(alloc: Global, callers: usize, listeners: usize) -> Result<Room, AllocError>
     ensures { IfOk result (λ r. IsRoomFor callers listeners r) }
 {
     let left = Vec::with_capacity(alloc, QUEUED)?;
-    let outcomes = make_shelf(alloc, callers, WAITING)?;
-    let lines = make_shelf(alloc, listeners, LINES)?;
+    let outcomes = make_buffers(alloc, callers, WAITING)?;
+    let lines = make_buffers(alloc, listeners, LINES)?;
     Ok(Room {
         left,
         outcomes,
@@ -243,7 +247,7 @@ fn gather<R: Wait>(
     room: Room,
 ) -> Settled
     requires whole { AreWhole driver.desk (length driver.desk.rings) callers.items
-        × AreSeated driver.desk listeners.items }
+        × AreListenersAt driver.desk listeners.items }
     requires room { IsRoomFor (length callers.items) (length listeners.items) room }
     ensures { DeskBooks driver callers.items listeners.items result.left.items
         (map vec_items result.untaken.items) (map vec_items result.unheard.items) }
@@ -253,9 +257,9 @@ fn gather<R: Wait>(
         outcomes,
         lines,
     } = room;
-    let (queue, mut pass, rings, ears) = driver.into_parts();
+    let (queue, mut pass, rings, line_rings) = driver.into_parts();
     let untaken = gather_outcomes(&queue, &mut pass, rings, callers, outcomes);
-    let unheard = gather_lines(ears, listeners, lines);
+    let unheard = gather_lines(line_rings, listeners, lines);
     drain(rt, &queue, &mut pass, &mut left);
     Settled {
         left,
@@ -275,7 +279,7 @@ pub fn settle<R: Wait>(
     listeners: Vec<Listener>,
 ) -> Result<Settled, SettleRefused>
     requires callers { IsWhole driver.desk (map place_of callers.items) }
-    requires listeners { AreEars driver.desk (map ear_of listeners.items) }
+    requires listeners { AreSubscribed driver.desk (map subscription_of listeners.items) }
     ensures books { IfOk result (λ s. DeskBooks driver callers.items listeners.items s.left.items
         (map vec_items s.untaken.items) (map vec_items s.unheard.items)) }
     ensures refused { IfErr result (λ e. (e.why ≡ NoMemory) × (e.driver ≡ driver) × (e.callers ≡ callers)

@@ -14,11 +14,11 @@ use Rattle.at_text.specs.Lines.{lines}
 use Rattle.at_text.specs.Reading.{HasRead}
 use Rattle.at_text.specs.declared.finals.Final.{Final}
 use Rattle.at_text.specs.declared.finals.Final.TheVariants.{Good, Error, Cme}
-use Rattle.at_text.proofs.ReaderLemmas.{has_read-push}
+use Rattle.at_text.proofs.lines.KeptOctets.{has_read-push}
 use Rattle.serial_line.specs.Counts.{one_more}
 use Rattle.modem_history.specs.Sessions.{LineView}
 use Rattle.modem_history.specs.Entering.{EntryAnswer, Entered, Refused, NoAnswer, LineFailed, IsEntry, EndsWithFinal, EntryMeans, FailsBy, entry_text}
-use Rattle.modem_driver.specs.Entries.{Entry, IsUnderWay, Ends, Comes, GoesOn, Fails, SeesCode, answer_by, code_in, octets_in, entry_begun, answer_of}
+use Rattle.modem_driver.specs.Entries.{Entry, IsUnderWay, EntryEnds, Comes, EntryGoesOn, Fails, SeesCode, answer_by, code_in, octet_in, entry_begun, entry_answer}
 use Rattle.modem_driver.specs.declared.entering.EntryError.{EntryError}
 
 -- ## Counts
@@ -46,8 +46,8 @@ wrote_more first old new text written n was is =
 pub wrote : (old new : LineView) (was now : Entry) (n : ℕ) → was.written < 10 → n ≤ length (take (10 - was.written) (drop was.written entry_text))
     → new.sent ≡ old.sent ++ take n (take (10 - was.written) (drop was.written entry_text)) → new.received ≡ old.received
     → new.calls ≡ one_more old.calls → new.failures ≡ old.failures
-    → now ≡ record { written = was.written + n; kept = was.kept } → GoesOn old new was now None
-unfolding GoesOn
+    → now ≡ record { written = was.written + n; kept = was.kept } → EntryGoesOn old new was now None
+unfolding EntryGoesOn
 wrote old new was now n few short sent received calls failures is made first h =
     let fits : n ≤ 10 - was.written = omega (arith, short, length-take {A = ℕ}) in
     subst (λ (e : Entry). IsUnderWay (made + 1) first new e) (sym is) record {
@@ -69,9 +69,9 @@ pub wrote_as : (old new : LineView) (seen was now : Entry) (n : ℕ) → seen �
     → n ≤ length (take (10 - seen.written) (drop seen.written entry_text))
     → new.sent ≡ old.sent ++ take n (take (10 - seen.written) (drop seen.written entry_text)) → new.received ≡ old.received
     → new.calls ≡ one_more old.calls → new.failures ≡ old.failures
-    → now ≡ record { written = seen.written + n; kept = seen.kept } → GoesOn old new was now None
+    → now ≡ record { written = seen.written + n; kept = seen.kept } → EntryGoesOn old new was now None
 wrote_as old new seen was now n same few short sent received calls failures is =
-    subst (λ (e : Entry). GoesOn old new e now None) same
+    subst (λ (e : Entry). EntryGoesOn old new e now None) same
     (wrote old new seen now n (subst (λ (e : Entry). e.written < 10) (sym same) few) short sent received calls failures is)
 
 -- ## The line fails
@@ -105,14 +105,14 @@ pub sees_line : (kept : List ℕ) (octet : ℕ) (line : List ℕ) (code : Option
     → code ≡ final_of line → SeesCode kept octet code
 sees_line kept octet line code past is = record { given = line ∷ []; one = inr (line, refl); past = past; code_is = is }
 
-pub none_came : (old new : LineView) (was : Entry) (o : Option ℕ) → o ≡ None → new.sent ≡ old.sent → new.received ≡ old.received ++ octets_in o
-    → new.calls ≡ one_more old.calls → new.failures ≡ old.failures → GoesOn old new was was None
-unfolding GoesOn
+pub none_came : (old new : LineView) (was : Entry) (o : Option ℕ) → o ≡ None → new.sent ≡ old.sent → new.received ≡ old.received ++ octet_in o
+    → new.calls ≡ one_more old.calls → new.failures ≡ old.failures → EntryGoesOn old new was was None
+unfolding EntryGoesOn
 none_came old new was o is sent received calls failures made first h = record {
   read = h.read;
   sent_are = sent ∙ h.sent_are;
   few = h.few;
-  read_are = received ∙ ap (λ (x : Option ℕ). old.received ++ octets_in x) is ∙ append-nil old.received ∙ h.read_are;
+  read_are = received ∙ ap (λ (x : Option ℕ). old.received ++ octet_in x) is ∙ append-nil old.received ∙ h.read_are;
   kept = h.kept;
   none = h.none;
   in_turn = h.in_turn;
@@ -149,8 +149,8 @@ on_from old new was now octet given k none made first h = record {
   sound = k.failures ∙ h.sound;
 }
 
-pub no_line : (old new : LineView) (was now : Entry) (octet : ℕ) → OneCame old new was now octet [] → GoesOn old new was now None
-unfolding GoesOn
+pub no_line : (old new : LineView) (was now : Entry) (octet : ℕ) → OneCame old new was now octet [] → EntryGoesOn old new was now None
+unfolding EntryGoesOn
 no_line old new was now octet k made first h = on_from old new was now octet [] k refl made first h
 
 abbrev is_good : Option Final → Bool
@@ -188,7 +188,7 @@ ends line read before line_end is ended none final = record {
 over : (old new : LineView) (was now : Entry) (octet : ℕ) (line : List ℕ) (says : EntryAnswer) → OneCame old new was now octet (line ∷ [])
     → ((read : List ℕ) → EndsWithFinal read line → (turns : ℕ) (first : LineView) → EntryMeans turns entry_text read first new says)
     → ((first : LineView) → new.failures ≡ first.failures → FailsBy first new says) → is_final line ≡ true
-    → (made : ℕ) (first : LineView) → IsUnderWay made first old was → Ends made first new says
+    → (made : ℕ) (first : LineView) → IsUnderWay made first old was → EntryEnds made first new says
 over old new was now octet line says k means sound final made first h turns few = record {
   sent = entry_text;
   sent_are = k.sent ∙ h.sent_are ∙ ap (λ (n : ℕ). first.sent ++ take n entry_text) k.whole;
@@ -218,27 +218,27 @@ comes_by old new was now octet line (Some (Cme n)) e k made first h =
     (λ read q turns f. record { whole = refl; line = line; other = λ ok. true≢false (ap (λ (l : List ℕ). is_good (final_of l)) (sym ok) ∙ ap is_good e); ended = q })
     (λ f q. q) (ap is_some e) made first h
 
-pub one_line : (old new : LineView) (was now : Entry) (octet : ℕ) (line : List ℕ) → OneCame old new was now octet (line ∷ []) → GoesOn old new was now (final_of line)
-unfolding GoesOn
+pub one_line : (old new : LineView) (was now : Entry) (octet : ℕ) (line : List ℕ) → OneCame old new was now octet (line ∷ []) → EntryGoesOn old new was now (final_of line)
+unfolding EntryGoesOn
 one_line old new was now octet line k made first h = comes_by old new was now octet line (final_of line) refl k made first h
 
 comes_from : (old new : LineView) (was now : Entry) (octet : ℕ) (given : List (List ℕ)) → (given ≡ []) ⊎ ((line : List ℕ) × (given ≡ line ∷ []))
-    → OneCame old new was now octet given → GoesOn old new was now (code_in given)
+    → OneCame old new was now octet given → EntryGoesOn old new was now (code_in given)
 comes_from old new was now octet given (inl none) k =
-    subst (λ (g : List (List ℕ)). OneCame old new was now octet g → GoesOn old new was now (code_in g)) (sym none) (no_line old new was now octet) k
+    subst (λ (g : List (List ℕ)). OneCame old new was now octet g → EntryGoesOn old new was now (code_in g)) (sym none) (no_line old new was now octet) k
 comes_from old new was now octet given (inr one) k =
-    subst (λ (g : List (List ℕ)). OneCame old new was now octet g → GoesOn old new was now (code_in g)) (sym one.1) (one_line old new was now octet one.0) k
+    subst (λ (g : List (List ℕ)). OneCame old new was now octet g → EntryGoesOn old new was now (code_in g)) (sym one.1) (one_line old new was now octet one.0) k
 
 pub one_came : (old new : LineView) (seen was now : Entry) (o : Option ℕ) (octet : ℕ) (code : Option Final) → seen ≡ was → o ≡ Some octet → was.written ≡ 10
-    → now.written ≡ seen.written → new.sent ≡ old.sent → new.received ≡ old.received ++ octets_in o → new.calls ≡ one_more old.calls → new.failures ≡ old.failures
-    → HasRead now.kept (seen.kept ++ octet ∷ []) → SeesCode seen.kept octet code → GoesOn old new was now code
+    → now.written ≡ seen.written → new.sent ≡ old.sent → new.received ≡ old.received ++ octet_in o → new.calls ≡ one_more old.calls → new.failures ≡ old.failures
+    → HasRead now.kept (seen.kept ++ octet ∷ []) → SeesCode seen.kept octet code → EntryGoesOn old new was now code
 one_came old new seen was now o octet code same is whole written sent came calls failures keeps sees =
-    subst (λ (e : Entry). GoesOn old new e now code) same
-    (subst (GoesOn old new seen now) (sym sees.code_is) (comes_from old new seen now octet sees.given sees.one record {
+    subst (λ (e : Entry). EntryGoesOn old new e now code) same
+    (subst (EntryGoesOn old new seen now) (sym sees.code_is) (comes_from old new seen now octet sees.given sees.one record {
       whole = ap (λ (e : Entry). e.written) same ∙ whole;
       written = written;
       sent = sent;
-      came = came ∙ ap (λ (x : Option ℕ). old.received ++ octets_in x) is;
+      came = came ∙ ap (λ (x : Option ℕ). old.received ++ octet_in x) is;
       calls = calls;
       failures = failures;
       keeps = keeps;
@@ -275,13 +275,13 @@ none_answered made turns first now entry h all = subst (λ (n : ℕ). IsEntry n 
 }
 
 pub goes_on : (made : ℕ) (first old new : LineView) (was now : Entry) (code : Option Final) → IsUnderWay made first old was
-    → GoesOn old new was now code → code ≡ None → IsUnderWay (made + 1) first new now
-unfolding GoesOn
+    → EntryGoesOn old new was now code → code ≡ None → IsUnderWay (made + 1) first new now
+unfolding EntryGoesOn
 goes_on made first old new was now code h goes is = subst (Comes made first new now) is (goes made first h)
 
 pub ends_by : (made turns : ℕ) (first old new : LineView) (was now : Entry) (o : Option Final) (code : Final) → IsUnderWay made first old was
-    → GoesOn old new was now o → o ≡ Some code → made < turns → IsEntry turns first new (answer_by code)
-unfolding GoesOn
+    → EntryGoesOn old new was now o → o ≡ Some code → made < turns → IsEntry turns first new (answer_by code)
+unfolding EntryGoesOn
 ends_by made turns first old new was now o code h goes is few = subst (Comes made first new now) is (goes made first h) turns (omega (arith, few))
 
 pub ends_failed : (made turns : ℕ) (first old new : LineView) (was : Entry) → IsUnderWay made first old was
@@ -295,6 +295,6 @@ says_entered turns first now said (Ok x) h is = subst (IsEntry turns first now) 
 says_entered turns first now said (Err why) h is = tt
 
 pub says_why : {T : Type 0} (turns : ℕ) (first now : LineView) (said : EntryAnswer) (r : Result T EntryError) → IsEntry turns first now said
-    → IfErr r (λ why. said ≡ answer_of why) → IfErr r (λ why. IsEntry turns first now (answer_of why))
+    → IfErr r (λ why. said ≡ entry_answer why) → IfErr r (λ why. IsEntry turns first now (entry_answer why))
 says_why turns first now said (Ok x) h is = tt
 says_why turns first now said (Err why) h is = subst (IsEntry turns first now) is h

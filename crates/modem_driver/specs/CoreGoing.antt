@@ -5,7 +5,7 @@ use Rattle.at_text.specs.OpenWindow.{opened}
 use Rattle.mux_station.specs.Acts as station
 use Rattle.mux_station.specs.Stations.{Station, Channel, channel_at}
 use Rattle.mux_station.specs.Fitting as station_fits
-use Rattle.mux_station.specs.Giving.{next_sender, given_on, SendsNext}
+use Rattle.mux_station.specs.Giving.{next_sender, station_after, SendsNext}
 use Rattle.mux_station.specs.GivenFrames.{Outgoing}
 use Rattle.modem_history.specs.Acts.{Act}
 use Rattle.modem_history.specs.Information.{line_of}
@@ -23,32 +23,37 @@ pub record StandsIn (s : Setting) (v : Core) (past : List Act) : Type 0 where
 abbrev pub begun_by : Core → ℕ → Option (List ℕ) → Core
 begun_by v d None = v
 begun_by v d (Some line) =
-    if is_none (lane_at v d).window then record v { lanes = slice_set v.lanes d (record (lane_at v d) { window = Some (opened line) }) } else v
+    if is_none (lane_at v d).window
+    then record v { lanes = slice_set v.lanes d (record (lane_at v d) { window = Some (opened line) }) }
+    else v
 
 -- with the last octets that wait on d its first command is whole
 abbrev pub begun_on : Core → Option ℕ → Core
 begun_on v None = v
 begun_on v (Some d) =
-    if nat_le (length (channel_at v.station d).waiting) v.station.n1 then begun_by v d (option_map line_of (first_on d v.hand)) else v
+    if nat_le (length (channel_at v.station d).waiting) v.station.n1
+    then begun_by v d (option_map line_of (first_on d v.hand)) else v
 
 abbrev pub begun_next : Core → Core
 begun_next v = begun_on v (next_sender v.station v.station.queue)
 
 -- the next frame has gone out
 abbrev pub gone_on : Core → Core
-gone_on v = if v.lost then v else record (begun_next v) { station = given_on v.station v.station.queue }
+gone_on v = if v.lost then v else record (begun_next v) { station = station_after v.station v.station.queue }
 
 -- what goes out is what every history says
 unfoldable pub GoesOut : Core → Option Outgoing → Type 0
 GoesOut v o = (s : Setting) (past : List Act) → StandsIn s v past → o ≡ next_out s past
 
 -- and the core fits every history with it, which goes on lawful and complete
-unfoldable pub GoesOn : Core → Type 0
-GoesOn v = (s : Setting) (past : List Act) → StandsIn s v past → StandsIn s (gone_on v) (after_out s past)
+unfoldable pub CoreGoesOn : Core → Type 0
+CoreGoesOn v = (s : Setting) (past : List Act) → StandsIn s v past → StandsIn s (gone_on v) (after_out s past)
 
 -- whose data is next may send it, by each past that the station fits
 unfoldable pub SendsTruly : Station → Type 0
-SendsTruly v = (d : ℕ) (seen : List station.Act) → next_sender v v.queue ≡ Some d → station_fits.Fits v seen → SendsNext v.role d seen
+SendsTruly v =
+    (d : ℕ) (seen : List station.Act) → next_sender v v.queue ≡ Some d → station_fits.StationFits v seen
+    → SendsNext v.role d seen
 
 -- what may still go out: the frames in the control queue, and the octets in the send rings
 abbrev pub left_to_go : Core → ℕ

@@ -24,11 +24,12 @@ use Rattle.modem_history.specs.Information.{accepted, texts}
 use Rattle.modem_history.specs.Placing.{marks, run_on}
 use Rattle.modem_history.specs.Calls.{Setting, calls, is_lost, ticks_since}
 use Rattle.modem_history.specs.Lawful.{Lawful, Complete}
-use Rattle.modem_history.specs.Wholes.{CompleteCalls, UsesOnce, taken}
+use Rattle.modem_history.specs.Wholes.{CompleteCalls, UsesOnce, taken_requests}
 
 -- ## What is kept
 
--- the station, the lanes of the connections 0 to 61, the requests in hand, the kinds that are listened to, and whether the line is lost
+-- the station, the lanes of the connections 0 to 61, the requests in hand, the kinds that are listened to,
+-- and whether the line is lost
 pub record Core : Type 0 where
   pub station : Station
   pub lanes : List Lane
@@ -37,7 +38,13 @@ pub record Core : Type 0 where
   pub lost : Bool
 
 abbrev pub new_core : ℕ → List UrcKind → Core
-new_core n1 kinds = record { station = new_station Initiator n1; lanes = replicate 62 new_lane; hand = []; kinds = kinds; lost = false }
+new_core n1 kinds = record {
+  station = new_station Initiator n1;
+  lanes = replicate 62 new_lane;
+  hand = [];
+  kinds = kinds;
+  lost = false;
+}
 
 abbrev pub lane_at : Core → ℕ → Lane
 lane_at v d = slice_index_or v.lanes d new_lane
@@ -49,28 +56,28 @@ state_shown v lost d = if lost then is.Shut else as_shown (channel_at v d).state
 -- ## Which histories it fits
 
 -- a request may wait while the connections stand so
-abbrev pub is_opening : ChannelState → Bool
-is_opening is.Opening = true
-is_opening _ = false
+abbrev pub shows_opening : ChannelState → Bool
+shows_opening is.Opening = true
+shows_opening _ = false
 
 abbrev pub is_closing : ChannelState → Bool
 is_closing is.Closing = true
 is_closing _ = false
 
-abbrev pub is_opened : ChannelState → Bool
-is_opened is.Opened = true
-is_opened _ = false
+abbrev pub shows_opened : ChannelState → Bool
+shows_opened is.Opened = true
+shows_opened _ = false
 
-abbrev pub is_stopping : ChannelState → Bool
-is_stopping is.Stopping = true
-is_stopping _ = false
+abbrev pub shows_stopping : ChannelState → Bool
+shows_stopping is.Stopping = true
+shows_stopping _ = false
 
 abbrev pub may_wait : (ℕ → ChannelState) → Ask → Bool
-may_wait now (OpenChannel d) = is_opening (now d.number)
+may_wait now (OpenChannel d) = shows_opening (now d.number)
 may_wait now (CloseChannel d) = is_closing (now d.number)
-may_wait now (Command d line) = is_opened (now d.number)
-may_wait now (Probe octets) = is_opened (now 0)
-may_wait now Stop = is_stopping (now 0)
+may_wait now (Command d line) = shows_opened (now d.number)
+may_wait now (Probe octets) = shows_opened (now 0)
+may_wait now Stop = shows_stopping (now 0)
 
 -- the probe among the requests: its octets, and how many ticks came since it was taken
 abbrev pub probe_or : List Act → Request → Ask → Option Waiting → Option Waiting
@@ -81,21 +88,23 @@ abbrev pub probe_in : List Act → List Request → Option Waiting
 probe_in past [] = None
 probe_in past (r ∷ rs) = probe_or past r r.ask (probe_in past rs)
 
--- an open connection: what is kept of its unfinished line and of its window is what the past says, and its accepted commands
--- were put into the station's ring as far as the first one whose answer isn't whole
+-- an open connection: what is kept of its unfinished line and of its window is what the past says, and its
+-- accepted commands were put into the station's ring as far as the first one whose answer isn't whole
 pub record LaneFits (d : ℕ) (seen : List station.Act) (past : List Act) (lane : Lane) : Type 0 where
   pub kept_is : run_on Initiator d past ≡ lane.kept
   pub window_fits : FitsMarks lane.window (marks Initiator d past)
-  pub offered_is : offered Initiator d seen ≡ concat (texts (take (answered (marks Initiator d past) + 1) (accepted Initiator d past)))
+  pub offered_is : offered Initiator d seen
+      ≡ concat (texts (take (answered (marks Initiator d past) + 1) (accepted Initiator d past)))
 
 -- the line isn't lost: the station has seen the same, and the calls that the core made of it
 pub record Runs (v : Core) (past : List Act) : Type 0 where
   pub seen : List station.Act
-  pub fits : station_fits.Fits v.station seen
+  pub fits : station_fits.StationFits v.station seen
   pub same : without_calls seen ≡ wire past
   pub waits : list_all (λ (r : Request). may_wait (state_shown v.station false) r.ask) v.hand ≡ true
   pub probe_is : probe_in past v.hand ≡ v.station.probe
-  pub lanes_fit : (d : ℕ) → d < 62 → (d == 0) ≡ false → is_open Initiator d (wire past) ≡ true → LaneFits d seen past (lane_at v d)
+  pub lanes_fit : (d : ℕ) → d < 62 → (d == 0) ≡ false → is_open Initiator d (wire past) ≡ true
+      → LaneFits d seen past (lane_at v d)
 
 abbrev pub RunsUnless : Bool → Core → List Act → Type 0
 RunsUnless true v past = v.hand ≡ []
@@ -113,7 +122,7 @@ pub record IsRun (s : Setting) (past : List Act) : Type 0 where
   pub lawful : Lawful s past
   pub complete : Complete s past
   pub whole : CompleteCalls s past
-  pub numbers : UsesOnce (taken past)
+  pub numbers : UsesOnce (taken_requests past)
 
 -- whose history it is: an initiator with the core's N1, which listens to its kinds
 pub record IsSettingOf (s : Setting) (v : Core) : Type 0 where
@@ -126,7 +135,7 @@ pub record MayCome (s : Setting) (v : Core) (past : List Act) (a : Act) : Type 0
   pub setting : IsSettingOf s v
   pub fits : Fits v past
   pub run : IsRun s past
-  pub numbers : UsesOnce (taken (a ∷ past))
+  pub numbers : UsesOnce (taken_requests (a ∷ past))
 
 -- what is promised after it: the acts are the first one and all that it calls for, and the core fits them too
 pub record GoesOn (s : Setting) (new : Core) (past : List Act) (a : Act) (acts : List Act) : Type 0 where

@@ -8,7 +8,7 @@ use Rattle.modem_desk.specs.declared.request.Outcome.{Outcome}
 use Rattle.modem_history.specs.Acts.{Act, Told, Tick, Lost, after}
 use Rattle.modem_history.specs.Entering.{entry_text}
 use Rattle.modem_history.specs.Sessions.{SessionView}
-use Rattle.modem_history.specs.Rows.{zero, takes, tells, sends, comes, cld, cld_response}
+use Rattle.modem_history.specs.Rows.{zero, takes, tells, sends, comes, cld_command, cld_response}
 use Rattle.modem_history.specs.SessionRows.{beginning, sabm_zero}
 use Rattle.modem_driver.specs.Endings.{HasCome, HasEnded, has_stopped}
 use Rattle.modem_driver.specs.declared.session.ending.Course.TheVariants.{GoesOn}
@@ -20,10 +20,10 @@ abbrev pub opened : List Act
 opened = takes 1 (OpenChannel zero) ∷ sends Sabm 0 [] ∷ comes Ua 0 [] ∷ tells 1 Opened ∷ []
 
 abbrev pub asked : List Act
-asked = opened ++ takes 2 Stop ∷ sends Uih 0 cld ∷ []
+asked = opened ++ takes 2 Stop ∷ sends Uih 0 cld_command ∷ []
 
-abbrev pub answered : List Act
-answered = asked ++ comes Uih 0 cld_response ∷ tells 2 Stopped ∷ []
+abbrev pub stop_answered : List Act
+stop_answered = asked ++ comes Uih 0 cld_response ∷ tells 2 Stopped ∷ []
 
 -- a Stop that is asked for afterwards
 abbrev pub later : List Act
@@ -34,11 +34,11 @@ four_ticks = Tick ∷ Tick ∷ Tick ∷ Tick ∷ []
 
 abbrev pub stopped_rows : List (List Act)
 stopped_rows =
-    answered
+    stop_answered
     -- nobody answers it
     ∷ (asked ++ four_ticks ++ tells 2 NoAnswer ∷ [])
     -- and another is asked for behind it
-    ∷ (answered ++ later)
+    ∷ (stop_answered ++ later)
     ∷ []
 
 abbrev pub going_rows : List (List Act)
@@ -49,7 +49,8 @@ going_rows =
     -- nothing was open
     ∷ (takes 1 Stop ∷ tells 1 NotOpen ∷ [])
     -- a probe goes unanswered
-    ∷ (opened ++ takes 2 (Probe (codes "AB")) ∷ sends Uih 0 (0x23 ∷ 5 ∷ 0x41 ∷ 0x42 ∷ []) ∷ four_ticks ++ tells 2 NoAnswer ∷ [])
+    ∷ (opened ++ takes 2 (Probe (codes "AB")) ∷ sends Uih 0 (0x23 ∷ 5 ∷ 0x41 ∷ 0x42 ∷ []) ∷ four_ticks ++
+    tells 2 NoAnswer ∷ [])
     -- another caller is told so
     ∷ (asked ++ comes Uih 0 cld_response ∷ Told (record { caller = 1; number = 2; answer = Stopped }) ∷ [])
     ∷ []
@@ -76,25 +77,31 @@ ending written told = record {
   unannounced = [];
 }
 
-abbrev pub outcome : ℕ → Answer → Outcome
-outcome n answer = record { caller = 0; number = n; answer = answer }
+abbrev pub ending_outcome : ℕ → Answer → Outcome
+ending_outcome n answer = record { caller = 0; number = n; answer = answer }
 
 -- all is written and told
 unfoldable pub IsRightEnding : Type 0
-IsRightEnding = HasEnded beginning (ending (sabm_zero ++ cld_octets) (outcome 1 Opened ∷ outcome 2 Stopped ∷ [])) (after [] answered)
+IsRightEnding =
+    HasEnded beginning (ending (sabm_zero ++ cld_octets)
+    (ending_outcome 1 Opened ∷ ending_outcome 2 Stopped ∷ [])) (after [] stop_answered)
 
 -- and so it is after more was asked and told
 unfoldable pub StaysEnded : Type 0
-StaysEnded = HasEnded beginning (ending (sabm_zero ++ cld_octets) (outcome 1 Opened ∷ outcome 2 Stopped ∷ [])) (after [] (answered ++ later))
+StaysEnded =
+    HasEnded beginning (ending (sabm_zero ++ cld_octets)
+    (ending_outcome 1 Opened ∷ ending_outcome 2 Stopped ∷ [])) (after [] (stop_answered ++ later))
 
 -- the last octet of the CLD wasn't written; or the Stop's outcome has found no place
 unfoldable pub AreNoEndings : Type 0
 AreNoEndings =
-    (¬ HasEnded beginning (ending (sabm_zero ++ 0xF9 ∷ 0x03 ∷ 0xEF ∷ 0x05 ∷ 0xC3 ∷ 0x01 ∷ 0xF2 ∷ []) (outcome 1 Opened ∷ outcome 2 Stopped ∷ [])) (after [] answered))
-    × (¬ HasEnded beginning (ending (sabm_zero ++ cld_octets) (outcome 1 Opened ∷ [])) (after [] answered))
+    (¬ HasEnded beginning (ending (sabm_zero ++ 0xF9 ∷ 0x03 ∷ 0xEF ∷ 0x05 ∷ 0xC3 ∷ 0x01 ∷ 0xF2 ∷ [])
+    (ending_outcome 1 Opened ∷ ending_outcome 2 Stopped ∷ [])) (after [] stop_answered))
+    × (¬ HasEnded beginning (ending (sabm_zero ++ cld_octets) (ending_outcome 1 Opened ∷ []))
+    (after [] stop_answered))
 
 -- ## How far it has come
 
 -- once a Stop was answered by Stopped it is wrong that none was
 unfoldable pub IsNoGoing : Type 0
-IsNoGoing = (v : SessionView) → ¬ HasCome beginning v (after [] answered) GoesOn
+IsNoGoing = (v : SessionView) → ¬ HasCome beginning v (after [] stop_answered) GoesOn

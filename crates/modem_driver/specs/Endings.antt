@@ -9,8 +9,8 @@ use Rattle.modem_desk.specs.declared.request.Answer.TheVariants.{Stopped, NoAnsw
 use Rattle.modem_desk.specs.declared.request.Outcome.{Outcome}
 use Rattle.modem_history.specs.Acts.{Act, Told, after, is_for}
 use Rattle.modem_history.specs.Calls.{is_lost}
-use Rattle.modem_history.specs.Wholes.{taken, outcomes}
-use Rattle.modem_history.specs.Sessions.{Beginning, SessionView, sents, octets_of_frames, of_caller, at_place}
+use Rattle.modem_history.specs.Wholes.{taken_requests, outcomes}
+use Rattle.modem_history.specs.Sessions.{Beginning, SessionView, sents, octets_of_frames, caller_outcomes, at_place}
 use Rattle.modem_driver.specs.declared.session.ending.Asker.{Asker}
 use Rattle.modem_driver.specs.declared.session.ending.Course.{Course}
 use Rattle.modem_driver.specs.declared.session.ending.Course.TheVariants as course
@@ -40,7 +40,7 @@ is_stopped_by os q = is_stop q && list_any (λ (o : Outcome). is_for q o && ends
 
 -- a Stop that was taken was answered by Stopped or NoAnswer
 abbrev pub has_stopped : List Act → Bool
-has_stopped past = list_any (is_stopped_by (outcomes past)) (taken past)
+has_stopped past = list_any (is_stopped_by (outcomes past)) (taken_requests past)
 
 -- ## The end
 
@@ -49,15 +49,17 @@ pub record Begins {X : Type 0} (xs ys : List X) : Type 0 where
   pub rest : List X
   pub joins : xs ++ rest ≡ ys
 
--- A session has ended: in some beginning of its history a Stop was answered by Stopped or NoAnswer, all frames sent in that
--- beginning are written, and each caller has all outcomes told in it. So it is ever after, whatever else happens.
+-- A session has ended: in some beginning of its history a Stop was answered by Stopped or NoAnswer, all
+-- frames sent in that beginning are written, and each caller has all outcomes told in it. So it is ever
+-- after, whatever else happens.
 pub record HasEnded (b : Beginning) (v : SessionView) (past : List Act) : Type 0 where
   pub before : List Act
   pub since : List Act
   pub past_is : past ≡ after before since
   pub stopped : has_stopped before ≡ true
   pub written : Begins (b.line.sent ++ octets_of_frames (sents before)) v.line.sent
-  pub placed : (c : ℕ) → Begins (at_place c b.desk.told ++ of_caller c (outcomes before)) (at_place c v.desk.told)
+  pub placed : (c : ℕ) → Begins (at_place c b.desk.told ++ caller_outcomes c (outcomes before))
+      (at_place c v.desk.told)
 
 -- What an end says of the session: it has ended, or its line is lost. Want of memory is no end.
 abbrev pub IsEnd : Beginning → SessionView → List Act → Result Ended SessionFault → Type 0

@@ -11,10 +11,10 @@ use Rattle.modem_history.specs.Entering.{EntryAnswer, Entered, Refused, NoAnswer
 use Rattle.modem_driver.specs.declared.entering.EntryError.{EntryError}
 use Rattle.modem_driver.specs.declared.entering.EntryError.TheVariants as error
 
-abbrev pub answer_of : EntryError → EntryAnswer
-answer_of error.Refused = Refused
-answer_of error.NoAnswer = NoAnswer
-answer_of error.Line = LineFailed
+abbrev pub entry_answer : EntryError → EntryAnswer
+entry_answer error.Refused = Refused
+entry_answer error.NoAnswer = NoAnswer
+entry_answer error.Line = LineFailed
 
 abbrev pub answer_by : Final → EntryAnswer
 answer_by Good = Entered
@@ -31,9 +31,9 @@ abbrev pub entry_begun : Entry
 entry_begun = record { written = 0; kept = [] }
 
 -- the octet that came, if one did
-abbrev pub octets_in : Option ℕ → List ℕ
-octets_in None = []
-octets_in (Some octet) = octet ∷ []
+abbrev pub octet_in : Option ℕ → List ℕ
+octet_in None = []
+octet_in (Some octet) = octet ∷ []
 
 -- the final code that a line is, if there is a line
 abbrev pub code_in : List (List ℕ) → Option Final
@@ -61,17 +61,19 @@ pub record IsUnderWay (made : ℕ) (first now : LineView) (entry : Entry) : Type
   pub sound : now.failures ≡ first.failures
 
 -- an entry is over with the call behind so many
-abbrev pub Ends : ℕ → LineView → LineView → EntryAnswer → Type 0
-Ends made first now answer = (turns : ℕ) → made + 1 ≤ turns → IsEntry turns first now answer
+abbrev pub EntryEnds : ℕ → LineView → LineView → EntryAnswer → Type 0
+EntryEnds made first now answer = (turns : ℕ) → made + 1 ≤ turns → IsEntry turns first now answer
 
 -- one call further: on from there, or over where a final code came
 abbrev pub Comes : ℕ → LineView → LineView → Entry → Option Final → Type 0
 Comes made first now entry None = IsUnderWay (made + 1) first now entry
-Comes made first now entry (Some code) = Ends made first now (answer_by code)
+Comes made first now entry (Some code) = EntryEnds made first now (answer_by code)
 
 -- one call, whatever went before
-unfoldable pub GoesOn : LineView → LineView → Entry → Entry → Option Final → Type 0
-GoesOn old new was entry code = (made : ℕ) → (first : LineView) → IsUnderWay made first old was → Comes made first new entry code
+unfoldable pub EntryGoesOn : LineView → LineView → Entry → Entry → Option Final → Type 0
+EntryGoesOn old new was entry code =
+    (made : ℕ) → (first : LineView) → IsUnderWay made first old was → Comes made first new entry code
 
 unfoldable pub Fails : LineView → LineView → Entry → Type 0
-Fails old new was = (made : ℕ) → (first : LineView) → IsUnderWay made first old was → Ends made first new LineFailed
+Fails old new was =
+    (made : ℕ) → (first : LineView) → IsUnderWay made first old was → EntryEnds made first new LineFailed

@@ -33,7 +33,8 @@ abbrev pub led_first : List AnswerLine → List Act → List Act
 led_first ls [] = []
 led_first ls (a ∷ acts) = if tells_lines a then led ls a ∷ acts else a ∷ led_first ls acts
 
--- what is said of a frame, by what was said on a fork and by its window then: no answer is told while that is open
+-- what is said of a frame, by what was said on a fork and by its window then: no answer is told while that is
+-- open
 abbrev pub joined_acts : List AnswerLine → Option OpenWindow → List Act → List Act
 joined_acts ls None acts = led_first ls acts
 joined_acts ls (Some o) acts = acts

@@ -27,8 +27,9 @@ abbrev pub waits_on : Role → ℕ → List Act → List ℕ
 waits_on r d past = drop (length (information_out r d past)) (may_leave r d past)
 
 -- d is open and not stopped, and octets wait on it
-abbrev pub is_ready : Role → List Act → ℕ → Bool
-is_ready r past d = is_open r d (wire past) && (not (is_stopped r d (wire past)) && not (length (waits_on r d past) == 0))
+abbrev pub may_send : Role → List Act → ℕ → Bool
+may_send r past d =
+    is_open r d (wire past) && (not (is_stopped r d (wire past)) && not (length (waits_on r d past) == 0))
 
 -- the connections from d on, in rising order
 abbrev pub from_on : ℕ → List ℕ
@@ -39,8 +40,10 @@ else_by (Some d) o = Some d
 else_by None o = o
 
 -- whose turn it is: of those that are ready the least above the one that last sent data, else the least
-abbrev pub next_turn : Role → List Act → Option ℕ
-next_turn r past = else_by (find (is_ready r past) (from_on (last_sender (wire past) + 1))) (find (is_ready r past) (from_on 1))
+abbrev pub next_to_send : Role → List Act → Option ℕ
+next_to_send r past =
+    else_by (find (may_send r past) (from_on (last_sender (wire past) + 1)))
+    (find (may_send r past) (from_on 1))
 
 -- its frame: as many octets as wait, at most N1
 abbrev pub data_of : Setting → List Act → ℕ → Frame
@@ -51,7 +54,7 @@ data_of s past d = written s.role Uih d (take s.n1 (waits_on s.role d past))
 -- the frame, fresh if it is data
 abbrev pub out_by : Setting → List Act → List Frame → Option Outgoing
 out_by s past (f ∷ fs) = Some (with_freshness false f)
-out_by s past [] = option_map (λ (d : ℕ). with_freshness true (data_of s past d)) (next_turn s.role past)
+out_by s past [] = option_map (λ (d : ℕ). with_freshness true (data_of s past d)) (next_to_send s.role past)
 
 -- nothing after a loss
 abbrev pub next_out : Setting → List Act → Option Outgoing

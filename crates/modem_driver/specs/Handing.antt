@@ -17,7 +17,8 @@ use Rattle.modem_driver.specs.Reports.{Listens, read_each, owner_of}
 -- octets are offered on d: the station takes them where it doesn't refuse them
 pub record Offers (old new : Station) (d : ℕ) (octets : List ℕ) : Type 0 where
   pub setting : setting_of new ≡ setting_of old
-  pub taken : None ≡ offer_refused old d octets → station_fits.Handles old new (station.Called (station.Offer d octets))
+  pub taken : None ≡ offer_refused old d octets
+      → station_fits.StationHandles old new (station.Called (station.Offer d octets))
 
 -- a command line is offered, and its CR
 pub record OffersLine (old new : Station) (d : ℕ) (line : List ℕ) : Type 0 where
@@ -34,7 +35,8 @@ HandsOn old new d (Some line) = OffersLine old new d line
 pub record EndsCommand (old new : Core) (d : ℕ) : Type 0 where
   pub station : Station
   pub new_is : new ≡ record old { station = station; hand = without_first (commands_on d) old.hand }
-  pub next : HandsOn old.station station d (option_map line_of (first_on d (without_first (commands_on d) old.hand)))
+  pub next : HandsOn old.station station d
+      (option_map line_of (first_on d (without_first (commands_on d) old.hand)))
 
 -- where that command has its answer; and else nothing more
 abbrev pub EndedBy : Bool → Core → Core → ℕ → Type 0
@@ -46,11 +48,14 @@ unfoldable pub ReadsFrame : Core → Frame → Lane → List Act → Type 0
 ReadsFrame v f lane acts =
     (listens : UrcKind → Bool) → Listens listens v.kinds
     → record { kept = lane.kept; window = lane.window; acts = acts }
-    ≡ read_each listens f.dlci (option_map owner_of (first_on f.dlci v.hand)) (record { kept = (lane_at v f.dlci).kept; window = (lane_at v f.dlci).window; acts = Got f ∷ [] }) f.info
+    ≡ read_each listens f.dlci (option_map owner_of (first_on f.dlci v.hand))
+    (record { kept = (lane_at v f.dlci).kept; window = (lane_at v f.dlci).window; acts = Got f ∷ [] }) f.info
 
 -- and where it is read on a fork of that lane's window
 unfoldable pub ReadsApart : Core → Frame → Lane → List Act → Type 0
 ReadsApart v f lane acts =
     (listens : UrcKind → Bool) → Listens listens v.kinds
     → record { kept = lane.kept; window = lane.window; acts = acts }
-    ≡ read_each listens f.dlci (option_map owner_of (first_on f.dlci v.hand)) (record { kept = (lane_at v f.dlci).kept; window = forked (lane_at v f.dlci).window; acts = Got f ∷ [] }) f.info
+    ≡ read_each listens f.dlci (option_map owner_of (first_on f.dlci v.hand))
+    (record { kept = (lane_at v f.dlci).kept; window = forked (lane_at v f.dlci).window; acts = Got f ∷ [] })
+    f.info

@@ -5,6 +5,6 @@ use Rattle.std.specs.Global.{Vec}
 use Rattle.modem_desk.specs.declared.request.Request.{Request}
 
 -- at most 128, with room for so many
-pub record HasRoom (requests : Vec Request) : Type 0 where
+pub record HandHasRoom (requests : Vec Request) : Type 0 where
   pub few : vec_len requests ≤ 128
   pub room : 128 ≤ vec_capacity requests

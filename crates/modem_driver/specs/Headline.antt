@@ -11,7 +11,7 @@ use Rattle.modem_desk.specs.declared.request.Request.{Request}
 use Rattle.modem_desk.specs.declared.request.Outcome.{Outcome}
 use Rattle.modem_desk.specs.declared.request.Urc.{Urc}
 use Rattle.modem_desk.specs.Rule.{of_caller}
-use Rattle.modem_desk.specs.Ends.{AreEars, CallerView, DriverView, Each, IsWhole, ListenerView, ear_of, place_of}
+use Rattle.modem_desk.specs.Ends.{AreSubscribed, CallerView, DriverView, Each, IsWhole, ListenerView, subscription_of, place_of}
 use Rattle.modem_desk.specs.Books.{DeskBooks}
 use Rattle.modem_history.specs.Acts.{Act, Sent, Told, is_for, wire}
 use Rattle.modem_history.specs.Information.{accepted, information_out, texts}
@@ -23,15 +23,15 @@ use Rattle.modem_history.specs.Wholes.{HasOwnAnswer, IsPrefixOf, commands_for, i
 
 -- ## A run and its end
 
--- what a settlement gave: the requests that were still queued, and for each caller and each listener, in the order in
--- which they were handed in, the outcomes and the lines that waited
+-- what a settlement gave: the requests that were still queued, and for each caller and each listener, in the
+-- order in which they were handed in, the outcomes and the lines that waited
 pub record Settlement : Type 0 where
   pub left : List Request
   pub untaken : List (List Outcome)
   pub unheard : List (List Urc)
 
--- a run: how its session began, how it stood at the end and what `finish` gave; the driver's end, the callers and the
--- listeners that were handed in for settlement, and what that gave
+-- a run: how its session began, how it stood at the end and what `finish` gave; the driver's end, the callers
+-- and the listeners that were handed in for settlement, and what that gave
 pub record Run : Type 0 where
   pub start : Beginning
   pub session : SessionView
@@ -47,14 +47,15 @@ pub record HasEnd (run : Run) : Type 0 where
   pub fits : SessionFits run.start run.session past
   pub finishes : Finishes run.session past run.leftovers
 
--- The desk had done nothing when the session began on its driver's end. Each request that the session took is of a caller
--- of the desk; and where no caller used a number twice, it has a history. The desk was settled with the driver's end that
--- `finish` gave, and with all callers.
+-- The desk had done nothing when the session began on its driver's end. Each request that the session took is
+-- of a caller of the desk; and where no caller used a number twice, it has a history. The desk was settled
+-- with the driver's end that `finish` gave, and with all callers.
 pub record IsSettled (run : Run) : Type 0 where
   pub none_taken : run.start.desk.taken ≡ []
   pub none_told : (c : ℕ) → slice_index_or run.start.desk.told c [] ≡ []
   pub none_announced : (i : ℕ) → slice_index_or run.start.desk.announced i [] ≡ []
-  pub callers : list_all (λ (q : Request). nat_lt q.caller (length run.driver.desk.rings)) (taken_since run.start run.session) ≡ true
+  pub callers : list_all (λ (q : Request). nat_lt q.caller (length run.driver.desk.rings))
+      (taken_since run.start run.session) ≡ true
   pub history : AreOnce run.start run.session → HasEnd run
   pub desk : run.leftovers.desk ≡ run.session.desk
   pub taken : run.driver.taken ≡ run.leftovers.desk.taken
@@ -62,13 +63,14 @@ pub record IsSettled (run : Run) : Type 0 where
   pub announced : run.driver.announced ≡ run.leftovers.desk.announced
   pub kinds : run.driver.desk.kinds ≡ run.start.kinds
   pub whole : IsWhole run.driver.desk (map place_of run.callers)
-  pub ears : AreEars run.driver.desk (map ear_of run.listeners)
-  pub books : DeskBooks run.driver run.callers run.listeners run.settlement.left run.settlement.untaken run.settlement.unheard
+  pub subscribed : AreSubscribed run.driver.desk (map subscription_of run.listeners)
+  pub books : DeskBooks run.driver run.callers run.listeners run.settlement.left run.settlement.untaken
+      run.settlement.unheard
 
 -- ## What leaves
 
--- a caller's commands among those accepted on d since it opened are those on d in a stretch of what it submitted, in its
--- order
+-- a caller's commands among those accepted on d since it opened are those on d in a stretch of what it
+-- submitted, in its order
 pub record InSubmittedOrder (d : ℕ) (past : List Act) (caller : ℕ) (submitted : List Request) : Type 0 where
   pub before : List Request
   pub stretch : List Request
@@ -76,22 +78,25 @@ pub record InSubmittedOrder (d : ℕ) (past : List Act) (caller : ℕ) (submitte
   pub submitted_are : submitted ≡ before ++ stretch ++ later
   pub commands_are : of_caller caller (accepted Initiator d past) ≡ commands_for d stretch
 
--- what left on d since it opened is a prefix of the command lines accepted since then, each with its CR and once, each
--- caller's in its submitted order
+-- what left on d since it opened is a prefix of the command lines accepted since then, each with its CR and
+-- once, each caller's in its submitted order
 pub record Leaves (d : ℕ) (past : List Act) (callers : List CallerView) : Type 0 where
   pub is_prefix : IsPrefixOf (information_out Initiator d past) (concat (texts (accepted Initiator d past)))
   pub order : Each (λ i c. InSubmittedOrder d past c.place.number c.submitted) callers
 
 -- data leaves only while its connection is open
 abbrev pub NoneAfterClose : List Act → Type 0
-NoneAfterClose past = (newer older : List Act) (f : Frame) → past ≡ newer ++ Sent f ∷ older → is_data_frame f ≡ true → is_open Initiator f.dlci (wire older) ≡ true
+NoneAfterClose past =
+    (newer older : List Act) (f : Frame) → past ≡ newer ++ Sent f ∷ older → is_data_frame f ≡ true
+    → is_open Initiator f.dlci (wire older) ≡ true
 
 -- ## What is answered
 
 -- each answer told has just the lines that answer the request's own command, up to the final code
 abbrev pub AnswersOwn : Beginning → List Act → Type 0
 AnswersOwn b past =
-    (newer older : List Act) (o : Outcome) (ls : List AnswerLine) → past ≡ newer ++ Told o ∷ older → o.answer ≡ Done ls → HasOwnAnswer (driving b) older o ls
+    (newer older : List Act) (o : Outcome) (ls : List AnswerLine) → past ≡ newer ++ Told o ∷ older
+    → o.answer ≡ Done ls → HasOwnAnswer (driving b) older o ls
 
 -- ## What is announced
 
@@ -99,32 +104,39 @@ AnswersOwn b past =
 abbrev pub HearsEach : Beginning → List Act → Type 0
 HearsEach b past = (d : ℕ) → was_heard d past ≡ listened_on (driving b) d past
 
--- and those of its kind stand once in what the listener took, in what waited for it, or in what wasn't announced
+-- and those of its kind stand once in what the listener took, in what waited for it, or in what wasn't
+-- announced
 abbrev pub Announces : Run → List Act → ℕ → ListenerView → Type 0
-Announces run past i l = map heard_as (l.heard ++ slice_index_or run.settlement.unheard i [] ++ of_kind l.ear.kind run.leftovers.unannounced) ≡ heards l.ear.kind past
+Announces run past i l =
+    map heard_as (l.heard ++ slice_index_or run.settlement.unheard i [] ++
+    of_kind l.subscription.kind run.leftovers.unannounced) ≡ heards l.subscription.kind past
 
 -- ## What each caller holds
 
 -- the outcomes that it took, those that waited for it, and those that weren't placed
 abbrev pub outcomes_of : Run → ℕ → CallerView → List Outcome
-outcomes_of run i c = c.got ++ slice_index_or run.settlement.untaken i [] ++ session.of_caller c.place.number run.leftovers.unplaced
+outcomes_of run i c =
+    c.got ++ slice_index_or run.settlement.untaken i [] ++
+    session.caller_outcomes c.place.number run.leftovers.unplaced
 
 -- the request has one outcome among these; or it is in hand; or it was left: just one of the three
 abbrev pub HasOnePlace : List Outcome → (in_hand left : List Request) → Request → Type 0
 HasOnePlace outcomes in_hand left r =
-    length (filter (λ o. is_for r o) outcomes) + (length (filter (is_same r) in_hand) + length (filter (is_same r) left)) ≡ 1
+    length (filter (λ o. is_for r o) outcomes)
+    + (length (filter (is_same r) in_hand) + length (filter (is_same r) left)) ≡ 1
 
 -- each request that the caller submitted has one place, and each outcome answers one of them
 pub record Holds (run : Run) (i : ℕ) (c : CallerView) : Type 0 where
-  pub each : (r : Request) → Contains c.submitted r → HasOnePlace (outcomes_of run i c) run.leftovers.in_hand run.settlement.left r
+  pub each : (r : Request) → Contains c.submitted r
+      → HasOnePlace (outcomes_of run i c) run.leftovers.in_hand run.settlement.left r
   pub own : list_all (λ o. list_any (λ r. is_for r o) c.submitted) (outcomes_of run i c) ≡ true
 
 -- ## The headline
 
--- Whatever the cuts, polls and schedule: at every moment what left on a connection since it opened is a prefix of its
--- callers' command lines taken since then, each once, each caller's in its submitted order, none after a close; each
--- answered command has exactly its solicited lines up to its final code; each subscribed unsolicited line is announced
--- once; and at settle every caller holds each of its outcomes once.
+-- Whatever the cuts, polls and schedule: at every moment what left on a connection since it opened is a
+-- prefix of its callers' command lines taken since then, each once, each caller's in its submitted order,
+-- none after a close; each answered command has exactly its solicited lines up to its final code; each
+-- subscribed unsolicited line is announced once; and at settle every caller holds each of its outcomes once.
 pub record Headline (run : Run) : Type 0 where
   pub past : List Act
   pub fits : SessionFits run.start run.session past

@@ -1,4 +1,5 @@
--- Places of a request at the end of a run, right ones and wrong ones, and commands that leave in a wrong order.
+-- Places of a request at the end of a run, right ones and wrong ones, and commands that leave in a wrong
+-- order.
 use Rattle.std.specs.Prelude.{ℕ, List, [], ◌∷◌, ◌++◌, codes}
 use Rattle.modem_desk.specs.declared.request.Ask.TheVariants.{Command, Stop}
 use Rattle.modem_desk.specs.declared.request.Answer.TheVariants.{NotOpen, Stopped}
@@ -9,12 +10,12 @@ use Rattle.modem_history.specs.Rows.{asks, one, opening_one, takes}
 use Rattle.modem_driver.specs.Headline.{HasOnePlace, InSubmittedOrder}
 
 -- the outcomes that a caller holds, the requests in hand, and those that were left
-pub record Places : Type 0 where
+pub record RowPlaces : Type 0 where
   pub outcomes : List Outcome
   pub in_hand : List Request
   pub left : List Request
 
-abbrev pub places : List Outcome → (in_hand left : List Request) → Places
+abbrev pub places : List Outcome → (in_hand left : List Request) → RowPlaces
 places os hand left = record { outcomes = os; in_hand = hand; left = left }
 
 -- caller 0's requests 3 and 4
@@ -30,7 +31,7 @@ outcome c n = record { caller = c; number = n; answer = NotOpen }
 abbrev pub stopped : (caller number : ℕ) → Outcome
 stopped c n = record { caller = c; number = n; answer = Stopped }
 
-abbrev pub right_places : List Places
+abbrev pub right_places : List RowPlaces
 right_places =
     -- it has its outcome
     places (outcome 0 2 ∷ outcome 0 3 ∷ []) (fourth ∷ []) []
@@ -40,7 +41,7 @@ right_places =
     ∷ places (outcome 1 3 ∷ []) [] (third ∷ fourth ∷ [])
     ∷ []
 
-abbrev pub wrong_places : List Places
+abbrev pub wrong_places : List RowPlaces
 wrong_places =
     -- it is nowhere
     places (outcome 0 2 ∷ []) (fourth ∷ []) []
@@ -60,14 +61,14 @@ wrong_places =
     ∷ places [] (third ∷ fourth ∷ third ∷ []) []
     ∷ []
 
-abbrev pub Has : Places → Type 0
+abbrev pub Has : RowPlaces → Type 0
 Has p = HasOnePlace p.outcomes p.in_hand p.left third
 
-abbrev pub AreRight : List Places → Type 0
+abbrev pub AreRight : List RowPlaces → Type 0
 AreRight [] = Unit {0}
 AreRight (p ∷ ps) = Has p × AreRight ps
 
-abbrev pub AreWrong : List Places → Type 0
+abbrev pub AreWrong : List RowPlaces → Type 0
 AreWrong [] = Unit {0}
 AreWrong (p ∷ ps) = (¬ Has p) × AreWrong ps
 
@@ -78,7 +79,8 @@ abbrev pub csq_then_cops : List Request
 csq_then_cops = asks 3 (Command one (codes "AT+CSQ")) ∷ asks 4 (Command one (codes "AT+COPS?")) ∷ []
 
 abbrev pub turned_round : List Act
-turned_round = opening_one ++ takes 4 (Command one (codes "AT+COPS?")) ∷ takes 3 (Command one (codes "AT+CSQ")) ∷ []
+turned_round =
+    opening_one ++ takes 4 (Command one (codes "AT+COPS?")) ∷ takes 3 (Command one (codes "AT+CSQ")) ∷ []
 
 -- that is refused at this moment, even where 1 closes and opens again later
 unfoldable pub IsOtherOrder : Type 0

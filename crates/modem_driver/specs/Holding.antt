@@ -32,15 +32,20 @@ acts_due d (Some go) = flow_act d go ∷ Sent (msc_frame Initiator d (if go then
 
 -- what a backlog calls for; after a loss of the line, and of connection 0, nothing
 abbrev pub due_by : Setting → List Act → ℕ → (lines : ℕ) → Option Bool
-due_by s past d lines = if is_lost past || (d == 0) then None else flow_due (is_open s.role d (wire past)) (is_held s.role d past) lines
+due_by s past d lines =
+    if is_lost past || (d == 0) then None
+    else flow_due (is_open s.role d (wire past)) (is_held s.role d past) lines
 
 -- the same by what a core keeps
 abbrev pub due_in : Core → ℕ → ℕ → Option Bool
-due_in v d lines = if v.lost || (d == 0) then None else flow_due (is_opened (channel_at v.station d).state) (lane_at v d).held lines
+due_in v d lines =
+    if v.lost || (d == 0) then None
+    else flow_due (is_opened (channel_at v.station d).state) (lane_at v d).held lines
 
 -- the lanes know which connections are held
 pub record HoldsFit (v : Core) (past : List Act) : Type 0 where
-  pub held_are : (d : ℕ) → d < 62 → (d == 0) ≡ false → is_open Initiator d (wire past) ≡ true → last_held Initiator d past ≡ (lane_at v d).held
+  pub held_are : (d : ℕ) → d < 62 → (d == 0) ≡ false → is_open Initiator d (wire past) ≡ true
+      → last_held Initiator d past ≡ (lane_at v d).held
 
 -- a past after which a core may be asked
 pub record MayAsk (s : Setting) (v : Core) (past : List Act) : Type 0 where
@@ -52,35 +57,47 @@ pub record MayAsk (s : Setting) (v : Core) (past : List Act) : Type 0 where
 -- the acts that are called for, and the core fits them
 abbrev pub FlowsOn : Setting → Core → Core → List Act → ℕ → Option Bool → List Act → Type 0
 FlowsOn s old new past d None acts = (acts ≡ []) × (new ≡ old)
-FlowsOn s old new past d (Some go) acts = GoesOn s new past (flow_act d go) acts × HoldsFit new (after past acts)
+FlowsOn s old new past d (Some go) acts =
+    GoesOn s new past (flow_act d go) acts × HoldsFit new (after past acts)
 
 -- whatever the setting and the past
 unfoldable pub Flows : Core → Core → ℕ → (lines : ℕ) → List Act → Type 0
-Flows old new d lines acts = (s : Setting) (past : List Act) → MayAsk s old past → FlowsOn s old new past d (due_by s past d lines) acts
+Flows old new d lines acts =
+    (s : Setting) (past : List Act) → MayAsk s old past
+    → FlowsOn s old new past d (due_by s past d lines) acts
 
 -- the frame that is called for has no place in the control queue
 abbrev pub LacksRoom : Setting → List Act → ℕ → Option Bool → Type 0
 LacksRoom s past d None = ⊥
-LacksRoom s past d (Some go) = all_have_room s (seen s past) (by_flow s.role (seen s past).state d (if go then ready else held_up)) ≡ false
+LacksRoom s past d (Some go) =
+    all_have_room s (seen s past) (by_flow s.role (seen s past).state d (if go then ready else held_up))
+    ≡ false
 
 unfoldable pub HasNoRoom : Core → ℕ → (lines : ℕ) → Type 0
-HasNoRoom v d lines = (s : Setting) (past : List Act) → MayAsk s v past → LacksRoom s past d (due_by s past d lines)
+HasNoRoom v d lines =
+    (s : Setting) (past : List Act) → MayAsk s v past → LacksRoom s past d (due_by s past d lines)
 
 -- no backlog of d calls for anything
 unfoldable pub NeverDue : Core → ℕ → Type 0
 NeverDue v d = (s : Setting) (past : List Act) (lines : ℕ) → MayAsk s v past → due_by s past d lines ≡ None
 
 -- the same of the act that it is
-unfoldable pub Turns : Core → Core → ℕ → (go : Bool) → List Act → Type 0
-Turns old new d go acts = (s : Setting) (past : List Act) → MayAsk s old past → GoesOn s new past (flow_act d go) acts × HoldsFit new (after past acts)
+unfoldable pub TurnsFlow : Core → Core → ℕ → (go : Bool) → List Act → Type 0
+TurnsFlow old new d go acts =
+    (s : Setting) (past : List Act) → MayAsk s old past
+    → GoesOn s new past (flow_act d go) acts × HoldsFit new (after past acts)
 
 unfoldable pub CannotTurn : Core → ℕ → (go : Bool) → Type 0
 CannotTurn v d go = (s : Setting) (past : List Act) → MayAsk s v past → LacksRoom s past d (Some go)
 
 -- a call on another matter keeps what is held
 unfoldable pub KeepsHeld : Core → Core → Act → List Act → Type 0
-KeepsHeld old new a acts = (s : Setting) (past : List Act) → MayCome s old past a → HoldsFit old past → HoldsFit new (after past acts)
+KeepsHeld old new a acts =
+    (s : Setting) (past : List Act) → MayCome s old past a → HoldsFit old past
+    → HoldsFit new (after past acts)
 
 -- and so does what goes out
 unfoldable pub KeepsHeldOut : Core → Type 0
-KeepsHeldOut v = (s : Setting) (past : List Act) → StandsIn s v past → HoldsFit v past → HoldsFit (gone_on v) (after_out s past)
+KeepsHeldOut v =
+    (s : Setting) (past : List Act) → StandsIn s v past → HoldsFit v past
+    → HoldsFit (gone_on v) (after_out s past)

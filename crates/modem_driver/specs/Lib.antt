@@ -34,4 +34,4 @@ pub mod TurnTakes
 pub mod SendingSteps
 pub mod GettingSteps
 pub mod Placing
-pub mod Minding
+pub mod BacklogChecks

@@ -4,7 +4,7 @@ use Rattle.std.specs.List.{list_any}
 use Rattle.mux_station.specs.Acts.{Offer, Called}
 use Rattle.mux_station.specs.States.{is_opened}
 use Rattle.mux_station.specs.Stations.{Station, channel_at, setting_of, offer_refused}
-use Rattle.mux_station.specs.Fitting.{Handles}
+use Rattle.mux_station.specs.Fitting.{StationHandles}
 use Rattle.modem_desk.specs.declared.request.Request.{Request}
 use Rattle.modem_desk.specs.declared.request.Answer.{Answer}
 use Rattle.modem_desk.specs.declared.request.Answer.TheVariants.{NotOpen, ControlChannel}
@@ -20,14 +20,14 @@ refused_command v d =
 -- the station was offered the text, and then CR
 pub record TakesLine (old new : Station) (d : ℕ) (text : List ℕ) : Type 0 where
   pub mid : Station
-  pub first : offer_refused old d text ≡ None → Handles old mid (Called (Offer d text))
-  pub second : offer_refused mid d (13 ∷ []) ≡ None → Handles mid new (Called (Offer d (13 ∷ [])))
+  pub first : offer_refused old d text ≡ None → StationHandles old mid (Called (Offer d text))
+  pub second : offer_refused mid d (13 ∷ []) ≡ None → StationHandles mid new (Called (Offer d (13 ∷ [])))
 
 abbrev pub Enters : Bool → Station → Station → ℕ → List ℕ → Type 0
 Enters true old new d text = new ≡ old
 Enters false old new d text = TakesLine old new d text
 
 -- it was, where no other command of the connection is in hand
-pub record OffersFirst (hand : List Request) (old new : Station) (d : ℕ) (text : List ℕ) : Type 0 where
+pub record OffersFirstCommand (hand : List Request) (old new : Station) (d : ℕ) (text : List ℕ) : Type 0 where
   pub setting : setting_of new ≡ setting_of old
   pub enters : Enters (list_any (commands_on d) hand) old new d text

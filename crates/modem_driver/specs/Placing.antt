@@ -1,4 +1,5 @@
--- What waits is offered to the rings of a desk, each to those of its key: an outcome by its caller, a line by its kind.
+-- What waits is offered to the rings of a desk, each to those of its key: an outcome by its caller, a line by
+-- its kind.
 use Rattle.std.specs.Prelude.{◌≡◌, ◌≢◌, ℕ, ◌+◌, ◌≤◌, ◌<◌, ◌==◌, ◌||◌, nat_lt, Bool, true, false, List, [], ◌∷◌, ◌++◌, length, filter, slice_index_or, Contains}
 use Rattle.std.specs.List.{list_all}
 use mathlib.Core.Option.{some}
@@ -15,7 +16,8 @@ abbrev pub of_key : {X : Type 0} → (X → ℕ) → ℕ → List X → List X
 of_key key n xs = filter (λ x. key x == n) xs
 
 -- what a ring was given, and then what of its key still waits, is what of it waited
-pub record Gave {X : Type 0} (key : X → ℕ) (before now : List (List X)) (waited waits : List X) (n i : ℕ) : Type 0 where
+pub record Gave {X : Type 0} (key : X → ℕ) (before now : List (List X)) (waited waits : List X)
+    (n i : ℕ) : Type 0 where
   pub since : List X
   pub given_are : at_place i now ≡ at_place i before ++ since
   pub rest_are : since ++ of_key key n waits ≡ of_key key n waited
@@ -24,10 +26,13 @@ pub record Gave {X : Type 0} (key : X → ℕ) (before now : List (List X)) (wai
 pub data Stay {X : Type 0} (key : X → ℕ) : (waited waits : List X) → Type 0 where
   stays_none : Stay key [] []
   goes_first : (x : X) (xs ys : List X) → Stay key xs ys → Stay key (x ∷ xs) ys
-  stays_first : (x : X) (xs ys : List X) → of_key key (key x) xs ≡ of_key key (key x) ys → Stay key xs ys → Stay key (x ∷ xs) (x ∷ ys)
+  stays_first : (x : X) (xs ys : List X) → of_key key (key x) xs ≡ of_key key (key x) ys → Stay key xs ys
+      → Stay key (x ∷ xs) (x ∷ ys)
 
--- Each of a key that the desk knows was offered until one was handed back: its rings are full where some still wait.
-pub record Placed {X : Type 0} (key : X → ℕ) (at : ℕ → ℕ → Type 0) (known : ℕ → Type 0) (before now : List (List X)) (free : List ℕ) (waited waits : List X) (moved : Bool) : Type 0 where
+-- Each of a key that the desk knows was offered until one was handed back: its rings are full where some
+-- still wait.
+pub record Placed {X : Type 0} (key : X → ℕ) (at : ℕ → ℕ → Type 0) (known : ℕ → Type 0)
+    (before now : List (List X)) (free : List ℕ) (waited waits : List X) (moved : Bool) : Type 0 where
   pub each : (n i : ℕ) → at n i → Gave key before now waited waits n i
   pub in_order : Stay key waited waits
   pub elsewhere : (i : ℕ) → ((n : ℕ) → ¬ at n i) → at_place i now ≡ at_place i before
@@ -37,8 +42,11 @@ pub record Placed {X : Type 0} (key : X → ℕ) (at : ℕ → ℕ → Type 0) (
   pub grows : amount before ≤ amount now
   pub moved_is : moved ≡ nat_lt (amount before) (amount now)
 
--- The same on the way: some wait to be offered, behind those that stay, of which none is of a key that isn't held up.
-pub record Placing {X : Type 0} (key : X → ℕ) (at : ℕ → ℕ → Type 0) (known : ℕ → Type 0) (before now : List (List X)) (free : List ℕ) (held : List Bool) (waited waits stay : List X) (moved : Bool) : Type 0 where
+-- The same on the way: some wait to be offered, behind those that stay, of which none is of a key that isn't
+-- held up.
+pub record Placing {X : Type 0} (key : X → ℕ) (at : ℕ → ℕ → Type 0) (known : ℕ → Type 0)
+    (before now : List (List X)) (free : List ℕ) (held : List Bool) (waited waits stay : List X)
+    (moved : Bool) : Type 0 where
   pub each : (n i : ℕ) → at n i → Gave key before now waited (stay ++ waits) n i
   pub in_order : Stay key waited (stay ++ waits)
   pub elsewhere : (i : ℕ) → ((n : ℕ) → ¬ at n i) → at_place i now ≡ at_place i before
@@ -50,7 +58,9 @@ pub record Placing {X : Type 0} (key : X → ℕ) (at : ℕ → ℕ → Type 0) 
   pub moved_is : moved ≡ nat_lt (amount before) (amount now)
 
 -- one fewer waits to be offered
-pub record OneFewer {X : Type 0} (key : X → ℕ) (at : ℕ → ℕ → Type 0) (known : ℕ → Type 0) (before now : List (List X)) (free : List ℕ) (held : List Bool) (waited new : List X) (left : ℕ) (moved : Bool) : Type 0 where
+pub record OneFewer {X : Type 0} (key : X → ℕ) (at : ℕ → ℕ → Type 0) (known : ℕ → Type 0)
+    (before now : List (List X)) (free : List ℕ) (held : List Bool) (waited new : List X) (left : ℕ)
+    (moved : Bool) : Type 0 where
   pub waits : List X
   pub stay : List X
   pub are : new ≡ waits ++ stay
@@ -58,10 +68,13 @@ pub record OneFewer {X : Type 0} (key : X → ℕ) (at : ℕ → ℕ → Type 0)
   pub placing : Placing key at known before now free held waited waits stay moved
 
 -- the first that waits was offered, or stays
-unfoldable pub OffersFirst : {X : Type 0} → (key : X → ℕ) → (at : ℕ → ℕ → Type 0) → (known : ℕ → Type 0) → (now later : List (List X)) → (free freer : List ℕ) → (held more_held : List Bool) → (old new : List X) → (moved : Bool) → Type 0
+unfoldable pub OffersFirst : {X : Type 0} → (key : X → ℕ) → (at : ℕ → ℕ → Type 0) → (known : ℕ → Type 0)
+    → (now later : List (List X)) → (free freer : List ℕ) → (held more_held : List Bool) → (old new : List X)
+    → (moved : Bool) → Type 0
 OffersFirst {X} key at known now later free freer held more_held old new moved =
     (before : List (List X)) (waited : List X) (left : ℕ) (earlier : Bool)
-    → OneFewer key at known before now free held waited old (left + 1) earlier → OneFewer key at known before later freer more_held waited new left (moved || earlier)
+    → OneFewer key at known before now free held waited old (left + 1) earlier
+    → OneFewer key at known before later freer more_held waited new left (moved || earlier)
 
 -- ## Outcomes and lines
 
@@ -79,7 +92,7 @@ abbrev pub IsCaller : DeskId → ℕ → Type 0
 IsCaller d n = n < length d.rings
 
 -- the rings of a kind's listeners, and a kind that is listened to
-pub record IsEarOf (kinds : List UrcKind) (n i : ℕ) : Type 0 where
+pub record IsListenerOf (kinds : List UrcKind) (n i : ℕ) : Type 0 where
   pub kind : UrcKind
   pub is_place : kind_place kind ≡ n
   pub is_at : get_elem? kinds i ≡ some kind

@@ -10,8 +10,8 @@ use Rattle.modem_driver.specs.declared.session.ending.Ended.TheVariants.{Stopped
 use Rattle.modem_driver.specs.declared.session.error.SessionFault.{SessionFault}
 use Rattle.modem_driver.specs.declared.session.error.SessionFault.TheVariants as fault
 use Rattle.modem_driver.specs.Endings.{IsEnd}
-use Rattle.modem_driver.specs.SessionStates.{Kept, SessionState, FitsInside, FitsAll, seen}
-use Rattle.modem_driver.specs.SessionTurns.{Turns, Faults, fault_of}
+use Rattle.modem_driver.specs.SessionStates.{Kept, SessionState, FitsInside, FitsAll, session_view}
+use Rattle.modem_driver.specs.SessionTurns.{TakesTurn, Faults, fault_of}
 
 -- ## The end
 
@@ -19,28 +19,39 @@ abbrev pub is_stopped : Course → Bool
 is_stopped course.Stopped = true
 is_stopped _ = false
 
--- a Stop was answered by Stopped or NoAnswer, the line isn't lost, no octets and no control frames wait for it, and no outcome waits
--- for its caller
+-- a Stop was answered by Stopped or NoAnswer, the line isn't lost, no octets and no control frames wait for
+-- it, and no outcome waits for its caller
 abbrev pub has_ended : Kept → Bool
-has_ended k = is_stopped k.course && (not k.core.lost && ((length k.unwritten == 0) && ((length k.core.station.queue == 0) && (length k.unplaced == 0))))
+has_ended k =
+    is_stopped k.course && (not k.core.lost
+    && ((length k.unwritten == 0) && ((length k.core.station.queue == 0) && (length k.unplaced == 0))))
 
 -- ## Its turns
 
 -- it went on by some acts, the same whatever it began with and whatever history it had
-unfoldable pub GoesOn : {X : Type 0} → (X → LineView) → (old new : SessionState X) → Type 0
-GoesOn look old new = Goes (seen look old) (seen look new) (λ b. FitsInside b look old) (λ b. FitsInside b look new)
+unfoldable pub SessionGoesOn : {X : Type 0} → (X → LineView) → (old new : SessionState X) → Type 0
+SessionGoesOn look old new =
+    Goes (session_view look old) (session_view look new) (λ b. FitsInside b look old)
+    (λ b. FitsInside b look new)
 
 -- so many turns, each where it hasn't ended, and each of which answers Moved
 pub data MovesOn {X : Type 0} (look : X → LineView) (old : SessionState X) : ℕ → SessionState X → Type 0 where
   moves_none : MovesOn look old 0 old
-  moves_once : (n : ℕ) (mid new : SessionState X) → MovesOn look old n mid → has_ended mid.kept ≡ false → Turns look mid new TurnAnswer.Moved → MovesOn look old (n + 1) new
+  moves_once : (n : ℕ) (mid new : SessionState X) → MovesOn look old n mid → has_ended mid.kept ≡ false
+      → TakesTurn look mid new TurnAnswer.Moved → MovesOn look old (n + 1) new
 
--- The turns of a poll: 64 that answer Moved; or fewer, where it has ended; or fewer and one that answers otherwise, or that fails.
-pub data Runs {X : Type 0} (look : X → LineView) (old new : SessionState X) : Result (Unit {0}) SessionFault → Type 0 where
-  goes_on : MovesOn look old 64 new → Runs look old new (Ok tt)
-  ends : (n : ℕ) → n ≤ 64 → MovesOn look old n new → has_ended new.kept ≡ true → Runs look old new (Ok tt)
-  rests : (n : ℕ) (mid : SessionState X) (says : TurnAnswer) → n < 64 → MovesOn look old n mid → has_ended mid.kept ≡ false → Turns look mid new says → says_moved says ≡ false → Runs look old new (Ok tt)
-  fails : (n : ℕ) (mid : SessionState X) (why : SessionFault) → n < 64 → MovesOn look old n mid → has_ended mid.kept ≡ false → Faults look mid new (fault_of why) → Runs look old new (Err why)
+-- The turns of a poll: 64 that answer Moved; or fewer, where it has ended; or fewer and one that answers
+-- otherwise, or that fails.
+pub data RunsTurns {X : Type 0} (look : X → LineView)
+    (old new : SessionState X) : Result (Unit {0}) SessionFault → Type 0 where
+  goes_on : MovesOn look old 64 new → RunsTurns look old new (Ok tt)
+  ends : (n : ℕ) → n ≤ 64 → MovesOn look old n new → has_ended new.kept ≡ true
+      → RunsTurns look old new (Ok tt)
+  rests : (n : ℕ) (mid : SessionState X) (says : TurnAnswer) → n < 64 → MovesOn look old n mid
+      → has_ended mid.kept ≡ false → TakesTurn look mid new says → says_moved says ≡ false
+      → RunsTurns look old new (Ok tt)
+  fails : (n : ℕ) (mid : SessionState X) (why : SessionFault) → n < 64 → MovesOn look old n mid
+      → has_ended mid.kept ≡ false → Faults look mid new (fault_of why) → RunsTurns look old new (Err why)
 
 -- ## What it gives
 
@@ -67,30 +78,35 @@ with_given None s = s
 with_given (Some end) s = with_end end s
 
 -- it makes its turns, gives what they lead to, and keeps that
-pub record PollsOn {X : Type 0} (look : X → LineView) (old new : SessionState X) (given : Option (Result Ended SessionFault)) : Type 0 where
+pub record PollsOn {X : Type 0} (look : X → LineView) (old new : SessionState X)
+    (given : Option (Result Ended SessionFault)) : Type 0 where
   pub mid : SessionState X
   pub ran : Result (Unit {0}) SessionFault
-  pub runs : Runs look old mid ran
+  pub runs : RunsTurns look old mid ran
   pub given_is : given ≡ given_by mid.kept ran
   pub stays : new ≡ with_given given mid
 
 -- a poll after an end gives that end, and does nothing
-abbrev pub PollsFrom : {X : Type 0} → (X → LineView) → Course → (old new : SessionState X) → Option (Result Ended SessionFault) → Type 0
+abbrev pub PollsFrom : {X : Type 0} → (X → LineView) → Course → (old new : SessionState X)
+    → Option (Result Ended SessionFault) → Type 0
 PollsFrom look (course.Ended end) old new given = (given ≡ Some end) × (new ≡ old)
 PollsFrom look _ old new given = PollsOn look old new given
 
-abbrev pub Polls : {X : Type 0} → (X → LineView) → (old new : SessionState X) → Option (Result Ended SessionFault) → Type 0
+abbrev pub Polls : {X : Type 0} → (X → LineView) → (old new : SessionState X)
+    → Option (Result Ended SessionFault) → Type 0
 Polls look old new given = PollsFrom look old.kept.course old new given
 
 -- ## What an output says
 
 -- the session has ended so in every history that it fits; of want of memory nothing is said
-abbrev pub Says : Beginning → SessionView → List Act → Result Ended SessionFault → Type 0
-Says b v past (Err fault.NoMemory) = Unit {0}
-Says b v past end = IsEnd b v past end
+abbrev pub PollSays : Beginning → SessionView → List Act → Result Ended SessionFault → Type 0
+PollSays b v past (Err fault.NoMemory) = Unit {0}
+PollSays b v past end = IsEnd b v past end
 
 -- it went on to where that is so
-pub record Gives {X : Type 0} (look : X → LineView) (s : SessionState X) (given : Result Ended SessionFault) : Type 0 where
+pub record Gives {X : Type 0} (look : X → LineView) (s : SessionState X)
+    (given : Result Ended SessionFault) : Type 0 where
   pub new : SessionState X
-  pub goes : GoesOn look s new
-  pub says : (b : Beginning) (past : List Act) → FitsAll b look new past → Says b (seen look new) past given
+  pub goes : SessionGoesOn look s new
+  pub says : (b : Beginning) (past : List Act) → FitsAll b look new past
+      → PollSays b (session_view look new) past given

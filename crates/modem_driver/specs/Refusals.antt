@@ -8,11 +8,11 @@ use Rattle.modem_history.specs.declared.act.Act.{Act}
 use Rattle.modem_history.specs.declared.act.Act.TheVariants as act
 
 -- what a station's refusal is for the caller: want of room is Busy
-abbrev pub answer_of : StationError → Answer
-answer_of station.NotOpen = NotOpen
-answer_of station.AlreadyOpen = AlreadyOpen
-answer_of station.ControlChannel = ControlChannel
-answer_of _ = Busy
+abbrev pub refusal_answer : StationError → Answer
+refusal_answer station.NotOpen = NotOpen
+refusal_answer station.AlreadyOpen = AlreadyOpen
+refusal_answer station.ControlChannel = ControlChannel
+refusal_answer _ = Busy
 
 -- the outcome of a request
 abbrev pub told_act : Request → Answer → Act

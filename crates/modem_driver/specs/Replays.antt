@@ -24,17 +24,18 @@ request_in _ = None
 abbrev pub requests : List Event → List Request
 requests events = filter_map request_in events
 
-abbrev pub octets_in : Event → List ℕ
-octets_in (event.Octets x) = x
-octets_in _ = []
+abbrev pub event_octets : Event → List ℕ
+event_octets (event.Octets x) = x
+event_octets _ = []
 
 -- the octets of the events, joined
 abbrev pub octets : List Event → List ℕ
-octets events = flat_map octets_in events
+octets events = flat_map event_octets events
 
 -- ## Pieces
 
--- one request, frame, tick or loss; the frames, outcomes and lines that follow it; and the data that goes out then
+-- one request, frame, tick or loss; the frames, outcomes and lines that follow it; and the data that goes out
+-- then
 pub record Piece : Type 0 where
   pub first : Act
   pub more : List Act
@@ -65,14 +66,15 @@ abbrev pub past_of : List Act → List Piece → List Act
 past_of past [] = past
 past_of past (p ∷ ps) = past_of (with_piece past p) ps
 
--- each data frame is the next that may go out, of the connection whose turn it is and with as many octets as wait
--- there, at most N1; and at last there is none
+-- each data frame is the next that may go out, of the connection whose turn it is and with as many octets as
+-- wait there, at most N1; and at last there is none
 abbrev pub GoOutInTurn : Setting → List Act → List Frame → Type 0
 GoOutInTurn s past [] = next_out s past ≡ None
-GoOutInTurn s past (f ∷ fs) = (next_out s past ≡ Some (with_freshness true f)) × GoOutInTurn s (Sent f ∷ past) fs
+GoOutInTurn s past (f ∷ fs) =
+    (next_out s past ≡ Some (with_freshness true f)) × GoOutInTurn s (Sent f ∷ past) fs
 
--- what follows the first act are frames that are no data, outcomes and lines; then all data that may go out, in turn;
--- and after it the history so far is lawful, complete and quiet
+-- what follows the first act are frames that are no data, outcomes and lines; then all data that may go out,
+-- in turn; and after it the history so far is lawful, complete and quiet
 pub record IsPiece (s : Setting) (past : List Act) (p : Piece) : Type 0 where
   pub follow : list_all is_said p.more ≡ true
   pub goes_out : GoOutInTurn s (after_call past p) p.data_frames
@@ -84,16 +86,20 @@ ArePieces s past (p ∷ ps) = IsPiece s past p × ArePieces s (with_piece past p
 
 -- ## What the events begin
 
--- what the events begin pieces with, after these octets: each request, tick and loss where it comes, and each frame at
--- the first event after which Reads gives it in the octets so far
-pub data Begins (n1 : ℕ) : List ℕ → List Event → List Act → Type 0 where
-  ends : (heard : List ℕ) → Begins n1 heard [] []
-  asks : (heard : List ℕ) (q : Request) (events : List Event) (firsts : List Act) → Begins n1 heard events firsts → Begins n1 heard (event.Ask q ∷ events) (Took q ∷ firsts)
-  hears : (heard x : List ℕ) (fs gs : List Frame) (rest last : List ℕ) (events : List Event) (firsts : List Act)
-      → Reads n1 heard fs rest → Reads n1 (heard ++ x) (fs ++ gs) last → Begins n1 (heard ++ x) events firsts
-      → Begins n1 heard (event.Octets x ∷ events) (map Got gs ++ firsts)
-  ticks : (heard : List ℕ) (events : List Event) (firsts : List Act) → Begins n1 heard events firsts → Begins n1 heard (event.Tick ∷ events) (Tick ∷ firsts)
-  loses : (heard : List ℕ) (events : List Event) (firsts : List Act) → Begins n1 heard events firsts → Begins n1 heard (event.Lost ∷ events) (Lost ∷ firsts)
+-- what the events begin pieces with, after these octets: each request, tick and loss where it comes, and each
+-- frame at the first event after which Reads gives it in the octets so far
+pub data BegunBy (n1 : ℕ) : List ℕ → List Event → List Act → Type 0 where
+  ends : (heard : List ℕ) → BegunBy n1 heard [] []
+  asks : (heard : List ℕ) (q : Request) (events : List Event) (firsts : List Act)
+      → BegunBy n1 heard events firsts → BegunBy n1 heard (event.Ask q ∷ events) (Took q ∷ firsts)
+  hears : (heard x : List ℕ) (fs gs : List Frame) (rest last : List ℕ) (events : List Event)
+      (firsts : List Act)
+      → Reads n1 heard fs rest → Reads n1 (heard ++ x) (fs ++ gs) last → BegunBy n1 (heard ++ x) events firsts
+      → BegunBy n1 heard (event.Octets x ∷ events) (map Got gs ++ firsts)
+  ticks : (heard : List ℕ) (events : List Event) (firsts : List Act) → BegunBy n1 heard events firsts
+      → BegunBy n1 heard (event.Tick ∷ events) (Tick ∷ firsts)
+  loses : (heard : List ℕ) (events : List Event) (firsts : List Act) → BegunBy n1 heard events firsts
+      → BegunBy n1 heard (event.Lost ∷ events) (Lost ∷ firsts)
 
 -- ## The promise
 
@@ -101,12 +107,13 @@ pub data Begins (n1 : ℕ) : List ℕ → List Event → List Act → Type 0 whe
 pub record Replays (n1 : ℕ) (events : List Event) (acts : List Act) : Type 0 where
   pub pieces : List Piece
   pub joins : flat_map acts_in pieces ≡ acts
-  pub begins : Begins n1 [] events (map first_of pieces)
+  pub begins : BegunBy n1 [] events (map first_of pieces)
   pub are_pieces : ArePieces (replaying n1) [] pieces
 
--- the requests taken, frames got, ticks and losses are those that the events bring, in their order, and no others
+-- the requests taken, frames got, ticks and losses are those that the events bring, in their order, and no
+-- others
 unfoldable pub Brought : ℕ → List Event → List Act → Type 0
-Brought n1 events acts = Begins n1 [] events (filter is_first acts)
+Brought n1 events acts = BegunBy n1 [] events (filter is_first acts)
 
 -- the octets end with the CR of a command; a command has no other (V.250, 5.2.1)
 abbrev pub ends_command : List ℕ → Bool

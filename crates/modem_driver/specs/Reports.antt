@@ -40,7 +40,8 @@ said_as listens d owner line line_is.TheVariants.Other = heard_by listens d Othe
 -- and of lines, one after the other
 abbrev pub said_lines : (UrcKind → Bool) → ℕ → Option Owner → Option OpenWindow → List (List ℕ) → List Act
 said_lines listens d owner w [] = []
-said_lines listens d owner w (l ∷ ls) = said_as listens d owner l (seen_by w l) ++ said_lines listens d owner (after_line w l) ls
+said_lines listens d owner w (l ∷ ls) =
+    said_as listens d owner l (seen_by w l) ++ said_lines listens d owner (after_line w l) ls
 
 -- what is read so far: what is kept of the unfinished line, the window, and what was said
 pub record Read : Type 0 where
@@ -64,15 +65,22 @@ read_on listens d owner v octets = record {
 -- one after the other
 abbrev pub read_each : (UrcKind → Bool) → ℕ → Option Owner → Read → List ℕ → Read
 read_each listens d owner v [] = v
-read_each listens d owner v (c ∷ octets) = read_each listens d owner (read_on listens d owner v (c ∷ [])) octets
+read_each listens d owner v (c ∷ octets) =
+    read_each listens d owner (read_on listens d owner v (c ∷ [])) octets
 
 -- whatever is listened to
 unfoldable pub ReadsOctet : List UrcKind → code.Reading → ℕ → Read → Read → Type 0
-ReadsOctet kinds r c old new = (listens : UrcKind → Bool) → Listens listens kinds → new ≡ read_on listens r.dlci.number r.owner old (c ∷ [])
+ReadsOctet kinds r c old new =
+    (listens : UrcKind → Bool) → Listens listens kinds
+    → new ≡ read_on listens r.dlci.number r.owner old (c ∷ [])
 
 unfoldable pub ReadsAll : List UrcKind → code.Reading → List ℕ → Read → Read → Type 0
-ReadsAll kinds r octets old new = (listens : UrcKind → Bool) → Listens listens kinds → new ≡ read_each listens r.dlci.number r.owner old octets
+ReadsAll kinds r octets old new =
+    (listens : UrcKind → Bool) → Listens listens kinds
+    → new ≡ read_each listens r.dlci.number r.owner old octets
 
 -- so much was said
-unfoldable pub Says : List UrcKind → code.Reading → ((UrcKind → Bool) → List Act) → List Act → List Act → Type 0
-Says kinds r said old new = (listens : UrcKind → Bool) → Listens listens kinds → new ≡ old ++ said listens
+unfoldable pub ReportSays : List UrcKind → code.Reading → ((UrcKind → Bool) → List Act) → List Act → List Act
+    → Type 0
+ReportSays kinds r said old new =
+    (listens : UrcKind → Bool) → Listens listens kinds → new ≡ old ++ said listens

@@ -6,22 +6,26 @@ use Rattle.mux_frame.specs.Deframing.{Deframing, Deframes}
 use Rattle.mux_station.specs.GivenFrames.{with_freshness}
 use Rattle.modem_history.specs.Acts.{Act, act_of, Took, Got, Sent, Tick, Lost, Given}
 use Rattle.modem_history.specs.Calls.{Setting, replaying}
-use Rattle.modem_history.specs.Wholes.{UsesOnce, taken}
+use Rattle.modem_history.specs.Wholes.{UsesOnce, taken_requests}
 use Rattle.modem_driver.specs.declared.run.Running as code
 use Rattle.modem_driver.specs.declared.event.Event.{Event}
 use Rattle.modem_driver.specs.declared.event.Event.TheVariants as event
 use Rattle.modem_driver.specs.Cores.{Core}
 use Rattle.modem_driver.specs.CoreGoing.{StandsIn}
 use Rattle.modem_driver.specs.GoingOut.{next_out}
-use Rattle.modem_driver.specs.Replays.{Piece, acts_in, first_of, with_piece, past_of, IsPiece, ArePieces, Begins, octets, requests}
+use Rattle.modem_driver.specs.Replays.{Piece, acts_in, first_of, with_piece, past_of, IsPiece, ArePieces, BegunBy, octets, requests}
 
 -- ## What goes out
 
 -- control frames are given on, and these data frames sent, one after the other as each is the next
 pub data GoesTo (s : Setting) : List Act → List Frame → List Act → Type 0 where
   stays : (past : List Act) → GoesTo s past [] past
-  marks : (past last : List Act) (f : Frame) (fs : List Frame) → next_out s past ≡ Some (with_freshness false f) → GoesTo s (Given ∷ past) fs last → GoesTo s past fs last
-  sends : (past last : List Act) (f : Frame) (fs : List Frame) → next_out s past ≡ Some (with_freshness true f) → GoesTo s (Sent f ∷ past) fs last → GoesTo s past (f ∷ fs) last
+  marks : (past last : List Act) (f : Frame) (fs : List Frame)
+      → next_out s past ≡ Some (with_freshness false f) → GoesTo s (Given ∷ past) fs last
+      → GoesTo s past fs last
+  sends : (past last : List Act) (f : Frame) (fs : List Frame)
+      → next_out s past ≡ Some (with_freshness true f) → GoesTo s (Sent f ∷ past) fs last
+      → GoesTo s past (f ∷ fs) last
 
 -- from a history that the core fitted, data has gone out so far
 pub record WentOut (s : Setting) (new : Core) (past : List Act) (fs : List Frame) : Type 0 where
@@ -38,7 +42,8 @@ pub record SendsSome (old new : Core) (before acts : List Act) : Type 0 where
 -- and there is none that may go out
 pub record SendsAll (old new : Core) (before acts : List Act) : Type 0 where
   pub some : SendsSome old new before acts
-  pub none_left : (s : Setting) (past : List Act) → (h : StandsIn s old past) → next_out s (some.out s past h).now ≡ None
+  pub none_left : (s : Setting) (past : List Act) → (h : StandsIn s old past)
+      → next_out s (some.out s past h).now ≡ None
 
 -- ## One call and all that goes out then
 
@@ -51,8 +56,8 @@ abbrev pub running_of : code.Running → Running
 running_of r = record { core = r.core; acts = map act_of r.acts.items }
 
 -- the line is lost, or nothing waits in the control queue
-unfoldable pub IsIdle : Core → Type 0
-IsIdle v = (v.lost || (length v.station.queue == 0)) ≡ true
+unfoldable pub CoreIsIdle : Core → Type 0
+CoreIsIdle v = (v.lost || (length v.station.queue == 0)) ≡ true
 
 -- the core stands in the past, and nothing may go out
 pub record Drained (s : Setting) (v : Core) (past : List Act) : Type 0 where
@@ -69,12 +74,15 @@ pub record Goes (s : Setting) (past : List Act) (a : Act) (old new : Running) : 
 
 -- where no caller's number comes twice
 unfoldable pub Steps : Act → Running → Running → Type 0
-Steps a old new = (s : Setting) (past : List Act) → Drained s old.core past → UsesOnce (taken (a ∷ past)) → Goes s past a old new
+Steps a old new =
+    (s : Setting) (past : List Act) → Drained s old.core past → UsesOnce (taken_requests (a ∷ past))
+    → Goes s past a old new
 
 -- frames come, one after the other
 pub data StepAll : List Frame → Running → Running → Type 0 where
   none_more : (v : Running) → StepAll [] v v
-  one_more : (f : Frame) (fs : List Frame) (old mid new : Running) → Steps (Got f) old mid → StepAll fs mid new → StepAll (f ∷ fs) old new
+  one_more : (f : Frame) (fs : List Frame) (old mid new : Running) → Steps (Got f) old mid
+      → StepAll fs mid new → StepAll (f ∷ fs) old new
 
 -- ## Events
 
@@ -82,7 +90,8 @@ pub data StepAll : List Frame → Running → Running → Type 0 where
 pub record Hears (x : List ℕ) (d d' : Deframing) (old new : Running) : Type 0 where
   pub frames : List Frame
   pub bound : d'.n1 ≡ d.n1
-  pub past : (taken : List ℕ) (handed : List Frame) → Deframes taken handed d → Deframes (taken ++ x) (handed ++ frames) d'
+  pub past : (taken : List ℕ) (handed : List Frame) → Deframes taken handed d
+      → Deframes (taken ++ x) (handed ++ frames) d'
   pub come : StepAll frames old new
 
 pub record StepsAlone (a : Act) (d d' : Deframing) (old new : Running) : Type 0 where
@@ -96,13 +105,13 @@ HandlesEvent event.Tick d d' old new = StepsAlone Tick d d' old new
 HandlesEvent event.Lost d d' old new = StepsAlone Lost d d' old new
 
 -- the pieces of the events so far
-pub record Runs (n1 : ℕ) (done : List Event) (v : Running) : Type 0 where
+pub record RunsReplay (n1 : ℕ) (done : List Event) (v : Running) : Type 0 where
   pub pieces : List Piece
   pub joins : flat_map acts_in pieces ≡ v.acts
-  pub begins : Begins n1 [] done (map first_of pieces)
+  pub begins : BegunBy n1 [] done (map first_of pieces)
   pub are_pieces : ArePieces (replaying n1) [] pieces
   pub drained : Drained (replaying n1) v.core (past_of [] pieces)
-  pub taken_are : taken (past_of [] pieces) ≡ requests done
+  pub taken_are : taken_requests (past_of [] pieces) ≡ requests done
 
 -- so far the deframer has handed out these frames, and none is at hand
 pub record SoFar (n1 : ℕ) (events : List Event) (k : ℕ) (v : Running) (d : Deframing) : Type 0 where
@@ -110,4 +119,4 @@ pub record SoFar (n1 : ℕ) (events : List Event) (k : ℕ) (v : Running) (d : D
   pub deframes : Deframes (octets (take k events)) frames d
   pub idle : d.next ≡ None
   pub bound : d.n1 ≡ n1
-  pub runs : UsesOnce (requests events) → Runs n1 (take k events) v
+  pub runs : UsesOnce (requests events) → RunsReplay n1 (take k events) v

@@ -3,8 +3,10 @@ use Rattle.std.specs.Prelude.{Bool}
 use Rattle.modem_desk.specs.Ends.{DriverView}
 use Rattle.modem_history.specs.Sessions.{LineView}
 use Rattle.modem_driver.specs.SessionStates.{Kept}
-use Rattle.modem_driver.specs.TurnSteps.{standing, SendsOn}
+use Rattle.modem_driver.specs.TurnSteps.{turn_state, SendsOn}
 
--- the next frame goes into the output, whatever line and desk's end there are; what it says is whether data was sent
+-- the next frame goes into the output, whatever line and desk's end there are; what it says is whether data
+-- was sent
 unfoldable pub KeptSends : (old new : Kept) → (moved : Bool) → Type 0
-KeptSends old new moved = (l : LineView) (d : DriverView) → SendsOn (standing l d old) (standing l d new) moved
+KeptSends old new moved =
+    (l : LineView) (d : DriverView) → SendsOn (turn_state l d old) (turn_state l d new) moved

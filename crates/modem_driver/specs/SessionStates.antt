@@ -18,8 +18,9 @@ use Rattle.modem_driver.specs.declared.session.ending.Course.TheVariants.{GoesOn
 
 -- ## What is kept
 
--- beside its line and its desk's end: the core, the request kept aside, the octets read and not yet fed, the deframer, the
--- octets, outcomes and lines that wait, whether a call on the line has failed, and how far it has come on the way to its end
+-- beside its line and its desk's end: the core, the request kept aside, the octets read and not yet fed, the
+-- deframer, the octets, outcomes and lines that wait, whether a call on the line has failed, and how far it
+-- has come on the way to its end
 pub record Kept : Type 0 where
   pub core : Core
   pub aside : Option Request
@@ -63,7 +64,12 @@ KeepsItsEnd old new = KeepsEnd old.kept.course new.kept.course
 
 -- a line of any type, by its trait's words
 abbrev pub line_by : {X : Type 0} → (received sent : X → List ℕ) → (calls failures : X → ℕ) → X → LineView
-line_by received sent calls failures x = record { received = received x; sent = sent x; calls = calls x; failures = failures x }
+line_by received sent calls failures x = record {
+  received = received x;
+  sent = sent x;
+  calls = calls x;
+  failures = failures x;
+}
 
 -- the desk's end
 abbrev pub end_of : DriverView → EndView
@@ -81,15 +87,17 @@ seen_by l e k = record {
   unannounced = k.unannounced;
 }
 
-abbrev pub seen : {X : Type 0} → (X → LineView) → SessionState X → SessionView
-seen look s = seen_by (look s.line) (end_of s.driver) s.kept
+abbrev pub session_view : {X : Type 0} → (X → LineView) → SessionState X → SessionView
+session_view look s = seen_by (look s.line) (end_of s.driver) s.kept
 
 -- ## Which histories it fits
 
--- What isn't seen there: the core fits the history of this N1, this desk's kinds and callers, and knows which connections
--- are held; a call on the line has failed since the session began just where the session knows of one; of the requests in hand one
--- at most is a Stop; and the session has come as far on the way to its end as it knows.
-pub record KeptFits (b : Beginning) (l : LineView) (d : DriverView) (k : Kept) (past : List Act) : Type 0 where
+-- What isn't seen there: the core fits the history of this N1, this desk's kinds and callers, and
+-- knows which connections are held; a call on the line has failed since the session began just where the
+-- session knows of one; of the requests in hand one at most is a Stop; and the session has come as far on the
+-- way to its end as it knows.
+pub record KeptFits (b : Beginning) (l : LineView) (d : DriverView) (k : Kept)
+    (past : List Act) : Type 0 where
   pub setting : IsSettingOf (driving b) k.core
   pub fits : Fits k.core past
   pub holds : HoldsFit k.core past
@@ -105,17 +113,25 @@ FitsInside b look s past = KeptFits b (look s.line) s.driver s.kept past
 
 -- the session fits the history
 abbrev pub FitsAll : {X : Type 0} → Beginning → (X → LineView) → SessionState X → List Act → Type 0
-FitsAll b look s past = FitsWith b (seen look s) (FitsInside b look s) past
+FitsAll b look s past = FitsWith b (session_view look s) (FitsInside b look s) past
 
 -- a session that begins over a line and a desk's end
 abbrev pub beginning_of : ℕ → LineView → DriverView → Beginning
-beginning_of n1 l d = record { n1 = n1; callers = length d.desk.rings; kinds = d.desk.kinds; line = l; desk = end_of d }
+beginning_of n1 l d = record {
+  n1 = n1;
+  callers = length d.desk.rings;
+  kinds = d.desk.kinds;
+  line = l;
+  desk = end_of d;
+}
 
 -- ## Calls
 
 -- a tick, whatever the session began with
 unfoldable pub Ticks : {X : Type 0} → (X → LineView) → (old new : SessionState X) → Type 0
-Ticks look old new = GoesTick (seen look old) (seen look new) (λ b. FitsInside b look old) (λ b. FitsInside b look new)
+Ticks look old new =
+    GoesTick (session_view look old) (session_view look new) (λ b. FitsInside b look old)
+    (λ b. FitsInside b look new)
 
 -- the same desk, whose end took these requests more, each of a caller of that desk
 pub record TakesMore (old new : DriverView) : Type 0 where
@@ -125,29 +141,36 @@ pub record TakesMore (old new : DriverView) : Type 0 where
   pub callers : list_all (λ (q : Request). nat_lt q.caller (length old.desk.rings)) more ≡ true
 
 -- what is left of a session that ended is what each history that it fits says
-abbrev pub Ends : {X : Type 0} → (X → LineView) → SessionState X → Leftovers → Type 0
-Ends look s f = (b : Beginning) (past : List Act) → FitsAll b look s past → Finishes (seen look s) past f
+abbrev pub SessionEnds : {X : Type 0} → (X → LineView) → SessionState X → Leftovers → Type 0
+SessionEnds look s f =
+    (b : Beginning) (past : List Act) → FitsAll b look s past → Finishes (session_view look s) past f
 
 -- ## What is kept goes on
 
 -- what is kept goes on by these acts, whatever history it had, over the same line and the same desk's end
 unfoldable pub KeptGoes : (old new : Kept) → List Act → Type 0
 KeptGoes old new acts =
-    (b : Beginning) (l : LineView) (d : DriverView) → GoesBy b (seen_by l (end_of d) old) (seen_by l (end_of d) new) (KeptFits b l d old) (KeptFits b l d new) acts
+    (b : Beginning) (l : LineView) (d : DriverView)
+    → GoesBy b (seen_by l (end_of d) old) (seen_by l (end_of d) new) (KeptFits b l d old)
+    (KeptFits b l d new) acts
 
 -- a tick of what is kept, by some acts
 pub record KeptTicks (old new : Kept) : Type 0 where
   pub acts : List Act
   pub goes : KeptGoes old new acts
-  pub tick : (b : Beginning) (l : LineView) (d : DriverView) (past : List Act) → FitsWith b (seen_by l (end_of d) old) (KeptFits b l d old) past → IsTick (seen_by l (end_of d) old) (seen_by l (end_of d) new) past acts
+  pub tick : (b : Beginning) (l : LineView) (d : DriverView) (past : List Act)
+      → FitsWith b (seen_by l (end_of d) old) (KeptFits b l d old) past
+      → IsTick (seen_by l (end_of d) old) (seen_by l (end_of d) new) past acts
 
 -- what is kept goes on by a call on the line, without an act
 unfoldable pub KeptMoves : (before later : LineView) → (old new : Kept) → Type 0
 KeptMoves before later old new =
-    (b : Beginning) (d : DriverView) → GoesBy b (seen_by before (end_of d) old) (seen_by later (end_of d) new) (KeptFits b before d old) (KeptFits b later d new) []
+    (b : Beginning) (d : DriverView)
+    → GoesBy b (seen_by before (end_of d) old) (seen_by later (end_of d) new) (KeptFits b before d old)
+    (KeptFits b later d new) []
 
--- what was told waits behind what waited; nothing was heard and no frame handled; and the acts are such as a turn may have in
--- which the line is lost
+-- what was told waits behind what waited; nothing was heard and no frame handled; and the acts are such as a
+-- turn may have in which the line is lost
 pub record AddsLost (old new : Kept) (acts : List Act) : Type 0 where
   pub outcomes : new.unplaced ≡ old.unplaced ++ outcomes_told acts
   pub lines : map heard_as new.unannounced ≡ map heard_as old.unannounced ++ lines_heard acts
@@ -158,6 +181,9 @@ pub record AddsLost (old new : Kept) (acts : List Act) : Type 0 where
 pub record KeptLoses (old new : Kept) : Type 0 where
   pub acts : List Act
   pub goes : KeptGoes old new acts
-  pub loses : (b : Beginning) (l : LineView) (d : DriverView) (past : List Act) → AreOnce b (seen_by l (end_of d) new) → FitsWith b (seen_by l (end_of d) old) (KeptFits b l d old) past → LosesLine b (seen_by l (end_of d) old) (seen_by l (end_of d) new) past acts
-  pub adds : (b : Beginning) (l : LineView) (d : DriverView) (past : List Act) → FitsWith b (seen_by l (end_of d) old) (KeptFits b l d old) past → AddsLost old new acts
+  pub loses : (b : Beginning) (l : LineView) (d : DriverView) (past : List Act)
+      → AreOnce b (seen_by l (end_of d) new) → FitsWith b (seen_by l (end_of d) old) (KeptFits b l d old) past
+      → LosesLine b (seen_by l (end_of d) old) (seen_by l (end_of d) new) past acts
+  pub adds : (b : Beginning) (l : LineView) (d : DriverView) (past : List Act)
+      → FitsWith b (seen_by l (end_of d) old) (KeptFits b l d old) past → AddsLost old new acts
   pub stays : new ≡ record old { core = new.core; unplaced = new.unplaced; unannounced = new.unannounced }

@@ -9,16 +9,16 @@ use Rattle.at_text.specs.declared.unsolicited.UrcKind.{UrcKind}
 use Rattle.modem_desk.specs.declared.request.Outcome.{Outcome}
 use Rattle.modem_desk.specs.declared.request.Urc.{Urc}
 use Rattle.modem_desk.specs.Ends.{DriverView}
-use Rattle.modem_history.specs.Sessions.{LineView, of_caller}
+use Rattle.modem_history.specs.Sessions.{LineView, caller_outcomes}
 use Rattle.modem_history.specs.Turns.{TurnAnswer, TurnFault, GoesTurn, GoesFault}
 use Rattle.modem_driver.specs.declared.session.error.SessionFault.{SessionFault}
 use Rattle.modem_driver.specs.declared.session.turn.Turn.{Turn}
 use Rattle.modem_driver.specs.Endings.{Begins, KeepsEnd}
-use Rattle.modem_driver.specs.SessionStates.{Kept, KeptLoses, SessionState, FitsInside, has_lost_line, seen}
-use Rattle.modem_driver.specs.TurnSteps.{Standing, Writes, ReadsOn}
+use Rattle.modem_driver.specs.SessionStates.{Kept, KeptLoses, SessionState, FitsInside, has_lost_line, session_view}
+use Rattle.modem_driver.specs.TurnSteps.{TurnState, Writes, ReadsOn}
 
 -- a session as its turn sees it
-abbrev pub standing_of : {X : Type 0} → (X → LineView) → SessionState X → Standing
+abbrev pub standing_of : {X : Type 0} → (X → LineView) → SessionState X → TurnState
 standing_of look s = record { line = look s.line; driver = s.driver; kept = s.kept }
 
 -- ## Which answer it is
@@ -26,7 +26,7 @@ standing_of look s = record { line = look s.line; driver = s.driver; kept = s.ke
 -- of these outcomes this caller has one, and none is of a lesser one
 pub record IsLeast (c : ℕ) (os : List Outcome) : Type 0 where
   pub outcome : Outcome
-  pub first : take 1 (of_caller c os) ≡ outcome ∷ []
+  pub first : take 1 (caller_outcomes c os) ≡ outcome ∷ []
   pub least : list_all (λ (o : Outcome). nat_le c o.caller) os ≡ true
 
 -- the first of these lines is of this kind
@@ -60,12 +60,12 @@ Answers k moved (TurnAnswer.Blocked kind) = (moved ≡ false) × HasLine k kind
 Answers k moved TurnAnswer.Idle = (moved ≡ false) × HasNothing k
 
 -- a turn's answer and its fault, as the program names them
-abbrev pub answer_of : Turn → TurnAnswer
-answer_of Turn.Moved = TurnAnswer.Moved
-answer_of Turn.WriterFull = TurnAnswer.WriterFull
-answer_of (Turn.Waiting caller) = TurnAnswer.Waiting caller
-answer_of (Turn.Blocked kind) = TurnAnswer.Blocked kind
-answer_of Turn.Idle = TurnAnswer.Idle
+abbrev pub turn_answer : Turn → TurnAnswer
+turn_answer Turn.Moved = TurnAnswer.Moved
+turn_answer Turn.WriterFull = TurnAnswer.WriterFull
+turn_answer (Turn.Waiting caller) = TurnAnswer.Waiting caller
+turn_answer (Turn.Blocked kind) = TurnAnswer.Blocked kind
+turn_answer Turn.Idle = TurnAnswer.Idle
 
 abbrev pub fault_of : SessionFault → TurnFault
 fault_of SessionFault.NoMemory = TurnFault.NoMemory
@@ -74,22 +74,29 @@ fault_of SessionFault.Failed = TurnFault.Failed
 
 -- ## Turns and faults, whatever the session began with
 
-unfoldable pub Turns : {X : Type 0} → (X → LineView) → (old new : SessionState X) → TurnAnswer → Type 0
-Turns look old new says = GoesTurn (seen look old) (seen look new) (λ b. FitsInside b look old) (λ b. FitsInside b look new) says
+unfoldable pub TakesTurn : {X : Type 0} → (X → LineView) → (old new : SessionState X) → TurnAnswer → Type 0
+TakesTurn look old new says =
+    GoesTurn (session_view look old) (session_view look new) (λ b. FitsInside b look old)
+    (λ b. FitsInside b look new) says
 
 unfoldable pub Faults : {X : Type 0} → (X → LineView) → (old new : SessionState X) → TurnFault → Type 0
-Faults look old new says = GoesFault (seen look old) (seen look new) (λ b. FitsInside b look old) (λ b. FitsInside b look new) says
+Faults look old new says =
+    GoesFault (session_view look old) (session_view look new) (λ b. FitsInside b look old)
+    (λ b. FitsInside b look new) says
 
--- Whichever way it ends: the line had at most two calls more, the desk's end keeps what it took, and an end that a poll gave stays.
-pub record HasTurned (old new : Standing) : Type 0 where
+-- Whichever way it ends: the line had at most two calls more, the desk's end keeps what it took, and an end
+-- that a poll gave stays.
+pub record HasTurned (old new : TurnState) : Type 0 where
   pub calls : new.line.calls ≤ old.line.calls + 2
   pub taken : Begins old.driver.taken new.driver.taken
   pub ended : KeepsEnd old.kept.course new.kept.course
 
--- an outcome waits only where its caller's ring has no place that the desk's end knows to be free, and a line only where its listener's has none
+-- an outcome waits only where its caller's ring has no place that the desk's end knows to be free, and a line
+-- only where its listener's has none
 abbrev pub HasNoPlace : DriverView → TurnAnswer → Type 0
 HasNoPlace d (TurnAnswer.Waiting c) = c < length d.desk.rings → slice_index_or d.free c 0 ≡ 0
-HasNoPlace d (TurnAnswer.Blocked kind) = (i : ℕ) → get_elem? d.desk.kinds i ≡ some kind → slice_index_or d.free_lines i 0 ≡ 0
+HasNoPlace d (TurnAnswer.Blocked kind) =
+    (i : ℕ) → get_elem? d.desk.kinds i ≡ some kind → slice_index_or d.free_lines i 0 ≡ 0
 HasNoPlace d _ = Unit {0}
 
 -- after a fault other than want of memory the line is lost
@@ -98,8 +105,9 @@ LeavesLost SessionFault.NoMemory s = Unit {0}
 LeavesLost SessionFault.Line s = has_lost_line s ≡ true
 LeavesLost SessionFault.Failed s = has_lost_line s ≡ true
 
--- after a failing call on the line: the line is lost; or there is no memory for it, and nothing changes; or it was lost before
-abbrev pub LosesOr : SessionFault → (old new : Standing) → Type 0
+-- after a failing call on the line: the line is lost; or there is no memory for it, and nothing changes; or
+-- it was lost before
+abbrev pub LosesOr : SessionFault → (old new : TurnState) → Type 0
 LosesOr SessionFault.Line old new = (new ≡ record old { kept = new.kept }) × KeptLoses old.kept new.kept
 LosesOr SessionFault.NoMemory old new = new ≡ old
 LosesOr SessionFault.Failed old new = (new ≡ old) × (old.kept.core.lost ≡ true)
@@ -109,11 +117,13 @@ LosesOr SessionFault.Failed old new = (new ≡ old) × (old.kept.core.lost ≡ t
 -- a step by a call on the line, whatever the desk's end is
 unfoldable pub KeptWrites : (before later : LineView) → (old new : Kept) → (moved : Bool) → Type 0
 KeptWrites before later old new moved =
-    (d : DriverView) → Writes (record { line = before; driver = d; kept = old }) (record { line = later; driver = d; kept = new }) moved
+    (d : DriverView) → Writes (record { line = before; driver = d; kept = old })
+    (record { line = later; driver = d; kept = new }) moved
 
 unfoldable pub KeptReads : (before later : LineView) → (old new : Kept) → (moved : Bool) → Type 0
 KeptReads before later old new moved =
-    (d : DriverView) → ReadsOn (record { line = before; driver = d; kept = old }) (record { line = later; driver = d; kept = new }) moved
+    (d : DriverView) → ReadsOn (record { line = before; driver = d; kept = old })
+    (record { line = later; driver = d; kept = new }) moved
 
 -- so many of the octets that wait are given to the deframer
 pub record Feeds (old new : Kept) (count : ℕ) : Type 0 where

@@ -15,7 +15,8 @@ use Rattle.modem_desk.specs.declared.request.Answer.TheVariants.{Opened, Shut, P
 use Rattle.modem_driver.specs.declared.telling.Happened.{Happened}
 use Rattle.modem_driver.specs.declared.telling.Happened.TheVariants as happened
 
--- why a connection is Shut now, where nothing else is the cause; ended says whether 0 was Opened and isn't any more
+-- why a connection is Shut now, where nothing else is the cause; ended says whether 0 was Opened and isn't
+-- any more
 abbrev pub why_shut : Happened → (ended : Bool) → Answer → Answer
 why_shut happened.Lost ended why = LineLost
 why_shut (happened.Tick given_up) ended why = if ended then Closed else NoAnswer
@@ -51,14 +52,14 @@ abbrev pub probe_told : ChannelState → Happened → Answer → Option Answer
 probe_told is.Opened h why = probe_happened h
 probe_told _ h why = Some why
 
-abbrev pub stop_ended : Happened → Answer
-stop_ended happened.Lost = LineLost
-stop_ended (happened.Tick given_up) = NoAnswer
-stop_ended _ = Stopped
+abbrev pub stop_outcome : Happened → Answer
+stop_outcome happened.Lost = LineLost
+stop_outcome (happened.Tick given_up) = NoAnswer
+stop_outcome _ = Stopped
 
 abbrev pub stop_told : ChannelState → Happened → Option Answer
 stop_told is.Stopping h = None
-stop_told _ h = Some (stop_ended h)
+stop_told _ h = Some (stop_outcome h)
 
 -- what a request that waits is told, by how the connections stand now
 abbrev pub told_by : Happened → (ended : Bool) → (ℕ → ChannelState) → Ask → Option Answer
@@ -84,8 +85,10 @@ abbrev pub left_by : (Ask → Option Answer) → List Request → List Request
 left_by says [] = []
 left_by says (r ∷ rs) = if is_none (says r.ask) then r ∷ left_by says rs else left_by says rs
 
--- while they are told one after the other: those before the place are told nothing, and the others are still to come
-pub record Telling (says : Ask → Option Answer) (place : ℕ) (hand hand0 : List Request) (acts acts0 : ActList) : Type 0 where
+-- while they are told one after the other: those before the place are told nothing, and the others are still
+-- to come
+pub record Telling (says : Ask → Option Answer) (place : ℕ) (hand hand0 : List Request)
+    (acts acts0 : ActList) : Type 0 where
   pub front : List Request
   pub back : List Request
   pub split : hand ≡ front ++ back

@@ -32,7 +32,8 @@ shown_asking _ = false
 -- how many of so many connections from d on
 unfoldable pub asking_from : Station → (d : ℕ) → (count : ℕ) → ℕ
 asking_from v d zero = 0
-asking_from v d (suc count) = (if is_asking (channel_at v d).state then 1 else 0) + asking_from v (d + 1) count
+asking_from v d (suc count) =
+    (if is_asking (channel_at v d).state then 1 else 0) + asking_from v (d + 1) count
 
 -- the probe was given up
 abbrev pub is_probe_up : Up → Bool

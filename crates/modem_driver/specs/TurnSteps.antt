@@ -1,5 +1,5 @@
--- The steps of a turn: what each is promised to do. A step leads on by some acts, the same whatever history there was, and says
--- whether it moved anything.
+-- The steps of a turn: what each is promised to do. A step leads on by some acts, the same whatever history
+-- there was, and says whether it moved anything.
 use Rattle.std.specs.Prelude.{◌≡◌, ◌≢◌, ℕ, ◌+◌, ◌≤◌, ◌<◌, ◌||◌, ◌⊎◌, not, nat_lt, Bool, true, false, List, [], ◌++◌, length, map, take, Option, None, Some, option_to_list, slice_index_or}
 use Rattle.std.specs.List.{list_all, list_any}
 use mathlib.Core.Option.{some}
@@ -11,44 +11,45 @@ use Rattle.modem_desk.specs.declared.request.Outcome.{Outcome}
 use Rattle.modem_desk.specs.declared.request.Urc.{Urc}
 use Rattle.modem_desk.specs.Ends.{DriverView}
 use Rattle.modem_history.specs.Acts.{Act, after, in_hand}
+use Rattle.modem_history.specs.Calls.{is_lost}
 use Rattle.modem_history.specs.Kinds.{of_kind}
-use Rattle.modem_history.specs.Sessions.{Beginning, LineView, SessionView, FitsWith, AreOnce, GoesBy, driving, gots, heard_as, of_caller}
-use Rattle.modem_history.specs.Turns.{Write, Read, Offers, HasRoom, HoldsByBacklog, octets_written, octets_read, request_given, calls_made, counted, outcomes_told, lines_heard, may_act, is_mark, amount, has_room_for}
+use Rattle.modem_history.specs.Sessions.{Beginning, LineView, SessionView, FitsWith, AreOnce, GoesBy, driving, gots, heard_as, caller_outcomes}
+use Rattle.modem_history.specs.Turns.{Write, Read, Offers, ReadHasRoom, HoldsByBacklog, HoldsWhereRoom, octets_written, octets_read, request_given, calls_made, counted, outcomes_told, lines_heard, may_act, is_mark, amount, has_room_for}
 use Rattle.modem_driver.specs.GoingOut.{next_out}
-use Rattle.modem_driver.specs.Running.{IsIdle}
+use Rattle.modem_driver.specs.Running.{CoreIsIdle}
 use Rattle.modem_driver.specs.Endings.{KeepsEnd}
 use Rattle.modem_driver.specs.SessionStates.{Kept, KeptFits, seen_by, end_of}
 
 -- ## What a turn works on
 
 -- the line, the desk's end, and what is kept beside them
-pub record Standing : Type 0 where
+pub record TurnState : Type 0 where
   pub line : LineView
   pub driver : DriverView
   pub kept : Kept
 
-abbrev pub standing : LineView → DriverView → Kept → Standing
-standing l d k = record { line = l; driver = d; kept = k }
+abbrev pub turn_state : LineView → DriverView → Kept → TurnState
+turn_state l d k = record { line = l; driver = d; kept = k }
 
-abbrev pub view_of : Standing → SessionView
+abbrev pub view_of : TurnState → SessionView
 view_of s = seen_by s.line (end_of s.driver) s.kept
 
-abbrev pub inside : Beginning → Standing → List Act → Type 0
+abbrev pub inside : Beginning → TurnState → List Act → Type 0
 inside b s past = KeptFits b s.line s.driver s.kept past
 
-abbrev pub StandingFits : Beginning → Standing → List Act → Type 0
+abbrev pub StandingFits : Beginning → TurnState → List Act → Type 0
 StandingFits b s past = FitsWith b (view_of s) (inside b s) past
 
 -- by these acts it led from the one to the other, whatever history there was
-unfoldable pub Leads : (old new : Standing) → List Act → Type 0
+unfoldable pub Leads : (old new : TurnState) → List Act → Type 0
 Leads old new acts = (b : Beginning) → GoesBy b (view_of old) (view_of new) (inside b old) (inside b new) acts
 
 -- an act that isn't a mark alone
 abbrev pub is_more : Act → Bool
 is_more a = not (is_mark a)
 
--- what the acts told and heard waits behind what waited, they are such as a turn may have while these lines wait, and so
--- many frames were handled at most
+-- what the acts told and heard waits behind what waited, they are such as a turn may have while these lines
+-- wait, and so many frames were handled at most
 pub record Adds (old new : Kept) (waiting : List Urc) (most : ℕ) (acts : List Act) : Type 0 where
   pub outcomes : new.unplaced ≡ old.unplaced ++ outcomes_told acts
   pub lines : map heard_as new.unannounced ≡ map heard_as old.unannounced ++ lines_heard acts
@@ -56,41 +57,55 @@ pub record Adds (old new : Kept) (waiting : List Urc) (most : ℕ) (acts : List 
   pub few_got : length (gots acts) ≤ most
 
 -- that is so after every history of which no caller used a number twice
-unfoldable pub AddsAll : (old new : Standing) → List Urc → ℕ → List Act → Type 0
-AddsAll old new waiting most acts = (b : Beginning) (past : List Act) → AreOnce b (view_of new) → StandingFits b old past → Adds old.kept new.kept waiting most acts
+unfoldable pub AddsAll : (old new : TurnState) → List Urc → ℕ → List Act → Type 0
+AddsAll old new waiting most acts =
+    (b : Beginning) (past : List Act) → AreOnce b (view_of new) → StandingFits b old past
+    → Adds old.kept new.kept waiting most acts
 
 -- ## What waits is offered to the desk
 
--- Of each caller and of each kind the first that still waits was handed back, and no other: its ring has no free place that the
--- desk's end knows of.
-pub record Places (old new : Standing) (moved : Bool) : Type 0 where
+-- Of each caller and of each kind the first that still waits was handed back, and no other: its ring has no
+-- free place that the desk's end knows of.
+pub record Places (old new : TurnState) (moved : Bool) : Type 0 where
   pub told_back : List Outcome
   pub heard_back : List Urc
   pub leads : Leads old new []
-  pub outcomes_back : (c : ℕ) → of_caller c told_back ≡ take 1 (of_caller c new.kept.unplaced)
+  pub outcomes_back : (c : ℕ) → caller_outcomes c told_back ≡ take 1 (caller_outcomes c new.kept.unplaced)
   pub lines_back : (k : UrcKind) → of_kind k heard_back ≡ take 1 (of_kind k new.kept.unannounced)
-  pub rings_full : (c : ℕ) → c < length new.driver.desk.rings → of_caller c new.kept.unplaced ≢ [] → slice_index_or new.driver.free c 0 ≡ 0
-  pub lines_full : (i : ℕ) (k : UrcKind) → get_elem? new.driver.desk.kinds i ≡ some k → of_kind k new.kept.unannounced ≢ [] → slice_index_or new.driver.free_lines i 0 ≡ 0
-  pub moved_is : moved ≡ (nat_lt (amount old.driver.told) (amount new.driver.told) || nat_lt (amount old.driver.announced) (amount new.driver.announced))
+  pub rings_full : (c : ℕ) → c < length new.driver.desk.rings → caller_outcomes c new.kept.unplaced ≢ []
+      → slice_index_or new.driver.free c 0 ≡ 0
+  pub lines_full : (i : ℕ) (k : UrcKind) → get_elem? new.driver.desk.kinds i ≡ some k
+      → of_kind k new.kept.unannounced ≢ [] → slice_index_or new.driver.free_lines i 0 ≡ 0
+  pub moved_is : moved ≡ (nat_lt (amount old.driver.told) (amount new.driver.told)
+      || nat_lt (amount old.driver.announced) (amount new.driver.announced))
   pub told_grows : amount old.driver.told ≤ amount new.driver.told
   pub announced_grows : amount old.driver.announced ≤ amount new.driver.announced
   pub taken_stays : new.driver.taken ≡ old.driver.taken
   pub desk_stays : new.driver.desk ≡ old.driver.desk
-  pub stays : new ≡ record old { driver = new.driver; kept = record old.kept { unplaced = new.kept.unplaced; unannounced = new.kept.unannounced } }
+  pub stays : new ≡ record old {
+    driver = new.driver;
+    kept = record old.kept { unplaced = new.kept.unplaced; unannounced = new.kept.unannounced };
+  }
 
 -- ## Backlogs are looked at
 
--- Each connection is then held by its backlog, unless control frames wait.
-pub record Minds (old new : Standing) (moved : Bool) : Type 0 where
+-- Each connection is then held by its backlog, unless control frames wait; and where nothing was done, it was
+-- so before, unless no MSC had a place.
+pub record Checks (old new : TurnState) (moved : Bool) : Type 0 where
   pub acts : List Act
   pub leads : Leads old new acts
   pub adds : AddsAll old new old.kept.unannounced 0 acts
   pub moved_is : moved ≡ list_any is_more acts
-  pub held : (b : Beginning) (past : List Act) → AreOnce b (view_of new) → StandingFits b old past → new.kept.core.lost ≡ false → new.kept.core.station.queue ≡ [] → HoldsByBacklog (view_of new) (after past acts)
+  pub held : (b : Beginning) (past : List Act) → AreOnce b (view_of new) → StandingFits b old past
+      → new.kept.core.lost ≡ false → new.kept.core.station.queue ≡ []
+      → HoldsByBacklog (view_of new) (after past acts)
+  pub looks : moved ≡ false
+      → (acts ≡ []) × ((b : Beginning) (past : List Act) → AreOnce b (view_of new) → StandingFits b old past
+      → is_lost past ≡ false → HoldsWhereRoom b (view_of new) past)
   pub stays : new ≡ record old { kept = record old.kept { core = new.kept.core } }
 
--- Where there was no memory for one of them, those before it are minded.
-pub record MindsPart (old new : Standing) : Type 0 where
+-- Where there was no memory for one of them, those before it are checked.
+pub record ChecksPart (old new : TurnState) : Type 0 where
   pub acts : List Act
   pub leads : Leads old new acts
   pub adds : AddsAll old new old.kept.unannounced 0 acts
@@ -99,20 +114,23 @@ pub record MindsPart (old new : Standing) : Type 0 where
 -- ## The next frame goes into the output
 
 -- Where octets waited already, nothing is done. Where none wait afterwards, nothing was left to send.
-pub record SendsOn (old new : Standing) (moved : Bool) : Type 0 where
+pub record SendsOn (old new : TurnState) (moved : Bool) : Type 0 where
   pub acts : List Act
   pub leads : Leads old new acts
   pub adds : (waiting : List Urc) → AddsAll old new waiting 0 acts
   pub moved_is : moved ≡ list_any is_more acts
-  pub idle : new.kept.unwritten ≡ [] → (acts ≡ []) × ((new ≡ old) × IsIdle new.kept.core)
-  pub none_left : new.kept.unwritten ≡ [] → (b : Beginning) (past : List Act) → StandingFits b new past → next_out (driving b) past ≡ None
+  pub idle : new.kept.unwritten ≡ [] → (acts ≡ []) × ((new ≡ old) × CoreIsIdle new.kept.core)
+  pub none_left : new.kept.unwritten ≡ [] → (b : Beginning) (past : List Act) → StandingFits b new past
+      → next_out (driving b) past ≡ None
   pub busy : moved ≡ false → old.kept.unwritten ≢ [] → (acts ≡ []) × (new ≡ old)
-  pub stays : new ≡ record old { kept = record old.kept { core = new.kept.core; unwritten = new.kept.unwritten } }
+  pub stays : new ≡ record old {
+    kept = record old.kept { core = new.kept.core; unwritten = new.kept.unwritten };
+  }
 
 -- ## Octets are written
 
 -- Where octets wait, they are offered to the line once; a call that fails is kept in mind.
-pub record Writes (old new : Standing) (moved : Bool) : Type 0 where
+pub record Writes (old new : TurnState) (moved : Bool) : Type 0 where
   pub write : Option Write
   pub leads : Leads old new []
   pub offers : Offers write new.kept.unwritten
@@ -121,65 +139,104 @@ pub record Writes (old new : Standing) (moved : Bool) : Type 0 where
   pub calls : new.line.calls ≡ counted old.line.calls (calls_made write)
   pub moved_is : moved ≡ nat_lt (length old.line.sent) (length new.line.sent)
   pub still : moved ≡ false → new.kept.faulty ≡ old.kept.faulty → new.kept ≡ old.kept
-  pub stays : new ≡ record old { line = new.line; kept = record old.kept { unwritten = new.kept.unwritten; faulty = new.kept.faulty } }
+  pub stays : new ≡ record old {
+    line = new.line;
+    kept = record old.kept { unwritten = new.kept.unwritten; faulty = new.kept.faulty };
+  }
 
 -- ## The frame at hand is handled
 
 -- It stays where there is no room for what it calls for.
-pub record Gets (old new : Standing) (moved : Bool) : Type 0 where
+pub record Gets (old new : TurnState) (moved : Bool) : Type 0 where
   pub acts : List Act
   pub leads : Leads old new acts
   pub adds : (waiting : List Urc) → AddsAll old new waiting 1 acts
   pub moved_is : moved ≡ list_any is_more acts
   pub still : moved ≡ false → (acts ≡ []) × (new ≡ old)
   pub ended : KeepsEnd old.kept.course new.kept.course
-  pub no_room : (f : Frame) → moved ≡ false → old.kept.deframer.next ≡ Some f → (¬ IsIdle old.kept.core) × ((b : Beginning) (past : List Act) → StandingFits b old past → has_room_for b past f ≡ false)
-  pub stays : new ≡ record old { kept = record old.kept { core = new.kept.core; deframer = new.kept.deframer; unplaced = new.kept.unplaced; unannounced = new.kept.unannounced; course = new.kept.course } }
+  pub no_room : (f : Frame) → moved ≡ false → old.kept.deframer.next ≡ Some f
+      → (¬ CoreIsIdle old.kept.core)
+      × ((b : Beginning) (past : List Act) → StandingFits b old past → has_room_for b past f ≡ false)
+  pub stays : new ≡ record old {
+    kept = record old.kept {
+      core = new.kept.core;
+      deframer = new.kept.deframer;
+      unplaced = new.kept.unplaced;
+      unannounced = new.kept.unannounced;
+      course = new.kept.course;
+    };
+  }
 
 -- ## Octets are read and fed
 
--- Where none wait, the line is read once; a call that fails is kept in mind. What waits is given to the deframer.
-pub record ReadsOn (old new : Standing) (moved : Bool) : Type 0 where
+-- Where none wait, the line is read once; a call that fails is kept in mind. What waits is given to the
+-- deframer.
+pub record ReadsOn (old new : TurnState) (moved : Bool) : Type 0 where
   pub read : Option Read
   pub leads : Leads old new []
-  pub room : HasRoom read
+  pub room : ReadHasRoom read
   pub came : new.line.received ≡ old.line.received ++ octets_read read
   pub went_none : new.line.sent ≡ old.line.sent
   pub calls : new.line.calls ≡ counted old.line.calls (calls_made read)
   pub unfed : length new.kept.unfed ≤ length old.kept.unfed + length (octets_read read)
   pub reads_fed : read ≢ None → old.kept.unfed ≡ []
-  pub moved_is : moved ≡ (nat_lt (length old.line.received) (length new.line.received) || nat_lt (length new.kept.unfed) (length old.kept.unfed))
-  pub nothing_came : moved ≡ false → new.kept.faulty ≡ old.kept.faulty → old.kept.unfed ≡ [] → (read ≡ Some (record { room = 512; octets = [] })) × (new.kept ≡ old.kept)
+  pub moved_is : moved ≡ (nat_lt (length old.line.received) (length new.line.received)
+      || nat_lt (length new.kept.unfed) (length old.kept.unfed))
+  pub nothing_came : moved ≡ false → new.kept.faulty ≡ old.kept.faulty → old.kept.unfed ≡ []
+      → (read ≡ Some (record { room = 512; octets = [] })) × (new.kept ≡ old.kept)
   pub feeds : moved ≡ false → old.kept.unfed ≢ [] → old.kept.deframer.next ≢ None
   pub frame_stays : (f : Frame) → old.kept.deframer.next ≡ Some f → new.kept.deframer.next ≡ Some f
-  pub stays : new ≡ record old { line = new.line; kept = record old.kept { unfed = new.kept.unfed; deframer = new.kept.deframer; faulty = new.kept.faulty } }
+  pub stays : new ≡ record old {
+    line = new.line;
+    kept = record old.kept {
+      unfed = new.kept.unfed;
+      deframer = new.kept.deframer;
+      faulty = new.kept.faulty;
+    };
+  }
 
 -- ## A request is taken
 
--- The one kept aside, or else the next of the desk, where those in hand and the outcomes that wait are fewer than 128.
-pub record TakesOne (old new : Standing) (moved : Bool) : Type 0 where
+-- The one kept aside, or else the next of the desk, where those in hand and the outcomes that wait are fewer
+-- than 128.
+pub record TakesOne (old new : TurnState) (moved : Bool) : Type 0 where
   pub next : Option (Option Request)
   pub acts : List Act
   pub leads : Leads old new acts
   pub adds : (waiting : List Urc) → AddsAll old new waiting 0 acts
   pub moved_is : moved ≡ list_any is_more acts
   pub taken : new.driver.taken ≡ old.driver.taken ++ request_given next
-  pub callers : list_all (λ (q : Request). nat_lt q.caller (length old.driver.desk.rings)) (request_given next) ≡ true
+  pub callers : list_all (λ (q : Request). nat_lt q.caller (length old.driver.desk.rings))
+      (request_given next) ≡ true
   pub asks_bare : next ≢ None → old.kept.aside ≡ None
   pub none_aside : new.kept.aside ≡ None
   pub still : moved ≡ false → (acts ≡ []) × (new.kept ≡ old.kept)
-  pub no_request : moved ≡ false → (next ≡ Some None) ⊎ ((b : Beginning) (past : List Act) → StandingFits b new past → length (in_hand past) + length new.kept.unplaced ≡ 128)
-  pub desk_stays : (new.driver.desk ≡ old.driver.desk) × ((new.driver.told ≡ old.driver.told) × (new.driver.announced ≡ old.driver.announced))
+  pub no_request : moved ≡ false
+      → (next ≡ Some None) ⊎ ((b : Beginning) (past : List Act) → StandingFits b new past
+      → length (in_hand past) + length new.kept.unplaced ≡ 128)
+  pub desk_stays : (new.driver.desk ≡ old.driver.desk)
+      × ((new.driver.told ≡ old.driver.told) × (new.driver.announced ≡ old.driver.announced))
   pub places_stay : (new.driver.free ≡ old.driver.free) × (new.driver.free_lines ≡ old.driver.free_lines)
-  pub stays : new ≡ record old { driver = new.driver; kept = record old.kept { core = new.kept.core; aside = None; unplaced = new.kept.unplaced; unannounced = new.kept.unannounced } }
+  pub stays : new ≡ record old {
+    driver = new.driver;
+    kept = record old.kept {
+      core = new.kept.core;
+      aside = None;
+      unplaced = new.kept.unplaced;
+      unannounced = new.kept.unannounced;
+    };
+  }
 
 -- Where there was no memory for it, it is kept aside: the one that was, or else the one that the desk gave.
-pub record KeepsAside (old new : Standing) : Type 0 where
+pub record KeepsAside (old new : TurnState) : Type 0 where
   pub next : Option (Option Request)
   pub leads : Leads old new []
   pub taken : new.driver.taken ≡ old.driver.taken ++ request_given next
-  pub callers : list_all (λ (q : Request). nat_lt q.caller (length old.driver.desk.rings)) (request_given next) ≡ true
+  pub callers : list_all (λ (q : Request). nat_lt q.caller (length old.driver.desk.rings))
+      (request_given next) ≡ true
   pub asks_bare : next ≢ None → old.kept.aside ≡ None
-  pub one_aside : (new.kept.aside ≢ None) × (option_to_list new.kept.aside ≡ option_to_list old.kept.aside ++ request_given next)
-  pub desk_stays : (new.driver.desk ≡ old.driver.desk) × ((new.driver.told ≡ old.driver.told) × (new.driver.announced ≡ old.driver.announced))
+  pub one_aside : (new.kept.aside ≢ None)
+      × (option_to_list new.kept.aside ≡ option_to_list old.kept.aside ++ request_given next)
+  pub desk_stays : (new.driver.desk ≡ old.driver.desk)
+      × ((new.driver.told ≡ old.driver.told) × (new.driver.announced ≡ old.driver.announced))
   pub stays : new ≡ record old { driver = new.driver; kept = record old.kept { aside = new.kept.aside } }

@@ -8,18 +8,21 @@ use Rattle.modem_history.specs.Acts.{Act}
 use Rattle.modem_history.specs.Sessions.{Beginning, LineView, FitsWith, AreOnce}
 use Rattle.modem_history.specs.Turns.{request_given}
 use Rattle.modem_driver.specs.SessionStates.{Kept, KeptFits, KeptGoes, seen_by, end_of}
-use Rattle.modem_driver.specs.TurnSteps.{Standing, Leads, Adds, is_more}
+use Rattle.modem_driver.specs.TurnSteps.{TurnState, Leads, Adds, is_more}
 
 -- The desk is asked where none is aside and there is room for one more, and what it gives is put aside.
-pub record Fetches (old new : Standing) : Type 0 where
+pub record Fetches (old new : TurnState) : Type 0 where
   pub next : Option (Option Request)
   pub leads : Leads old new []
   pub taken : new.driver.taken ≡ old.driver.taken ++ request_given next
   pub aside : option_to_list new.kept.aside ≡ option_to_list old.kept.aside ++ request_given next
-  pub callers : list_all (λ (q : Request). nat_lt q.caller (length old.driver.desk.rings)) (request_given next) ≡ true
+  pub callers : list_all (λ (q : Request). nat_lt q.caller (length old.driver.desk.rings))
+      (request_given next) ≡ true
   pub asks_bare : next ≢ None → old.kept.aside ≡ None
-  pub none : new.kept.aside ≡ None → (next ≡ Some None) ⊎ (128 ≤ length old.kept.core.hand + length old.kept.unplaced)
-  pub desk_stays : (new.driver.desk ≡ old.driver.desk) × ((new.driver.told ≡ old.driver.told) × (new.driver.announced ≡ old.driver.announced))
+  pub none : new.kept.aside ≡ None
+      → (next ≡ Some None) ⊎ (128 ≤ length old.kept.core.hand + length old.kept.unplaced)
+  pub desk_stays : (new.driver.desk ≡ old.driver.desk)
+      × ((new.driver.told ≡ old.driver.told) × (new.driver.announced ≡ old.driver.announced))
   pub places_stay : (new.driver.free ≡ old.driver.free) × (new.driver.free_lines ≡ old.driver.free_lines)
   pub stays : new.kept ≡ record old.kept { aside = new.kept.aside }
   pub line_stays : new.line ≡ old.line
@@ -28,9 +31,16 @@ pub record Fetches (old new : Standing) : Type 0 where
 pub record TakesAside (old new : Kept) : Type 0 where
   pub acts : List Act
   pub goes : KeptGoes old new acts
-  pub adds : (waiting : List Urc) (b : Beginning) (l : LineView) (d : DriverView) (past : List Act) → AreOnce b (seen_by l (end_of d) new) → FitsWith b (seen_by l (end_of d) old) (KeptFits b l d old) past → Adds old new waiting 0 acts
+  pub adds : (waiting : List Urc) (b : Beginning) (l : LineView) (d : DriverView) (past : List Act)
+      → AreOnce b (seen_by l (end_of d) new) → FitsWith b (seen_by l (end_of d) old) (KeptFits b l d old) past
+      → Adds old new waiting 0 acts
   pub moves : list_any is_more acts ≡ true
-  pub stays : new ≡ record old { core = new.core; aside = None; unplaced = new.unplaced; unannounced = new.unannounced }
+  pub stays : new ≡ record old {
+    core = new.core;
+    aside = None;
+    unplaced = new.unplaced;
+    unannounced = new.unannounced;
+  }
 
 -- where there is one
 abbrev pub TakesIf : (moved : Bool) → (old new : Kept) → Type 0

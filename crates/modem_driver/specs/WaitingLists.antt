@@ -12,14 +12,18 @@ pub record WaitingLists : Type 0 where
   pub lines : List Urc
   pub room : ℕ
 
--- an act puts what it tells and announces behind the others, where there is room: for 128 outcomes, and for as many lines as
--- room was made for
+-- an act puts what it tells and announces behind the others, where there is room: for 128 outcomes, and for
+-- as many lines as room was made for
 pub record Puts (old new : WaitingLists) (a : Act) : Type 0 where
-  pub outcomes : length old.outcomes + length (outcomes_told (a ∷ [])) ≤ 128 → new.outcomes ≡ old.outcomes ++ outcomes_told (a ∷ [])
-  pub lines : length (lines_heard (a ∷ [])) ≤ old.room → map heard_as new.lines ≡ map heard_as old.lines ++ lines_heard (a ∷ [])
+  pub outcomes : length old.outcomes + length (outcomes_told (a ∷ [])) ≤ 128
+      → new.outcomes ≡ old.outcomes ++ outcomes_told (a ∷ [])
+  pub lines : length (lines_heard (a ∷ [])) ≤ old.room
+      → map heard_as new.lines ≡ map heard_as old.lines ++ lines_heard (a ∷ [])
   pub room : old.room ≤ new.room + length (lines_heard (a ∷ []))
 
 -- and so do acts
 pub record Keeps (old new : WaitingLists) (acts : List Act) : Type 0 where
-  pub outcomes : length old.outcomes + length (outcomes_told acts) ≤ 128 → new.outcomes ≡ old.outcomes ++ outcomes_told acts
-  pub lines : length (lines_heard acts) ≤ old.room → map heard_as new.lines ≡ map heard_as old.lines ++ lines_heard acts
+  pub outcomes : length old.outcomes + length (outcomes_told acts) ≤ 128
+      → new.outcomes ≡ old.outcomes ++ outcomes_told acts
+  pub lines : length (lines_heard acts) ≤ old.room
+      → map heard_as new.lines ≡ map heard_as old.lines ++ lines_heard acts

@@ -8,7 +8,7 @@ ghost use Rattle.mux_station.specs.Tables.{ready, held_up};
 ghost use Rattle.modem_driver.specs.Lanes.{turned};
 ghost use Rattle.modem_driver.specs.Cores.{lane_at};
 ghost use Rattle.modem_history.specs.declared.act.Act.TheVariants as act;
-ghost use Rattle.modem_driver.specs.Holding.{acts_due, due_in, Flows, HasNoRoom, NeverDue, Turns, CannotTurn};
+ghost use Rattle.modem_driver.specs.Holding.{acts_due, due_in, Flows, HasNoRoom, NeverDue, TurnsFlow, CannotTurn};
 ghost use Rattle.modem_driver.specs.declared.error.CoreError.TheVariants as CoreError;
 
 use crate::act_list::ActList;
@@ -25,7 +25,8 @@ impl Core {
     /// asked to stop sending on it, and below 128 to go on, by an MSC (27.010, 5.4.6.3.7). Refusals: 3
     /// NoRoom in the control queue; 1 NoMemory. Both change nothing.
     pub fn backlog(&mut self, dlci: Dlci, lines: usize) -> Result<Vec<Act>, CoreError>
-        ensures past { IfOk result (λ acts. Flows self.old self.new dlci.number lines (map act_of acts.items)) }
+        ensures past { IfOk result (λ acts.
+            Flows self.old self.new dlci.number lines (map act_of acts.items)) }
         ensures acts { IfOk result (λ acts. map act_of acts.items
             ≡ acts_due dlci.number (due_in self.old dlci.number lines)) }
         ensures err { OnErr result (self.new ≡ self.old) }
@@ -40,7 +41,7 @@ impl Core {
     }
 
     /// Whether a backlog of the connection may call for anything: it is open, and the line isn't lost.
-    pub(crate) fn minds(&self, dlci: Dlci) -> bool
+    pub(crate) fn checks(&self, dlci: Dlci) -> bool
         ensures { result ≡ false → NeverDue self.now dlci.number }
     {
         !self.lost && self.is_open(dlci)
@@ -78,7 +79,8 @@ impl Core {
         requires not_zero { (dlci.number == 0) ≡ false }
         requires opened { is_opened (channel_at self.old.station dlci.number).state ≡ true }
         requires held { (lane_at self.old dlci.number).held ≡ go }
-        ensures past { IfOk result (λ acts. Turns self.old self.new dlci.number go (map act_of acts.items)) }
+        ensures past { IfOk result (λ acts.
+            TurnsFlow self.old self.new dlci.number go (map act_of acts.items)) }
         ensures acts { IfOk result (λ acts. map act_of acts.items ≡ acts_due dlci.number (Some go)) }
         ensures err { OnErr result (self.new ≡ self.old) }
         ensures no_room { result ≡ Err CoreError.NoRoom → CannotTurn self.old dlci.number go }

@@ -69,7 +69,7 @@ fn new_lanes(alloc: Global) -> Result<Vec<Lane>, AllocError>
 impl Core {
     /// A driver with nothing open that listens to these kinds. N1 is how many octets of information a
     /// frame may have. Refusals: 2 BadN1 where it isn't 31 to 32767, checked first; 1 NoMemory.
-    #[tactic(auto, using(crate::proofs::CoreBegins::new_fits, crate::proofs::CoreHolds::nothing_held))]
+    #[tactic(auto, using(crate::proofs::cores::NewCore::new_fits, crate::proofs::holds::OtherCalls::nothing_held))]
     pub fn new(alloc: Global, n1: u16, kinds: &[UrcKind]) -> Result<Core, CoreError>
         ensures ok { IfOk result (λ c. c ≡ new_core n1 kinds.now) }
         ensures past { IfOk result (λ c. Fits c []) }
@@ -112,7 +112,7 @@ impl Core {
 
     /// The line is lost: every request in hand is told so, and nothing is sent any more. Refusal: 1
     /// NoMemory, which changes nothing.
-    #[tactic(auto, using(crate::proofs::CoreLosses::lost_handles))]
+    #[tactic(auto, using(crate::proofs::cores::LineLoss::lost_handles))]
     pub fn lost(&mut self) -> Result<Vec<Act>, CoreError>
         ensures past { IfOk result (λ acts. Handles self.old self.new Lost (map act_of acts.items)) }
         ensures holds { IfOk result (λ acts. KeepsHeld self.old self.new Lost (map act_of acts.items)) }

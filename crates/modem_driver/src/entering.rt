@@ -5,11 +5,11 @@ ghost use Rattle.serial_line.specs.Counts.{one_more};
 ghost use Rattle.modem_history.specs.Entering.{IsEntry, Entered};
 ghost use Rattle.modem_driver.specs.SessionStates.{line_by};
 ghost use Rattle.modem_driver.specs.Entries.{
-  answer_of,
+  entry_answer,
   answer_by,
   entry_begun,
-  octets_in,
-  GoesOn,
+  octet_in,
+  EntryGoesOn,
   Fails,
   SeesCode,
 };
@@ -81,7 +81,8 @@ impl Entry {
     /// One call on the line: the final code, if it came.
     fn go_on<L: SerialLine>(&mut self, line: &mut L) -> Result<Option<Final>, LineFault>
         requires { self.old.written ≤ 10 }
-        ensures goes { IfOk result (λ code. GoesOn (line_by L.received L.sent L.calls L.failures line.old)
+        ensures goes { IfOk result (λ code.
+            EntryGoesOn (line_by L.received L.sent L.calls L.failures line.old)
             (line_by L.received L.sent L.calls L.failures line.new) self.old self.new code) }
         ensures fails { OnErr result (Fails (line_by L.received L.sent L.calls L.failures line.old)
             (line_by L.received L.sent L.calls L.failures line.new) self.old) }
@@ -96,7 +97,7 @@ impl Entry {
     /// Offers the line the rest of the text.
     fn write<L: SerialLine>(&mut self, line: &mut L) -> Result<(), LineFault>
         requires { self.old.written < 10 }
-        ensures goes { OnOk result (GoesOn (line_by L.received L.sent L.calls L.failures line.old)
+        ensures goes { OnOk result (EntryGoesOn (line_by L.received L.sent L.calls L.failures line.old)
             (line_by L.received L.sent L.calls L.failures line.new) self.old self.new None) }
         ensures fails { OnErr result (Fails (line_by L.received L.sent L.calls L.failures line.old)
             (line_by L.received L.sent L.calls L.failures line.new) self.old) }
@@ -108,7 +109,8 @@ impl Entry {
     /// Reads an octet, if there is one, and says the final code that it ends.
     fn read<L: SerialLine>(&mut self, line: &mut L) -> Result<Option<Final>, LineFault>
         requires { self.old.written ≡ 10 }
-        ensures goes { IfOk result (λ code. GoesOn (line_by L.received L.sent L.calls L.failures line.old)
+        ensures goes { IfOk result (λ code.
+            EntryGoesOn (line_by L.received L.sent L.calls L.failures line.old)
             (line_by L.received L.sent L.calls L.failures line.new) self.old self.new code) }
         ensures fails { OnErr result (Fails (line_by L.received L.sent L.calls L.failures line.old)
             (line_by L.received L.sent L.calls L.failures line.new) self.old) }
@@ -122,7 +124,7 @@ impl Entry {
 
 /// The next octet of the line, if there is one.
 fn next_octet<L: SerialLine>(line: &mut L) -> Result<Option<u8>, LineFault>
-    ensures came { IfOk result (λ octet. L.received line.new ≡ L.received line.old ++ octets_in octet) }
+    ensures came { IfOk result (λ octet. L.received line.new ≡ L.received line.old ++ octet_in octet) }
     ensures none_came { OnErr result (L.received line.new ≡ L.received line.old) }
     ensures none_went { L.sent line.new ≡ L.sent line.old }
     ensures counted { L.calls line.new ≡ one_more (L.calls line.old) }
@@ -154,8 +156,9 @@ fn see(reader: &mut LineReader, octet: u8) -> Option<Final>
 pub fn enter<L: SerialLine>(line: &mut L, turns: u32) -> Result<(), EntryError>
     ensures entered { OnOk result (IsEntry turns (line_by L.received L.sent L.calls L.failures line.old)
         (line_by L.received L.sent L.calls L.failures line.new) Entered) }
-    ensures not_entered { IfErr result (λ why. IsEntry turns (line_by L.received L.sent L.calls L.failures line.old)
-        (line_by L.received L.sent L.calls L.failures line.new) (answer_of why)) }
+    ensures not_entered { IfErr result (λ why.
+        IsEntry turns (line_by L.received L.sent L.calls L.failures line.old)
+        (line_by L.received L.sent L.calls L.failures line.new) (entry_answer why)) }
 {
     let mut entry = Entry::new();
     for _ in 0..turns {
@@ -171,7 +174,7 @@ pub fn enter<L: SerialLine>(line: &mut L, turns: u32) -> Result<(), EntryError>
 /// What the final code says of the entry.
 fn said_by(code: Final) -> Result<(), EntryError>
     ensures entered { OnOk result (answer_by code ≡ Entered) }
-    ensures not_entered { IfErr result (λ why. answer_by code ≡ answer_of why) }
+    ensures not_entered { IfErr result (λ why. answer_by code ≡ entry_answer why) }
 {
     match code {
         Final::Good => Ok(()),

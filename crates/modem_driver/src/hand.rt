@@ -20,13 +20,13 @@ pub(crate) struct Hand {
 impl Model for Hand {
     ghost use Rattle.std.specs.Prelude.{List};
     ghost use Rattle.modem_desk.specs.declared.request.Request.{Request};
-    ghost use Rattle.modem_driver.specs.Hands.{HasRoom};
+    ghost use Rattle.modem_driver.specs.Hands.{HandHasRoom};
 
     ghost Value = { List Request };
 
     ghost view = { λ h. h.requests.items };
 
-    ghost invariant = { λ h. HasRoom h.requests };
+    ghost invariant = { λ h. HandHasRoom h.requests };
 }
 
 /// Whether it is a Stop.

@@ -1,20 +1,21 @@
 //! Laws of replays, the headline, and ends of a session.
-ghost use Rattle.std.specs.Prelude.{◌≡◌, ℕ, true, false, List};
+ghost use Rattle.std.specs.Prelude.{◌≡◌, ℕ, true, false, List, []};
 ghost use Rattle.std.specs.List.{list_all, list_any};
 ghost use Rattle.modem_driver.specs.EndingRows.{ends_in, going_rows, stopped_rows, AreNoEndings, IsNoGoing, IsRightEnding, StaysEnded};
 ghost use Rattle.modem_driver.specs.Headline.{IsHeadline, Run};
 ghost use Rattle.modem_driver.specs.HeadlineRows.{AreRight, AreWrong, IsOtherOrder, right_places, wrong_places};
 ghost use Rattle.modem_driver.specs.Replays.{AreFull, Brought, Replays};
-ghost use Rattle.modem_driver.specs.ReplayRows.{NoReplay, NoReplayOfAny, frame_invented, full_frames, half_frames, lost_by_itself, one_request, request_dropped, two_requests};
-ghost use Rattle.modem_driver.specs.Room.{EachBeginsEmpty, FitsEmpty};
+ghost use Rattle.modem_driver.specs.ReplayRows.{NoReplay, NoReplayOfAny, WantsRoom, busy_again, busy_at_first, frame_invented, full_frames, full_queue, half_frames, lost_by_itself, one_request, request_dropped, test_comes, two_requests, while_opening};
+ghost use Rattle.modem_driver.specs.Room.{EachBeginsEmpty, FindsRoom, FitsEmpty, NeverWantsRoom};
 ghost use Rattle.modem_driver.specs.declared.event.Event.{Event};
 ghost use Rattle.modem_history.specs.Acts.{Act};
 
 /// The requests taken, frames got, ticks and losses of a replay are those that its events bring, in their order, and no
 /// others. So no replay loses the line by itself, gets a frame of which no octet came, or drops a request. Of each command
 /// all data frames but the last have N1 octets of information: a command of 41 octets leaves in frames of 31 and 10, not
-/// of 20 and 21, where N1 is 31. Each call begins where no control frame waits: so nothing is refused for want of room.
-#[tactic(auto, using(crate::proofs::Brought::brought, crate::proofs::Brought::no_loss, crate::proofs::Brought::no_invention, crate::proofs::Brought::no_request_dropped, crate::proofs::FullFrames::full, crate::proofs::FullFrames::no_halves, crate::proofs::Emptied::begin_empty, crate::proofs::Emptied::fits_empty))]
+/// of 20 and 21, where N1 is 31. Each call begins where no control frame waits, and then all fits: so no request is told
+/// Busy for want of room, no frame that comes is refused for it, and a tick leaves no connection out.
+#[tactic(auto, using(crate::proofs::replays::FirstActs::brought, crate::proofs::replays::FirstActs::no_loss, crate::proofs::replays::FirstActs::no_invention, crate::proofs::replays::FirstActs::no_request_dropped, crate::proofs::replays::FullFrames::full, crate::proofs::replays::FullFrames::no_halves, crate::proofs::replays::EmptyQueues::begin_empty, crate::proofs::replays::EmptyQueues::fits_empty, crate::proofs::replays::RoomInReplays::never_wants_room, crate::proofs::replays::RoomInReplays::busy_wanted, crate::proofs::replays::RoomInReplays::busy_under_way, crate::proofs::replays::RoomInReplays::place_wanted))]
 pub fn replays()
     ensures brought { (n1 : ℕ) (events : List Event) (acts : List Act)
         → Replays n1 events acts → Brought n1 events acts }
@@ -27,6 +28,10 @@ pub fn replays()
     ensures no_halves { NoReplayOfAny half_frames }
     ensures room { (n1 : ℕ) (events : List Event) (acts : List Act) → EachBeginsEmpty n1 events acts }
     ensures fits { (n1 : ℕ) → FitsEmpty n1 }
+    ensures never { (n1 : ℕ) (events : List Event) (acts : List Act) → NeverWantsRoom n1 events acts }
+    ensures busy { WantsRoom [] busy_at_first }
+    ensures busy_again { FindsRoom 31 while_opening busy_again }
+    ensures place { WantsRoom full_queue test_comes }
 {}
 
 /// The headline, of every run whose desk was settled with the driver's end that `finish` gave and with all its callers:
@@ -34,7 +39,7 @@ pub fn replays()
 /// each once, each caller's in its submitted order, none after a close; each answered command has just its solicited lines
 /// up to its final code; each subscribed unsolicited line was announced once; and every caller holds each of its outcomes
 /// once. A request that has two places, or none, is refused, and so are commands that left in another order.
-#[tactic(auto, using(crate::proofs::Headlines::headline, crate::proofs::HeadlineRowFacts::all_right_places, crate::proofs::HeadlineRowFacts::all_wrong_places, crate::proofs::HeadlineRowFacts::other_order))]
+#[tactic(auto, using(crate::proofs::law_proofs::Headlines::headline, crate::proofs::rows::HeadlineRowFacts::all_right_places, crate::proofs::rows::HeadlineRowFacts::all_wrong_places, crate::proofs::rows::HeadlineRowFacts::other_order))]
 pub fn headlines()
     ensures headline { (run : Run) → IsHeadline run }
     ensures right { AreRight right_places }
@@ -46,7 +51,7 @@ pub fn headlines()
 /// a loss of the line ends nor a probe that is given up; the session has ended where all frames sent are written and all
 /// outcomes told, and stays so; where an octet or an outcome waits it hasn't. A session whose Stop has ended doesn't go on as if
 /// none had.
-#[tactic(auto, using(crate::proofs::EndingRowFacts::all_stopped, crate::proofs::EndingRowFacts::none_stopped, crate::proofs::EndingRowFacts::right_ending, crate::proofs::EndingRowFacts::stays_ended, crate::proofs::EndingRowFacts::no_endings, crate::proofs::EndingRowFacts::no_going))]
+#[tactic(auto, using(crate::proofs::rows::EndingRowFacts::all_stopped, crate::proofs::rows::EndingRowFacts::none_stopped, crate::proofs::rows::EndingRowFacts::right_ending, crate::proofs::rows::EndingRowFacts::stays_ended, crate::proofs::rows::EndingRowFacts::no_endings, crate::proofs::rows::EndingRowFacts::no_going))]
 pub fn endings()
     ensures stopped { list_all ends_in stopped_rows ≡ true }
     ensures going { list_any ends_in going_rows ≡ false }

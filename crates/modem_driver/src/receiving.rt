@@ -5,12 +5,12 @@ ghost use Rattle.mux_frame.specs.Spelling.{most_info};
 ghost use Rattle.mux_station.specs.Acts as station_acts;
 ghost use Rattle.mux_station.specs.Fitting as station_fits;
 ghost use Rattle.mux_station.specs.Noting.{says_open, noted_of};
-ghost use Rattle.mux_station.specs.Sending.{got_refused, seen};
+ghost use Rattle.mux_station.specs.Sending.{got_refused, station_view};
 ghost use Rattle.mux_station.specs.Stations.{setting_of, seen_in};
 ghost use Rattle.mux_station.specs.Written.{is_data_frame};
 ghost use Rattle.modem_history.specs.Acts.{act_of, Got};
-ghost use Rattle.modem_driver.specs.Running.{IsIdle};
-ghost use Rattle.modem_driver.specs.Cores.{Handles, is_opened, lane_at};
+ghost use Rattle.modem_driver.specs.Running.{CoreIsIdle};
+ghost use Rattle.modem_driver.specs.Cores.{Handles, shows_opened, lane_at};
 ghost use Rattle.modem_driver.specs.Lanes.{new_lane};
 ghost use Rattle.modem_history.specs.Calls.{first_on};
 ghost use Rattle.modem_history.specs.Requests.{commands_on, without_first};
@@ -64,7 +64,8 @@ fn push_sent(station: &mut Station, place: usize, spare: Vec<u8>, acts: &mut Act
     requires empty { spare.items ≡ [] }
     requires room { 0 < acts.old.left }
     ensures station { station.new ≡ station.old }
-    ensures acts { map act_of acts.new.acts ≡ map act_of acts.old.acts ++ sent_in (vec_capacity spare) (slice_get station.old.queue place) }
+    ensures acts { map act_of acts.new.acts
+        ≡ map act_of acts.old.acts ++ sent_in (vec_capacity spare) (slice_get station.old.queue place) }
     ensures left { acts.old.left ≤ acts.new.left + 1 }
 {
     if let Some(frame) = station.queued(place) {
@@ -74,7 +75,7 @@ fn push_sent(station: &mut Station, place: usize, spare: Vec<u8>, acts: &mut Act
 
 /// Whether it was Opened and isn't any more.
 fn has_ended(before: ChannelState, now: ChannelState) -> bool
-    ensures { result ≡ is_opened before && not (is_opened now) }
+    ensures { result ≡ shows_opened before && not (shows_opened now) }
 {
     matches!(before, ChannelState::Opened) && !matches!(now, ChannelState::Opened)
 }
@@ -90,9 +91,11 @@ fn opens(noted: Noted) -> bool
 fn take_data(station: &mut Station, frame: FrameView<'_>) -> Noted
     requires short { length frame.info.now ≤ most_info station.old.n1 frame.kind }
     requires is_data { is_data_frame (frame_of frame) ≡ true }
-    ensures past { station_fits.Handles station.old station.new (station_acts.Got (frame_of frame.entry)) }
-    ensures noted { (past : List station_acts.Act) → station_fits.Fits station.old past
-        → result ≡ noted_of station.old.role (seen (setting_of station.old) past) (frame_of frame.entry) }
+    ensures past { station_fits.StationHandles station.old station.new
+        (station_acts.Got (frame_of frame.entry)) }
+    ensures noted { (past : List station_acts.Act) → station_fits.StationFits station.old past
+        → result ≡ noted_of station.old.role (station_view (setting_of station.old) past)
+        (frame_of frame.entry) }
     ensures taken { None ≡ got_refused (setting_of station.old) (seen_in station.old) (frame_of frame.entry) }
 {
     let Ok(noted) = station.got(frame) else {
@@ -126,7 +129,8 @@ impl Core {
     /// A frame after a loss of the line: it came, and nothing else.
     fn got_lost(&self, frame: FrameView<'_>) -> Result<Vec<Act>, CoreError>
         requires { self.now.lost ≡ true }
-        ensures past { IfOk result (λ acts. Handles self.now self.now (Got (frame_of frame.entry)) (map act_of acts.items)) }
+        ensures past { IfOk result (λ acts.
+            Handles self.now self.now (Got (frame_of frame.entry)) (map act_of acts.items)) }
         ensures holds { IfOk result (λ acts.
             KeepsHeld self.now self.now (Got (frame_of frame.entry)) (map act_of acts.items)) }
         ensures room { OnOk result (HasRoom self.now (Got (frame_of frame.entry)) true) }
@@ -138,19 +142,21 @@ impl Core {
     }
 
     /// A frame that isn't data of an open connection.
-    fn got_word(&mut self, frame: FrameView<'_>) -> Result<Vec<Act>, CoreError>
+    fn got_other(&mut self, frame: FrameView<'_>) -> Result<Vec<Act>, CoreError>
         requires short { length frame.info.now ≤ most_info self.old.station.n1 frame.kind }
         requires live { self.old.lost ≡ false }
         requires no_data { reads_data self.old (frame_of frame) ≡ false }
-        ensures past { IfOk result (λ acts. Handles self.old self.new (Got (frame_of frame.entry)) (map act_of acts.items)) }
+        ensures past { IfOk result (λ acts.
+            Handles self.old self.new (Got (frame_of frame.entry)) (map act_of acts.items)) }
         ensures holds { IfOk result (λ acts.
             KeepsHeld self.old self.new (Got (frame_of frame.entry)) (map act_of acts.items)) }
         ensures room { OnOk result (HasRoom self.old (Got (frame_of frame.entry)) true) }
-        ensures no_room { result ≡ Err CoreError.NoRoom → HasRoom self.old (Got (frame_of frame.entry)) false }
+        ensures no_room { result ≡ Err CoreError.NoRoom
+            → HasRoom self.old (Got (frame_of frame.entry)) false }
         ensures good_n1 { result ≢ Err CoreError.BadN1 }
         ensures err { OnErr result (self.new ≡ self.old) }
         ensures n1 { self.new.station.n1 ≡ self.old.station.n1 }
-        ensures never_full { result ≡ Err CoreError.NoRoom → ¬ IsIdle self.old }
+        ensures never_full { result ≡ Err CoreError.NoRoom → ¬ CoreIsIdle self.old }
     {
         let mut acts = ActList::with_room(self.alloc, 2 + self.hand.len())?;
         let spare = Vec::with_capacity(self.alloc, frame.info.len().max(MSC_LEN))?;
@@ -176,7 +182,8 @@ impl Core {
 
     /// Reads the information of a frame on a fork of what is kept of its connection.
     fn read(&self, frame: FrameView<'_>) -> Result<(Lane, Vec<Act>), CoreError>
-        ensures read { IfOk result (λ p. ReadsApart self.now (frame_of frame.entry) p.0 (map act_of p.1.items)) }
+        ensures read { IfOk result (λ p.
+            ReadsApart self.now (frame_of frame.entry) p.0 (map act_of p.1.items)) }
         ensures held { IfOk result (λ p. p.0.held ≡ (lane_at self.now (frame_of frame.entry).dlci).held) }
         ensures no_memory { OnErr result (result ≡ Err CoreError.NoMemory) }
     {
@@ -254,7 +261,8 @@ impl Core {
         requires short { length frame.info.now ≤ most_info self.old.station.n1 frame.kind }
         requires live { self.old.lost ≡ false }
         requires is_data { reads_data self.old (frame_of frame) ≡ true }
-        ensures past { IfOk result (λ acts. Handles self.old self.new (Got (frame_of frame.entry)) (map act_of acts.items)) }
+        ensures past { IfOk result (λ acts.
+            Handles self.old self.new (Got (frame_of frame.entry)) (map act_of acts.items)) }
         ensures holds { IfOk result (λ acts.
             KeepsHeld self.old self.new (Got (frame_of frame.entry)) (map act_of acts.items)) }
         ensures room { OnOk result (HasRoom self.old (Got (frame_of frame.entry)) true) }
@@ -283,28 +291,30 @@ impl Core {
     /// calls for fit into the control queue; 1 NoMemory.
     pub fn got(&mut self, frame: FrameView<'_>) -> Result<Vec<Act>, CoreError>
         requires { length frame.info.now ≤ most_info self.old.station.n1 frame.kind }
-        ensures past { IfOk result (λ acts. Handles self.old self.new (Got (frame_of frame.entry)) (map act_of acts.items)) }
+        ensures past { IfOk result (λ acts.
+            Handles self.old self.new (Got (frame_of frame.entry)) (map act_of acts.items)) }
         ensures holds { IfOk result (λ acts.
             KeepsHeld self.old self.new (Got (frame_of frame.entry)) (map act_of acts.items)) }
         ensures room { OnOk result (HasRoom self.old (Got (frame_of frame.entry)) true) }
-        ensures no_room { result ≡ Err CoreError.NoRoom → HasRoom self.old (Got (frame_of frame.entry)) false }
+        ensures no_room { result ≡ Err CoreError.NoRoom
+            → HasRoom self.old (Got (frame_of frame.entry)) false }
         ensures good_n1 { result ≢ Err CoreError.BadN1 }
         ensures err { OnErr result (self.new ≡ self.old) }
         ensures n1 { self.new.station.n1 ≡ self.old.station.n1 }
-        ensures never_full { result ≡ Err CoreError.NoRoom → ¬ IsIdle self.old }
+        ensures never_full { result ≡ Err CoreError.NoRoom → ¬ CoreIsIdle self.old }
     {
         if self.lost {
             self.got_lost(frame)
         } else if self.is_data(frame) {
             self.got_data(frame)
         } else {
-            self.got_word(frame)
+            self.got_other(frame)
         }
     }
 }
 
 fn is_opened(state: ChannelState) -> bool
-    ensures { result ≡ is_opened state }
+    ensures { result ≡ shows_opened state }
 {
     matches!(state, ChannelState::Opened)
 }
@@ -342,7 +352,7 @@ fn command_at(hand: &[Request], dlci: Dlci) -> Option<usize>
 }
 
 /// Takes the first command on this connection out.
-#[tactic(auto, using(crate::proofs::LeftOut::left_at, crate::proofs::LeftOut::none_left))]
+#[tactic(auto, using(crate::proofs::lists::FirstLeftOut::left_at, crate::proofs::lists::FirstLeftOut::none_left))]
 fn remove_command(hand: &mut Hand, dlci: Dlci)
     ensures { hand.new ≡ without_first (commands_on dlci.number) hand.old }
 {

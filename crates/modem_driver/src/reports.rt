@@ -2,7 +2,7 @@
 ghost use Rattle.std.specs.Prelude.{◌≡◌, ◌↔◌, ℕ, List, [], ◌∷◌, ◌++◌, true, map, Some, None, OnOk, IfOk};
 ghost use Rattle.std.specs.List.{Contains};
 ghost use Rattle.modem_history.specs.Acts.{act_of};
-ghost use Rattle.modem_driver.specs.Reports.{done_by, heard_by, said_as, Says, ReadsOctet, ReadsAll};
+ghost use Rattle.modem_driver.specs.Reports.{done_by, heard_by, said_as, ReportSays, ReadsOctet, ReadsAll};
 
 use at_text::{AnswerLines, LineReader, Seen, Text, UrcKind, Window};
 use modem_desk::{Answer, Outcome, Urc};
@@ -40,7 +40,9 @@ fn hear(
     line: &[u8],
     acts: &mut Vec<Act>,
 ) -> Result<(), AllocError>
-    ensures { OnOk result (Says kinds.now reading (λ listens. heard_by listens reading.dlci.number kind line.now) (map act_of acts.old.items) (map act_of acts.new.items)) }
+    ensures { OnOk result (ReportSays kinds.now reading
+        (λ listens. heard_by listens reading.dlci.number kind line.now)
+        (map act_of acts.old.items) (map act_of acts.new.items)) }
 {
     if !is_heard(kinds, kind) {
         return Ok(());
@@ -56,7 +58,8 @@ fn hear(
 
 /// The answer is whole: its request is told so.
 fn tell_done(reading: Reading, lines: AnswerLines, acts: &mut Vec<Act>) -> Result<(), AllocError>
-    ensures { OnOk result (map act_of acts.new.items ≡ map act_of acts.old.items ++ done_by reading.owner lines) }
+    ensures { OnOk result (map act_of acts.new.items
+        ≡ map act_of acts.old.items ++ done_by reading.owner lines) }
 {
     let Some(owner) = reading.owner else {
         return Ok(());
@@ -77,7 +80,9 @@ fn say(
     seen: Seen,
     acts: &mut Vec<Act>,
 ) -> Result<(), AllocError>
-    ensures { OnOk result (Says kinds.now reading (λ listens. said_as listens reading.dlci.number reading.owner line.now seen) (map act_of acts.old.items) (map act_of acts.new.items)) }
+    ensures { OnOk result (ReportSays kinds.now reading
+        (λ listens. said_as listens reading.dlci.number reading.owner line.now seen)
+        (map act_of acts.old.items) (map act_of acts.new.items)) }
 {
     match seen {
         Seen::Echo | Seen::Kept => Ok(()),
@@ -96,7 +101,15 @@ fn read_octet(
     window: &mut Window,
     acts: &mut Vec<Act>,
 ) -> Result<(), AllocError>
-    ensures { OnOk result (ReadsOctet kinds.now reading octet (record { kept = reader.old; window = window.old; acts = map act_of acts.old.items }) (record { kept = reader.new; window = window.new; acts = map act_of acts.new.items })) }
+    ensures { OnOk result (ReadsOctet kinds.now reading octet (record {
+      kept = reader.old;
+      window = window.old;
+      acts = map act_of acts.old.items;
+    }) (record {
+      kept = reader.new;
+      window = window.new;
+      acts = map act_of acts.new.items;
+    })) }
 {
     let Some(line) = reader.push(octet) else {
         return Ok(());
@@ -107,7 +120,7 @@ fn read_octet(
     say(reading, kinds, line.text, seen, acts)
 }
 
-#[tactic(auto, using(crate::proofs::Reporting::reads_first))]
+#[tactic(auto, using(crate::proofs::lines::ReportedLines::reads_first))]
 /// Reads the octets that came.
 pub(crate) fn read_octets(
     reading: Reading,
@@ -117,7 +130,15 @@ pub(crate) fn read_octets(
     window: &mut Window,
     acts: &mut Vec<Act>,
 ) -> Result<(), AllocError>
-    ensures { OnOk result (ReadsAll kinds.now reading octets.now (record { kept = reader.old; window = window.old; acts = map act_of acts.old.items }) (record { kept = reader.new; window = window.new; acts = map act_of acts.new.items })) }
+    ensures { OnOk result (ReadsAll kinds.now reading octets.now (record {
+      kept = reader.old;
+      window = window.old;
+      acts = map act_of acts.old.items;
+    }) (record {
+      kept = reader.new;
+      window = window.new;
+      acts = map act_of acts.new.items;
+    })) }
 {
     for octet in octets {
         read_octet(reading, kinds, *octet, reader, window, acts)?;

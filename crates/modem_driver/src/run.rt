@@ -5,7 +5,7 @@ ghost use Rattle.mux_frame.specs.Spelling.{most_info};
 ghost use Rattle.modem_history.specs.Acts.{act_of, Took, Got, Tick, Lost};
 ghost use Rattle.modem_history.specs.Wholes.{UsesOnce};
 ghost use Rattle.modem_driver.specs.Cores.{Core as Kept};
-ghost use Rattle.modem_driver.specs.Running.{SendsAll, Steps, HandlesEvent, Hears, IsIdle, running_of};
+ghost use Rattle.modem_driver.specs.Running.{SendsAll, Steps, HandlesEvent, Hears, CoreIsIdle, running_of};
 ghost use Rattle.modem_driver.specs.Replays.{Replays, requests};
 ghost use Rattle.modem_driver.specs.declared.error.CoreError.TheVariants as CoreError;
 
@@ -31,8 +31,9 @@ pub(crate) const KINDS: [UrcKind; 7] = [
 
 /// Everything goes out that may.
 fn send_all(alloc: Global, core: &mut Core, acts: &mut Vec<Act>) -> Result<(), AllocError>
-    ensures sends { OnOk result (SendsAll core.old core.new (map act_of acts.old.items) (map act_of acts.new.items)) }
-    ensures idle { OnOk result (IsIdle core.new) }
+    ensures sends { OnOk result (SendsAll core.old core.new (map act_of acts.old.items)
+        (map act_of acts.new.items)) }
+    ensures idle { OnOk result (CoreIsIdle core.new) }
     ensures n1 { OnOk result (core.new.station.n1 ≡ core.old.station.n1) }
 {
     while let Some(outgoing) = core.outgoing() {
@@ -54,8 +55,9 @@ struct Running {
 impl Running {
     /// The acts of a call, and then everything goes out that may.
     fn go_on(&mut self, mut acts: Vec<Act>) -> Result<(), AllocError>
-        ensures sends { OnOk result (SendsAll self.old.core self.new.core (map act_of self.old.acts.items ++ map act_of acts.items) (map act_of self.new.acts.items)) }
-        ensures idle { OnOk result (IsIdle self.new.core) }
+        ensures sends { OnOk result (SendsAll self.old.core self.new.core
+            (map act_of self.old.acts.items ++ map act_of acts.items) (map act_of self.new.acts.items)) }
+        ensures idle { OnOk result (CoreIsIdle self.new.core) }
         ensures n1 { OnOk result (self.new.core.station.n1 ≡ self.old.core.station.n1) }
     {
         self.acts.append(&mut acts)?;
@@ -63,10 +65,10 @@ impl Running {
     }
 
     /// A request comes.
-    #[tactic(auto, using(crate::proofs::CallPieces::steps))]
+    #[tactic(auto, using(crate::proofs::replays::Pieces::steps))]
     fn took(&mut self, request: Request) -> Result<(), CoreError>
         ensures steps { OnOk result (Steps (Took request) (running_of self.old) (running_of self.new)) }
-        ensures idle { OnOk result (IsIdle self.new.core) }
+        ensures idle { OnOk result (CoreIsIdle self.new.core) }
         ensures n1 { OnOk result (self.new.core.station.n1 ≡ self.old.core.station.n1) }
         ensures no_room { result ≢ Err CoreError.NoRoom }
         ensures n1_good { result ≢ Err CoreError.BadN1 }
@@ -78,12 +80,13 @@ impl Running {
     }
 
     /// A frame comes.
-    #[tactic(auto, using(crate::proofs::CallPieces::steps))]
+    #[tactic(auto, using(crate::proofs::replays::Pieces::steps))]
     fn got(&mut self, frame: FrameView<'_>) -> Result<(), CoreError>
-        requires idle { IsIdle self.old.core }
+        requires idle { CoreIsIdle self.old.core }
         requires short { length frame.info.now ≤ most_info self.old.core.station.n1 frame.kind }
-        ensures steps { OnOk result (Steps (Got (frame_of frame.entry)) (running_of self.old) (running_of self.new)) }
-        ensures idle { OnOk result (IsIdle self.new.core) }
+        ensures steps { OnOk result (Steps (Got (frame_of frame.entry)) (running_of self.old)
+            (running_of self.new)) }
+        ensures idle { OnOk result (CoreIsIdle self.new.core) }
         ensures n1 { OnOk result (self.new.core.station.n1 ≡ self.old.core.station.n1) }
         ensures no_room { result ≢ Err CoreError.NoRoom }
         ensures n1_good { result ≢ Err CoreError.BadN1 }
@@ -94,10 +97,10 @@ impl Running {
     }
 
     /// A tick comes.
-    #[tactic(auto, using(crate::proofs::CallPieces::steps))]
+    #[tactic(auto, using(crate::proofs::replays::Pieces::steps))]
     fn tick(&mut self) -> Result<(), CoreError>
         ensures steps { OnOk result (Steps Tick (running_of self.old) (running_of self.new)) }
-        ensures idle { OnOk result (IsIdle self.new.core) }
+        ensures idle { OnOk result (CoreIsIdle self.new.core) }
         ensures n1 { OnOk result (self.new.core.station.n1 ≡ self.old.core.station.n1) }
         ensures no_room { result ≢ Err CoreError.NoRoom }
         ensures n1_good { result ≢ Err CoreError.BadN1 }
@@ -108,10 +111,10 @@ impl Running {
     }
 
     /// The line is lost.
-    #[tactic(auto, using(crate::proofs::CallPieces::steps))]
+    #[tactic(auto, using(crate::proofs::replays::Pieces::steps))]
     fn lost(&mut self) -> Result<(), CoreError>
         ensures steps { OnOk result (Steps Lost (running_of self.old) (running_of self.new)) }
-        ensures idle { OnOk result (IsIdle self.new.core) }
+        ensures idle { OnOk result (CoreIsIdle self.new.core) }
         ensures n1 { OnOk result (self.new.core.station.n1 ≡ self.old.core.station.n1) }
         ensures no_room { result ≢ Err CoreError.NoRoom }
         ensures n1_good { result ≢ Err CoreError.BadN1 }
@@ -125,10 +128,11 @@ impl Running {
 /// The frames at hand come, one after the other.
 fn handle_frames(deframer: &mut Deframer, running: &mut Running) -> Result<(), CoreError>
     requires n1 { running.old.core.station.n1 ≡ deframer.old.n1 }
-    requires idle { IsIdle running.old.core }
+    requires idle { CoreIsIdle running.old.core }
     ensures all { OnOk result (deframer.new.next ≡ None) }
-    ensures come { OnOk result (Hears [] deframer.old deframer.new (running_of running.old) (running_of running.new)) }
-    ensures idle { OnOk result (IsIdle running.new.core) }
+    ensures come { OnOk result (Hears [] deframer.old deframer.new (running_of running.old)
+        (running_of running.new)) }
+    ensures idle { OnOk result (CoreIsIdle running.new.core) }
     ensures n1 { OnOk result (running.new.core.station.n1 ≡ deframer.new.n1) }
     ensures no_room { result ≢ Err CoreError.NoRoom }
     ensures n1_good { result ≢ Err CoreError.BadN1 }
@@ -143,11 +147,12 @@ fn handle_frames(deframer: &mut Deframer, running: &mut Running) -> Result<(), C
 /// Octets come, as much at a time as there is room for.
 fn hear(deframer: &mut Deframer, running: &mut Running, octets: &[u8]) -> Result<(), CoreError>
     requires n1 { running.old.core.station.n1 ≡ deframer.old.n1 }
-    requires idle { IsIdle running.old.core }
+    requires idle { CoreIsIdle running.old.core }
     requires none { deframer.old.next ≡ None }
     ensures all { OnOk result (deframer.new.next ≡ None) }
-    ensures come { OnOk result (Hears octets.now deframer.old deframer.new (running_of running.old) (running_of running.new)) }
-    ensures idle { OnOk result (IsIdle running.new.core) }
+    ensures come { OnOk result (Hears octets.now deframer.old deframer.new (running_of running.old)
+        (running_of running.new)) }
+    ensures idle { OnOk result (CoreIsIdle running.new.core) }
     ensures n1 { OnOk result (running.new.core.station.n1 ≡ deframer.new.n1) }
     ensures no_room { result ≢ Err CoreError.NoRoom }
     ensures n1_good { result ≢ Err CoreError.BadN1 }
@@ -164,11 +169,12 @@ fn hear(deframer: &mut Deframer, running: &mut Running, octets: &[u8]) -> Result
 /// What one event comes to.
 fn handle(deframer: &mut Deframer, running: &mut Running, event: &Event) -> Result<(), CoreError>
     requires n1 { running.old.core.station.n1 ≡ deframer.old.n1 }
-    requires idle { IsIdle running.old.core }
+    requires idle { CoreIsIdle running.old.core }
     requires none { deframer.old.next ≡ None }
     ensures all { OnOk result (deframer.new.next ≡ None) }
-    ensures come { OnOk result (HandlesEvent event.now deframer.old deframer.new (running_of running.old) (running_of running.new)) }
-    ensures idle { OnOk result (IsIdle running.new.core) }
+    ensures come { OnOk result (HandlesEvent event.now deframer.old deframer.new (running_of running.old)
+        (running_of running.new)) }
+    ensures idle { OnOk result (CoreIsIdle running.new.core) }
     ensures n1 { OnOk result (running.new.core.station.n1 ≡ deframer.new.n1) }
     ensures no_room { result ≢ Err CoreError.NoRoom }
     ensures n1_good { result ≢ Err CoreError.BadN1 }
@@ -187,7 +193,8 @@ fn handle(deframer: &mut Deframer, running: &mut Running, event: &Event) -> Resu
 pub fn replay(alloc: Global, n1: u16, events: &[Event]) -> Result<Vec<Act>, CoreError>
     ensures bad_n1 { IsErrOf result CoreError.BadN1 ↔ ((n1 < 31) ⊎ (32767 < n1)) }
     ensures others { result ≢ Err CoreError.NoRoom }
-    ensures ok { IfOk result (λ acts. UsesOnce (requests events.now) → Replays n1 events.now (map act_of acts.items)) }
+    ensures ok { IfOk result (λ acts.
+        UsesOnce (requests events.now) → Replays n1 events.now (map act_of acts.items)) }
 {
     let mut deframer = match Deframer::new(alloc, n1) {
         Ok(deframer) => deframer,

@@ -1,13 +1,13 @@
 //! Frames that go out.
 ghost use Rattle.std.specs.Prelude.{◌≡◌, ◌≤◌, length, option_map, IfNone, IfSome};
-ghost use Rattle.modem_driver.specs.Running.{IsIdle};
+ghost use Rattle.modem_driver.specs.Running.{CoreIsIdle};
 ghost use Rattle.std.specs.Option.{option_copied};
 ghost use Rattle.std.specs.Borrow.{sem};
 ghost use Rattle.std.specs.Io.BufRead.{Rests};
 ghost use Rattle.mux_station.specs.GivenFrames.{outgoing_of};
 ghost use Rattle.modem_history.specs.Information.{line_of};
 ghost use Rattle.modem_history.specs.Calls.{first_on};
-ghost use Rattle.modem_driver.specs.CoreGoing.{begun_by, begun_next, gone_on, GoesOut, GoesOn, LeavesLess, SendsTruly};
+ghost use Rattle.modem_driver.specs.CoreGoing.{begun_by, begun_next, gone_on, GoesOut, CoreGoesOn, LeavesLess, SendsTruly};
 ghost use Rattle.modem_driver.specs.Holding.{KeepsHeldOut};
 
 use crate::driver::Core;
@@ -36,7 +36,8 @@ impl Core {
 
     /// The first command on the connection is whole: its window begins, where none is open.
     fn begin_first(&mut self, dlci: Dlci)
-        ensures { self.new ≡ begun_by self.old dlci.number (option_map line_of (first_on dlci.number self.old.hand)) }
+        ensures { self.new
+            ≡ begun_by self.old dlci.number (option_map line_of (first_on dlci.number self.old.hand)) }
     {
         let Some(line) = first_line(self.hand.as_slice(), dlci) else {
             return;
@@ -66,11 +67,11 @@ impl Core {
     /// no memory.
     pub fn outgoing(&mut self) -> Option<Outgoing<'_>>
         ensures frame { GoesOut self.old (option_map outgoing_of result) }
-        ensures past { GoesOn self.old }
+        ensures past { CoreGoesOn self.old }
         ensures holds { KeepsHeldOut self.old }
         ensures less { LeavesLess self.old (option_map outgoing_of result) }
         ensures short { IfSome result (λ o. length o.frame.info.now ≤ 1024) }
-        ensures idle { IfNone result (IsIdle self.old) }
+        ensures idle { IfNone result (CoreIsIdle self.old) }
         ensures still { IfNone result (gone_on self.old ≡ self.old) }
         ensures* after { sem 𝓛 (Rests the_row self.entry (λ new. new ≡ gone_on self.old)) }
     {

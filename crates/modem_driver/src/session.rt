@@ -2,19 +2,17 @@
 ghost use Rattle.std.specs.Prelude.{◌≡◌, ◌≢◌, ◌↔◌, ◌<◌, ◌⊎◌, [], true, Contains, IfOk, IfErr, IsErr, IsErrOf, OnOk, OnErr};
 ghost use Rattle.std.specs.Borrow.{Lends, sem};
 ghost use Rattle.modem_history.specs.Sessions.{LineView};
-ghost use Rattle.modem_driver.specs.SessionStates.{beginning_of, has_lost_line, new_kept, line_by, end_of, FitsAll, KeptFits, Ends, KeepsItsEnd, Ticks};
+ghost use Rattle.modem_driver.specs.SessionStates.{beginning_of, has_lost_line, new_kept, line_by, end_of, FitsAll, KeptFits, SessionEnds, KeepsItsEnd, Ticks};
 ghost use Rattle.at_text.specs.declared.unsolicited.UrcKind.{UrcKind};
 ghost use Rattle.modem_driver.specs.declared.session.error.SessionError.TheVariants as why;
 ghost use Rattle.modem_driver.specs.declared.session.error.SessionFault.TheVariants as fault;
 
+mod checking;
 mod ending;
 mod error;
 mod exchanging;
 mod getting;
-mod input;
 mod kept;
-mod minding;
-mod output;
 mod placing;
 mod polling;
 mod sending;
@@ -150,7 +148,7 @@ impl<L: SerialLine, R: Wait + Drop> Session<L, R> {
     /// The line, the desk's end and what is left, without taking memory: the requests that were taken
     /// and not told, in order, and then the one kept aside; and all outcomes and lines that wait.
     pub fn finish(self) -> Finished<L>
-        ensures left { Ends (line_by L.received L.sent L.calls L.failures) self (record {
+        ensures left { SessionEnds (line_by L.received L.sent L.calls L.failures) self (record {
           line = line_by L.received L.sent L.calls L.failures result.line;
           desk = end_of result.driver;
           in_hand = result.in_hand.items;

@@ -1,6 +1,6 @@
 //! What the requests in hand are told.
 ghost use Rattle.std.specs.Prelude.{◌≡◌, ◌≤◌, ◌++◌, length};
-ghost use Rattle.modem_driver.specs.Telling.{why_shut, probe_happened, stop_ended, told_by, told_to, left_by};
+ghost use Rattle.modem_driver.specs.Telling.{why_shut, probe_happened, stop_outcome, told_by, told_to, left_by};
 ghost use Rattle.modem_driver.specs.Cores.{state_shown};
 
 use crate::act_list::ActList;
@@ -46,7 +46,7 @@ impl Happened {
     }
 
     fn stop_ended(self) -> Answer
-        ensures { result ≡ stop_ended self }
+        ensures { result ≡ stop_outcome self }
     {
         match self {
             Happened::Lost => Answer::LineLost,
@@ -103,7 +103,7 @@ pub(crate) fn told_by(
 }
 
 /// Tells each request in hand what it is told by now, in the order taken. The others stay.
-#[tactic(auto, using(crate::proofs::Tells::begins, crate::proofs::Tells::waits_on, crate::proofs::Tells::told_on))]
+#[tactic(auto, using(crate::proofs::requests::ToldRequests::begins, crate::proofs::requests::ToldRequests::waits_on, crate::proofs::requests::ToldRequests::told_on))]
 pub(crate) fn tell(
     hand: &mut Hand,
     station: &Station,
@@ -113,8 +113,10 @@ pub(crate) fn tell(
     acts: &mut ActList,
 )
     requires { length hand.old ≤ acts.old.left }
-    ensures hand { hand.new ≡ left_by (told_by happened ended (λ d. state_shown station.now lost d)) hand.old }
-    ensures acts { acts.new.acts ≡ acts.old.acts ++ told_to (told_by happened ended (λ d. state_shown station.now lost d)) hand.old }
+    ensures hand { hand.new
+        ≡ left_by (told_by happened ended (λ d. state_shown station.now lost d)) hand.old }
+    ensures acts { acts.new.acts
+        ≡ acts.old.acts ++ told_to (told_by happened ended (λ d. state_shown station.now lost d)) hand.old }
 {
     let mut place = 0;
     while place < hand.len() {

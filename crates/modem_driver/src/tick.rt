@@ -109,7 +109,8 @@ fn bare_at(alloc: Global, station: &mut Station, place: usize) -> Option<FrameBu
 fn push_queued(alloc: Global, station: &mut Station, place: usize, most: usize, acts: &mut ActList)
     requires { most ≤ acts.old.left }
     ensures same { station.new ≡ station.old }
-    ensures acts { map act_of acts.new.acts ≡ map act_of acts.old.acts ++ map Sent (queued_from station.old.queue place most) }
+    ensures acts { map act_of acts.new.acts
+        ≡ map act_of acts.old.acts ++ map Sent (queued_from station.old.queue place most) }
     ensures left { acts.old.left ≤ acts.new.left + most }
 {
     let count = most.min(station.queue_len().saturating_sub(place));

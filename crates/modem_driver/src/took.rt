@@ -6,8 +6,8 @@ ghost use Rattle.mux_station.specs.Stations.{setting_of};
 ghost use Rattle.mux_station.specs.declared.role.Role.TheVariants.{Initiator};
 ghost use Rattle.modem_history.specs.Information.{command_on, line_in, line_of};
 ghost use Rattle.modem_history.specs.Requests.{commands_on};
-ghost use Rattle.modem_driver.specs.Offers.{refused_command, TakesLine, OffersFirst};
-ghost use Rattle.modem_driver.specs.Refusals.{answer_of, told_act};
+ghost use Rattle.modem_driver.specs.Offers.{refused_command, TakesLine, OffersFirstCommand};
+ghost use Rattle.modem_driver.specs.Refusals.{refusal_answer, told_act};
 ghost use Rattle.modem_driver.specs.Telling.{told_by, told_to, left_by};
 ghost use Rattle.modem_driver.specs.Cores.{state_shown, Handles};
 ghost use Rattle.modem_driver.specs.Holding.{KeepsHeld};
@@ -30,7 +30,7 @@ use std::alloc::Global;
 
 /// What a request is told that the station refuses: want of room is Busy.
 fn answer_of(why: StationError) -> Answer
-    ensures { result ≡ answer_of why }
+    ensures { result ≡ refusal_answer why }
 {
     match why {
         StationError::NotOpen => Answer::NotOpen,
@@ -91,10 +91,12 @@ impl Core {
     /// A request is taken: it is told at once, or is in hand from then on. After a loss of the line it is
     /// told LineLost, and Busy while 128 requests are in hand. Refusal: 1 NoMemory, which changes
     /// nothing and hands the request back.
-    #[tactic(auto, using(crate::proofs::CoreHolds::keeps_took))]
+    #[tactic(auto, using(crate::proofs::holds::OtherCalls::keeps_took))]
     pub fn took(&mut self, request: Request) -> Result<Vec<Act>, (CoreError, Request)>
-        ensures past { IfOk result (λ acts. Handles self.old self.new (Took request) (map act_of acts.items)) }
-        ensures holds { IfOk result (λ acts. KeepsHeld self.old self.new (Took request) (map act_of acts.items)) }
+        ensures past { IfOk result (λ acts.
+            Handles self.old self.new (Took request) (map act_of acts.items)) }
+        ensures holds { IfOk result (λ acts.
+            KeepsHeld self.old self.new (Took request) (map act_of acts.items)) }
         ensures err { OnErr result (self.new ≡ self.old) }
         ensures no_memory { IfErr result (λ e. e.0 ≡ CoreError.NoMemory) }
         ensures back { IfErr result (λ e. e.1 ≡ request) }
@@ -133,7 +135,8 @@ impl Core {
         requires ask { request.ask ≡ Ask.OpenChannel dlci }
         requires live { self.old.lost ≡ false }
         requires few { length self.old.hand < 128 }
-        ensures past { IfOk result (λ acts. Handles self.old self.new (Took request) (map act_of acts.items)) }
+        ensures past { IfOk result (λ acts.
+            Handles self.old self.new (Took request) (map act_of acts.items)) }
         ensures lanes { self.new.lanes ≡ self.old.lanes }
         ensures err { OnErr result (self.new ≡ self.old) }
         ensures no_memory { IfErr result (λ e. e.0 ≡ CoreError.NoMemory) }
@@ -154,7 +157,8 @@ impl Core {
         requires ask { request.ask ≡ Ask.CloseChannel dlci }
         requires live { self.old.lost ≡ false }
         requires few { length self.old.hand < 128 }
-        ensures past { IfOk result (λ acts. Handles self.old self.new (Took request) (map act_of acts.items)) }
+        ensures past { IfOk result (λ acts.
+            Handles self.old self.new (Took request) (map act_of acts.items)) }
         ensures lanes { self.new.lanes ≡ self.old.lanes }
         ensures err { OnErr result (self.new ≡ self.old) }
         ensures no_memory { IfErr result (λ e. e.0 ≡ CoreError.NoMemory) }
@@ -181,7 +185,8 @@ impl Core {
         requires ask { request.ask ≡ Ask.Command dlci (line_of request) }
         requires live { self.old.lost ≡ false }
         requires few { length self.old.hand < 128 }
-        ensures past { IfOk result (λ acts. Handles self.old self.new (Took request) (map act_of acts.items)) }
+        ensures past { IfOk result (λ acts.
+            Handles self.old self.new (Took request) (map act_of acts.items)) }
         ensures lanes { self.new.lanes ≡ self.old.lanes }
         ensures err { OnErr result (self.new ≡ self.old) }
         ensures no_memory { IfErr result (λ e. e.0 ≡ CoreError.NoMemory) }
@@ -208,7 +213,8 @@ impl Core {
         requires ask { request.ask ≡ Ask.Probe echo }
         requires live { self.old.lost ≡ false }
         requires few { length self.old.hand < 128 }
-        ensures past { IfOk result (λ acts. Handles self.old self.new (Took request) (map act_of acts.items)) }
+        ensures past { IfOk result (λ acts.
+            Handles self.old self.new (Took request) (map act_of acts.items)) }
         ensures lanes { self.new.lanes ≡ self.old.lanes }
         ensures err { OnErr result (self.new ≡ self.old) }
         ensures no_memory { IfErr result (λ e. e.0 ≡ CoreError.NoMemory) }
@@ -233,7 +239,8 @@ impl Core {
         requires ask { request.ask ≡ Ask.Stop }
         requires live { self.old.lost ≡ false }
         requires few { length self.old.hand < 128 }
-        ensures past { IfOk result (λ acts. Handles self.old self.new (Took request) (map act_of acts.items)) }
+        ensures past { IfOk result (λ acts.
+            Handles self.old self.new (Took request) (map act_of acts.items)) }
         ensures lanes { self.new.lanes ≡ self.old.lanes }
         ensures err { OnErr result (self.new ≡ self.old) }
         ensures no_memory { IfErr result (λ e. e.0 ≡ CoreError.NoMemory) }
@@ -256,18 +263,19 @@ impl Core {
 }
 
 /// Tells those in hand what the station's states say by now. `ended` says whether 0 is Opened no more.
-#[tactic(auto, using(crate::proofs::CoreAsks::few_left))]
+#[tactic(auto, using(crate::proofs::requests::OneFrameRequests::few_left))]
 fn tell_taken(hand: &mut Hand, station: &Station, ended: bool, acts: &mut ActList)
     requires { length hand.old ≤ acts.old.left }
     ensures hand { hand.new ≡ left_by (told_by happened.Took ended (state_shown station.now false)) hand.old }
     ensures few { length hand.new ≤ length hand.old }
-    ensures acts { acts.new.acts ≡ acts.old.acts ++ told_to (told_by happened.Took ended (state_shown station.now false)) hand.old }
+    ensures acts { acts.new.acts
+        ≡ acts.old.acts ++ told_to (told_by happened.Took ended (state_shown station.now false)) hand.old }
 {
     tell(hand, station, false, Happened::Took, ended, acts);
 }
 
 /// The text of a command, without its CR.
-#[tactic(auto, using(crate::proofs::CoreCommands::short_line))]
+#[tactic(auto, using(crate::proofs::requests::CommandRequests::short_line))]
 fn text_of(ask: &Ask) -> &[u8]
     ensures text { result.now ≡ line_in ask.now }
     ensures short { length result.now ≤ 256 }
@@ -279,7 +287,7 @@ fn text_of(ask: &Ask) -> &[u8]
 }
 
 /// What a command is told at once by how its connection stands.
-#[tactic(auto, using(crate::proofs::CoreCommands::shown_refused))]
+#[tactic(auto, using(crate::proofs::requests::CommandRequests::shown_refused))]
 fn refuses_command(station: &Station, dlci: Dlci) -> Option<Answer>
     ensures { result ≡ refused_command station.now dlci.number }
 {
@@ -311,7 +319,7 @@ fn is_command_on(dlci: Dlci, ask: &Ask) -> bool
 }
 
 /// Offers a command's text and its CR.
-#[tactic(auto, using(crate::proofs::CoreCommands::both_setting, crate::proofs::CoreCommands::line_taken))]
+#[tactic(auto, using(crate::proofs::requests::CommandRequests::both_setting, crate::proofs::requests::CommandRequests::line_taken))]
 fn offer_line(station: &mut Station, dlci: Dlci, text: &[u8])
     ensures setting { setting_of station.new ≡ setting_of station.old }
     ensures takes { TakesLine station.old station.new dlci.number text.now }
@@ -322,7 +330,7 @@ fn offer_line(station: &mut Station, dlci: Dlci, text: &[u8])
 
 /// The same, where no other command of the connection is in hand.
 fn offer_first(hand: &Hand, station: &mut Station, dlci: Dlci, text: &[u8])
-    ensures { OffersFirst hand.now station.old station.new dlci.number text.now }
+    ensures { OffersFirstCommand hand.now station.old station.new dlci.number text.now }
 {
     if !has_command(hand, dlci) {
         offer_line(station, dlci, text);

@@ -8,9 +8,9 @@ use Rattle.modem_desk.specs.declared.request.Answer.TheVariants.{Opened}
 use Rattle.modem_desk.specs.declared.request.Urc.{Urc}
 use Rattle.modem_history.specs.Acts.{Act, Held, Freed, Given, after}
 use Rattle.modem_history.specs.Sessions.{SessionView, backlog_in}
-use Rattle.modem_history.specs.Turns.{HoldsByBacklog, may_act}
-use Rattle.modem_history.specs.Rows.{two, takes, tells, sends, comes, msc, opening_one}
-use Rattle.modem_history.specs.SessionRows.{settled, ring, line_on_one}
+use Rattle.modem_history.specs.Turns.{HoldsByBacklog, HoldsWhereRoom, may_act}
+use Rattle.modem_history.specs.Rows.{two, takes, tells, sends, comes, msc_command, opening_one}
+use Rattle.modem_history.specs.SessionRows.{beginning, settled, ring, line_on_one}
 
 -- ## Lines that wait
 
@@ -49,42 +49,77 @@ abbrev pub IsHeldWrong : BacklogRow → Type 0
 IsHeldWrong row = ¬ HoldsByBacklog row.view (after [] row.acts)
 
 abbrev pub waiting : List Urc → List Act → BacklogRow
-waiting lines acts = record { view = record (settled [] [] [] [] [] [] []) { unannounced = lines }; acts = acts }
+waiting lines acts = record {
+  view = record (settled [] [] [] [] [] [] []) { unannounced = lines };
+  acts = acts;
+}
 
 -- 1 and 2 are open, and none is held; 1 is; 2 is; and 1 was, and is so no more
 abbrev pub opening_two : List Act
 opening_two =
-    opening_one ++ takes 4 (OpenChannel two) ∷ sends Sabm 2 [] ∷ Given ∷ comes Ua 2 [] ∷ sends Uih 0 (msc 2 0x8d) ∷
+    opening_one ++ takes 4 (OpenChannel two) ∷ sends Sabm 2 [] ∷ Given ∷ comes Ua 2 [] ∷
+    sends Uih 0 (msc_command 2 0x8d) ∷
     tells 4 Opened ∷ Given ∷ []
 
 abbrev pub holding_one : List Act
-holding_one = opening_two ++ Held 1 ∷ sends Uih 0 (msc 1 0x8f) ∷ Given ∷ []
+holding_one = opening_two ++ Held 1 ∷ sends Uih 0 (msc_command 1 0x8f) ∷ Given ∷ []
 
 abbrev pub holding_two : List Act
-holding_two = opening_two ++ Held 2 ∷ sends Uih 0 (msc 2 0x8f) ∷ Given ∷ []
+holding_two = opening_two ++ Held 2 ∷ sends Uih 0 (msc_command 2 0x8f) ∷ Given ∷ []
 
 abbrev pub freeing_one : List Act
-freeing_one = holding_one ++ Freed 1 ∷ sends Uih 0 (msc 1 0x8d) ∷ Given ∷ []
+freeing_one = holding_one ++ Freed 1 ∷ sends Uih 0 (msc_command 1 0x8d) ∷ Given ∷ []
 
--- between 128 and 255 a connection is held or isn't, as it was; each is held by its own lines, and while it is open alone
+-- between 128 and 255 a connection is held or isn't, as it was; each is held by its own lines, and while it
+-- is open alone
 abbrev pub rightly_held : List BacklogRow
 rightly_held =
     waiting [] opening_two ∷ waiting (replicate 255 ring) opening_two ∷
-    waiting (replicate 255 ring ++ replicate 255 ring_on_two) opening_two ∷ waiting (replicate 256 ring) holding_one ∷
-    waiting (replicate 255 ring_on_two ++ replicate 256 ring) holding_one ∷ waiting (replicate 200 ring) holding_one ∷
+    waiting (replicate 255 ring ++ replicate 255 ring_on_two) opening_two ∷
+    waiting (replicate 256 ring) holding_one ∷
+    waiting (replicate 255 ring_on_two ++ replicate 256 ring) holding_one ∷
+    waiting (replicate 200 ring) holding_one ∷
     waiting (replicate 200 ring) freeing_one ∷ waiting (replicate 128 ring) holding_one ∷
     waiting (replicate 128 ring) freeing_one ∷ waiting (replicate 127 ring) freeing_one ∷
     waiting (replicate 256 ring_on_two) opening_one ∷ []
 
--- 256 wait and it isn't held, or not any more; it isn't, and another is; lines of two kinds are 256; 127, 1 and none wait,
--- and it is held; those that wait are another's
+-- 256 wait and it isn't held, or not any more; it isn't, and another is; lines of two kinds are 256; 127, 1
+-- and none wait, and it is held; those that wait are another's
 abbrev pub wrongly_held : List BacklogRow
 wrongly_held =
     waiting (replicate 256 ring) opening_two ∷ waiting (replicate 256 ring) freeing_one ∷
-    waiting (replicate 256 ring) holding_two ∷ waiting (replicate 255 ring ++ replicate 256 ring_on_two) holding_one ∷
+    waiting (replicate 256 ring) holding_two ∷
+    waiting (replicate 255 ring ++ replicate 256 ring_on_two) holding_one ∷
     waiting (replicate 128 ring ++ replicate 128 (line_on_one Creg (codes "+CREG: 1"))) opening_two ∷
     waiting (replicate 127 ring) holding_one ∷ waiting (ring ∷ []) holding_one ∷ waiting [] holding_one ∷
     waiting (replicate 127 ring ++ replicate 200 ring_on_two) holding_one ∷ []
+
+-- ## A full control queue
+
+abbrev pub IsHeldOrFull : BacklogRow → Type 0
+IsHeldOrFull row = HoldsWhereRoom beginning row.view (after [] row.acts)
+
+abbrev pub IsNeither : BacklogRow → Type 0
+IsNeither row = ¬ HoldsWhereRoom beginning row.view (after [] row.acts)
+
+-- 4110 octets wait in the control queue, and a frame with this information
+abbrev pub queued : List ℕ → List Act
+queued info = replicate 411 (sends Uih 0 (msc_command 2 0x8d)) ++ sends Uih 0 info ∷ []
+
+-- with 4118 octets an MSC has no place (with it they were 4128, and there is room for 4096 and 31): 1 can't
+-- be held, 1 can't be freed; and each is held by its backlog, whether or not there is a place
+abbrev pub held_or_full : List BacklogRow
+held_or_full =
+    waiting (replicate 256 ring) (opening_two ++ queued (0x63 ∷ 1 ∷ [])) ∷
+    waiting [] (holding_one ++ queued (0x63 ∷ 1 ∷ [])) ∷
+    waiting [] opening_two ∷ waiting (replicate 256 ring) (holding_one ++ queued (0x63 ∷ 1 ∷ [])) ∷ []
+
+-- with 4117 it has, and with none
+abbrev pub neither_held_nor_full : List BacklogRow
+neither_held_nor_full =
+    waiting (replicate 256 ring) (opening_two ++ queued (0x63 ∷ [])) ∷
+    waiting [] (holding_one ++ queued (0x63 ∷ [])) ∷
+    waiting (replicate 256 ring) opening_two ∷ waiting [] holding_one ∷ []
 
 -- ## Acts
 

@@ -10,7 +10,7 @@ use Rattle.modem_desk.specs.declared.request.Answer.TheVariants.{Opened, Shut, P
 use Rattle.modem_history.specs.Acts.{Act, after, Sent, Heard, Tick, Lost, Held, Freed, Given}
 use Rattle.modem_history.specs.Calls.{replaying}
 use Rattle.modem_history.specs.Wholes.{IsOwnAnswer}
-use Rattle.modem_history.specs.Rows.{asks, zero, one, two, takes, tells, tells_done, sends, comes, msc, msc_response, fcoff, fcoff_response, fcon, fcon_response, cld, cld_response, cr, framed, opening_zero, opening_one}
+use Rattle.modem_history.specs.Rows.{asks, zero, one, two, takes, tells, tells_done, sends, comes, msc_command, msc_response, fcoff_command, fcoff_response, fcon_command, fcon_response, cld_command, cld_response, cr, framed, opening_zero, opening_one}
 
 -- the answer is told to the request taken after
 abbrev pub answer_to_the_second : List Act
@@ -35,15 +35,15 @@ second_while_under_way =
 -- two commands in one frame
 abbrev pub second_in_the_same_frame : List Act
 second_in_the_same_frame =
-    opening_one ++ comes Uih 0 fcoff ∷ sends Uih 0 fcoff_response ∷ Given ∷
-    takes 3 (Command one (codes "AT")) ∷ takes 4 (Command one (codes "ATX")) ∷ comes Uih 0 fcon ∷
+    opening_one ++ comes Uih 0 fcoff_command ∷ sends Uih 0 fcoff_response ∷ Given ∷
+    takes 3 (Command one (codes "AT")) ∷ takes 4 (Command one (codes "ATX")) ∷ comes Uih 0 fcon_command ∷
     sends Uih 0 fcon_response ∷ Given ∷ sends Uih 1 (codes "AT" ++ cr ++ codes "ATX" ++ cr) ∷ []
 
 -- the second command first
 abbrev pub swapped_commands : List Act
 swapped_commands =
-    opening_one ++ comes Uih 0 fcoff ∷ sends Uih 0 fcoff_response ∷ Given ∷
-    takes 3 (Command one (codes "AT")) ∷ takes 4 (Command one (codes "ATX")) ∷ comes Uih 0 fcon ∷
+    opening_one ++ comes Uih 0 fcoff_command ∷ sends Uih 0 fcoff_response ∷ Given ∷
+    takes 3 (Command one (codes "AT")) ∷ takes 4 (Command one (codes "ATX")) ∷ comes Uih 0 fcon_command ∷
     sends Uih 0 fcon_response ∷ Given ∷ sends Uih 1 (codes "ATX" ++ cr) ∷ []
 
 -- the rest of a queue after DISC
@@ -58,14 +58,14 @@ abbrev pub command_again_after_reopening : List Act
 command_again_after_reopening =
     opening_one ++ takes 3 (Command one (codes "AT+CSQ")) ∷ sends Uih 1 (codes "AT+CSQ" ++ cr) ∷
     takes 4 (CloseChannel one) ∷ sends Disc 1 [] ∷ tells 3 Closed ∷ Given ∷ comes Ua 1 [] ∷ tells 4 Shut ∷
-    takes 5 (OpenChannel one) ∷ sends Sabm 1 [] ∷ Given ∷ comes Ua 1 [] ∷ sends Uih 0 (msc 1 0x8d) ∷
+    takes 5 (OpenChannel one) ∷ sends Sabm 1 [] ∷ Given ∷ comes Ua 1 [] ∷ sends Uih 0 (msc_command 1 0x8d) ∷
     tells 5 Opened ∷ Given ∷ sends Uih 1 (codes "AT+CSQ" ++ cr) ∷ []
 
 -- a command after CLD
 abbrev pub command_after_stop : List Act
 command_after_stop =
-    opening_one ++ comes Uih 0 fcoff ∷ sends Uih 0 fcoff_response ∷ Given ∷
-    takes 3 (Command one (codes "AT+CSQ")) ∷ takes 4 Stop ∷ sends Uih 0 cld ∷ tells 3 Closed ∷ Given ∷
+    opening_one ++ comes Uih 0 fcoff_command ∷ sends Uih 0 fcoff_response ∷ Given ∷
+    takes 3 (Command one (codes "AT+CSQ")) ∷ takes 4 Stop ∷ sends Uih 0 cld_command ∷ tells 3 Closed ∷ Given ∷
     sends Uih 1 (codes "AT+CSQ" ++ cr) ∷ []
 
 -- an unsolicited line in the answer
@@ -93,7 +93,7 @@ abbrev pub late_ua_opens : List Act
 late_ua_opens =
     opening_zero ++ takes 2 (OpenChannel one) ∷ sends Sabm 1 [] ∷ Given ∷ Tick ∷ sends Sabm 1 [] ∷ Given ∷
     Tick ∷ sends Sabm 1 [] ∷ Given ∷ Tick ∷ sends Sabm 1 [] ∷ Given ∷ Tick ∷ sends Disc 1 [] ∷
-    tells 2 NoAnswer ∷ Given ∷ comes Ua 1 [] ∷ sends Uih 0 (msc 1 0x8d) ∷ []
+    tells 2 NoAnswer ∷ Given ∷ comes Ua 1 [] ∷ sends Uih 0 (msc_command 1 0x8d) ∷ []
 
 -- data after a late UA
 abbrev pub late_ua_data : List Act
@@ -106,20 +106,20 @@ late_ua_data =
 -- data while FCoff stands
 abbrev pub data_while_stopped_by_all : List Act
 data_while_stopped_by_all =
-    opening_one ++ comes Uih 0 fcoff ∷ sends Uih 0 fcoff_response ∷ Given ∷
+    opening_one ++ comes Uih 0 fcoff_command ∷ sends Uih 0 fcoff_response ∷ Given ∷
     takes 3 (Command one (codes "AT+CSQ")) ∷ sends Uih 1 (codes "AT+CSQ" ++ cr) ∷ []
 
 -- data while MSC with FC 1 stands
 abbrev pub data_while_stopped : List Act
 data_while_stopped =
-    opening_one ++ comes Uih 0 (msc 1 0x8f) ∷ sends Uih 0 (msc_response 1 0x8f) ∷ Given ∷
+    opening_one ++ comes Uih 0 (msc_command 1 0x8f) ∷ sends Uih 0 (msc_response 1 0x8f) ∷ Given ∷
     takes 3 (Command one (codes "AT+CSQ")) ∷ sends Uih 1 (codes "AT+CSQ" ++ cr) ∷ []
 
 -- the rest of a started command while stopped
 abbrev pub rest_while_stopped : List Act
 rest_while_stopped =
     opening_one ++ takes 3 (Command one (codes "AT+CGDCONT=1,\"IP\",\"internet.example\"")) ∷
-    sends Uih 1 (codes "AT+CGDCONT=1,\"IP\",\"internet.exa") ∷ comes Uih 0 (msc 1 0xf) ∷
+    sends Uih 1 (codes "AT+CGDCONT=1,\"IP\",\"internet.exa") ∷ comes Uih 0 (msc_command 1 0xf) ∷
     sends Uih 0 (msc_response 1 0xf) ∷ sends Uih 1 (codes "mple\"" ++ cr) ∷ []
 
 -- an answer whose final code came before the command was wholly sent
@@ -207,13 +207,14 @@ closed_for_lost =
 -- Stopped told where the stop is given up
 abbrev pub stopped_at_a_tick : List Act
 stopped_at_a_tick =
-    opening_one ++ takes 3 Stop ∷ sends Uih 0 cld ∷ Given ∷ Tick ∷ Tick ∷ Tick ∷ Tick ∷ tells 3 Stopped ∷
+    opening_one ++ takes 3 Stop ∷ sends Uih 0 cld_command ∷ Given ∷ Tick ∷ Tick ∷ Tick ∷ Tick ∷
+    tells 3 Stopped ∷
     []
 
 -- Stopped told without its end
 abbrev pub stopped_early : List Act
 stopped_early =
-    opening_one ++ takes 3 Stop ∷ sends Uih 0 cld ∷ Given ∷ comes Uih 0 (msc_response 1 0x8d) ∷
+    opening_one ++ takes 3 Stop ∷ sends Uih 0 cld_command ∷ Given ∷ comes Uih 0 (msc_response 1 0x8d) ∷
     tells 3 Stopped ∷ []
 
 -- Busy told where there is room
@@ -272,7 +273,7 @@ held_before_msc =
 -- FC 1 at a Freed
 abbrev pub freed_with_stop : List Act
 freed_with_stop =
-    opening_one ++ Held 1 ∷ sends Uih 0 (msc 1 0x8f) ∷ Freed 1 ∷ sends Uih 0 (msc 1 0x8f) ∷ []
+    opening_one ++ Held 1 ∷ sends Uih 0 (msc_command 1 0x8f) ∷ Freed 1 ∷ sends Uih 0 (msc_command 1 0x8f) ∷ []
 
 -- an opening is told Refused although nothing but junk came, since its SABM was still owed when that came
 abbrev pub refused_without_answer : List Act
@@ -282,7 +283,7 @@ refused_without_answer =
 -- a stop is told Stopped although no CLD came
 abbrev pub stopped_without_answer : List Act
 stopped_without_answer =
-    opening_one ++ takes 3 Stop ∷ comes Uih 5 [] ∷ sends Uih 0 cld ∷ tells 3 Stopped ∷ []
+    opening_one ++ takes 3 Stop ∷ comes Uih 5 [] ∷ sends Uih 0 cld_command ∷ tells 3 Stopped ∷ []
 
 -- a close is told NoAnswer at the first tick
 abbrev pub shut_without_answer : List Act
@@ -292,12 +293,12 @@ shut_without_answer =
 -- the control channel is held: an MSC for connection 0
 abbrev pub held_zero : List Act
 held_zero =
-    opening_one ++ Held 0 ∷ sends Uih 0 (msc 0 0x8f) ∷ []
+    opening_one ++ Held 0 ∷ sends Uih 0 (msc_command 0 0x8f) ∷ []
 
 -- held twice
 abbrev pub held_twice : List Act
 held_twice =
-    opening_one ++ Held 1 ∷ sends Uih 0 (msc 1 0x8f) ∷ Held 1 ∷ sends Uih 0 (msc 1 0x8f) ∷ []
+    opening_one ++ Held 1 ∷ sends Uih 0 (msc_command 1 0x8f) ∷ Held 1 ∷ sends Uih 0 (msc_command 1 0x8f) ∷ []
 
 -- held and freed while it is shut
 abbrev pub held_shut : List Act
@@ -312,7 +313,7 @@ given_from_nothing =
 -- data leaves ahead of a control frame that waits
 abbrev pub data_overtakes : List Act
 data_overtakes =
-    opening_one ++ comes Uih 0 fcon ∷ sends Uih 0 fcon_response ∷ takes 3 (Command one (codes "AT")) ∷
+    opening_one ++ comes Uih 0 fcon_command ∷ sends Uih 0 fcon_response ∷ takes 3 (Command one (codes "AT")) ∷
     sends Uih 1 (codes "AT" ++ cr) ∷ []
 
 -- a request is taken before the SABM of the one before it is sent
@@ -330,9 +331,10 @@ freed_first = opening_one ++ Freed 1 ∷ []
 -- held, closed and opened anew, and then freed: a close forgets that it was held
 abbrev pub freed_after_reopening : List Act
 freed_after_reopening =
-    opening_one ++ Held 1 ∷ sends Uih 0 (msc 1 0x8f) ∷ Given ∷ takes 3 (CloseChannel one) ∷ sends Disc 1 [] ∷
+    opening_one ++ Held 1 ∷ sends Uih 0 (msc_command 1 0x8f) ∷ Given ∷ takes 3 (CloseChannel one) ∷
+    sends Disc 1 [] ∷
     Given ∷ comes Ua 1 [] ∷ tells 3 Shut ∷ takes 4 (OpenChannel one) ∷ sends Sabm 1 [] ∷ Given ∷
-    comes Ua 1 [] ∷ sends Uih 0 (msc 1 0x8d) ∷ tells 4 Opened ∷ Given ∷ Freed 1 ∷ []
+    comes Ua 1 [] ∷ sends Uih 0 (msc_command 1 0x8d) ∷ tells 4 Opened ∷ Given ∷ Freed 1 ∷ []
 
 -- an answer told before its final code
 abbrev pub told_early : List Act
@@ -355,13 +357,14 @@ data_before_opening =
 abbrev pub answer_of_another_connection : List Act
 answer_of_another_connection =
     opening_one ++ takes 3 (OpenChannel two) ∷ sends Sabm 2 [] ∷ Given ∷ comes Ua 2 [] ∷
-    sends Uih 0 (msc 2 0x8d) ∷ tells 3 Opened ∷ Given ∷ takes 4 (Command one (codes "AT+CSQ")) ∷
+    sends Uih 0 (msc_command 2 0x8d) ∷ tells 3 Opened ∷ Given ∷ takes 4 (Command one (codes "AT+CSQ")) ∷
     sends Uih 1 (codes "AT+CSQ" ++ cr) ∷ comes Uih 2 (framed (codes "OK")) ∷
     tells_done 4 (codes "OK" ∷ []) ∷ []
 
 -- a line of a kind that nobody knows heard as RING
 abbrev pub heard_as_another_kind : List Act
-heard_as_another_kind = opening_one ++ comes Uih 1 (framed (codes "HELLO")) ∷ Heard Ring 1 (codes "HELLO") ∷ []
+heard_as_another_kind =
+    opening_one ++ comes Uih 1 (framed (codes "HELLO")) ∷ Heard Ring 1 (codes "HELLO") ∷ []
 
 -- a line heard on another connection
 abbrev pub heard_elsewhere : List Act
@@ -387,7 +390,7 @@ test_unanswered =
 abbrev pub closed_not_told : List Act
 closed_not_told =
     opening_one ++ takes 3 (Command one (codes "AT+CSQ")) ∷ sends Uih 1 (codes "AT+CSQ" ++ cr) ∷
-    comes Uih 0 cld ∷ sends Uih 0 cld_response ∷ []
+    comes Uih 0 cld_command ∷ sends Uih 0 cld_response ∷ []
 
 -- NoAnswer not told at tick 4
 abbrev pub give_up_not_told : List Act
@@ -427,7 +430,8 @@ two_alike =
 abbrev pub NotItsOwn : Type 0
 NotItsOwn =
     (info : List ℕ) (ls : List AnswerLine)
-    → ¬ IsOwnAnswer (replaying 31) (after [] two_alike) (written Responder Uih 1 info) (asks 4 (Command one (codes "AT"))) ls
+    → ¬ IsOwnAnswer (replaying 31) (after [] two_alike) (written Responder Uih 1 info)
+    (asks 4 (Command one (codes "AT"))) ls
 
 -- some act of each may not stand where it stands
 abbrev pub refused_rows : List (List Act)

@@ -1,4 +1,4 @@
--- Turns that don't mean what they say, whatever they dealt with their line and their desk.
+-- Turns that don't mean what they say, whatever they exchanged with their line and their desk.
 use Rattle.std.specs.Prelude.{ℕ, List, [], ◌∷◌, ◌++◌, Some, None, take, drop, codes, replicate}
 use Rattle.mux_frame.specs.Frames.{Frame}
 use Rattle.mux_frame.specs.declared.frame.Kind.TheVariants.{Sabm, Ua, Uih}
@@ -13,8 +13,8 @@ use Rattle.modem_desk.specs.declared.request.Urc.{Urc}
 use Rattle.modem_history.specs.Acts.{Act, Heard, Tick, Lost, Held, Given}
 use Rattle.modem_history.specs.Sessions.{SessionView}
 use Rattle.modem_history.specs.Turns.{TurnAnswer, Moved, WriterFull, Waiting, Blocked, Idle}
-use Rattle.modem_history.specs.Rows.{one, two, takes, tells, sends, comes, msc, framed, opening_zero, opening_one}
-use Rattle.modem_history.specs.SessionRows.{TurnRow, settled, entry_answer, lf_octet, zero_came, one_came, one_left, sabm_zero, ua_zero, ua_one, ring_one, test_command, first_request, second_request, third_request, fourth_request, opened_zero, opened_both, outcome_of, ring, last_flag}
+use Rattle.modem_history.specs.Rows.{one, two, takes, tells, sends, comes, msc_command, framed, opening_zero, opening_one}
+use Rattle.modem_history.specs.SessionRows.{TurnRow, settled, entry_answer, lf_octet, zero_came, one_came, one_left, sabm_zero, ua_zero, ua_one, ring_one, test_command_info, first_request, second_request, third_request, fourth_request, opened_zero, opened_both, outcome_of, ring, last_flag}
 use Rattle.modem_history.specs.GoodSessions.{left_zero, asked_zero, ring_came, sabm_queued, sabm_half_sent, ua_unfed, ua_at_hand, zero_opened, outcome_waits, request_aside, ring_announced, ring_waits}
 use Rattle.modem_history.specs.GoodTurns.{at_calls, other_told, both_wait, two_lines_wait, both_came}
 
@@ -24,11 +24,23 @@ nothing_but v before says = record { old = v; new = at_calls 41 v; before = befo
 
 -- nothing happens but two calls on the line, and it says that it takes nothing
 abbrev pub offers_in_vain : SessionView → List Act → TurnRow
-offers_in_vain v before = record { old = v; new = at_calls 42 v; before = before; acts = []; says = WriterFull }
+offers_in_vain v before = record {
+  old = v;
+  new = at_calls 42 v;
+  before = before;
+  acts = [];
+  says = WriterFull;
+}
 
 -- by one call on the line the one becomes the other, and nothing happens
 abbrev pub goes_to : (old new : SessionView) → List Act → TurnAnswer → TurnRow
-goes_to old new before says = record { old = old; new = at_calls 41 new; before = before; acts = []; says = says }
+goes_to old new before says = record {
+  old = old;
+  new = at_calls 41 new;
+  before = before;
+  acts = [];
+  says = says;
+}
 
 -- a call on its line failed
 abbrev pub failing : SessionView → SessionView
@@ -36,7 +48,7 @@ failing v = record v { line = record v.line { failures = 1 } }
 
 -- 1 is held, and the MSC that says so left
 abbrev pub held_one : List Act
-held_one = Held 1 ∷ sends Uih 0 (msc 1 0x8f) ∷ Given ∷ []
+held_one = Held 1 ∷ sends Uih 0 (msc_command 1 0x8f) ∷ Given ∷ []
 
 abbrev pub stop_one : List ℕ
 stop_one = 0xF9 ∷ 0x03 ∷ 0xEF ∷ 0x09 ∷ 0xE3 ∷ 0x05 ∷ 0x07 ∷ 0x8F ∷ 0xFB ∷ 0xF9 ∷ []
@@ -44,7 +56,8 @@ stop_one = 0xF9 ∷ 0x03 ∷ 0xEF ∷ 0x09 ∷ 0xE3 ∷ 0x05 ∷ 0x07 ∷ 0x8F �
 -- 0 and 1 are open; these octets came more, and these left; these outcomes were told, and these wait
 abbrev pub with_one : (came left : List ℕ) → (told : List Outcome) → (waits : List Outcome) → SessionView
 with_one came left told waits =
-    record (settled (one_came ++ came) (one_left ++ left) (first_request ∷ second_request ∷ []) told [] [] last_flag) {
+    record (settled (one_came ++ came) (one_left ++ left)
+    (first_request ∷ second_request ∷ []) told [] [] last_flag) {
       unplaced = waits;
     }
 
@@ -72,7 +85,9 @@ idle_with_unfed = nothing_but ua_unfed.view left_zero Idle
 
 -- the first octets of a frame were read and never given to the deframer
 abbrev pub half_unfed : SessionView
-half_unfed = record (settled (lf_octet ++ take 3 ua_zero) sabm_zero (first_request ∷ []) [] [] [] []) { unfed = take 3 ua_zero }
+half_unfed = record (settled (lf_octet ++ take 3 ua_zero) sabm_zero (first_request ∷ []) [] [] [] []) {
+  unfed = take 3 ua_zero;
+}
 
 abbrev pub idle_half_unfed : TurnRow
 idle_half_unfed = nothing_but half_unfed left_zero Idle
@@ -102,7 +117,8 @@ abbrev pub command_stays : List Act
 command_stays = opening_one ++ takes 3 (Command one (codes "AT+CSQ")) ∷ []
 
 abbrev pub idle_with_command : TurnRow
-idle_with_command = nothing_but (asking (third_request ∷ []) (with_one [] [] opened_both [])) command_stays Idle
+idle_with_command =
+    nothing_but (asking (third_request ∷ []) (with_one [] [] opened_both [])) command_stays Idle
 
 -- this turn's read gave octets
 abbrev pub idle_after_read : TurnRow
@@ -130,7 +146,8 @@ idle_though_told = goes_to outcome_waits.view zero_opened.view opening_zero Idle
 
 -- octets were sent
 abbrev pub idle_though_sent : TurnRow
-idle_though_sent = goes_to sabm_half_sent.view (settled lf_octet sabm_zero (first_request ∷ []) [] [] [] []) left_zero Idle
+idle_though_sent =
+    goes_to sabm_half_sent.view (settled lf_octet sabm_zero (first_request ∷ []) [] [] [] []) left_zero Idle
 
 -- a line was announced
 abbrev pub idle_though_announced : TurnRow
@@ -138,11 +155,13 @@ idle_though_announced = goes_to ring_waits.view ring_announced.view ring_came Id
 
 -- the frame that came was thrown away
 abbrev pub idle_with_lost_frame : TurnRow
-idle_with_lost_frame = nothing_but (settled zero_came sabm_zero (first_request ∷ []) [] [] [] last_flag) left_zero Idle
+idle_with_lost_frame =
+    nothing_but (settled zero_came sabm_zero (first_request ∷ []) [] [] [] last_flag) left_zero Idle
 
 -- the request that was kept aside was thrown away
 abbrev pub idle_with_lost_request : TurnRow
-idle_with_lost_request = goes_to request_aside.view (record request_aside.view { aside = None }) opening_zero Idle
+idle_with_lost_request =
+    goes_to request_aside.view (record request_aside.view { aside = None }) opening_zero Idle
 
 -- no line waits, and the connection is still held
 abbrev pub idle_and_still_held : TurnRow
@@ -182,12 +201,20 @@ unfed_grows = record {
 
 -- octets wait, and the line was not called
 abbrev pub full_unoffered : TurnRow
-full_unoffered = record { old = sabm_half_sent.view; new = sabm_half_sent.view; before = left_zero; acts = []; says = WriterFull }
+full_unoffered = record {
+  old = sabm_half_sent.view;
+  new = sabm_half_sent.view;
+  before = left_zero;
+  acts = [];
+  says = WriterFull;
+}
 
 -- the line took some
 abbrev pub full_but_taken : TurnRow
 full_but_taken = record {
-  old = record (settled lf_octet (take 1 sabm_zero) (first_request ∷ []) [] [] [] []) { unwritten = drop 1 sabm_zero };
+  old = record (settled lf_octet (take 1 sabm_zero) (first_request ∷ []) [] [] [] []) {
+    unwritten = drop 1 sabm_zero;
+  };
   new = at_calls 42 sabm_half_sent.view;
   before = left_zero;
   acts = [];
@@ -216,7 +243,8 @@ test_frame = written Responder Uih 0 (0x23 ∷ 5 ∷ 0x41 ∷ 0x42 ∷ [])
 
 abbrev pub test_at_hand : SessionView
 test_at_hand =
-    record (at_hand (settled (zero_came ++ test_command) sabm_zero (first_request ∷ []) opened_zero [] [] []) test_command test_frame) {
+    record (at_hand (settled (zero_came ++ test_command_info) sabm_zero (first_request ∷ [])
+    opened_zero [] [] []) test_command_info test_frame) {
       unwritten = last_flag;
     }
 
@@ -238,7 +266,12 @@ abbrev pub full_though_read : TurnRow
 full_though_read = record {
   old = sabm_half_sent.view;
   new = at_calls 42 (record sabm_half_sent.view {
-    line = record { received = entry_answer ++ lf_octet ++ last_flag; sent = sabm_half_sent.view.line.sent; calls = 40; failures = 0 };
+    line = record {
+      received = entry_answer ++ lf_octet ++ last_flag;
+      sent = sabm_half_sent.view.line.sent;
+      calls = 40;
+      failures = 0;
+    };
     deframer = record { n1 = 31; undecided = last_flag; next = None };
   });
   before = left_zero;
@@ -273,6 +306,18 @@ full_with_lost_request = record {
   says = WriterFull;
 }
 
+-- so many lines wait too that the connection had to be held, it isn't, and an MSC had a place
+abbrev pub full_and_not_held : TurnRow
+full_and_not_held =
+    offers_in_vain (record (hearing (replicate 256 ring)
+    (with_one ring_one [] opened_both [])) { unwritten = last_flag }) ring_came
+
+-- no line waits, the connection is still held, and an MSC had a place
+abbrev pub full_and_still_held : TurnRow
+full_and_still_held =
+    offers_in_vain (record (with_one ring_one stop_one opened_both []) { unwritten = last_flag })
+    (ring_came ++ held_one)
+
 -- the line didn't take them since it failed
 abbrev pub full_and_failed : TurnRow
 full_and_failed = record {
@@ -305,7 +350,8 @@ waiting_for_the_greater = nothing_but both_wait other_told (Waiting 1)
 
 -- octets wait too
 abbrev pub waiting_with_unsent : TurnRow
-waiting_with_unsent = nothing_but (record outcome_waits.view { unwritten = last_flag }) opening_zero (Waiting 0)
+waiting_with_unsent =
+    nothing_but (record outcome_waits.view { unwritten = last_flag }) opening_zero (Waiting 0)
 
 -- a frame is at hand, which the outcome holds up
 abbrev pub waiting_with_frame : TurnRow
@@ -313,7 +359,13 @@ waiting_with_frame = nothing_but (record ua_at_hand.view { unplaced = opened_zer
 
 -- the line was not read
 abbrev pub waiting_without_read : TurnRow
-waiting_without_read = record { old = outcome_waits.view; new = outcome_waits.view; before = opening_zero; acts = []; says = Waiting 0 }
+waiting_without_read = record {
+  old = outcome_waits.view;
+  new = outcome_waits.view;
+  before = opening_zero;
+  acts = [];
+  says = Waiting 0;
+}
 
 -- no outcome waits
 abbrev pub waiting_for_none : TurnRow
@@ -331,43 +383,53 @@ waiting_untried = record {
 
 -- 0 is open, and its outcome waits; these octets came, and these requests were taken
 abbrev pub told_late : List ℕ → List Request → SessionView
-told_late came requests = record (settled came sabm_zero requests [] [] [] last_flag) { unplaced = opened_zero }
+told_late came requests = record (settled came sabm_zero requests [] [] [] last_flag) {
+  unplaced = opened_zero;
+}
 
 -- octets of a frame came, and weren't given to the deframer
 abbrev pub waiting_half_unfed : TurnRow
 waiting_half_unfed =
-    nothing_but (record (told_late (zero_came ++ take 3 ua_one) (first_request ∷ [])) { unfed = take 3 ua_one }) opening_zero (Waiting 0)
+    nothing_but (record (told_late (zero_came ++ take 3 ua_one)
+    (first_request ∷ [])) { unfed = take 3 ua_one }) opening_zero (Waiting 0)
 
 -- the frame that came was thrown away
 abbrev pub waiting_with_lost_frame : TurnRow
-waiting_with_lost_frame = nothing_but (told_late (zero_came ++ test_command) (first_request ∷ [])) opening_zero (Waiting 0)
+waiting_with_lost_frame =
+    nothing_but (told_late (zero_came ++ test_command_info) (first_request ∷ [])) opening_zero (Waiting 0)
 
 -- a frame waits in the control queue, which the outcome holds up
 abbrev pub asked_one : List Act
 asked_one = opening_zero ++ takes 2 (OpenChannel one) ∷ sends Sabm 1 [] ∷ []
 
 abbrev pub waiting_with_queued : TurnRow
-waiting_with_queued = nothing_but (told_late zero_came (first_request ∷ second_request ∷ [])) asked_one (Waiting 0)
+waiting_with_queued =
+    nothing_but (told_late zero_came (first_request ∷ second_request ∷ [])) asked_one (Waiting 0)
 
 -- a command could leave, which the outcome holds up
 abbrev pub waiting_with_command : TurnRow
 waiting_with_command =
-    nothing_but (asking (third_request ∷ []) (with_one [] [] opened_zero (outcome_of 2 Opened ∷ []))) command_stays (Waiting 0)
+    nothing_but (asking (third_request ∷ []) (with_one [] [] opened_zero (outcome_of 2 Opened ∷ [])))
+    command_stays (Waiting 0)
 
 -- a request is kept aside
 abbrev pub waiting_with_aside : TurnRow
 waiting_with_aside =
-    nothing_but (record (told_late zero_came (first_request ∷ second_request ∷ [])) { aside = Some second_request }) opening_zero (Waiting 0)
+    nothing_but (record (told_late zero_came (first_request ∷ second_request ∷ [])) {
+      aside = Some second_request;
+    }) opening_zero (Waiting 0)
 
 -- so many lines wait too that the connection had to be held, and it isn't
 abbrev pub waiting_and_not_held : TurnRow
 waiting_and_not_held =
-    nothing_but (hearing (replicate 256 ring) (with_one ring_one [] opened_zero (outcome_of 2 Opened ∷ []))) ring_came (Waiting 0)
+    nothing_but (hearing (replicate 256 ring) (with_one ring_one [] opened_zero (outcome_of 2 Opened ∷ [])))
+    ring_came (Waiting 0)
 
 -- no line waits, and the connection is still held
 abbrev pub waiting_and_still_held : TurnRow
 waiting_and_still_held =
-    nothing_but (with_one ring_one stop_one opened_zero (outcome_of 2 Opened ∷ [])) (ring_came ++ held_one) (Waiting 0)
+    nothing_but (with_one ring_one stop_one opened_zero (outcome_of 2 Opened ∷ [])) (ring_came ++ held_one)
+    (Waiting 0)
 
 -- a call on the line failed
 abbrev pub waiting_and_failed : TurnRow
@@ -391,12 +453,14 @@ blocked_with_command =
 
 -- so many lines wait that the connection had to be held, and it isn't
 abbrev pub blocked_and_not_held : TurnRow
-blocked_and_not_held = nothing_but (record ring_waits.view { unannounced = replicate 256 ring }) ring_came (Blocked Ring)
+blocked_and_not_held =
+    nothing_but (record ring_waits.view { unannounced = replicate 256 ring }) ring_came (Blocked Ring)
 
 -- one line waits, and the connection is still held
 abbrev pub blocked_and_still_held : TurnRow
 blocked_and_still_held =
-    nothing_but (hearing (ring ∷ []) (with_one ring_one stop_one opened_both [])) (ring_came ++ held_one) (Blocked Ring)
+    nothing_but (hearing (ring ∷ []) (with_one ring_one stop_one opened_both [])) (ring_came ++ held_one)
+    (Blocked Ring)
 
 -- one of another kind does
 abbrev pub blocked_by_another : TurnRow
@@ -429,34 +493,47 @@ blocked_with_unsent = nothing_but (record ring_waits.view { unwritten = last_fla
 -- an outcome waits too
 abbrev pub blocked_with_outcome : TurnRow
 blocked_with_outcome =
-    nothing_but (hearing (ring ∷ []) (with_one ring_one [] opened_zero (outcome_of 2 Opened ∷ []))) ring_came (Blocked Ring)
+    nothing_but (hearing (ring ∷ []) (with_one ring_one [] opened_zero (outcome_of 2 Opened ∷ []))) ring_came
+    (Blocked Ring)
 
 -- a frame is at hand, which the line holds up
 abbrev pub blocked_with_frame : TurnRow
 blocked_with_frame =
-    nothing_but (hearing (ring ∷ []) (at_hand (with_one (ring_one ++ ring_one) [] opened_both []) ring_one ring_frame)) ring_came
+    nothing_but (hearing (ring ∷ [])
+    (at_hand (with_one (ring_one ++ ring_one) [] opened_both []) ring_one ring_frame)) ring_came
     (Blocked Ring)
 
 -- octets of a frame came, and weren't given to the deframer
 abbrev pub blocked_half_unfed : TurnRow
 blocked_half_unfed =
-    nothing_but (record (with_one (ring_one ++ take 3 ring_one) [] opened_both []) { unfed = take 3 ring_one; unannounced = ring ∷ [] })
+    nothing_but (record (with_one (ring_one ++ take 3 ring_one) [] opened_both []) {
+      unfed = take 3 ring_one;
+      unannounced = ring ∷ [];
+    })
     ring_came (Blocked Ring)
 
 -- the line was not read
 abbrev pub blocked_without_read : TurnRow
-blocked_without_read = record { old = ring_waits.view; new = ring_waits.view; before = ring_came; acts = []; says = Blocked Ring }
+blocked_without_read = record {
+  old = ring_waits.view;
+  new = ring_waits.view;
+  before = ring_came;
+  acts = [];
+  says = Blocked Ring;
+}
 
 -- a frame waits in the control queue, which the line holds up
 abbrev pub blocked_with_queued : TurnRow
 blocked_with_queued =
-    nothing_but (asking (fourth_request ∷ []) ring_waits.view) (ring_came ++ takes 4 (OpenChannel two) ∷ sends Sabm 2 [] ∷ [])
+    nothing_but (asking (fourth_request ∷ []) ring_waits.view)
+    (ring_came ++ takes 4 (OpenChannel two) ∷ sends Sabm 2 [] ∷ [])
     (Blocked Ring)
 
 -- a request is kept aside
 abbrev pub blocked_with_aside : TurnRow
 blocked_with_aside =
-    nothing_but (record (asking (third_request ∷ []) ring_waits.view) { aside = Some third_request }) ring_came (Blocked Ring)
+    nothing_but (record (asking (third_request ∷ []) ring_waits.view) { aside = Some third_request })
+    ring_came (Blocked Ring)
 
 -- a call on the line failed
 abbrev pub blocked_and_failed : TurnRow
@@ -518,7 +595,10 @@ read_twice = record {
 abbrev pub read_while_unfed : TurnRow
 read_while_unfed = record {
   old = ua_unfed.view;
-  new = at_calls 41 (record (settled (zero_came ++ ua_one) sabm_zero (first_request ∷ []) [] [] [] []) { unfed = ua_zero ++ ua_one });
+  new =
+      at_calls 41 (record (settled (zero_came ++ ua_one) sabm_zero (first_request ∷ []) [] [] [] []) {
+        unfed = ua_zero ++ ua_one;
+      });
   before = left_zero;
   acts = [];
   says = Moved;
@@ -530,7 +610,7 @@ two_frames = record {
   old = ua_at_hand.view;
   new = at_calls 41 (record zero_opened.view { unplaced = opened_zero });
   before = left_zero;
-  acts = comes Ua 0 [] ∷ tells 1 Opened ∷ comes Uih 0 (msc 1 0x8d) ∷ [];
+  acts = comes Ua 0 [] ∷ tells 1 Opened ∷ comes Uih 0 (msc_command 1 0x8d) ∷ [];
   says = Moved;
 }
 
@@ -543,7 +623,9 @@ aside_and_another = record {
     unplaced = outcome_of 3 NotOpen ∷ [];
   });
   before = opening_zero;
-  acts = takes 2 (OpenChannel one) ∷ sends Sabm 1 [] ∷ takes 3 (Command one (codes "AT+CSQ")) ∷ tells 3 NotOpen ∷ [];
+  acts =
+      takes 2 (OpenChannel one) ∷ sends Sabm 1 [] ∷ takes 3 (Command one (codes "AT+CSQ")) ∷
+      tells 3 NotOpen ∷ [];
   says = Moved;
 }
 
@@ -551,7 +633,10 @@ aside_and_another = record {
 abbrev pub two_requests : TurnRow
 two_requests = record {
   old = settled lf_octet [] [] [] [] [] [];
-  new = at_calls 41 (record (settled lf_octet [] (first_request ∷ second_request ∷ []) [] [] [] []) { unplaced = outcome_of 2 NotOpen ∷ [] });
+  new =
+      at_calls 41 (record (settled lf_octet [] (first_request ∷ second_request ∷ []) [] [] [] []) {
+        unplaced = outcome_of 2 NotOpen ∷ [];
+      });
   before = [];
   acts = asked_zero ++ takes 2 (OpenChannel one) ∷ tells 2 NotOpen ∷ [];
   says = Moved;
@@ -573,7 +658,7 @@ held_too_early = record {
   old = ring_waits.view;
   new = at_calls 41 ring_waits.view;
   before = ring_came;
-  acts = Held 1 ∷ sends Uih 0 (msc 1 0x8f) ∷ [];
+  acts = Held 1 ∷ sends Uih 0 (msc_command 1 0x8f) ∷ [];
   says = Moved;
 }
 
@@ -589,18 +674,20 @@ moved_with_aside = record {
 
 abbrev pub wrong_turns : List TurnRow
 wrong_turns =
-    idle_with_frame ∷ idle_with_unfed ∷ idle_half_unfed ∷ idle_with_unsent ∷ idle_with_queued ∷ idle_with_aside ∷
-    idle_with_outcome ∷ idle_with_line ∷ idle_with_command ∷ idle_after_read ∷ idle_without_read ∷
-    idle_though_told ∷ idle_though_sent ∷ idle_though_announced ∷ idle_with_lost_frame ∷ idle_with_lost_request ∷
-    idle_and_still_held ∷ idle_and_failed ∷ moved_by_nothing ∷ moved_by_a_mark ∷ unfed_grows ∷ full_unoffered ∷
-    full_but_taken ∷ full_of_nothing ∷ full_without_read ∷ full_with_frame ∷ full_with_unfed ∷ full_with_test ∷
-    full_though_told ∷ full_though_read ∷ full_though_taken ∷ full_with_aside ∷ full_with_lost_request ∷
-    full_and_failed ∷ waiting_but_told ∷ waiting_for_another ∷ waiting_for_the_greater ∷ waiting_with_unsent ∷
+    idle_with_frame ∷ idle_with_unfed ∷ idle_half_unfed ∷ idle_with_unsent ∷ idle_with_queued ∷
+    idle_with_aside ∷ idle_with_outcome ∷ idle_with_line ∷ idle_with_command ∷ idle_after_read ∷
+    idle_without_read ∷ idle_though_told ∷ idle_though_sent ∷ idle_though_announced ∷ idle_with_lost_frame ∷
+    idle_with_lost_request ∷ idle_and_still_held ∷ idle_and_failed ∷ moved_by_nothing ∷ moved_by_a_mark ∷
+    unfed_grows ∷ full_unoffered ∷ full_but_taken ∷ full_of_nothing ∷ full_without_read ∷ full_with_frame ∷
+    full_with_unfed ∷ full_with_test ∷ full_though_told ∷ full_though_read ∷ full_though_taken ∷
+    full_with_aside ∷ full_with_lost_request ∷ full_and_not_held ∷ full_and_still_held ∷ full_and_failed ∷
+    waiting_but_told ∷ waiting_for_another ∷ waiting_for_the_greater ∷ waiting_with_unsent ∷
     waiting_with_frame ∷ waiting_without_read ∷ waiting_for_none ∷ waiting_untried ∷ waiting_half_unfed ∷
     waiting_with_lost_frame ∷ waiting_with_queued ∷ waiting_with_command ∷ waiting_with_aside ∷
-    waiting_and_not_held ∷ waiting_and_still_held ∷ waiting_and_failed ∷ blocked_by_none ∷ blocked_by_a_later ∷
-    blocked_with_command ∷ blocked_and_not_held ∷ blocked_and_still_held ∷ blocked_by_another ∷
-    blocked_though_announced ∷ blocked_untried ∷ blocked_with_unsent ∷ blocked_with_outcome ∷ blocked_with_frame ∷
-    blocked_half_unfed ∷ blocked_without_read ∷ blocked_with_queued ∷ blocked_with_aside ∷ blocked_and_failed ∷
-    tick_in_a_turn ∷ loss_in_a_turn ∷ failed_and_moved ∷ three_calls ∷ read_twice ∷ read_while_unfed ∷ two_frames ∷
-    aside_and_another ∷ two_requests ∷ told_at_once ∷ held_too_early ∷ moved_with_aside ∷ []
+    waiting_and_not_held ∷ waiting_and_still_held ∷ waiting_and_failed ∷ blocked_by_none ∷
+    blocked_by_a_later ∷ blocked_with_command ∷ blocked_and_not_held ∷ blocked_and_still_held ∷
+    blocked_by_another ∷ blocked_though_announced ∷ blocked_untried ∷ blocked_with_unsent ∷
+    blocked_with_outcome ∷ blocked_with_frame ∷ blocked_half_unfed ∷ blocked_without_read ∷
+    blocked_with_queued ∷ blocked_with_aside ∷ blocked_and_failed ∷ tick_in_a_turn ∷ loss_in_a_turn ∷
+    failed_and_moved ∷ three_calls ∷ read_twice ∷ read_while_unfed ∷ two_frames ∷ aside_and_another ∷
+    two_requests ∷ told_at_once ∷ held_too_early ∷ moved_with_aside ∷ []

@@ -57,13 +57,14 @@ probe_waits hand = list_any (λ (q : Request). asks_probe q.ask) hand
 -- how many ticks came since the request was taken
 abbrev pub ticks_since : Request → List Act → ℕ
 ticks_since r [] = 0
-ticks_since r (Took q ∷ past) = if (q.caller == r.caller) && (q.number == r.number) then 0 else ticks_since r past
+ticks_since r (Took q ∷ past) =
+    if (q.caller == r.caller) && (q.number == r.number) then 0 else ticks_since r past
 ticks_since r (Tick ∷ past) = ticks_since r past + 1
 ticks_since r (_ ∷ past) = ticks_since r past
 
 -- ## What a call sees of the past
 
-pub record Seen : Type 0 where
+pub record HistoryView : Type 0 where
   pub state : ℕ → State
   pub hand : List Request
   -- of those in hand the ones to which no outcome is owed
@@ -84,7 +85,7 @@ unanswered [] hand = hand
 unanswered (Told o ∷ owing) hand = without o (unanswered owing hand)
 unanswered (_ ∷ owing) hand = unanswered owing hand
 
-abbrev pub seen_behind : Setting → List Act → (owing : List Act) → Seen
+abbrev pub seen_behind : Setting → List Act → (owing : List Act) → HistoryView
 seen_behind s past owing = record {
   state = λ d. state_of s.role d (wire past);
   hand = in_hand past;
@@ -97,7 +98,7 @@ seen_behind s past owing = record {
 }
 
 -- where nothing is owed
-abbrev pub seen : Setting → List Act → Seen
+abbrev pub seen : Setting → List Act → HistoryView
 seen s past = seen_behind s past []
 
 -- ## Answers at once
@@ -111,21 +112,23 @@ asking r (Probe octets) = message_frame r test octets ∷ []
 asking r Stop = message_frame r cld [] ∷ []
 
 -- they fit into the control queue
-abbrev pub all_have_room : Setting → Seen → List Frame → Bool
+abbrev pub all_have_room : Setting → HistoryView → List Frame → Bool
 all_have_room s v [] = true
 all_have_room s v (f ∷ fs) = has_room s.n1 v.queued f && all_have_room s v fs
 
 -- in the order of the table of outcomes
-abbrev pub refused_ask : Setting → Seen → Ask → Option Answer
+abbrev pub refused_ask : Setting → HistoryView → Ask → Option Answer
 refused_ask s v (OpenChannel d) =
     if not (d.number == 0) && not (is_opened (v.state 0)) then Some NotOpen
     else if is_opened (v.state d.number) then Some AlreadyOpen
-    else if not (is_shut (v.state d.number) && all_have_room s v (asking s.role (OpenChannel d))) then Some Busy
+    else if not (is_shut (v.state d.number) && all_have_room s v (asking s.role (OpenChannel d)))
+    then Some Busy
     else None
 refused_ask s v (CloseChannel d) =
     if d.number == 0 then Some ControlChannel
     else if is_shut (v.state d.number) then Some NotOpen
-    else if not (is_opened (v.state d.number) && all_have_room s v (asking s.role (CloseChannel d))) then Some Busy
+    else if not (is_opened (v.state d.number) && all_have_room s v (asking s.role (CloseChannel d)))
+    then Some Busy
     else None
 refused_ask s v (Command d line) =
     if d.number == 0 then Some ControlChannel
@@ -140,7 +143,7 @@ refused_ask s v Stop =
     else if not (all_have_room s v (asking s.role Stop)) then Some Busy
     else None
 
-abbrev pub at_once : Setting → Seen → Request → Option Answer
+abbrev pub at_once : Setting → HistoryView → Request → Option Answer
 at_once s v r =
     if v.lost then Some LineLost
     else if nat_le 128 (length (v.hand)) then Some Busy
@@ -149,7 +152,7 @@ at_once s v r =
 -- ## Frames
 
 -- the frames that an act calls for
-abbrev pub frames_by : Setting → Seen → Act → List Frame
+abbrev pub frames_by : Setting → HistoryView → Act → List Frame
 frames_by s v (Took r) = if is_none (at_once s v r) then asking s.role r.ask else []
 frames_by s v (Got f) = by_frame s.role v.state f
 frames_by s v Tick = by_tick s.role s.n1 v.state v.queued
@@ -158,13 +161,13 @@ frames_by s v (Freed d) = by_flow s.role v.state d ready
 frames_by s v _ = []
 
 -- after a loss none is sent
-abbrev pub frames : Setting → Seen → Act → List Frame
+abbrev pub frames : Setting → HistoryView → Act → List Frame
 frames s v a = if v.lost then [] else frames_by s v a
 
 -- ## Answers later
 
 -- why a connection is Shut now, where nothing else is the cause
-abbrev pub cause : Seen → (ℕ → State) → Act → Answer → Answer
+abbrev pub cause : HistoryView → (ℕ → State) → Act → Answer → Answer
 cause v now Lost why = LineLost
 cause v now Tick why = if is_opened (v.state 0) && not (is_opened (now 0)) then Closed else NoAnswer
 cause v now a why = if is_opened (v.state 0) && not (is_opened (now 0)) then Closed else why
@@ -177,7 +180,7 @@ probe_answer octets (Some m) =
     else if (command_of m.octet == nsc) && names_test m.value then Some Refused
     else None
 
-abbrev pub probe_later : Request → List ℕ → Seen → Act → Option Answer
+abbrev pub probe_later : Request → List ℕ → HistoryView → Act → Option Answer
 probe_later r octets v (Got f) = probe_answer octets (message_in f)
 probe_later r octets v Tick = if v.ticks r == 3 then Some NoAnswer else None
 probe_later r octets v _ = None
@@ -198,17 +201,18 @@ stop_ended Tick = NoAnswer
 stop_ended _ = Stopped
 
 -- what a request that waits is told, by the states before the call and now
-abbrev pub later : Seen → (ℕ → State) → Act → Request → Ask → Option Answer
+abbrev pub later : HistoryView → (ℕ → State) → Act → Request → Ask → Option Answer
 later v now a r (OpenChannel d) = open_later (now d.number) (cause v now a Refused)
 later v now a r (CloseChannel d) = close_later (now d.number) (cause v now a Shut)
 later v now a r (Command d line) = if is_opened (now d.number) then None else Some (cause v now a Closed)
-later v now a r (Probe octets) = if is_opened (now 0) then probe_later r octets v a else Some (cause v now a Closed)
+later v now a r (Probe octets) =
+    if is_opened (now 0) then probe_later r octets v a else Some (cause v now a Closed)
 later v now a r Stop = if is_stopping (now 0) then None else Some (stop_ended a)
 
-abbrev pub told_later : Seen → (ℕ → State) → Act → Request → Option Act
+abbrev pub told_later : HistoryView → (ℕ → State) → Act → Request → Option Act
 told_later v now a r = option_map (told r) (later v now a r r.ask)
 
-abbrev pub tolds : Seen → (ℕ → State) → Act → List Act
+abbrev pub tolds : HistoryView → (ℕ → State) → Act → List Act
 tolds v now a = filter_map (told_later v now a) v.waiting
 
 -- ## Lines
@@ -236,9 +240,10 @@ by_seen s d owner line line_is.TheVariants.Other = heard s d Other line
 -- each line is read by what is placed before it
 abbrev pub by_lines : Setting → ℕ → Option Request → List Mark → List (List ℕ) → List Act
 by_lines s d owner ms [] = []
-by_lines s d owner ms (line ∷ rest) = by_seen s d owner line (seen_after ms line) ++ by_lines s d owner (ms ++ Line line ∷ []) rest
+by_lines s d owner ms (line ∷ rest) =
+    by_seen s d owner line (seen_after ms line) ++ by_lines s d owner (ms ++ Line line ∷ []) rest
 
-abbrev pub lines_said : Setting → Seen → Act → List Act
+abbrev pub lines_said : Setting → HistoryView → Act → List Act
 lines_said s v (Got f) =
     if is_opened (v.state f.dlci) && is_data_frame f
     then by_lines s f.dlci (first_on f.dlci v.waiting) (v.marks f.dlci) (lines (v.run f.dlci ++ f.info))
@@ -251,16 +256,16 @@ abbrev pub said_of : Request → Option Answer → List Act
 said_of r None = []
 said_of r (Some answer) = told r answer ∷ []
 
-abbrev pub said_at_once : Setting → Seen → Act → List Act
+abbrev pub said_at_once : Setting → HistoryView → Act → List Act
 said_at_once s v (Took r) = said_of r (at_once s v r)
 said_at_once s v _ = []
 
 -- the states after the acts
-abbrev pub states_now : Setting → Seen → List Act → ℕ → State
+abbrev pub states_now : Setting → HistoryView → List Act → ℕ → State
 states_now s v acts d = (states_then s.role d (record { zero = v.state 0; own = v.state d }) (wire acts)).own
 
 -- what an act calls for, in order: frames, then lines and outcomes
-abbrev pub calls_seeing : Setting → Seen → Act → List Act
+abbrev pub calls_seeing : Setting → HistoryView → Act → List Act
 calls_seeing s v a =
     let sent = map Sent (frames s v a) in
     sent ++ (said_at_once s v a ++ (lines_said s v a ++ tolds v (states_now s v (a ∷ sent)) a))

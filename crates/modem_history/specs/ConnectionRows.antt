@@ -21,8 +21,8 @@ of_initiator k d info = Got (written Initiator k d info)
 abbrev pub of_responder : Kind → ℕ → List ℕ → Act
 of_responder k d info = Sent (written Responder k d info)
 
--- Two connections of a modem: lines are cut over frames and end in another order than they begin, and the line that is
--- unfinished when a connection closes doesn't go on when it opens again.
+-- Two connections of a modem: lines are cut over frames and end in another order than they begin, and the
+-- line that is unfinished when a connection closes doesn't go on when it opens again.
 abbrev pub at_a_modem : List Act
 at_a_modem =
     of_initiator Sabm 0 [] ∷ of_responder Ua 0 [] ∷ of_initiator Sabm 1 [] ∷ of_responder Ua 1 [] ∷
@@ -76,6 +76,7 @@ PlacedAgain = placed Initiator 1 (codes "ATZ" ∷ []) (past_of [] at_a_driver_ag
 -- before 1 opened first, in its first opening and in its second
 abbrev pub PlacedByOpenings : Type 0
 PlacedByOpenings =
-    all_placed Initiator 1 ([] ∷ (codes "AT+CSQ" ∷ codes "ATI" ∷ []) ∷ (codes "ATZ" ∷ []) ∷ []) (past_of [] at_a_driver_again)
+    all_placed Initiator 1 ([] ∷ (codes "AT+CSQ" ∷ codes "ATI" ∷ []) ∷ (codes "ATZ" ∷ []) ∷ [])
+    (past_of [] at_a_driver_again)
     ≡ [] ∷ (Begun (codes "AT+CSQ") ∷ Line (codes "RING") ∷ Line (codes "+CSQ: 18,99") ∷ Line (codes "OK") ∷
     Begun (codes "ATI") ∷ Line (codes "OK") ∷ []) ∷ (Begun (codes "ATZ") ∷ []) ∷ []

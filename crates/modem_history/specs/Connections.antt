@@ -1,5 +1,6 @@
--- What comes and goes on a connection, over the acts at an end of the line: its information, and its lines and commands,
--- each at its place (27.010, 5.4; V.250, 5.2.1, 5.7). It needs no requests: a modem has the same.
+-- What comes and goes on a connection, over the acts at an end of the line: its information, and its lines
+-- and commands, each at its place (27.010, 5.4; V.250, 5.2.1, 5.7). It needs no requests: a modem has the
+-- same.
 use Rattle.std.specs.Prelude.{◌≡◌, ℕ, ◌+◌, ◌-◌, ◌==◌, ◌&&◌, not, nat_le, nat_lt, Bool, List, [], ◌∷◌, ◌++◌, length, take, drop, map, filter_map, Some, None, if◌then◌else◌}
 use Rattle.std.specs.List.{flat_map, zip}
 use Rattle.mux_frame.specs.Frames.{Frame}
@@ -75,7 +76,8 @@ lines_with r past f =
     then map (λ l. (f.dlci, l)) (lines_ended r f.dlci past f)
     else []
 
--- the lines of all connections, over all their openings, each with its connection: in the order in which they end
+-- the lines of all connections, over all their openings, each with its connection: in the order in which they
+-- end
 abbrev pub lines_got : Role → List Act → List (ℕ × List ℕ)
 lines_got r [] = []
 lines_got r (Got f ∷ past) = lines_got r past ++ lines_with r past f
@@ -113,8 +115,8 @@ commands_ended r d commands past f =
 
 -- ## Places
 
--- What is placed on d since it opened, in order, where these commands go out on it: a line at the frame in which its end
--- comes, a command at the frame that completes it.
+-- What is placed on d since it opened, in order, where these commands go out on it: a line at the frame in
+-- which its end comes, a command at the frame that completes it.
 abbrev pub placed : Role → ℕ → (commands : List (List ℕ)) → List Act → List Mark
 placed r d commands [] = []
 placed r d commands (Got f ∷ past) =
@@ -130,15 +132,16 @@ placed r d commands (_ ∷ past) = placed r d commands past
 -- the past at the end of each opening of d but the last, in turn; a connection opens at a frame that comes
 abbrev pub earlier_pasts : Role → ℕ → List Act → List (List Act)
 earlier_pasts r d [] = []
-earlier_pasts r d (Got f ∷ past) = earlier_pasts r d past ++ (if opens_now r d past (Got f) then past ∷ [] else [])
+earlier_pasts r d (Got f ∷ past) =
+    earlier_pasts r d past ++ (if opens_now r d past (Got f) then past ∷ [] else [])
 earlier_pasts r d (_ ∷ past) = earlier_pasts r d past
 
 -- what is placed at each of these pasts, where the commands beside it go out
 abbrev pub placed_at : Role → ℕ → List (List (List ℕ)) → (pasts : List (List Act)) → List (List Mark)
 placed_at r d commands pasts = map (λ (p : List (List ℕ) × List Act). placed r d p.0 p.1) (zip commands pasts)
 
--- what is placed on d in each of its openings, in turn, where these commands go out on it in each of them; before the
--- first there is nothing
+-- what is placed on d in each of its openings, in turn, where these commands go out on it in each of them;
+-- before the first there is nothing
 abbrev pub all_placed : Role → ℕ → (commands : List (List (List ℕ))) → List Act → List (List Mark)
 all_placed r d commands past = placed_at r d commands (earlier_pasts r d past ++ past ∷ [])
 
@@ -148,11 +151,13 @@ all_placed r d commands past = placed_at r d commands (earlier_pasts r d past ++
 abbrev pub begun_in : List Mark → List (List ℕ)
 begun_in ms = map (λ (w : Window). w.command) (windows ms)
 
--- of the lines of all connections those of each are the lines of its information, over all its openings in turn
+-- of the lines of all connections those of each are the lines of its information, over all its openings in
+-- turn
 unfoldable pub HasAllLines : Role → List Act → Type 0
 HasAllLines r past = (d : ℕ) → lines_on d (lines_got r past) ≡ flat_map lines (all_information_got r d past)
 
--- what is placed on d are the lines of its information since it opened, and the commands that are wholly sent since then
+-- what is placed on d are the lines of its information since it opened, and the commands that are wholly sent
+-- since then
 pub record IsPlaced (r : Role) (d : ℕ) (commands : List (List ℕ)) (past : List Act) : Type 0 where
   pub lines_are : lines_of (placed r d commands past) ≡ lines (information_got r d past)
   pub commands_are : begun_in (placed r d commands past)
@@ -162,10 +167,12 @@ unfoldable pub PlacesAll : Role → List Act → Type 0
 PlacesAll r past = (d : ℕ) (commands : List (List ℕ)) → IsPlaced r d commands past
 
 -- and so in each opening: its lines, and of the commands beside it those that are wholly sent
-pub record ArePlacedInEach (r : Role) (d : ℕ) (commands : List (List (List ℕ))) (past : List Act) : Type 0 where
+pub record ArePlacedInEach (r : Role) (d : ℕ) (commands : List (List (List ℕ)))
+    (past : List Act) : Type 0 where
   pub lines_are : map lines_of (all_placed r d commands past) ≡ map lines (all_information_got r d past)
   pub commands_are : map begun_in (all_placed r d commands past)
-      ≡ map (λ (p : List (List ℕ) × List ℕ). wholly_sent (length p.1) p.0) (zip commands (all_information_sent r d past))
+      ≡ map (λ (p : List (List ℕ) × List ℕ). wholly_sent (length p.1) p.0)
+      (zip commands (all_information_sent r d past))
 
 unfoldable pub PlacesEach : Role → List Act → Type 0
 PlacesEach r past =

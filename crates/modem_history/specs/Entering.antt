@@ -54,8 +54,8 @@ abbrev pub FailsBy : LineView → LineView → EntryAnswer → Type 0
 FailsBy old new LineFailed = new.failures ≡ old.failures + 1
 FailsBy old new _ = new.failures ≡ old.failures
 
--- An entry of so many turns, from the one to the other: it sent a beginning of the text, read nothing unless it sent
--- the whole, made no more calls, and its answer means what it says.
+-- An entry of so many turns, from the one to the other: it sent a beginning of the text, read nothing unless
+-- it sent the whole, made no more calls, and its answer means what it says.
 pub record IsEntry (turns : ℕ) (old new : LineView) (says : EntryAnswer) : Type 0 where
   pub sent : List ℕ
   pub sent_are : new.sent ≡ old.sent ++ sent

@@ -32,23 +32,39 @@ IsWrongEntry row = ¬ IsEntry row.turns line_before row.after row.says
 
 -- the echo and OK came
 abbrev pub entered : EntryRow
-entered = record { turns = 100; after = line_after entry_text (codes "AT+CMUX=0\r\r\nOK\r") 30 0; says = Entered }
+entered = record {
+  turns = 100;
+  after = line_after entry_text (codes "AT+CMUX=0\r\r\nOK\r") 30 0;
+  says = Entered;
+}
 
 -- another line came before the OK
 abbrev pub entered_after_ring : EntryRow
-entered_after_ring = record { turns = 100; after = line_after entry_text (codes "\r\nRING\r\nOK\r") 30 0; says = Entered }
+entered_after_ring = record {
+  turns = 100;
+  after = line_after entry_text (codes "\r\nRING\r\nOK\r") 30 0;
+  says = Entered;
+}
 
 -- ERROR came
 abbrev pub refused_plainly : EntryRow
-refused_plainly = record { turns = 100; after = line_after entry_text (codes "\r\nERROR\r") 20 0; says = Refused }
+refused_plainly = record {
+  turns = 100;
+  after = line_after entry_text (codes "\r\nERROR\r") 20 0;
+  says = Refused;
+}
 
 -- +CME ERROR came
 abbrev pub refused_by_number : EntryRow
-refused_by_number = record { turns = 100; after = line_after entry_text (codes "\r\n+CME ERROR: 4\r") 30 0; says = Refused }
+refused_by_number = record {
+  turns = 100;
+  after = line_after entry_text (codes "\r\n+CME ERROR: 4\r") 30 0;
+  says = Refused;
+}
 
 -- nothing came in a hundred turns
-abbrev pub unanswered : EntryRow
-unanswered = record { turns = 100; after = line_after entry_text [] 103 0; says = NoAnswer }
+abbrev pub unanswered_entry : EntryRow
+unanswered_entry = record { turns = 100; after = line_after entry_text [] 103 0; says = NoAnswer }
 
 -- there are no turns
 abbrev pub no_turns : EntryRow
@@ -64,14 +80,18 @@ failed_reading = record { turns = 100; after = line_after entry_text (codes "\r\
 
 abbrev pub right_entries : List EntryRow
 right_entries =
-    entered ∷ entered_after_ring ∷ refused_plainly ∷ refused_by_number ∷ unanswered ∷ no_turns ∷ failed_midway ∷
-    failed_reading ∷ []
+    entered ∷ entered_after_ring ∷ refused_plainly ∷ refused_by_number ∷ unanswered_entry ∷ no_turns ∷
+    failed_midway ∷ failed_reading ∷ []
 
 -- ## Wrong entries
 
 -- ERROR came, and it says that it entered
 abbrev pub entered_on_error : EntryRow
-entered_on_error = record { turns = 100; after = line_after entry_text (codes "\r\nERROR\r") 20 0; says = Entered }
+entered_on_error = record {
+  turns = 100;
+  after = line_after entry_text (codes "\r\nERROR\r") 20 0;
+  says = Entered;
+}
 
 -- OK came, and it says that it was refused
 abbrev pub refused_on_ok : EntryRow
@@ -83,7 +103,11 @@ read_on = record { turns = 100; after = line_after entry_text (codes "\r\nOK\r\n
 
 -- ERROR came, and then OK
 abbrev pub entered_at_second : EntryRow
-entered_at_second = record { turns = 100; after = line_after entry_text (codes "\r\nERROR\r\nOK\r") 20 0; says = Entered }
+entered_at_second = record {
+  turns = 100;
+  after = line_after entry_text (codes "\r\nERROR\r\nOK\r") 20 0;
+  says = Entered;
+}
 
 -- the OK came before it
 abbrev pub entered_by_old_ok : EntryRow
@@ -91,7 +115,11 @@ entered_by_old_ok = record { turns = 100; after = line_after entry_text [] 20 0;
 
 -- OK came, and not all of the text was sent
 abbrev pub entered_half_sent : EntryRow
-entered_half_sent = record { turns = 100; after = line_after (codes "AT+CM") (codes "\r\nOK\r") 20 0; says = Entered }
+entered_half_sent = record {
+  turns = 100;
+  after = line_after (codes "AT+CM") (codes "\r\nOK\r") 20 0;
+  says = Entered;
+}
 
 -- octets were read before the text was sent
 abbrev pub read_before : EntryRow
@@ -115,7 +143,11 @@ gave_up_on_ok = record { turns = 5; after = line_after entry_text (codes "\r\nOK
 
 -- more calls than turns
 abbrev pub called_too_often : EntryRow
-called_too_often = record { turns = 20; after = line_after entry_text (codes "\r\nOK\r") 30 0; says = Entered }
+called_too_often = record {
+  turns = 20;
+  after = line_after entry_text (codes "\r\nOK\r") 30 0;
+  says = Entered;
+}
 
 -- no call failed
 abbrev pub failed_without_fault : EntryRow
@@ -123,9 +155,14 @@ failed_without_fault = record { turns = 100; after = line_after entry_text [] 20
 
 -- a call failed
 abbrev pub fault_passed_over : EntryRow
-fault_passed_over = record { turns = 100; after = line_after entry_text (codes "\r\nOK\r") 20 1; says = Entered }
+fault_passed_over = record {
+  turns = 100;
+  after = line_after entry_text (codes "\r\nOK\r") 20 1;
+  says = Entered;
+}
 
 abbrev pub wrong_entries : List EntryRow
 wrong_entries =
-    entered_on_error ∷ refused_on_ok ∷ read_on ∷ entered_at_second ∷ entered_by_old_ok ∷ entered_half_sent ∷ read_before ∷ sent_more ∷
-    sent_another ∷ gave_up_too_soon ∷ gave_up_on_ok ∷ called_too_often ∷ failed_without_fault ∷ fault_passed_over ∷ []
+    entered_on_error ∷ refused_on_ok ∷ read_on ∷ entered_at_second ∷ entered_by_old_ok ∷ entered_half_sent ∷
+    read_before ∷ sent_more ∷ sent_another ∷ gave_up_too_soon ∷ gave_up_on_ok ∷ called_too_often ∷
+    failed_without_fault ∷ fault_passed_over ∷ []

@@ -5,11 +5,11 @@ use Rattle.modem_desk.specs.declared.request.Ask.TheVariants.{OpenChannel, Comma
 use Rattle.modem_desk.specs.declared.request.Answer.TheVariants.{LineLost}
 use Rattle.modem_history.specs.Acts.{Act, Tick, Lost, Given, after}
 use Rattle.modem_history.specs.Sessions.{SessionView, SessionFits}
-use Rattle.modem_history.specs.Turns.{Dealings, TurnFault, NoMemory, LineFailed, Failed, IsFault, IsTick}
+use Rattle.modem_history.specs.Turns.{Exchange, TurnFault, NoMemory, LineFailed, Failed, IsFault, IsTick}
 use Rattle.modem_history.specs.Rows.{one, cr, takes, tells, sends, opening_zero}
 use Rattle.modem_history.specs.SessionRows.{beginning, settled, lf_octet, zero_came, sabm_zero, sabm_one, first_request, second_request, third_request, opened_zero, outcome_of, last_flag}
 use Rattle.modem_history.specs.GoodSessions.{asked_zero, sabm_queued, csq_sent, asked_csq, zero_opened, outcome_waits, request_aside, line_lost, loss_told}
-use Rattle.modem_history.specs.GoodTurns.{at_calls, dealt, offers}
+use Rattle.modem_history.specs.GoodTurns.{at_calls, exchanged, offers}
 
 -- a session before and after a turn, what happened before it and in it, and its fault
 pub record FaultRow : Type 0 where
@@ -19,15 +19,16 @@ pub record FaultRow : Type 0 where
   pub acts : List Act
   pub says : TurnFault
 
--- by these dealings
-pub record IsRightFault (row : FaultRow) (t : Dealings) : Type 0 where
+-- by this exchange
+pub record IsRightFault (row : FaultRow) (t : Exchange) : Type 0 where
   pub fitted : SessionFits beginning row.old (after [] row.before)
   pub fits : SessionFits beginning row.new (after (after [] row.before) row.acts)
   pub fault : IsFault beginning row.old row.new t (after [] row.before) row.acts row.says
 
--- whatever it dealt
+-- whatever it exchanged
 abbrev pub IsWrongFault : FaultRow → Type 0
-IsWrongFault row = (t : Dealings) → ¬ IsFault beginning row.old row.new t (after [] row.before) row.acts row.says
+IsWrongFault row =
+    (t : Exchange) → ¬ IsFault beginning row.old row.new t (after [] row.before) row.acts row.says
 
 -- ## Right faults
 
@@ -36,19 +37,30 @@ abbrev pub asked_one : List Act
 asked_one = opening_zero ++ takes 2 (OpenChannel one) ∷ sends Sabm 1 [] ∷ Given ∷ []
 
 abbrev pub one_half_sent : SessionView
-one_half_sent = record (settled zero_came (sabm_zero ++ take 2 sabm_one) (first_request ∷ second_request ∷ []) opened_zero [] [] last_flag) {
-  unwritten = drop 2 sabm_one;
-}
+one_half_sent =
+    record (settled zero_came (sabm_zero ++ take 2 sabm_one)
+    (first_request ∷ second_request ∷ []) opened_zero [] [] last_flag) {
+      unwritten = drop 2 sabm_one;
+    }
 
 -- the write fails, and the request to open 1 is told LineLost
 abbrev pub fails : FaultRow
-fails = record { old = one_half_sent; new = at_calls 41 line_lost.view; before = asked_one; acts = Lost ∷ tells 2 LineLost ∷ []; says = LineFailed }
+fails = record {
+  old = one_half_sent;
+  new = at_calls 41 line_lost.view;
+  before = asked_one;
+  acts = Lost ∷ tells 2 LineLost ∷ [];
+  says = LineFailed;
+}
 
 -- a later turn places the outcome
 abbrev pub fails_again : FaultRow
 fails_again = record {
   old = line_lost.view;
-  new = record line_lost.view { desk = record line_lost.view.desk { told = (opened_zero ++ outcome_of 2 LineLost ∷ []) ∷ [] ∷ [] }; unplaced = [] };
+  new = record line_lost.view {
+    desk = record line_lost.view.desk { told = (opened_zero ++ outcome_of 2 LineLost ∷ []) ∷ [] ∷ [] };
+    unplaced = [];
+  };
   before = loss_told;
   acts = [];
   says = Failed;
@@ -56,12 +68,19 @@ fails_again = record {
 
 -- there is no memory for a request, which is kept aside
 abbrev pub keeps_aside : FaultRow
-keeps_aside = record { old = zero_opened.view; new = at_calls 41 request_aside.view; before = opening_zero; acts = []; says = NoMemory }
+keeps_aside = record {
+  old = zero_opened.view;
+  new = at_calls 41 request_aside.view;
+  before = opening_zero;
+  acts = [];
+  says = NoMemory;
+}
 
 pub record AreRightFaults : Type 0 where
-  pub first : IsRightFault fails (record (dealt (offers (drop 2 sabm_one) 0) None) { read = None; next = None })
-  pub later : IsRightFault fails_again (record (dealt None None) { read = None; next = None })
-  pub memory : IsRightFault keeps_aside (dealt None (Some second_request))
+  pub first : IsRightFault fails
+      (record (exchanged (offers (drop 2 sabm_one) 0) None) { read = None; next = None })
+  pub later : IsRightFault fails_again (record (exchanged None None) { read = None; next = None })
+  pub memory : IsRightFault keeps_aside (exchanged None (Some second_request))
 
 -- ## Wrong faults
 
@@ -71,19 +90,43 @@ blank = settled lf_octet [] [] [] [] [] []
 
 -- no call has failed
 abbrev pub fails_unfailed : FaultRow
-fails_unfailed = record { old = zero_opened.view; new = at_calls 41 zero_opened.view; before = opening_zero; acts = Lost ∷ []; says = LineFailed }
+fails_unfailed = record {
+  old = zero_opened.view;
+  new = at_calls 41 zero_opened.view;
+  before = opening_zero;
+  acts = Lost ∷ [];
+  says = LineFailed;
+}
 
 -- the line was lost before
 abbrev pub lost_before : FaultRow
-lost_before = record { old = line_lost.view; new = at_calls 41 line_lost.view; before = loss_told; acts = []; says = LineFailed }
+lost_before = record {
+  old = line_lost.view;
+  new = at_calls 41 line_lost.view;
+  before = loss_told;
+  acts = [];
+  says = LineFailed;
+}
 
 -- it isn't lost yet
 abbrev pub failed_too_soon : FaultRow
-failed_too_soon = record { old = zero_opened.view; new = zero_opened.view; before = opening_zero; acts = []; says = Failed }
+failed_too_soon = record {
+  old = zero_opened.view;
+  new = zero_opened.view;
+  before = opening_zero;
+  acts = [];
+  says = Failed;
+}
 
 -- the line is still called
 abbrev pub calls_lost_line : FaultRow
-calls_lost_line = record { old = line_lost.view; new = at_calls 41 line_lost.view; before = loss_told; acts = []; says = Failed }
+calls_lost_line = record {
+  old = line_lost.view;
+  new = at_calls 41 line_lost.view;
+  before = loss_told;
+  acts = [];
+  says = Failed;
+}
 
 -- the line is lost
 abbrev pub memory_for_loss : FaultRow
@@ -91,7 +134,13 @@ memory_for_loss = record fails { says = NoMemory }
 
 -- a request in hand is told nothing
 abbrev pub loss_untold : FaultRow
-loss_untold = record { old = one_half_sent; new = at_calls 41 line_lost.view; before = asked_one; acts = Lost ∷ []; says = LineFailed }
+loss_untold = record {
+  old = one_half_sent;
+  new = at_calls 41 line_lost.view;
+  before = asked_one;
+  acts = Lost ∷ [];
+  says = LineFailed;
+}
 
 -- the write fails, and a request is taken all the same
 abbrev pub loss_and_request : FaultRow
@@ -112,7 +161,13 @@ sends_behind_loss = record fails { acts = Lost ∷ sends Uih 1 (codes "AT" ++ cr
 
 -- the line was lost, and octets that came before are fed
 abbrev pub feeds_when_lost : FaultRow
-feeds_when_lost = record { old = record line_lost.view { unfed = last_flag }; new = line_lost.view; before = loss_told; acts = []; says = Failed }
+feeds_when_lost = record {
+  old = record line_lost.view { unfed = last_flag };
+  new = line_lost.view;
+  before = loss_told;
+  acts = [];
+  says = Failed;
+}
 
 -- a call failed before, and a request is taken
 abbrev pub goes_on_faulty : FaultRow
@@ -126,8 +181,8 @@ goes_on_faulty = record {
 
 abbrev pub wrong_faults : List FaultRow
 wrong_faults =
-    fails_unfailed ∷ lost_before ∷ failed_too_soon ∷ calls_lost_line ∷ memory_for_loss ∷ loss_untold ∷ loss_and_request ∷
-    sends_behind_loss ∷ feeds_when_lost ∷ goes_on_faulty ∷ []
+    fails_unfailed ∷ lost_before ∷ failed_too_soon ∷ calls_lost_line ∷ memory_for_loss ∷ loss_untold ∷
+    loss_and_request ∷ sends_behind_loss ∷ feeds_when_lost ∷ goes_on_faulty ∷ []
 
 -- ## Ticks
 
@@ -146,11 +201,21 @@ IsWrongTick row = ¬ IsTick row.old row.new (after [] row.before) row.acts
 
 -- the SABM on 1 is sent again
 abbrev pub sends_again : TickRow
-sends_again = record { old = one_half_sent; new = one_half_sent; before = asked_one; acts = Tick ∷ sends Sabm 1 [] ∷ [] }
+sends_again = record {
+  old = one_half_sent;
+  new = one_half_sent;
+  before = asked_one;
+  acts = Tick ∷ sends Sabm 1 [] ∷ [];
+}
 
 -- nothing is called for
 abbrev pub only_ticks : TickRow
-only_ticks = record { old = zero_opened.view; new = zero_opened.view; before = opening_zero; acts = Tick ∷ [] }
+only_ticks = record {
+  old = zero_opened.view;
+  new = zero_opened.view;
+  before = opening_zero;
+  acts = Tick ∷ [];
+}
 
 abbrev pub right_ticks : List TickRow
 right_ticks = sends_again ∷ only_ticks ∷ []
@@ -161,7 +226,12 @@ tick_left_out = record { old = zero_opened.view; new = zero_opened.view; before 
 
 -- two ticks
 abbrev pub two_ticks : TickRow
-two_ticks = record { old = zero_opened.view; new = zero_opened.view; before = opening_zero; acts = Tick ∷ Tick ∷ [] }
+two_ticks = record {
+  old = zero_opened.view;
+  new = zero_opened.view;
+  before = opening_zero;
+  acts = Tick ∷ Tick ∷ [];
+}
 
 -- data leaves
 abbrev pub data_at_tick : TickRow
@@ -174,7 +244,12 @@ data_at_tick = record {
 
 -- an outcome is placed
 abbrev pub places_at_tick : TickRow
-places_at_tick = record { old = outcome_waits.view; new = zero_opened.view; before = opening_zero; acts = Tick ∷ [] }
+places_at_tick = record {
+  old = outcome_waits.view;
+  new = zero_opened.view;
+  before = opening_zero;
+  acts = Tick ∷ [];
+}
 
 -- the line is lost
 abbrev pub ticks_when_lost : TickRow

@@ -23,24 +23,44 @@ IsWrongEnd row = ¬ Finishes row.view (after [] row.acts) row.left
 
 -- line and desk as they are, and these lists
 abbrev pub leaves : SessionView → List Request → List Outcome → List Urc → Leftovers
-leaves v requests told lines = record { line = v.line; desk = v.desk; in_hand = requests; unplaced = told; unannounced = lines }
+leaves v requests told lines = record {
+  line = v.line;
+  desk = v.desk;
+  in_hand = requests;
+  unplaced = told;
+  unannounced = lines;
+}
 
 -- the command waits for its answer, and the request to open 2 is kept aside
 abbrev pub two_left : SessionView
-two_left = record (settled one_came (one_left ++ csq_one) (first_request ∷ second_request ∷ third_request ∷ fourth_request ∷ []) opened_both [] [] last_flag) {
-  aside = Some fourth_request;
-}
+two_left =
+    record (settled one_came (one_left ++ csq_one)
+    (first_request ∷ second_request ∷ third_request ∷ fourth_request ∷ []) opened_both [] [] last_flag) {
+      aside = Some fourth_request;
+    }
 
 -- ## Right ends
 
 abbrev pub both_handed_back : FinishRow
-both_handed_back = record { view = two_left; acts = asked_csq; left = leaves two_left (third_request ∷ fourth_request ∷ []) [] [] }
+both_handed_back = record {
+  view = two_left;
+  acts = asked_csq;
+  left = leaves two_left (third_request ∷ fourth_request ∷ []) [] [];
+}
 
 abbrev pub outcome_handed_back : FinishRow
-outcome_handed_back = record { view = outcome_waits.view; acts = opening_zero; left = leaves outcome_waits.view [] opened_zero [] }
+outcome_handed_back = record {
+  view = outcome_waits.view;
+  acts = opening_zero;
+  left = leaves outcome_waits.view [] opened_zero [];
+}
 
 abbrev pub line_handed_back : FinishRow
-line_handed_back = record { view = ring_waits.view; acts = ring_came; left = leaves ring_waits.view [] [] (ring ∷ []) }
+line_handed_back = record {
+  view = ring_waits.view;
+  acts = ring_came;
+  left = leaves ring_waits.view [] [] (ring ∷ []);
+}
 
 abbrev pub right_ends : List FinishRow
 right_ends = both_handed_back ∷ outcome_handed_back ∷ line_handed_back ∷ []
@@ -49,23 +69,43 @@ right_ends = both_handed_back ∷ outcome_handed_back ∷ line_handed_back ∷ [
 
 -- what is in hand is left out
 abbrev pub hand_left_out : FinishRow
-hand_left_out = record { view = two_left; acts = asked_csq; left = leaves two_left (fourth_request ∷ []) [] [] }
+hand_left_out = record {
+  view = two_left;
+  acts = asked_csq;
+  left = leaves two_left (fourth_request ∷ []) [] [];
+}
 
 -- what is kept aside is left out
 abbrev pub aside_left_out : FinishRow
-aside_left_out = record { view = two_left; acts = asked_csq; left = leaves two_left (third_request ∷ []) [] [] }
+aside_left_out = record {
+  view = two_left;
+  acts = asked_csq;
+  left = leaves two_left (third_request ∷ []) [] [];
+}
 
 -- what is kept aside stands first
 abbrev pub aside_first : FinishRow
-aside_first = record { view = two_left; acts = asked_csq; left = leaves two_left (fourth_request ∷ third_request ∷ []) [] [] }
+aside_first = record {
+  view = two_left;
+  acts = asked_csq;
+  left = leaves two_left (fourth_request ∷ third_request ∷ []) [] [];
+}
 
 -- a request that was told is in hand
 abbrev pub told_in_hand : FinishRow
-told_in_hand = record { view = outcome_waits.view; acts = opening_zero; left = leaves outcome_waits.view (first_request ∷ []) opened_zero [] }
+told_in_hand = record {
+  view = outcome_waits.view;
+  acts = opening_zero;
+  left = leaves outcome_waits.view (first_request ∷ []) opened_zero [];
+}
 
 -- the outcome that waits is dropped
 abbrev pub outcome_left_out : FinishRow
-outcome_left_out = record { view = outcome_waits.view; acts = opening_zero; left = leaves outcome_waits.view [] [] [] }
+outcome_left_out = record {
+  view = outcome_waits.view;
+  acts = opening_zero;
+  left = leaves outcome_waits.view [] [] [];
+}
 
 -- the line that waits is dropped
 abbrev pub line_left_out : FinishRow
@@ -76,7 +116,9 @@ abbrev pub line_called : FinishRow
 line_called = record {
   view = outcome_waits.view;
   acts = opening_zero;
-  left = record (leaves outcome_waits.view [] opened_zero []) { line = record outcome_waits.view.line { calls = 41 } };
+  left = record (leaves outcome_waits.view [] opened_zero []) {
+    line = record outcome_waits.view.line { calls = 41 };
+  };
 }
 
 -- an outcome is told at the end
@@ -84,10 +126,12 @@ abbrev pub told_at_end : FinishRow
 told_at_end = record {
   view = outcome_waits.view;
   acts = opening_zero;
-  left = record (leaves outcome_waits.view [] opened_zero []) { desk = record outcome_waits.view.desk { told = opened_zero ∷ [] ∷ [] } };
+  left = record (leaves outcome_waits.view [] opened_zero []) {
+    desk = record outcome_waits.view.desk { told = opened_zero ∷ [] ∷ [] };
+  };
 }
 
 abbrev pub wrong_ends : List FinishRow
 wrong_ends =
-    hand_left_out ∷ aside_left_out ∷ aside_first ∷ told_in_hand ∷ outcome_left_out ∷ line_left_out ∷ line_called ∷
-    told_at_end ∷ []
+    hand_left_out ∷ aside_left_out ∷ aside_first ∷ told_in_hand ∷ outcome_left_out ∷ line_left_out ∷
+    line_called ∷ told_at_end ∷ []

@@ -5,7 +5,7 @@ use Rattle.at_text.specs.declared.unsolicited.UrcKind.TheVariants.{Ring, Creg, O
 use Rattle.modem_desk.specs.declared.request.Ask.TheVariants.{OpenChannel, CloseChannel, Command, Probe, Stop}
 use Rattle.modem_desk.specs.declared.request.Answer.TheVariants.{Opened, Shut, ProbeBack, Stopped, NotOpen, AlreadyOpen, Refused, NoAnswer, Closed, ControlChannel, LineLost, Busy}
 use Rattle.modem_history.specs.Acts.{Act, Heard, Tick, Lost, Held, Freed, Given}
-use Rattle.modem_history.specs.Rows.{zero, one, two, sixty_one, takes, tells, tells_done, sends, comes, msc, msc_response, fcoff, fcoff_response, fcon, fcon_response, cld, cld_response, cr, framed, opening_zero, opening_one}
+use Rattle.modem_history.specs.Rows.{zero, one, two, sixty_one, takes, tells, tells_done, sends, comes, msc_command, msc_response, fcoff_command, fcoff_response, fcon_command, fcon_response, cld_command, cld_response, cr, framed, opening_zero, opening_one}
 
 -- csq
 abbrev pub csq : List Act
@@ -60,24 +60,25 @@ echo_once =
 abbrev pub stopped_midway_stopped : List Act
 stopped_midway_stopped =
     opening_one ++ takes 3 (Command one (codes "AT+CGDCONT=1,\"IP\",\"internet.example\"")) ∷
-    sends Uih 1 (codes "AT+CGDCONT=1,\"IP\",\"internet.exa") ∷ comes Uih 0 (msc 1 0xf) ∷
+    sends Uih 1 (codes "AT+CGDCONT=1,\"IP\",\"internet.exa") ∷ comes Uih 0 (msc_command 1 0xf) ∷
     sends Uih 0 (msc_response 1 0xf) ∷ Given ∷ []
 
 -- stopped midway
 abbrev pub stopped_midway : List Act
 stopped_midway =
     opening_one ++ takes 3 (Command one (codes "AT+CGDCONT=1,\"IP\",\"internet.example\"")) ∷
-    sends Uih 1 (codes "AT+CGDCONT=1,\"IP\",\"internet.exa") ∷ comes Uih 0 (msc 1 0xf) ∷
-    sends Uih 0 (msc_response 1 0xf) ∷ Given ∷ comes Uih 0 (msc 1 0xd) ∷ sends Uih 0 (msc_response 1 0xd) ∷
+    sends Uih 1 (codes "AT+CGDCONT=1,\"IP\",\"internet.exa") ∷ comes Uih 0 (msc_command 1 0xf) ∷
+    sends Uih 0 (msc_response 1 0xf) ∷ Given ∷ comes Uih 0 (msc_command 1 0xd) ∷
+    sends Uih 0 (msc_response 1 0xd) ∷
     Given ∷ sends Uih 1 (codes "mple\"" ++ cr) ∷ []
 
 -- stop of all and probe
 abbrev pub stop_of_all_and_probe : List Act
 stop_of_all_and_probe =
-    opening_one ++ comes Uih 0 fcoff ∷ sends Uih 0 fcoff_response ∷ Given ∷
+    opening_one ++ comes Uih 0 fcoff_command ∷ sends Uih 0 fcoff_response ∷ Given ∷
     takes 3 (Command one (codes "AT+CSQ")) ∷ takes 4 (Probe (codes "AB")) ∷
     sends Uih 0 (0x23 ∷ 5 ∷ 0x41 ∷ 0x42 ∷ []) ∷ Given ∷ takes 5 (Probe (codes "C")) ∷ tells 5 Busy ∷
-    comes Uih 0 (0x21 ∷ 5 ∷ 0x41 ∷ 0x42 ∷ []) ∷ tells 4 ProbeBack ∷ comes Uih 0 fcon ∷
+    comes Uih 0 (0x21 ∷ 5 ∷ 0x41 ∷ 0x42 ∷ []) ∷ tells 4 ProbeBack ∷ comes Uih 0 fcon_command ∷
     sends Uih 0 fcon_response ∷ Given ∷ sends Uih 1 (codes "AT+CSQ" ++ cr) ∷ []
 
 -- unsupported command
@@ -123,7 +124,7 @@ close_drops =
     takes 4 (Command one (codes "AT+CGATT?")) ∷ takes 5 (Command one (codes "AT+COPS?")) ∷
     takes 6 (CloseChannel one) ∷ sends Disc 1 [] ∷ tells 3 Closed ∷ tells 4 Closed ∷ tells 5 Closed ∷
     Given ∷ comes Uih 1 (framed (codes "OK")) ∷ comes Ua 1 [] ∷ tells 6 Shut ∷ takes 7 (OpenChannel one) ∷
-    sends Sabm 1 [] ∷ Given ∷ comes Ua 1 [] ∷ sends Uih 0 (msc 1 0x8d) ∷ tells 7 Opened ∷ Given ∷ []
+    sends Sabm 1 [] ∷ Given ∷ comes Ua 1 [] ∷ sends Uih 0 (msc_command 1 0x8d) ∷ tells 7 Opened ∷ Given ∷ []
 
 -- give up
 abbrev pub give_up : List Act
@@ -148,7 +149,8 @@ modem_opens =
 abbrev pub stop_and_loss : List Act
 stop_and_loss =
     opening_one ++ takes 3 (Command one (codes "AT+CSQ")) ∷ sends Uih 1 (codes "AT+CSQ" ++ cr) ∷
-    takes 4 Stop ∷ sends Uih 0 cld ∷ tells 3 Closed ∷ Given ∷ comes Uih 0 cld_response ∷ tells 4 Stopped ∷
+    takes 4 Stop ∷ sends Uih 0 cld_command ∷ tells 3 Closed ∷ Given ∷ comes Uih 0 cld_response ∷
+    tells 4 Stopped ∷
     takes 5 (Command one (codes "AT")) ∷ tells 5 NotOpen ∷ takes 6 (Command zero (codes "AT")) ∷
     tells 6 ControlChannel ∷ Lost ∷ takes 7 (OpenChannel zero) ∷ tells 7 LineLost ∷ []
 
@@ -156,7 +158,7 @@ stop_and_loss =
 abbrev pub last_connection : List Act
 last_connection =
     opening_zero ++ takes 2 (OpenChannel sixty_one) ∷ sends Sabm 61 [] ∷ Given ∷ comes Ua 61 [] ∷
-    sends Uih 0 (msc 61 0x8d) ∷ tells 2 Opened ∷ Given ∷ []
+    sends Uih 0 (msc_command 61 0x8d) ∷ tells 2 Opened ∷ Given ∷ []
 
 -- loss tells: and what comes after the loss
 abbrev pub loss_tells : List Act
@@ -168,21 +170,22 @@ loss_tells =
 abbrev pub stop_gives_up : List Act
 stop_gives_up =
     opening_one ++ takes 3 (Probe (codes "A")) ∷ sends Uih 0 (0x23 ∷ 3 ∷ 0x41 ∷ []) ∷ Given ∷
-    takes 4 (OpenChannel two) ∷ sends Sabm 2 [] ∷ Given ∷ takes 5 Stop ∷ sends Uih 0 cld ∷ tells 3 Closed ∷
+    takes 4 (OpenChannel two) ∷ sends Sabm 2 [] ∷ Given ∷ takes 5 Stop ∷ sends Uih 0 cld_command ∷
+    tells 3 Closed ∷
     tells 4 Closed ∷ Given ∷ Tick ∷ Tick ∷ Tick ∷ Tick ∷ tells 5 NoAnswer ∷ takes 6 (OpenChannel zero) ∷
     sends Sabm 0 [] ∷ Given ∷ []
 
 -- in Stopping: DISC gets DM, UA and Test nothing, DM ends it
 abbrev pub stop_ended_by_dm : List Act
 stop_ended_by_dm =
-    opening_one ++ takes 3 Stop ∷ sends Uih 0 cld ∷ Given ∷ comes Disc 0 [] ∷ sends Dm 0 [] ∷ Given ∷
+    opening_one ++ takes 3 Stop ∷ sends Uih 0 cld_command ∷ Given ∷ comes Disc 0 [] ∷ sends Dm 0 [] ∷ Given ∷
     comes Ua 0 [] ∷ comes Uih 0 (0x23 ∷ 3 ∷ 0x41 ∷ []) ∷ comes Dm 0 [] ∷ tells 3 Stopped ∷ comes Dm 0 [] ∷
     []
 
 -- two CLD commands cross
 abbrev pub stops_cross : List Act
 stops_cross =
-    opening_one ++ takes 3 Stop ∷ sends Uih 0 cld ∷ Given ∷ comes Uih 0 (0xc3 ∷ 3 ∷ 0x7a ∷ []) ∷
+    opening_one ++ takes 3 Stop ∷ sends Uih 0 cld_command ∷ Given ∷ comes Uih 0 (0xc3 ∷ 3 ∷ 0x7a ∷ []) ∷
     sends Uih 0 (0xc1 ∷ 3 ∷ 0x7a ∷ []) ∷ tells 3 Stopped ∷ Given ∷ comes Uih 0 cld_response ∷ []
 
 -- CLD from the modem with a command, an opening and a probe in hand; the late UA opens nothing
@@ -190,7 +193,7 @@ abbrev pub zero_closed : List Act
 zero_closed =
     opening_one ++ takes 3 (Command one (codes "AT+CSQ")) ∷ sends Uih 1 (codes "AT+CSQ" ++ cr) ∷
     takes 4 (OpenChannel two) ∷ sends Sabm 2 [] ∷ Given ∷ takes 5 (Probe (codes "A")) ∷
-    sends Uih 0 (0x23 ∷ 3 ∷ 0x41 ∷ []) ∷ Given ∷ comes Uih 0 cld ∷ sends Uih 0 cld_response ∷
+    sends Uih 0 (0x23 ∷ 3 ∷ 0x41 ∷ []) ∷ Given ∷ comes Uih 0 cld_command ∷ sends Uih 0 cld_response ∷
     tells 3 Closed ∷ tells 4 Closed ∷ tells 5 Closed ∷ Given ∷ comes Ua 2 [] ∷ []
 
 -- DISC on 0 with a command, an opening, a closing and a probe in hand
@@ -199,7 +202,7 @@ zero_disc =
     opening_one ++ takes 3 (Command one (codes "AT+CSQ")) ∷ sends Uih 1 (codes "AT+CSQ" ++ cr) ∷
     takes 4 (OpenChannel two) ∷ sends Sabm 2 [] ∷ Given ∷ takes 5 (Probe (codes "A")) ∷
     sends Uih 0 (0x23 ∷ 3 ∷ 0x41 ∷ []) ∷ Given ∷ takes 6 (OpenChannel sixty_one) ∷ sends Sabm 61 [] ∷
-    Given ∷ comes Ua 61 [] ∷ sends Uih 0 (msc 61 0x8d) ∷ tells 6 Opened ∷ Given ∷
+    Given ∷ comes Ua 61 [] ∷ sends Uih 0 (msc_command 61 0x8d) ∷ tells 6 Opened ∷ Given ∷
     takes 7 (CloseChannel sixty_one) ∷ sends Disc 61 [] ∷ Given ∷ comes Disc 0 [] ∷ sends Ua 0 [] ∷
     tells 3 Closed ∷ tells 4 Closed ∷ tells 5 Closed ∷ tells 7 Closed ∷ Given ∷ []
 
@@ -207,18 +210,19 @@ zero_disc =
 abbrev pub turns : List Act
 turns =
     opening_one ++ takes 3 (OpenChannel two) ∷ sends Sabm 2 [] ∷ Given ∷ comes Ua 2 [] ∷
-    sends Uih 0 (msc 2 0x8d) ∷ tells 3 Opened ∷ Given ∷ comes Uih 0 fcoff ∷ sends Uih 0 fcoff_response ∷
+    sends Uih 0 (msc_command 2 0x8d) ∷ tells 3 Opened ∷ Given ∷ comes Uih 0 fcoff_command ∷
+    sends Uih 0 fcoff_response ∷
     Given ∷ takes 4 (Command one (codes "AT+CSQ")) ∷
-    takes 5 (Command two (codes "AT+CGDCONT=1,\"IP\",\"internet.example\"")) ∷ comes Uih 0 fcon ∷
+    takes 5 (Command two (codes "AT+CGDCONT=1,\"IP\",\"internet.example\"")) ∷ comes Uih 0 fcon_command ∷
     sends Uih 0 fcon_response ∷ Given ∷ sends Uih 1 (codes "AT+CSQ" ++ cr) ∷
     sends Uih 2 (codes "AT+CGDCONT=1,\"IP\",\"internet.exa") ∷ sends Uih 2 (codes "mple\"" ++ cr) ∷ []
 
 -- a stop is forgotten by close and reopening
 abbrev pub stop_forgotten : List Act
 stop_forgotten =
-    opening_one ++ comes Uih 0 (msc 1 0x8f) ∷ sends Uih 0 (msc_response 1 0x8f) ∷ Given ∷
+    opening_one ++ comes Uih 0 (msc_command 1 0x8f) ∷ sends Uih 0 (msc_response 1 0x8f) ∷ Given ∷
     takes 3 (CloseChannel one) ∷ sends Disc 1 [] ∷ Given ∷ comes Ua 1 [] ∷ tells 3 Shut ∷
-    takes 4 (OpenChannel one) ∷ sends Sabm 1 [] ∷ Given ∷ comes Ua 1 [] ∷ sends Uih 0 (msc 1 0x8d) ∷
+    takes 4 (OpenChannel one) ∷ sends Sabm 1 [] ∷ Given ∷ comes Ua 1 [] ∷ sends Uih 0 (msc_command 1 0x8d) ∷
     tells 4 Opened ∷ Given ∷ takes 5 (Command one (codes "AT+CSQ")) ∷ sends Uih 1 (codes "AT+CSQ" ++ cr) ∷
     []
 
@@ -254,7 +258,7 @@ busy_states =
     tells 3 Busy ∷ takes 4 (CloseChannel one) ∷ tells 4 Busy ∷ takes 5 (Probe (codes "A")) ∷
     sends Uih 0 (0x23 ∷ 3 ∷ 0x41 ∷ []) ∷ Given ∷ takes 6 (Probe (codes "B")) ∷ tells 6 Busy ∷
     takes 7 (CloseChannel two) ∷ tells 7 NotOpen ∷ takes 8 (CloseChannel zero) ∷ tells 8 ControlChannel ∷
-    takes 9 Stop ∷ sends Uih 0 cld ∷ tells 2 Closed ∷ tells 5 Closed ∷ Given ∷ []
+    takes 9 Stop ∷ sends Uih 0 cld_command ∷ tells 2 Closed ∷ tells 5 Closed ∷ Given ∷ []
 
 -- frames on what is Shut: DISC and SABM get DM, the rest nothing
 abbrev pub shut_frames : List Act
@@ -265,7 +269,8 @@ shut_frames =
 -- row held-back: held, then freed
 abbrev pub held_and_freed : List Act
 held_and_freed =
-    opening_one ++ Held 1 ∷ sends Uih 0 (msc 1 0x8f) ∷ Given ∷ Freed 1 ∷ sends Uih 0 (msc 1 0x8d) ∷ Given ∷
+    opening_one ++ Held 1 ∷ sends Uih 0 (msc_command 1 0x8f) ∷ Given ∷ Freed 1 ∷
+    sends Uih 0 (msc_command 1 0x8d) ∷ Given ∷
     []
 
 -- all of them

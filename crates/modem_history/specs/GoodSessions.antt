@@ -38,7 +38,9 @@ sabm_queued = record { view = settled lf_octet [] (first_request ∷ []) [] [] [
 -- two octets of the SABM are sent, and four wait
 abbrev pub sabm_half_sent : SessionRow
 sabm_half_sent = record {
-  view = record (settled lf_octet (take 2 sabm_zero) (first_request ∷ []) [] [] [] []) { unwritten = drop 2 sabm_zero };
+  view = record (settled lf_octet (take 2 sabm_zero) (first_request ∷ []) [] [] [] []) {
+    unwritten = drop 2 sabm_zero;
+  };
   acts = left_zero;
 }
 
@@ -60,42 +62,56 @@ ua_at_hand = record {
 
 -- 0 is open, and the caller was told
 abbrev pub zero_opened : SessionRow
-zero_opened = record { view = settled zero_came sabm_zero (first_request ∷ []) opened_zero [] [] last_flag; acts = opening_zero }
+zero_opened = record {
+  view = settled zero_came sabm_zero (first_request ∷ []) opened_zero [] [] last_flag;
+  acts = opening_zero;
+}
 
 -- 0 is open, and the outcome waits for a place
 abbrev pub outcome_waits : SessionRow
 outcome_waits = record {
-  view = record (settled zero_came sabm_zero (first_request ∷ []) [] [] [] last_flag) { unplaced = opened_zero };
+  view = record (settled zero_came sabm_zero (first_request ∷ []) [] [] [] last_flag) {
+    unplaced = opened_zero;
+  };
   acts = opening_zero;
 }
 
 -- 0 is open, and the request to open 1 is kept aside
 abbrev pub request_aside : SessionRow
 request_aside = record {
-  view = record (settled zero_came sabm_zero (first_request ∷ second_request ∷ []) opened_zero [] [] last_flag) { aside = Some second_request };
+  view =
+      record (settled zero_came sabm_zero (first_request ∷ second_request ∷ []) opened_zero [] [] last_flag) {
+        aside = Some second_request;
+      };
   acts = opening_zero;
 }
 
 -- the command left, and waits for its answer
 abbrev pub csq_sent : SessionRow
 csq_sent = record {
-  view = settled one_came (one_left ++ csq_one) (first_request ∷ second_request ∷ third_request ∷ []) opened_both [] [] last_flag;
+  view =
+      settled one_came (one_left ++ csq_one)
+      (first_request ∷ second_request ∷ third_request ∷ []) opened_both [] [] last_flag;
   acts = asked_csq;
 }
 
 -- RING was announced
 abbrev pub ring_announced : SessionRow
 ring_announced = record {
-  view = settled (one_came ++ ring_one) one_left (first_request ∷ second_request ∷ []) opened_both (ring ∷ []) [] last_flag;
+  view =
+      settled (one_came ++ ring_one) one_left (first_request ∷ second_request ∷ []) opened_both (ring ∷ []) []
+      last_flag;
   acts = ring_came;
 }
 
 -- RING waits for a place
 abbrev pub ring_waits : SessionRow
 ring_waits = record {
-  view = record (settled (one_came ++ ring_one) one_left (first_request ∷ second_request ∷ []) opened_both [] [] last_flag) {
-    unannounced = ring ∷ [];
-  };
+  view =
+      record (settled (one_came ++ ring_one) one_left (first_request ∷ second_request ∷ []) opened_both [] []
+      last_flag) {
+        unannounced = ring ∷ [];
+      };
   acts = ring_came;
 }
 
@@ -107,15 +123,22 @@ loss_told =
 -- a call failed, and LineLost waits for a place; the SABM isn't sent any more
 abbrev pub line_lost : SessionRow
 line_lost = record {
-  view = record (settled zero_came (sabm_zero ++ take 2 sabm_one) (first_request ∷ second_request ∷ []) opened_zero [] [] last_flag) {
-    line = record { received = entry_answer ++ zero_came; sent = entry_text ++ sabm_zero ++ take 2 sabm_one; calls = 40; failures = 1 };
-    unwritten = drop 2 sabm_one;
-    unplaced = outcome_of 2 LineLost ∷ [];
-  };
+  view =
+      record (settled zero_came (sabm_zero ++ take 2 sabm_one)
+      (first_request ∷ second_request ∷ []) opened_zero [] [] last_flag) {
+        line = record {
+          received = entry_answer ++ zero_came;
+          sent = entry_text ++ sabm_zero ++ take 2 sabm_one;
+          calls = 40;
+          failures = 1;
+        };
+        unwritten = drop 2 sabm_one;
+        unplaced = outcome_of 2 LineLost ∷ [];
+      };
   acts = loss_told;
 }
 
 abbrev pub right_sessions : List SessionRow
 right_sessions =
-    nothing_yet ∷ sabm_queued ∷ sabm_half_sent ∷ ua_unfed ∷ ua_at_hand ∷ zero_opened ∷ outcome_waits ∷ request_aside ∷
-    csq_sent ∷ ring_announced ∷ ring_waits ∷ line_lost ∷ []
+    nothing_yet ∷ sabm_queued ∷ sabm_half_sent ∷ ua_unfed ∷ ua_at_hand ∷ zero_opened ∷ outcome_waits ∷
+    request_aside ∷ csq_sent ∷ ring_announced ∷ ring_waits ∷ line_lost ∷ []

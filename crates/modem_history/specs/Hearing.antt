@@ -1,5 +1,5 @@
--- Which lines are heard: of those of a connection, over all its openings in turn, each that no answer holds and that is
--- no echo, if its kind is listened to (V.250, 5.7.1; 27.007, 9).
+-- Which lines are heard: of those of a connection, over all its openings in turn, each that no answer holds
+-- and that is no echo, if its kind is listened to (V.250, 5.7.1; 27.007, 9).
 use Rattle.std.specs.Prelude.{◌≡◌, ℕ, ◌==◌, List, [], ◌∷◌, ◌++◌, filter, if◌then◌else◌}
 use Rattle.std.specs.List.{flat_map}
 use Rattle.mux_station.specs.declared.role.Role.{Role}
@@ -25,7 +25,8 @@ to_be_heard d [] = []
 to_be_heard d (Heard kind e line ∷ owing) = (if e == d then (kind, line) ∷ [] else []) ++ to_be_heard d owing
 to_be_heard d (_ ∷ owing) = to_be_heard d owing
 
--- what is placed on d before it last opened, each opening by itself, in turn; before the first there is nothing
+-- what is placed on d before it last opened, each opening by itself, in turn; before the first there is
+-- nothing
 abbrev pub earlier_marks : Role → ℕ → List Act → List (List Mark)
 earlier_marks r d [] = []
 earlier_marks r d (Got f ∷ past) =
@@ -53,8 +54,8 @@ abbrev pub AreNoneLost : List (List Mark) → Type 0
 AreNoneLost [] = Unit {0}
 AreNoneLost (ms ∷ rest) = NoneLost ms × AreNoneLost rest
 
--- what was heard on d is the beginning of all that is announced there, and the rest is owed; and what is announced are
--- just the lines that are part of no answer and no echo, each once
+-- what was heard on d is the beginning of all that is announced there, and the rest is owed; and what is
+-- announced are just the lines that are part of no answer and no echo, each once
 pub record Hears (s : Setting) (d : ℕ) (past : List Act) : Type 0 where
   pub in_order : was_heard d past ++ to_be_heard d (owed s past) ≡ listened_on s d past
   pub each_once : AreNoneLost (all_marks s.role d past)

@@ -8,14 +8,15 @@ use Rattle.modem_history.specs.Acts.{Act, Heard, Given, after}
 use Rattle.modem_history.specs.Calls.{replaying}
 use Rattle.modem_history.specs.Lawful.{owed}
 use Rattle.modem_history.specs.Hearing.{was_heard, to_be_heard, listened_on}
-use Rattle.modem_history.specs.Rows.{one, takes, tells, tells_done, sends, comes, msc, cr, framed, opening_one}
+use Rattle.modem_history.specs.Rows.{one, takes, tells, tells_done, sends, comes, msc_command, cr, framed, opening_one}
 
--- a RING in the first opening; in the second one inside an answer with its echo, and then a line that no command asked for
+-- a RING in the first opening; in the second one inside an answer with its echo, and then a line that no
+-- command asked for
 abbrev pub rings : List Act
 rings =
     opening_one ++ comes Uih 1 (framed (codes "RING")) ∷ Heard Ring 1 (codes "RING") ∷
     comes Disc 1 [] ∷ sends Ua 1 [] ∷ Given ∷ takes 3 (OpenChannel one) ∷ sends Sabm 1 [] ∷ Given ∷
-    comes Ua 1 [] ∷ sends Uih 0 (msc 1 0x8d) ∷ tells 3 Opened ∷ Given ∷
+    comes Ua 1 [] ∷ sends Uih 0 (msc_command 1 0x8d) ∷ tells 3 Opened ∷ Given ∷
     takes 4 (Command one (codes "AT")) ∷ sends Uih 1 (codes "AT" ++ cr) ∷
     comes Uih 1 (codes "AT" ++ cr ++ framed (codes "RING") ++ framed (codes "OK") ++ framed (codes "OK")) ∷
     Heard Ring 1 (codes "RING") ∷ tells_done 4 (codes "OK" ∷ []) ∷ []

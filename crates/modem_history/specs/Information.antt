@@ -37,7 +37,8 @@ is_accepted r d past q = is_open r d (wire past) && (command_on d q.ask && nat_l
 -- the commands that were accepted on d since it opened, in order
 abbrev pub accepted : Role → ℕ → List Act → List Request
 accepted r d [] = []
-accepted r d (Took q ∷ past) = if is_accepted r d past q then accepted r d past ++ q ∷ [] else accepted r d past
+accepted r d (Took q ∷ past) =
+    if is_accepted r d past q then accepted r d past ++ q ∷ [] else accepted r d past
 accepted r d (a ∷ past) = if opens_here r d past a then [] else accepted r d past
 
 -- those that were accepted in each of its openings, in turn; before the first there are none

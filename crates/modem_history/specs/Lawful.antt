@@ -35,8 +35,9 @@ owed s (a ∷ past) = owed_after s past (owed s past) a
 
 -- ## The laws of a data frame
 
--- the line isn't lost; it leaves an open connection that isn't stopped, as this end writes it, behind all that is
--- owed and behind every control frame, each of which is given on: so the order of frames sent is that on the line
+-- the line isn't lost; it leaves an open connection that isn't stopped, as this end writes it, behind all
+-- that is owed and behind every control frame, each of which is given on: so the order of frames sent is that
+-- on the line
 pub record Gated (s : Setting) (past owing : List Act) (f : Frame) : Type 0 where
   pub live : is_lost past ≡ false
   pub is_open : is_open s.role f.dlci (wire past) ≡ true
@@ -50,12 +51,14 @@ pub record Gated (s : Setting) (past owing : List Act) (f : Frame) : Type 0 wher
 -- what left goes on to be a prefix of what was accepted
 abbrev pub Once : Setting → List Act → Frame → Type 0
 Once s past f =
-    IsTrue (starts_with nat_eq (concat (texts (accepted s.role f.dlci past))) (information_out s.role f.dlci past ++ f.info))
+    IsTrue (starts_with nat_eq (concat (texts (accepted s.role f.dlci past)))
+    (information_out s.role f.dlci past ++ f.info))
 
 -- it reaches into a command only if the ones before have their final codes
 abbrev pub InTurn : Setting → List Act → Frame → Type 0
 InTurn s past f =
-    IsTrue (nat_le (reached_in (length (information_out s.role f.dlci past ++ f.info)) (texts (accepted s.role f.dlci past))) (answered (marks s.role f.dlci past) + 1))
+    IsTrue (nat_le (reached_in (length (information_out s.role f.dlci past ++ f.info))
+    (texts (accepted s.role f.dlci past))) (answered (marks s.role f.dlci past) + 1))
 
 -- ## The laws of an act
 
@@ -92,8 +95,8 @@ owes_frame [] = false
 owes_frame (Sent f ∷ owing) = true
 owes_frame (_ ∷ owing) = owes_frame owing
 
--- a call begins where no frame is owed, since what it calls for goes by the states after all frames; outcomes and
--- lines may be late, and a loss of the line may come at any time
+-- a call begins where no frame is owed, since what it calls for goes by the states after all frames; outcomes
+-- and lines may be late, and a loss of the line may come at any time
 abbrev pub OnFirst : List Act → Act → Type 0
 OnFirst owing (Took r) = owes_frame owing ≡ false
 OnFirst owing (Got f) = owes_frame owing ≡ false
@@ -111,8 +114,8 @@ abbrev pub OnGiven : List Act → Act → Type 0
 OnGiven past Given = some_wait (queue (wire past)) ≡ true
 OnGiven past _ = Unit {0}
 
--- the act may follow the past, to which so much is owed: a frame that is no data, an outcome, a line is the next
--- one owed
+-- the act may follow the past, to which so much is owed: a frame that is no data, an outcome, a line is the
+-- next one owed
 pub record Allows (s : Setting) (past owing : List Act) (a : Act) : Type 0 where
   pub gated : OnData (Gated s past owing) a
   pub once : OnData (Once s past) a
@@ -142,7 +145,8 @@ is_quiet_on s d past =
 
 unfoldable pub Quiet : Setting → List Act → Type 0
 Quiet s past =
-    (d : ℕ) → d < 62 → (d == 0) ≡ false → is_open s.role d (wire past) ≡ true → is_stopped s.role d (wire past) ≡ false
+    (d : ℕ) → d < 62 → (d == 0) ≡ false → is_open s.role d (wire past) ≡ true
+    → is_stopped s.role d (wire past) ≡ false
     → is_quiet_on s d past ≡ true
 
 -- all three

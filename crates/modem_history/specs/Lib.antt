@@ -24,7 +24,7 @@ pub mod GoodSessions
 pub mod BadSessions
 pub mod GoodTurns
 pub mod BadTurns
-pub mod BadDealings
+pub mod BadExchanges
 pub mod BacklogRows
 pub mod EntryRows
 pub mod FinishRows

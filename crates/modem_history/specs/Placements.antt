@@ -1,4 +1,5 @@
--- What is placed in a history is read off the acts at this end of the line and the commands that were accepted.
+-- What is placed in a history is read off the acts at this end of the line and the commands that were
+-- accepted.
 use Rattle.std.specs.Prelude.{◌≡◌, ℕ, List, [], ◌∷◌, length, map, None}
 use Rattle.std.specs.List.{concat, flat_map}
 use Rattle.at_text.specs.Lines.{lines}
@@ -20,7 +21,8 @@ AreMarksPlaced s past =
 -- and so they are in each of its openings
 unfoldable pub AreAllMarksPlaced : Setting → List Act → Type 0
 AreAllMarksPlaced s past =
-    (d : ℕ) → all_marks s.role d past ≡ all_placed s.role d (lines_by_opening (all_accepted s.role d past)) (wire past)
+    (d : ℕ) → all_marks s.role d past
+    ≡ all_placed s.role d (lines_by_opening (all_accepted s.role d past)) (wire past)
 
 -- the lines that are placed on d in all its openings are its lines among those of all connections
 unfoldable pub HaveMarksAllLines : Setting → List Act → Type 0
@@ -35,10 +37,12 @@ AreCommandLines (text ∷ texts) = (refusal_of text ≡ None) × AreCommandLines
 -- of command lines that go out the other end reads just those that are wholly sent, wherever they are cut
 unfoldable pub AreReadAsSent : (commands : List (List ℕ)) → (out : List ℕ) → Type 0
 AreReadAsSent commands out =
-    AreCommandLines commands → IsPrefixOf out (concat (with_cr commands)) → lines out ≡ wholly_sent (length out) commands
+    AreCommandLines commands → IsPrefixOf out (concat (with_cr commands))
+    → lines out ≡ wholly_sent (length out) commands
 
 -- and so of the commands that were accepted on a connection
 unfoldable pub ReadsAccepted : Setting → List Act → Type 0
 ReadsAccepted s past =
     (d : ℕ) → AreCommandLines (map line_of (accepted s.role d past))
-    → lines (information_out s.role d past) ≡ map line_of (whole_after (length (information_out s.role d past)) (accepted s.role d past))
+    → lines (information_out s.role d past)
+    ≡ map line_of (whole_after (length (information_out s.role d past)) (accepted s.role d past))

@@ -27,7 +27,8 @@ abbrev pub begun_placed : Role → ℕ → List Act → Frame → List Mark
 begun_placed r d past f =
     let out = length (information_out r d past) in
     let qs = accepted r d past in
-    map (λ (q : Request). Begun (line_of q)) (drop (whole_in out (texts qs)) (whole_after (out + length f.info) qs))
+    map (λ (q : Request). Begun (line_of q))
+    (drop (whole_in out (texts qs)) (whole_after (out + length f.info) qs))
 
 -- what is placed on d since it opened, in order: a line at the frame in which its end comes, a command at the
 -- frame that completes it
@@ -38,5 +39,6 @@ marks r d (Got f ∷ past) =
     else if carries d f && is_open r d (wire past) then marks r d past ++ lines_placed r d past f
     else marks r d past
 marks r d (Sent f ∷ past) =
-    if carries d f && is_open r d (wire past) then marks r d past ++ begun_placed r d past f else marks r d past
+    if carries d f && is_open r d (wire past) then marks r d past ++ begun_placed r d past f
+    else marks r d past
 marks r d (a ∷ past) = marks r d past

@@ -1,4 +1,4 @@
--- Words for histories that are worked by hand: caller 0's requests at an initiator with N1 31.
+-- Vocabulary of histories that are worked by hand: caller 0's requests at an initiator with N1 31.
 use Rattle.std.proofs.Common.{lit<}
 use Rattle.std.specs.Prelude.{ℕ, ◌+◌, ◌*◌, List, [], ◌∷◌, ◌++◌}
 use Rattle.mux_frame.specs.declared.frame.Kind.{Kind}
@@ -64,26 +64,26 @@ abbrev pub framed : List ℕ → List ℕ
 framed text = cr ++ lf ++ text ++ cr ++ lf
 
 -- control messages (27.010, 5.4.6.3)
-abbrev pub msc : ℕ → ℕ → List ℕ
-msc d signals = 0xe3 ∷ 5 ∷ (4 * d + 3) ∷ signals ∷ []
+abbrev pub msc_command : ℕ → ℕ → List ℕ
+msc_command d signals = 0xe3 ∷ 5 ∷ (4 * d + 3) ∷ signals ∷ []
 
 abbrev pub msc_response : ℕ → ℕ → List ℕ
 msc_response d signals = 0xe1 ∷ 5 ∷ (4 * d + 3) ∷ signals ∷ []
 
-abbrev pub fcoff : List ℕ
-fcoff = 0x63 ∷ 1 ∷ []
+abbrev pub fcoff_command : List ℕ
+fcoff_command = 0x63 ∷ 1 ∷ []
 
 abbrev pub fcoff_response : List ℕ
 fcoff_response = 0x61 ∷ 1 ∷ []
 
-abbrev pub fcon : List ℕ
-fcon = 0xa3 ∷ 1 ∷ []
+abbrev pub fcon_command : List ℕ
+fcon_command = 0xa3 ∷ 1 ∷ []
 
 abbrev pub fcon_response : List ℕ
 fcon_response = 0xa1 ∷ 1 ∷ []
 
-abbrev pub cld : List ℕ
-cld = 0xc3 ∷ 1 ∷ []
+abbrev pub cld_command : List ℕ
+cld_command = 0xc3 ∷ 1 ∷ []
 
 abbrev pub cld_response : List ℕ
 cld_response = 0xc1 ∷ 1 ∷ []
@@ -96,7 +96,7 @@ opening_zero = takes 1 (OpenChannel zero) ∷ sends Sabm 0 [] ∷ Given ∷ come
 abbrev pub opening_one : List Act
 opening_one =
     opening_zero ++ takes 2 (OpenChannel one) ∷ sends Sabm 1 [] ∷ Given ∷ comes Ua 1 [] ∷
-    sends Uih 0 (msc 1 0x8d) ∷ tells 2 Opened ∷ Given ∷ []
+    sends Uih 0 (msc_command 1 0x8d) ∷ tells 2 Opened ∷ Given ∷ []
 
 -- ## What is said of rows
 

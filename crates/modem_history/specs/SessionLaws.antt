@@ -9,8 +9,8 @@ use Rattle.modem_desk.specs.declared.request.Request.{Request}
 use Rattle.modem_desk.specs.declared.request.Outcome.{Outcome}
 use Rattle.modem_history.specs.Acts.{Act, wire, is_for, in_hand}
 use Rattle.modem_history.specs.Calls.{is_lost}
-use Rattle.modem_history.specs.Wholes.{taken, outcomes}
-use Rattle.modem_history.specs.Sessions.{Beginning, SessionView, SessionFits, HasHistory, AreOnce, Goes, gots, sents, given_on, octets_of_frames, of_caller, at_place}
+use Rattle.modem_history.specs.Wholes.{taken_requests, outcomes}
+use Rattle.modem_history.specs.Sessions.{Beginning, SessionView, SessionFits, HasHistory, AreOnce, Goes, gots, sents, given_on, octets_of_frames, caller_outcomes, at_place}
 
 -- a session that has done nothing yet
 abbrev pub fresh : Beginning → SessionView
@@ -39,8 +39,8 @@ pub record GotAreRead (b : Beginning) (v : SessionView) (past : List Act) : Type
   pub rest : List ℕ
   pub reads : Reads b.n1 octets (gots past ++ later) rest
 
--- in a lawful history the frames given on are the first of those sent, and while the line isn't lost the others are
--- those that wait in the control queue
+-- in a lawful history the frames given on are the first of those sent, and while the line isn't lost the
+-- others are those that wait in the control queue
 pub record GivesInOrder (past : List Act) : Type 0 where
   pub later : List Frame
   pub sent_are : sents past ≡ given_on past ++ later
@@ -60,26 +60,29 @@ pub record AreGivenOn (fs : List Frame) (past : List Act) : Type 0 where
 abbrev pub HasMarks : Beginning → SessionView → List Act → Type 0
 HasMarks b v past =
     (whole later : List Frame) (rest : List ℕ)
-    → sents past ≡ whole ++ later → v.line.sent ≡ b.line.sent ++ octets_of_frames whole ++ rest → AreGivenOn whole past
+    → sents past ≡ whole ++ later → v.line.sent ≡ b.line.sent ++ octets_of_frames whole ++ rest
+    → AreGivenOn whole past
 
 -- ## Requests
 
 -- taken and not told
 abbrev pub untold : List Act → List Request
-untold past = filter (λ r. not (list_any (λ o. is_for r o) (outcomes past))) (taken past)
+untold past = filter (λ r. not (list_any (λ o. is_for r o) (outcomes past))) (taken_requests past)
 
 -- the requests in hand are those that were taken and not told, in order
 abbrev pub HandIsUntold : List Act → Type 0
 HandIsUntold past = in_hand past ≡ untold past
 
--- no request has two outcomes among those that its caller was told since the session began and those that wait for it
+-- no request has two outcomes among those that its caller was told since the session began and those that
+-- wait for it
 abbrev pub TellsOnce : Beginning → SessionView → Type 0
 TellsOnce b v =
     (r : Request) (since : List Outcome)
-    → at_place r.caller v.desk.told ≡ at_place r.caller b.desk.told ++ since → length (filter (λ o. is_for r o) (since ++ of_caller r.caller v.unplaced)) ≤ 1
+    → at_place r.caller v.desk.told ≡ at_place r.caller b.desk.told ++ since
+    → length (filter (λ o. is_for r o) (since ++ caller_outcomes r.caller v.unplaced)) ≤ 1
 
 -- what it says that a session fits a history
-pub record Says (b : Beginning) (v : SessionView) (past : List Act) : Type 0 where
+pub record SessionSays (b : Beginning) (v : SessionView) (past : List Act) : Type 0 where
   pub read : AreOctets v.unfed → GotAreRead b v past
   pub order : GivesInOrder past
   pub spelled : SendsSpellings b v past
@@ -88,17 +91,21 @@ pub record Says (b : Beginning) (v : SessionView) (past : List Act) : Type 0 whe
   pub once : TellsOnce b v
 
 unfoldable pub FitsSays : Beginning → SessionView → List Act → Type 0
-FitsSays b v past = SessionFits b v past → Says b v past
+FitsSays b v past = SessionFits b v past → SessionSays b v past
 
 -- ## Calls
 
 -- one call after another is as one call
-abbrev pub RunsOn : (old mid new : SessionView) → (first second third : Beginning → List Act → Type 0) → Type 0
-RunsOn old mid new first second third = Goes old mid first second → Goes mid new second third → Goes old new first third
+abbrev pub RunsOn : (old mid new : SessionView) → (first second third : Beginning → List Act → Type 0)
+    → Type 0
+RunsOn old mid new first second third =
+    Goes old mid first second → Goes mid new second third → Goes old new first third
 
 -- what had a history has one after a call, where no caller used a number twice
-abbrev pub KeepsHistory : Beginning → (old new : SessionView) → (core later : Beginning → List Act → Type 0) → Type 0
-KeepsHistory b old new core later = HasHistory b old (core b) → Goes old new core later → AreOnce b new → HasHistory b new (later b)
+abbrev pub KeepsHistory : Beginning → (old new : SessionView) → (core later : Beginning → List Act → Type 0)
+    → Type 0
+KeepsHistory b old new core later =
+    HasHistory b old (core b) → Goes old new core later → AreOnce b new → HasHistory b new (later b)
 
 -- the histories that a core fits, by a test of them: a clause can speak of all tests, but not of all types
 abbrev pub by_test : (Beginning → List Act → Bool) → Beginning → List Act → Type 0

@@ -1,5 +1,5 @@
--- Words for sessions that are worked by hand: a session with two callers and listeners of RING and +CREG, with N1 31,
--- that began where the multiplexer had been entered.
+-- Vocabulary of sessions that are worked by hand: a session with two callers and listeners of RING and +CREG,
+-- with N1 31, that began where the multiplexer had been entered.
 use Rattle.std.specs.Prelude.{ℕ, List, [], ◌∷◌, ◌++◌, None, codes}
 use Rattle.at_text.specs.declared.unsolicited.UrcKind.{UrcKind}
 use Rattle.at_text.specs.declared.unsolicited.UrcKind.TheVariants.{Ring, Creg}
@@ -12,7 +12,7 @@ use Rattle.modem_desk.specs.declared.request.Urc.{Urc}
 use Rattle.modem_history.specs.Acts.{Act, after}
 use Rattle.modem_history.specs.Entering.{entry_text}
 use Rattle.modem_history.specs.Sessions.{Beginning, SessionView, SessionFits}
-use Rattle.modem_history.specs.Turns.{Dealings, TurnAnswer, IsTurn}
+use Rattle.modem_history.specs.Turns.{Exchange, TurnAnswer, IsTurn}
 use Rattle.modem_history.specs.Rows.{zero, one, two, asks}
 
 -- ## The beginning
@@ -65,11 +65,12 @@ csq_one = 0xF9 ∷ 0x07 ∷ 0xEF ∷ 0x0F ∷ 0x41 ∷ 0x54 ∷ 0x2B ∷ 0x43 �
 
 -- RING between its line ends, on 1
 abbrev pub ring_one : List ℕ
-ring_one = 0xF9 ∷ 0x05 ∷ 0xEF ∷ 0x11 ∷ 0x0D ∷ 0x0A ∷ 0x52 ∷ 0x49 ∷ 0x4E ∷ 0x47 ∷ 0x0D ∷ 0x0A ∷ 0x4A ∷ 0xF9 ∷ []
+ring_one =
+    0xF9 ∷ 0x05 ∷ 0xEF ∷ 0x11 ∷ 0x0D ∷ 0x0A ∷ 0x52 ∷ 0x49 ∷ 0x4E ∷ 0x47 ∷ 0x0D ∷ 0x0A ∷ 0x4A ∷ 0xF9 ∷ []
 
 -- a Test command with the octets AB, and its response
-abbrev pub test_command : List ℕ
-test_command = 0xF9 ∷ 0x01 ∷ 0xEF ∷ 0x09 ∷ 0x23 ∷ 0x05 ∷ 0x41 ∷ 0x42 ∷ 0x9A ∷ 0xF9 ∷ []
+abbrev pub test_command_info : List ℕ
+test_command_info = 0xF9 ∷ 0x01 ∷ 0xEF ∷ 0x09 ∷ 0x23 ∷ 0x05 ∷ 0x41 ∷ 0x42 ∷ 0x9A ∷ 0xF9 ∷ []
 
 abbrev pub test_response : List ℕ
 test_response = 0xF9 ∷ 0x03 ∷ 0xEF ∷ 0x09 ∷ 0x21 ∷ 0x05 ∷ 0x41 ∷ 0x42 ∷ 0xFB ∷ 0xF9 ∷ []
@@ -77,8 +78,8 @@ test_response = 0xF9 ∷ 0x03 ∷ 0xEF ∷ 0x09 ∷ 0x21 ∷ 0x05 ∷ 0x41 ∷ 0
 -- +CREG: and a blank, this digit, between line ends, on 1
 abbrev pub creg_one : ℕ → List ℕ
 creg_one digit =
-    0xF9 ∷ 0x05 ∷ 0xEF ∷ 0x19 ∷ 0x0D ∷ 0x0A ∷ 0x2B ∷ 0x43 ∷ 0x52 ∷ 0x45 ∷ 0x47 ∷ 0x3A ∷ 0x20 ∷ digit ∷ 0x0D ∷ 0x0A ∷
-    0x44 ∷ 0xF9 ∷ []
+    0xF9 ∷ 0x05 ∷ 0xEF ∷ 0x19 ∷ 0x0D ∷ 0x0A ∷ 0x2B ∷ 0x43 ∷ 0x52 ∷ 0x45 ∷ 0x47 ∷ 0x3A ∷ 0x20 ∷ digit ∷ 0x0D ∷
+    0x0A ∷ 0x44 ∷ 0xF9 ∷ []
 
 -- what came and what left by the opening of 0, and by that of 0 and 1
 abbrev pub zero_came : List ℕ
@@ -121,9 +122,10 @@ ring = line_on_one Ring (codes "RING")
 
 -- ## Sessions
 
--- it has read and sent these octets, took these requests, told caller 0 these outcomes, and announced these lines of each
--- kind; nothing waits but for these octets that the deframer keeps
-abbrev pub settled : (came left : List ℕ) → List Request → List Outcome → (rings cregs : List Urc) → (kept : List ℕ) → SessionView
+-- it has read and sent these octets, took these requests, told caller 0 these outcomes, and announced these
+-- lines of each kind; nothing waits but for these octets that the deframer keeps
+abbrev pub settled : (came left : List ℕ) → List Request → List Outcome → (rings cregs : List Urc)
+    → (kept : List ℕ) → SessionView
 settled came left requests told rings cregs kept = record {
   line = record { received = entry_answer ++ came; sent = entry_text ++ left; calls = 40; failures = 0 };
   desk = record { taken = requests; told = told ∷ [] ∷ []; announced = rings ∷ cregs ∷ [] };
@@ -164,15 +166,16 @@ pub record TurnRow : Type 0 where
   pub acts : List Act
   pub says : TurnAnswer
 
--- the turn is right, by these dealings with its line and its desk
-pub record IsRightTurn (row : TurnRow) (t : Dealings) : Type 0 where
+-- the turn is right, by this exchange with its line and its desk
+pub record IsRightTurn (row : TurnRow) (t : Exchange) : Type 0 where
   pub fitted : SessionFits beginning row.old (after [] row.before)
   pub fits : SessionFits beginning row.new (after (after [] row.before) row.acts)
   pub turn : IsTurn beginning row.old row.new t (after [] row.before) row.acts row.says
 
--- the turn is wrong, whatever it dealt with its line and its desk
+-- the turn is wrong, whatever it exchanged with its line and its desk
 abbrev pub IsWrongTurn : TurnRow → Type 0
-IsWrongTurn row = (t : Dealings) → ¬ IsTurn beginning row.old row.new t (after [] row.before) row.acts row.says
+IsWrongTurn row =
+    (t : Exchange) → ¬ IsTurn beginning row.old row.new t (after [] row.before) row.acts row.says
 
 -- ## All of them
 

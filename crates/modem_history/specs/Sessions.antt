@@ -1,5 +1,5 @@
--- What a session fits: of what its line and its desk's end did since it began, and of what it still has, one history
--- tells all.
+-- What a session fits: of what its line and its desk's end did since it began, and of what it still has, one
+-- history tells all.
 use Rattle.std.specs.Prelude.{◌≡◌, ℕ, ◌+◌, ◌-◌, ◌<◌, ◌≤◌, ◌==◌, true, List, [], ◌∷◌, ◌++◌, length, take, drop, map, filter, flat_map, Option, option_to_list, slice_index_or, if◌then◌else◌, nat_lt, nat_le}
 use Rattle.std.specs.List.{list_all}
 use mathlib.Core.Option.{some}
@@ -19,7 +19,7 @@ use Rattle.modem_history.specs.Requests.{are_distinct}
 use Rattle.modem_history.specs.Kinds.{is_same_kind, is_listened, of_kind, on_channel}
 use Rattle.modem_history.specs.Calls.{Setting, is_loss, is_lost}
 use Rattle.modem_history.specs.Lawful.{Lawful, Complete}
-use Rattle.modem_history.specs.Wholes.{taken, outcomes, CompleteCalls}
+use Rattle.modem_history.specs.Wholes.{taken_requests, outcomes, CompleteCalls}
 
 -- ## What is seen of a session
 
@@ -36,8 +36,8 @@ pub record EndView : Type 0 where
   pub told : List (List Outcome)
   pub announced : List (List Urc)
 
--- how a session began: its N1, how many callers its desk has and which kinds of lines it listens to, and what its line
--- and its desk's end had by then
+-- how a session began: its N1, how many callers its desk has and which kinds of lines it listens to, and what
+-- its line and its desk's end had by then
 pub record Beginning : Type 0 where
   pub n1 : ℕ
   pub callers : ℕ
@@ -54,8 +54,8 @@ pub record SessionView : Type 0 where
   -- the octets read and not yet given to the deframer
   pub unfed : List ℕ
   pub deframer : Deframing
-  -- the octets that wait for the line, the outcomes that wait for their callers and the lines that wait for their
-  -- listeners, each in its order
+  -- the octets that wait for the line, the outcomes that wait for their callers and the lines that wait for
+  -- their listeners, each in its order
   pub unwritten : List ℕ
   pub unplaced : List Outcome
   pub unannounced : List Urc
@@ -97,22 +97,24 @@ last_octets (f ∷ g ∷ fs) = last_octets (g ∷ fs)
 -- the lines of this kind that were heard, in order
 abbrev pub heards : UrcKind → List Act → List Act
 heards k [] = []
-heards k (Heard m d line ∷ past) = if is_same_kind k m then heards k past ++ Heard m d line ∷ [] else heards k past
+heards k (Heard m d line ∷ past) =
+    if is_same_kind k m then heards k past ++ Heard m d line ∷ [] else heards k past
 heards k (_ ∷ past) = heards k past
 
 -- the lines that were heard, in order, of each kind all but the first so many
 abbrev pub heard_behind : (UrcKind → ℕ) → List Act → List Act
 heard_behind n [] = []
 heard_behind n (Heard k d line ∷ past) =
-    if nat_le (n k) (length (heards k past)) then heard_behind n past ++ Heard k d line ∷ [] else heard_behind n past
+    if nat_le (n k) (length (heards k past)) then heard_behind n past ++ Heard k d line ∷ []
+    else heard_behind n past
 heard_behind n (_ ∷ past) = heard_behind n past
 
 abbrev pub heard_as : Urc → Act
 heard_as u = Heard u.kind u.dlci.number u.line
 
 -- the outcomes of this caller
-abbrev pub of_caller : ℕ → List Outcome → List Outcome
-of_caller c os = filter (λ (o : Outcome). o.caller == c) os
+abbrev pub caller_outcomes : ℕ → List Outcome → List Outcome
+caller_outcomes c os = filter (λ (o : Outcome). o.caller == c) os
 
 -- what stands at this place
 abbrev pub at_place : {A : Type 0} → ℕ → List (List A) → List A
@@ -126,14 +128,16 @@ TakesWithRoom (_ ∷ past) = TakesWithRoom past
 
 -- ## What it fits
 
--- the history of a session: lawful, each of its calls complete, and no request taken where 128 are in hand
+-- the history of a session: lawful, each of its calls complete, and no request taken where 128 are
+-- in hand
 pub record IsHistory (b : Beginning) (past : List Act) : Type 0 where
   pub lawful : Lawful (driving b) past
   pub complete : Complete (driving b) past
   pub calls : CompleteCalls (driving b) past
   pub room : TakesWithRoom past
 
--- a loss of the line: the history has one at most, and only where a call on the line has failed since the session began
+-- a loss of the line: the history has one at most, and only where a call on the line has failed since the
+-- session began
 pub record FitsLoss (b : Beginning) (v : SessionView) (past : List Act) : Type 0 where
   pub one : length (filter is_loss past) ≤ 1
   pub by_fault : is_lost past ≡ true → b.line.failures < v.line.failures
@@ -146,24 +150,25 @@ taken_since b v = drop (length b.desk.taken) v.desk.taken
 abbrev pub AreOnce : Beginning → SessionView → Type 0
 AreOnce b v = are_distinct (taken_since b v) ≡ true
 
--- Requests: what its desk's end took is what the history took, and then what is kept aside. No caller used a number
--- twice, each is a caller of the desk, and those in hand, the one aside and the outcomes that wait are 128 at most.
+-- Requests: what its desk's end took is what the history took, and then what is kept aside. No caller used a
+-- number twice, each is a caller of the desk, and those in hand, the one aside and the outcomes that wait are
+-- 128 at most.
 pub record FitsRequests (b : Beginning) (v : SessionView) (past : List Act) : Type 0 where
-  pub taken_are : v.desk.taken ≡ b.desk.taken ++ taken past ++ option_to_list v.aside
+  pub taken_are : v.desk.taken ≡ b.desk.taken ++ taken_requests past ++ option_to_list v.aside
   pub once : AreOnce b v
   pub callers : list_all (λ (q : Request). nat_lt q.caller b.callers) (taken_since b v) ≡ true
   pub few : length (in_hand past) + length (option_to_list v.aside) + length v.unplaced ≤ 128
 
--- Octets that came: those received are those that the deframer took, and then those not fed yet; of the former it has
--- handed out what the history got.
+-- Octets that came: those received are those that the deframer took, and then those not fed yet; of the
+-- former it has handed out what the history got.
 pub record FitsReceived (b : Beginning) (v : SessionView) (past : List Act) : Type 0 where
   pub fed : List ℕ
   pub received_are : v.line.received ≡ b.line.received ++ fed ++ v.unfed
   pub bound : v.deframer.n1 ≡ b.n1
   pub deframes : Deframes fed (gots past) v.deframer
 
--- Octets that leave: those sent since the session began, and then those that wait, are the frames given on, each spelled
--- between its two flags; what waits is of the last of them alone.
+-- Octets that leave: those sent since the session began, and then those that wait, are the frames given on,
+-- each spelled between its two flags; what waits is of the last of them alone.
 pub record FitsSent (b : Beginning) (v : SessionView) (past : List Act) : Type 0 where
   pub since : List ℕ
   pub sent_are : v.line.sent ≡ b.line.sent ++ since
@@ -175,16 +180,17 @@ pub record FitsSent (b : Beginning) (v : SessionView) (past : List Act) : Type 0
 pub record ToldTo (b : Beginning) (v : SessionView) (past : List Act) (c : ℕ) : Type 0 where
   pub since : List Outcome
   pub told_are : at_place c v.desk.told ≡ at_place c b.desk.told ++ since
-  pub outcomes_are : since ++ of_caller c v.unplaced ≡ of_caller c (outcomes past)
+  pub outcomes_are : since ++ caller_outcomes c v.unplaced ≡ caller_outcomes c (outcomes past)
 
 -- that is so of each caller, and none waits for a caller that the desk hasn't
 pub record FitsTold (b : Beginning) (v : SessionView) (past : List Act) : Type 0 where
   pub each : (c : ℕ) → ToldTo b v past c
   pub callers : list_all (λ (o : Outcome). nat_lt o.caller b.callers) v.unplaced ≡ true
 
--- what the i-th listener, that of kind k, was announced since the session began, and then what waits of its kind, are the
--- lines of that kind that the history heard
-pub record AnnouncedTo (b : Beginning) (v : SessionView) (past : List Act) (i : ℕ) (k : UrcKind) : Type 0 where
+-- what the i-th listener, that of kind k, was announced since the session began, and then what waits of its
+-- kind, are the lines of that kind that the history heard
+pub record AnnouncedTo (b : Beginning) (v : SessionView) (past : List Act) (i : ℕ)
+    (k : UrcKind) : Type 0 where
   pub since : List Urc
   pub announced_are : at_place i v.desk.announced ≡ at_place i b.desk.announced ++ since
   pub lines_are : map heard_as (since ++ of_kind k v.unannounced) ≡ heards k past
@@ -193,8 +199,9 @@ pub record AnnouncedTo (b : Beginning) (v : SessionView) (past : List Act) (i : 
 abbrev pub announced_of : SessionView → List Act → UrcKind → ℕ
 announced_of v past k = length (heards k past) - length (of_kind k v.unannounced)
 
--- That is so of each listener, and no line waits that nobody listens to. Those that wait are, in the order in which they
--- were heard, all but the first of each kind, as many as were announced. Where there is no listener nothing is announced.
+-- That is so of each listener, and no line waits that nobody listens to. Those that wait are, in the order in
+-- which they were heard, all but the first of each kind, as many as were announced. Where there is no
+-- listener nothing is announced.
 pub record FitsHeard (b : Beginning) (v : SessionView) (past : List Act) : Type 0 where
   pub each : (i : ℕ) (k : UrcKind) → get_elem? b.kinds i ≡ some k → AnnouncedTo b v past i k
   pub listened : list_all (λ (u : Urc). is_listened b.kinds u.kind) v.unannounced ≡ true
@@ -211,9 +218,10 @@ pub record SessionFits (b : Beginning) (v : SessionView) (past : List Act) : Typ
   pub told : FitsTold b v past
   pub heard : FitsHeard b v past
 
--- The session fits the history, and so does what else it keeps, of which nothing is seen here: which histories its core
--- fits. (Ticks since a probe was sent leave no trace in what is seen.)
-pub record FitsWith (b : Beginning) (v : SessionView) (core : List Act → Type 0) (past : List Act) : Type 0 where
+-- The session fits the history, and so does what else it keeps, of which nothing is seen here: which
+-- histories its core fits. (Ticks since a probe was sent leave no trace in what is seen.)
+pub record FitsWith (b : Beginning) (v : SessionView) (core : List Act → Type 0)
+    (past : List Act) : Type 0 where
   pub session : SessionFits b v past
   pub inside : core past
 
@@ -222,12 +230,14 @@ pub record HasHistory (b : Beginning) (v : SessionView) (core : List Act → Typ
   pub past : List Act
   pub fits : FitsWith b v core past
 
--- by these acts a call led from the one to the other, whatever history it had before, where no caller used a number twice
+-- by these acts a call led from the one to the other, whatever history it had before, where no caller used a
+-- number twice
 abbrev pub GoesBy : Beginning → (old new : SessionView) → (core later : List Act → Type 0) → List Act → Type 0
-GoesBy b old new core later acts = (past : List Act) → AreOnce b new → FitsWith b old core past → FitsWith b new later (after past acts)
+GoesBy b old new core later acts =
+    (past : List Act) → AreOnce b new → FitsWith b old core past → FitsWith b new later (after past acts)
 
--- a call led from the one to the other by some acts, the same whatever it began with and whatever history it had, and took
--- these requests more
+-- a call led from the one to the other by some acts, the same whatever it began with and whatever history it
+-- had, and took these requests more
 pub record Goes (old new : SessionView) (core later : Beginning → List Act → Type 0) : Type 0 where
   pub acts : List Act
   pub more : List Request
@@ -253,8 +263,8 @@ pub record Leftovers : Type 0 where
   pub unplaced : List Outcome
   pub unannounced : List Urc
 
--- line and desk's end as they are; each request taken and not told, in order, and then the one kept aside; all outcomes
--- and all lines that wait
+-- line and desk's end as they are; each request taken and not told, in order, and then the one kept
+-- aside; all outcomes and all lines that wait
 pub record Finishes (v : SessionView) (past : List Act) (f : Leftovers) : Type 0 where
   pub line_stays : f.line ≡ v.line
   pub desk_stays : f.desk ≡ v.desk

@@ -1,10 +1,11 @@
--- What the answers of a turn mean: Moved, WriterFull, Waiting, Blocked and Idle, and its faults; and what a tick does.
+-- What the answers of a turn mean: Moved, WriterFull, Waiting, Blocked and Idle, and its faults; and what a
+-- tick does.
 use Rattle.std.specs.Prelude.{◌≡◌, ◌≢◌, ℕ, zero, suc, ◌+◌, ◌-◌, ◌^◌, ◌<◌, ◌≤◌, ◌==◌, ◌||◌, not, nat_le, nat_lt, min, ◌⊎◌, Bool, true, false, List, [], ◌∷◌, ◌++◌, length, take, map, flat_map, Option, Some, None, option_to_list}
 use Rattle.std.specs.List.{list_all, list_any}
 use Rattle.mux_frame.specs.Frames.{Frame}
 use Rattle.mux_frame.specs.Reading.{Reads}
 use Rattle.mux_station.specs.States.{state_of}
-use Rattle.mux_station.specs.Tables.{by_frame, have_room, octets_of}
+use Rattle.mux_station.specs.Tables.{by_frame, have_room, msc_frame, octets_of, ready}
 use Rattle.mux_station.specs.Sending.{queue}
 use Rattle.mux_station.specs.declared.role.Role.TheVariants.{Initiator}
 use Rattle.mux_station.specs.Opening.{is_open}
@@ -18,7 +19,7 @@ use Rattle.modem_history.specs.Holding.{is_held}
 use Rattle.modem_history.specs.Lawful.{Quiet}
 use Rattle.modem_history.specs.Wholes.{IsPrefixOf, is_said}
 use Rattle.modem_history.specs.Calls.{is_lost}
-use Rattle.modem_history.specs.Sessions.{Beginning, SessionView, FitsWith, AreOnce, GoesBy, driving, gots, sents, octets_of_frames, heard_as, of_caller, backlog, backlog_in}
+use Rattle.modem_history.specs.Sessions.{Beginning, SessionView, FitsWith, AreOnce, GoesBy, driving, gots, sents, octets_of_frames, heard_as, caller_outcomes, backlog, backlog_in}
 
 -- ## A turn's calls on the line and on the desk
 
@@ -33,8 +34,9 @@ pub record Read : Type 0 where
   pub octets : List ℕ
 
 -- what a turn asked of its line and its desk, and what they answered
-pub record Dealings : Type 0 where
-  -- the outcomes and lines that still waited once the desk had been offered what waited, and those that it handed back
+pub record Exchange : Type 0 where
+  -- the outcomes and lines that still waited once the desk had been offered what waited, and those that it
+  -- handed back
   pub still_told : List Outcome
   pub still_heard : List Urc
   pub told_back : List Outcome
@@ -68,9 +70,9 @@ Offers None unwritten = unwritten ≡ []
 Offers (Some w) unwritten = IsOffer w unwritten
 
 -- no more comes than there is room for
-abbrev pub HasRoom : Option Read → Type 0
-HasRoom None = Unit {0}
-HasRoom (Some r) = length r.octets ≤ r.room
+abbrev pub ReadHasRoom : Option Read → Type 0
+ReadHasRoom None = Unit {0}
+ReadHasRoom (Some r) = length r.octets ≤ r.room
 
 abbrev pub calls_made : {A : Type 0} → Option A → ℕ
 calls_made o = length (option_to_list o)
@@ -91,17 +93,17 @@ lines_heard [] = []
 lines_heard (Heard k d line ∷ acts) = Heard k d line ∷ lines_heard acts
 lines_heard (_ ∷ acts) = lines_heard acts
 
--- of each caller and of each kind the desk handed back the first that still waited, and no other: a full ring holds up
--- only its own
-pub record HandsBack (t : Dealings) : Type 0 where
-  pub outcomes : (c : ℕ) → of_caller c t.told_back ≡ take 1 (of_caller c t.still_told)
+-- of each caller and of each kind the desk handed back the first that still waited, and no other: a full ring
+-- holds up only its own
+pub record HandsBack (t : Exchange) : Type 0 where
+  pub outcomes : (c : ℕ) → caller_outcomes c t.told_back ≡ take 1 (caller_outcomes c t.still_told)
   pub lines : (k : UrcKind) → of_kind k t.heard_back ≡ take 1 (of_kind k t.still_heard)
 
--- so the turn dealt with its line and its desk: it read only where all octets that had come were fed, and asked the desk
--- for a request only where none was kept aside; it handled one frame at most
-pub record Deals (old new : SessionView) (t : Dealings) (acts : List Act) : Type 0 where
+-- so the turn exchanged with its line and its desk: it read only where all octets that had come were fed, and
+-- asked the desk for a request only where none was kept aside; it handled one frame at most
+pub record Exchanges (old new : SessionView) (t : Exchange) (acts : List Act) : Type 0 where
   pub came : new.line.received ≡ old.line.received ++ octets_read t.read
-  pub room : HasRoom t.read
+  pub room : ReadHasRoom t.read
   pub went : new.line.sent ≡ old.line.sent ++ octets_written t.write
   pub calls : new.line.calls ≡ counted old.line.calls (calls_made t.write + calls_made t.read)
   pub taken : new.desk.taken ≡ old.desk.taken ++ request_given t.next
@@ -115,8 +117,8 @@ pub record Deals (old new : SessionView) (t : Dealings) (acts : List Act) : Type
 
 -- ## Its acts
 
--- an act of a turn: no tick and no loss of the line; a connection is held where its backlog was 256 or more once what
--- waited was offered to the desk, and freed where it was below 128
+-- an act of a turn: no tick and no loss of the line; a connection is held where its backlog was 256 or more
+-- once what waited was offered to the desk, and freed where it was below 128
 abbrev pub may_act : List Urc → Act → Bool
 may_act waiting Tick = false
 may_act waiting Lost = false
@@ -134,8 +136,8 @@ is_mark _ = false
 abbrev pub amount : {A : Type 0} → List (List A) → ℕ
 amount xss = length (flat_map (λ xs. xs) xss)
 
--- the history, the octets received, the octets sent or what the desk was given grew, or the octets read and not yet fed
--- became fewer; that a control frame was given on alone doesn't count
+-- the history, the octets received, the octets sent or what the desk was given grew, or the octets read and
+-- not yet fed became fewer; that a control frame was given on alone doesn't count
 abbrev pub has_moved : SessionView → SessionView → List Act → Bool
 has_moved old new acts =
     list_any (λ a. not (is_mark a)) acts
@@ -160,7 +162,8 @@ says_moved _ = false
 
 -- each open connection but 0 whose backlog is 256 or more is held, and none whose backlog is below 128 is
 pub record HoldsByBacklog (v : SessionView) (past : List Act) : Type 0 where
-  pub many : (d : ℕ) → d < 62 → (d == 0) ≡ false → is_open Initiator d (wire past) ≡ true → 256 ≤ backlog d v → is_held Initiator d past ≡ true
+  pub many : (d : ℕ) → d < 62 → (d == 0) ≡ false → is_open Initiator d (wire past) ≡ true → 256 ≤ backlog d v
+      → is_held Initiator d past ≡ true
   pub few : (d : ℕ) → d < 62 → backlog d v < 128 → is_held Initiator d past ≡ false
 
 -- every frame that is read in the octets received since the session began was got
@@ -171,19 +174,21 @@ pub record AllAreGot (b : Beginning) (v : SessionView) (past : List Act) : Type 
   pub reads : Reads b.n1 octets (gots past) rest
 
 -- the line was read in this turn with room for at least one octet, and gave none
-pub record ReadsNothing (t : Dealings) : Type 0 where
+pub record ReadsNothing (t : Exchange) : Type 0 where
   pub room : ℕ
   pub some : 1 ≤ room
   pub nothing : t.read ≡ Some (record { room = room; octets = [] })
 
 -- the frames that this one calls for fit into the control queue
 abbrev pub has_room_for : Beginning → List Act → Frame → Bool
-has_room_for b past f = have_room b.n1 (octets_of (queue (wire past))) (by_frame Initiator (λ d. state_of Initiator d (wire past)) f)
+has_room_for b past f =
+    have_room b.n1 (octets_of (queue (wire past)))
+    (by_frame Initiator (λ d. state_of Initiator d (wire past)) f)
 
--- Nothing is left to do but to place outcomes and lines: the history is quiet; the octets sent are all of the frames
--- sent; nothing came, all that came was fed, and of it all was got; no request waits at the desk, or those in hand and
--- the outcomes that wait are 128; each connection is held by its backlog.
-pub record IsAtRest (b : Beginning) (v : SessionView) (t : Dealings) (past : List Act) : Type 0 where
+-- Nothing is left to do but to place outcomes and lines: the history is quiet; the octets sent are all of the
+-- frames sent; nothing came, all that came was fed, and of it all was got; no request waits at the desk, or
+-- those in hand and the outcomes that wait are 128; each connection is held by its backlog.
+pub record IsAtRest (b : Beginning) (v : SessionView) (t : Exchange) (past : List Act) : Type 0 where
   pub quiet : Quiet (driving b) past
   pub sent : v.line.sent ≡ b.line.sent ++ octets_of_frames (sents past)
   pub nothing_came : ReadsNothing t
@@ -192,10 +197,22 @@ pub record IsAtRest (b : Beginning) (v : SessionView) (t : Dealings) (past : Lis
   pub no_request : (t.next ≡ Some None) ⊎ (length (in_hand past) + length v.unplaced ≡ 128)
   pub held : HoldsByBacklog v past
 
--- Octets wait, the line was offered some of them in this turn and took none; and meanwhile nothing came, or octets that
--- came before wait, since a frame is at hand; one at hand finds no room for what it calls for; no request waits at the
--- desk, or those in hand and the outcomes that wait are 128.
-pub record IsWriterFull (b : Beginning) (v : SessionView) (t : Dealings) (past : List Act) : Type 0 where
+-- no MSC has a place in the control queue: the control frames that were not given on, with one for any
+-- connection behind them, exceed 4096 and N1 octets
+abbrev pub LacksMscRoom : Beginning → List Act → Type 0
+LacksMscRoom b past =
+    (d : ℕ) → 4096 + b.n1 < octets_of (queue (wire past) ++ msc_frame Initiator d ready ∷ [])
+
+-- each connection is held by its backlog, or no MSC has a place that would say so
+abbrev pub HoldsWhereRoom : Beginning → SessionView → List Act → Type 0
+HoldsWhereRoom b v past = HoldsByBacklog v past ⊎ LacksMscRoom b past
+
+-- Octets wait, the line was offered some of them in this turn and took none; and meanwhile nothing came, or
+-- octets that came before wait, since a frame is at hand; one at hand finds no room for what it calls for; no
+-- request waits at the desk, or those in hand and the outcomes that wait are 128. Before a frame went into
+-- the output, if one did, each connection was held by its backlog, unless an MSC had no place.
+pub record IsWriterFull (b : Beginning) (v : SessionView) (t : Exchange)
+    (before past : List Act) : Type 0 where
   pub waits : v.unwritten ≢ []
   pub offered : List ℕ
   pub some : offered ≢ []
@@ -203,21 +220,23 @@ pub record IsWriterFull (b : Beginning) (v : SessionView) (t : Dealings) (past :
   pub reads : v.unfed ≡ [] → ReadsNothing t
   pub fed : v.deframer.next ≡ None → v.unfed ≡ []
   pub no_room : (f : Frame) → v.deframer.next ≡ Some f → has_room_for b past f ≡ false
+  pub held : HoldsWhereRoom b v before
   pub no_request : (t.next ≡ Some None) ⊎ (length (in_hand past) + length v.unplaced ≡ 128)
 
--- no octets wait, and an outcome for this caller does, which the desk handed back in this turn; for no lesser caller does
--- one wait; and nothing else is held up by it
-pub record IsWaiting (b : Beginning) (v : SessionView) (t : Dealings) (past : List Act) (c : ℕ) : Type 0 where
+-- no octets wait, and an outcome for this caller does, which the desk handed back in this turn; for no lesser
+-- caller does one wait; and nothing else is held up by it
+pub record IsWaiting (b : Beginning) (v : SessionView) (t : Exchange) (past : List Act) (c : ℕ) : Type 0 where
   pub written : v.unwritten ≡ []
   pub outcome : Outcome
-  pub waits : take 1 (of_caller c v.unplaced) ≡ outcome ∷ []
-  pub handed_back : of_caller c t.told_back ≡ outcome ∷ []
+  pub waits : take 1 (caller_outcomes c v.unplaced) ≡ outcome ∷ []
+  pub handed_back : caller_outcomes c t.told_back ≡ outcome ∷ []
   pub least : list_all (λ (o : Outcome). nat_le c o.caller) v.unplaced ≡ true
   pub rest : IsAtRest b v t past
 
--- no octets and no outcomes wait, and of the lines that wait the first is of this kind, which the desk handed back in
--- this turn; and nothing else is held up by it
-pub record IsBlocked (b : Beginning) (v : SessionView) (t : Dealings) (past : List Act) (k : UrcKind) : Type 0 where
+-- no octets and no outcomes wait, and of the lines that wait the first is of this kind, which the desk handed
+-- back in this turn; and nothing else is held up by it
+pub record IsBlocked (b : Beginning) (v : SessionView) (t : Exchange) (past : List Act)
+    (k : UrcKind) : Type 0 where
   pub written : v.unwritten ≡ []
   pub placed : v.unplaced ≡ []
   pub line : Urc
@@ -227,41 +246,45 @@ pub record IsBlocked (b : Beginning) (v : SessionView) (t : Dealings) (past : Li
   pub rest : IsAtRest b v t past
 
 -- nothing waits for the line or for a place, no request is kept aside, and nothing is left to do
-pub record IsIdle (b : Beginning) (v : SessionView) (t : Dealings) (past : List Act) : Type 0 where
+pub record IsIdle (b : Beginning) (v : SessionView) (t : Exchange) (past : List Act) : Type 0 where
   pub written : v.unwritten ≡ []
   pub placed : v.unplaced ≡ []
   pub announced : v.unannounced ≡ []
   pub none_aside : v.aside ≡ None
   pub rest : IsAtRest b v t past
 
--- what an answer says of the session, of the turn's calls and of the history
-abbrev pub Means : Beginning → SessionView → Dealings → List Act → TurnAnswer → Type 0
-Means b v t past Moved = Unit {0}
-Means b v t past WriterFull = IsWriterFull b v t past
-Means b v t past (Waiting c) = IsWaiting b v t past c
-Means b v t past (Blocked k) = IsBlocked b v t past k
-Means b v t past Idle = IsIdle b v t past
+-- what an answer says of the session, of the turn's calls and of the history before the turn and after it
+abbrev pub Means : Beginning → SessionView → Exchange → (before past : List Act) → TurnAnswer → Type 0
+Means b v t before past Moved = Unit {0}
+Means b v t before past WriterFull = IsWriterFull b v t before past
+Means b v t before past (Waiting c) = IsWaiting b v t past c
+Means b v t before past (Blocked k) = IsBlocked b v t past k
+Means b v t before past Idle = IsIdle b v t past
 
 -- ## A turn
 
--- A turn that ends in this answer, after a past, by these acts: Moved is the answer exactly where something moved, no
--- call on the line has failed since the session began, no request stays aside, and any other answer means what it says.
-pub record IsTurn (b : Beginning) (old new : SessionView) (t : Dealings) (past acts : List Act) (says : TurnAnswer) : Type 0 where
-  pub deals : Deals old new t acts
+-- A turn that ends in this answer, after a past, by these acts: Moved is the answer exactly where something
+-- moved, no call on the line has failed since the session began, no request stays aside, and any other answer
+-- means what it says.
+pub record IsTurn (b : Beginning) (old new : SessionView) (t : Exchange) (past acts : List Act)
+    (says : TurnAnswer) : Type 0 where
+  pub exchanges : Exchanges old new t acts
   pub offers : Offers t.write new.unwritten
   pub sound : new.line.failures ≡ b.line.failures
   pub acts_may : list_all (may_act t.still_heard) acts ≡ true
   pub moved : has_moved old new acts ≡ says_moved says
   pub none_aside : new.aside ≡ None
-  pub means : Means b new t (after past acts) says
+  pub means : Means b new t past (after past acts) says
 
--- a turn: some acts and dealings, the same whatever the session began with and whatever history it had, by which it ends
--- in this answer
-pub record GoesTurn (old new : SessionView) (core later : Beginning → List Act → Type 0) (says : TurnAnswer) : Type 0 where
+-- a turn: some acts and exchange, the same whatever the session began with and whatever history it had, by
+-- which it ends in this answer
+pub record GoesTurn (old new : SessionView) (core later : Beginning → List Act → Type 0)
+    (says : TurnAnswer) : Type 0 where
   pub acts : List Act
-  pub dealings : Dealings
+  pub exchange : Exchange
   pub goes : (b : Beginning) → GoesBy b old new (core b) (later b) acts
-  pub turn : (b : Beginning) (past : List Act) → AreOnce b new → FitsWith b old (core b) past → IsTurn b old new dealings past acts says
+  pub turn : (b : Beginning) (past : List Act) → AreOnce b new → FitsWith b old (core b) past
+      → IsTurn b old new exchange past acts says
 
 -- ## Faults
 
@@ -270,8 +293,8 @@ pub data TurnFault : Type 0 where
   LineFailed : TurnFault
   Failed : TurnFault
 
--- the line is lost in this turn, since a call on it has failed since the session began: behind the loss there are
--- outcomes alone, no request was taken from the desk, and none is in hand
+-- the line is lost in this turn, since a call on it has failed since the session began: behind the loss there
+-- are outcomes alone, no request was taken from the desk, and none is in hand
 pub record LosesLine (b : Beginning) (old new : SessionView) (past acts : List Act) : Type 0 where
   pub live : is_lost past ≡ false
   pub gone : is_lost (after past acts) ≡ true
@@ -296,7 +319,8 @@ pub record HasFailed (old new : SessionView) (past acts : List Act) : Type 0 whe
   pub gone : is_lost past ≡ true
   pub places : PlacesAlone old new acts
 
--- there is no memory: the line isn't lost yet; and where a call on it had failed before, what waits is placed alone
+-- there is no memory: the line isn't lost yet; and where a call on it had failed before, what waits is placed
+-- alone
 pub record WantsMemory (b : Beginning) (old new : SessionView) (past acts : List Act) : Type 0 where
   pub live : is_lost (after past acts) ≡ false
   pub behind : (old.line.failures ≡ b.line.failures) ⊎ PlacesAlone old new acts
@@ -312,21 +336,25 @@ may_fail waiting Lost = true
 may_fail waiting a = may_act waiting a
 
 -- a turn that ends in this fault
-pub record IsFault (b : Beginning) (old new : SessionView) (t : Dealings) (past acts : List Act) (says : TurnFault) : Type 0 where
-  pub deals : Deals old new t acts
+pub record IsFault (b : Beginning) (old new : SessionView) (t : Exchange) (past acts : List Act)
+    (says : TurnFault) : Type 0 where
+  pub exchanges : Exchanges old new t acts
   pub acts_may : list_all (may_fail t.still_heard) acts ≡ true
   pub means : FaultMeans b old new past acts says
 
 -- a turn by which it ends in this fault
-pub record GoesFault (old new : SessionView) (core later : Beginning → List Act → Type 0) (says : TurnFault) : Type 0 where
+pub record GoesFault (old new : SessionView) (core later : Beginning → List Act → Type 0)
+    (says : TurnFault) : Type 0 where
   pub acts : List Act
-  pub dealings : Dealings
+  pub exchange : Exchange
   pub goes : (b : Beginning) → GoesBy b old new (core b) (later b) acts
-  pub fault : (b : Beginning) (past : List Act) → AreOnce b new → FitsWith b old (core b) past → IsFault b old new dealings past acts says
+  pub fault : (b : Beginning) (past : List Act) → AreOnce b new → FitsWith b old (core b) past
+      → IsFault b old new exchange past acts says
 
 -- ## Ticks
 
--- a tick: the acts are the tick and what it calls for; line and desk's end stay, and nothing is placed, fed or taken
+-- a tick: the acts are the tick and what it calls for; line and desk's end stay, and nothing is placed, fed
+-- or taken
 pub record IsTick (old new : SessionView) (past acts : List Act) : Type 0 where
   pub live : is_lost past ≡ false
   pub more : List Act

@@ -1,5 +1,5 @@
--- A line with an initiator at one end and a responder at the other: what the responder reads of what the initiator sent
--- (27.010, 5.4; V.250, 5.2.1).
+-- A line with an initiator at one end and a responder at the other: what the responder reads of what the
+-- initiator sent (27.010, 5.4; V.250, 5.2.1).
 use Rattle.std.specs.Prelude.{◌≡◌, ℕ, ◌≤◌, ◌&&◌, true, List, [], ◌∷◌, ◌++◌, length, map, filter, None, if◌then◌else◌}
 use Rattle.mux_frame.specs.Frames.{Frame}
 use Rattle.mux_frame.specs.declared.frame.Kind.TheVariants.{Sabm}
@@ -47,18 +47,20 @@ AsksOnce past = (d : ℕ) → length (filter (is_on Sabm d) (frames_sent past)) 
 -- each command that was taken is a command line
 abbrev pub TakesCommandLines : List Act → Type 0
 TakesCommandLines [] = Unit {0}
-TakesCommandLines (Took q ∷ past) = ((d : ℕ) → command_on d q.ask ≡ true → refusal_of (line_of q) ≡ None) × TakesCommandLines past
+TakesCommandLines (Took q ∷ past) =
+    ((d : ℕ) → command_on d q.ask ≡ true → refusal_of (line_of q) ≡ None) × TakesCommandLines past
 TakesCommandLines (_ ∷ past) = TakesCommandLines past
 
 -- the commands that a frame makes whole, each with its connection
 abbrev pub commands_with : List Act → Frame → List (ℕ × List ℕ)
 commands_with past f =
     if carries f.dlci f && is_open Initiator f.dlci (wire past)
-    then map (λ c. (f.dlci, c)) (commands_ended Initiator f.dlci (map line_of (accepted Initiator f.dlci past)) (wire past) f)
+    then map (λ c. (f.dlci, c)) (commands_ended Initiator f.dlci
+    (map line_of (accepted Initiator f.dlci past)) (wire past) f)
     else []
 
--- the commands of all connections that are wholly sent, each with its connection: in the order of the frames that complete
--- them
+-- the commands of all connections that are wholly sent, each with its connection: in the order of the frames
+-- that complete them
 abbrev pub commands_sent : List Act → List (ℕ × List ℕ)
 commands_sent [] = []
 commands_sent (Sent f ∷ past) = commands_sent past ++ commands_with past f
@@ -66,9 +68,10 @@ commands_sent (_ ∷ past) = commands_sent past
 
 -- ## The law
 
--- what the responder reads, over all connections, are commands that the initiator was given, each on its connection, in
--- the order in which they were wholly sent
+-- what the responder reads, over all connections, are commands that the initiator was given, each on its
+-- connection, in the order in which they were wholly sent
 unfoldable pub ReadsInOrder : Setting → List Act → List station.Act → Type 0
 ReadsInOrder s past responder =
-    s.role ≡ Initiator → Lawful s past → TakesCommandLines past → AsksOnce (wire past) → ComesInOrder (wire past) responder
+    s.role ≡ Initiator → Lawful s past → TakesCommandLines past → AsksOnce (wire past)
+    → ComesInOrder (wire past) responder
     → IsAmong (lines_got Responder responder) (commands_sent past)

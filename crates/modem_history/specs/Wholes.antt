@@ -70,7 +70,9 @@ pub record GoesOn (s : Setting) (past acts : List Act) : Type 0 where
   pub complete : Complete s (after past acts)
 
 unfoldable pub CallGoesOn : Setting → List Act → Act → Type 0
-CallGoesOn s past a = is_first a ≡ true → OnHeld s.role past a → Lawful s past → Complete s past → GoesOn s past (a ∷ calls s past a)
+CallGoesOn s past a =
+    is_first a ≡ true → OnHeld s.role past a → Lawful s past → Complete s past
+    → GoesOn s past (a ∷ calls s past a)
 
 pub record IsPrefixOf (xs ys : List ℕ) : Type 0 where
   pub rest : List ℕ
@@ -78,12 +80,15 @@ pub record IsPrefixOf (xs ys : List ℕ) : Type 0 where
 
 -- what left since d opened is a prefix of the commands accepted since then, each as it goes out
 abbrev pub LeavesOnce : Setting → List Act → Type 0
-LeavesOnce s past = (d : ℕ) → IsPrefixOf (information_out s.role d past) (concat (texts (accepted s.role d past)))
+LeavesOnce s past =
+    (d : ℕ) → IsPrefixOf (information_out s.role d past) (concat (texts (accepted s.role d past)))
 
--- the commands that began since d opened are those of the accepted that are wholly sent, each where no window is open
+-- the commands that began since d opened are those of the accepted that are wholly sent, each where no window
+-- is open
 pub record AreInTurn (s : Setting) (d : ℕ) (past : List Act) : Type 0 where
   pub in_turn : IsInTurn (marks s.role d past)
-  pub first : begun_in (marks s.role d past) ≡ map line_of (whole_after (length (information_out s.role d past)) (accepted s.role d past))
+  pub first : begun_in (marks s.role d past)
+      ≡ map line_of (whole_after (length (information_out s.role d past)) (accepted s.role d past))
 
 unfoldable pub BeginsInTurn : Setting → List Act → Type 0
 BeginsInTurn s past = (d : ℕ) → AreInTurn s d past
@@ -95,10 +100,10 @@ NoneAfterLoss s past = (f : Frame) → is_lost past ≡ true → ¬ Lawful s (Se
 -- ## Outcomes
 
 -- the requests that were taken, in order
-abbrev pub taken : List Act → List Request
-taken [] = []
-taken (Took r ∷ past) = taken past ++ r ∷ []
-taken (_ ∷ past) = taken past
+abbrev pub taken_requests : List Act → List Request
+taken_requests [] = []
+taken_requests (Took r ∷ past) = taken_requests past ++ r ∷ []
+taken_requests (_ ∷ past) = taken_requests past
 
 -- the outcomes that were told, in order
 abbrev pub outcomes : List Act → List Outcome
@@ -114,16 +119,20 @@ is_same r q = (r.caller == q.caller) && (r.number == q.number)
 abbrev pub UsesOnce : List Request → Type 0
 UsesOnce qs = (r : Request) → length (filter (is_same r) qs) ≤ 1
 
--- each outcome answers a request that was taken before it, and where no caller uses a number twice no request has two
+-- each outcome answers a request that was taken before it, and where no caller uses a number twice
+-- no request has two
 pub record AnswersOnce (past : List Act) : Type 0 where
-  pub earlier : (newer older : List Act) (o : Outcome) → past ≡ newer ++ Told o ∷ older → list_any (λ r. is_for r o) (taken older) ≡ true
-  pub once : UsesOnce (taken past) → (r : Request) → length (filter (λ o. is_for r o) (outcomes past)) ≤ 1
+  pub earlier : (newer older : List Act) (o : Outcome) → past ≡ newer ++ Told o ∷ older
+      → list_any (λ r. is_for r o) (taken_requests older) ≡ true
+  pub once : UsesOnce (taken_requests past) → (r : Request)
+      → length (filter (λ o. is_for r o) (outcomes past)) ≤ 1
 
 -- one of the lines that end in a frame ends the window of the last command, and this is its answer
 pub record EndsWindow (s : Setting) (past : List Act) (f : Frame) (ls : List AnswerLine) : Type 0 where
   pub count : ℕ
   pub window : Window
-  pub is_last : last_window (marks s.role f.dlci past ++ map Line (take count (lines (run_on s.role f.dlci past ++ f.info)))) ≡ Some window
+  pub is_last : last_window (marks s.role f.dlci past ++
+      map Line (take count (lines (run_on s.role f.dlci past ++ f.info)))) ≡ Some window
   pub ended : is_answered window ≡ true
   pub answer : ls ≡ answer_lines (answer_of window)
 
@@ -137,11 +146,14 @@ pub record HasAnswer (s : Setting) (past : List Act) (ls : List AnswerLine) : Ty
 
 -- each answer that was told is that of a window, at its place
 abbrev pub TellsAnswers : Setting → List Act → Type 0
-TellsAnswers s past = (newer older : List Act) (o : Outcome) (ls : List AnswerLine) → past ≡ newer ++ Told o ∷ older → o.answer ≡ Done ls → HasAnswer s older ls
+TellsAnswers s past =
+    (newer older : List Act) (o : Outcome) (ls : List AnswerLine) → past ≡ newer ++ Told o ∷ older
+    → o.answer ≡ Done ls → HasAnswer s older ls
 
 -- ## Commands in step
 
--- nothing was owed where an act stands that isn't called for: each call was complete when something else began
+-- nothing was owed where an act stands that isn't called for: each call was complete when something else
+-- began
 abbrev pub CompleteCalls : Setting → List Act → Type 0
 CompleteCalls s [] = Unit {0}
 CompleteCalls s (a ∷ past) = (is_said a ≡ false → owed s past ≡ []) × CompleteCalls s past
@@ -164,12 +176,14 @@ pub record OnChannel (s : Setting) (d : ℕ) (past : List Act) : Type 0 where
 -- an initiator's commands are in step wherever nothing is owed
 unfoldable pub StaysInStep : Setting → List Act → Type 0
 StaysInStep s past =
-    s.role ≡ Initiator → CompleteCalls s past → UsesOnce (taken past) → is_lost past ≡ false → Complete s past → (d : ℕ) → (d == 0) ≡ false → OnChannel s d past
+    s.role ≡ Initiator → CompleteCalls s past → UsesOnce (taken_requests past) → is_lost past ≡ false
+    → Complete s past → (d : ℕ) → (d == 0) ≡ false → OnChannel s d past
 
--- the answer is that of the request's own command, by its place: the commands accepted before it have their answers, it
--- is the last that began, its window is open when the frame comes, which brings information to its open connection, and
--- one of the lines of the frame ends it
-pub record IsOwnAnswer (s : Setting) (past : List Act) (f : Frame) (r : Request) (ls : List AnswerLine) : Type 0 where
+-- the answer is that of the request's own command, by its place: the commands accepted before it have their
+-- answers, it is the last that began, its window is open when the frame comes, which brings information to
+-- its open connection, and one of the lines of the frame ends it
+pub record IsOwnAnswer (s : Setting) (past : List Act) (f : Frame) (r : Request)
+    (ls : List AnswerLine) : Type 0 where
   pub before : List Request
   pub later : List Request
   pub accepted_are : accepted s.role f.dlci past ≡ before ++ r ∷ later
@@ -190,8 +204,10 @@ pub record HasOwnAnswer (s : Setting) (past : List Act) (o : Outcome) (ls : List
   pub answers : is_for request o ≡ true
   pub owns : IsOwnAnswer s older frame request ls
 
--- an initiator tells each request the answer of its own command, also in a history that a loss of the line ends
+-- an initiator tells each request the answer of its own command, also in a history that a loss of the line
+-- ends
 unfoldable pub TellsOwn : Setting → List Act → Type 0
 TellsOwn s past =
-    s.role ≡ Initiator → CompleteCalls s past → UsesOnce (taken past)
-    → (newer older : List Act) (o : Outcome) (ls : List AnswerLine) → past ≡ newer ++ Told o ∷ older → o.answer ≡ Done ls → HasOwnAnswer s older o ls
+    s.role ≡ Initiator → CompleteCalls s past → UsesOnce (taken_requests past)
+    → (newer older : List Act) (o : Outcome) (ls : List AnswerLine) → past ≡ newer ++ Told o ∷ older
+    → o.answer ≡ Done ls → HasOwnAnswer s older o ls

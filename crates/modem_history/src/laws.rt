@@ -12,8 +12,8 @@ ghost use Rattle.modem_history.specs.SessionLaws.{BeginsFitting, CallsKeepHistor
 ghost use Rattle.modem_history.specs.SessionRows.{Each, HasNone, IsRight, IsWrong, IsWrongTurn};
 ghost use Rattle.modem_history.specs.GoodTurns.{AreRightTurns};
 ghost use Rattle.modem_history.specs.BadTurns.{wrong_turns};
-ghost use Rattle.modem_history.specs.BadDealings.{IsWronglyDealt, wrongly_dealt};
-ghost use Rattle.modem_history.specs.BacklogRows.{CountsByConnection, IsHeldRight, IsHeldWrong, MayHoldAndFree, rightly_held, wrongly_held};
+ghost use Rattle.modem_history.specs.BadExchanges.{IsWrongExchange, wrong_exchanges};
+ghost use Rattle.modem_history.specs.BacklogRows.{CountsByConnection, IsHeldOrFull, IsHeldRight, IsHeldWrong, IsNeither, MayHoldAndFree, held_or_full, neither_held_nor_full, rightly_held, wrongly_held};
 ghost use Rattle.modem_history.specs.FaultRows.{AreRightFaults, IsRightTick, IsWrongFault, IsWrongTick, right_ticks, wrong_faults, wrong_ticks};
 ghost use Rattle.modem_history.specs.EntryRows.{IsRightEntry, IsWrongEntry, right_entries, wrong_entries};
 ghost use Rattle.modem_history.specs.FinishRows.{IsRightEnd, IsWrongEnd, right_ends, wrong_ends};
@@ -34,7 +34,7 @@ ghost use Rattle.modem_history.specs.Wholes.{AnswersOnce, BeginsInTurn, CallGoes
 /// that began since then are the accepted ones that are wholly sent, each where no window is open. Each outcome
 /// answers a request that was taken before it, and where no caller uses a number twice no request has two. Each
 /// answer that was told is that of the window of the last command, at the line that ended it.
-#[tactic(auto, using(crate::proofs::WholeLaws::beginning, crate::proofs::WholeLaws::call_goes_on, crate::proofs::Leaving::leaves_once, crate::proofs::Losing::none_after_loss, crate::proofs::Begins::begins_in_turn, crate::proofs::Outcomes::answers_once, crate::proofs::Tellings::tells_answers))]
+#[tactic(auto, using(crate::proofs::law_proofs::WholeHistories::beginning, crate::proofs::law_proofs::WholeHistories::call_goes_on, crate::proofs::commands::SentPrefixes::leaves_once, crate::proofs::connections::SendingAfterLoss::none_after_loss, crate::proofs::commands::BegunCommands::begins_in_turn, crate::proofs::outcomes::OutcomeCounts::answers_once, crate::proofs::outcomes::WindowAnswers::tells_answers))]
 pub fn histories()
     ensures beginning { (s : Setting) (past : List Act) → Lawful s past → IsBeginning s past }
     ensures leaves { (s : Setting) (past : List Act) → Lawful s past → LeavesOnce s past }
@@ -48,7 +48,7 @@ pub fn histories()
 /// An initiator whose calls are complete has its commands in step, where no caller uses a number twice: of those that
 /// were accepted on an open connection the ones before have their answers, and the others are in hand. So each answer
 /// that was told is that of the request's own command.
-#[tactic(auto, using(crate::proofs::InSteps::stays_in_step, crate::proofs::Owns::tells_own))]
+#[tactic(auto, using(crate::proofs::requests::StepsOfHistory::stays_in_step, crate::proofs::outcomes::OwnAnswers::tells_own))]
 pub fn commands()
     ensures steps { (s : Setting) (past : List Act) → Lawful s past → StaysInStep s past }
     ensures own { (s : Setting) (past : List Act) → Lawful s past → TellsOwn s past }
@@ -57,7 +57,7 @@ pub fn commands()
 /// What was heard on a connection is, in every lawful history, the beginning of what its lines announce to a listener,
 /// over all its openings in turn: of the lines placed on it those that are part of no answer and no echo, each once and
 /// in order, if their kind is listened to. The rest is owed; and where nothing is owed, all of it was heard.
-#[tactic(auto, using(crate::proofs::Hearings::hears_in_order, crate::proofs::Hearings::hears_all))]
+#[tactic(auto, using(crate::proofs::lines::HeardLines::hears_in_order, crate::proofs::lines::HeardLines::hears_all))]
 pub fn hearings()
     ensures order { (s : Setting) (past : List Act) → Lawful s past → HearsInOrder s past }
     ensures all { (s : Setting) (past : List Act) → Lawful s past → HearsAll s past }
@@ -68,7 +68,7 @@ pub fn hearings()
 /// are the lines of what came and the commands that are wholly sent. The calls of a station's user change nothing of it.
 /// A history's own places are these, read off its frames and the commands that it accepted, in each opening; and over all
 /// openings they have all lines.
-#[tactic(auto, using(crate::proofs::PlacedLines::has_all_lines, crate::proofs::PlacedCommands::places_all, crate::proofs::AllPlaced::places_each, crate::proofs::WithoutCalls::needs_no_calls, crate::proofs::MarksPlaced::are_marks_placed, crate::proofs::AllPlaced::are_all_marks_placed, crate::proofs::MarksPlaced::have_marks_all_lines))]
+#[tactic(auto, using(crate::proofs::lines::LinePlaces::has_all_lines, crate::proofs::commands::CommandPlaces::places_all, crate::proofs::lines::PlacingOverOpenings::places_each, crate::proofs::connections::PastsWithoutCalls::needs_no_calls, crate::proofs::lines::MarkPlaces::are_marks_placed, crate::proofs::lines::PlacingOverOpenings::are_all_marks_placed, crate::proofs::lines::MarkPlaces::have_marks_all_lines))]
 pub fn connections()
     ensures lines { (r : Role) (past : List WireAct) → HasAllLines r past }
     ensures places { (r : Role) (past : List WireAct) → PlacesAll r past }
@@ -81,7 +81,7 @@ pub fn connections()
 
 /// Of command lines that go out the other end reads just those that are wholly sent, wherever they are cut; and so it
 /// does of the commands that were accepted on a connection since it opened.
-#[tactic(auto, using(crate::proofs::ReadAsSent::are_read_as_sent, crate::proofs::ReadAsSent::reads_accepted))]
+#[tactic(auto, using(crate::proofs::commands::ReadCommands::are_read_as_sent, crate::proofs::commands::ReadCommands::reads_accepted))]
 pub fn readings()
     ensures texts { (commands : List (List ℕ)) (out : List ℕ) → AreReadAsSent commands out }
     ensures commands { (s : Setting) (past : List Act) → Lawful s past → ReadsAccepted s past }
@@ -90,15 +90,16 @@ pub fn readings()
 /// Where a responder got the first frames that an initiator sent, and each connection is asked for once, the lines that it
 /// reads, over all connections, are commands that the initiator was given, each on its connection, in the order in which
 /// they were wholly sent.
-#[tactic(auto, using(crate::proofs::CommandsSent::reads_in_order))]
+#[tactic(auto, using(crate::proofs::commands::SentCommands::reads_in_order))]
 pub fn two_ends()
-    ensures order { (s : Setting) (past : List Act) (responder : List WireAct) → ReadsInOrder s past responder }
+    ensures order { (s : Setting) (past : List Act) (responder : List WireAct)
+        → ReadsInOrder s past responder }
 {}
 
 /// Worked histories, computed by the definitions: those of a right driver are kept, and those that a bad one would
 /// make are refused, lack something, or leave a command waiting that could leave. Of two commands with the same text
 /// the answer of the first is not the second's own.
-#[tactic(auto, using(crate::proofs::RowFacts::all_good, crate::proofs::RowFacts::all_refused, crate::proofs::RowFacts::all_incomplete, crate::proofs::RowFacts::all_unquiet, crate::proofs::RowFacts::not_its_own))]
+#[tactic(auto, using(crate::proofs::rows::HistoryRowFacts::all_good, crate::proofs::rows::HistoryRowFacts::all_refused, crate::proofs::rows::HistoryRowFacts::all_incomplete, crate::proofs::rows::HistoryRowFacts::all_unquiet, crate::proofs::rows::HistoryRowFacts::not_its_own))]
 pub fn worked_examples()
     ensures good { AllAre IsGood good_rows }
     ensures refused { AllAre IsRefused refused_rows }
@@ -109,7 +110,7 @@ pub fn worked_examples()
 
 /// Worked examples of lines and commands on two connections, and of what is heard over two openings, computed by the
 /// definitions.
-#[tactic(auto, using(crate::proofs::ConnectionRowFacts::lines_in_order, crate::proofs::ConnectionRowFacts::information_by_openings, crate::proofs::ConnectionRowFacts::commands_among_lines, crate::proofs::ConnectionRowFacts::placed_again, crate::proofs::ConnectionRowFacts::placed_by_openings, crate::proofs::ConnectionRowFacts::rings_once))]
+#[tactic(auto, using(crate::proofs::rows::ConnectionRowFacts::lines_in_order, crate::proofs::rows::ConnectionRowFacts::information_by_openings, crate::proofs::rows::ConnectionRowFacts::commands_among_lines, crate::proofs::rows::ConnectionRowFacts::placed_again, crate::proofs::rows::ConnectionRowFacts::placed_by_openings, crate::proofs::rows::ConnectionRowFacts::rings_once))]
 pub fn worked_connections()
     ensures lines { LinesInOrder }
     ensures information { InformationByOpenings }
@@ -124,7 +125,7 @@ pub fn worked_connections()
 /// sent, in order; those frames that are wholly among them were given on; the requests in hand are those taken and not
 /// told; and no caller is told an outcome twice. One call after another is as one call, and what had a history has one
 /// after a call, where no caller used a number twice.
-#[tactic(auto, using(crate::proofs::SessionLawFacts::begins_fitting, crate::proofs::SessionLawFacts::fits_says, crate::proofs::SessionLawFacts::calls_run_on, crate::proofs::SessionLawFacts::calls_keep_history))]
+#[tactic(auto, using(crate::proofs::law_proofs::SessionLaws::begins_fitting, crate::proofs::law_proofs::SessionLaws::fits_says, crate::proofs::law_proofs::SessionLaws::calls_run_on, crate::proofs::law_proofs::SessionLaws::calls_keep_history))]
 pub fn sessions()
     ensures begins { (b : Beginning) → BeginsFitting b }
     ensures says { (b : Beginning) (v : SessionView) (past : List Act) → FitsSays b v past }
@@ -134,14 +135,14 @@ pub fn sessions()
 
 /// Worked sessions, turns, faults, ticks, entries and ends, computed by the definitions: those of a right driver, and
 /// those that don't fit what happened, don't mean what they say, or don't go with what line and desk answered.
-#[tactic(auto, using(crate::proofs::SessionRowFacts::all_right, crate::proofs::SessionRowFacts::all_wrong, crate::proofs::SessionLawFacts::kept_has_none, crate::proofs::GoodTurnFacts::are_right, crate::proofs::BadTurnFacts::all_wrong_turns, crate::proofs::BadDealingFacts::all_wrongly_dealt, crate::proofs::EntryRowFacts::all_right_entries, crate::proofs::EntryRowFacts::all_wrong_entries, crate::proofs::EntryRowFacts::all_right_ends, crate::proofs::EntryRowFacts::all_wrong_ends, crate::proofs::FaultRowFacts::are_right_faults, crate::proofs::FaultRowFacts::all_wrong_faults, crate::proofs::FaultRowFacts::all_right_ticks, crate::proofs::FaultRowFacts::all_wrong_ticks))]
+#[tactic(auto, using(crate::proofs::rows::SessionRowFacts::all_right, crate::proofs::rows::SessionRowFacts::all_wrong, crate::proofs::law_proofs::SessionLaws::kept_has_none, crate::proofs::rows::GoodTurnFacts::are_right, crate::proofs::rows::BadTurnFacts::all_wrong_turns, crate::proofs::rows::BadExchangeFacts::all_wrong_exchanges, crate::proofs::rows::EntryRowFacts::all_right_entries, crate::proofs::rows::EntryRowFacts::all_wrong_entries, crate::proofs::rows::EntryRowFacts::all_right_ends, crate::proofs::rows::EntryRowFacts::all_wrong_ends, crate::proofs::rows::FaultRowFacts::are_right_faults, crate::proofs::rows::FaultRowFacts::all_wrong_faults, crate::proofs::rows::FaultRowFacts::all_right_ticks, crate::proofs::rows::FaultRowFacts::all_wrong_ticks))]
 pub fn session_examples()
     ensures fit { Each IsRight right_sessions }
     ensures unfit { Each IsWrong wrong_sessions }
     ensures none { HasNone told_and_kept }
     ensures turns { AreRightTurns }
     ensures wrong_turns { Each IsWrongTurn wrong_turns }
-    ensures wrongly_dealt { Each IsWronglyDealt wrongly_dealt }
+    ensures wrong_exchanges { Each IsWrongExchange wrong_exchanges }
     ensures faults { AreRightFaults }
     ensures wrong_faults { Each IsWrongFault wrong_faults }
     ensures ticks { Each IsRightTick right_ticks }
@@ -153,11 +154,13 @@ pub fn session_examples()
 {}
 
 /// Worked backlogs of two connections: how many lines wait on each, which connections have to be held by them and which
-/// mustn't be, and where a turn may hold one or free it.
-#[tactic(auto, using(crate::proofs::BacklogRowFacts::counts_by_connection, crate::proofs::BacklogRowFacts::all_rightly_held, crate::proofs::BacklogRowFacts::all_wrongly_held, crate::proofs::BacklogRowFacts::may_hold_and_free))]
+/// mustn't be, where a turn may hold one or free it, and by how many octets in the control queue an MSC has no place.
+#[tactic(auto, using(crate::proofs::rows::BacklogRowFacts::counts_by_connection, crate::proofs::rows::BacklogRowFacts::all_rightly_held, crate::proofs::rows::BacklogRowFacts::all_wrongly_held, crate::proofs::rows::BacklogRowFacts::all_held_or_full, crate::proofs::rows::BacklogRowFacts::all_neither, crate::proofs::rows::BacklogRowFacts::may_hold_and_free))]
 pub fn worked_backlogs()
     ensures counts { CountsByConnection }
     ensures held { Each IsHeldRight rightly_held }
     ensures wrong { Each IsHeldWrong wrongly_held }
+    ensures full { Each IsHeldOrFull held_or_full }
+    ensures neither { Each IsNeither neither_held_nor_full }
     ensures acts { MayHoldAndFree }
 {}

@@ -39,7 +39,8 @@ AreSubmitted callers [] [] = Unit {0}
 AreSubmitted callers [] (s ∷ all) = ⊥
 AreSubmitted callers ([] ∷ lines) all = AreSubmitted callers lines all
 AreSubmitted callers ((c ∷ line) ∷ lines) [] = ⊥
-AreSubmitted callers ((c ∷ line) ∷ lines) (s ∷ all) = Submits callers (c ∷ line) s × AreSubmitted callers lines all
+AreSubmitted callers ((c ∷ line) ∷ lines) (s ∷ all) =
+    Submits callers (c ∷ line) s × AreSubmitted callers lines all
 
 -- one of them is for this connection
 abbrev pub is_named : List Submission → ℕ → Bool
@@ -56,7 +57,8 @@ asks_for caller all = map command_of (filter (λ (s : Submission). s.caller == c
 -- 0, and the connections below this one that they are for, in rising order
 abbrev pub channels_below : List Submission → ℕ → List ℕ
 channels_below all zero = []
-channels_below all (suc n) = if (n == 0) || is_named all n then channels_below all n ++ n ∷ [] else channels_below all n
+channels_below all (suc n) =
+    if (n == 0) || is_named all n then channels_below all n ++ n ∷ [] else channels_below all n
 
 -- the connection that is to be opened
 abbrev pub opened_by : Ask → Option ℕ

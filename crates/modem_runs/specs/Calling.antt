@@ -15,7 +15,8 @@ asked c = map (λ r. r.ask) c.submitted
 
 -- what was taken is put behind these outcomes, and nothing else
 abbrev pub PutsBehind : (old new : CallerView) → (before after : List Outcome) → Type 0
-PutsBehind old new before after = (first : List Outcome) → old.got ≡ first ++ before → new.got ≡ first ++ after
+PutsBehind old new before after =
+    (first : List Outcome) → old.got ≡ first ++ before → new.got ≡ first ++ after
 
 -- the caller asked for these things more, in order, and put what it took behind these outcomes
 pub record Asks (old new : CallerView) (asks : List Ask) (before after : List Outcome) : Type 0 where
@@ -23,7 +24,8 @@ pub record Asks (old new : CallerView) (asks : List Ask) (before after : List Ou
   pub asked_are : asked new ≡ asked old ++ asks
   pub puts : PutsBehind old new before after
 
--- the caller asked for these things more, in order; and these are the outcomes that it took meanwhile, by their numbers
+-- the caller asked for these things more, in order; and these are the outcomes that it took meanwhile, by
+-- their numbers
 pub record Works (old new : CallerView) (asks : List Ask) (outcomes : List Outcome) : Type 0 where
   pub place : new.place ≡ old.place
   pub asked_are : asked new ≡ asked old ++ asks

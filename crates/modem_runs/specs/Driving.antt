@@ -4,8 +4,8 @@ use Rattle.modem_desk.specs.declared.settling.Settled.{Settled}
 use Rattle.modem_desk.specs.Books.{DeskBooks}
 use Rattle.modem_desk.specs.Ends.{CallerView, ListenerView}
 use Rattle.modem_history.specs.Sessions.{Beginning, Leftovers, LineView}
-use Rattle.modem_driver.specs.Polls.{GoesOn}
-use Rattle.modem_driver.specs.SessionStates.{Ends, FitsAll, SessionState, TakesMore, end_of}
+use Rattle.modem_driver.specs.Polls.{SessionGoesOn}
+use Rattle.modem_driver.specs.SessionStates.{SessionEnds, FitsAll, SessionState, TakesMore, end_of}
 
 -- it has done nothing yet, and neither has its desk
 pub record IsBegun {X : Type 0} (look : X → LineView) (s : SessionState X) : Type 0 where
@@ -20,11 +20,15 @@ pub record IsBegun {X : Type 0} (look : X → LineView) (s : SessionState X) : T
 -- the same session, later: it took requests of its desk, and went on by some acts, whatever history it had
 pub record Continues {X : Type 0} (look : X → LineView) (old new : SessionState X) : Type 0 where
   pub takes : TakesMore old.driver new.driver
-  pub goes : GoesOn look old new
+  pub goes : SessionGoesOn look old new
 
--- it was finished, which left what each of its histories says, and then its desk was settled with these callers and listeners
-pub record IsOver {X : Type 0} (look : X → LineView) (s : SessionState X) (cs : List CallerView) (ls : List ListenerView) (settled : Settled) : Type 0 where
+-- it was finished, which left what each of its histories says, and then its desk was settled with these
+-- callers and listeners
+pub record IsOver {X : Type 0} (look : X → LineView) (s : SessionState X) (cs : List CallerView)
+    (ls : List ListenerView) (settled : Settled) : Type 0 where
   pub leftovers : Leftovers
-  pub ends : Ends look s leftovers
+  pub ends : SessionEnds look s leftovers
   pub desk : leftovers.desk ≡ end_of s.driver
-  pub books : DeskBooks s.driver cs ls settled.left.items (map vec_items settled.untaken.items) (map vec_items settled.unheard.items)
+  pub books :
+      DeskBooks s.driver cs ls settled.left.items (map vec_items settled.untaken.items)
+      (map vec_items settled.unheard.items)

@@ -4,7 +4,8 @@ use Rattle.mux_frame.specs.Frames.{Frame}
 use Rattle.mux_frame.specs.Deframing.{Deframing, Deframes}
 
 -- what was taken, and handed out as the frames before, is now handed out as the frames after
-pub record HandsAll (old : Deframing) (before : List Frame) (new : Deframing) (after : List Frame) : Type 0 where
+pub record HandsAll (old : Deframing) (before : List Frame) (new : Deframing) (after : List Frame) :
+    Type 0 where
   pub n1 : new.n1 ≡ old.n1
   pub past : (taken : List ℕ) → Deframes taken before old → Deframes taken after new
 

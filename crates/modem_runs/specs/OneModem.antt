@@ -1,5 +1,5 @@
--- A driver and a simulated modem at the two ends of one line: what the modem reads, and what its answers are told as
--- (27.010, 5.4; V.250, 5.2, 5.7).
+-- A driver and a simulated modem at the two ends of one line: what the modem reads, and what its answers are
+-- told as (27.010, 5.4; V.250, 5.2, 5.7).
 use Rattle.std.specs.Prelude.{◌≡◌, ℕ, List, [], ◌∷◌, ◌++◌, length}
 use Rattle.mux_station.specs.Acts as station
 use Rattle.mux_station.specs.declared.role.Role.TheVariants.{Initiator}
@@ -13,7 +13,7 @@ use Rattle.modem_history.specs.Connections.{lines_on}
 use Rattle.modem_history.specs.Information.{line_of}
 use Rattle.modem_history.specs.Lawful as driver_laws
 use Rattle.modem_history.specs.TwoEnds.{AsksOnce, ComesInOrder, IsAmong, TakesCommandLines, commands_sent}
-use Rattle.modem_history.specs.Wholes.{CompleteCalls, HasOwnAnswer, UsesOnce, taken}
+use Rattle.modem_history.specs.Wholes.{CompleteCalls, HasOwnAnswer, UsesOnce, taken_requests}
 use Rattle.modem_sim.specs.Acts as modem
 use Rattle.modem_sim.specs.Acts.{End}
 use Rattle.modem_sim.specs.Heard.{heard, texts_of}
@@ -56,16 +56,16 @@ abbrev pub IsOneLine : List EndAct → Type 0
 IsOneLine [] = Unit {0}
 IsOneLine (a ∷ line) = ComesBothWays (a ∷ line) × IsOneLine line
 
--- A driver that keeps its laws, whose calls are complete, which takes command lines, and of whose callers none uses a number
--- twice; a modem that keeps its laws, and announces unsolicited lines alone; one line between them, on which each connection
--- is asked for once at most.
+-- A driver that keeps its laws, whose calls are complete, which takes command lines, and of whose callers
+-- none uses a number twice; a modem that keeps its laws, and announces unsolicited lines alone; one line
+-- between them, on which each connection is asked for once at most.
 pub record IsOneModem (s : Setting) (e : End) (line : List EndAct) : Type 0 where
   pub is_initiator : s.role ≡ Initiator
   pub driver_lawful : driver_laws.Lawful s (driver_past line)
   pub calls : CompleteCalls s (driver_past line)
-  pub numbers : UsesOnce (taken (driver_past line))
+  pub numbers : UsesOnce (taken_requests (driver_past line))
   pub commands : TakesCommandLines (driver_past line)
-  pub modem_lawful : modem_laws.Lawful e (modem_past line)
+  pub modem_lawful : modem_laws.SimLawful e (modem_past line)
   pub modem_is : IsModem e.modem
   pub announced : AnnouncesUnsolicited (modem_past line)
   pub one_line : IsOneLine line
@@ -73,23 +73,26 @@ pub record IsOneModem (s : Setting) (e : End) (line : List EndAct) : Type 0 wher
 
 -- ## Laws
 
--- the lines that the modem reads, over all connections, are commands that the driver was given, each on its connection, in
--- the order in which they were wholly sent
+-- the lines that the modem reads, over all connections, are commands that the driver was given, each on its
+-- connection, in the order in which they were wholly sent
 unfoldable pub ReadsCommands : Setting → End → List EndAct → Type 0
-ReadsCommands s e line = IsOneModem s e line → IsAmong (heard (modem_past line)) (commands_sent (driver_past line))
+ReadsCommands s e line =
+    IsOneModem s e line → IsAmong (heard (modem_past line)) (commands_sent (driver_past line))
 
--- among these lines stands this command on d, as many on d before it as its place says, and this is what the modem's step
--- gives there, run over all lines before it
-pub record IsAnswerAt (e : End) (ls : List (ℕ × List ℕ)) (d place : ℕ) (command : List ℕ) (answer : List AnswerLine) : Type 0 where
+-- among these lines stands this command on d, as many on d before it as its place says, and this is what the
+-- modem's step gives there, run over all lines before it
+pub record IsAnswerAt (e : End) (ls : List (ℕ × List ℕ)) (d place : ℕ) (command : List ℕ)
+    (answer : List AnswerLine) : Type 0 where
   pub before : List (ℕ × List ℕ)
   pub later : List (ℕ × List ℕ)
   pub joins : ls ≡ before ++ (d, command) ∷ later
   pub place_is : length (lines_on d before) ≡ place
   pub answer_is : answer ≡ (step (after_lines e.modem (texts_of before)) command).answer
 
--- the answer is that of the request's own command, which the modem read at its place, behind as many as were accepted before
--- it on its connection
-pub record IsModemAnswer (s : Setting) (e : End) (ls : List (ℕ × List ℕ)) (past : List driver.Act) (o : Outcome) (answer : List AnswerLine) : Type 0 where
+-- the answer is that of the request's own command, which the modem read at its place, behind as many as were
+-- accepted before it on its connection
+pub record IsModemAnswer (s : Setting) (e : End) (ls : List (ℕ × List ℕ)) (past : List driver.Act)
+    (o : Outcome) (answer : List AnswerLine) : Type 0 where
   pub own : HasOwnAnswer s past o answer
   pub modem_gave : IsAnswerAt e ls own.frame.dlci (length own.owns.before) (line_of own.request) answer
 

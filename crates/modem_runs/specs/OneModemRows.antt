@@ -44,11 +44,17 @@ abbrev pub opened : List EndAct
 opened =
     at_driver (takes 1 (OpenChannel zero) ∷ row.sends Sabm 0 [] ∷ Given ∷ [])
     ++ at_modem (comes Sabm 0 [] ∷ sends Ua 0 [] ∷ gives ∷ [])
-    ++ at_driver (row.comes Ua 0 [] ∷ tells 1 Opened ∷ takes 2 (OpenChannel one) ∷ row.sends Sabm 1 [] ∷ Given ∷ [])
-    ++ at_modem (comes Sabm 1 [] ∷ sends Ua 1 [] ∷ Wire (station.Sent (msc_frame Responder 1 ready)) ∷ gives ∷ gives ∷ [])
-    ++ at_driver (row.comes Ua 1 [] ∷ row.sends Uih 0 (row.msc 1 0x8d) ∷ tells 2 Opened ∷ Given ∷ [])
-    ++ at_driver (row.comes Uih 0 (row.msc 1 0x8d) ∷ row.sends Uih 0 (row.msc_response 1 0x8d) ∷ Given ∷ [])
-    ++ at_modem (comes Uih 0 (row.msc 1 0x8d) ∷ Wire (station.Sent (message_frame Responder (response_of msc_type) (7 ∷ 0x8d ∷ []))) ∷ gives ∷ [])
+    ++ at_driver
+    (row.comes Ua 0 [] ∷ tells 1 Opened ∷ takes 2 (OpenChannel one) ∷ row.sends Sabm 1 [] ∷ Given ∷ [])
+    ++ at_modem
+    (comes Sabm 1 [] ∷ sends Ua 1 [] ∷ Wire (station.Sent (msc_frame Responder 1 ready)) ∷ gives ∷ gives
+    ∷ [])
+    ++ at_driver (row.comes Ua 1 [] ∷ row.sends Uih 0 (row.msc_command 1 0x8d) ∷ tells 2 Opened ∷ Given ∷ [])
+    ++ at_driver
+    (row.comes Uih 0 (row.msc_command 1 0x8d) ∷ row.sends Uih 0 (row.msc_response 1 0x8d) ∷ Given ∷ [])
+    ++ at_modem
+    (comes Uih 0 (row.msc_command 1 0x8d)
+    ∷ Wire (station.Sent (message_frame Responder (response_of msc_type) (7 ∷ 0x8d ∷ []))) ∷ gives ∷ [])
     ++ at_modem (comes Uih 0 (row.msc_response 1 0x8d) ∷ [])
     ++ at_driver (row.comes Uih 0 (row.msc_response 1 0x8d) ∷ [])
 
@@ -67,7 +73,9 @@ two_commands =
     opened
     ++ at_driver (takes 3 (Command one set_mode) ∷ row.sends Uih 1 (set_mode ++ row.cr) ∷ [])
     ++ at_modem (asks 1 set_mode ∷ offers 1 (framed (codes "OK")) ∷ sends Uih 1 (framed (codes "OK")) ∷ [])
-    ++ at_modem (Did (Announce sim.one (codes "RING")) ∷ offers 1 (framed (codes "RING")) ∷ sends Uih 1 (framed (codes "RING")) ∷ [])
+    ++ at_modem
+    (Did (Announce sim.one (codes "RING")) ∷ offers 1 (framed (codes "RING"))
+    ∷ sends Uih 1 (framed (codes "RING")) ∷ [])
     ++ at_driver (row.comes Uih 1 (framed (codes "OK")) ∷ tells_done 3 (codes "OK" ∷ []) ∷ [])
     ++ at_driver (row.comes Uih 1 (framed (codes "RING")) ∷ Heard Ring 1 (codes "RING") ∷ [])
     ++ at_driver (takes 4 (Command one ask_mux) ∷ row.sends Uih 1 (ask_mux ++ row.cr) ∷ [])
@@ -83,30 +91,39 @@ RightLine = IsOneModem (replaying 31) ringing (after [] two_commands)
 
 -- the second command on 1 is answered with the number of its error
 abbrev pub RightAnswer : Type 0
-RightAnswer = IsAnswerAt ringing (heard (modem_past (after [] two_commands))) 1 1 ask_mux (answer_lines (error_three ∷ []))
+RightAnswer =
+    IsAnswerAt ringing (heard (modem_past (after [] two_commands))) 1 1 ask_mux
+    (answer_lines (error_three ∷ []))
 
 -- ## What isn't right
 
 -- not as by a modem to which no mode was set, not at the first place, and not on another connection
 abbrev pub WrongAnswers : Type 0
 WrongAnswers =
-    (¬ IsAnswerAt ringing (heard (modem_past (after [] two_commands))) 1 1 ask_mux (answer_lines (codes "ERROR" ∷ [])))
-    × (¬ IsAnswerAt ringing (heard (modem_past (after [] two_commands))) 1 0 ask_mux (answer_lines (error_three ∷ [])))
-    × (¬ IsAnswerAt ringing (heard (modem_past (after [] two_commands))) 2 1 ask_mux (answer_lines (error_three ∷ [])))
+    (¬ IsAnswerAt ringing (heard (modem_past (after [] two_commands))) 1 1 ask_mux
+    (answer_lines (codes "ERROR" ∷ [])))
+    × (¬ IsAnswerAt ringing (heard (modem_past (after [] two_commands))) 1 0 ask_mux
+    (answer_lines (error_three ∷ [])))
+    × (¬ IsAnswerAt ringing (heard (modem_past (after [] two_commands))) 2 1 ask_mux
+    (answer_lines (error_three ∷ [])))
 
 -- a frame that comes before it was sent, and one that is passed over
 abbrev pub came_early : List EndAct
 came_early =
-    at_driver (takes 1 (OpenChannel zero) ∷ row.sends Sabm 0 [] ∷ Given ∷ row.comes Ua 0 [] ∷ tells 1 Opened ∷ [])
+    at_driver
+    (takes 1 (OpenChannel zero) ∷ row.sends Sabm 0 [] ∷ Given ∷ row.comes Ua 0 [] ∷ tells 1 Opened ∷ [])
     ++ at_modem (comes Sabm 0 [] ∷ sends Ua 0 [] ∷ gives ∷ [])
 
 abbrev pub passed_over : List EndAct
 passed_over =
     at_driver (takes 1 (OpenChannel zero) ∷ row.sends Sabm 0 [] ∷ Given ∷ [])
     ++ at_modem (comes Sabm 0 [] ∷ sends Ua 0 [] ∷ gives ∷ [])
-    ++ at_driver (row.comes Ua 0 [] ∷ tells 1 Opened ∷ takes 2 (OpenChannel one) ∷ row.sends Sabm 1 [] ∷ Given ∷ [])
-    ++ at_modem (comes Sabm 1 [] ∷ sends Ua 1 [] ∷ Wire (station.Sent (msc_frame Responder 1 ready)) ∷ gives ∷ gives ∷ [])
-    ++ at_driver (row.comes Uih 0 (row.msc 1 0x8d) ∷ [])
+    ++ at_driver
+    (row.comes Ua 0 [] ∷ tells 1 Opened ∷ takes 2 (OpenChannel one) ∷ row.sends Sabm 1 [] ∷ Given ∷ [])
+    ++ at_modem
+    (comes Sabm 1 [] ∷ sends Ua 1 [] ∷ Wire (station.Sent (msc_frame Responder 1 ready)) ∷ gives ∷ gives
+    ∷ [])
+    ++ at_driver (row.comes Uih 0 (row.msc_command 1 0x8d) ∷ [])
 
 abbrev pub WrongLines : Type 0
 WrongLines = (¬ IsOneLine (after [] came_early)) × (¬ IsOneLine (after [] passed_over))

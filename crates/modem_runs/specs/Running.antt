@@ -49,7 +49,8 @@ unfoldable pub AllWork : List Submission → ℕ → List CallerView → List Wo
 AllWork all n [] [] = Unit {0}
 AllWork all n [] (w ∷ ws) = ⊥
 AllWork all n (c ∷ cs) [] = ⊥
-AllWork all n (c ∷ cs) (w ∷ ws) = Works c w.caller (asks_for n all) w.outcomes.items × AllWork all (n + 1) cs ws
+AllWork all n (c ∷ cs) (w ∷ ws) =
+    Works c w.caller (asks_for n all) w.outcomes.items × AllWork all (n + 1) cs ws
 
 -- caller 0 opened the connections, and the others stay
 unfoldable pub OpensFirst : List Submission → (old new : List CallerView) → Type 0
@@ -77,10 +78,11 @@ AreCalled all [] ws = ⊥
 AreCalled all (c ∷ cs) [] = ⊥
 AreCalled all (c ∷ cs) (w ∷ ws) = Leads all c w.caller w.outcomes.items × AllWork all 1 cs ws
 
--- These callers did what the submissions ask of them, and these are the outcomes that each took for it. They are all the
--- callers of a desk; its session was finished, and then it was settled with the driver's end and with them: so the headline
--- holds of that run.
-pub record RanFor (all : List Submission) (fresh : List CallerView) (outcomes : List (List Outcome)) : Type 0 where
+-- These callers did what the submissions ask of them, and these are the outcomes that each took for it. They
+-- are all the callers of a desk; its session was finished, and then it was settled with the driver's end and
+-- with them: so the headline holds of that run.
+pub record RanFor (all : List Submission) (fresh : List CallerView) (outcomes : List (List Outcome)) :
+    Type 0 where
   pub worked : List Worked
   pub called : AreCalled all fresh worked
   pub outcomes_are : outcomes ≡ map (λ (w : Worked). w.outcomes.items) worked

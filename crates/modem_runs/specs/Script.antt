@@ -41,8 +41,8 @@ SaysNothing line = (o : Order) → Says line o → ⊥
 abbrev pub IsNoOrder : List ℕ → Type 0
 IsNoOrder line = (line ≢ []) × SaysNothing line
 
--- the events are what the lines that aren't empty say, in order; requests are caller 0's, with the numbers from this
--- one on
+-- the events are what the lines that aren't empty say, in order; requests are caller 0's, with the numbers
+-- from this one on
 abbrev pub IsScript : ℕ → List (List ℕ) → List Event → Type 0
 IsScript n [] [] = Unit {0}
 IsScript n [] (e ∷ events) = ⊥
@@ -50,6 +50,7 @@ IsScript n ([] ∷ lines) events = IsScript n lines events
 IsScript n ((c ∷ line) ∷ lines) [] = ⊥
 IsScript n ((c ∷ line) ∷ lines) (event.Ask q ∷ events) =
     Says (c ∷ line) (order.Ask q.ask) × (q.caller ≡ 0) × (q.number ≡ n) × IsScript (n + 1) lines events
-IsScript n ((c ∷ line) ∷ lines) (event.Octets x ∷ events) = Says (c ∷ line) (order.Octets x) × IsScript n lines events
+IsScript n ((c ∷ line) ∷ lines) (event.Octets x ∷ events) =
+    Says (c ∷ line) (order.Octets x) × IsScript n lines events
 IsScript n ((c ∷ line) ∷ lines) (event.Tick ∷ events) = Says (c ∷ line) order.Tick × IsScript n lines events
 IsScript n ((c ∷ line) ∷ lines) (event.Lost ∷ events) = Says (c ∷ line) order.Lost × IsScript n lines events

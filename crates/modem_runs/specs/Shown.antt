@@ -7,12 +7,14 @@ use Rattle.modem_runs.specs.Texts.{answer_text, lines_text}
 
 -- what a caller was told of its line at this place
 abbrev pub told_text : ℕ → ℕ → Answer → List ℕ
-told_text caller place a = decimal caller ++ codes " " ++ decimal place ++ codes " " ++ answer_text a ++ codes "\n" ++ lines_text a
+told_text caller place a =
+    decimal caller ++ codes " " ++ decimal place ++ codes " " ++ answer_text a ++ codes "\n" ++ lines_text a
 
 -- what it was told of its lines from this place on
 abbrev pub told_from : ℕ → ℕ → List Outcome → List ℕ
 told_from caller place [] = []
-told_from caller place (o ∷ outcomes) = told_text caller place o.answer ++ told_from caller (place + 1) outcomes
+told_from caller place (o ∷ outcomes) =
+    told_text caller place o.answer ++ told_from caller (place + 1) outcomes
 
 -- what the callers from this one on were told
 abbrev pub callers_from : ℕ → List (List Outcome) → List ℕ

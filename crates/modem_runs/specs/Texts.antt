@@ -30,7 +30,8 @@ octets_text (x ∷ octets) = encode_lower (x ∷ octets)
 -- a frame: connection, kind, C/R, P/F and information
 abbrev pub frame_text : Frame → List ℕ
 frame_text f =
-    decimal f.dlci ++ codes " " ++ kind_text f.kind ++ codes " " ++ decimal (from_bool f.cr) ++ codes " " ++ decimal (from_bool f.pf) ++ codes " "
+    decimal f.dlci ++ codes " " ++ kind_text f.kind ++ codes " " ++ decimal (from_bool f.cr) ++ codes " "
+    ++ decimal (from_bool f.pf) ++ codes " "
     ++ octets_text f.info ++ codes "\n"
 
 abbrev pub rest_text : List ℕ → List ℕ
@@ -91,8 +92,11 @@ abbrev pub act_text : Act → List ℕ
 act_text (Act.Took q) = codes "took " ++ decimal q.number ++ codes " " ++ ask_text q.ask ++ codes "\n"
 act_text (Act.Got f) = codes "got " ++ frame_text f
 act_text (Act.Sent f) = codes "sent " ++ encode_lower (spelled f) ++ codes "\n"
-act_text (Act.Told o) = codes "told " ++ decimal o.number ++ codes " " ++ answer_text o.answer ++ codes "\n" ++ lines_text o.answer
-act_text (Act.Heard kind d line) = codes "heard " ++ urc_text kind ++ codes " " ++ decimal d ++ codes " " ++ line_text line ++ codes "\n"
+act_text (Act.Told o) =
+    codes "told " ++ decimal o.number ++ codes " " ++ answer_text o.answer ++ codes "\n"
+    ++ lines_text o.answer
+act_text (Act.Heard kind d line) =
+    codes "heard " ++ urc_text kind ++ codes " " ++ decimal d ++ codes " " ++ line_text line ++ codes "\n"
 act_text Act.Tick = codes "tick\n"
 act_text Act.Lost = codes "lost\n"
 act_text (Act.Held d) = codes "held " ++ decimal d ++ codes "\n"

@@ -55,8 +55,11 @@ fn benched<R, I: Read>(
 where
     R: Threads + Wait + RandomSource + AllocGlobal + Copy + Send + Drop + 'static,
     requires { (1 ≤ callers) × (callers ≤ 8) }
-    ensures ok { IfOk result (λ text. IfSome (I.remaining input.old) (λ all. IsBenched callers all (string_bytes text))) }
-    ensures bad_line { (place : ℕ) → IsErrOf result (Stop.BadLine place) → IfSome (I.remaining input.old) (λ text. IsFirstBad (IsNoSubmission callers) (input_lines text) place) }
+    ensures ok { IfOk result
+        (λ text. IfSome (I.remaining input.old) (λ all. IsBenched callers all (string_bytes text))) }
+    ensures bad_line { (place : ℕ) → IsErrOf result (Stop.BadLine place)
+        → IfSome (I.remaining input.old)
+        (λ text. IsFirstBad (IsNoSubmission callers) (input_lines text) place) }
     ensures others { (result ≢ Err Stop.BadN1) × (result ≢ Err Stop.BadCallers) × (result ≢ Err Stop.BadCut) }
 {
     let text = read_whole(alloc, input)?;
@@ -99,8 +102,12 @@ pub fn bench_run<R, I: Read, W: Write, E: Write>(
 where
     R: Threads + Wait + RandomSource + AllocGlobal + Copy + Send + Drop + 'static,
     ensures status { result ≤ 2 }
-    ensures done { result ≡ 0 → IsPrinted (IsBenched callers) (I.remaining input.old) (W.contents output.old) (W.contents output.new) }
-    ensures refused { result ≡ 2 → IsNoBench callers cut ⊎ IfSome (I.remaining input.old) (λ text. HasBad (IsNoSubmission callers) (input_lines text)) }
+    ensures done { result ≡ 0
+        → IsPrinted (IsBenched callers) (I.remaining input.old) (W.contents output.old)
+        (W.contents output.new) }
+    ensures refused { result ≡ 2
+        → IsNoBench callers cut
+        ⊎ IfSome (I.remaining input.old) (λ text. HasBad (IsNoSubmission callers) (input_lines text)) }
     ensures bad { result ≡ 2 → output.new ≡ output.old }
     ensures no_bench { IsNoBench callers cut → (result ≡ 2) × (input.new ≡ input.old) }
     ensures silent { result ≡ 0 → faults.new ≡ faults.old }

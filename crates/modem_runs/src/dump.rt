@@ -13,7 +13,8 @@ use std::alloc::Global;
 /// What stands before the first blank of a line that isn't empty, and what behind it.
 fn next_word(line: &[u8]) -> (&[u8], &[u8])
     requires { 0 < length line.now }
-    ensures cut { line_octets line.now ≡ joined (result_ok (decode_of result.0.now)) (line_octets result.1.now) }
+    ensures cut { line_octets line.now
+        ≡ joined (result_ok (decode_of result.0.now)) (line_octets result.1.now) }
     ensures shorter { length result.1.now < length line.now }
 {
     split_once(line, b' ').unwrap_or((line, &[]))
@@ -21,7 +22,9 @@ fn next_word(line: &[u8]) -> (&[u8], &[u8])
 
 /// Appends the octets of one line: pairs with any blanks before, between and after them.
 fn push_pairs(alloc: Global, line: &[u8], octets: &mut Vec<u8>) -> Result<(), Refusal>
-    ensures { MatchResult result (λ _. Some octets.new.items ≡ joined (Some octets.old.items) (line_octets line.now)) (λ why. why ≡ Refusal.Bad → IsNoDump line.now) }
+    ensures { MatchResult result
+        (λ _. Some octets.new.items ≡ joined (Some octets.old.items) (line_octets line.now))
+        (λ why. why ≡ Refusal.Bad → IsNoDump line.now) }
 {
     let mut left = line;
     while !left.is_empty() {
@@ -35,7 +38,8 @@ fn push_pairs(alloc: Global, line: &[u8], octets: &mut Vec<u8>) -> Result<(), Re
 
 /// The octets of all lines. Refusals: the first bad line; NoMemory.
 pub fn read_dump(alloc: Global, dump: &[u8]) -> Result<Vec<u8>, Stop>
-    ensures { MatchResult result (λ octets. dump_octets (input_lines dump.now) ≡ Some octets.items) (IsReason IsNoDump (input_lines dump.now)) }
+    ensures { MatchResult result (λ octets. dump_octets (input_lines dump.now) ≡ Some octets.items)
+        (IsReason IsNoDump (input_lines dump.now)) }
 {
     let mut octets = Vec::new(alloc);
     let mut place = 0;

@@ -14,7 +14,9 @@ fn take_frames(
     frames: &mut Vec<FrameBuf>,
 ) -> Result<(), AllocError>
     ensures all { OnOk result (deframer.new.next ≡ None) }
-    ensures past { OnOk result (HandsAll deframer.old (map kept_frame frames.old.items) deframer.new (map kept_frame frames.new.items)) }
+    ensures past { OnOk result
+        (HandsAll deframer.old (map kept_frame frames.old.items) deframer.new
+        (map kept_frame frames.new.items)) }
 {
     while let Some(frame) = deframer.peek() {
         frames.push(frame.to_buf(alloc)?)?;
@@ -25,7 +27,7 @@ fn take_frames(
 
 /// The frames that octets are read as, and the octets of the rest. Refusals: BadN1 where N1 isn't 31 to 32767,
 /// checked first; NoMemory.
-#[tactic(auto, using(crate::proofs::Framings::taken_none, crate::proofs::Framings::taken_more, crate::proofs::Framings::read_all))]
+#[tactic(auto, using(crate::proofs::inputs::ReadFrames::taken_none, crate::proofs::inputs::ReadFrames::taken_more, crate::proofs::inputs::ReadFrames::read_all))]
 pub fn read_frames(
     alloc: Global,
     n1: u16,

@@ -13,7 +13,7 @@ use std::io::{ErrorKind, Read};
 const READS: u32 = 16_777_216;
 
 /// All octets of the reader, to its end. A read that was interrupted is made again.
-#[tactic(auto, using(crate::proofs::Inputs::consumed_none, crate::proofs::Inputs::consumed_more, crate::proofs::Inputs::consumed_same, crate::proofs::Inputs::consumed_all))]
+#[tactic(auto, using(crate::proofs::inputs::ReadOctets::consumed_none, crate::proofs::inputs::ReadOctets::consumed_more, crate::proofs::inputs::ReadOctets::consumed_same, crate::proofs::inputs::ReadOctets::consumed_all))]
 pub fn read_whole<R: Read>(alloc: Global, input: &mut R) -> Result<Vec<u8>, Stop>
     ensures whole { IfOk result (λ octets. IfSome (R.remaining input.old) (λ all. octets.items ≡ all)) }
     ensures err { IfErr result (λ stop. (stop ≡ Stop.NoMemory) ⊎ (stop ≡ Stop.Input)) }
@@ -32,9 +32,10 @@ pub fn read_whole<R: Read>(alloc: Global, input: &mut R) -> Result<Vec<u8>, Stop
 }
 
 /// What stands before the first of these octets, and what behind it.
-#[tactic(auto, using(crate::proofs::Cuts::lacking, crate::proofs::Cuts::cut_at))]
+#[tactic(auto, using(crate::proofs::inputs::CutTexts::lacking, crate::proofs::inputs::CutTexts::cut_at))]
 pub fn split_once(text: &[u8], octet: u8) -> Option<(&[u8], &[u8])>
-    ensures { MatchOption result (LacksByte octet text.now) (λ parts. (LacksByte octet parts.0.now) × (text.now ≡ parts.0.now ++ octet ∷ parts.1.now)) }
+    ensures { MatchOption result (LacksByte octet text.now)
+        (λ parts. (LacksByte octet parts.0.now) × (text.now ≡ parts.0.now ++ octet ∷ parts.1.now)) }
 {
     let place = memchr(octet, text)?;
     Some((&text[..place], &text[place + 1..]))
@@ -42,7 +43,8 @@ pub fn split_once(text: &[u8], octet: u8) -> Option<(&[u8], &[u8])>
 
 /// The first line of a text, without its end, and the text behind it.
 pub fn next_line(text: &[u8]) -> Option<(&[u8], &[u8])>
-    ensures cut { MatchOption result (text.now ≡ []) (λ parts. input_lines text.now ≡ parts.0.now ∷ input_lines parts.1.now) }
+    ensures cut { MatchOption result (text.now ≡ [])
+        (λ parts. input_lines text.now ≡ parts.0.now ∷ input_lines parts.1.now) }
     ensures shorter { IfSome result (λ parts. length parts.1.now < length text.now) }
 {
     if text.is_empty() {

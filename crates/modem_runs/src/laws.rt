@@ -8,7 +8,7 @@ ghost use Rattle.modem_runs.specs.OneModemRows.{RightAnswer, RightLine, WrongAns
 /// The lines that the modem reads, over all connections, are commands that the driver was given, each on its connection, in
 /// the order in which they were wholly sent. Each command told Done is among them, at its place, and what it is told is what
 /// the modem's step gives there, run over all lines before it.
-#[tactic(auto, using(crate::proofs::OneModemLaws::reads_commands, crate::proofs::OneModemLaws::tells_modem))]
+#[tactic(auto, using(crate::proofs::law_proofs::OneModem::reads_commands, crate::proofs::law_proofs::OneModem::tells_modem))]
 pub fn one_modem()
     ensures reads { (s : Setting) (e : End) (line : List EndAct) → ReadsCommands s e line }
     ensures told { (s : Setting) (e : End) (line : List EndAct) → TellsModem s e line }
@@ -17,7 +17,7 @@ pub fn one_modem()
 /// Worked lines, computed by the definitions: two commands and a line of the modem's own between them keep what is asked of
 /// one modem, and the second is answered by the modem that the first changed. Another answer, another place and another
 /// connection are refused, and so is a line on which a frame comes before it was sent, or is passed over.
-#[tactic(auto, using(crate::proofs::OneModemFacts::right_line, crate::proofs::OneModemFacts::right_answer, crate::proofs::OneModemFacts::wrong_answers, crate::proofs::OneModemFacts::wrong_lines))]
+#[tactic(auto, using(crate::proofs::rows::OneModemRowFacts::right_line, crate::proofs::rows::OneModemRowFacts::right_answer, crate::proofs::rows::OneModemRowFacts::wrong_answers, crate::proofs::rows::OneModemRowFacts::wrong_lines))]
 pub fn worked_lines()
     ensures right { RightLine }
     ensures answer { RightAnswer }

@@ -43,7 +43,8 @@ pub fn give_up<E: Write>(faults: &mut E, stop: Stop) -> u8
 /// Writes what a run gave, or says why it gave nothing; and gives the status.
 pub fn finish<W: Write, E: Write>(output: &mut W, faults: &mut E, built: Result<String, Stop>) -> u8
     ensures ended { MatchResult built (λ _. result ≤ 1) (λ stop. result ≡ status_of stop) }
-    ensures written { IfOk built (λ text. result ≡ 0 → Appends (W.contents output.old) (W.contents output.new) (string_bytes text)) }
+    ensures written { IfOk built
+        (λ text. result ≡ 0 → Appends (W.contents output.old) (W.contents output.new) (string_bytes text)) }
     ensures nothing { OnErr built (output.new ≡ output.old) }
     ensures silent { result ≡ 0 → faults.new ≡ faults.old }
 {
@@ -69,7 +70,8 @@ fn takes_n1(n1: u16) -> bool
 /// What events come to.
 fn acts_of(alloc: Global, n1: u16, events: &[Event]) -> Result<Vec<Act>, AllocError>
     requires { (31 ≤ n1) × (n1 ≤ 32767) }
-    ensures { IfOk result (λ acts. UsesOnce (requests events.now) → Replays n1 events.now (map act_of acts.items)) }
+    ensures { IfOk result
+        (λ acts. UsesOnce (requests events.now) → Replays n1 events.now (map act_of acts.items)) }
 {
     match replay(alloc, n1, events) {
         Ok(acts) => Ok(acts),
@@ -93,8 +95,10 @@ fn frames_of(alloc: Global, n1: u16, octets: &[u8]) -> Result<(Vec<FrameBuf>, Ve
 /// The acts that a script comes to, as text.
 fn replayed<R: Read>(alloc: Global, input: &mut R, n1: u16) -> Result<String, Stop>
     requires { (31 ≤ n1) × (n1 ≤ 32767) }
-    ensures ok { IfOk result (λ text. IfSome (R.remaining input.old) (λ all. IsReplayed n1 all (string_bytes text))) }
-    ensures bad_line { (place : ℕ) → IsErrOf result (Stop.BadLine place) → IfSome (R.remaining input.old) (λ text. IsFirstBad IsNoOrder (input_lines text) place) }
+    ensures ok { IfOk result
+        (λ text. IfSome (R.remaining input.old) (λ all. IsReplayed n1 all (string_bytes text))) }
+    ensures bad_line { (place : ℕ) → IsErrOf result (Stop.BadLine place)
+        → IfSome (R.remaining input.old) (λ text. IsFirstBad IsNoOrder (input_lines text) place) }
     ensures others { (result ≢ Err Stop.BadN1) × (result ≢ Err Stop.BadCallers) × (result ≢ Err Stop.BadCut) }
 {
     let script = read_whole(alloc, input)?;
@@ -107,8 +111,10 @@ fn replayed<R: Read>(alloc: Global, input: &mut R, n1: u16) -> Result<String, St
 /// The frames that octets are read as, and the rest, as text.
 fn framed<R: Read>(alloc: Global, input: &mut R, n1: u16) -> Result<String, Stop>
     requires { (31 ≤ n1) × (n1 ≤ 32767) }
-    ensures ok { IfOk result (λ text. IfSome (R.remaining input.old) (λ all. IsFramed n1 all (string_bytes text))) }
-    ensures bad_line { (place : ℕ) → IsErrOf result (Stop.BadLine place) → IfSome (R.remaining input.old) (λ text. IsFirstBad IsNoDump (input_lines text) place) }
+    ensures ok { IfOk result
+        (λ text. IfSome (R.remaining input.old) (λ all. IsFramed n1 all (string_bytes text))) }
+    ensures bad_line { (place : ℕ) → IsErrOf result (Stop.BadLine place)
+        → IfSome (R.remaining input.old) (λ text. IsFirstBad IsNoDump (input_lines text) place) }
     ensures others { (result ≢ Err Stop.BadN1) × (result ≢ Err Stop.BadCallers) × (result ≢ Err Stop.BadCut) }
 {
     let dump = read_whole(alloc, input)?;
@@ -129,8 +135,11 @@ pub fn replay_run<R: Read, W: Write, E: Write>(
     n1: u16,
 ) -> u8
     ensures status { result ≤ 2 }
-    ensures done { result ≡ 0 → IsPrinted (IsReplayed n1) (R.remaining input.old) (W.contents output.old) (W.contents output.new) }
-    ensures refused { result ≡ 2 → ((n1 < 31) ⊎ (32767 < n1)) ⊎ IfSome (R.remaining input.old) (λ text. HasBad IsNoOrder (input_lines text)) }
+    ensures done { result ≡ 0
+        → IsPrinted (IsReplayed n1) (R.remaining input.old) (W.contents output.old) (W.contents output.new) }
+    ensures refused { result ≡ 2
+        → ((n1 < 31) ⊎ (32767 < n1))
+        ⊎ IfSome (R.remaining input.old) (λ text. HasBad IsNoOrder (input_lines text)) }
     ensures bad { result ≡ 2 → output.new ≡ output.old }
     ensures bad_n1 { (n1 < 31) ⊎ (32767 < n1) → (result ≡ 2) × (input.new ≡ input.old) }
     ensures silent { result ≡ 0 → faults.new ≡ faults.old }
@@ -152,8 +161,11 @@ pub fn frames_run<R: Read, W: Write, E: Write>(
     n1: u16,
 ) -> u8
     ensures status { result ≤ 2 }
-    ensures done { result ≡ 0 → IsPrinted (IsFramed n1) (R.remaining input.old) (W.contents output.old) (W.contents output.new) }
-    ensures refused { result ≡ 2 → ((n1 < 31) ⊎ (32767 < n1)) ⊎ IfSome (R.remaining input.old) (λ text. HasBad IsNoDump (input_lines text)) }
+    ensures done { result ≡ 0
+        → IsPrinted (IsFramed n1) (R.remaining input.old) (W.contents output.old) (W.contents output.new) }
+    ensures refused { result ≡ 2
+        → ((n1 < 31) ⊎ (32767 < n1))
+        ⊎ IfSome (R.remaining input.old) (λ text. HasBad IsNoDump (input_lines text)) }
     ensures bad { result ≡ 2 → output.new ≡ output.old }
     ensures bad_n1 { (n1 < 31) ⊎ (32767 < n1) → (result ≡ 2) × (input.new ≡ input.old) }
     ensures silent { result ≡ 0 → faults.new ≡ faults.old }

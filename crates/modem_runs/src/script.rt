@@ -23,7 +23,8 @@ enum Order {
 
 /// The number of a connection in decimal without leading zeros: 0 to 61.
 fn dlci_of(word: &[u8]) -> Option<Dlci>
-    ensures { MatchOption result ((n : ℕ) → n < 62 → word.now ≢ number_text n) (λ dlci. word.now ≡ number_text dlci.number) }
+    ensures { MatchOption result ((n : ℕ) → n < 62 → word.now ≢ number_text n)
+        (λ dlci. word.now ≡ number_text dlci.number) }
 {
     let number = match word {
         [ones] if ones.is_ascii_digit() => *ones - b'0',
@@ -69,7 +70,8 @@ fn probe_of(alloc: Global, word: &[u8]) -> Result<ProbeData, Refusal>
 
 /// The words after `cmd`: a connection, one blank and a command line.
 fn command_of(alloc: Global, words: &[u8]) -> Result<Order, Refusal>
-    ensures { MatchResult result (Says (codes "cmd " ++ words.now)) (λ why. why ≡ Refusal.Bad → SaysNothing (codes "cmd " ++ words.now)) }
+    ensures { MatchResult result (Says (codes "cmd " ++ words.now))
+        (λ why. why ≡ Refusal.Bad → SaysNothing (codes "cmd " ++ words.now)) }
 {
     let Some((word, text)) = split_once(words, b' ') else {
         return Err(Refusal::Bad);
@@ -116,7 +118,8 @@ fn order_of(alloc: Global, line: &[u8]) -> Result<Order, Refusal>
 /// The events of a script. Requests are caller 0's and have the numbers from 1 in order. Refusals: the first bad
 /// line; NoMemory.
 pub fn read_script(alloc: Global, script: &[u8]) -> Result<Vec<Event>, Stop>
-    ensures { MatchResult result (λ events. IsScript 1 (input_lines script.now) events.items) (IsReason IsNoOrder (input_lines script.now)) }
+    ensures { MatchResult result (λ events. IsScript 1 (input_lines script.now) events.items)
+        (IsReason IsNoOrder (input_lines script.now)) }
 {
     let mut events = Vec::new(alloc);
     let mut asked = 0;

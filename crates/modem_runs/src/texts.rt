@@ -96,7 +96,8 @@ pub fn frames_text(alloc: Global, frames: &[FrameBuf], rest: &[u8]) -> Result<St
 
 /// A frame as it is spelled.
 fn push_spelled(alloc: Global, frame: &FrameBuf, text: &mut String) -> Result<(), AllocError>
-    ensures { OnOk result (string_bytes text.new ≡ string_bytes text.old ++ encode_lower (spelled (kept_frame frame.now))) }
+    ensures { OnOk result
+        (string_bytes text.new ≡ string_bytes text.old ++ encode_lower (spelled (kept_frame frame.now))) }
 {
     let mut octets = Vec::new(alloc);
     match write_frame(frame.view(), 32767, &mut octets) {
@@ -131,7 +132,8 @@ fn push_ask(alloc: Global, ask: &Ask, text: &mut String) -> Result<(), AllocErro
 }
 
 fn push_request(alloc: Global, request: &Request, text: &mut String) -> Result<(), AllocError>
-    ensures { OnOk result (string_bytes text.new ≡ string_bytes text.old ++ act_text (DriverAct.Took request.now)) }
+    ensures { OnOk result
+        (string_bytes text.new ≡ string_bytes text.old ++ act_text (DriverAct.Took request.now)) }
 {
     let number = request.number;
     write!(text, "took {number} ")?;
@@ -161,7 +163,8 @@ pub fn answer_word(answer: &Answer) -> &'static str
 
 /// The lines of an answer.
 pub fn push_lines(alloc: Global, lines: &[AnswerLine], text: &mut String) -> Result<(), AllocError>
-    ensures { OnOk result (string_bytes text.new ≡ string_bytes text.old ++ flat_map answer_line_text lines.now) }
+    ensures { OnOk result
+        (string_bytes text.new ≡ string_bytes text.old ++ flat_map answer_line_text lines.now) }
 {
     for line in lines {
         text.push_str("| ")?;
@@ -172,7 +175,8 @@ pub fn push_lines(alloc: Global, lines: &[AnswerLine], text: &mut String) -> Res
 }
 
 fn push_outcome(alloc: Global, outcome: &Outcome, text: &mut String) -> Result<(), AllocError>
-    ensures { OnOk result (string_bytes text.new ≡ string_bytes text.old ++ act_text (DriverAct.Told outcome.now)) }
+    ensures { OnOk result
+        (string_bytes text.new ≡ string_bytes text.old ++ act_text (DriverAct.Told outcome.now)) }
 {
     let number = outcome.number;
     let answer = answer_word(&outcome.answer);
@@ -198,7 +202,9 @@ fn urc_word(kind: UrcKind) -> &'static str
 }
 
 fn push_urc(alloc: Global, urc: &Urc, text: &mut String) -> Result<(), AllocError>
-    ensures { OnOk result (string_bytes text.new ≡ string_bytes text.old ++ act_text (DriverAct.Heard urc.now.kind urc.now.dlci.number urc.now.line)) }
+    ensures { OnOk result
+        (string_bytes text.new
+        ≡ string_bytes text.old ++ act_text (DriverAct.Heard urc.now.kind urc.now.dlci.number urc.now.line)) }
 {
     let kind = urc_word(urc.kind);
     let dlci = urc.dlci.number();

@@ -3,7 +3,7 @@ use Rattle.std.specs.Prelude.{ℕ, Bool, List, [], ◌∷◌}
 use Rattle.mux_station.specs.Acts as station
 use Rattle.mux_station.specs.declared.role.Role.TheVariants.{Responder}
 use Rattle.mux_station.specs.Opening as opening
-use Rattle.mux_station.specs.Sending.{Setting}
+use Rattle.mux_station.specs.Sending.{StationSetting}
 use Rattle.modem_sim.specs.declared.script.Script.{Script}
 use Rattle.modem_sim.specs.declared.script.Step.{Step}
 use Rattle.modem_sim.specs.declared.script.StepAct.{StepAct}
@@ -15,7 +15,8 @@ pub data Act : Type 0 where
   -- a step of its script is done
   Did : StepAct → Act
 
--- whose history it is: N1, whether commands are repeated, the steps of its script, and the modem as it was handed in
+-- whose history it is: N1, whether commands are repeated, the steps of its script, and the modem as it was
+-- handed in
 pub record End : Type 0 where
   pub n1 : ℕ
   pub echo : Bool
@@ -26,7 +27,7 @@ abbrev pub end_of : ℕ → ModemState → Script → End
 end_of n1 modem script = record { n1 = n1; echo = script.echo; steps = script.steps; modem = modem }
 
 -- it is the responder
-abbrev pub setting : End → Setting
+abbrev pub setting : End → StationSetting
 setting e = record { role = Responder; n1 = e.n1 }
 
 -- the past of its station
@@ -35,8 +36,8 @@ wire [] = []
 wire (Wire a ∷ past) = a ∷ wire past
 wire (Did step ∷ past) = wire past
 
-abbrev pub is_open : ℕ → List Act → Bool
-is_open d past = opening.is_open Responder d (wire past)
+abbrev pub is_open_at_modem : ℕ → List Act → Bool
+is_open_at_modem d past = opening.is_open Responder d (wire past)
 
 -- the past, and then these acts, of which the first comes first
 abbrev pub after : List Act → List Act → List Act

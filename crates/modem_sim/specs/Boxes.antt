@@ -3,9 +3,9 @@ use Rattle.std.specs.Prelude.{◌≡◌, ℕ, ◌==◌, ◌&&◌, ◌||◌, nat_
 use Rattle.mux_station.specs.declared.role.Role.TheVariants.{Responder}
 use Rattle.mux_station.specs.Offering.{offered}
 use Rattle.modem_sim.specs.declared.channel.Wanted.{Wanted}
-use Rattle.modem_sim.specs.Acts.{Act, End, wire, is_open}
+use Rattle.modem_sim.specs.Acts.{Act, End, wire, is_open_at_modem}
 use Rattle.modem_history.specs.Connections.{unfinished_on}
-use Rattle.modem_sim.specs.Pieces.{framed, spelled}
+use Rattle.modem_sim.specs.Pieces.{framed, pieces_octets}
 use Rattle.modem_sim.specs.Outboxes.{outbox, hold_on, is_holding}
 
 -- a hold: the connection on which a command is waited for, and whether one has come there, which ends it
@@ -16,8 +16,8 @@ pub record Waited : Type 0 where
 abbrev pub waited_of : Wanted → Waited
 waited_of w = record { dlci = w.dlci.number; over = w.over }
 
--- The line that hasn't ended; the octets said that the station wasn't handed; those that a hold holds back, which are kept apart
--- also once it is over, until they are moved; and the hold.
+-- The line that hasn't ended; the octets said that the station wasn't handed; those that a hold holds back,
+-- which are kept apart also once it is over, until they are moved; and the hold.
 pub record Box : Type 0 where
   pub run : List ℕ
   pub unsent : List ℕ
@@ -38,15 +38,15 @@ pub record BoxFits (e : End) (d : ℕ) (past : List Act) (b : Box) : Type 0 wher
   pub hold_is : hold_on d past ≡ lasting b.hold
   -- what is said and held back, all together
   pub all_is :
-      spelled (outbox e d past).said ++ spelled (outbox e d past).held
+      pieces_octets (outbox e d past).said ++ pieces_octets (outbox e d past).held
       ≡ offered Responder d (wire past) ++ (b.unsent ++ b.held)
   -- while a hold lasts, what it holds back
-  pub held_is : is_holding (hold_on d past) ≡ true → spelled (outbox e d past).held ≡ b.held
+  pub held_is : is_holding (hold_on d past) ≡ true → pieces_octets (outbox e d past).held ≡ b.held
   -- without a hold nothing is kept apart
   pub apart : b.hold ≡ None → b.held ≡ []
 
 abbrev pub FitsOpen : End → ℕ → List Act → Box → Type 0
-FitsOpen e d past b = is_open d past ≡ true → BoxFits e d past b
+FitsOpen e d past b = is_open_at_modem d past ≡ true → BoxFits e d past b
 
 -- what is said next goes behind this
 abbrev pub queue_by : Option Waited → Box → List ℕ
@@ -61,7 +61,8 @@ abbrev pub said_with : Option Waited → Box → List ℕ → Box
 said_with None b octets = record b { unsent = b.unsent ++ octets }
 said_with (Some w) b octets = record b { held = b.held ++ octets }
 
--- what a frame brings to its connection: the line that is unfinished after it, and what is said to the lines that ended
+-- what a frame brings to its connection: the line that is unfinished after it, and what is said to the lines
+-- that ended
 pub record Brought : Type 0 where
   pub run : List ℕ
   pub said : List ℕ
@@ -69,7 +70,8 @@ pub record Brought : Type 0 where
 abbrev pub box_taken : Brought → Box → Box
 box_taken x b = record (said_with b.hold b x.said) { run = x.run }
 
--- what a frame makes of a box: it starts afresh where the connection opens, and another connection's isn't touched
+-- what a frame makes of a box: it starts afresh where the connection opens, and another connection's isn't
+-- touched
 abbrev pub box_turned : (opens here : Bool) → Brought → Box → Box
 box_turned opens here x b =
     if opens then fresh_box
@@ -91,7 +93,8 @@ is_released (Some w) = w.over
 
 -- what is kept apart goes behind the rest where the hold is over
 abbrev pub released : Box → Box
-released b = if is_released b.hold then record b { unsent = b.unsent ++ b.held; held = []; hold = None } else b
+released b =
+    if is_released b.hold then record b { unsent = b.unsent ++ b.held; held = []; hold = None } else b
 
 -- a line that no command asked for is said, which no hold holds back
 abbrev pub box_announced : List ℕ → Box → Box

@@ -1,5 +1,5 @@
 -- What a simulated modem's end keeps, and the pasts that it fits.
-use Rattle.std.specs.Prelude.{◌≡◌, ◌≢◌, ℕ, ◌+◌, ◌-◌, ◌^◌, ◌<◌, ◌==◌, ◌&&◌, ◌||◌, Bool, true, false, List, [], ◌∷◌, ◌++◌, None, Some, length, map, filter, min, slice_index_or, slice_set, if◌then◌else◌}
+use Rattle.std.specs.Prelude.{◌≡◌, ◌≢◌, ℕ, ◌+◌, ◌-◌, ◌^◌, ◌<◌, ◌≤◌, ◌==◌, ◌&&◌, ◌||◌, Bool, true, false, List, [], ◌∷◌, ◌++◌, None, Some, length, map, filter, min, slice_index_or, slice_set, if◌then◌else◌}
 use Rattle.std.specs.List.{list_all}
 use Rattle.mux_frame.specs.Frames.{Frame}
 use Rattle.mux_station.specs.Acts as station
@@ -7,7 +7,7 @@ use Rattle.mux_station.specs.Stations as stations
 use Rattle.mux_station.specs.Fitting as fitting
 use Rattle.mux_station.specs.Sending as sending
 use Rattle.mux_station.specs.States.{is_opened}
-use Rattle.mux_station.specs.Giving.{given_on, next_given}
+use Rattle.mux_station.specs.Giving.{station_after, next_given}
 use Rattle.mux_station.specs.declared.noted.Noted.{Noted}
 use Rattle.mux_station.specs.declared.noted.Noted.TheVariants.{AllClosed}
 use Rattle.mux_frame.specs.declared.frame.Kind.TheVariants.{Sabm}
@@ -15,7 +15,7 @@ use Rattle.mux_station.specs.Written.{is_on, is_data_frame}
 use Rattle.mux_station.specs.Messages.{cld, brings_command}
 use Rattle.at_text.specs.Lines.{lines, kept_run}
 use Rattle.modem_sim.specs.Laws.{after_lines}
-use Rattle.modem_sim.specs.Pieces.{spelled, replies}
+use Rattle.modem_sim.specs.Pieces.{pieces_octets, replies}
 use Rattle.modem_sim.specs.declared.script.Step.{Step}
 use Rattle.modem_sim.specs.declared.script.StepAct.{StepAct}
 use Rattle.modem_sim.specs.declared.script.StepAct.TheVariants.{Announce, Hold, CloseDown}
@@ -26,8 +26,8 @@ use Rattle.modem_sim.specs.Boxes.{Box, fresh_box, FitsOpen, Brought, box_turned,
 use Rattle.modem_sim.specs.Doing.{acts, call_of, call_owed, left, named_by, is_closed_down}
 use Rattle.modem_sim.specs.Histories.{EachAllowed, got, sent}
 
--- Its station, its modem, whether it repeats commands, what it keeps of each connection, how many lines came, which is told up
--- to u64::MAX, the steps that are left, and whether it has closed down.
+-- Its station, its modem, whether it repeats commands, what it keeps of each connection, how many lines came,
+-- which is told up to u64::MAX, the steps that are left, and whether it has closed down.
 pub record Core : Type 0 where
   pub station : stations.Station
   pub modem : ModemState
@@ -60,9 +60,9 @@ nothing_wired = record { came = []; gone = [] }
 pub record Fits (e : End) (w : Wired) (c : Core) (past : List Act) : Type 0 where
   pub setting_is : stations.setting_of c.station ≡ setting e
   pub echo_is : c.echo ≡ e.echo
-  pub station_is : fitting.Fits c.station (wire past)
-  pub lawful : sending.Lawful (setting e) (wire past)
-  pub complete : sending.Complete (setting e) (wire past)
+  pub station_is : fitting.StationFits c.station (wire past)
+  pub lawful : sending.StationLawful (setting e) (wire past)
+  pub complete : sending.StationComplete (setting e) (wire past)
   pub allowed : EachAllowed e past
   pub free : call_owed past ≡ None
   pub modem_is : modem_after e past ≡ c.modem
@@ -84,27 +84,29 @@ pub record GoesFrom (e : End) (w : Wired) (past : List Act) (c : Core) : Type 0 
   pub later : IsLater past now
   pub fits : Fits e w c now
 
--- Whatever past it fits, it goes on to one that it fits: by itself, with a frame that came, and with frames that it gave on.
+-- Whatever past it fits, it goes on to one that it fits: by itself, with a frame that came, and with frames
+-- that it gave on.
 abbrev pub Goes : Core → Core → Type 0
 Goes old new = (e : End) (w : Wired) (past : List Act) → Fits e w old past → GoesFrom e w past new
 
-abbrev pub GoesOn : Core → Core → Frame → Type 0
-GoesOn old new f =
+abbrev pub EndGoesOn : Core → Core → Frame → Type 0
+EndGoesOn old new f =
     (e : End) (w : Wired) (past : List Act) → Fits e w old past
     → GoesFrom e (record w { came = w.came ++ f ∷ [] }) past new
 
 -- ## A frame that comes
 
 -- the past with a frame that comes, and the frames that it calls for
-abbrev pub sent_after : List Frame → List Act → List Act
-sent_after [] past = past
-sent_after (f ∷ fs) past = sent_after fs (Wire (station.Sent f) ∷ past)
+abbrev pub wire_after : List Frame → List Act → List Act
+wire_after [] past = past
+wire_after (f ∷ fs) past = wire_after fs (Wire (station.Sent f) ∷ past)
 
-abbrev pub answered : End → List Act → station.Act → List Act
-answered e past a = sent_after (sending.calls (setting e) (wire past) a) (Wire a ∷ past)
+abbrev pub after_wire_act : End → List Act → station.Act → List Act
+after_wire_act e past a = wire_after (sending.called_frames (setting e) (wire past) a) (Wire a ∷ past)
 
 abbrev pub octets_in : Core → Frame → List ℕ
-octets_in c f = if is_data_frame f && is_opened (stations.channel_at c.station f.dlci).state then f.info else []
+octets_in c f =
+    if is_data_frame f && is_opened (stations.channel_at c.station f.dlci).state then f.info else []
 
 -- the lines that end in it
 abbrev pub lines_in : Core → Frame → List (List ℕ)
@@ -114,7 +116,7 @@ lines_in c f = lines ((box_at c f.dlci).run ++ octets_in c f)
 abbrev pub brought : Core → Frame → Brought
 brought c f = record {
   run = kept_run ((box_at c f.dlci).run ++ octets_in c f);
-  said = spelled (replies c.echo c.modem (lines_in c f));
+  said = pieces_octets (replies c.echo c.modem (lines_in c f));
 }
 
 -- the frame opens its connection: a SABM on 0, or while 0 is open
@@ -139,9 +141,10 @@ abbrev pub kept_in : Core → ℕ → ModemState → Box → ℕ → Bool → Co
 kept_in c d m b count closes =
     counted_in (record c { modem = m; boxes = slice_set c.boxes d b; closed = c.closed || closes }) d count
 
--- an end takes a frame: its station does, its modem executes the lines, and its connection keeps what it brought
+-- an end takes a frame: its station does, its modem executes the lines, and its connection keeps what it
+-- brought
 pub record Takes (old new : Core) (f : Frame) : Type 0 where
-  pub at_station : fitting.Handles old.station new.station (station.Got f)
+  pub at_station : fitting.StationHandles old.station new.station (station.Got f)
   pub modem_is : new.modem ≡ after_lines old.modem (lines_in old f)
   pub echo_is : new.echo ≡ old.echo
   pub boxes_are :
@@ -169,7 +172,7 @@ IsHandedOn c d = is_opened (stations.channel_at c.station d).state ≡ true → 
 -- ## What goes out
 
 abbrev pub gone_on : Core → Core
-gone_on c = record c { station = given_on c.station c.station.queue }
+gone_on c = record c { station = station_after c.station c.station.queue }
 
 -- whatever past it fits, it goes on with the frame that it gives on
 abbrev pub GivesOut : Core → Type 0
@@ -197,7 +200,7 @@ pub data AtStation (old new : stations.Station) (act : StepAct) : Type 0 where
   asks :
       (call : station.Call) → call_of act ≡ Some call
       → sending.refused (stations.setting_of old) (stations.seen_in old) call ≡ None
-      → fitting.Handles old new (station.Called call)
+      → fitting.StationHandles old new (station.Called call)
       → AtStation old new act
 
 -- the connections that a step names are open
@@ -210,7 +213,8 @@ pub record Refuses (v : stations.Station) (act : StepAct) : Type 0 where
   pub asked : call_of act ≡ Some call
   pub refused : sending.refused (stations.setting_of v) (stations.seen_in v) call ≢ None
 
--- why a step isn't done yet: more lines have to come, a connection that it names isn't open, or the station refuses what it asks
+-- why a step isn't done yet: more lines have to come, a connection that it names isn't open, or the station
+-- refuses what it asks
 pub data Waits (c : Core) (step : Step) : Type 0 where
   for_lines : c.come < step.after → step.after < 2 ^ 64 → Waits c step
   for_openings : are_open_in c.station step.act ≡ false → Waits c step
@@ -219,11 +223,33 @@ pub data Waits (c : Core) (step : Step) : Type 0 where
 -- no step can be done: none is left, or the next one isn't passed over and waits
 pub data HasNoneToDo (c : Core) : Type 0 where
   none_left : c.steps ≡ [] → HasNoneToDo c
-  waits : (step : Step) (later : List Step) → c.steps ≡ step ∷ later → acts step.act ≡ true → Waits c step → HasNoneToDo c
+  waits :
+      (step : Step) (later : List Step) → c.steps ≡ step ∷ later → acts step.act ≡ true → Waits c step
+      → HasNoneToDo c
+
+-- ## What takes memory
+
+-- the next step may be done, and says or holds back something: it asks nothing of the station
+pub record SaysNext (c : Core) : Type 0 where
+  pub step : Step
+  pub later : List Step
+  pub is_first : c.steps ≡ step ∷ later
+  pub is_done : acts step.act ≡ true
+  pub come : step.after ≤ c.come
+  pub open_are : are_open_in c.station step.act ≡ true
+  pub asks_nothing : call_of step.act ≡ None
+
+-- on an open connection a hold is over, and what it held back is still kept apart
+pub record HasReleased (c : Core) : Type 0 where
+  pub dlci : ℕ
+  pub small : dlci < 62
+  pub opened : is_opened (stations.channel_at c.station dlci).state ≡ true
+  pub released : is_released (box_at c dlci).hold ≡ true
 
 -- ## How much there is to hand on
 
--- what is said on a connection and not handed to the station, and one more where a hold is over that isn't let go yet
+-- what is said on a connection and not handed to the station, and one more where a hold is over that isn't
+-- let go yet
 abbrev pub unhanded : Box → ℕ
 unhanded b = length b.unsent + length b.held + (if is_released b.hold then 1 else 0)
 

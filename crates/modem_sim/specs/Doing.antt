@@ -7,7 +7,7 @@ use Rattle.mux_station.specs.Messages.{cld, brings_command}
 use Rattle.modem_sim.specs.declared.script.Step.{Step}
 use Rattle.modem_sim.specs.declared.script.StepAct.{StepAct}
 use Rattle.modem_sim.specs.declared.script.StepAct.TheVariants.{Announce, Flow, Hold, Disconnect, CloseDown}
-use Rattle.modem_sim.specs.Acts.{Act, Wire, Did, End, is_open}
+use Rattle.modem_sim.specs.Acts.{Act, Wire, Did, End, is_open_at_modem}
 use Rattle.modem_sim.specs.Heard.{heard}
 
 -- a text that can be a line: 1 to 512 octets, no CR and no LF among them
@@ -60,12 +60,12 @@ pub record IsDue (e : End) (past : List Act) (act : StepAct) : Type 0 where
   pub is_first : left e past ≡ next ∷ later
   pub is_its : next.act ≡ act
   pub come : nat_le next.after (length (heard past)) ≡ true
-  pub open_are : list_all (λ d. is_open d past) (named_by act) ≡ true
+  pub open_are : list_all (λ d. is_open_at_modem d past) (named_by act) ≡ true
 
 -- it closes down: a CLD is asked for, or comes while 0 is open (27.010, 5.4.6.3.3)
 abbrev pub closes_down : List Act → station.Act → Bool
 closes_down past (station.Called station.Stop) = true
-closes_down past (station.Got f) = is_open 0 past && brings_command cld f
+closes_down past (station.Got f) = is_open_at_modem 0 past && brings_command cld f
 closes_down past _ = false
 
 -- it has closed down

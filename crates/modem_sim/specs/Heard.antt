@@ -1,4 +1,5 @@
--- The command lines that came to a modem, over all connections and all their openings, and the modem after them (V.250, 5.2.1).
+-- The command lines that came to a modem, over all connections and all their openings, and the modem after
+-- them (V.250, 5.2.1).
 use Rattle.std.specs.Prelude.{ℕ, List, map}
 use Rattle.mux_frame.specs.Frames.{Frame}
 use Rattle.mux_station.specs.declared.role.Role.TheVariants.{Responder}

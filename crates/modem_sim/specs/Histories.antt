@@ -8,37 +8,39 @@ use Rattle.mux_station.specs.declared.role.Role.TheVariants.{Responder}
 use Rattle.mux_station.specs.Acts as station
 use Rattle.mux_station.specs.Sending as sending
 use Rattle.mux_station.specs.Stopping.{is_stopped}
-use Rattle.mux_station.specs.Offering.{offered, given}
+use Rattle.mux_station.specs.Offering.{offered, data_out}
 use Rattle.modem_history.specs.Wholes.{IsPrefixOf}
 use Rattle.modem_sim.specs.declared.script.Step.{Step}
 use Rattle.modem_sim.specs.declared.script.StepAct.{StepAct}
 use Rattle.modem_sim.specs.declared.state.ModemState.{ModemState}
-use Rattle.modem_sim.specs.Acts.{Act, Wire, Did, End, setting, wire, is_open}
+use Rattle.modem_sim.specs.Acts.{Act, Wire, Did, End, setting, wire, is_open_at_modem}
 use Rattle.modem_sim.specs.Heard.{modem_after}
-use Rattle.modem_sim.specs.Pieces.{spelled, asked_for}
+use Rattle.modem_sim.specs.Pieces.{pieces_octets, asked_for}
 use Rattle.modem_sim.specs.Outboxes.{outbox, hold_on, replies_since}
 use Rattle.modem_sim.specs.Doing.{IsDue, call_owed, acts, done}
 
 -- the octets that the station is handed are the next ones of what is said
-pub record IsOffer (e : End) (past : List Act) (d : ℕ) (octets : List ℕ) : Type 0 where
+pub record IsStationOffer (e : End) (past : List Act) (d : ℕ) (octets : List ℕ) : Type 0 where
   pub free : call_owed past ≡ None
-  pub next : starts_with nat_eq (spelled (outbox e d past).said) (offered Responder d (wire past) ++ octets) ≡ true
+  pub next :
+      starts_with nat_eq (pieces_octets (outbox e d past).said) (offered Responder d (wire past) ++ octets)
+      ≡ true
 
 -- a call is one that a step asks for that was just done, and it isn't refused
 pub record IsAsked (e : End) (past : List Act) (call : station.Call) : Type 0 where
   pub owed : call_owed past ≡ Some call
-  pub taken : sending.refused (setting e) (sending.seen (setting e) (wire past)) call ≡ None
+  pub taken : sending.refused (setting e) (sending.station_view (setting e) (wire past)) call ≡ None
 
 -- a step is done where it is due, and no other asks something of the station
 pub record MayDo (e : End) (past : List Act) (step : StepAct) : Type 0 where
   pub free : call_owed past ≡ None
   pub due : IsDue e past step
 
--- the act may follow: what the station is asked for is what a step asked that was just done, and there is no time
--- and no loss
+-- the act may follow: what the station is asked for is what a step asked that was just done, and there is no
+-- time and no loss
 abbrev pub Allows : End → List Act → Act → Type 0
 Allows e past (Did step) = MayDo e past step
-Allows e past (Wire (station.Called (station.Offer d octets))) = IsOffer e past d octets
+Allows e past (Wire (station.Called (station.Offer d octets))) = IsStationOffer e past d octets
 Allows e past (Wire (station.Called call)) = IsAsked e past call
 Allows e past (Wire (station.Got f)) = call_owed past ≡ None
 Allows e past (Wire (station.Sent f)) = call_owed past ≡ None
@@ -51,13 +53,13 @@ EachAllowed e [] = Unit {0}
 EachAllowed e (a ∷ past) = Allows e past a × EachAllowed e past
 
 -- each act may follow those before it, at the station and at the modem
-pub record Lawful (e : End) (past : List Act) : Type 0 where
-  pub at_station : sending.Lawful (setting e) (wire past)
+pub record SimLawful (e : End) (past : List Act) : Type 0 where
+  pub at_station : sending.StationLawful (setting e) (wire past)
   pub acts : EachAllowed e past
 
 -- nothing is owed
-pub record Complete (e : End) (past : List Act) : Type 0 where
-  pub at_station : sending.Complete (setting e) (wire past)
+pub record SimComplete (e : End) (past : List Act) : Type 0 where
+  pub at_station : sending.StationComplete (setting e) (wire past)
   pub called : call_owed past ≡ None
 
 -- ## What fits a history
@@ -72,8 +74,8 @@ sent [] = []
 sent (Wire (station.Sent f) ∷ past) = sent past ++ f ∷ []
 sent (_ ∷ past) = sent past
 
--- the frames that came are the first of those that the octets received are read as, and the octets sent are the
--- first of the spellings of the frames sent
+-- the frames that came are the first of those that the octets received are read as, and the octets sent are
+-- the first of the spellings of the frames sent
 pub record FitsOctets (n1 : ℕ) (received sent_octets : List ℕ) (past : List Act) : Type 0 where
   pub coming : List Frame
   pub rest : List ℕ
@@ -94,23 +96,25 @@ FitsModem e past m = modem_after e past ≡ m
 -- on each open connection that isn't stopped and not held all is out that there is to say
 abbrev pub AllIsOut : End → List Act → Type 0
 AllIsOut e past =
-    (d : ℕ) → d < 62 → is_open d past ≡ true → is_stopped Responder d (wire past) ≡ false
-    → hold_on d past ≡ None → given Responder d (wire past) ≡ spelled (outbox e d past).said
+    (d : ℕ) → d < 62 → is_open_at_modem d past ≡ true → is_stopped Responder d (wire past) ≡ false
+    → hold_on d past ≡ None → data_out Responder d (wire past) ≡ pieces_octets (outbox e d past).said
 
 -- ## Laws
 
 -- what left on a connection since it opened is the beginning of what is said there, piece by piece
 abbrev pub LeavesInPieces : End → List Act → Type 0
-LeavesInPieces e past = (d : ℕ) → IsPrefixOf (given Responder d (wire past)) (spelled (outbox e d past).said)
+LeavesInPieces e past =
+    (d : ℕ) → IsPrefixOf (data_out Responder d (wire past)) (pieces_octets (outbox e d past).said)
 
--- without the lines that no command asked for, what is said and held back on an open connection are the replies to
--- the lines that came on it since it opened, in order
+-- without the lines that no command asked for, what is said and held back on an open connection are the
+-- replies to the lines that came on it since it opened, in order
 abbrev pub SaysReplies : End → List Act → Type 0
 SaysReplies e past =
-    (d : ℕ) → is_open d past ≡ true
+    (d : ℕ) → is_open_at_modem d past ≡ true
     → asked_for (outbox e d past).said ++ asked_for (outbox e d past).held ≡ replies_since e d past
 
--- the steps that were done are the first of the script's, without those that are passed over: each once and in order
+-- the steps that were done are the first of the script's, without those that are passed over: each once and
+-- in order
 abbrev pub DoesInOrder : End → List Act → Type 0
 DoesInOrder e past =
     let steps = filter (λ (s : Step). acts s.act) e.steps in

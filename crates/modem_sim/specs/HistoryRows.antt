@@ -14,11 +14,11 @@ use Rattle.modem_sim.specs.declared.script.StepAct.{StepAct}
 use Rattle.modem_sim.specs.declared.script.StepAct.TheVariants.{Announce, Flow, Hold, Disconnect, CloseDown}
 use Rattle.modem_sim.specs.Steps.{started}
 use Rattle.modem_sim.specs.Rows.{unlocked}
-use Rattle.mux_station.specs.Offering.{given}
+use Rattle.mux_station.specs.Offering.{data_out}
 use Rattle.modem_sim.specs.Acts.{Act, Wire, Did, End, wire, after}
-use Rattle.modem_sim.specs.Pieces.{framed, spelled}
+use Rattle.modem_sim.specs.Pieces.{framed, pieces_octets}
 use Rattle.modem_sim.specs.Outboxes.{outbox}
-use Rattle.modem_sim.specs.Histories.{Lawful, Complete, AllIsOut}
+use Rattle.modem_sim.specs.Histories.{SimLawful, SimComplete, AllIsOut}
 
 abbrev pub zero : Dlci
 zero = record { number = 0; in_range = lit< tt }
@@ -39,7 +39,8 @@ plain = simulated false []
 abbrev pub step_at : ℕ → StepAct → Step
 step_at n act = record { after = n; act = act }
 
--- a frame comes from the driver; a frame is sent; one of the control queue is given on; octets are handed to the station
+-- a frame comes from the driver; a frame is sent; one of the control queue is given on; octets are handed
+-- to the station
 abbrev pub comes : Kind → ℕ → List ℕ → Act
 comes k d info = Wire (station.Got (written Initiator k d info))
 
@@ -67,7 +68,8 @@ abbrev pub open_zero : List Act
 open_zero = comes Sabm 0 [] ∷ sends Ua 0 [] ∷ gives ∷ []
 
 abbrev pub opening : ℕ → List Act
-opening d = comes Sabm d [] ∷ sends Ua d [] ∷ Wire (station.Sent (msc_frame Responder d ready)) ∷ gives ∷ gives ∷ []
+opening d =
+    comes Sabm d [] ∷ sends Ua d [] ∷ Wire (station.Sent (msc_frame Responder d ready)) ∷ gives ∷ gives ∷ []
 
 -- connections 0 and 1 are open
 abbrev pub ready_one : List Act
@@ -105,7 +107,8 @@ held_back =
     ∷ offers 2 (framed (codes "+CGATT: 0") ++ framed (codes "OK")) ∷ writes 1 (framed (codes "OK"))
     ++ sends Uih 2 (framed (codes "+CGATT: 0") ++ framed (codes "OK")) ∷ []
 
--- steps ask the station for flow control, for a close and for closing down; steps that can't be done are passed over
+-- steps ask the station for flow control, for a close and for closing down; steps that can't be done are
+-- passed over
 abbrev pub asking : End
 asking =
     simulated false
@@ -115,8 +118,10 @@ asking =
 abbrev pub asked_of_station : List Act
 asked_of_station =
     ready_one ++ Did (Flow one false) ∷ Wire (station.Called (station.Flow 1 false))
-    ∷ Wire (station.Sent (msc_frame Responder 1 held_up)) ∷ gives ∷ Did (Disconnect one) ∷ Wire (station.Called (station.Close 1)) ∷ sends Disc 1 [] ∷ gives
-    ∷ Did CloseDown ∷ Wire (station.Called station.Stop) ∷ Wire (station.Sent (message_frame Responder cld [])) ∷ gives ∷ []
+    ∷ Wire (station.Sent (msc_frame Responder 1 held_up)) ∷ gives ∷ Did (Disconnect one)
+    ∷ Wire (station.Called (station.Close 1)) ∷ sends Disc 1 [] ∷ gives
+    ∷ Did CloseDown ∷ Wire (station.Called station.Stop)
+    ∷ Wire (station.Sent (message_frame Responder cld [])) ∷ gives ∷ []
 
 -- ## Histories of wrong ones
 
@@ -131,7 +136,8 @@ answered_unasked = ready_one ++ offers 1 (framed (codes "OK")) ∷ []
 -- a modem for each connection: the error mode that was set on 1 doesn't hold on 2
 abbrev pub modem_for_each : List Act
 modem_for_each =
-    ready_two ++ asks 1 (codes "AT+CMEE=1") ∷ asks 2 (codes "AT+CMUX=0") ∷ offers 2 (framed (codes "ERROR")) ∷ []
+    ready_two ++ asks 1 (codes "AT+CMEE=1") ∷ asks 2 (codes "AT+CMUX=0") ∷ offers 2 (framed (codes "ERROR"))
+    ∷ []
 
 -- an answer before the end of the line
 abbrev pub answered_early : List Act
@@ -177,7 +183,8 @@ done_while_shut = ready_one ++ Did (Announce two (codes "RING")) ∷ []
 
 -- another line than the step has
 abbrev pub announced_otherwise : List Act
-announced_otherwise = ready_one ++ Did (Announce one (codes "RING")) ∷ offers 1 (framed (codes "RINGING")) ∷ []
+announced_otherwise =
+    ready_one ++ Did (Announce one (codes "RING")) ∷ offers 1 (framed (codes "RINGING")) ∷ []
 
 -- a close that no step asked for, and a step that doesn't ask the station
 abbrev pub closed_unasked : List Act
@@ -197,7 +204,8 @@ stop_one = msc ∷ 5 ∷ 7 ∷ held_up ∷ []
 abbrev pub answered_while_stopped : List Act
 answered_while_stopped =
     ready_one ++ comes Uih 0 stop_one
-    ∷ Wire (station.Sent (message_frame Responder (response_of msc) (7 ∷ held_up ∷ []))) ∷ gives ∷ asks 1 (codes "AT") ∷ writes 1 (framed (codes "OK"))
+    ∷ Wire (station.Sent (message_frame Responder (response_of msc) (7 ∷ held_up ∷ []))) ∷ gives
+    ∷ asks 1 (codes "AT") ∷ writes 1 (framed (codes "OK"))
 
 -- an opening that is refused
 abbrev pub refused_opening : List Act
@@ -215,13 +223,13 @@ without_msc = open_zero ++ comes Sabm 1 [] ∷ sends Ua 1 [] ∷ []
 
 -- it is lawful, nothing is owed, and on 1 and 2 all is out
 pub record IsGood (e : End) (acts : List Act) : Type 0 where
-  pub lawful : Lawful e (after [] acts)
-  pub complete : Complete e (after [] acts)
-  pub out : (given Responder 1 (wire (after [] acts)) ≡ spelled (outbox e 1 (after [] acts)).said)
-      × (given Responder 2 (wire (after [] acts)) ≡ spelled (outbox e 2 (after [] acts)).said)
+  pub lawful : SimLawful e (after [] acts)
+  pub complete : SimComplete e (after [] acts)
+  pub out : (data_out Responder 1 (wire (after [] acts)) ≡ pieces_octets (outbox e 1 (after [] acts)).said)
+      × (data_out Responder 2 (wire (after [] acts)) ≡ pieces_octets (outbox e 2 (after [] acts)).said)
 
 abbrev pub IsRefused : End → List Act → Type 0
-IsRefused e acts = ¬ Lawful e (after [] acts)
+IsRefused e acts = ¬ SimLawful e (after [] acts)
 
 abbrev pub GoodRows : Type 0
 GoodRows =
@@ -232,7 +240,8 @@ GoodRows =
 abbrev pub WrongAnswers : Type 0
 WrongAnswers =
     IsRefused plain answered_twice × IsRefused plain answered_unasked × IsRefused plain modem_for_each
-    × IsRefused plain answered_early × IsRefused plain repeated_unasked × IsRefused (simulated true []) not_repeated
+    × IsRefused plain answered_early × IsRefused plain repeated_unasked
+    × IsRefused (simulated true []) not_repeated
     × IsRefused plain unframed × IsRefused plain answered_elsewhere × IsRefused holding answered_held
     × IsRefused plain answered_after_reopening × IsRefused plain answered_while_stopped
 
@@ -247,4 +256,4 @@ WrongSteps =
 abbrev pub WrongOtherwise : Type 0
 WrongOtherwise =
     IsRefused plain ticked × IsRefused plain refused_opening
-    × ¬ AllIsOut plain (after [] silent) × ¬ Complete plain (after [] without_msc)
+    × ¬ AllIsOut plain (after [] silent) × ¬ SimComplete plain (after [] without_msc)

@@ -65,7 +65,8 @@ said_after e d past _ b = b
 abbrev pub dropped : Outbox → Outbox
 dropped b = record { said = b.said; held = [] }
 
--- what an act makes of d's outbox: it starts afresh where d opens, and what is held back is dropped where d closes
+-- what an act makes of d's outbox: it starts afresh where d opens, and what is held back is dropped where d
+-- closes
 abbrev pub box_after : End → ℕ → List Act → station.Act → Outbox → Outbox
 box_after e d past a b =
     if opens_now Responder d (wire past) a then empty_box

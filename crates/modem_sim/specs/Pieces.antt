@@ -22,8 +22,8 @@ octets_of (Echo line) = line ++ 0xd ∷ []
 octets_of (Answer line) = framed line
 octets_of (Announced line) = framed line
 
-abbrev pub spelled : List Piece → List ℕ
-spelled pieces = flat_map octets_of pieces
+abbrev pub pieces_octets : List Piece → List ℕ
+pieces_octets pieces = flat_map octets_of pieces
 
 abbrev pub answers : List AnswerLine → List Piece
 answers ls = map (λ l. Answer l.text) ls

@@ -5,19 +5,21 @@ use Rattle.modem_sim.specs.declared.error.SimError.TheVariants as why
 use Rattle.modem_sim.specs.declared.sim.SimTurn.{SimTurn}
 use Rattle.modem_sim.specs.declared.sim.SimTurn.TheVariants.{Moved, Idle, Ended}
 use Rattle.modem_sim.specs.Sims.{SimState, SimGoes, end_given, failed_by, has_ended, has_failed}
-use Rattle.modem_sim.specs.Turns.{GoesTurn}
+use Rattle.modem_sim.specs.Turns.{GoesTurn, WantsMemory}
 
 -- ## Its turns
 
--- A turn comes to this: Failed just where the line had failed, and then nothing changes; Line where a call of the line fails in it,
--- and so it is from then on; else want of memory, or what was done.
-pub record Turned {X : Type 0} (received sent : X → List ℕ) (calls failures : X → ℕ) (old new : SimState X) (says : Result SimTurn SimError) : Type 0 where
+-- A turn comes to this: Failed just where the line had failed, and then nothing changes; Line where a call of
+-- the line fails in it, and so it is from then on; else want of memory, or what was done.
+pub record Turned {X : Type 0} (received sent : X → List ℕ) (calls failures : X → ℕ) (old new : SimState X)
+    (says : Result SimTurn SimError) : Type 0 where
   pub goes : SimGoes received sent old new
   pub turn : IfOk says (GoesTurn received sent calls old new)
   pub failed : IsErrOf says why.Failed ↔ (has_failed old ≡ true)
   pub fails : has_failed new ≡ failed_by (has_failed old) says
   pub still : has_failed old ≡ true → new ≡ old
   pub over : has_failed old ≡ false → has_ended old ≡ true → (says ≡ Ok Ended) × (new ≡ old)
+  pub memory : IsErrOf says why.NoMemory → WantsMemory received sent new
   pub others : OnErr says (IsErrOf says why.Line ⊎ (IsErrOf says why.NoMemory ⊎ IsErrOf says why.Failed))
   pub sound : says ≢ Err why.Line → failures new.line ≡ failures old.line
   pub failure : says ≡ Err why.Line → failures new.line ≡ failures old.line + 1
@@ -26,22 +28,36 @@ pub record Turned {X : Type 0} (received sent : X → List ℕ) (calls failures 
   pub end : end_given new ≡ end_given old
 
 -- so many turns, each of which answers Moved
-pub data MovesOn {X : Type 0} (received sent : X → List ℕ) (calls failures : X → ℕ) (old : SimState X) : ℕ → SimState X → Type 0 where
+pub data MovesOn {X : Type 0} (received sent : X → List ℕ) (calls failures : X → ℕ) (old : SimState X) :
+    ℕ → SimState X → Type 0 where
   moves_none : MovesOn received sent calls failures old 0 old
-  moves_once : (n : ℕ) (mid new : SimState X) → MovesOn received sent calls failures old n mid → Turned received sent calls failures mid new (Ok Moved) → MovesOn received sent calls failures old (n + 1) new
+  moves_once :
+      (n : ℕ) (mid new : SimState X) → MovesOn received sent calls failures old n mid
+      → Turned received sent calls failures mid new (Ok Moved)
+      → MovesOn received sent calls failures old (n + 1) new
 
--- The turns of a poll are 64 that answer Moved, or fewer and one that answers otherwise: after Idle, and after 64, there is nothing yet;
--- after Ended, and after a refusal, it is that.
-pub data Runs {X : Type 0} (received sent : X → List ℕ) (calls failures : X → ℕ) (old new : SimState X) : Option (Result SimTurn SimError) → Type 0 where
+-- The turns of a poll are 64 that answer Moved, or fewer and one that answers otherwise: after Idle, and
+-- after 64, there is nothing yet; after Ended, and after a refusal, it is that.
+pub data Runs {X : Type 0} (received sent : X → List ℕ) (calls failures : X → ℕ) (old new : SimState X) :
+    Option (Result SimTurn SimError) → Type 0 where
   goes_on : MovesOn received sent calls failures old 64 new → Runs received sent calls failures old new None
-  rests : (n : ℕ) (mid : SimState X) → n < 64 → MovesOn received sent calls failures old n mid → Turned received sent calls failures mid new (Ok Idle) → Runs received sent calls failures old new None
-  ends : (n : ℕ) (mid : SimState X) → n < 64 → MovesOn received sent calls failures old n mid → Turned received sent calls failures mid new (Ok Ended) → Runs received sent calls failures old new (Some (Ok Ended))
-  fails : (n : ℕ) (mid : SimState X) (why : SimError) → n < 64 → MovesOn received sent calls failures old n mid → Turned received sent calls failures mid new (Err why) → Runs received sent calls failures old new (Some (Err why))
+  rests :
+      (n : ℕ) (mid : SimState X) → n < 64 → MovesOn received sent calls failures old n mid
+      → Turned received sent calls failures mid new (Ok Idle) → Runs received sent calls failures old new None
+  ends :
+      (n : ℕ) (mid : SimState X) → n < 64 → MovesOn received sent calls failures old n mid
+      → Turned received sent calls failures mid new (Ok Ended)
+      → Runs received sent calls failures old new (Some (Ok Ended))
+  fails :
+      (n : ℕ) (mid : SimState X) (why : SimError) → n < 64 → MovesOn received sent calls failures old n mid
+      → Turned received sent calls failures mid new (Err why)
+      → Runs received sent calls failures old new (Some (Err why))
 
 -- ## What it gives
 
 -- what is given is kept as its end, but for want of memory
-abbrev pub kept_end : Option (Result SimTurn SimError) → Result SimTurn SimError → Option (Result SimTurn SimError)
+abbrev pub kept_end :
+    Option (Result SimTurn SimError) → Result SimTurn SimError → Option (Result SimTurn SimError)
 kept_end before (Err why.NoMemory) = before
 kept_end before given = Some given
 
@@ -50,38 +66,72 @@ with_given None s = s
 with_given (Some given) s = record s { kept = record s.kept { end = kept_end s.kept.end given } }
 
 -- it makes its turns, gives what they lead to, and keeps that
-pub record PollsOn {X : Type 0} (received sent : X → List ℕ) (calls failures : X → ℕ) (old new : SimState X) (given : Option (Result SimTurn SimError)) : Type 0 where
+pub record PollsOn {X : Type 0} (received sent : X → List ℕ) (calls failures : X → ℕ) (old new : SimState X)
+    (given : Option (Result SimTurn SimError)) : Type 0 where
   pub mid : SimState X
   pub runs : Runs received sent calls failures old mid given
   pub stays : new ≡ with_given given mid
 
 -- a poll after an end gives that end, and does nothing
-abbrev pub PollsFrom : {X : Type 0} → (received sent : X → List ℕ) → (calls failures : X → ℕ) → Option (Result SimTurn SimError) → (old new : SimState X) → Option (Result SimTurn SimError) → Type 0
+abbrev pub PollsFrom :
+    {X : Type 0} → (received sent : X → List ℕ) → (calls failures : X → ℕ) → Option (Result SimTurn SimError)
+    → (old new : SimState X) → Option (Result SimTurn SimError) → Type 0
 PollsFrom received sent calls failures (Some end) old new given = (given ≡ Some end) × (new ≡ old)
 PollsFrom received sent calls failures None old new given = PollsOn received sent calls failures old new given
 
-unfoldable pub Polls : {X : Type 0} → (received sent : X → List ℕ) → (calls failures : X → ℕ) → (old new : SimState X) → Option (Result SimTurn SimError) → Type 0
-Polls received sent calls failures old new given = PollsFrom received sent calls failures (end_given old) old new given
+unfoldable pub Polls :
+    {X : Type 0} → (received sent : X → List ℕ) → (calls failures : X → ℕ) → (old new : SimState X)
+    → Option (Result SimTurn SimError) → Type 0
+Polls received sent calls failures old new given =
+    PollsFrom received sent calls failures (end_given old) old new given
 
 -- ## One poll after the other
 
 -- polls that gave nothing
-pub data Waits {X : Type 0} (received sent : X → List ℕ) (calls failures : X → ℕ) : (old new : SimState X) → Type 0 where
+pub data Waits {X : Type 0} (received sent : X → List ℕ) (calls failures : X → ℕ) :
+    (old new : SimState X) → Type 0 where
   waits_none : (s : SimState X) → Waits received sent calls failures s s
-  waits_once : (old mid new : SimState X) → Polls received sent calls failures old mid None → Waits received sent calls failures mid new → Waits received sent calls failures old new
+  waits_once :
+      (old mid new : SimState X) → Polls received sent calls failures old mid None
+      → Waits received sent calls failures mid new → Waits received sent calls failures old new
 
--- what an end says of the simulated modem: it has closed down and all is written; or its line failed; or it didn't, and memory was refused
-abbrev pub Says : {X : Type 0} → SimState X → Result SimTurn SimError → Type 0
-Says s (Ok Ended) = has_ended s ≡ true
-Says s (Err why.NoMemory) = has_failed s ≡ false
-Says s (Err why.Line) = has_failed s ≡ true
-Says s (Err why.Failed) = has_failed s ≡ true
-Says s _ = ⊥
+-- no call of the line failed, in these polls and before them
+pub record StaysSound {X : Type 0} (failures : X → ℕ) (old new : SimState X) : Type 0 where
+  pub before : has_failed old ≡ false
+  pub now : has_failed new ≡ false
+  pub none_failed : failures new.line ≡ failures old.line
+
+-- one call of the line failed in these polls, and none had failed before
+pub record FailsOnce {X : Type 0} (failures : X → ℕ) (old new : SimState X) : Type 0 where
+  pub before : has_failed old ≡ false
+  pub now : has_failed new ≡ true
+  pub one_failed : failures new.line ≡ failures old.line + 1
+
+-- a call of the line had failed before these polls
+pub record HadFailed {X : Type 0} (failures : X → ℕ) (old new : SimState X) : Type 0 where
+  pub before : has_failed old ≡ true
+  pub now : has_failed new ≡ true
+  pub none_failed : failures new.line ≡ failures old.line
+
+-- it has closed down and all is written, and its line is sound
+pub record EndsSound {X : Type 0} (failures : X → ℕ) (old new : SimState X) : Type 0 where
+  pub ended : has_ended new ≡ true
+  pub sound : StaysSound failures old new
+
+-- what an end says of the simulated modem, as it was before the polls and as it is
+abbrev pub Says :
+    {X : Type 0} → (failures : X → ℕ) → (old new : SimState X) → Result SimTurn SimError → Type 0
+Says failures old new (Ok Ended) = EndsSound failures old new
+Says failures old new (Err why.NoMemory) = StaysSound failures old new
+Says failures old new (Err why.Line) = FailsOnce failures old new
+Says failures old new (Err why.Failed) = HadFailed failures old new
+Says failures old new _ = ⊥
 
 -- After polls that gave nothing one gave this, which says so where none had given an end before.
-pub record Gives {X : Type 0} (received sent : X → List ℕ) (calls failures : X → ℕ) (s : SimState X) (given : Result SimTurn SimError) : Type 0 where
+pub record Gives {X : Type 0} (received sent : X → List ℕ) (calls failures : X → ℕ) (s : SimState X)
+    (given : Result SimTurn SimError) : Type 0 where
   pub mid : SimState X
   pub new : SimState X
   pub waits : Waits received sent calls failures s mid
   pub polls : Polls received sent calls failures mid new (Some given)
-  pub says : end_given s ≡ None → Says new given
+  pub says : end_given s ≡ None → Says failures s new given

@@ -1,10 +1,11 @@
--- Which lines leave a simulated modem: without the announced ones they are the replies to the command lines that came.
+-- Which lines leave a simulated modem: without the announced ones they are the replies to the command lines
+-- that came.
 use Rattle.std.specs.Prelude.{◌≡◌, ℕ, ◌≤◌, ◌==◌, ◌&&◌, not, Bool, true, false, List, [], ◌∷◌, ◌++◌, length, map, filter, if◌then◌else◌}
 use Rattle.std.specs.List.{flat_map, list_all}
 use Rattle.mux_frame.specs.declared.frame.Kind.TheVariants.{Sabm}
 use Rattle.mux_station.specs.declared.role.Role.TheVariants.{Responder}
 use Rattle.mux_station.specs.Written.{is_on}
-use Rattle.mux_station.specs.Offering.{given}
+use Rattle.mux_station.specs.Offering.{data_out}
 use Rattle.at_text.specs.declared.answer.AnswerLine.{AnswerLine}
 use Rattle.at_text.specs.Commands.{has_at}
 use Rattle.at_text.specs.Lines.{lines}
@@ -19,7 +20,7 @@ use Rattle.modem_sim.specs.Acts.{Act, Did, End, wire}
 use Rattle.modem_sim.specs.Heard.{heard}
 use Rattle.modem_sim.specs.Pieces.{Piece, Echo, Answer, Announced, reply}
 use Rattle.modem_sim.specs.Doing.{is_line}
-use Rattle.modem_sim.specs.Histories.{Lawful}
+use Rattle.modem_sim.specs.Histories.{SimLawful}
 
 -- ## Replies
 
@@ -74,12 +75,13 @@ is_answer_line line = is_line line.text && not (has_at line.text)
 
 abbrev pub AnswersInLines : ModemStart → Type 0
 AnswersInLines start =
-    (before : List (List ℕ)) (line : List ℕ) → list_all is_answer_line (step (reached start before) line).answer ≡ true
+    (before : List (List ℕ)) (line : List ℕ)
+    → list_all is_answer_line (step (reached start before) line).answer ≡ true
 
--- of what left on a connection the lines that aren't unsolicited are the first of the replies to the lines that came on it,
--- each from the one modem after all lines before it
+-- of what left on a connection the lines that aren't unsolicited are the first of the replies to the lines
+-- that came on it, each from the one modem after all lines before it
 unfoldable pub SendsReplies : End → List Act → Type 0
 SendsReplies e past =
-    Lawful e past → IsModem e.modem → AnnouncesUnsolicited past → (d : ℕ) → IsAskedOnce d past
-    → IsFirstOf (filter is_solicited (lines (given Responder d (wire past))))
+    SimLawful e past → IsModem e.modem → AnnouncesUnsolicited past → (d : ℕ) → IsAskedOnce d past
+    → IsFirstOf (filter is_solicited (lines (data_out Responder d (wire past))))
     (filter is_solicited (all_of (replied_on e.echo d e.modem (heard past))))

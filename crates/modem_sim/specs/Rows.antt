@@ -24,7 +24,8 @@ ok = codes "OK" ∷ []
 abbrev pub PinEntered : Type 0
 PinEntered =
     answers_to (started locked)
-    (codes "AT+CMEE=1" ∷ codes "AT+COPS?" ∷ codes "AT+CPIN=\"0000\"" ∷ codes "AT+CPIN=\"1234\"" ∷ codes "at+cpin?"
+    (codes "AT+CMEE=1" ∷ codes "AT+COPS?" ∷ codes "AT+CPIN=\"0000\"" ∷ codes "AT+CPIN=\"1234\""
+    ∷ codes "at+cpin?"
     ∷ codes "AT+CREG?" ∷ codes "AT+FOO" ∷ [])
     ≡ ok
     ∷ (codes "+CME ERROR: 11" ∷ [])

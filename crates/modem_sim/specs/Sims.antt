@@ -1,12 +1,10 @@
 -- A simulated modem at its line.
-use Rattle.std.specs.Prelude.{◌≡◌, ℕ, ◌==◌, ◌&&◌, Bool, true, List, [], ◌++◌, Option, Some, None, is_none, Result, Err, length, replicate}
+use Rattle.std.specs.Prelude.{◌≡◌, ℕ, ◌==◌, ◌&&◌, Bool, true, List, [], ◌++◌, Option, None, Result, Err, length, replicate}
 use Rattle.std.specs.List.{flat_map}
-use Rattle.mux_frame.specs.Frames.{Frame}
 use Rattle.mux_frame.specs.Deframing.{Deframing, Deframes}
 use Rattle.mux_frame.specs.Spelling as spelling
 use Rattle.modem_sim.specs.declared.error.SimError.{SimError}
 use Rattle.modem_sim.specs.declared.error.SimError.TheVariants.{Line}
-use Rattle.modem_sim.specs.declared.kept.Pending.{Pending}
 use Rattle.modem_sim.specs.declared.sim.SimTurn.{SimTurn}
 use Rattle.modem_sim.specs.declared.state.ModemState.{ModemState}
 use Rattle.mux_station.specs.declared.role.Role.TheVariants.{Responder}
@@ -15,31 +13,22 @@ use Rattle.mux_station.specs.Fitting as fitting
 use Rattle.modem_sim.specs.Acts.{Act, End}
 use Rattle.modem_sim.specs.Boxes.{Box, fresh_box}
 use Rattle.modem_sim.specs.Doing.{is_closed_down}
-use Rattle.modem_sim.specs.Histories.{Lawful, Complete, FitsOctets, FitsModem, sent}
+use Rattle.modem_sim.specs.Histories.{SimLawful, SimComplete, FitsOctets, FitsModem, sent}
 use Rattle.modem_sim.specs.Cores.{Core, Wired, Fits, IsLater}
 
--- the frame that is to be written next
-abbrev pub pending_frame : Pending → Frame
-pending_frame p = record { dlci = p.dlci.number; kind = p.kind; cr = p.cr; pf = p.pf; info = p.info.items }
-
--- An end, the octets that were read and that its deframer hasn't taken, its deframer, the frame that is to be written next, the
--- octets that the line hasn't taken, whether the line failed, and the end that a poll gave, if one did.
+-- An end, the octets that were read and that its deframer hasn't taken, its deframer, the octets that the
+-- line hasn't taken, whether the line failed, and the end that a poll gave, if one did.
 pub record Kept : Type 0 where
   pub core : Core
-  pub n1 : ℕ
   pub unfed : List ℕ
   pub deframer : Deframing
-  pub pending : Option Frame
   pub out : List ℕ
   pub failed : Bool
   pub end : Option (Result SimTurn SimError)
 
-abbrev pub spelled_next : Option Frame → List ℕ
-spelled_next None = []
-spelled_next (Some f) = spelling.spelled f
-
--- What is kept fits a past, since the beginning of which these octets came from the line and went into it: the frames that came are
--- those handed out of the octets taken, and the octets that went and those that wait spell the frames that the end gave on.
+-- What is kept fits a past, since the beginning of which these octets came from the line and went into it:
+-- the frames that came are those handed out of the octets taken, and the octets that went and those that wait
+-- spell the frames that the end gave on.
 pub record KeptFits (e : End) (came went : List ℕ) (k : Kept) (past : List Act) : Type 0 where
   pub wired : Wired
   pub core_fits : Fits e wired k.core past
@@ -47,7 +36,7 @@ pub record KeptFits (e : End) (came went : List ℕ) (k : Kept) (past : List Act
   pub taken : List ℕ
   pub came_is : came ≡ taken ++ k.unfed
   pub deframes : Deframes taken wired.came k.deframer
-  pub went_is : went ++ (k.out ++ spelled_next k.pending) ≡ flat_map spelling.spelled wired.gone
+  pub went_is : went ++ k.out ≡ flat_map spelling.spelled wired.gone
 
 -- it fits what the past went on to
 pub record KeptFrom (e : End) (came went : List ℕ) (past : List Act) (k : Kept) : Type 0 where
@@ -58,17 +47,18 @@ pub record KeptFrom (e : End) (came went : List ℕ) (past : List Act) (k : Kept
 -- whatever past it fits, it goes on to one that it fits, with the line as it was
 abbrev pub KeptGoes : Kept → Kept → Type 0
 KeptGoes old new =
-    (e : End) (came went : List ℕ) (past : List Act) → KeptFits e came went old past → KeptFrom e came went past new
+    (e : End) (came went : List ℕ) (past : List Act) → KeptFits e came went old past
+    → KeptFrom e came went past new
 
 -- it has closed down, and all is written
 abbrev pub is_ended : Kept → Bool
-is_ended k =
-    k.core.closed && (is_none k.pending && ((length k.out == 0) && (length k.core.station.queue == 0)))
+is_ended k = k.core.closed && ((length k.out == 0) && (length k.core.station.queue == 0))
 
 -- how it begins
-pub record BeginsAt (n1 : ℕ) (v : stations.Station) (boxes : List Box) (own_n1 : ℕ) (unfed : List ℕ) (d : Deframing) (out : List ℕ) : Type 0 where
+pub record BeginsAt (n1 : ℕ) (v : stations.Station) (boxes : List Box) (own_n1 : ℕ) (unfed : List ℕ)
+    (d : Deframing) (out : List ℕ) : Type 0 where
   pub station_is : v ≡ stations.new_station Responder n1
-  pub station_fits : fitting.Fits v []
+  pub station_fits : fitting.StationFits v []
   pub boxes_are : boxes ≡ replicate 62 fresh_box
   pub n1_is : own_n1 ≡ n1
   pub unfed_is : unfed ≡ []
@@ -114,14 +104,16 @@ pub record LineAt : Type 0 where
   pub sent : List ℕ
 
 -- A simulated modem fits a past that began when its line had received and sent so much.
-pub record FitsSim {X : Type 0} (received sent : X → List ℕ) (at : LineAt) (e : End) (s : SimState X) (past : List Act) : Type 0 where
+pub record FitsSim {X : Type 0} (received sent : X → List ℕ) (at : LineAt) (e : End) (s : SimState X)
+    (past : List Act) : Type 0 where
   pub came : List ℕ
   pub went : List ℕ
   pub received_is : received s.line ≡ at.received ++ came
   pub sent_is : sent s.line ≡ at.sent ++ went
   pub kept_fits : KeptFits e came went s.kept past
 
-pub record SimFrom {X : Type 0} (received sent : X → List ℕ) (at : LineAt) (e : End) (past : List Act) (s : SimState X) : Type 0 where
+pub record SimFrom {X : Type 0} (received sent : X → List ℕ) (at : LineAt) (e : End) (past : List Act)
+    (s : SimState X) : Type 0 where
   pub now : List Act
   pub later : IsLater past now
   pub fits : FitsSim received sent at e s now
@@ -129,15 +121,17 @@ pub record SimFrom {X : Type 0} (received sent : X → List ℕ) (at : LineAt) (
 -- whatever past it fits, it goes on to one that it fits
 abbrev pub SimGoes : {X : Type 0} → (received sent : X → List ℕ) → SimState X → SimState X → Type 0
 SimGoes received sent old new =
-    (at : LineAt) (e : End) (past : List Act) → FitsSim received sent at e old past → SimFrom received sent at e past new
+    (at : LineAt) (e : End) (past : List Act) → FitsSim received sent at e old past
+    → SimFrom received sent at e past new
 
 -- ## What that comes to
 
--- Of the octets received, those before the ones that wait for its deframer are read as the frames that came; its history keeps the laws and
--- nothing is owed; its modem is the one that was handed in, after all lines that came.
+-- Of the octets received, those before the ones that wait for its deframer are read as the frames that came;
+-- its history keeps the laws and nothing is owed; its modem is the one that was handed in, after all lines
+-- that came.
 pub record Simulates (e : End) (came went : List ℕ) (k : Kept) (past : List Act) : Type 0 where
-  pub lawful : Lawful e past
-  pub complete : Complete e past
+  pub lawful : SimLawful e past
+  pub complete : SimComplete e past
   pub taken : List ℕ
   pub came_is : came ≡ taken ++ k.unfed
   pub octets : FitsOctets e.n1 taken went past

@@ -104,7 +104,8 @@ after_command s (RegReport n) = record s { reports = n }
 after_command s (OperChoose Automatic) = record s { oper = Automatic }
 after_command s (OperChoose (Manual oper)) = record s { oper = Manual oper }
 after_command s (OperChoose Deregister) = record s { oper = Deregister; attached = false }
-after_command s (ContextSet cid pdp apn) = record s { contexts = with_context (context_made cid pdp apn) s.contexts }
+after_command s (ContextSet cid pdp apn) =
+    record s { contexts = with_context (context_made cid pdp apn) s.contexts }
 after_command s (AttachSet on) = record s { attached = on }
 after_command s (ErrorMode n) = record s { errors = n }
 after_command s _ = s
@@ -137,7 +138,8 @@ oper_text Deregister = codes "+COPS: 2"
 -- a context (27.007, 10.1.1)
 abbrev pub context_text : PdpContext → List ℕ
 context_text c =
-    codes "+CGDCONT: " ++ decimal c.cid ++ codes "," ++ in_quotes (pdp_text c.pdp) ++ codes "," ++ in_quotes c.apn
+    codes "+CGDCONT: " ++ decimal c.cid ++ codes "," ++ in_quotes (pdp_text c.pdp) ++ codes ","
+    ++ in_quotes c.apn
 
 -- whether the modem is attached (27.007, 10.1.9)
 abbrev pub attached_text : Bool → List ℕ

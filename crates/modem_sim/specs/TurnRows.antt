@@ -1,23 +1,30 @@
 -- Worked turns of a simulated modem with N1 31: what Idle and Moved say, and what they don't.
 use Rattle.std.specs.Prelude.{◌≡◌, ℕ, true, false, List, [], ◌∷◌, Some, None, Result, Ok, Err}
+use Rattle.mux_frame.specs.Frames.{Frame}
 use Rattle.modem_sim.specs.declared.error.SimError.{SimError}
 use Rattle.modem_sim.specs.declared.error.SimError.TheVariants as why
 use Rattle.modem_sim.specs.declared.sim.SimTurn.{SimTurn}
-use Rattle.modem_sim.specs.declared.sim.SimTurn.TheVariants.{Ended}
+use Rattle.modem_sim.specs.declared.sim.SimTurn.TheVariants.{Ended, Idle, Moved}
 use Rattle.modem_sim.specs.Acts.{Act, after}
-use Rattle.modem_sim.specs.Polls.{Turned, kept_end}
+use Rattle.modem_sim.specs.Polls.{Says, Turned, kept_end}
+use Rattle.modem_sim.specs.Boxes.{is_released}
+use Rattle.modem_sim.specs.Cores.{box_at}
 use Rattle.modem_sim.specs.Sims.{Kept, SimState, has_failed}
-use Rattle.modem_sim.specs.Turns.{Dealings, IsAtRest, IsHeldUp, IsIdle, has_moved}
+use Rattle.modem_sim.specs.Turns.{Exchange, IsAtRest, IsHeldUp, IsIdle, IsLeft, has_moved}
 use Rattle.modem_sim.specs.HistoryRows.{announcing, one, plain, ready_one, silent}
 
 -- the line was read and gave nothing; it was offered an octet, of which it took none, or one
-abbrev pub only_read : Dealings
+abbrev pub only_read : Exchange
 only_read = record { write = None; read = Some (record { room = 512; octets = [] }) }
 
-abbrev pub offered_one : ℕ → Dealings
-offered_one count = record { write = Some (record { offered = 7 ∷ []; count = count }); read = Some (record { room = 512; octets = [] }) }
+abbrev pub offered_one : ℕ → Exchange
+offered_one count =
+    record {
+      write = Some (record { offered = 7 ∷ []; count = count });
+      read = Some (record { room = 512; octets = [] });
+    }
 
-abbrev pub nothing_asked : Dealings
+abbrev pub nothing_asked : Exchange
 nothing_asked = record { write = None; read = None }
 
 -- what is kept where an octet waits for the line, and nothing else does
@@ -26,13 +33,19 @@ pub record OneWaits (k : Kept) : Type 0 where
   pub fed : k.unfed ≡ []
   pub hand : k.deframer.next ≡ None
 
+-- no frame is at hand, and no hold is over
+pub record IsStill (k : Kept) : Type 0 where
+  pub hand : k.deframer.next ≡ None
+  pub holds : (d : ℕ) → is_released (box_at k.core d).hold ≡ false
+
 -- nothing ever came, and the line was read: idle; and an octet waits, and the line took none: idle
 abbrev pub RightIdle : Type 0
 RightIdle =
     ((k : Kept) → IsIdle plain [] [] k only_read [])
     × ((k : Kept) → OneWaits k → IsHeldUp plain k (offered_one 0) [])
 
--- It isn't idle where the line wasn't read; where it took the octet; where a command wasn't answered; where a step is due.
+-- It isn't idle where the line wasn't read; where it took the octet; where a command wasn't answered; where a
+-- step is due.
 abbrev pub WrongIdle : Type 0
 WrongIdle =
     ((k : Kept) → ¬ IsIdle plain [] [] k nothing_asked [])
@@ -43,7 +56,9 @@ WrongIdle =
 -- a turn that leaves all as it was hasn't moved; one after which an act followed, or octets came, has
 abbrev pub MovedRows : Type 0
 MovedRows =
-    ((k : Kept) → has_moved (λ (l : List ℕ). l) (λ l. []) (record { line = []; kept = k }) (record { line = 7 ∷ []; kept = k }) [] ≡ true)
+    ((k : Kept)
+    → has_moved (λ (l : List ℕ). l) (λ l. []) (record { line = []; kept = k })
+    (record { line = 7 ∷ []; kept = k }) [] ≡ true)
     × ((s : SimState ℕ) (a : Act) → has_moved (λ (l : ℕ). []) (λ l. []) s s (a ∷ []) ≡ true)
     × ((s : SimState ℕ) → has_moved (λ (l : ℕ). []) (λ l. []) s s [] ≡ false)
 
@@ -51,8 +66,8 @@ MovedRows =
 abbrev pub ComesTo : (old new : SimState ℕ) → Result SimTurn SimError → Type 0
 ComesTo old new says = Turned (λ (l : ℕ). []) (λ l. []) (λ l. 0) (λ l. 0) old new says
 
--- A turn doesn't answer Failed where the line hadn't failed; and it has failed neither after a turn that did something nor after want
--- of memory; and where it had, a turn answers nothing else.
+-- A turn doesn't answer Failed where the line hadn't failed; and it has failed neither after a turn that did
+-- something nor after want of memory; and where it had, a turn answers nothing else.
 abbrev pub WrongFailures : Type 0
 WrongFailures =
     ((old new : SimState ℕ) → has_failed old ≡ false → ¬ ComesTo old new (Err why.Failed))
@@ -66,3 +81,21 @@ EndRows =
     (kept_end None (Ok Ended) ≡ Some (Ok Ended))
     × (kept_end None (Err why.Line) ≡ Some (Err why.Line))
     × (kept_end None (Err why.NoMemory) ≡ None)
+
+-- Memory is wanted where a step that announces is due, and where a frame is at hand; not where no step is
+-- left, no hold is over and no frame is at hand.
+abbrev pub WantRows : Type 0
+WantRows =
+    ((k : Kept) → IsLeft (announcing 0 one) k (after [] ready_one))
+    × ((k : Kept) (f : Frame) → k.deframer.next ≡ Some f → IsLeft plain k [])
+    × ((k : Kept) → IsStill k → ¬ IsLeft plain k [])
+
+-- A poll doesn't give Line where no call failed, Failed where none had failed before, nor Idle, Moved and
+-- BadN1 at all.
+abbrev pub WrongGivings : Type 0
+WrongGivings =
+    ((s : SimState ℕ) → ¬ Says (λ l. l) s s (Err why.Line))
+    × ((old new : SimState ℕ) → has_failed old ≡ false → ¬ Says (λ l. l) old new (Err why.Failed))
+    × ((old new : SimState ℕ) → ¬ Says (λ l. l) old new (Ok Idle))
+    × ((old new : SimState ℕ) → ¬ Says (λ l. l) old new (Ok Moved))
+    × ((old new : SimState ℕ) → ¬ Says (λ l. l) old new (Err why.BadN1))

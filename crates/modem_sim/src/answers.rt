@@ -87,7 +87,7 @@ fn pin_line(alloc: Global, lock: &Lock) -> Result<Vec<u8>, AllocError>
     Vec::from_slice(alloc, text.as_bytes())
 }
 
-#[tactic(auto, using(crate::proofs::AnswerLemmas::registered_text))]
+#[tactic(auto, using(crate::proofs::modem_steps::AnswerLines::registered_text))]
 fn reg_line(alloc: Global, reports: u8, registered: bool) -> Result<Vec<u8>, AllocError>
     ensures { IfOk result (λ text. text.items ≡ reg_text reports registered) }
 {
@@ -130,7 +130,7 @@ fn oper_line(alloc: Global, oper: &OperChoice) -> Result<Vec<u8>, AllocError>
     }
 }
 
-#[tactic(auto, using(crate::proofs::AnswerLemmas::more_contexts))]
+#[tactic(auto, using(crate::proofs::modem_steps::AnswerLines::more_contexts))]
 fn push_contexts(
     alloc: Global,
     contexts: &[PdpContext],

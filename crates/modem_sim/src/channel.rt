@@ -1,8 +1,8 @@
 //! What a simulated modem keeps of a connection.
-ghost use Rattle.std.specs.Prelude.{◌≡◌, ◌≤◌, ◌++◌, ℕ, List, length, map, take, drop, min, false, OnOk, OnErr, IfOk, IsErrOf};
+ghost use Rattle.std.specs.Prelude.{◌≡◌, ◌≤◌, ◌++◌, ℕ, List, length, map, take, drop, min, true, false, OnOk, OnErr, IfOk, IsErrOf};
 ghost use Rattle.at_text.specs.Lines.{lines, kept_run};
 ghost use Rattle.modem_sim.specs.Boxes.{fresh_box, box_taken, box_heard, box_announced, box_holding, is_released, queue_of, released};
-ghost use Rattle.modem_sim.specs.Pieces.{spelled, replies};
+ghost use Rattle.modem_sim.specs.Pieces.{pieces_octets, replies};
 ghost use Rattle.modem_sim.specs.Laws.{after_lines};
 
 use crate::error::SimError;
@@ -90,7 +90,9 @@ impl Channel {
         ensures run { kept_run self.now.run ≡ self.now.run }
         ensures kept { IfOk result (λ a. a.reader ≡ kept_run (self.now.run ++ octets.now)) }
         ensures said { IfOk result
-            (λ a. a.said.items ≡ queue_of self.now ++ spelled (replies echo modem.old (lines (self.now.run ++ octets.now)))) }
+            (λ a. a.said.items
+            ≡ queue_of self.now
+            ++ pieces_octets (replies echo modem.old (lines (self.now.run ++ octets.now)))) }
         ensures ended { IfOk result (λ a. a.ended ≡ length (lines (self.now.run ++ octets.now))) }
         ensures state { OnOk result (modem.new ≡ after_lines modem.old (lines (self.now.run ++ octets.now))) }
         ensures no_memory { OnErr result (IsErrOf result SimError.NoMemory) }
@@ -160,6 +162,7 @@ impl Channel {
         ensures same { IfOk result (λ moved. moved ≡ false → self.new ≡ self.old) }
         ensures ok { OnOk result (self.new ≡ released self.old) }
         ensures err { OnErr result (self.new ≡ self.old) }
+        ensures over { OnErr result (is_released self.old.hold ≡ true) }
     {
         if !self.is_released() {
             return Ok(false);

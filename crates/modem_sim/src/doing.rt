@@ -1,9 +1,9 @@
 //! The steps of a script are done.
-ghost use Rattle.std.specs.Prelude.{◌≡◌, ◌<◌, true, false, length, IfOk, OnOk, OnErr};
+ghost use Rattle.std.specs.Prelude.{◌≡◌, ◌<◌, true, false, length, None, IfOk, OnOk, OnErr};
 ghost use Rattle.std.specs.List.{list_any};
 ghost use Rattle.at_text.specs.Lines.{is_line_end};
-ghost use Rattle.modem_sim.specs.Doing.{acts, is_line};
-ghost use Rattle.modem_sim.specs.Cores.{AtStation, Goes, HasNoneToDo, Refuses, are_open_in, boxes_done, closes_by};
+ghost use Rattle.modem_sim.specs.Doing.{acts, call_of, is_line};
+ghost use Rattle.modem_sim.specs.Cores.{AtStation, Goes, HasNoneToDo, Refuses, SaysNext, are_open_in, boxes_done, closes_by};
 
 use crate::channel::Channel;
 use crate::script::StepAct;
@@ -56,6 +56,8 @@ impl SimCore {
         ensures fewer { IfOk result (λ done. done ≡ true → length self.new.steps < length self.old.steps) }
         ensures none { IfOk result (λ done. done ≡ false → HasNoneToDo self.old) }
         ensures err { OnErr result (self.new ≡ self.old) }
+        ensures says { OnErr result (SaysNext self.old) }
+        ensures n1 { self.new.station.n1 ≡ self.old.station.n1 }
     {
         let Some(step) = self.steps.get(self.next) else {
             return Ok(false);
@@ -77,12 +79,14 @@ impl SimCore {
     }
 
     /// Does the steps that are due, in their order; says whether there were any. What a want of memory leaves is done later.
-    #[tactic(auto, using(crate::proofs::HandingLemmas::goes_none, crate::proofs::HandingLemmas::goes_then))]
+    #[tactic(auto, using(crate::proofs::ends::OfferedPieces::goes_none, crate::proofs::ends::OfferedPieces::goes_then))]
     pub(crate) fn do_steps(&mut self) -> Result<bool, AllocError>
         ensures goes { Goes self.old self.new }
         ensures same { IfOk result (λ done. done ≡ false → self.new ≡ self.old) }
         ensures fewer { IfOk result (λ done. done ≡ true → length self.new.steps < length self.old.steps) }
         ensures none { OnOk result (HasNoneToDo self.new) }
+        ensures says { OnErr result (SaysNext self.new) }
+        ensures n1 { self.new.station.n1 ≡ self.old.station.n1 }
     {
         let mut done = false;
         while self.do_next()? {
@@ -119,12 +123,15 @@ fn carry_out(
 ) -> Result<bool, AllocError>
     requires { length channels.old.items ≡ 62 }
     ensures station { IfOk result (λ done. done ≡ true → AtStation station.old station.new act.now) }
-    ensures boxes { IfOk result (λ done. done ≡ true → channels.new.items ≡ boxes_done act.now channels.old.items) }
+    ensures boxes { IfOk result
+        (λ done. done ≡ true → channels.new.items ≡ boxes_done act.now channels.old.items) }
     ensures refused { IfOk result (λ done. done ≡ false → Refuses station.old act.now) }
     ensures same { IfOk result (λ done. done ≡ false → station.new ≡ station.old) }
     ensures same_boxes { IfOk result (λ done. done ≡ false → channels.new.items ≡ channels.old.items) }
     ensures err { OnErr result (station.new ≡ station.old) }
     ensures err_boxes { OnErr result (channels.new.items ≡ channels.old.items) }
+    ensures says { OnErr result (call_of act.now ≡ None) }
+    ensures n1 { station.new.n1 ≡ station.old.n1 }
 {
     match act {
         StepAct::Announce(dlci, line) => {

@@ -1,7 +1,7 @@
 //! A turn of what a simulated modem keeps, at its line.
 ghost use Rattle.std.specs.Prelude.{◌≡◌, ◌≢◌, ◌⊎◌, ◌+◌, ◌≤◌, Err, IfOk, OnErr, IsErrOf};
 ghost use Rattle.modem_sim.specs.Sims.{SimGoes, failed_by};
-ghost use Rattle.modem_sim.specs.Stills.{GoesOnce, at_line};
+ghost use Rattle.modem_sim.specs.Stills.{GoesOnce, LeavesUndone, at_line};
 
 use crate::error::SimError;
 use crate::kept::Kept;
@@ -11,10 +11,14 @@ impl Kept {
     /// Steps, write, next frame, frame at hand, read; says whether anything moved.
     pub(crate) fn go_on<L: SerialLine>(&mut self, line: &mut L) -> Result<bool, SimError>
         ensures goes { SimGoes L.received L.sent (at_line line.old self.old) (at_line line.new self.new) }
-        ensures turn { IfOk result (λ moved. GoesOnce L.received L.sent L.calls (at_line line.old self.old) (at_line line.new self.new) moved) }
+        ensures turn { IfOk result
+            (λ moved.
+            GoesOnce L.received L.sent L.calls (at_line line.old self.old) (at_line line.new self.new)
+            moved) }
         ensures fails { self.new.failed ≡ failed_by self.old.failed result }
         ensures end { self.new.end ≡ self.old.end }
         ensures others { OnErr result (IsErrOf result SimError.Line ⊎ IsErrOf result SimError.NoMemory) }
+        ensures memory { IsErrOf result SimError.NoMemory → LeavesUndone self.new }
         ensures bounded { L.calls line.new ≤ L.calls line.old + 2 }
         ensures sound { result ≢ Err SimError.Line → L.failures line.new ≡ L.failures line.old }
         ensures failure { result ≡ Err SimError.Line → L.failures line.new ≡ L.failures line.old + 1 }

@@ -7,7 +7,7 @@ ghost use Rattle.mux_station.specs.Giving.{next_given};
 ghost use Rattle.mux_station.specs.States.{is_opened};
 ghost use Rattle.mux_station.specs.Stations.{channel_at};
 ghost use Rattle.modem_sim.specs.Boxes.{is_released, released};
-ghost use Rattle.modem_sim.specs.Cores.{GivesOut, Goes, IsHandedOn, all_unhanded, boxed, box_at, gone_on};
+ghost use Rattle.modem_sim.specs.Cores.{GivesOut, Goes, HasReleased, IsHandedOn, all_unhanded, boxed, box_at, gone_on};
 
 use crate::sim_core::{CONNECTIONS, SimCore};
 use mux_frame::Dlci;
@@ -23,13 +23,17 @@ impl SimCore {
 
     /// Moves what a hold held back behind the rest, where the hold is over, and says whether it was.
     fn release(&mut self, dlci: Dlci) -> Result<bool, AllocError>
-        ensures ok { OnOk result (self.new ≡ boxed self.old dlci.number (released (box_at self.old dlci.number))) }
+        ensures ok { OnOk result
+            (self.new ≡ boxed self.old dlci.number (released (box_at self.old dlci.number))) }
         ensures moved { IfOk result (λ moved. moved ≡ is_released (box_at self.old dlci.number).hold) }
         ensures same { IfOk result (λ moved. moved ≡ false → self.new ≡ self.old) }
         ensures err { OnErr result (self.new ≡ self.old) }
         ensures all { length self.old.boxes ≡ 62 }
-        ensures fewer { IfOk result (λ moved. moved ≡ true → all_unhanded self.new.boxes < all_unhanded self.old.boxes) }
+        ensures fewer { IfOk result
+            (λ moved. moved ≡ true → all_unhanded self.new.boxes < all_unhanded self.old.boxes) }
         ensures steps { self.new.steps ≡ self.old.steps }
+        ensures over { OnErr result (is_released (box_at self.old dlci.number).hold ≡ true) }
+        ensures n1 { self.new.station.n1 ≡ self.old.station.n1 }
     {
         let channel = &mut self.channels[usize::from(dlci.number())];
         channel.release()
@@ -41,9 +45,11 @@ impl SimCore {
         ensures goes { result ≡ true → Goes self.old self.new }
         ensures same { result ≡ false → self.new ≡ self.old }
         ensures none { result ≡ false → (dlci.number == 0) ≡ false
-            → (channel_at self.old.station dlci.number).waiting ≡ [] → (box_at self.old dlci.number).unsent ≡ [] }
+            → (channel_at self.old.station dlci.number).waiting ≡ []
+            → (box_at self.old dlci.number).unsent ≡ [] }
         ensures fewer { result ≡ true → all_unhanded self.new.boxes < all_unhanded self.old.boxes }
         ensures steps { self.new.steps ≡ self.old.steps }
+        ensures n1 { self.new.station.n1 ≡ self.old.station.n1 }
     {
         let room = RING.saturating_sub(self.station.waiting(dlci));
         let channel = &mut self.channels[usize::from(dlci.number())];
@@ -56,13 +62,16 @@ impl SimCore {
         true
     }
 
-    #[tactic(auto, using(crate::proofs::HandingLemmas::goes_none, crate::proofs::HandingLemmas::handed_on))]
+    #[tactic(auto, using(crate::proofs::ends::OfferedPieces::goes_none, crate::proofs::ends::OfferedPieces::handed_on))]
     fn offer_on(&mut self, dlci: Dlci) -> Result<bool, AllocError>
         ensures goes { Goes self.old self.new }
         ensures same { IfOk result (λ moved. moved ≡ false → self.new ≡ self.old) }
         ensures none { IfOk result (λ moved. moved ≡ false → IsHandedOn self.old dlci.number) }
-        ensures fewer { IfOk result (λ moved. moved ≡ true → all_unhanded self.new.boxes < all_unhanded self.old.boxes) }
+        ensures fewer { IfOk result
+            (λ moved. moved ≡ true → all_unhanded self.new.boxes < all_unhanded self.old.boxes) }
         ensures steps { self.new.steps ≡ self.old.steps }
+        ensures released { OnErr result (HasReleased self.new) }
+        ensures n1 { self.new.station.n1 ≡ self.old.station.n1 }
     {
         if !self.is_open(dlci) {
             return Ok(false);
@@ -74,13 +83,16 @@ impl SimCore {
 
     /// Hands all connections' octets to the station, as many as there is room for; says whether any were. What a want of
     /// memory leaves is handed later.
-    #[tactic(auto, using(crate::proofs::HandingLemmas::hands_none, crate::proofs::HandingLemmas::hands_more, crate::proofs::HandingLemmas::goes_then))]
+    #[tactic(auto, using(crate::proofs::ends::OfferedPieces::hands_none, crate::proofs::ends::OfferedPieces::hands_more, crate::proofs::ends::OfferedPieces::goes_then))]
     pub(crate) fn offer_all(&mut self) -> Result<bool, AllocError>
         ensures goes { Goes self.old self.new }
         ensures same { IfOk result (λ moved. moved ≡ false → self.new ≡ self.old) }
         ensures none { IfOk result (λ moved. moved ≡ false → (d : ℕ) → d < 62 → IsHandedOn self.old d) }
-        ensures fewer { IfOk result (λ moved. moved ≡ true → all_unhanded self.new.boxes < all_unhanded self.old.boxes) }
+        ensures fewer { IfOk result
+            (λ moved. moved ≡ true → all_unhanded self.new.boxes < all_unhanded self.old.boxes) }
         ensures steps { OnOk result (self.new.steps ≡ self.old.steps) }
+        ensures released { OnErr result (HasReleased self.new) }
+        ensures n1 { self.new.station.n1 ≡ self.old.station.n1 }
     {
         let mut moved = false;
         for number in 0..CONNECTIONS as u8 {
@@ -91,10 +103,11 @@ impl SimCore {
     }
 
     /// The next frame for the line, lent, which is then no longer kept. It takes no memory.
-    #[tactic(auto, using(crate::proofs::HandingLemmas::gives_out))]
+    #[tactic(auto, using(crate::proofs::ends::OfferedPieces::gives_out))]
     pub(crate) fn outgoing(&mut self) -> Option<Outgoing<'_>>
         ensures frame { option_map outgoing_of result
-            ≡ option_map (with_freshness (length self.old.station.queue == 0)) (next_given self.old.station self.old.station.queue) }
+            ≡ option_map (with_freshness (length self.old.station.queue == 0))
+            (next_given self.old.station self.old.station.queue) }
         ensures short { IfSome result (λ o. length o.frame.info.now ≤ 1024) }
         ensures past { GivesOut self.old }
         ensures* after { sem 𝓛 (Rests the_row self.entry (λ new. new ≡ gone_on self.old)) }

@@ -1,95 +1,49 @@
 //! What a simulated modem keeps beside its line.
-ghost use Rattle.std.specs.Prelude.{◌≡◌, ◌↔◌, ◌⊎◌, ◌+◌, ◌<◌, ◌≤◌, [], ◌++◌, length, take, drop, true, false, None, IfOk, OnOk, OnErr, IsErrOf};
-ghost use Rattle.mux_frame.specs.Frames.{frame_of};
-ghost use Rattle.modem_sim.specs.Cores.{HasNoneToDo, all_unhanded};
-ghost use Rattle.modem_sim.specs.Sims.{BeginsAt, KeptFits, KeptGoes, Receives, is_ended, pending_frame};
-ghost use Rattle.modem_sim.specs.Stills.{FeedsNone, HasNoneToLoad, KeptDoes, Loads, LoadsNone, ReadsOnce, TakesNone, Writes};
+ghost use Rattle.std.specs.Prelude.{◌≡◌, ◌≢◌, ◌↔◌, ◌⊎◌, ◌+◌, ◌<◌, ◌≤◌, [], ◌++◌, length, take, drop, true, false, None, IfOk, OnOk, OnErr, IsErrOf};
+ghost use Rattle.modem_sim.specs.Cores.{HasNoneToDo, HasReleased, SaysNext};
+ghost use Rattle.modem_sim.specs.Sims.{BeginsAt, KeptFits, KeptGoes, Receives, is_ended};
+ghost use Rattle.modem_sim.specs.Stills.{FeedsNone, KeptDoes, Loads, LoadsNone, ReadsOnce, TakesNone, Writes};
 ghost use Rattle.modem_sim.specs.Acts.{end_of};
 
 use crate::error::SimError;
-use crate::input::Input;
 use crate::modem::Modem;
 use crate::script::Script;
 use crate::sim::SimTurn;
 use crate::sim_core::{Parts, SimCore};
-use arrayvec::ArrayVec;
-use mux_frame::{Deframer, Dlci, FrameView, Kind, write_frame};
-use serial_line::{LineFault, SerialLine};
+use mux_frame::Deframer;
+use mux_station::WriteBuffer;
+use serial_line::{LineFault, ReadBuffer, SerialLine};
 use std::alloc::{AllocError, Global};
 use std::marker::Model;
-
-/// A frame that is to be written next, with its information in place: a station gives on at most 1024 octets in a frame.
-#[derive(Drop)]
-pub(crate) struct Pending {
-    dlci: Dlci,
-    kind: Kind,
-    cr: bool,
-    pf: bool,
-    info: ArrayVec<u8, 1024>,
-}
-
-impl Pending {
-    fn of(frame: FrameView<'_>) -> Pending
-        requires { length frame.info.now ≤ 1024 }
-        ensures { pending_frame result ≡ frame_of frame.entry }
-    {
-        let mut info = ArrayVec::new();
-        info.try_extend_from_slice(frame.info).unwrap();
-        Pending {
-            dlci: frame.dlci,
-            kind: frame.kind,
-            cr: frame.cr,
-            pf: frame.pf,
-            info,
-        }
-    }
-
-    /// The frame, lent.
-    fn view(&self) -> FrameView<'_>
-        ensures { frame_of result ≡ pending_frame self.now }
-    {
-        FrameView {
-            dlci: self.dlci,
-            kind: self.kind,
-            cr: self.cr,
-            pf: self.pf,
-            info: self.info.as_slice(),
-        }
-    }
-}
 
 /// An end, what was read and not taken by its deframer yet, what is to be written, whether the line failed, and the end that a
 /// poll gave.
 #[derive(Drop)]
 pub(crate) struct Kept {
     pub(crate) core: SimCore,
-    pub(crate) n1: u16,
-    pub(crate) unfed: Input,
+    pub(crate) unfed: ReadBuffer,
     pub(crate) deframer: Deframer,
-    pub(crate) pending: Option<Pending>,
-    pub(crate) out: Vec<u8>,
+    pub(crate) out: WriteBuffer,
     pub(crate) failed: bool,
     pub(crate) end: Option<Result<SimTurn, SimError>>,
 }
 
 impl Model for Kept {
-    ghost use Rattle.std.specs.Prelude.{◌≡◌, option_map};
-    ghost use Rattle.modem_sim.specs.Sims.{Kept, pending_frame};
+    ghost use Rattle.std.specs.Prelude.{◌≡◌};
+    ghost use Rattle.modem_sim.specs.Sims.{Kept};
 
     ghost Value = { Kept };
 
     ghost view = { λ k. record {
       core = k.core;
-      n1 = k.n1;
       unfed = k.unfed;
       deframer = k.deframer;
-      pending = option_map pending_frame k.pending;
-      out = k.out.items;
+      out = k.out;
       failed = k.failed;
       end = k.end;
     } };
 
-    ghost invariant = { λ k. k.deframer.n1 ≡ k.n1 };
+    ghost invariant = { λ k. k.core.station.n1 ≡ k.deframer.n1 };
 }
 
 /// What a simulated modem takes memory for as it is made.
@@ -97,15 +51,16 @@ impl Model for Kept {
 pub(crate) struct Room {
     parts: Parts,
     n1: u16,
-    unfed: Input,
+    unfed: ReadBuffer,
     deframer: Deframer,
-    out: Vec<u8>,
+    out: WriteBuffer,
 }
 
 impl Room {
     /// Refusals: 2 BadN1 where N1 isn't 31 to 32767, checked first; 1 NoMemory.
     pub(crate) fn new(alloc: Global, n1: u16) -> Result<Room, SimError>
-        ensures begins { IfOk result (λ r. BeginsAt n1 r.parts.station r.parts.channels.items r.n1 r.unfed r.deframer r.out.items) }
+        ensures begins { IfOk result
+            (λ r. BeginsAt n1 r.parts.station r.parts.channels.items r.n1 r.unfed r.deframer r.out) }
         ensures bad_n1 { IsErrOf result SimError.BadN1 ↔ ((n1 < 31) ⊎ (32767 < n1)) }
         ensures others { OnErr result (IsErrOf result SimError.BadN1 ⊎ IsErrOf result SimError.NoMemory) }
     {
@@ -113,13 +68,14 @@ impl Room {
         let Ok(deframer) = Deframer::new(alloc, n1) else {
             return Err(SimError::NoMemory);
         };
-        let unfed = Input::new(alloc)?;
+        let unfed = ReadBuffer::new(alloc)?;
+        let out = WriteBuffer::new(alloc)?;
         Ok(Room {
             parts,
             n1,
             unfed,
             deframer,
-            out: Vec::new(alloc),
+            out,
         })
     }
 }
@@ -127,24 +83,23 @@ impl Room {
 impl Kept {
     /// Nothing has happened yet.
     pub(crate) fn start(room: Room, modem: Modem, script: Script) -> Kept
-        requires { BeginsAt room.n1 room.parts.station room.parts.channels.items room.n1 room.unfed room.deframer room.out.items }
+        requires { BeginsAt room.n1 room.parts.station room.parts.channels.items room.n1 room.unfed
+            room.deframer room.out }
         ensures begins { KeptFits (end_of room.n1 modem script) [] [] result [] }
         ensures sound { result.failed ≡ false }
         ensures goes_on { result.end ≡ None }
     {
         let Room {
             parts,
-            n1,
             unfed,
             deframer,
             out,
+            ..
         } = room;
         Kept {
             core: SimCore::start(parts, modem, script),
-            n1,
             unfed,
             deframer,
-            pending: None,
             out,
             failed: false,
             end: None,
@@ -155,10 +110,7 @@ impl Kept {
     pub(crate) fn is_ended(&self) -> bool
         ensures { result ≡ is_ended self.now }
     {
-        self.core.closed()
-            && self.pending.is_none()
-            && self.out.is_empty()
-            && self.core.queue_len() == 0
+        self.core.closed() && self.out.is_empty() && self.core.queue_len() == 0
     }
 
     /// The modem.
@@ -177,15 +129,16 @@ impl Kept {
     }
 
     /// Does the steps that are due; says whether there were any.
-    pub(crate) fn do_steps(&mut self) -> Result<bool, SimError>
+    pub(crate) fn do_steps(&mut self) -> Result<bool, AllocError>
         ensures goes { KeptGoes self.old self.new }
         ensures rest { self.new ≡ record self.old { core = self.new.core } }
         ensures same { IfOk result (λ done. done ≡ false → self.new ≡ self.old) }
-        ensures fewer { IfOk result (λ done. done ≡ true → length self.new.core.steps < length self.old.core.steps) }
+        ensures fewer { IfOk result
+            (λ done. done ≡ true → length self.new.core.steps < length self.old.core.steps) }
         ensures none { OnOk result (HasNoneToDo self.new.core) }
-        ensures no_memory { OnErr result (IsErrOf result SimError.NoMemory) }
+        ensures says { OnErr result (SaysNext self.new.core) }
     {
-        Ok(self.core.do_steps()?)
+        self.core.do_steps()
     }
 
     /// Takes the frame at hand, if there is one and the station has room for what it calls for; says whether it did.
@@ -196,10 +149,8 @@ impl Kept {
         ensures none { IfOk result (λ took. took ≡ false → TakesNone self.old self.new) }
         ensures steps { OnOk result (self.new.core.steps ≡ self.old.core.steps) }
         ensures no_memory { OnErr result (IsErrOf result SimError.NoMemory) }
+        ensures hand { OnErr result (self.new.deframer.next ≢ None) }
     {
-        if self.core.n1() != self.n1 {
-            return Ok(false);
-        }
         let Some(frame) = self.deframer.peek() else {
             return Ok(false);
         };
@@ -210,60 +161,25 @@ impl Kept {
         Ok(true)
     }
 
-    /// Fetches the frame that is to be written next; says whether it did, or handed octets to the station.
-    fn fetch(&mut self) -> Result<bool, AllocError>
+    /// Takes the next frame into the output, where all is written; says whether it did, or handed octets to the station. What a
+    /// want of memory leaves is handed later.
+    pub(crate) fn load(&mut self) -> Result<bool, AllocError>
         ensures goes { KeptGoes self.old self.new }
-        ensures rest { self.new ≡ record self.old { core = self.new.core; pending = self.new.pending } }
-        ensures handed { IfOk result (λ moved. moved ≡ true → self.new.pending ≡ None → all_unhanded self.new.core.boxes < all_unhanded self.old.core.boxes) }
-        ensures same { IfOk result (λ moved. moved ≡ false → self.new ≡ self.old) }
-        ensures none { IfOk result (λ moved. moved ≡ false → self.old.pending ≡ None → HasNoneToLoad self.old) }
+        ensures rest { self.new ≡ record self.old { core = self.new.core; out = self.new.out } }
+        ensures loads { IfOk result (λ moved. moved ≡ true → Loads self.old self.new) }
+        ensures none { IfOk result (λ moved. moved ≡ false → LoadsNone self.old self.new) }
         ensures steps { OnOk result (self.new.core.steps ≡ self.old.core.steps) }
+        ensures released { OnErr result (HasReleased self.new.core) }
     {
-        if self.pending.is_some() {
+        if !self.out.is_empty() {
             return Ok(false);
         }
         let offered = self.core.offer_all()?;
         let Some(outgoing) = self.core.outgoing() else {
             return Ok(offered);
         };
-        self.pending = Some(Pending::of(outgoing.frame));
+        self.out.put(outgoing.frame);
         Ok(true)
-    }
-
-    /// Writes the fetched frame into the output; says whether there was one. Want of memory leaves it fetched.
-    fn put(&mut self) -> Result<bool, SimError>
-        ensures goes { KeptGoes self.old self.new }
-        ensures rest { self.new ≡ record self.old { pending = self.new.pending; out = self.new.out } }
-        ensures more { IfOk result (λ put. put ≡ true → length self.old.out < length self.new.out) }
-        ensures none { IfOk result (λ put. put ≡ false → self.old.pending ≡ None) }
-        ensures same { IfOk result (λ put. put ≡ false → self.new ≡ self.old) }
-        ensures no_memory { OnErr result (IsErrOf result SimError.NoMemory) }
-    {
-        let Some(pending) = &self.pending else {
-            return Ok(false);
-        };
-        if write_frame(pending.view(), self.n1, &mut self.out).is_err() {
-            return Err(SimError::NoMemory);
-        }
-        self.pending = None;
-        Ok(true)
-    }
-
-    /// Takes the next frame into the output, where all is written; says whether anything moved.
-    pub(crate) fn load(&mut self) -> Result<bool, SimError>
-        ensures goes { KeptGoes self.old self.new }
-        ensures rest { self.new ≡ record self.old { core = self.new.core; pending = self.new.pending; out = self.new.out } }
-        ensures loads { IfOk result (λ moved. moved ≡ true → Loads self.old self.new) }
-        ensures none { IfOk result (λ moved. moved ≡ false → LoadsNone self.old self.new) }
-        ensures steps { OnOk result (self.new.core.steps ≡ self.old.core.steps) }
-        ensures no_memory { OnErr result (IsErrOf result SimError.NoMemory) }
-    {
-        if !self.out.is_empty() {
-            return Ok(false);
-        }
-        let fetched = self.fetch()?;
-        let put = self.put()?;
-        Ok(fetched | put)
     }
 
     /// Gives octets that were read to the deframer, as many as it has room for; says whether there were any.
@@ -286,9 +202,7 @@ impl Kept {
         requires { count ≤ length self.old.out }
         ensures { self.new ≡ record self.old { out = drop count self.old.out } }
     {
-        let rest = self.out.len() - count;
-        self.out.rotate_left(count);
-        self.out.truncate(rest);
+        self.out.pass(count);
     }
 
     /// Offers the line what is to be written; says how many octets it took.
@@ -297,7 +211,9 @@ impl Kept {
         ensures kept { IfOk result (λ n. self.new ≡ record self.old { out = drop n self.old.out }) }
         ensures none_went { OnErr result (L.sent line.new ≡ L.sent line.old) }
         ensures err { OnErr result (self.new ≡ record self.old { failed = true }) }
-        ensures writes { IfOk result (λ n. Writes (L.sent line.old) (L.sent line.new) (L.calls line.old) (L.calls line.new) self.old self.new n) }
+        ensures writes { IfOk result
+            (λ n. Writes (L.sent line.old) (L.sent line.new) (L.calls line.old) (L.calls line.new) self.old
+            self.new n) }
         ensures none_came { L.received line.new ≡ L.received line.old }
         ensures bounded { L.calls line.new ≤ L.calls line.old + 1 }
         ensures sound { OnOk result (L.failures line.new ≡ L.failures line.old) }
@@ -325,7 +241,10 @@ impl Kept {
         ensures none_came { OnErr result (L.received line.new ≡ L.received line.old) }
         ensures err { OnErr result (self.new ≡ record self.old { failed = true }) }
         ensures none_went { L.sent line.new ≡ L.sent line.old }
-        ensures reads { IfOk result (λ came. ReadsOnce (L.received line.old) (L.received line.new) (L.calls line.old) (L.calls line.new) self.old self.new came) }
+        ensures reads { IfOk result
+            (λ came.
+            ReadsOnce (L.received line.old) (L.received line.new) (L.calls line.old) (L.calls line.new)
+            self.old self.new came) }
         ensures bounded { L.calls line.new ≤ L.calls line.old + 1 }
         ensures sound { OnOk result (L.failures line.new ≡ L.failures line.old) }
         ensures failure { OnErr result (L.failures line.new ≡ L.failures line.old + 1) }

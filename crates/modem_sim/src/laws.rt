@@ -7,15 +7,15 @@ ghost use Rattle.modem_sim.specs.Reading.{command_of};
 ghost use Rattle.modem_sim.specs.Laws.{IsStart, AnswersWellAlways, SetsOne, AreInOrder, reached};
 ghost use Rattle.modem_sim.specs.Rows.{PinEntered, ThreeWrongPins, ErrorInWords, NetworkLeft};
 ghost use Rattle.modem_sim.specs.Acts.{Act, End};
-ghost use Rattle.modem_sim.specs.Histories.{Lawful, LeavesInPieces, SaysReplies, DoesInOrder};
+ghost use Rattle.modem_sim.specs.Histories.{SimLawful, LeavesInPieces, SaysReplies, DoesInOrder};
 ghost use Rattle.modem_sim.specs.Replied.{AnswersInLines, SendsReplies};
 ghost use Rattle.modem_sim.specs.Sims.{IsOver, Kept, KeptFits, Simulates, is_ended};
-ghost use Rattle.modem_sim.specs.TurnRows.{EndRows, MovedRows, RightIdle, WrongFailures, WrongIdle};
+ghost use Rattle.modem_sim.specs.TurnRows.{EndRows, MovedRows, RightIdle, WantRows, WrongFailures, WrongGivings, WrongIdle};
 ghost use Rattle.modem_sim.specs.HistoryRows.{GoodRows, WrongAnswers, WrongSteps, WrongOtherwise};
 
 /// The command that the step takes a line for is the only one whose text it is, and there is none where it is
 /// no command's.
-#[tactic(auto, using(crate::proofs::ReadingLemmas::command_reads))]
+#[tactic(auto, using(crate::proofs::modem_steps::ReadCommands::command_reads))]
 pub fn commands()
     ensures { (line : List ℕ) → Reads (IsTextOf line) (Ok (command_of line)) }
 {}
@@ -28,14 +28,14 @@ pub fn answers()
 
 /// A context that is set is found by its number and the others as before; a modem's contexts have numbers of their
 /// own, which rise.
-#[tactic(auto, using(crate::proofs::OrderLemmas::sets_one, crate::proofs::OrderLemmas::reached_in_order))]
+#[tactic(auto, using(crate::proofs::law_proofs::ContextOrder::sets_one, crate::proofs::law_proofs::ContextOrder::reached_in_order))]
 pub fn contexts()
     ensures sets { (new : PdpContext) (contexts : List PdpContext) (n : ℕ) → SetsOne new contexts n }
     ensures rise { (start : ModemStart) (lines : List (List ℕ)) → AreInOrder (reached start lines).contexts }
 {}
 
 /// Worked examples, computed by the step.
-#[tactic(auto, using(crate::proofs::Computed::pin_entered, crate::proofs::Computed::three_wrong_pins, crate::proofs::Computed::error_in_words, crate::proofs::Computed::network_left))]
+#[tactic(auto, using(crate::proofs::rows::AnswerRowFacts::pin_entered, crate::proofs::rows::AnswerRowFacts::three_wrong_pins, crate::proofs::rows::AnswerRowFacts::error_in_words, crate::proofs::rows::AnswerRowFacts::network_left))]
 pub fn worked_examples()
     ensures pin_entered { PinEntered }
     ensures three_wrong_pins { ThreeWrongPins }
@@ -47,17 +47,17 @@ pub fn worked_examples()
 /// What is said and held back there is, but for lines that no command asked for, the replies to the lines that came on
 /// it since it opened, each from the one modem after all lines before it. The steps of a script are done in their order,
 /// each once.
-#[tactic(auto, using(crate::proofs::HistoryLemmas::leaves_in_pieces, crate::proofs::HistoryLemmas::keeps_order, crate::proofs::OutboxLemmas::says_replies))]
+#[tactic(auto, using(crate::proofs::law_proofs::Histories::leaves_in_pieces, crate::proofs::law_proofs::Histories::keeps_order, crate::proofs::connections::Outboxes::says_replies))]
 pub fn histories()
-    ensures leaves { (e : End) (past : List Act) → Lawful e past → LeavesInPieces e past }
+    ensures leaves { (e : End) (past : List Act) → SimLawful e past → LeavesInPieces e past }
     ensures replies { (e : End) (past : List Act) → SaysReplies e past }
-    ensures steps { (e : End) (past : List Act) → Lawful e past → DoesInOrder e past }
+    ensures steps { (e : End) (past : List Act) → SimLawful e past → DoesInOrder e past }
 {}
 
 /// Each line of an answer is one line as the other end reads it, and no command line. Of what left on a connection that
 /// was asked for once, the lines that aren't unsolicited are the first of the replies to the lines that came on it, each
 /// from the one modem after all lines before it, where what is announced is unsolicited.
-#[tactic(auto, using(crate::proofs::ToldLemmas::answers_in_lines, crate::proofs::RepliedLemmas::sends_replies))]
+#[tactic(auto, using(crate::proofs::replies::AnswerTexts::answers_in_lines, crate::proofs::replies::ReplyOrder::sends_replies))]
 pub fn replies()
     ensures lines { (start : ModemStart) → IsStart start → AnswersInLines start }
     ensures sent { (e : End) (past : List Act) → SendsReplies e past }
@@ -65,7 +65,7 @@ pub fn replies()
 
 /// Worked histories, computed by the definitions: those of a right simulated modem are kept, and those that a wrong one
 /// would make are refused.
-#[tactic(auto, using(crate::proofs::HistoryFacts::good_rows, crate::proofs::RefusedFacts::wrong_answers, crate::proofs::RefusedFacts::wrong_steps, crate::proofs::RefusedFacts::wrong_otherwise))]
+#[tactic(auto, using(crate::proofs::rows::HistoryRowFacts::good_rows, crate::proofs::rows::RefusedRowFacts::wrong_answers, crate::proofs::rows::RefusedRowFacts::wrong_steps, crate::proofs::rows::RefusedRowFacts::wrong_otherwise))]
 pub fn worked_histories()
     ensures good { GoodRows }
     ensures answers { WrongAnswers }
@@ -74,21 +74,25 @@ pub fn worked_histories()
 {}
 
 /// Worked turns: what Idle and Moved say of a right simulated modem, and what they don't say of a wrong one; when its line has failed,
-/// and which end is kept.
-#[tactic(auto, using(crate::proofs::TurnFacts::right_idle, crate::proofs::TurnFacts::wrong_idle, crate::proofs::TurnFacts::moved_rows, crate::proofs::TurnFacts::wrong_failures, crate::proofs::TurnFacts::end_rows))]
+/// and which end is kept; where memory is wanted, and what a poll doesn't give.
+#[tactic(auto, using(crate::proofs::rows::TurnRowFacts::right_idle, crate::proofs::rows::TurnRowFacts::wrong_idle, crate::proofs::rows::TurnRowFacts::moved_rows, crate::proofs::rows::TurnRowFacts::wrong_failures, crate::proofs::rows::TurnRowFacts::end_rows, crate::proofs::rows::TurnRowFacts::want_rows, crate::proofs::rows::TurnRowFacts::wrong_givings))]
 pub fn worked_turns()
     ensures right { RightIdle }
     ensures wrong { WrongIdle }
     ensures moved { MovedRows }
     ensures failures { WrongFailures }
     ensures ends { EndRows }
+    ensures wants { WantRows }
+    ensures givings { WrongGivings }
 {}
 
 /// Whatever past a simulated modem fits, that past keeps the laws of its histories and nothing is owed in it; the frames that came are
 /// those that its octets are read as, and the octets that went spell the frames that it sent; its modem is the one that was handed in,
 /// after all lines that came. Where it is ended it has closed down, and all is written.
-#[tactic(auto, using(crate::proofs::SimLemmas::simulates, crate::proofs::SimLemmas::is_over))]
+#[tactic(auto, using(crate::proofs::sims::SimPasts::simulates, crate::proofs::sims::SimPasts::is_over))]
 pub fn simulators()
-    ensures histories { (e : End) (came went : List ℕ) (k : Kept) (past : List Act) → KeptFits e came went k past → Simulates e came went k past }
-    ensures ends { (e : End) (came went : List ℕ) (k : Kept) (past : List Act) → is_ended k ≡ true → KeptFits e came went k past → IsOver went past }
+    ensures histories { (e : End) (came went : List ℕ) (k : Kept) (past : List Act)
+        → KeptFits e came went k past → Simulates e came went k past }
+    ensures ends { (e : End) (came went : List ℕ) (k : Kept) (past : List Act) → is_ended k ≡ true
+        → KeptFits e came went k past → IsOver went past }
 {}

@@ -8,7 +8,6 @@ mod doing;
 mod error;
 mod going;
 mod handing;
-mod input;
 mod kept;
 pub mod laws;
 mod modem;

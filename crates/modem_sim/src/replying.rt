@@ -3,7 +3,7 @@ ghost use Rattle.std.specs.Prelude.{◌≡◌, ◌≤◌, ◌++◌, ◌∷◌, [
 ghost use Rattle.at_text.specs.Lines.{lines, kept_run};
 ghost use Rattle.modem_sim.specs.Steps.{step};
 ghost use Rattle.modem_sim.specs.Laws.{after_lines};
-ghost use Rattle.modem_sim.specs.Pieces.{framed, echoed, answers, spelled, reply, replies};
+ghost use Rattle.modem_sim.specs.Pieces.{framed, echoed, answers, pieces_octets, reply, replies};
 
 use crate::error::SimError;
 use crate::modem::Modem;
@@ -22,7 +22,7 @@ pub(crate) fn push_framed(text: &[u8], out: &mut Vec<u8>) -> Result<(), AllocErr
 
 /// A command line repeated, where that is on (V.250, 5.2.3).
 fn push_echo(echo: bool, line: &[u8], out: &mut Vec<u8>) -> Result<(), AllocError>
-    ensures { OnOk result (out.new.items ≡ out.old.items ++ spelled (echoed echo line.now)) }
+    ensures { OnOk result (out.new.items ≡ out.old.items ++ pieces_octets (echoed echo line.now)) }
 {
     if echo {
         out.extend_from_slice(line)?;
@@ -32,7 +32,7 @@ fn push_echo(echo: bool, line: &[u8], out: &mut Vec<u8>) -> Result<(), AllocErro
 }
 
 fn push_answer(answer: &[AnswerLine], out: &mut Vec<u8>) -> Result<(), AllocError>
-    ensures { OnOk result (out.new.items ≡ out.old.items ++ spelled (answers answer.now)) }
+    ensures { OnOk result (out.new.items ≡ out.old.items ++ pieces_octets (answers answer.now)) }
 {
     for line in answer {
         push_framed(line.text.as_slice(), out)?;
@@ -42,7 +42,8 @@ fn push_answer(answer: &[AnswerLine], out: &mut Vec<u8>) -> Result<(), AllocErro
 
 /// Does what a command line says, and writes the reply behind other octets. After an error nothing is said of either.
 fn reply(modem: &mut Modem, echo: bool, line: &[u8], out: &mut Vec<u8>) -> Result<(), SimError>
-    ensures reply { OnOk result (out.new.items ≡ out.old.items ++ spelled (reply echo modem.old line.now)) }
+    ensures reply { OnOk result
+        (out.new.items ≡ out.old.items ++ pieces_octets (reply echo modem.old line.now)) }
     ensures state { OnOk result (modem.new ≡ (step modem.old line.now).state) }
     ensures no_memory { OnErr result (IsErrOf result SimError.NoMemory) }
 {
@@ -63,7 +64,8 @@ fn reply_to_octet(
     ensures count { IfOk result (λ n. n ≡ length (lines (reader.old ++ octet ∷ []))) }
     ensures one { IfOk result (λ n. n ≤ 1) }
     ensures replies { OnOk result
-        (out.new.items ≡ out.old.items ++ spelled (replies echo modem.old (lines (reader.old ++ octet ∷ [])))) }
+        (out.new.items
+        ≡ out.old.items ++ pieces_octets (replies echo modem.old (lines (reader.old ++ octet ∷ [])))) }
     ensures state { OnOk result (modem.new ≡ after_lines modem.old (lines (reader.old ++ octet ∷ []))) }
     ensures kept { OnOk result (reader.new ≡ kept_run (reader.old ++ octet ∷ [])) }
     ensures no_memory { OnErr result (IsErrOf result SimError.NoMemory) }
@@ -87,7 +89,8 @@ pub(crate) fn reply_to(
     requires { kept_run reader.old ≡ reader.old }
     ensures count { IfOk result (λ n. n ≡ length (lines (reader.old ++ octets.now))) }
     ensures replies { OnOk result
-        (out.new.items ≡ out.old.items ++ spelled (replies echo modem.old (lines (reader.old ++ octets.now)))) }
+        (out.new.items
+        ≡ out.old.items ++ pieces_octets (replies echo modem.old (lines (reader.old ++ octets.now)))) }
     ensures state { OnOk result (modem.new ≡ after_lines modem.old (lines (reader.old ++ octets.now))) }
     ensures kept { OnOk result (reader.new ≡ kept_run (reader.old ++ octets.now)) }
     ensures no_memory { OnErr result (IsErrOf result SimError.NoMemory) }

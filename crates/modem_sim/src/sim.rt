@@ -3,7 +3,7 @@ ghost use Rattle.std.specs.Prelude.{◌≡◌, ◌≢◌, ◌↔◌, ◌⊎◌, 
 ghost use Rattle.std.specs.Borrow.{Lends, sem};
 ghost use Rattle.modem_sim.specs.Acts.{end_of};
 ghost use Rattle.modem_sim.specs.Sims.{FitsSim, SimGoes, end_given, failed_by, has_ended, has_failed, modem_of};
-ghost use Rattle.modem_sim.specs.Turns.{GoesTurn};
+ghost use Rattle.modem_sim.specs.Turns.{GoesTurn, WantsMemory};
 
 use crate::error::SimError;
 use crate::kept::{Kept, Room};
@@ -60,7 +60,9 @@ impl<L: SerialLine> Sim<L> {
         script: Script,
         n1: u16,
     ) -> Result<Sim<L>, SimRefused<L>>
-        ensures begins { IfOk result (λ s. FitsSim L.received L.sent (record { received = L.received line; sent = L.sent line }) (end_of n1 modem script) s []) }
+        ensures begins { IfOk result
+            (λ s. FitsSim L.received L.sent (record { received = L.received line; sent = L.sent line })
+            (end_of n1 modem script) s []) }
         ensures line { IfOk result (λ s. s.line ≡ line) }
         ensures sound { IfOk result (λ s. has_failed s ≡ false) }
         ensures goes_on { IfOk result (λ s. end_given s ≡ None) }
@@ -84,22 +86,27 @@ impl<L: SerialLine> Sim<L> {
     }
 
     /// Does each of these once: the steps that are due; offers the line what is to be written; where all is written, takes the
-    /// next outgoing frame; takes the frame at hand; reads. Refusals: 1 NoMemory, which drops nothing: the next turn goes on;
-    /// 3 Line, where the line fails; 4 Failed, in every turn after that, which does nothing.
+    /// next outgoing frame; takes the frame at hand; reads. Refusals: 1 NoMemory, which drops nothing: what took memory is left,
+    /// and the next turn goes on; 3 Line, where the line fails; 4 Failed, in every turn after that, which does nothing.
     pub fn turn(&mut self) -> Result<SimTurn, SimError>
         ensures goes { SimGoes L.received L.sent self.old self.new }
         ensures turn { IfOk result (λ says. GoesTurn L.received L.sent L.calls self.old self.new says) }
         ensures failed { IsErrOf result SimError.Failed ↔ (has_failed self.old ≡ true) }
         ensures fails { has_failed self.new ≡ failed_by (has_failed self.old) result }
         ensures still { has_failed self.old ≡ true → self.new ≡ self.old }
-        ensures over { has_failed self.old ≡ false → has_ended self.old ≡ true → (result ≡ Ok SimTurn.Ended) × (self.new ≡ self.old) }
-        ensures others { OnErr result (IsErrOf result SimError.Line ⊎ (IsErrOf result SimError.NoMemory ⊎ IsErrOf result SimError.Failed)) }
+        ensures over { has_failed self.old ≡ false → has_ended self.old ≡ true
+            → (result ≡ Ok SimTurn.Ended) × (self.new ≡ self.old) }
+        ensures others { OnErr result
+            (IsErrOf result SimError.Line
+            ⊎ (IsErrOf result SimError.NoMemory ⊎ IsErrOf result SimError.Failed)) }
+        ensures memory { IsErrOf result SimError.NoMemory → WantsMemory L.received L.sent self.new }
         ensures ended { IfOk result (λ turn. turn ≡ SimTurn.Ended → has_ended self.new ≡ true) }
         ensures goes_on { IfOk result (λ turn. has_ended self.new ≡ true → turn ≡ SimTurn.Ended) }
         ensures end { end_given self.new ≡ end_given self.old }
         ensures bounded { L.calls self.new.line ≤ L.calls self.old.line + 2 }
         ensures sound { result ≢ Err SimError.Line → L.failures self.new.line ≡ L.failures self.old.line }
-        ensures failure { result ≡ Err SimError.Line → L.failures self.new.line ≡ L.failures self.old.line + 1 }
+        ensures failure { result ≡ Err SimError.Line
+            → L.failures self.new.line ≡ L.failures self.old.line + 1 }
     {
         if self.kept.is_failed() {
             return Err(SimError::Failed);
@@ -121,7 +128,8 @@ impl<L: SerialLine> Sim<L> {
     /// were.
     pub fn line_mut(&mut self) -> &mut L
         ensures value { result.now ≡ self.old.line }
-        ensures* lent { sem 𝓛 (Lends (the_row L.row L.SerialLine) L.row self.entry result (λ l. record self.old { line = l })) }
+        ensures* lent { sem 𝓛
+            (Lends (the_row L.row L.SerialLine) L.row self.entry result (λ l. record self.old { line = l })) }
     {
         &mut self.line
     }

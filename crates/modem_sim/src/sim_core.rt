@@ -5,12 +5,12 @@ ghost use Rattle.mux_frame.specs.Spelling.{most_info};
 ghost use Rattle.mux_station.specs.States.{is_opened};
 ghost use Rattle.mux_station.specs.Stations.{channel_at, new_station, seen_in, setting_of};
 ghost use Rattle.mux_station.specs.Sending.{got_refused};
-ghost use Rattle.mux_station.specs.Fitting.{Fits as FitsThere};
+ghost use Rattle.mux_station.specs.Fitting.{StationFits as FitsThere};
 ghost use Rattle.mux_station.specs.Written.{is_data_frame, is_on};
 ghost use Rattle.at_text.specs.Lines.{kept_run};
 ghost use Rattle.modem_sim.specs.Acts.{Act, end_of};
 ghost use Rattle.modem_sim.specs.Boxes.{fresh_box, queue_of, box_turned};
-ghost use Rattle.modem_sim.specs.Cores.{Fits, GoesOn, box_at, closes_all, kept_in, nothing_wired, opens_in, octets_in};
+ghost use Rattle.modem_sim.specs.Cores.{Fits, EndGoesOn, box_at, closes_all, kept_in, nothing_wired, opens_in, octets_in};
 
 use crate::channel::{Answered, Channel, hear_all};
 use crate::error::SimError;
@@ -115,7 +115,7 @@ impl Parts {
 
 impl SimCore {
     /// An end to which nothing has happened yet.
-    #[tactic(auto, using(crate::proofs::CoreLemmas::fits_nothing))]
+    #[tactic(auto, using(crate::proofs::ends::EndAfterFrame::fits_nothing))]
     pub(crate) fn start(parts: Parts, modem: Modem, script: Script) -> SimCore
         requires boxes { parts.channels.items ≡ replicate 62 fresh_box }
         requires station { parts.station ≡ new_station Role.Responder parts.station.n1 }
@@ -134,13 +134,6 @@ impl SimCore {
             next: 0,
             closed: false,
         }
-    }
-
-    /// How many octets of information a frame may have.
-    pub(crate) fn n1(&self) -> u16
-        ensures { result ≡ self.now.station.n1 }
-    {
-        self.station.n1()
     }
 
     /// The modem.
@@ -196,13 +189,18 @@ impl SimCore {
     /// calls for find no room; that changes nothing, as want of memory does. The condition is that of `Station::got`.
     pub(crate) fn got(&mut self, frame: FrameView<'_>) -> Result<bool, SimError>
         requires { length frame.info.now ≤ most_info self.old.station.n1 frame.kind }
-        ensures took { IfOk result (λ took. took ≡ true → GoesOn self.old self.new (frame_of frame.entry)) }
+        ensures took { IfOk result
+            (λ took. took ≡ true → EndGoesOn self.old self.new (frame_of frame.entry)) }
         ensures room { IfOk result
-            (λ took. took ≡ is_none (got_refused (setting_of self.old.station) (seen_in self.old.station) (frame_of frame.entry))) }
+            (λ took. took
+            ≡ is_none
+            (got_refused (setting_of self.old.station) (seen_in self.old.station)
+            (frame_of frame.entry))) }
         ensures left { IfOk result (λ took. took ≡ false → self.new ≡ self.old) }
         ensures err { OnErr result (self.new ≡ self.old) }
         ensures no_memory { OnErr result (IsErrOf result SimError.NoMemory) }
         ensures steps { OnOk result (self.new.steps ≡ self.old.steps) }
+        ensures n1 { self.new.station.n1 ≡ self.old.station.n1 }
     {
         let opens = self.opens(frame);
         let octets = self.octets_in(frame);
@@ -221,9 +219,14 @@ impl SimCore {
     /// Keeps what a frame brought to its connection, which starts afresh where the frame opens it.
     fn keep(&mut self, dlci: Dlci, opens: bool, modem: Modem, answered: Answered, closes: bool)
         requires { kept_run answered.reader ≡ answered.reader }
-        ensures kept { (octets : List ℕ) → answered.said.items ≡ queue_of (box_at self.old dlci.number) ++ octets
-            → self.new ≡ kept_in self.old dlci.number modem (box_turned opens true (record { run = answered.reader; said = octets }) (box_at self.old dlci.number)) answered.ended closes }
+        ensures kept { (octets : List ℕ)
+            → answered.said.items ≡ queue_of (box_at self.old dlci.number) ++ octets
+            → self.new
+            ≡ kept_in self.old dlci.number modem
+            (box_turned opens true (record { run = answered.reader; said = octets })
+            (box_at self.old dlci.number)) answered.ended closes }
         ensures steps { self.new.steps ≡ self.old.steps }
+        ensures n1 { self.new.station.n1 ≡ self.old.station.n1 }
     {
         let ended = answered.ended;
         self.modem = modem;

@@ -45,11 +45,15 @@ bench_app = with_rule (with_rule (new_app (codes "bench")) callers_rule) cut_rul
 
 -- the program's own name, which wants a subcommand behind it
 abbrev pub wanting_one : App
-wanting_one = record (new_app (codes "modemctl")) { top = record (new_app (codes "modemctl")).top { subcommand_required = true } }
+wanting_one =
+    record (new_app (codes "modemctl"))
+    { top = record (new_app (codes "modemctl")).top { subcommand_required = true } }
 
 -- the same with two subcommands
 abbrev pub with_two : App
-with_two = with_subcommand (with_subcommand wanting_one (subcommand_app (codes "frames")).top) (subcommand_app (codes "replay")).top
+with_two =
+    with_subcommand (with_subcommand wanting_one (subcommand_app (codes "frames")).top)
+    (subcommand_app (codes "replay")).top
 
 -- the program, with its three subcommands
 abbrev pub program_app : App

@@ -147,7 +147,8 @@ where
     ensures status { result ≤ 2 }
     ensures bad { result ≡ 2 → output.new ≡ output.old }
     ensures done { result ≡ 0 → (callers : ℕ)
-        × IsPrinted (IsBenched callers) (I.remaining input.old) (W.contents output.old) (W.contents output.new) }
+        × IsPrinted (IsBenched callers) (I.remaining input.old) (W.contents output.old)
+        (W.contents output.new) }
 {
     let callers = callers_of(matches);
     let cut = usize::from(cut_of(matches));
@@ -176,7 +177,8 @@ where
     ensures replay { result ≡ 0 → subcommand_name_of matches.now ≡ Some (codes "replay") → (n1 : ℕ)
         × IsPrinted (IsReplayed n1) (I.remaining input.old) (W.contents output.old) (W.contents output.new) }
     ensures bench { result ≡ 0 → subcommand_name_of matches.now ≡ Some (codes "bench") → (callers : ℕ)
-        × IsPrinted (IsBenched callers) (I.remaining input.old) (W.contents output.old) (W.contents output.new) }
+        × IsPrinted (IsBenched callers) (I.remaining input.old) (W.contents output.old)
+        (W.contents output.new) }
 {
     if let Some(matches) = matches.subcommand_matches("frames") {
         return frames_run(alloc, input, output, faults, n1_of(matches));
@@ -212,7 +214,8 @@ where
     ensures replay { result ≡ 0 → AreFor (codes "replay") (map string_bytes words.now) → (n1 : ℕ)
         × IsPrinted (IsReplayed n1) (I.remaining input.old) (W.contents output.old) (W.contents output.new) }
     ensures bench { result ≡ 0 → AreFor (codes "bench") (map string_bytes words.now) → (callers : ℕ)
-        × IsPrinted (IsBenched callers) (I.remaining input.old) (W.contents output.old) (W.contents output.new) }
+        × IsPrinted (IsBenched callers) (I.remaining input.old) (W.contents output.old)
+        (W.contents output.new) }
 {
     let command = match program(alloc) {
         Ok(command) => command,

@@ -1,11 +1,7 @@
-pub mod Decisions
-pub mod Division
-pub mod Examples
+pub mod deframers
+pub mod CheckOctets
+pub mod RowFacts
 pub mod Flags
-pub mod Fronts
-pub mod Judgements
-pub mod Pasts
-pub mod ReadingOn
-pub mod Readings
-pub mod Slow
+pub mod candidates
+pub mod readings
 pub mod Spellings

@@ -52,7 +52,7 @@ zeros = false ∷ false ∷ false ∷ false ∷ false ∷ false ∷ false ∷ fa
 abbrev pub first_inverted : List Bool → List Bool
 first_inverted bs = map not (take 8 bs) ++ drop 8 bs
 
--- The check octet of these octets. The last bits of the division are complemented, and the bit of the highest power is
--- the octet's low bit.
+-- The check octet of these octets. The last bits of the division are complemented, and the bit of the highest
+-- power is the octet's low bit.
 unfoldable pub check_octet_of : List ℕ → ℕ
 check_octet_of octets = number_of (map not (remainder (first_inverted (bits_of octets ++ zeros))))

@@ -58,8 +58,8 @@ pub record SameReading (n1 : ℕ) (old new : List ℕ) : Type 0 where
       → Reads n1 (new ++ x) gs rest
       → Reads n1 (old ++ x) gs rest
 
--- The deframer has taken these octets and handed out these frames: whatever follows, the octets are read as these frames and
--- then as the undecided octets are read.
+-- The deframer has taken these octets and handed out these frames: whatever follows, the octets are read as
+-- these frames and then as the undecided octets are read.
 pub record Deframes (taken : List ℕ) (handed : List Frame) (d : Deframing) : Type 0 where
   pub reads : (x : List ℕ) (gs : List Frame) (rest : List ℕ)
       → Reads d.n1 (d.undecided ++ x) gs rest
@@ -88,12 +88,13 @@ pub record ReadsNext (n1 : ℕ) (taken : List ℕ) (handed : List Frame) (f : Fr
   pub rest : List ℕ
   pub reads : Reads n1 taken (handed ++ f ∷ later) rest
 
--- A deframer hands out just the frames that are read in the octets taken, in order: the frame at hand is the next of them, and
--- where none is at hand there is no next one, and the undecided octets are the rest.
+-- A deframer hands out just the frames that are read in the octets taken, in order: the frame at hand is the
+-- next of them, and where none is at hand there is no next one, and the undecided octets are the rest.
 pub record HandsOut (taken : List ℕ) (handed : List Frame) (d : Deframing) : Type 0 where
   pub next : (f : Frame) → d.next ≡ Some f → ReadsNext d.n1 taken handed f
   pub all : d.next ≡ None → Reads d.n1 taken handed d.undecided
 
 -- a deframer hands out what is read, whatever it has taken and handed out
 abbrev pub IsDeframed : Type 0
-IsDeframed = (taken : List ℕ) (handed : List Frame) (d : Deframing) → Deframes taken handed d → HandsOut taken handed d
+IsDeframed =
+    (taken : List ℕ) (handed : List Frame) (d : Deframing) → Deframes taken handed d → HandsOut taken handed d

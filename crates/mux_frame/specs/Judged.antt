@@ -56,7 +56,8 @@ pub record IsReady (n1 : ℕ) (undecided : List ℕ) (capacity : ℕ) (check_pla
   pub settled : IsSettled n1 undecided capacity
   pub at_hand : IsAtHand n1 undecided check_place
 
--- from the front of octets goes what begins no frame; then this is the check place of the frame at hand, if there is one
+-- from the front of octets goes what begins no frame; then this is the check place of the frame at hand, if
+-- there is one
 pub record Settles (n1 : ℕ) (old new : Held) (check_place : Option ℕ) : Type 0 where
   pub decided : decision_on n1 new.items ≢ refused
   pub reads : SameReading n1 old.items new.items

@@ -84,4 +84,5 @@ last_flag (f ∷ fs) = flag ∷ []
 
 -- frames that are written one after the other are read as those frames
 abbrev pub ReadsSpelled : Type 0
-ReadsSpelled = (n1 : ℕ) (fs : List Frame) → All (HasSpelling n1) fs → Reads n1 (flat_map spelled fs) fs (last_flag fs)
+ReadsSpelled =
+    (n1 : ℕ) (fs : List Frame) → All (HasSpelling n1) fs → Reads n1 (flat_map spelled fs) fs (last_flag fs)

@@ -30,7 +30,8 @@ pub record IsCutShort (n1 : ℕ) (t : List ℕ) : Type 0 where
   pub proper : missing ≢ []
   pub spells : Spells n1 octets frame
 
--- The frames in a text, and its rest (27.010, 5.2.3, 5.2.5 and 5.2.6.1). Reading goes by the text t after the first flag.
+-- The frames in a text, and its rest (27.010, 5.2.3, 5.2.5 and 5.2.6.1). Reading goes by the text t after the
+-- first flag.
 pub data Reads (n1 : ℕ) : List ℕ → List Frame → List ℕ → Type 0 where
   -- 1. no flag: no frame, and no rest
   no_flag : (s : List ℕ) → after_flag s ≡ None → Reads n1 s [] []

@@ -67,7 +67,9 @@ indicator_of n = if nat_lt n 128 then short_indicator n else long_indicator n
 
 -- the frame without its flags, its length in the shortest form
 unfoldable pub body_of : Frame → List ℕ
-body_of f = header f (indicator_of (length f.info)) ++ f.info ++ check_octet_of (header f (indicator_of (length f.info))) ∷ []
+body_of f =
+    header f (indicator_of (length f.info)) ++ f.info
+    ++ check_octet_of (header f (indicator_of (length f.info))) ∷ []
 
 -- the frame as it is written: between its two flags, its length in the shortest form
 abbrev pub spelled : Frame → List ℕ

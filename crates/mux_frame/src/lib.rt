@@ -23,6 +23,3 @@ pub use frame::{FrameBuf, FrameView, Kind};
 pub use info::Info;
 pub use probe::ProbeData;
 pub use write::write_frame;
-
-#[cfg(test)]
-mod tests;

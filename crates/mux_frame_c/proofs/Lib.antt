@@ -1,1 +1,1 @@
-pub mod Countings
+pub mod FrameCounts

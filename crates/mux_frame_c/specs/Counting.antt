@@ -22,6 +22,7 @@ pub record IsCountOf (n1 : ℕ) (octets : List ℕ) (counts : Counts) : Type 0 w
 pub record CountsOn (old : Deframing) (before : Counts) (new : Deframing) (after : Counts) : Type 0 where
   pub more : List Frame
   pub n1 : new.n1 ≡ old.n1
-  pub past : (taken : List ℕ) (handed : List Frame) → Deframes taken handed old → Deframes taken (handed ++ more) new
+  pub past :
+      (taken : List ℕ) (handed : List Frame) → Deframes taken handed old → Deframes taken (handed ++ more) new
   pub frames : after.frames ≡ (before.frames + length more) % 2 ^ 64
   pub information : after.information ≡ (before.information + information_of more) % 2 ^ 64

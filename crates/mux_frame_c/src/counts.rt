@@ -32,7 +32,7 @@ fn count_frames(deframer: &mut Deframer, mut counts: Counts) -> Counts
 
 /// Counts the frames that octets are read as. Refusals: BadN1 where N1 isn't 31 to 32767, checked
 /// first; NoMemory.
-#[tactic(auto, using(crate::proofs::Countings::counted_none, crate::proofs::Countings::counted_more, crate::proofs::Countings::counted_all))]
+#[tactic(auto, using(crate::proofs::FrameCounts::counted_none, crate::proofs::FrameCounts::counted_more, crate::proofs::FrameCounts::counted_all))]
 pub(crate) fn count_octets(alloc: Global, n1: u16, octets: &[u8]) -> Result<Counts, FrameError>
     ensures ok { IfOk result (λ counts. IsCountOf n1 octets.now counts) }
     ensures bad_n1 { IsErrOf result FrameError.BadN1 ↔ ((n1 < 31) ⊎ (32767 < n1)) }

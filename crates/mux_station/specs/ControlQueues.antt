@@ -8,7 +8,8 @@ pub record ControlQueue : Type 0 where
   pub frames : List Frame
   pub room : ℕ
 
--- the octets are those of the frames, no more than there is room for, and there is a place for each frame that fits
+-- the octets are those of the frames, no more than there is room for, and there is a place for each frame
+-- that fits
 pub record IsBounded (frames : List Frame) (octets room capacity : ℕ) : Type 0 where
   pub counted : octets ≡ octets_of frames
   pub within : octets ≤ room

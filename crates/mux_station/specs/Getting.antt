@@ -67,10 +67,13 @@ abbrev pub queued_in : Station → List Frame → Station
 queued_in v fs = record v { queue = v.queue ++ fs }
 
 -- the frame is answered, and its connection turned as the table says
-pub record WordTaken (old new : Station) (d : ℕ) (k : Kind) : Type 0 where
+pub record FollowsTable (old new : Station) (d : ℕ) (k : Kind) : Type 0 where
   pub turn : Turn
-  pub turns : TurnsBy old.role ((d == 0) || is_opened (channel_at old 0).state) (channel_at old d).state k turn
-  pub new_is : new ≡ turned_by (queued_in old (by_table old.role d (channel_at old 0).state (channel_at old d).state k)) d turn
+  pub turns :
+      TurnsBy old.role ((d == 0) || is_opened (channel_at old 0).state) (channel_at old d).state k turn
+  pub new_is :
+      new ≡ turned_by
+      (queued_in old (by_table old.role d (channel_at old 0).state (channel_at old d).state k)) d turn
 
 -- ## Messages
 
@@ -78,12 +81,15 @@ pub record WordTaken (old new : Station) (d : ℕ) (k : Kind) : Type 0 where
 abbrev pub stops_set : Station → Message → List Channel
 stops_set v m =
     let c = channel_at v (msc_dlci m.value) in
-    if (m.octet == msc) && is_opened c.state then slice_set v.channels (msc_dlci m.value) (record c { is_stopped = msc_stops m.value }) else v.channels
+    if (m.octet == msc) && is_opened c.state
+    then slice_set v.channels (msc_dlci m.value) (record c { is_stopped = msc_stops m.value })
+    else v.channels
 
 -- the probe waits no more where this answers it
 abbrev pub probe_answered : Option Waiting → Message → Option Waiting
 probe_answered None m = None
-probe_answered (Some w) m = if brings_probe_back w.data_octets (Some m) || refuses_probe (Some m) then None else Some w
+probe_answered (Some w) m =
+    if brings_probe_back w.data_octets (Some m) || refuses_probe (Some m) then None else Some w
 
 -- while 0 is Opened
 abbrev pub told_in : Station → Message → Station
@@ -115,5 +121,9 @@ message_taken v s m = v
 
 -- by a message, or else by the tables
 pub record FrameTaken (old new : Station) (f : Frame) : Type 0 where
-  pub by_message : is_on Uih 0 f ≡ true → new ≡ message_taken (queued_in old (message_calls old.role (channel_at old 0).state (message_of f.info))) (channel_at old 0).state (message_of f.info)
-  pub by_table : is_on Uih 0 f ≡ false → WordTaken old new f.dlci f.kind
+  pub by_message :
+      is_on Uih 0 f ≡ true
+      → new ≡ message_taken
+      (queued_in old (message_calls old.role (channel_at old 0).state (message_of f.info)))
+      (channel_at old 0).state (message_of f.info)
+  pub by_table : is_on Uih 0 f ≡ false → FollowsTable old new f.dlci f.kind

@@ -5,16 +5,17 @@ use Rattle.mux_frame.specs.declared.frame.Kind.TheVariants.{Disc}
 use Rattle.mux_station.specs.Written.{is_on}
 use Rattle.mux_station.specs.Acts.{Act, Tick}
 use Rattle.mux_station.specs.States.{State, IsOpening, IsClosing, IsStopping, state_of}
-use Rattle.mux_station.specs.Sending.{Setting, calls, probe_of}
+use Rattle.mux_station.specs.Sending.{StationSetting, called_frames, probe_of}
 use Rattle.mux_station.specs.Stations.{Station, setting_of}
-use Rattle.mux_station.specs.Fitting.{Fits}
+use Rattle.mux_station.specs.Fitting.{StationFits}
 use Rattle.mux_station.specs.Ticking.{Up, UpChannel, probe_up, noticed}
 
 -- a tick calls for a DISC on d
-abbrev pub sends_disc : Setting → List Act → ℕ → Bool
-sends_disc s past d = list_any (is_on Disc d) (calls s past Tick)
+abbrev pub sends_disc : StationSetting → List Act → ℕ → Bool
+sends_disc s past d = list_any (is_on Disc d) (called_frames s past Tick)
 
--- it is the fourth tick of a connection in this state; an opening is given up by a DISC, so where that has room
+-- it is the fourth tick of a connection in this state; an opening is given up by a DISC, so where that has
+-- room
 abbrev pub gives_up_by : State → (disc : Bool) → Bool
 gives_up_by (IsOpening n) disc = (n == 3) && disc
 gives_up_by (IsClosing n) disc = n == 3
@@ -22,14 +23,14 @@ gives_up_by (IsStopping n) disc = n == 3
 gives_up_by s disc = false
 
 -- a tick gives d up
-abbrev pub gives_up_on : Setting → List Act → ℕ → Bool
+abbrev pub gives_up_on : StationSetting → List Act → ℕ → Bool
 gives_up_on s past d = gives_up_by (state_of s.role d past) (sends_disc s past d)
 
 -- what a tick gives up: connections in rising order, then the probe
-abbrev pub noticed_of : Setting → List Act → List Up
+abbrev pub noticed_of : StationSetting → List Act → List Up
 noticed_of s past =
     map UpChannel (filter (gives_up_on s past) (range_with_len 0 62)) ++ probe_up (probe_of s past)
 
 -- what a station gives up at a tick is what each past that it fits says
 unfoldable pub SeesTheTick : Station → List Act → Type 0
-SeesTheTick v past = Fits v past → noticed v ≡ noticed_of (setting_of v) past
+SeesTheTick v past = StationFits v past → noticed v ≡ noticed_of (setting_of v) past

@@ -8,14 +8,15 @@ use Rattle.mux_station.specs.States.{is_opened}
 use Rattle.mux_station.specs.declared.role.Role.{Role}
 use Rattle.mux_station.specs.Opening.{is_open}
 use Rattle.mux_station.specs.Stopping.{is_stopped}
-use Rattle.mux_station.specs.Offering.{offered, given}
-use Rattle.mux_station.specs.Sending.{queue, Lawful, Complete}
+use Rattle.mux_station.specs.Offering.{offered, data_out}
+use Rattle.mux_station.specs.Sending.{queue, StationLawful, StationComplete}
 use Rattle.mux_station.specs.Stations.{Station, channel_at, setting_of, stopped_in}
-use Rattle.mux_station.specs.Fitting.{Fits}
+use Rattle.mux_station.specs.Fitting.{StationFits}
 
 -- d is Opened and not stopped, and octets wait in its ring
 abbrev pub is_ready : Station → ℕ → Bool
-is_ready v d = is_opened (channel_at v d).state && (not (stopped_in v d) && not (length (channel_at v d).waiting == 0))
+is_ready v d =
+    is_opened (channel_at v d).state && (not (stopped_in v d) && not (length (channel_at v d).waiting == 0))
 
 -- the least that is ready of so many connections from d on
 abbrev pub first_ready : Station → ℕ → ℕ → Option ℕ
@@ -46,7 +47,8 @@ data_frame v d = written v.role Uih d (take v.n1 (channel_at v d).waiting)
 abbrev pub data_given : Station → Option ℕ → Station
 data_given v None = v
 data_given v (Some d) = record v {
-  channels = slice_set v.channels d (record (channel_at v d) { waiting = drop v.n1 (channel_at v d).waiting });
+  channels =
+      slice_set v.channels d (record (channel_at v d) { waiting = drop v.n1 (channel_at v d).waiting });
   last = d;
 }
 
@@ -59,9 +61,9 @@ abbrev pub next_given : Station → List Frame → Option Frame
 next_given v (f ∷ fs) = Some f
 next_given v [] = option_map (data_frame v) (next_turn v)
 
-abbrev pub given_on : Station → List Frame → Station
-given_on v (f ∷ fs) = record v { queue = fs }
-given_on v [] = data_given v (next_turn v)
+abbrev pub station_after : Station → List Frame → Station
+station_after v (f ∷ fs) = record v { queue = fs }
+station_after v [] = data_given v (next_turn v)
 
 -- the past after a control frame was given on, or data sent
 abbrev pub after_given : Station → List Frame → List Act → List Act
@@ -70,7 +72,7 @@ after_given v [] past = data_sent v (next_turn v) past
 
 -- this many octets were offered on d since it opened and not given on yet
 unfoldable pub Waits : Role → ℕ → List Act → ℕ → Type 0
-Waits r d past n = is_open r d past ≡ true → length (given r d past) + n ≡ length (offered r d past)
+Waits r d past n = is_open r d past ≡ true → length (data_out r d past) + n ≡ length (offered r d past)
 
 -- data may leave d next: it is open and not stopped, and more was offered on it than was given on
 pub record SendsNext (r : Role) (d : ℕ) (past : List Act) : Type 0 where
@@ -78,11 +80,17 @@ pub record SendsNext (r : Role) (d : ℕ) (past : List Act) : Type 0 where
   pub no_zero : (d == 0) ≡ false
   pub is_open : is_open r d past ≡ true
   pub goes : is_stopped r d past ≡ false
-  pub some : length (given r d past) < length (offered r d past)
+  pub some : length (data_out r d past) < length (offered r d past)
   pub alone : queue past ≡ []
 
 -- whatever past the station fits, it goes on with what it gives on, and a lawful and complete past stays so
 pub record GivesOn (v : Station) : Type 0 where
-  pub fits : (past : List Act) → Fits v past → Fits (given_on v v.queue) (after_given v v.queue past)
-  pub lawful : (past : List Act) → Fits v past → Lawful (setting_of v) past → Complete (setting_of v) past → Lawful (setting_of v) (after_given v v.queue past)
-  pub complete : (past : List Act) → Fits v past → Lawful (setting_of v) past → Complete (setting_of v) past → Complete (setting_of v) (after_given v v.queue past)
+  pub fits :
+      (past : List Act) → StationFits v past
+      → StationFits (station_after v v.queue) (after_given v v.queue past)
+  pub lawful :
+      (past : List Act) → StationFits v past → StationLawful (setting_of v) past
+      → StationComplete (setting_of v) past → StationLawful (setting_of v) (after_given v v.queue past)
+  pub complete :
+      (past : List Act) → StationFits v past → StationLawful (setting_of v) past
+      → StationComplete (setting_of v) past → StationComplete (setting_of v) (after_given v v.queue past)

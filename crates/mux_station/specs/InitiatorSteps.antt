@@ -31,8 +31,8 @@ of_an_initiator =
     ∷ comes (come Uih 1 (120 ∷ [])) Nothing [] (stands IsOpened (IsOpening 0) IsShut [] None)
     ∷ comes (come Disc 1 []) Refused (out Dm 1 [] ∷ []) (stands IsOpened IsShut IsShut [] None)
     ∷ comes (come Ua 1 []) Nothing [] (stands IsOpened IsShut IsShut [] None)
-    -- 1 is opened and told its signals; an MSC stops and frees it; FCoff, here with an octet too many, stops all, and FCon
-    -- frees all
+    -- 1 is opened and told its signals; an MSC stops and frees it; FCoff, here with an octet too many, stops
+    -- all, and FCon frees all
     ∷ asks (Open 1) (out Sabm 1 [] ∷ []) (stands IsOpened (IsOpening 0) IsShut [] None)
     ∷ comes (come Ua 1 []) Opened (out Uih 0 (227 ∷ 5 ∷ 7 ∷ 141 ∷ []) ∷ [])
     (stands IsOpened IsOpened IsShut [] None)
@@ -59,13 +59,15 @@ of_an_initiator =
     ∷ comes (come Uih 0 (17 ∷ 5 ∷ 35 ∷ 33 ∷ [])) Nothing []
     (stands IsOpened IsShut IsShut [] (waiting (65 ∷ 66 ∷ []) 0))
     ∷ comes (come Uih 0 (17 ∷ 3 ∷ 33 ∷ [])) ProbeRefused [] (stands IsOpened IsShut IsShut [] None)
-    -- a probe of 17 octets; PN is not supported; an NSC command, an MSC for 0 and a response of another probe are nothing
+    -- a probe of 17 octets; PN is not supported; an NSC command, an MSC for 0 and a response of another probe
+    -- are nothing
     ∷ asks (Probe (65 ∷ 66 ∷ [])) (out Uih 0 (35 ∷ 5 ∷ 65 ∷ 66 ∷ []) ∷ [])
     (stands IsOpened IsShut IsShut [] (waiting (65 ∷ 66 ∷ []) 0))
     ∷ refuses (Probe (replicate 17 120)) TooLong
     ∷ comes (come Uih 0 (131 ∷ 1 ∷ [])) Nothing (out Uih 0 (17 ∷ 3 ∷ 131 ∷ []) ∷ [])
     (stands IsOpened IsShut IsShut [] (waiting (65 ∷ 66 ∷ []) 0))
-    ∷ comes (come Uih 0 (19 ∷ 1 ∷ [])) Nothing [] (stands IsOpened IsShut IsShut [] (waiting (65 ∷ 66 ∷ []) 0))
+    ∷ comes (come Uih 0 (19 ∷ 1 ∷ [])) Nothing []
+    (stands IsOpened IsShut IsShut [] (waiting (65 ∷ 66 ∷ []) 0))
     ∷ comes (come Uih 0 (227 ∷ 5 ∷ 3 ∷ 143 ∷ [])) Nothing []
     (stands IsOpened IsShut IsShut [] (waiting (65 ∷ 66 ∷ []) 0))
     ∷ comes (come Uih 0 (33 ∷ 5 ∷ 65 ∷ 66 ∷ [])) ProbeBack [] (stands IsOpened IsShut IsShut [] None)

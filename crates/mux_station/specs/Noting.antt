@@ -13,8 +13,8 @@ use Rattle.mux_station.specs.States.{State, IsShut, IsOpening, IsOpened, IsClosi
 use Rattle.mux_station.specs.Acts.{Act, Got}
 use Rattle.mux_station.specs.Opening.{is_open, opens_now}
 use Rattle.mux_station.specs.Stations.{Station, setting_of}
-use Rattle.mux_station.specs.Fitting.{Fits}
-use Rattle.mux_station.specs.Sending.{Setting, Waiting, Seen, seen, brings_probe_back, refuses_probe}
+use Rattle.mux_station.specs.Fitting.{StationFits}
+use Rattle.mux_station.specs.Sending.{StationSetting, Waiting, StationView, station_view, brings_probe_back, refuses_probe}
 
 -- what closes 0 closes all
 abbrev pub closed_on : ℕ → Noted
@@ -62,11 +62,12 @@ noted_of_message probe m = if m.octet == cld then AllClosed else noted_of_probe 
 -- a message, by the state of 0
 abbrev pub noted_by_message : State → Option Waiting → Option Message → Noted
 noted_by_message IsOpened probe (Some m) = noted_of_message probe m
-noted_by_message (IsStopping n) probe (Some m) = if (m.octet == cld) || (command_of m.octet == cld) then AllClosed else Nothing
+noted_by_message (IsStopping n) probe (Some m) =
+    if (m.octet == cld) || (command_of m.octet == cld) then AllClosed else Nothing
 noted_by_message own probe m = Nothing
 
 -- what is noted of a frame
-abbrev pub noted_of : Role → Seen → Frame → Noted
+abbrev pub noted_of : Role → StationView → Frame → Noted
 noted_of r v f =
     if is_on Uih 0 f then noted_by_message (v.state 0) v.probe (message_of f.info)
     else noted_by_table r f.dlci (v.state 0) (v.state f.dlci) f.kind
@@ -83,15 +84,21 @@ says_info Info = true
 says_info _ = false
 
 -- what is noted of a frame is what happens
-pub record NotesWhatHappens (s : Setting) (past : List Act) (f : Frame) : Type 0 where
+pub record NotesWhatHappens (s : StationSetting) (past : List Act) (f : Frame) : Type 0 where
   -- Opened or Reset: the frame opens its connection
-  pub opened : says_open (noted_of s.role (seen s past) f) ≡ opens_now s.role f.dlci past (Got f)
+  pub opened : says_open (noted_of s.role (station_view s past) f) ≡ opens_now s.role f.dlci past (Got f)
   -- Info: it is data of a connection that is open
-  pub info : says_info (noted_of s.role (seen s past) f) ≡ (is_data_frame f && is_open s.role f.dlci past)
+  pub info :
+      says_info (noted_of s.role (station_view s past) f) ≡ (is_data_frame f && is_open s.role f.dlci past)
   -- AllClosed: every connection is Shut after it; and so it is noted where 0 was open and isn't any more
-  pub all_shut : noted_of s.role (seen s past) f ≡ AllClosed → (d : ℕ) → d < 62 → state_of s.role d (Got f ∷ past) ≡ IsShut
-  pub closes_all : is_open s.role 0 past ≡ true → is_open s.role 0 (Got f ∷ past) ≡ false → noted_of s.role (seen s past) f ≡ AllClosed
+  pub all_shut :
+      noted_of s.role (station_view s past) f ≡ AllClosed → (d : ℕ) → d < 62
+      → state_of s.role d (Got f ∷ past) ≡ IsShut
+  pub closes_all :
+      is_open s.role 0 past ≡ true → is_open s.role 0 (Got f ∷ past) ≡ false
+      → noted_of s.role (station_view s past) f ≡ AllClosed
 
 -- in each past that a station fits
 abbrev pub NotedTruly : Station → List Act → Frame → Type 0
-NotedTruly v past f = Fits v past → length v.channels ≡ 62 → f.dlci < 62 → NotesWhatHappens (setting_of v) past f
+NotedTruly v past f =
+    StationFits v past → length v.channels ≡ 62 → f.dlci < 62 → NotesWhatHappens (setting_of v) past f

@@ -22,8 +22,8 @@ joined_octets brings (a ∷ acts) = joined_octets brings acts ++ brings a
 abbrev pub offered : Role → ℕ → List Act → List ℕ
 offered r d past = joined_octets (octets_offered d) (since r d past)
 
-abbrev pub given : Role → ℕ → List Act → List ℕ
-given r d past = joined_octets (octets_sent d) (since r d past)
+abbrev pub data_out : Role → ℕ → List Act → List ℕ
+data_out r d past = joined_octets (octets_sent d) (since r d past)
 
 -- the connection that last sent data, in the whole past; at first 0, which sends none
 abbrev pub last_sender : List Act → ℕ

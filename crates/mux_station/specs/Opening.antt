@@ -8,19 +8,19 @@ use Rattle.mux_station.specs.Written.{is_on}
 use Rattle.mux_station.specs.Messages.{cld, brings_command}
 use Rattle.mux_station.specs.Acts.{Act, Got, Sent, Lost}
 
--- whether some act opened d and none ended it since; and whether its last word is a SABM that was sent
+-- whether some act opened d and none ended it since; and whether its last mode frame is a SABM that was sent
 pub record Standing : Type 0 where
   pub is_open : Bool
   pub is_asked : Bool
 
 -- a SABM, UA, DM or DISC on d
-abbrev pub is_word_on : ℕ → Frame → Bool
-is_word_on d f = is_on Sabm d f || (is_on Ua d f || (is_on Dm d f || is_on Disc d f))
+abbrev pub is_mode_frame_on : ℕ → Frame → Bool
+is_mode_frame_on d f = is_on Sabm d f || (is_on Ua d f || (is_on Dm d f || is_on Disc d f))
 
-abbrev pub is_word : ℕ → Act → Bool
-is_word d (Got f) = is_word_on d f
-is_word d (Sent f) = is_word_on d f
-is_word d _ = false
+abbrev pub is_mode_frame : ℕ → Act → Bool
+is_mode_frame d (Got f) = is_mode_frame_on d f
+is_mode_frame d (Sent f) = is_mode_frame_on d f
+is_mode_frame d _ = false
 
 -- the act asks the other end to open d
 abbrev pub asks : ℕ → Act → Bool
@@ -31,7 +31,8 @@ asks d _ = false
 abbrev pub ends_itself : Bool → ℕ → Act → Bool
 ends_itself zero d Lost = true
 ends_itself zero d (Sent f) = is_on Disc d f || brings_command cld f
-ends_itself zero d (Got f) = is_on Disc d f || (is_on Dm d f || (is_on Sabm d f || (zero && brings_command cld f)))
+ends_itself zero d (Got f) =
+    is_on Disc d f || (is_on Dm d f || (is_on Sabm d f || (zero && brings_command cld f)))
 ends_itself zero d _ = false
 
 -- what ends 0 ends all
@@ -47,7 +48,7 @@ opens _ zero asked d _ = false
 abbrev pub standing_after : Role → Bool → ℕ → Standing → Act → Standing
 standing_after r zero d s a = record {
   is_open = opens r zero s.is_asked d a || (s.is_open && not (ends zero d a));
-  is_asked = asks d a || (s.is_asked && not (is_word d a || ends zero d a));
+  is_asked = asks d a || (s.is_asked && not (is_mode_frame d a || ends zero d a));
 }
 
 -- how 0 and d stand

@@ -19,7 +19,8 @@ out k d info = written Responder k d info
 
 abbrev pub of_a_responder : List Step
 of_a_responder =
-    -- while 0 is shut a SABM on another connection is refused; then 0, 1 and 2 are opened, each told its signals
+    -- while 0 is shut a SABM on another connection is refused; then 0, 1 and 2 are opened, each told its
+    -- signals
     comes (come Sabm 1 []) Nothing (out Dm 1 [] ∷ []) (stands IsShut IsShut IsShut [] None)
     ∷ comes (come Sabm 0 []) Opened (out Ua 0 [] ∷ []) (stands IsOpened IsShut IsShut [] None)
     ∷ comes (come Sabm 1 []) Opened (out Ua 1 [] ∷ out Uih 0 (227 ∷ 5 ∷ 7 ∷ 141 ∷ []) ∷ [])
@@ -35,7 +36,8 @@ of_a_responder =
     (stands IsOpened IsOpened IsOpened (1 ∷ 2 ∷ []) (waiting (65 ∷ []) 0))
     ∷ comes (come Sabm 1 []) Reset (out Ua 1 [] ∷ out Uih 0 (227 ∷ 5 ∷ 7 ∷ 141 ∷ []) ∷ [])
     (stands IsOpened IsOpened IsOpened (1 ∷ 2 ∷ []) (waiting (65 ∷ []) 0))
-    -- an MSC stops its connection alone; a SABM on 0 opens 0 afresh, forgets stops and probe and shuts all others
+    -- an MSC stops its connection alone; a SABM on 0 opens 0 afresh, forgets stops and probe and shuts all
+    -- others
     ∷ comes (come Uih 0 (227 ∷ 5 ∷ 11 ∷ 143 ∷ [])) Nothing (out Uih 0 (225 ∷ 5 ∷ 11 ∷ 143 ∷ []) ∷ [])
     (stands IsOpened IsOpened IsOpened (1 ∷ 2 ∷ []) (waiting (65 ∷ []) 0))
     ∷ comes (come Sabm 0 []) Reset (out Ua 0 [] ∷ []) (stands IsOpened IsShut IsShut [] None)

@@ -6,17 +6,18 @@ use Rattle.mux_station.specs.declared.role.Role.{Role}
 use Rattle.mux_station.specs.Acts.{Act}
 use Rattle.mux_station.specs.Opening.{is_open}
 use Rattle.mux_station.specs.Stopping.{is_stopped}
-use Rattle.mux_station.specs.Offering.{offered, given, last_sender}
-use Rattle.mux_station.specs.Sending.{Setting, queue}
+use Rattle.mux_station.specs.Offering.{offered, data_out, last_sender}
+use Rattle.mux_station.specs.Sending.{StationSetting, queue}
 use Rattle.mux_station.specs.Stations.{Station, setting_of}
-use Rattle.mux_station.specs.Fitting.{Fits}
+use Rattle.mux_station.specs.Fitting.{StationFits}
 use Rattle.mux_station.specs.Giving.{next_sender}
 
--- data may leave d: it is open and not stopped, and of what was offered on it since it opened some wasn't given on yet
+-- data may leave d: it is open and not stopped, and of what was offered on it since it opened some wasn't
+-- given on yet
 abbrev pub has_data : Role → List Act → ℕ → Bool
 has_data r past d =
     is_open r d past
-    && (not (is_stopped r d past) && nat_lt (length (given r d past)) (length (offered r d past)))
+    && (not (is_stopped r d past) && nat_lt (length (data_out r d past)) (length (offered r d past)))
 
 -- in which order connections have their turn after one of them: those above it, then from 1 on
 abbrev pub turns_after : ℕ → List ℕ
@@ -32,9 +33,9 @@ where_none_waits [] turn = turn
 where_none_waits (f ∷ fs) turn = None
 
 -- whose data is next
-abbrev pub sender_of : Setting → List Act → Option ℕ
+abbrev pub sender_of : StationSetting → List Act → Option ℕ
 sender_of s past = where_none_waits (queue past) (turn_of s.role past)
 
 -- whose data is next at a station is what each past that it fits says
 unfoldable pub SeesTheTurn : Station → List Act → Type 0
-SeesTheTurn v past = Fits v past → next_sender v v.queue ≡ sender_of (setting_of v) past
+SeesTheTurn v past = StationFits v past → next_sender v v.queue ≡ sender_of (setting_of v) past

@@ -14,11 +14,11 @@ use Rattle.mux_station.specs.Acts.{Call, Open, Close, Probe, Stop, Flow, Offer, 
 use Rattle.mux_station.specs.Opening.{is_open, opens_now}
 use Rattle.mux_station.specs.States.{State, is_opened, is_shut, state_of}
 use Rattle.mux_station.specs.Stopping.{is_stopped}
-use Rattle.mux_station.specs.Offering.{offered, given}
+use Rattle.mux_station.specs.Offering.{offered, data_out}
 use Rattle.mux_station.specs.Tables.{message_frame, msc_frame, ready, held_up, by_frame, by_tick, have_room, octets_of}
 
 -- whose history it is
-pub record Setting : Type 0 where
+pub record StationSetting : Type 0 where
   pub role : Role
   pub n1 : ℕ
 
@@ -28,7 +28,7 @@ pub record Waiting : Type 0 where
   pub ticks : ℕ
 
 -- what a call sees of the past
-pub record Seen : Type 0 where
+pub record StationView : Type 0 where
   pub state : ℕ → State
   -- the octets that wait in the control queue
   pub queued : ℕ
@@ -37,18 +37,18 @@ pub record Seen : Type 0 where
 -- ## Calls
 
 -- the frame that a call asks to be sent
-abbrev pub asking : Role → Call → List Frame
-asking r (Open d) = written r Sabm d [] ∷ []
-asking r (Close d) = written r Disc d [] ∷ []
-asking r (Probe octets) = message_frame r test octets ∷ []
-asking r Stop = message_frame r cld [] ∷ []
-asking r (Flow d go) =
+abbrev pub frames_asked : Role → Call → List Frame
+frames_asked r (Open d) = written r Sabm d [] ∷ []
+frames_asked r (Close d) = written r Disc d [] ∷ []
+frames_asked r (Probe octets) = message_frame r test octets ∷ []
+frames_asked r Stop = message_frame r cld [] ∷ []
+frames_asked r (Flow d go) =
     if d == 0 then message_frame r (if go then 0xa3 else 0x63) [] ∷ []
     else msc_frame r d (if go then ready else held_up) ∷ []
-asking r (Offer d octets) = []
+frames_asked r (Offer d octets) = []
 
 -- why a call is refused for the states, each list in its order; how much is offered is not spoken of here
-abbrev pub refused_by_state : Seen → Call → Option StationError
+abbrev pub refused_by_state : StationView → Call → Option StationError
 refused_by_state v (Open d) =
     if not (d == 0) && not (is_opened (v.state 0)) then Some NotOpen
     else if is_opened (v.state d) then Some AlreadyOpen
@@ -65,38 +65,39 @@ refused_by_state v (Probe octets) =
     else if is_some v.probe then Some Busy
     else None
 refused_by_state v Stop = if not (is_opened (v.state 0)) then Some NotOpen else None
-refused_by_state v (Flow d go) = if not (is_opened (v.state d) && is_opened (v.state 0)) then Some NotOpen else None
+refused_by_state v (Flow d go) =
+    if not (is_opened (v.state d) && is_opened (v.state 0)) then Some NotOpen else None
 refused_by_state v (Offer d octets) =
     if d == 0 then Some ControlChannel
     else if not (is_opened (v.state d)) then Some NotOpen
     else None
 
 -- no place in the control queue for all frames that are called for
-abbrev pub without_room : Setting → Seen → List Frame → Option StationError
+abbrev pub without_room : StationSetting → StationView → List Frame → Option StationError
 without_room s v fs = if have_room s.n1 v.queued fs then None else Some NoRoom
 
 -- which is the last refusal
-abbrev pub if_no_room : Setting → Seen → Call → Option StationError
-if_no_room s v c = without_room s v (asking s.role c)
+abbrev pub if_no_room : StationSetting → StationView → Call → Option StationError
+if_no_room s v c = without_room s v (frames_asked s.role c)
 
 abbrev pub or_else : Option StationError → Option StationError → Option StationError
 or_else None o = o
 or_else (Some e) o = Some e
 
 -- why a call is refused
-abbrev pub refused : Setting → Seen → Call → Option StationError
+abbrev pub refused : StationSetting → StationView → Call → Option StationError
 refused s v c = or_else (refused_by_state v c) (if_no_room s v c)
 
 -- why a frame that comes is refused
-abbrev pub got_refused : Setting → Seen → Frame → Option StationError
+abbrev pub got_refused : StationSetting → StationView → Frame → Option StationError
 got_refused s v f = without_room s v (by_frame s.role v.state f)
 
 -- the frames that an act calls for
-abbrev pub calls_seeing : Setting → Seen → Act → List Frame
-calls_seeing s v (Called c) = if is_none (refused s v c) then asking s.role c else []
-calls_seeing s v (Got f) = by_frame s.role v.state f
-calls_seeing s v Tick = by_tick s.role s.n1 v.state v.queued
-calls_seeing s v _ = []
+abbrev pub frames_seeing : StationSetting → StationView → Act → List Frame
+frames_seeing s v (Called c) = if is_none (refused s v c) then frames_asked s.role c else []
+frames_seeing s v (Got f) = by_frame s.role v.state f
+frames_seeing s v Tick = by_tick s.role s.n1 v.state v.queued
+frames_seeing s v _ = []
 
 -- ## What a call sees
 
@@ -124,10 +125,11 @@ abbrev pub refuses_probe : Option Message → Bool
 refuses_probe None = false
 refuses_probe (Some m) = (command_of m.octet == nsc) && names_test m.value
 
-abbrev pub probe_after : Setting → (stays : Bool) → Option Waiting → Act → Option Waiting
+abbrev pub probe_after : StationSetting → (stays : Bool) → Option Waiting → Act → Option Waiting
 probe_after s stays None a = None
 probe_after s stays (Some w) (Got f) =
-    if stays && not (brings_probe_back w.data_octets (message_in f) || refuses_probe (message_in f)) then Some w else None
+    if stays && not (brings_probe_back w.data_octets (message_in f) || refuses_probe (message_in f))
+    then Some w else None
 probe_after s stays (Some w) Tick = if w.ticks == 3 then None else Some (record w { ticks = w.ticks + 1 })
 probe_after s stays (Some w) a = if stays then Some w else None
 
@@ -135,73 +137,76 @@ abbrev pub probe_begun : Option StationError → Act → Option Waiting → Opti
 probe_begun None (Called (Probe octets)) o = Some (record { data_octets = octets; ticks = 0 })
 probe_begun refusal a o = o
 
-abbrev pub refused_act : Setting → Seen → Act → Option StationError
+abbrev pub refused_act : StationSetting → StationView → Act → Option StationError
 refused_act s v (Called c) = refused s v c
 refused_act s v a = None
 
 -- 0 stays open: it is Opened after the act, which didn't open it anew
-abbrev pub zero_stays : Setting → List Act → Act → Bool
+abbrev pub zero_stays : StationSetting → List Act → Act → Bool
 zero_stays s past a = is_opened (state_of s.role 0 (a ∷ past)) && not (opens_now s.role 0 past a)
 
 -- the probe that waits
-abbrev pub probe_of : Setting → List Act → Option Waiting
+abbrev pub probe_of : StationSetting → List Act → Option Waiting
 probe_of s [] = None
 probe_of s (a ∷ past) =
     let before = probe_of s past in
-    let v : Seen = record { state = λ d. state_of s.role d past; queued = octets_of (queue past); probe = before } in
+    let v : StationView =
+    record { state = λ d. state_of s.role d past; queued = octets_of (queue past); probe = before } in
     probe_begun (refused_act s v a) a (probe_after s (zero_stays s past a) before a)
 
-abbrev pub seen : Setting → List Act → Seen
-seen s past = record { state = λ d. state_of s.role d past; queued = octets_of (queue past); probe = probe_of s past }
+abbrev pub station_view : StationSetting → List Act → StationView
+station_view s past =
+    record { state = λ d. state_of s.role d past; queued = octets_of (queue past); probe = probe_of s past }
 
 abbrev pub is_loss : Act → Bool
 is_loss Lost = true
 is_loss _ = false
 
 -- nothing is called for once the line is lost
-abbrev pub calls : Setting → List Act → Act → List Frame
-calls s past a = if list_any is_loss past then [] else calls_seeing s (seen s past) a
+abbrev pub called_frames : StationSetting → List Act → Act → List Frame
+called_frames s past a = if list_any is_loss past then [] else frames_seeing s (station_view s past) a
 
 -- ## The laws
 
--- what was called for and doesn't stand in the past yet, in order; a loss of the line leaves nothing to be sent
-abbrev pub owed : Setting → List Act → List Frame
-owed s [] = []
-owed s (Sent f ∷ past) = if is_data_frame f then owed s past else drop 1 (owed s past)
-owed s (Lost ∷ past) = []
-owed s (a ∷ past) = owed s past ++ calls s past a
+-- what was called for and doesn't stand in the past yet, in order; a loss of the line leaves nothing to be
+-- sent
+abbrev pub owed_frames : StationSetting → List Act → List Frame
+owed_frames s [] = []
+owed_frames s (Sent f ∷ past) = if is_data_frame f then owed_frames s past else drop 1 (owed_frames s past)
+owed_frames s (Lost ∷ past) = []
+owed_frames s (a ∷ past) = owed_frames s past ++ called_frames s past a
 
--- data leaves an open connection that isn't stopped, in a frame as this role writes it, behind all that is owed; it is the
--- octets that were offered next
-pub record Gated (s : Setting) (past : List Act) (f : Frame) : Type 0 where
+-- data leaves an open connection that isn't stopped, in a frame as this role writes it, behind all that is
+-- owed; it is the octets that were offered next
+pub record StationGated (s : StationSetting) (past : List Act) (f : Frame) : Type 0 where
   pub live : IsTrue (not (list_any is_loss past))
   pub is_open : IsTrue (is_open s.role f.dlci past)
   pub goes : IsTrue (not (is_stopped s.role f.dlci past))
   pub as_written : f ≡ written s.role Uih f.dlci f.info
   pub some : IsTrue (nat_le 1 (length f.info))
   pub fits : IsTrue (nat_le (length f.info) s.n1)
-  pub behind : owed s past ≡ []
+  pub behind : owed_frames s past ≡ []
   pub later : List ℕ
-  pub is_offered : offered s.role f.dlci past ≡ given s.role f.dlci past ++ f.info ++ later
+  pub is_offered : offered s.role f.dlci past ≡ data_out s.role f.dlci past ++ f.info ++ later
 
 -- a frame that is no data is the next one owed
-pub record Controlled (s : Setting) (past : List Act) (f : Frame) : Type 0 where
+pub record Controlled (s : StationSetting) (past : List Act) (f : Frame) : Type 0 where
   pub later : List Frame
-  pub is_next : owed s past ≡ f ∷ later
+  pub is_next : owed_frames s past ≡ f ∷ later
 
-unfoldable pub Sends : Setting → List Act → Frame → Bool → Type 0
-Sends s past f true = Gated s past f
+unfoldable pub Sends : StationSetting → List Act → Frame → Bool → Type 0
+Sends s past f true = StationGated s past f
 Sends s past f false = Controlled s past f
 
 -- each frame might be sent after what went before it
-unfoldable pub Lawful : Setting → List Act → Type 0
-Lawful s [] = Unit {0}
-Lawful s (Sent f ∷ past) = Sends s past f (is_data_frame f) × Lawful s past
-Lawful s (a ∷ past) = Lawful s past
+unfoldable pub StationLawful : StationSetting → List Act → Type 0
+StationLawful s [] = Unit {0}
+StationLawful s (Sent f ∷ past) = Sends s past f (is_data_frame f) × StationLawful s past
+StationLawful s (a ∷ past) = StationLawful s past
 
 -- nothing is owed
-unfoldable pub Complete : Setting → List Act → Type 0
-Complete s past = owed s past ≡ []
+unfoldable pub StationComplete : StationSetting → List Act → Type 0
+StationComplete s past = owed_frames s past ≡ []
 
 -- ## What the laws come to
 
@@ -211,23 +216,26 @@ sent_after [] past = past
 sent_after (f ∷ fs) past = sent_after fs (Sent f ∷ past)
 
 -- the past after an act and the frames that it calls for
-abbrev pub answered : Setting → List Act → Act → List Act
-answered s past a = sent_after (calls s past a) (a ∷ past)
+abbrev pub after_act : StationSetting → List Act → Act → List Act
+after_act s past a = sent_after (called_frames s past a) (a ∷ past)
 
 abbrev pub is_sent : Act → Bool
 is_sent (Sent f) = true
 is_sent _ = false
 
 -- an act that is followed by all that it calls for keeps a past lawful and complete
-pub record AnswersKeep (s : Setting) (past : List Act) (a : Act) : Type 0 where
-  pub lawful : is_sent a ≡ false → Lawful s past → Complete s past → Lawful s (answered s past a)
-  pub complete : is_sent a ≡ false → Lawful s past → Complete s past → Complete s (answered s past a)
+pub record AnswersKeep (s : StationSetting) (past : List Act) (a : Act) : Type 0 where
+  pub lawful :
+      is_sent a ≡ false → StationLawful s past → StationComplete s past → StationLawful s (after_act s past a)
+  pub complete :
+      is_sent a ≡ false → StationLawful s past → StationComplete s past
+      → StationComplete s (after_act s past a)
 
 -- nothing is sent once the line is lost
-abbrev pub NoneAfterLoss : Setting → List Act → Type 0
-NoneAfterLoss s past = (f : Frame) → list_any is_loss past ≡ true → ¬ Lawful s (Sent f ∷ past)
+abbrev pub NoFrameAfterLoss : StationSetting → List Act → Type 0
+NoFrameAfterLoss s past = (f : Frame) → list_any is_loss past ≡ true → ¬ StationLawful s (Sent f ∷ past)
 
 -- of what was offered on d since it opened, what was given on is the beginning
-pub record GivesBeginning (s : Setting) (d : ℕ) (past : List Act) : Type 0 where
+pub record GivesBeginning (s : StationSetting) (d : ℕ) (past : List Act) : Type 0 where
   pub rest : List ℕ
-  pub joins : given s.role d past ++ rest ≡ offered s.role d past
+  pub joins : data_out s.role d past ++ rest ≡ offered s.role d past

@@ -89,7 +89,8 @@ own_after r d at_zero s (Sent f) =
     else if f.dlci == d then at_sent s f.kind else s
 own_after r d at_zero s (Got f) =
     if f.dlci == d
-    then (if d == 0 then at_close_down (brings_command cld f) (brings_response cld f) (got_by r true s f.kind) else got_by r at_zero s f.kind)
+    then (if d == 0 then at_close_down (brings_command cld f) (brings_response cld f) (got_by r true s f.kind)
+    else got_by r at_zero s f.kind)
     else s
 own_after r d at_zero s _ = s
 
@@ -101,7 +102,12 @@ pub record States : Type 0 where
 -- what ends 0 makes every other connection Shut, whatever its state
 abbrev pub joined : Role → ℕ → States → State → Act → States
 joined r d s channel a =
-    record { zero = channel; own = if d == 0 then channel else (if ends_itself (is_opened s.zero) 0 a then IsShut else own_after r d (is_opened s.zero) s.own a) }
+    record {
+      zero = channel;
+      own = if d == 0 then channel
+          else if ends_itself (is_opened s.zero) 0 a then IsShut
+          else own_after r d (is_opened s.zero) s.own a;
+    }
 
 abbrev pub states_after : Role → ℕ → States → Act → States
 states_after r d s a = joined r d s (own_after r 0 true s.zero a) a

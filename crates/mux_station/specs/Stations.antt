@@ -6,9 +6,9 @@ use Rattle.mux_station.specs.States.{State, IsShut, IsStopping, is_opened}
 use Rattle.mux_station.specs.declared.error.StationError.{StationError}
 use Rattle.mux_station.specs.declared.error.StationError.TheVariants.{NoRoom}
 use Rattle.mux_station.specs.Messages.{test, cld}
-use Rattle.mux_station.specs.Acts.{Offer}
+use Rattle.mux_station.specs.Acts.{Call, Offer}
 use Rattle.mux_station.specs.Tables.{octets_of, message_frame}
-use Rattle.mux_station.specs.Sending.{Setting, Seen, Waiting, refused, or_else}
+use Rattle.mux_station.specs.Sending.{StationSetting, StationView, Waiting, got_refused, refused, or_else, without_room}
 
 -- one connection: its state, its own stop, and the octets in its send ring
 pub record Channel : Type 0 where
@@ -19,7 +19,8 @@ pub record Channel : Type 0 where
 abbrev pub shut_channel : Channel
 shut_channel = record { state = IsShut; is_stopped = false; waiting = [] }
 
--- the connections 0 to 61, the stop of all, the probe that waits, the control queue, and the connection that last sent data
+-- the connections 0 to 61, the stop of all, the probe that waits, the control queue, and the connection that
+-- last sent data
 pub record Station : Type 0 where
   pub role : Role
   pub n1 : ℕ
@@ -33,14 +34,32 @@ abbrev pub channel_at : Station → ℕ → Channel
 channel_at v d = slice_index_or v.channels d shut_channel
 
 abbrev pub new_station : Role → ℕ → Station
-new_station r n1 = record { role = r; n1 = n1; channels = replicate 62 shut_channel; all_stopped = false; probe = None; queue = []; last = 0 }
+new_station r n1 = record {
+  role = r;
+  n1 = n1;
+  channels = replicate 62 shut_channel;
+  all_stopped = false;
+  probe = None;
+  queue = [];
+  last = 0;
+}
 
-abbrev pub setting_of : Station → Setting
+abbrev pub setting_of : Station → StationSetting
 setting_of v = record { role = v.role; n1 = v.n1 }
 
 -- what a call sees
-abbrev pub seen_in : Station → Seen
+abbrev pub seen_in : Station → StationView
 seen_in v = record { state = λ d. (channel_at v d).state; queued = octets_of v.queue; probe = v.probe }
+
+-- by what it keeps: why it refuses a call, why a frame that comes, and why these frames for its control queue
+abbrev pub refused_in : Station → Call → Option StationError
+refused_in v c = refused (setting_of v) (seen_in v) c
+
+abbrev pub frame_refused_in : Station → Frame → Option StationError
+frame_refused_in v f = got_refused (setting_of v) (seen_in v) f
+
+abbrev pub without_room_in : Station → List Frame → Option StationError
+without_room_in v fs = without_room (setting_of v) (seen_in v) fs
 
 -- d is stopped by its own stop or by that of all
 abbrev pub stopped_in : Station → ℕ → Bool
@@ -66,7 +85,9 @@ probed_in v octets = record v {
 -- 0 is Stopping, every other connection Shut, and a CLD command was put into the control queue
 abbrev pub stopping_in : Station → Station
 stopping_in v = record v {
-  channels = slice_set (replicate 62 shut_channel) 0 (record { state = IsStopping 0; is_stopped = false; waiting = [] });
+  channels =
+      slice_set (replicate 62 shut_channel) 0
+      (record { state = IsStopping 0; is_stopped = false; waiting = [] });
   probe = None;
   queue = v.queue ++ message_frame v.role cld [] ∷ [];
 }
@@ -74,9 +95,12 @@ stopping_in v = record v {
 -- why an offer is refused: no place in the send ring of 1024 octets is the last refusal
 abbrev pub offer_refused : Station → ℕ → List ℕ → Option StationError
 offer_refused v d octets =
-    or_else (refused (setting_of v) (seen_in v) (Offer d octets))
+    or_else (refused_in v (Offer d octets))
     (if nat_le (length (channel_at v d).waiting + length octets) 1024 then None else Some NoRoom)
 
 -- the octets wait in d's send ring
 abbrev pub offered_in : Station → ℕ → List ℕ → Station
-offered_in v d octets = record v { channels = slice_set v.channels d (record (channel_at v d) { waiting = (channel_at v d).waiting ++ octets }) }
+offered_in v d octets = record v {
+  channels =
+      slice_set v.channels d (record (channel_at v d) { waiting = (channel_at v d).waiting ++ octets });
+}

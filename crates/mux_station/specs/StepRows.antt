@@ -8,7 +8,7 @@ use Rattle.mux_station.specs.declared.noted.Noted.{Noted}
 use Rattle.mux_station.specs.Acts.{Call, Act, Called, Got, Tick}
 use Rattle.mux_station.specs.States.{State, state_of}
 use Rattle.mux_station.specs.Stopping.{is_stopped}
-use Rattle.mux_station.specs.Sending.{Setting, Waiting, calls, seen, refused, probe_of, answered}
+use Rattle.mux_station.specs.Sending.{StationSetting, Waiting, called_frames, station_view, refused, probe_of, after_act}
 use Rattle.mux_station.specs.Noting.{noted_of}
 
 -- what is done
@@ -64,25 +64,25 @@ waiting octets n = Some (record { data_octets = octets; ticks = n })
 
 -- ## The rows of the definitions
 
-abbrev pub setting_of : Role → Setting
-setting_of r = record { role = r; n1 = 31 }
+abbrev pub row_setting : Role → StationSetting
+row_setting r = record { role = r; n1 = 31 }
 
 abbrev pub stand_of : Role → List Act → Stand
 stand_of r past = record {
   states = map (λ (d : ℕ). state_of r d past) (0 ∷ 1 ∷ 2 ∷ []);
   stopped = map (λ (d : ℕ). is_stopped r d past) (0 ∷ 1 ∷ 2 ∷ []);
-  probe = probe_of (setting_of r) past;
+  probe = probe_of (row_setting r) past;
 }
 
 -- the past after an act and the frames that it calls for
 abbrev pub past_after : Role → List Act → Act → List Act
-past_after r past a = answered (setting_of r) past a
+past_after r past a = after_act (row_setting r) past a
 
 abbrev pub by_act : Role → List Act → Doing → Outcome → Act → Step
 by_act r past doing outcome a = record {
   doing = doing;
   outcome = outcome;
-  frames = calls (setting_of r) past a;
+  frames = called_frames (row_setting r) past a;
   stand = Some (stand_of r (past_after r past a));
 }
 
@@ -91,8 +91,9 @@ by_call r past c (Some e) = refuses c e
 by_call r past c None = by_act r past (Asks c) Does (Called c)
 
 abbrev pub step_of : Role → List Act → Doing → Step
-step_of r past (Comes f) = by_act r past (Comes f) (Notes (noted_of r (seen (setting_of r) past) f)) (Got f)
-step_of r past (Asks c) = by_call r past c (refused (setting_of r) (seen (setting_of r) past) c)
+step_of r past (Comes f) =
+    by_act r past (Comes f) (Notes (noted_of r (station_view (row_setting r) past) f)) (Got f)
+step_of r past (Asks c) = by_call r past c (refused (row_setting r) (station_view (row_setting r) past) c)
 step_of r past Ticks = by_act r past Ticks Does Tick
 
 abbrev pub unless_refused : Role → List Act → Call → Option StationError → List Act
@@ -101,7 +102,8 @@ unless_refused r past c None = past_after r past (Called c)
 
 abbrev pub next_past : Role → List Act → Doing → List Act
 next_past r past (Comes f) = past_after r past (Got f)
-next_past r past (Asks c) = unless_refused r past c (refused (setting_of r) (seen (setting_of r) past) c)
+next_past r past (Asks c) =
+    unless_refused r past c (refused (row_setting r) (station_view (row_setting r) past) c)
 next_past r past Ticks = past_after r past Tick
 
 abbrev pub steps_from : Role → List Act → List Doing → List Step

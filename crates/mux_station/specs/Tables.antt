@@ -51,7 +51,8 @@ by_table r d channel own _ = []
 
 -- the response to a command: the same value, and NSC to a type that isn't supported
 abbrev pub is_supported : ℕ → Bool
-is_supported octet = (octet == test) || ((octet == fcoff) || ((octet == fcon) || ((octet == cld) || (octet == msc))))
+is_supported octet =
+    (octet == test) || ((octet == fcoff) || ((octet == fcon) || ((octet == cld) || (octet == msc))))
 
 abbrev pub response : Role → Message → List Frame
 response r m =
@@ -71,7 +72,8 @@ by_message r _ f = []
 
 -- what a frame calls for
 abbrev pub by_frame : Role → (ℕ → State) → Frame → List Frame
-by_frame r state f = if is_on Uih 0 f then by_message r (state 0) f else by_table r f.dlci (state 0) (state f.dlci) f.kind
+by_frame r state f =
+    if is_on Uih 0 f then by_message r (state 0) f else by_table r f.dlci (state 0) (state f.dlci) f.kind
 
 -- ## Room and ticks
 
@@ -102,7 +104,8 @@ abbrev pub if_room : ℕ → ℕ → Option Frame → List Frame
 if_room n1 queued None = []
 if_room n1 queued (Some f) = if has_room n1 queued f then f ∷ [] else []
 
--- over so many connections from d on, behind what this tick queued already; one whose frame doesn't fit is left out
+-- over so many connections from d on, behind what this tick queued already; one whose frame doesn't fit is
+-- left out
 abbrev pub ticked : Role → ℕ → (ℕ → State) → ℕ → ℕ → ℕ → List Frame
 ticked r n1 state queued d zero = []
 ticked r n1 state queued d (suc count) =

@@ -27,7 +27,8 @@ abbrev pub given_up : Role → ℕ → (ℕ → State) → ℕ → ℕ → ℕ �
 given_up r n1 state queued d zero = []
 given_up r n1 state queued d (suc count) =
     let here = if_room n1 queued (again r d (state d)) in
-    (if gives_up (state d) here then UpChannel d ∷ [] else []) ++ given_up r n1 state (queued + octets_of here) (d + 1) count
+    (if gives_up (state d) here then UpChannel d ∷ [] else [])
+    ++ given_up r n1 state (queued + octets_of here) (d + 1) count
 
 -- the probe is given up at its fourth tick
 abbrev pub probe_up : Option Waiting → List Up
@@ -44,7 +45,9 @@ noticed v = given_up_in v 0 62 ++ probe_up v.probe
 -- ## The station
 
 abbrev pub turned_in : Station → ℕ → State → Station
-turned_in v d state = record v { channels = slice_set v.channels d (record { state = state; is_stopped = false; waiting = [] }) }
+turned_in v d state = record v {
+  channels = slice_set v.channels d (record { state = state; is_stopped = false; waiting = [] });
+}
 
 -- the frame is queued and d turned where it fits
 abbrev pub asked_if : Station → ℕ → State → Frame → Station
@@ -53,8 +56,11 @@ asked_if v d state f = if has_room v.n1 (octets_of v.queue) f then asked_in v d 
 abbrev pub ticked_by : Station → ℕ → State → Station
 ticked_by v d IsShut = v
 ticked_by v d IsOpened = v
-ticked_by v d (IsOpening n) = if n == 3 then asked_if v d IsShut (written v.role Disc d []) else asked_if v d (IsOpening (n + 1)) (written v.role Sabm d [])
-ticked_by v d (IsClosing n) = if n == 3 then turned_in v d IsShut else asked_if v d (IsClosing (n + 1)) (written v.role Disc d [])
+ticked_by v d (IsOpening n) =
+    if n == 3 then asked_if v d IsShut (written v.role Disc d [])
+    else asked_if v d (IsOpening (n + 1)) (written v.role Sabm d [])
+ticked_by v d (IsClosing n) =
+    if n == 3 then turned_in v d IsShut else asked_if v d (IsClosing (n + 1)) (written v.role Disc d [])
 ticked_by v d (IsStopping n) = turned_in v d (if n == 3 then IsShut else IsStopping (n + 1))
 
 abbrev pub ticked_one : Station → ℕ → Station

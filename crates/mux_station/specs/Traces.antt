@@ -6,7 +6,7 @@ use Rattle.mux_station.specs.Opening.{standings, since}
 use Rattle.mux_station.specs.States.{states}
 use Rattle.mux_station.specs.Stopping.{is_stopped}
 use Rattle.mux_station.specs.Sending.{queue}
-use Rattle.mux_station.specs.Offering.{given}
+use Rattle.mux_station.specs.Offering.{data_out}
 
 -- the acts without the calls among them
 abbrev pub without_calls : List Act → List Act
@@ -14,11 +14,12 @@ without_calls [] = []
 without_calls (Called c ∷ past) = without_calls past
 without_calls (a ∷ past) = a ∷ without_calls past
 
--- the calls themselves change no state, no opening and no stop, nor what waits in the control queue and what was given on
+-- the calls themselves change no state, no opening and no stop, nor what waits in the control queue and what
+-- was given on
 pub record LeavesNoTrace (r : Role) (d : ℕ) (past : List Act) : Type 0 where
   pub states_same : states r d (without_calls past) ≡ states r d past
   pub standings_same : standings r d (without_calls past) ≡ standings r d past
   pub since_same : since r d (without_calls past) ≡ without_calls (since r d past)
   pub stopped_same : is_stopped r d (without_calls past) ≡ is_stopped r d past
   pub queue_same : queue (without_calls past) ≡ queue past
-  pub given_same : given r d (without_calls past) ≡ given r d past
+  pub given_same : data_out r d (without_calls past) ≡ data_out r d past

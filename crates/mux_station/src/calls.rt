@@ -5,11 +5,11 @@ ghost use Rattle.mux_station.specs.Acts.{Open, Close, Probe, Stop, Flow, Offer, 
 ghost use Rattle.mux_station.specs.States.{IsOpening, IsClosing, is_opened};
 ghost use Rattle.mux_station.specs.Tables.{octets_of, have_room};
 ghost use Rattle.mux_station.specs.Written.{written};
-ghost use Rattle.mux_station.specs.Sending.{refused, refused_by_state, asking};
+ghost use Rattle.mux_station.specs.Sending.{refused_by_state, frames_asked};
 ghost use Rattle.mux_station.specs.ControlFrames.{control_frame};
 ghost use Rattle.mux_station.specs.Stages.{stage_state};
-ghost use Rattle.mux_station.specs.Stations.{setting_of, seen_in, channel_at, shut_channel, asked_in, probed_in, stopping_in, offer_refused, offered_in};
-ghost use Rattle.mux_station.specs.Fitting.{Handles};
+ghost use Rattle.mux_station.specs.Stations.{seen_in, refused_in, channel_at, shut_channel, asked_in, probed_in, stopping_in, offer_refused, offered_in};
+ghost use Rattle.mux_station.specs.Fitting.{StationHandles};
 
 use crate::channel::{Channel, Stage};
 use crate::control_frame::{CLD, ControlFrame, FCOFF, FCON, HELD_UP, READY, TEST};
@@ -36,7 +36,9 @@ impl Station {
 
     /// Whether the frame fits into the control queue: NoRoom where it doesn't.
     pub(crate) fn check_room(&self, frame: &ControlFrame) -> Result<(), StationError>
-        ensures { result_err result ≡ (if have_room self.now.n1 (octets_of self.now.queue) (control_frame frame.now ∷ []) then None else Some StationError.NoRoom) }
+        ensures { result_err result
+            ≡ (if have_room self.now.n1 (octets_of self.now.queue) (control_frame frame.now ∷ []) then None
+            else Some StationError.NoRoom) }
     {
         if self.control.has_room(frame.written_len()) {
             Ok(())
@@ -76,8 +78,9 @@ impl Station {
     }
 
     fn ask_open(&mut self, dlci: Dlci) -> Result<(), StationError>
-        ensures refusal { result_err result ≡ refused (setting_of self.old) (seen_in self.old) (Open dlci.number) }
-        ensures ok { OnOk result (self.new ≡ asked_in self.old dlci.number (IsOpening 0) (written self.old.role Kind.Sabm dlci.number [])) }
+        ensures refusal { result_err result ≡ refused_in self.old (Open dlci.number) }
+        ensures ok { OnOk result (self.new
+            ≡ asked_in self.old dlci.number (IsOpening 0) (written self.old.role Kind.Sabm dlci.number [])) }
         ensures err { OnErr result (self.new ≡ self.old) }
         ensures all { length self.old.channels ≡ 62 }
     {
@@ -93,8 +96,9 @@ impl Station {
     }
 
     fn ask_close(&mut self, dlci: Dlci) -> Result<(), StationError>
-        ensures refusal { result_err result ≡ refused (setting_of self.old) (seen_in self.old) (Close dlci.number) }
-        ensures ok { OnOk result (self.new ≡ asked_in self.old dlci.number (IsClosing 0) (written self.old.role Kind.Disc dlci.number [])) }
+        ensures refusal { result_err result ≡ refused_in self.old (Close dlci.number) }
+        ensures ok { OnOk result (self.new
+            ≡ asked_in self.old dlci.number (IsClosing 0) (written self.old.role Kind.Disc dlci.number [])) }
         ensures err { OnErr result (self.new ≡ self.old) }
         ensures all { length self.old.channels ≡ 62 }
     {
@@ -110,7 +114,7 @@ impl Station {
     }
 
     fn ask_probe(&mut self, octets: &[u8]) -> Result<(), StationError>
-        ensures refusal { result_err result ≡ refused (setting_of self.old) (seen_in self.old) (Probe octets.now) }
+        ensures refusal { result_err result ≡ refused_in self.old (Probe octets.now) }
         ensures ok { OnOk result (self.new ≡ probed_in self.old octets.now) }
         ensures err { OnErr result (self.new ≡ self.old) }
     {
@@ -134,7 +138,7 @@ impl Station {
     }
 
     fn ask_stop(&mut self) -> Result<(), StationError>
-        ensures refusal { result_err result ≡ refused (setting_of self.old) (seen_in self.old) Stop }
+        ensures refusal { result_err result ≡ refused_in self.old Stop }
         ensures ok { OnOk result (self.new ≡ stopping_in self.old) }
         ensures err { OnErr result (self.new ≡ self.old) }
     {
@@ -152,8 +156,10 @@ impl Station {
     }
 
     fn ask_flow(&mut self, dlci: Dlci, go: bool) -> Result<(), StationError>
-        ensures refusal { result_err result ≡ refused (setting_of self.old) (seen_in self.old) (Flow dlci.number go) }
-        ensures ok { OnOk result (self.new ≡ record self.old { queue = self.old.queue ++ asking self.old.role (Flow dlci.number go) }) }
+        ensures refusal { result_err result ≡ refused_in self.old (Flow dlci.number go) }
+        ensures ok { OnOk result (self.new
+            ≡ record self.old
+            { queue = self.old.queue ++ frames_asked self.old.role (Flow dlci.number go) }) }
         ensures err { OnErr result (self.new ≡ self.old) }
     {
         if !(self.stage(dlci).is_opened() && self.is_running()) {
@@ -194,8 +200,8 @@ impl Station {
     /// where it is being opened, closed or stopped; 7 NoRoom.
     pub fn open(&mut self, dlci: Dlci) -> Result<(), StationError>
         requires { self.old.role ≡ Role.Initiator }
-        ensures refusal { result_err result ≡ refused (setting_of self.old) (seen_in self.old) (Open dlci.number) }
-        ensures past { OnOk result (Handles self.old self.new (Called (Open dlci.number))) }
+        ensures refusal { result_err result ≡ refused_in self.old (Open dlci.number) }
+        ensures past { OnOk result (StationHandles self.old self.new (Called (Open dlci.number))) }
         ensures err { OnErr result (self.new ≡ self.old) }
     {
         self.ask_open(dlci)
@@ -205,8 +211,8 @@ impl Station {
     /// 4 ControlChannel; 1 NotOpen where it is Shut; 3 Busy where it is being opened or closed;
     /// 7 NoRoom.
     pub fn close(&mut self, dlci: Dlci) -> Result<(), StationError>
-        ensures refusal { result_err result ≡ refused (setting_of self.old) (seen_in self.old) (Close dlci.number) }
-        ensures past { OnOk result (Handles self.old self.new (Called (Close dlci.number))) }
+        ensures refusal { result_err result ≡ refused_in self.old (Close dlci.number) }
+        ensures past { OnOk result (StationHandles self.old self.new (Called (Close dlci.number))) }
         ensures err { OnErr result (self.new ≡ self.old) }
     {
         self.ask_close(dlci)
@@ -215,8 +221,8 @@ impl Station {
     /// Sends a probe, a Test command with these octets. Refusals: 6 TooLong where they are over 16;
     /// 1 NotOpen where 0 isn't Opened; 3 Busy where a probe waits; 7 NoRoom.
     pub fn probe(&mut self, octets: &[u8]) -> Result<(), StationError>
-        ensures refusal { result_err result ≡ refused (setting_of self.old) (seen_in self.old) (Probe octets.now) }
-        ensures past { OnOk result (Handles self.old self.new (Called (Probe octets.now))) }
+        ensures refusal { result_err result ≡ refused_in self.old (Probe octets.now) }
+        ensures past { OnOk result (StationHandles self.old self.new (Called (Probe octets.now))) }
         ensures err { OnErr result (self.new ≡ self.old) }
     {
         self.ask_probe(octets)
@@ -225,8 +231,8 @@ impl Station {
     /// Closes the multiplexer down: a CLD command is queued, every other connection is Shut, and 0 is
     /// Stopping. Refusals: 1 NotOpen where 0 isn't Opened; 7 NoRoom.
     pub fn stop(&mut self) -> Result<(), StationError>
-        ensures refusal { result_err result ≡ refused (setting_of self.old) (seen_in self.old) Stop }
-        ensures past { OnOk result (Handles self.old self.new (Called Stop)) }
+        ensures refusal { result_err result ≡ refused_in self.old Stop }
+        ensures past { OnOk result (StationHandles self.old self.new (Called Stop)) }
         ensures err { OnErr result (self.new ≡ self.old) }
     {
         self.ask_stop()
@@ -235,8 +241,8 @@ impl Station {
     /// Tells the other end whether it may send on a connection, or for 0 on all of them. Refusals:
     /// 1 NotOpen where the connection or 0 isn't Opened; 7 NoRoom.
     pub fn flow(&mut self, dlci: Dlci, go: bool) -> Result<(), StationError>
-        ensures refusal { result_err result ≡ refused (setting_of self.old) (seen_in self.old) (Flow dlci.number go) }
-        ensures past { OnOk result (Handles self.old self.new (Called (Flow dlci.number go))) }
+        ensures refusal { result_err result ≡ refused_in self.old (Flow dlci.number go) }
+        ensures past { OnOk result (StationHandles self.old self.new (Called (Flow dlci.number go))) }
         ensures err { OnErr result (self.new ≡ self.old) }
     {
         self.ask_flow(dlci, go)
@@ -246,7 +252,8 @@ impl Station {
     /// Opened; 7 NoRoom where they don't all fit.
     pub fn offer(&mut self, dlci: Dlci, octets: &[u8]) -> Result<(), StationError>
         ensures refusal { result_err result ≡ offer_refused self.old dlci.number octets.now }
-        ensures past { OnOk result (Handles self.old self.new (Called (Offer dlci.number octets.now))) }
+        ensures past { OnOk result
+            (StationHandles self.old self.new (Called (Offer dlci.number octets.now))) }
         ensures err { OnErr result (self.new ≡ self.old) }
     {
         self.take_offer(dlci, octets)

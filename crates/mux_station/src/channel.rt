@@ -67,7 +67,11 @@ impl Model for Channel {
 
     ghost Value = { Channel };
 
-    ghost view = { λ c. record { state = stage_state c.stage; is_stopped = c.stopped; waiting = c.octets.items } };
+    ghost view = { λ c. record {
+      state = stage_state c.stage;
+      is_stopped = c.stopped;
+      waiting = c.octets.items;
+    } };
 
     ghost invariant = { λ c. c.octets.capacity ≡ 1024 };
 }

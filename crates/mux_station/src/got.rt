@@ -8,13 +8,13 @@ ghost use Rattle.mux_station.specs.States.{IsStopping, is_opened};
 ghost use Rattle.mux_station.specs.Stages.{stage_state};
 ghost use Rattle.mux_station.specs.Tables.{octets_of, have_room, by_table, by_message, response};
 ghost use Rattle.mux_station.specs.Messages.{message_of, msc_dlci, msc_stops};
-ghost use Rattle.mux_station.specs.Sending.{got_refused, without_room, names_test, seen};
-ghost use Rattle.mux_station.specs.Stations.{setting_of, seen_in, channel_at};
-ghost use Rattle.mux_station.specs.Fitting.{Fits, Handles};
+ghost use Rattle.mux_station.specs.Sending.{names_test, station_view};
+ghost use Rattle.mux_station.specs.Stations.{setting_of, seen_in, channel_at, frame_refused_in, without_room_in};
+ghost use Rattle.mux_station.specs.Fitting.{StationFits, StationHandles};
 ghost use Rattle.mux_station.specs.Noting.{noted_by_table, noted_by_message, noted_of_message, noted_of_probe, noted_of};
 ghost use Rattle.mux_station.specs.MessagesRead.{message_read};
 ghost use Rattle.mux_station.specs.AnswersSent.{frames_in, answers_sent};
-ghost use Rattle.mux_station.specs.Getting.{FrameTaken, message_calls, message_taken, WordTaken, TurnsBy, row_frames, all_turned_in, turned_on, turned_by, stops_set, probe_answered, told_in, ended_in, queued_in};
+ghost use Rattle.mux_station.specs.Getting.{FrameTaken, message_calls, message_taken, FollowsTable, TurnsBy, row_frames, all_turned_in, turned_on, turned_by, stops_set, probe_answered, told_in, ended_in, queued_in};
 
 use crate::answers::Answers;
 use crate::calls::shut_all;
@@ -34,9 +34,14 @@ use mux_frame::{Dlci, FrameView, Kind};
 impl Station {
     /// What the table of this end says of a frame.
     fn row(&self, dlci: Dlci, kind: Kind) -> Row
-        ensures turns { TurnsBy self.now.role ((dlci.number == 0) || is_opened (channel_at self.now 0).state) (channel_at self.now dlci.number).state kind result.turn }
-        ensures frames { by_table self.now.role dlci.number (channel_at self.now 0).state (channel_at self.now dlci.number).state kind ≡ row_frames self.now.role dlci.number result.answer result.turn }
-        ensures noted { result.noted ≡ noted_by_table self.now.role dlci.number (channel_at self.now 0).state (channel_at self.now dlci.number).state kind }
+        ensures turns { TurnsBy self.now.role ((dlci.number == 0) || is_opened (channel_at self.now 0).state)
+            (channel_at self.now dlci.number).state kind result.turn }
+        ensures frames { by_table self.now.role dlci.number (channel_at self.now 0).state
+            (channel_at self.now dlci.number).state kind
+            ≡ row_frames self.now.role dlci.number result.answer result.turn }
+        ensures noted { result.noted
+            ≡ noted_by_table self.now.role dlci.number (channel_at self.now 0).state
+            (channel_at self.now dlci.number).state kind }
     {
         let stage = self.stage(dlci);
         match self.role {
@@ -58,9 +63,9 @@ impl Station {
     }
 
     /// Puts the frames into the control queue: NoRoom where they don't all fit.
-    #[tactic(auto, using(crate::proofs::Rooms::room_before, crate::proofs::Rooms::room_behind, crate::proofs::Rooms::room_test))]
+    #[tactic(auto, using(crate::proofs::queues::QueueRoom::room_before, crate::proofs::queues::QueueRoom::room_behind, crate::proofs::queues::QueueRoom::room_test))]
     fn answer(&mut self, answers: Answers) -> Result<(), StationError>
-        ensures refusal { result_err result ≡ without_room (setting_of self.old) (seen_in self.old) (answers_sent answers) }
+        ensures refusal { result_err result ≡ without_room_in self.old (answers_sent answers) }
         ensures ok { OnOk result (self.new ≡ queued_in self.old (answers_sent answers)) }
         ensures err { OnErr result (self.new ≡ self.old) }
     {
@@ -108,7 +113,8 @@ impl Station {
     /// Does what an MSC says of its connection, if that is Opened.
     fn set_stop(&mut self, value: &[u8])
         requires { msc_dlci value.now ≤ 61 }
-        ensures { self.new ≡ record self.old { channels = stops_set self.old (record { octet = 0xe3; value = value.now }) } }
+        ensures { self.new
+            ≡ record self.old { channels = stops_set self.old (record { octet = 0xe3; value = value.now }) } }
     {
         let channel = &mut self.channels[usize::from(msc_dlci(value))];
         if channel.stage().is_opened() {
@@ -118,7 +124,8 @@ impl Station {
 
     /// Gives the probe that waits up where this answers it.
     fn answer_probe(&mut self, message: Message<'_>) -> Noted
-        ensures after { self.new ≡ record self.old { probe = probe_answered self.old.probe (message_read message.entry) } }
+        ensures after { self.new
+            ≡ record self.old { probe = probe_answered self.old.probe (message_read message.entry) } }
         ensures noted { result ≡ noted_of_probe self.old.probe (Some (message_read message.entry)) }
     {
         let Some(probe) = &self.probe else {
@@ -134,10 +141,14 @@ impl Station {
     }
 
     /// A frame that is no message.
-    fn take_word(&mut self, dlci: Dlci, kind: Kind) -> Result<Noted, StationError>
-        ensures refusal { result_err result ≡ without_room (setting_of self.old) (seen_in self.old) (by_table self.old.role dlci.number (channel_at self.old 0).state (channel_at self.old dlci.number).state kind) }
-        ensures ok { OnOk result (WordTaken self.old self.new dlci.number kind) }
-        ensures noted { IfOk result (λ n. n ≡ noted_by_table self.old.role dlci.number (channel_at self.old 0).state (channel_at self.old dlci.number).state kind) }
+    fn take_by_table(&mut self, dlci: Dlci, kind: Kind) -> Result<Noted, StationError>
+        ensures refusal { result_err result ≡ without_room_in self.old
+            (by_table self.old.role dlci.number (channel_at self.old 0).state
+            (channel_at self.old dlci.number).state kind) }
+        ensures ok { OnOk result (FollowsTable self.old self.new dlci.number kind) }
+        ensures noted { IfOk result
+            (λ n. n ≡ noted_by_table self.old.role dlci.number (channel_at self.old 0).state
+            (channel_at self.old dlci.number).state kind) }
         ensures err { OnErr result (self.new ≡ self.old) }
     {
         let row = self.row(dlci, kind);
@@ -169,8 +180,11 @@ impl Station {
     /// A message while 0 is Opened.
     fn take_running(&mut self, message: Message<'_>) -> Result<Noted, StationError>
         requires { message.octet ≡ 0xe3 → msc_dlci message.value.now ≤ 61 }
-        ensures refusal { result_err result ≡ without_room (setting_of self.old) (seen_in self.old) (response self.old.role (message_read message.entry)) }
-        ensures ok { OnOk result (self.new ≡ told_in (queued_in self.old (response self.old.role (message_read message.entry))) (message_read message.entry)) }
+        ensures refusal { result_err result
+            ≡ without_room_in self.old (response self.old.role (message_read message.entry)) }
+        ensures ok { OnOk result (self.new
+            ≡ told_in (queued_in self.old (response self.old.role (message_read message.entry)))
+            (message_read message.entry)) }
         ensures noted { IfOk result (λ n. n ≡ noted_of_message self.old.probe (message_read message.entry)) }
         ensures err { OnErr result (self.new ≡ self.old) }
     {
@@ -181,9 +195,14 @@ impl Station {
 
     /// A message in Stopping, which a CLD ends, or the response to ours.
     fn take_stopping(&mut self, message: Message<'_>) -> Result<Noted, StationError>
-        ensures refusal { result_err result ≡ without_room (setting_of self.old) (seen_in self.old) (message_calls self.old.role (IsStopping 0) (Some (message_read message.entry))) }
-        ensures ok { OnOk result (self.new ≡ ended_in (queued_in self.old (message_calls self.old.role (IsStopping 0) (Some (message_read message.entry)))) (message_read message.entry)) }
-        ensures noted { IfOk result (λ n. n ≡ noted_by_message (IsStopping 0) self.old.probe (Some (message_read message.entry))) }
+        ensures refusal { result_err result ≡ without_room_in self.old
+            (message_calls self.old.role (IsStopping 0) (Some (message_read message.entry))) }
+        ensures ok { OnOk result (self.new ≡ ended_in
+            (queued_in self.old
+            (message_calls self.old.role (IsStopping 0) (Some (message_read message.entry))))
+            (message_read message.entry)) }
+        ensures noted { IfOk result
+            (λ n. n ≡ noted_by_message (IsStopping 0) self.old.probe (Some (message_read message.entry))) }
         ensures err { OnErr result (self.new ≡ self.old) }
     {
         match message.octet {
@@ -200,9 +219,14 @@ impl Station {
 
     /// The information of a UIH frame on 0.
     fn take_message(&mut self, info: &[u8]) -> Result<Noted, StationError>
-        ensures refusal { result_err result ≡ without_room (setting_of self.old) (seen_in self.old) (message_calls self.old.role (channel_at self.old 0).state (message_of info.now)) }
-        ensures ok { OnOk result (self.new ≡ message_taken (queued_in self.old (message_calls self.old.role (channel_at self.old 0).state (message_of info.now))) (channel_at self.old 0).state (message_of info.now)) }
-        ensures noted { IfOk result (λ n. n ≡ noted_by_message (channel_at self.old 0).state self.old.probe (message_of info.now)) }
+        ensures refusal { result_err result ≡ without_room_in self.old
+            (message_calls self.old.role (channel_at self.old 0).state (message_of info.now)) }
+        ensures ok { OnOk result (self.new ≡ message_taken
+            (queued_in self.old
+            (message_calls self.old.role (channel_at self.old 0).state (message_of info.now)))
+            (channel_at self.old 0).state (message_of info.now)) }
+        ensures noted { IfOk result
+            (λ n. n ≡ noted_by_message (channel_at self.old 0).state self.old.probe (message_of info.now)) }
         ensures err { OnErr result (self.new ≡ self.old) }
     {
         let Some(message) = Message::read(info) else {
@@ -217,16 +241,17 @@ impl Station {
 
     fn take_frame(&mut self, frame: FrameView<'_>) -> Result<Noted, StationError>
         ensures all { length self.old.channels ≡ 62 }
-        ensures refusal { result_err result ≡ got_refused (setting_of self.old) (seen_in self.old) (frame_of frame.entry) }
+        ensures refusal { result_err result ≡ frame_refused_in self.old (frame_of frame.entry) }
         ensures ok { OnOk result (FrameTaken self.old self.new (frame_of frame.entry)) }
-        ensures noted { IfOk result (λ n. n ≡ noted_of self.old.role (seen_in self.old) (frame_of frame.entry)) }
+        ensures noted { IfOk result
+            (λ n. n ≡ noted_of self.old.role (seen_in self.old) (frame_of frame.entry)) }
         ensures err { OnErr result (self.new ≡ self.old) }
     {
         // Looked at so that the proof knows how many connections there are.
         let _ = &self.channels;
         match frame.kind {
             Kind::Uih if frame.dlci.number() == 0 => self.take_message(frame.info),
-            kind => self.take_word(frame.dlci, kind),
+            kind => self.take_by_table(frame.dlci, kind),
         }
     }
 
@@ -235,10 +260,14 @@ impl Station {
     /// where not all frames that it calls for fit into the control queue.
     pub fn got(&mut self, frame: FrameView<'_>) -> Result<Noted, StationError>
         requires { length frame.info.now ≤ most_info self.old.n1 frame.kind }
-        ensures refusal { result_err result ≡ got_refused (setting_of self.old) (seen_in self.old) (frame_of frame.entry) }
-        ensures past { OnOk result (Handles self.old self.new (Got (frame_of frame.entry))) }
-        ensures noted { IfOk result (λ n. n ≡ noted_of self.old.role (seen_in self.old) (frame_of frame.entry)) }
-        ensures noted_past { (past : List Happened) → Fits self.old past → IfOk result (λ n. n ≡ noted_of self.old.role (seen (setting_of self.old) past) (frame_of frame.entry)) }
+        ensures refusal { result_err result ≡ frame_refused_in self.old (frame_of frame.entry) }
+        ensures past { OnOk result (StationHandles self.old self.new (Got (frame_of frame.entry))) }
+        ensures noted { IfOk result
+            (λ n. n ≡ noted_of self.old.role (seen_in self.old) (frame_of frame.entry)) }
+        ensures noted_past { (past : List Happened) → StationFits self.old past
+            → IfOk result
+            (λ n. n ≡ noted_of self.old.role (station_view (setting_of self.old) past)
+            (frame_of frame.entry)) }
         ensures err { OnErr result (self.new ≡ self.old) }
     {
         self.take_frame(frame)

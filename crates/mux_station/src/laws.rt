@@ -13,11 +13,11 @@ ghost use Rattle.mux_station.specs.Giving.{GivesOn};
 ghost use Rattle.mux_station.specs.Noting.{NotedTruly};
 ghost use Rattle.mux_station.specs.Opening.{IsOpenByPlaces};
 ghost use Rattle.mux_station.specs.States.{OpenedIsOpen};
-ghost use Rattle.mux_station.specs.Sending.{Setting, Lawful, AnswersKeep, NoneAfterLoss, GivesBeginning};
+ghost use Rattle.mux_station.specs.Sending.{StationSetting, StationLawful, AnswersKeep, NoFrameAfterLoss, GivesBeginning};
 
 /// A connection is Opened in the table exactly where it is open; and it is open exactly where some act
 /// opened it and no later act ended it.
-#[tactic(auto, using(crate::proofs::Agrees::opened_is_open, crate::proofs::Places::is_open_by_places))]
+#[tactic(auto, using(crate::proofs::states::OpenedStates::opened_is_open, crate::proofs::states::OpenByPlaces::is_open_by_places))]
 pub fn openings()
     ensures table { (r : Role) (past : List Act) → OpenedIsOpen r past }
     ensures places { (r : Role) (d : ℕ) (past : List Act) → IsOpenByPlaces r d past }
@@ -25,16 +25,17 @@ pub fn openings()
 
 /// An act that is followed by all that it calls for keeps a past lawful and complete, nothing is sent
 /// once the line is lost, and what leaves a connection is the beginning of what was offered on it.
-#[tactic(auto, using(crate::proofs::Answering::answers_keep, crate::proofs::Answering::none_after_loss, crate::proofs::Answering::gives_beginning))]
+#[tactic(auto, using(crate::proofs::law_proofs::OwedFrames::answers_keep, crate::proofs::law_proofs::OwedFrames::none_after_loss, crate::proofs::law_proofs::OwedFrames::gives_beginning))]
 pub fn sendings()
-    ensures answers { (s : Setting) (past : List Act) (a : Act) → AnswersKeep s past a }
-    ensures loss { (s : Setting) (past : List Act) → NoneAfterLoss s past }
-    ensures data { (s : Setting) (d : ℕ) (past : List Act) → Lawful s past → GivesBeginning s d past }
+    ensures answers { (s : StationSetting) (past : List Act) (a : Act) → AnswersKeep s past a }
+    ensures loss { (s : StationSetting) (past : List Act) → NoFrameAfterLoss s past }
+    ensures data { (s : StationSetting) (d : ℕ) (past : List Act) → StationLawful s past
+        → GivesBeginning s d past }
 {}
 
 /// A call or a frame is refused by what a station keeps just where it is refused by each past that the
 /// station fits; and what a frame calls for has room where the sum of the octets has.
-#[tactic(auto, using(crate::proofs::Asking::sees_the_past, crate::proofs::Handling::sees_the_frame, crate::proofs::Rooms::room_sum))]
+#[tactic(auto, using(crate::proofs::user_calls::ProbeStopFlowOffer::sees_the_past, crate::proofs::received::AnsweredFrames::sees_the_frame, crate::proofs::queues::QueueRoom::room_sum))]
 pub fn refusals()
     ensures calls { (v : Station) (past : List Act) (c : Call) → SeesThePast v past c }
     ensures frames { (v : Station) (past : List Act) (f : Frame) → SeesTheFrame v past f }
@@ -55,7 +56,7 @@ pub fn calls()
 {}
 
 /// What a station gives up at a tick, and whose data is next at it, is what each past that it fits says.
-#[tactic(auto, using(crate::proofs::PastTicks::sees_the_tick, crate::proofs::PastTurns::sees_the_turn))]
+#[tactic(auto, using(crate::proofs::ticks::GivenUpOfPasts::sees_the_tick, crate::proofs::turns::TurnsOfPasts::sees_the_turn))]
 pub fn turns()
     ensures ticks { (v : Station) (past : List Act) → SeesTheTick v past }
     ensures sender { (v : Station) (past : List Act) → SeesTheTurn v past }
@@ -63,7 +64,7 @@ pub fn turns()
 
 /// Whatever past a station fits, it fits that past with what `next_frame` gives on, and a past that is lawful
 /// and complete stays so. It takes the station, since the numbers that it keeps are in their ranges.
-#[tactic(auto, using(crate::proofs::Gives::gives_on))]
+#[tactic(auto, using(crate::proofs::turns::FramesGivenOn::gives_on))]
 pub fn givings(station: &crate::Station)
     ensures { GivesOn station.now }
 {

@@ -19,6 +19,7 @@ mod row;
 mod sending;
 mod station;
 mod tick;
+mod write_buffer;
 
 pub use error::StationError;
 pub use noted::Noted;
@@ -26,6 +27,4 @@ pub use outgoing::Outgoing;
 pub use role::{ChannelState, Role};
 pub use station::Station;
 pub use tick::{GivenUp, Noticed};
-
-#[cfg(test)]
-mod tests;
+pub use write_buffer::WriteBuffer;

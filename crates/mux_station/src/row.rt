@@ -61,7 +61,9 @@ fn closed_on(dlci: Dlci) -> Noted
 
 pub(crate) fn initiator_row(dlci: Dlci, stage: Stage, kind: Kind) -> Row
     ensures turns { (at_zero : Bool) → TurnsBy Initiator at_zero (stage_state stage) kind result.turn }
-    ensures frames { (control : State) → by_table Initiator dlci.number control (stage_state stage) kind ≡ row_frames Initiator dlci.number result.answer result.turn }
+    ensures frames { (control : State)
+        → by_table Initiator dlci.number control (stage_state stage) kind
+        ≡ row_frames Initiator dlci.number result.answer result.turn }
     ensures noted { result.noted ≡ by_initiator dlci.number (stage_state stage) kind }
 {
     match (stage, kind) {
@@ -85,7 +87,9 @@ pub(crate) fn initiator_row(dlci: Dlci, stage: Stage, kind: Kind) -> Row
 /// The responder's, where `at_zero` says whether the connection is 0, or 0 is Opened.
 pub(crate) fn responder_row(dlci: Dlci, at_zero: bool, stage: Stage, kind: Kind) -> Row
     ensures turns { TurnsBy Responder at_zero (stage_state stage) kind result.turn }
-    ensures frames { (control : State) → ((dlci.number == 0) || is_opened control) ≡ at_zero → by_table Responder dlci.number control (stage_state stage) kind ≡ row_frames Responder dlci.number result.answer result.turn }
+    ensures frames { (control : State) → ((dlci.number == 0) || is_opened control) ≡ at_zero
+        → by_table Responder dlci.number control (stage_state stage) kind
+        ≡ row_frames Responder dlci.number result.answer result.turn }
     ensures noted { result.noted ≡ by_responder dlci.number at_zero (stage_state stage) kind }
 {
     match (stage, kind) {

@@ -4,8 +4,8 @@ ghost use Rattle.std.specs.Borrow.{sem};
 ghost use Rattle.std.specs.Io.BufRead.{Rests};
 ghost use Rattle.mux_frame.specs.Frames.{frame_of};
 ghost use Rattle.mux_station.specs.Acts.{Act as Happened};
-ghost use Rattle.mux_station.specs.Fitting.{Fits};
-ghost use Rattle.mux_station.specs.Giving.{is_ready, first_ready, next_turn, next_sender, data_frame, data_given, next_given, given_on, SendsNext, Waits};
+ghost use Rattle.mux_station.specs.Fitting.{StationFits};
+ghost use Rattle.mux_station.specs.Giving.{is_ready, first_ready, next_turn, next_sender, data_frame, data_given, next_given, station_after, SendsNext, Waits};
 ghost use Rattle.mux_station.specs.Sending.{queue};
 ghost use Rattle.mux_station.specs.Stations.{channel_at};
 ghost use Rattle.mux_station.specs.GivenFrames.{given_frame, outgoing_of, with_freshness, dlci_of};
@@ -50,7 +50,8 @@ impl Station {
     }
 
     fn take_data(&mut self) -> Option<GivenFrame>
-        ensures frame { option_map given_frame result ≡ option_map (data_frame self.old) (next_turn self.old) }
+        ensures frame { option_map given_frame result
+            ≡ option_map (data_frame self.old) (next_turn self.old) }
         ensures after { self.new ≡ data_given self.old (next_turn self.old) }
     {
         let dlci = self.next_turn()?;
@@ -75,10 +76,10 @@ impl Station {
         Some(GivenFrame::of_control(&frame))
     }
 
-    #[tactic(auto, using(crate::proofs::Turns::next_data, crate::proofs::Turns::after_data, crate::proofs::Turns::next_control, crate::proofs::Turns::after_control))]
+    #[tactic(auto, using(crate::proofs::turns::ReadyConnections::next_data, crate::proofs::turns::ReadyConnections::after_data, crate::proofs::turns::ReadyConnections::next_control, crate::proofs::turns::ReadyConnections::after_control))]
     fn take_next(&mut self) -> Option<GivenFrame>
         ensures frame { option_map given_frame result ≡ next_given self.old self.old.queue }
-        ensures after { self.new ≡ given_on self.old self.old.queue }
+        ensures after { self.new ≡ station_after self.old self.old.queue }
     {
         if self.control.is_empty() {
             self.take_data()
@@ -91,9 +92,11 @@ impl Station {
     /// queue; where that is empty, data of the connection whose turn it is. `laws::givings` says what that
     /// comes to in each past that the station fits. Its information is at most 1024 octets.
     pub fn next_frame(&mut self) -> Option<Outgoing<'_>>
-        ensures frame { option_map outgoing_of result ≡ option_map (with_freshness (length self.old.queue == 0)) (next_given self.old self.old.queue) }
+        ensures frame { option_map outgoing_of result
+            ≡ option_map (with_freshness (length self.old.queue == 0)) (next_given self.old self.old.queue) }
         ensures short { IfSome result (λ o. length o.frame.info.now ≤ 1024) }
-        ensures* after { sem 𝓛 (Rests the_row self.entry (λ new. new ≡ given_on self.old self.old.queue)) }
+        ensures* after { sem 𝓛
+            (Rests the_row self.entry (λ new. new ≡ station_after self.old self.old.queue)) }
     {
         let fresh = self.control.is_empty();
         let frame = self.take_next()?;
@@ -105,10 +108,11 @@ impl Station {
     }
 
     /// The connection whose data `next_frame` gives; nothing where it gives a control frame, or none.
-    #[tactic(auto, using(crate::proofs::Senders::sender_alone))]
+    #[tactic(auto, using(crate::proofs::turns::NextData::sender_alone))]
     pub fn next_sender(&self) -> Option<Dlci>
         ensures value { option_map dlci_of result ≡ next_sender self.now self.now.queue }
-        ensures past { (past : List Happened) → Fits self.now past → IfSome result (λ d. SendsNext self.now.role d.number past) }
+        ensures past { (past : List Happened) → StationFits self.now past
+            → IfSome result (λ d. SendsNext self.now.role d.number past) }
     {
         if !self.control.is_empty() {
             return None;
@@ -117,10 +121,11 @@ impl Station {
     }
 
     /// How many octets wait in a connection's send ring.
-    #[tactic(auto, using(crate::proofs::Senders::waits_in))]
+    #[tactic(auto, using(crate::proofs::turns::NextData::waits_in))]
     pub fn waiting(&self, dlci: Dlci) -> usize
         ensures value { result ≡ length (channel_at self.now dlci.number).waiting }
-        ensures past { (past : List Happened) → Fits self.now past → Waits self.now.role dlci.number past result }
+        ensures past { (past : List Happened) → StationFits self.now past
+            → Waits self.now.role dlci.number past result }
     {
         self.channels[usize::from(dlci.number())].waiting()
     }
@@ -128,7 +133,7 @@ impl Station {
     /// How many frames wait in the control queue.
     pub fn queue_len(&self) -> usize
         ensures value { result ≡ length self.now.queue }
-        ensures past { (past : List Happened) → Fits self.now past → result ≡ length (queue past) }
+        ensures past { (past : List Happened) → StationFits self.now past → result ≡ length (queue past) }
     {
         self.control.len()
     }

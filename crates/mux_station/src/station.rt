@@ -5,7 +5,7 @@ ghost use Rattle.mux_station.specs.States.{state_of};
 ghost use Rattle.mux_station.specs.Stopping.{is_stopped};
 ghost use Rattle.mux_station.specs.Stages.{as_shown};
 ghost use Rattle.mux_station.specs.Stations.{new_station, shut_channel, channel_at, stopped_in};
-ghost use Rattle.mux_station.specs.Fitting.{Fits};
+ghost use Rattle.mux_station.specs.Fitting.{StationFits};
 
 use crate::channel::Channel;
 use crate::control_frame::{CONTROL, ControlFrame};
@@ -71,9 +71,10 @@ impl Station {
     /// Refusals: 8 BadN1 where it isn't 31 to 32767, checked first; 5 NoMemory.
     pub fn new(alloc: Global, role: Role, n1: u16) -> Result<Station, StationError>
         ensures ok { IfOk result (λ s. s ≡ new_station role n1) }
-        ensures past { IfOk result (λ s. Fits s []) }
+        ensures past { IfOk result (λ s. StationFits s []) }
         ensures bad_n1 { IsErrOf result StationError.BadN1 ↔ ((n1 < 31) ⊎ (32767 < n1)) }
-        ensures others { OnErr result (IsErrOf result StationError.BadN1 ⊎ IsErrOf result StationError.NoMemory) }
+        ensures others { OnErr result
+            (IsErrOf result StationError.BadN1 ⊎ IsErrOf result StationError.NoMemory) }
     {
         if n1 < 31 || n1 > 32767 {
             return Err(StationError::BadN1);
@@ -109,16 +110,18 @@ impl Station {
     /// How a connection stands.
     pub fn state(&self, dlci: Dlci) -> ChannelState
         ensures value { result ≡ as_shown (channel_at self.now dlci.number).state }
-        ensures past { (past : List Happened) → Fits self.now past → result ≡ as_shown (state_of self.now.role dlci.number past) }
+        ensures past { (past : List Happened) → StationFits self.now past
+            → result ≡ as_shown (state_of self.now.role dlci.number past) }
     {
         self.channels[usize::from(dlci.number())].stage().shown()
     }
 
     /// Whether a connection is stopped, by itself or with all.
-    #[tactic(auto, using(crate::proofs::Fitted::stopped_fits))]
+    #[tactic(auto, using(crate::proofs::states::StationPasts::stopped_fits))]
     pub fn stopped(&self, dlci: Dlci) -> bool
         ensures value { result ≡ stopped_in self.now dlci.number }
-        ensures past { (past : List Happened) → Fits self.now past → result ≡ is_stopped self.now.role dlci.number past }
+        ensures past { (past : List Happened) → StationFits self.now past
+            → result ≡ is_stopped self.now.role dlci.number past }
     {
         self.is_held_up(dlci)
     }

@@ -8,7 +8,7 @@ ghost use Rattle.mux_station.specs.Stages.{stage_state};
 ghost use Rattle.mux_station.specs.Stations.{channel_at};
 ghost use Rattle.mux_station.specs.Ticking.{UpProbe, gives_up, given_up_in, probe_up, noticed, turned_in, asked_if, ticked_by, ticked_one, ticked_all, ticked_probe};
 ghost use Rattle.mux_station.specs.Noticing.{up_of};
-ghost use Rattle.mux_station.specs.Fitting.{Handles};
+ghost use Rattle.mux_station.specs.Fitting.{StationHandles};
 
 use crate::channel::Stage;
 use crate::control_frame::ControlFrame;
@@ -38,8 +38,10 @@ impl Station {
 
     /// Queues a frame again and turns its connection, where the frame fits.
     fn ask_again(&mut self, dlci: Dlci, kind: Kind, stage: Stage) -> bool
-        ensures after { self.new ≡ asked_if self.old dlci.number (stage_state stage) (written self.old.role kind dlci.number []) }
-        ensures fits { result ≡ has_room self.old.n1 (octets_of self.old.queue) (written self.old.role kind dlci.number []) }
+        ensures after { self.new
+            ≡ asked_if self.old dlci.number (stage_state stage) (written self.old.role kind dlci.number []) }
+        ensures fits { result
+            ≡ has_room self.old.n1 (octets_of self.old.queue) (written self.old.role kind dlci.number []) }
     {
         let frame = ControlFrame::bare(self.role, kind, dlci);
         if !self.control.has_room(frame.written_len()) {
@@ -54,7 +56,10 @@ impl Station {
     /// The turn of one connection; says whether it is given up.
     fn tick_channel(&mut self, dlci: Dlci) -> bool
         ensures after { self.new ≡ ticked_one self.old dlci.number }
-        ensures up { result ≡ gives_up (channel_at self.old dlci.number).state (if_room self.old.n1 (octets_of self.old.queue) (again self.old.role dlci.number (channel_at self.old dlci.number).state)) }
+        ensures up { result
+            ≡ gives_up (channel_at self.old dlci.number).state
+            (if_room self.old.n1 (octets_of self.old.queue)
+            (again self.old.role dlci.number (channel_at self.old dlci.number).state)) }
     {
         match self.stage(dlci) {
             Stage::Shut | Stage::Opened => false,
@@ -66,7 +71,10 @@ impl Station {
 
     fn tick_opening(&mut self, dlci: Dlci, repeats: Repeats) -> bool
         ensures after { self.new ≡ ticked_by self.old dlci.number (IsOpening repeats.count) }
-        ensures up { result ≡ gives_up (IsOpening repeats.count) (if_room self.old.n1 (octets_of self.old.queue) (again self.old.role dlci.number (IsOpening repeats.count))) }
+        ensures up { result
+            ≡ gives_up (IsOpening repeats.count)
+            (if_room self.old.n1 (octets_of self.old.queue)
+            (again self.old.role dlci.number (IsOpening repeats.count))) }
     {
         match repeats.next() {
             Some(more) => {
@@ -151,7 +159,7 @@ impl Station {
     /// A tick: a SABM or DISC that wasn't answered is queued again, three times, and at the fourth
     /// tick what waits is given up. A connection whose frame finds no room stays as it is.
     pub fn tick(&mut self) -> Noticed
-        ensures past { Handles self.old self.new Tick }
+        ensures past { StationHandles self.old self.new Tick }
         ensures noticed { map up_of result.items ≡ noticed self.old }
     {
         let mut noticed = self.tick_channels();

@@ -1,2 +1,2 @@
-pub mod Tapes
-pub mod Echoes
+pub mod PassedOctets
+pub mod FilledBuffers

@@ -49,7 +49,8 @@ after_read s (Ok n) = record s {
   reads = drop 1 s.reads;
   calls = one_more s.calls;
 }
-after_read s (Err fault) = record s { reads = drop 1 s.reads; calls = one_more s.calls; failures = s.failures + 1 }
+after_read s (Err fault) =
+    record s { reads = drop 1 s.reads; calls = one_more s.calls; failures = s.failures + 1 }
 
 -- after a write of these octets
 abbrev pub after_write : CutState → List ℕ → Result ℕ LineFault → CutState
@@ -58,7 +59,8 @@ after_write s octets (Ok n) = record s {
   writes = drop 1 s.writes;
   calls = one_more s.calls;
 }
-after_write s octets (Err fault) = record s { writes = drop 1 s.writes; calls = one_more s.calls; failures = s.failures + 1 }
+after_write s octets (Err fault) =
+    record s { writes = drop 1 s.writes; calls = one_more s.calls; failures = s.failures + 1 }
 
 -- how many octets go over where at most k do: as many as were not yet given on and find room
 abbrev pub carried : ℕ → CutState → CutState → ℕ

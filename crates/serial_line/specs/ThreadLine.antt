@@ -15,10 +15,12 @@ pub record RingId : Type 0 where
 
 module _ {T P : Type 0} where
   abbrev pub ring_of_producer : Producer T Global P → RingId
-  ring_of_producer p = record { words = p.end.words; slots = p.end.slots; names = p.end.names; heap = p.end.heap }
+  ring_of_producer p =
+      record { words = p.end.words; slots = p.end.slots; names = p.end.names; heap = p.end.heap }
 
   abbrev pub ring_of_consumer : Consumer T Global P → RingId
-  ring_of_consumer c = record { words = c.end.words; slots = c.end.slots; names = c.end.names; heap = c.end.heap }
+  ring_of_consumer c =
+      record { words = c.end.words; slots = c.end.slots; names = c.end.names; heap = c.end.heap }
 
 -- one end of a line
 pub record EndState : Type 0 where

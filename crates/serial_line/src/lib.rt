@@ -6,6 +6,7 @@ mod cut_line;
 mod cuts;
 mod errors;
 mod line;
+mod read_buffer;
 mod tape;
 mod thread_line;
 
@@ -13,7 +14,5 @@ pub use cut_line::CutLine;
 pub use cuts::Cut;
 pub use errors::LineError;
 pub use line::{LineFault, SerialLine};
+pub use read_buffer::ReadBuffer;
 pub use thread_line::ThreadLine;
-
-#[cfg(test)]
-mod tests;

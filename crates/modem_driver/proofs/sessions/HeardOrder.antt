@@ -11,9 +11,9 @@ use Rattle.modem_history.specs.Kinds.{kind_place, of_kind, is_same_kind}
 use Rattle.modem_history.specs.Sessions.{SessionView, announced_of, heard_as, heard_behind, heards}
 use Rattle.modem_history.specs.Turns.{lines_heard}
 use Rattle.modem_driver.specs.Placing.{of_key, Stay, stays_none, place_of}
-use Rattle.modem_driver.proofs.sessions.Afters.{heard_of, heards_after, is_heard_as, kind_heard}
+use Rattle.modem_driver.proofs.sessions.LongerHistories.{heard_of, heards_after, is_heard_as, kind_heard}
 use Rattle.modem_driver.proofs.sessions.Kinds.{same_place}
-use Rattle.modem_driver.proofs.sessions.Staying.{LastGoes, LastStays, stay_count, stay_last, swapped}
+use Rattle.modem_driver.proofs.sessions.RemainingItems.{LastGoes, LastStays, stay_count, stay_last, swapped}
 
 -- ## Of a kind
 

@@ -8,7 +8,7 @@ use Rattle.mux_frame.specs.Frames.{Frame}
 use Rattle.modem_history.specs.Acts.{Act, Took, Got, Sent, Told, Heard, Tick, Lost, Held, Freed, Given}
 use Rattle.modem_history.specs.Sessions.{gots}
 use Rattle.modem_history.specs.Wholes.{is_said}
-use Rattle.modem_history.proofs.Said.{Saids}
+use Rattle.modem_history.proofs.calls.CalledActs.{Saids}
 
 got_both : (xs ys : List Act) → gots (xs ++ ys) ≡ gots ys ++ gots xs
 got_both [] ys = sym (append-nil (gots ys))

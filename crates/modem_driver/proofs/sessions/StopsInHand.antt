@@ -9,13 +9,13 @@ use Rattle.modem_desk.specs.declared.request.Answer.{Answer}
 use Rattle.modem_desk.specs.declared.request.Outcome.{Outcome}
 use Rattle.modem_desk.specs.declared.request.Request.{Request}
 use Rattle.modem_history.specs.Acts.{Act, Took, Got, Sent, Told, Heard, Tick, Lost, Held, Freed, Given, after, is_for, in_hand, told}
-use Rattle.modem_history.specs.Calls.{Seen, later, told_later}
-use Rattle.modem_history.specs.Wholes.{is_said, outcomes, taken}
+use Rattle.modem_history.specs.Calls.{HistoryView, later, told_later}
+use Rattle.modem_history.specs.Wholes.{is_said, outcomes, taken_requests}
 use Rattle.modem_history.specs.Turns.{outcomes_told}
-use Rattle.modem_history.proofs.Said.{Saids}
+use Rattle.modem_history.proofs.calls.CalledActs.{Saids}
 use Rattle.modem_driver.specs.Endings.{ends_stop, is_stop, is_stopped_by}
-use Rattle.modem_driver.proofs.sessions.Afters.{outcomes_after}
-use Rattle.modem_driver.proofs.sessions.Ending.{NoneEnds}
+use Rattle.modem_driver.proofs.sessions.LongerHistories.{outcomes_after}
+use Rattle.modem_driver.proofs.sessions.StopProgress.{NoneEnds}
 
 -- ## Outcomes that end none
 
@@ -31,7 +31,7 @@ unless_ends true x y h k = h
 unless_ends false x y h k = k
 
 -- those that wait are told nothing that ends a Stop, where what keeps a Stop waiting is so
-pub later_ends : (P : Type 0) (v : Seen) (now : ℕ → State) (a : Act) (rs : List Request) → ((r : Request) → (is_stop r ≡ true → P) → ends_by (later v now a r r.ask) ≡ false) → (list_any is_stop rs ≡ true → P)
+pub later_ends : (P : Type 0) (v : HistoryView) (now : ℕ → State) (a : Act) (rs : List Request) → ((r : Request) → (is_stop r ≡ true → P) → ends_by (later v now a r r.ask) ≡ false) → (list_any is_stop rs ≡ true → P)
     → list_any ends (outcomes_told (filter_map (told_later v now a) rs)) ≡ false
 later_ends P v now a [] h k = refl
 later_ends P v now a (r ∷ rs) h k =
@@ -85,8 +85,8 @@ still_stopped acts past qs h =
     any_same (is_stopped_by (outcomes (after past acts))) (is_stopped_by (outcomes past)) qs
     (λ q. ap (λ (os : List Outcome). is_stopped_by os q) (outcomes_after acts past) ∙ stopped_still (outcomes past) (outcomes_told acts) q h)
 
-pub none_ends : (acts past : List Act) → taken (after past acts) ≡ taken past → list_any ends (outcomes_told acts) ≡ false → NoneEnds past acts
-none_ends acts past same h none = ap (list_any (is_stopped_by (outcomes (after past acts)))) same ∙ (still_stopped acts past (taken past) h ∙ none)
+pub none_ends : (acts past : List Act) → taken_requests (after past acts) ≡ taken_requests past → list_any ends (outcomes_told acts) ≡ false → NoneEnds past acts
+none_ends acts past same h none = ap (list_any (is_stopped_by (outcomes (after past acts)))) same ∙ (still_stopped acts past (taken_requests past) h ∙ none)
 
 -- ## Stops in hand
 

@@ -15,11 +15,11 @@ use Rattle.modem_desk.specs.Ends.{DriverView}
 use Rattle.modem_history.specs.Acts.{Act, wire}
 use Rattle.modem_history.specs.Calls.{is_lost}
 use Rattle.modem_history.specs.Sessions.{Beginning, LineView, driving, gots, sents, given_on, octets_of_frames}
-use Rattle.modem_history.proofs.LineOrder.{gives_in_order}
+use Rattle.modem_history.proofs.connections.FrameOrder.{gives_in_order}
 use Rattle.modem_driver.specs.GoingOut.{next_out, out_by}
-use Rattle.modem_driver.specs.TurnSteps.{Standing, StandingFits, Places, Minds, SendsOn, Writes, Gets, ReadsOn, TakesOne, view_of, is_more}
-use Rattle.modem_driver.proofs.sessions.Turning.{Went, placed, went_placed, went_step, went_wrote, went_read, went_took}
-use Rattle.modem_history.specs.Turns.{Dealings, AllAreGot, has_moved, amount}
+use Rattle.modem_driver.specs.TurnSteps.{TurnState, StandingFits, Places, Checks, SendsOn, Writes, Gets, ReadsOn, TakesOne, view_of, is_more}
+use Rattle.modem_driver.proofs.sessions.WholeTurns.{Went, placed, went_placed, went_step, went_wrote, went_read, went_took}
+use Rattle.modem_history.specs.Turns.{Exchange, AllAreGot, has_moved, amount}
 
 -- ## Whether anything moved
 
@@ -50,7 +50,7 @@ joined x y z u v w q = cc
 contradicted : {m n : ℕ} → m < n → n ≡ m → ⊥
 contradicted less same = omega (arith, less, same)
 
-pub not_lost : (b : Beginning) (s : Standing) (past : List Act) → s.kept.faulty ≡ false → StandingFits b s past → is_lost past ≡ false
+pub not_lost : (b : Beginning) (s : TurnState) (past : List Act) → s.kept.faulty ≡ false → StandingFits b s past → is_lost past ≡ false
 not_lost b s past sound f = by_loss (is_lost past) refl
   where
     by_loss : (c : Bool) → is_lost past ≡ c → c ≡ false
@@ -66,12 +66,12 @@ none_queued b past live none = by_queue (queue (wire past)) (ap (λ (c : Bool). 
     by_queue (f ∷ fs) e = cc
 
 -- and all frames sent were given on
-pub all_given : (b : Beginning) (s : Standing) (past : List Act) → StandingFits b s past → is_lost past ≡ false → queue (wire past) ≡ [] → sents past ≡ given_on past
+pub all_given : (b : Beginning) (s : TurnState) (past : List Act) → StandingFits b s past → is_lost past ≡ false → queue (wire past) ≡ [] → sents past ≡ given_on past
 all_given b s past f live none =
     let order = gives_in_order (driving b) past f.session.history.lawful in
     order.sent_are ∙ (ap (λ (fs : List Frame). given_on past ++ fs) (order.waits live ∙ none) ∙ append-nil (given_on past))
 
-pub all_sent : (b : Beginning) (s : Standing) (past : List Act) → StandingFits b s past → s.kept.unwritten ≡ [] → sents past ≡ given_on past → s.line.sent ≡ b.line.sent ++ octets_of_frames (sents past)
+pub all_sent : (b : Beginning) (s : TurnState) (past : List Act) → StandingFits b s past → s.kept.unwritten ≡ [] → sents past ≡ given_on past → s.line.sent ≡ b.line.sent ++ octets_of_frames (sents past)
 all_sent b s past f written same =
     let q = f.session.sent in
     q.sent_are
@@ -79,7 +79,7 @@ all_sent b s past f written same =
     (sym (append-nil q.since) ∙ (ap (λ (xs : List ℕ). q.since ++ xs) (sym written) ∙ (q.frames_are ∙ ap octets_of_frames (sym same))))
 
 -- where no octets wait to be fed and no frame is at hand, every frame was got
-pub all_got : (b : Beginning) (s : Standing) (past : List Act) → StandingFits b s past → s.kept.unfed ≡ [] → s.kept.deframer.next ≡ None → AllAreGot b (view_of s) past
+pub all_got : (b : Beginning) (s : TurnState) (past : List Act) → StandingFits b s past → s.kept.unfed ≡ [] → s.kept.deframer.next ≡ None → AllAreGot b (view_of s) past
 all_got b s past f unfed none =
     let r = f.session.received in
     let d = s.kept.deframer in
@@ -98,9 +98,9 @@ all_got b s past f unfed none =
 -- ## A turn
 
 -- the steps of a turn, each after the other, on a sound line
-pub record Run (s0 s1 s2 s3 s4 s5 s6 s7 : Standing) (m1 m2 m3 m4 m5 m6 m7 : Bool) : Type 0 where
+pub record Run (s0 s1 s2 s3 s4 s5 s6 s7 : TurnState) (m1 m2 m3 m4 m5 m6 m7 : Bool) : Type 0 where
   pub places : Places s0 s1 m1
-  pub minds : Minds s1 s2 m2
+  pub checks : Checks s1 s2 m2
   pub sends : SendsOn s2 s3 m3
   pub writes : Writes s3 s4 m4
   pub gets : Gets s4 s5 m5
@@ -110,72 +110,72 @@ pub record Run (s0 s1 s2 s3 s4 s5 s6 s7 : Standing) (m1 m2 m3 m4 m5 m6 m7 : Bool
   pub sound_written : s4.kept.faulty ≡ false
   pub sound_read : s6.kept.faulty ≡ false
 
-module _ {s0 s1 s2 s3 s4 s5 s6 s7 : Standing} {m1 m2 m3 m4 m5 m6 m7 : Bool} where
-  abbrev pub all_dealings : Run s0 s1 s2 s3 s4 s5 s6 s7 m1 m2 m3 m4 m5 m6 m7 → Dealings
-  all_dealings r = record (placed r.places) { write = r.writes.write; read = r.reads.read; next = r.takes.next }
+module _ {s0 s1 s2 s3 s4 s5 s6 s7 : TurnState} {m1 m2 m3 m4 m5 m6 m7 : Bool} where
+  abbrev pub all_exchange : Run s0 s1 s2 s3 s4 s5 s6 s7 m1 m2 m3 m4 m5 m6 m7 → Exchange
+  all_exchange r = record (placed r.places) { write = r.writes.write; read = r.reads.read; next = r.takes.next }
 
   abbrev pub all_acts : Run s0 s1 s2 s3 s4 s5 s6 s7 m1 m2 m3 m4 m5 m6 m7 → List Act
-  all_acts r = ((r.minds.acts ++ r.sends.acts) ++ r.gets.acts) ++ r.takes.acts
+  all_acts r = ((r.checks.acts ++ r.sends.acts) ++ r.gets.acts) ++ r.takes.acts
 
   -- as far as the frame went into the output
-  pub went_out : (r : Run s0 s1 s2 s3 s4 s5 s6 s7 m1 m2 m3 m4 m5 m6 m7) → Went s0 s3 (placed r.places) 0 (r.minds.acts ++ r.sends.acts)
+  pub went_out : (r : Run s0 s1 s2 s3 s4 s5 s6 s7 m1 m2 m3 m4 m5 m6 m7) → Went s0 s3 (placed r.places) 0 (r.checks.acts ++ r.sends.acts)
   went_out r =
       let t = placed r.places in
       let w1 = went_placed s0 s1 m1 r.places in
       let heard : s1.kept.unannounced ≡ s1.kept.unannounced = refl in
-      let w2 = went_step s0 s1 s2 t 0 0 [] r.minds.acts refl w1 r.minds.leads r.minds.adds (ap (λ (s : Standing). s.line) r.minds.stays) (ap (λ (s : Standing). s.driver.taken) r.minds.stays) (ap (λ (s : Standing). s.kept.unfed) r.minds.stays) (λ end e. ap (λ (s : Standing). s.kept.course) r.minds.stays ∙ e) in
-      went_step s0 s2 s3 t 0 0 r.minds.acts r.sends.acts refl w2 r.sends.leads (r.sends.adds t.still_heard) (ap (λ (s : Standing). s.line) r.sends.stays) (ap (λ (s : Standing). s.driver.taken) r.sends.stays) (ap (λ (s : Standing). s.kept.unfed) r.sends.stays) (λ end e. ap (λ (s : Standing). s.kept.course) r.sends.stays ∙ e)
+      let w2 = went_step s0 s1 s2 t 0 0 [] r.checks.acts refl w1 r.checks.leads r.checks.adds (ap (λ (s : TurnState). s.line) r.checks.stays) (ap (λ (s : TurnState). s.driver.taken) r.checks.stays) (ap (λ (s : TurnState). s.kept.unfed) r.checks.stays) (λ end e. ap (λ (s : TurnState). s.kept.course) r.checks.stays ∙ e) in
+      went_step s0 s2 s3 t 0 0 r.checks.acts r.sends.acts refl w2 r.sends.leads (r.sends.adds t.still_heard) (ap (λ (s : TurnState). s.line) r.sends.stays) (ap (λ (s : TurnState). s.driver.taken) r.sends.stays) (ap (λ (s : TurnState). s.kept.unfed) r.sends.stays) (λ end e. ap (λ (s : TurnState). s.kept.course) r.sends.stays ∙ e)
 
   -- and as far as the frame at hand was handled
-  pub went_got : (r : Run s0 s1 s2 s3 s4 s5 s6 s7 m1 m2 m3 m4 m5 m6 m7) → Went s0 s5 (record (placed r.places) { write = r.writes.write }) 1 ((r.minds.acts ++ r.sends.acts) ++ r.gets.acts)
+  pub went_got : (r : Run s0 s1 s2 s3 s4 s5 s6 s7 m1 m2 m3 m4 m5 m6 m7) → Went s0 s5 (record (placed r.places) { write = r.writes.write }) 1 ((r.checks.acts ++ r.sends.acts) ++ r.gets.acts)
   went_got r =
       let t = record (placed r.places) { write = r.writes.write } in
-      let w4 = went_wrote s0 s3 s4 (placed r.places) 0 (r.minds.acts ++ r.sends.acts) m4 refl refl refl (went_out r) r.writes in
-      went_step s0 s4 s5 t 0 1 (r.minds.acts ++ r.sends.acts) r.gets.acts refl w4 r.gets.leads (r.gets.adds (placed r.places).still_heard) (ap (λ (s : Standing). s.line) r.gets.stays) (ap (λ (s : Standing). s.driver.taken) r.gets.stays) (ap (λ (s : Standing). s.kept.unfed) r.gets.stays) r.gets.ended
+      let w4 = went_wrote s0 s3 s4 (placed r.places) 0 (r.checks.acts ++ r.sends.acts) m4 refl refl refl (went_out r) r.writes in
+      went_step s0 s4 s5 t 0 1 (r.checks.acts ++ r.sends.acts) r.gets.acts refl w4 r.gets.leads (r.gets.adds (placed r.places).still_heard) (ap (λ (s : TurnState). s.line) r.gets.stays) (ap (λ (s : TurnState). s.driver.taken) r.gets.stays) (ap (λ (s : TurnState). s.kept.unfed) r.gets.stays) r.gets.ended
 
   -- what was unfed and aside stays but in its own step
   unfed_at_five : Run s0 s1 s2 s3 s4 s5 s6 s7 m1 m2 m3 m4 m5 m6 m7 → s5.kept.unfed ≡ s0.kept.unfed
   unfed_at_five r =
-      ap (λ (s : Standing). s.kept.unfed) r.gets.stays
-      ∙ (ap (λ (s : Standing). s.kept.unfed) r.writes.stays
-      ∙ (ap (λ (s : Standing). s.kept.unfed) r.sends.stays
-      ∙ (ap (λ (s : Standing). s.kept.unfed) r.minds.stays ∙ ap (λ (s : Standing). s.kept.unfed) r.places.stays)))
+      ap (λ (s : TurnState). s.kept.unfed) r.gets.stays
+      ∙ (ap (λ (s : TurnState). s.kept.unfed) r.writes.stays
+      ∙ (ap (λ (s : TurnState). s.kept.unfed) r.sends.stays
+      ∙ (ap (λ (s : TurnState). s.kept.unfed) r.checks.stays ∙ ap (λ (s : TurnState). s.kept.unfed) r.places.stays)))
 
   aside_at_six : Run s0 s1 s2 s3 s4 s5 s6 s7 m1 m2 m3 m4 m5 m6 m7 → s6.kept.aside ≡ s0.kept.aside
   aside_at_six r =
-      ap (λ (s : Standing). s.kept.aside) r.reads.stays
-      ∙ (ap (λ (s : Standing). s.kept.aside) r.gets.stays
-      ∙ (ap (λ (s : Standing). s.kept.aside) r.writes.stays
-      ∙ (ap (λ (s : Standing). s.kept.aside) r.sends.stays
-      ∙ (ap (λ (s : Standing). s.kept.aside) r.minds.stays ∙ ap (λ (s : Standing). s.kept.aside) r.places.stays))))
+      ap (λ (s : TurnState). s.kept.aside) r.reads.stays
+      ∙ (ap (λ (s : TurnState). s.kept.aside) r.gets.stays
+      ∙ (ap (λ (s : TurnState). s.kept.aside) r.writes.stays
+      ∙ (ap (λ (s : TurnState). s.kept.aside) r.sends.stays
+      ∙ (ap (λ (s : TurnState). s.kept.aside) r.checks.stays ∙ ap (λ (s : TurnState). s.kept.aside) r.places.stays))))
 
-  pub went_all : (r : Run s0 s1 s2 s3 s4 s5 s6 s7 m1 m2 m3 m4 m5 m6 m7) → Went s0 s7 (all_dealings r) 1 (all_acts r)
+  pub went_all : (r : Run s0 s1 s2 s3 s4 s5 s6 s7 m1 m2 m3 m4 m5 m6 m7) → Went s0 s7 (all_exchange r) 1 (all_acts r)
   went_all r =
       let t = record (placed r.places) { write = r.writes.write } in
-      let w6 = went_read s0 s5 s6 t 1 ((r.minds.acts ++ r.sends.acts) ++ r.gets.acts) m6 refl refl (unfed_at_five r) (went_got r) r.reads in
-      went_took s0 s6 s7 (record t { read = r.reads.read }) 1 ((r.minds.acts ++ r.sends.acts) ++ r.gets.acts) m7 refl (aside_at_six r) w6 r.takes
+      let w6 = went_read s0 s5 s6 t 1 ((r.checks.acts ++ r.sends.acts) ++ r.gets.acts) m6 refl refl (unfed_at_five r) (went_got r) r.reads in
+      went_took s0 s6 s7 (record t { read = r.reads.read }) 1 ((r.checks.acts ++ r.sends.acts) ++ r.gets.acts) m7 refl (aside_at_six r) w6 r.takes
 
   -- ## What moved
 
   -- the line and the desk's end stay but in their own steps
   line_at_three : Run s0 s1 s2 s3 s4 s5 s6 s7 m1 m2 m3 m4 m5 m6 m7 → s3.line ≡ s0.line
-  line_at_three r = ap (λ (s : Standing). s.line) r.sends.stays ∙ (ap (λ (s : Standing). s.line) r.minds.stays ∙ ap (λ (s : Standing). s.line) r.places.stays)
+  line_at_three r = ap (λ (s : TurnState). s.line) r.sends.stays ∙ (ap (λ (s : TurnState). s.line) r.checks.stays ∙ ap (λ (s : TurnState). s.line) r.places.stays)
 
   line_at_seven : Run s0 s1 s2 s3 s4 s5 s6 s7 m1 m2 m3 m4 m5 m6 m7 → s7.line ≡ s6.line
-  line_at_seven r = ap (λ (s : Standing). s.line) r.takes.stays
+  line_at_seven r = ap (λ (s : TurnState). s.line) r.takes.stays
 
   driver_at_six : Run s0 s1 s2 s3 s4 s5 s6 s7 m1 m2 m3 m4 m5 m6 m7 → s6.driver ≡ s1.driver
   driver_at_six r =
-      ap (λ (s : Standing). s.driver) r.reads.stays
-      ∙ (ap (λ (s : Standing). s.driver) r.gets.stays
-      ∙ (ap (λ (s : Standing). s.driver) r.writes.stays
-      ∙ (ap (λ (s : Standing). s.driver) r.sends.stays ∙ ap (λ (s : Standing). s.driver) r.minds.stays)))
+      ap (λ (s : TurnState). s.driver) r.reads.stays
+      ∙ (ap (λ (s : TurnState). s.driver) r.gets.stays
+      ∙ (ap (λ (s : TurnState). s.driver) r.writes.stays
+      ∙ (ap (λ (s : TurnState). s.driver) r.sends.stays ∙ ap (λ (s : TurnState). s.driver) r.checks.stays)))
 
   received_at_five : Run s0 s1 s2 s3 s4 s5 s6 s7 m1 m2 m3 m4 m5 m6 m7 → s5.line.received ≡ s0.line.received
-  received_at_five r = ap (λ (s : Standing). s.line.received) r.gets.stays ∙ (r.writes.came_none ∙ ap (λ (l : LineView). l.received) (line_at_three r))
+  received_at_five r = ap (λ (s : TurnState). s.line.received) r.gets.stays ∙ (r.writes.came_none ∙ ap (λ (l : LineView). l.received) (line_at_three r))
 
   sent_at_seven : Run s0 s1 s2 s3 s4 s5 s6 s7 m1 m2 m3 m4 m5 m6 m7 → s7.line.sent ≡ s4.line.sent
-  sent_at_seven r = ap (λ (l : LineView). l.sent) (line_at_seven r) ∙ (r.reads.went_none ∙ ap (λ (s : Standing). s.line.sent) r.gets.stays)
+  sent_at_seven r = ap (λ (l : LineView). l.sent) (line_at_seven r) ∙ (r.reads.went_none ∙ ap (λ (s : TurnState). s.line.sent) r.gets.stays)
 
   -- what the steps say is what is seen of the turn
   pub has_moved_all : (r : Run s0 s1 s2 s3 s4 s5 s6 s7 m1 m2 m3 m4 m5 m6 m7) → (m1 || (m2 || (m3 || (m4 || (m5 || (m6 || m7)))))) ≡ has_moved (view_of s0) (view_of s7) (all_acts r)
@@ -199,19 +199,20 @@ module _ {s0 s1 s2 s3 s4 s5 s6 s7 : Standing} {m1 m2 m3 m4 m5 m6 m7 : Bool} wher
       r.reads.moved_is
       ∙ (ap (λ (xs : List ℕ). nat_lt (length xs) (length s6.line.received) || nat_lt (length s6.kept.unfed) (length s5.kept.unfed)) (received_at_five r)
       ∙ (ap (λ (xs : List ℕ). nat_lt (length s0.line.received) (length xs) || nat_lt (length s6.kept.unfed) (length s5.kept.unfed)) (sym (ap (λ (l : LineView). l.received) (line_at_seven r)))
-      ∙ (ap (λ (xs : List ℕ). came || nat_lt (length xs) (length s5.kept.unfed)) (sym (ap (λ (s : Standing). s.kept.unfed) r.takes.stays))
+      ∙ (ap (λ (xs : List ℕ). came || nat_lt (length xs) (length s5.kept.unfed)) (sym (ap (λ (s : TurnState). s.kept.unfed) r.takes.stays))
       ∙ ap (λ (xs : List ℕ). came || nat_lt (length s7.kept.unfed) (length xs)) (unfed_at_five r)))) in
-      let acts = list_any-append is_more ((r.minds.acts ++ r.sends.acts) ++ r.gets.acts) r.takes.acts
-      ∙ ap (λ (c : Bool). c || some r.takes.acts) (list_any-append is_more (r.minds.acts ++ r.sends.acts) r.gets.acts
-      ∙ ap (λ (c : Bool). c || some r.gets.acts) (list_any-append is_more r.minds.acts r.sends.acts)) in
-      joined e1 r.minds.moved_is r.sends.moved_is e4 r.gets.moved_is e6 r.takes.moved_is
-      ∙ (all_moves told heard (some r.minds.acts) (some r.sends.acts) wrote (some r.gets.acts) came fed (some r.takes.acts)
+      let acts = list_any-append is_more ((r.checks.acts ++ r.sends.acts) ++ r.gets.acts) r.takes.acts
+      ∙ ap (λ (c : Bool). c || some r.takes.acts) (list_any-append is_more (r.checks.acts ++ r.sends.acts) r.gets.acts
+      ∙ ap (λ (c : Bool). c || some r.gets.acts) (list_any-append is_more r.checks.acts r.sends.acts)) in
+      joined e1 r.checks.moved_is r.sends.moved_is e4 r.gets.moved_is e6 r.takes.moved_is
+      ∙ (all_moves told heard (some r.checks.acts) (some r.sends.acts) wrote (some r.gets.acts) came fed (some r.takes.acts)
       ∙ ap (λ (c : Bool). c || (came || (wrote || (told || (heard || fed))))) (sym acts))
 
   -- ## Where nothing moved
 
   -- each step left everything as it was
   pub record Still (r : Run s0 s1 s2 s3 s4 s5 s6 s7 m1 m2 m3 m4 m5 m6 m7) : Type 0 where
+    pub checked : m2 ≡ false
     pub sent : m3 ≡ false
     pub written : s4.kept ≡ s3.kept
     pub got_none : r.gets.acts ≡ []
@@ -221,7 +222,7 @@ module _ {s0 s1 s2 s3 s4 s5 s6 s7 : Standing} {m1 m2 m3 m4 m5 m6 m7 : Bool} wher
     pub took : m7 ≡ false
     pub took_none : r.takes.acts ≡ []
     pub took_still : s7.kept ≡ s6.kept
-    pub acts_are : all_acts r ≡ r.minds.acts ++ r.sends.acts
+    pub acts_are : all_acts r ≡ r.checks.acts ++ r.sends.acts
     pub wrote : m4 ≡ false
 
   pub is_still : (r : Run s0 s1 s2 s3 s4 s5 s6 s7 m1 m2 m3 m4 m5 m6 m7) → (m1 || (m2 || (m3 || (m4 || (m5 || (m6 || m7)))))) ≡ false → Still r
@@ -234,8 +235,9 @@ module _ {s0 s1 s2 s3 s4 s5 s6 s7 : Standing} {m1 m2 m3 m4 m5 m6 m7 : Bool} wher
       let p6 = or_parts m6 m7 p5.1 in
       let got = r.gets.still p5.0 in
       let took = r.takes.still p6.1 in
-      let sound : s3.kept.faulty ≡ false = ap (λ (s : Standing). s.kept.faulty) r.sends.stays ∙ (ap (λ (s : Standing). s.kept.faulty) r.minds.stays ∙ (ap (λ (s : Standing). s.kept.faulty) r.places.stays ∙ r.sound_first)) in
+      let sound : s3.kept.faulty ≡ false = ap (λ (s : TurnState). s.kept.faulty) r.sends.stays ∙ (ap (λ (s : TurnState). s.kept.faulty) r.checks.stays ∙ (ap (λ (s : TurnState). s.kept.faulty) r.places.stays ∙ r.sound_first)) in
       record {
+        checked = p2.0;
         sent = p3.0;
         written = r.writes.still p4.0 (r.sound_written ∙ sym sound);
         got_none = got.0;
@@ -246,12 +248,12 @@ module _ {s0 s1 s2 s3 s4 s5 s6 s7 : Standing} {m1 m2 m3 m4 m5 m6 m7 : Bool} wher
         took_none = took.0;
         took_still = took.1;
         acts_are =
-            ap (λ (xs : List Act). ((r.minds.acts ++ r.sends.acts) ++ r.gets.acts) ++ xs) took.0
-            ∙ (append-nil ((r.minds.acts ++ r.sends.acts) ++ r.gets.acts)
-            ∙ (ap (λ (xs : List Act). (r.minds.acts ++ r.sends.acts) ++ xs) got.0 ∙ append-nil (r.minds.acts ++ r.sends.acts)));
+            ap (λ (xs : List Act). ((r.checks.acts ++ r.sends.acts) ++ r.gets.acts) ++ xs) took.0
+            ∙ (append-nil ((r.checks.acts ++ r.sends.acts) ++ r.gets.acts)
+            ∙ (ap (λ (xs : List Act). (r.checks.acts ++ r.sends.acts) ++ xs) got.0 ∙ append-nil (r.checks.acts ++ r.sends.acts)));
         wrote = p4.0;
       }
 
   -- a call on the line neither failed nor gave octets
   pub sound_five : (r : Run s0 s1 s2 s3 s4 s5 s6 s7 m1 m2 m3 m4 m5 m6 m7) → Still r → s6.kept.faulty ≡ s5.kept.faulty
-  sound_five r q = r.sound_read ∙ sym (ap (λ (s : Standing). s.kept.faulty) q.got_still ∙ r.sound_written)
+  sound_five r q = r.sound_read ∙ sym (ap (λ (s : TurnState). s.kept.faulty) q.got_still ∙ r.sound_written)

@@ -11,15 +11,15 @@ use Rattle.modem_desk.specs.declared.request.Urc.{Urc}
 use Rattle.modem_history.specs.Acts.{Act, Took, Got, Sent, Told, Heard, Tick, Lost, Held, Freed, Given, after, in_hand}
 use Rattle.modem_history.specs.Calls.{is_lost}
 use Rattle.modem_history.specs.Sessions.{heard_as}
-use Rattle.modem_history.specs.Turns.{Dealings, TurnFault, GoesFault, PlacesAlone, outcomes_told, lines_heard, may_act, may_fail}
-use Rattle.modem_history.proofs.AfterActs.{after_both}
+use Rattle.modem_history.specs.Turns.{Exchange, TurnFault, GoesFault, PlacesAlone, outcomes_told, lines_heard, may_act, may_fail}
+use Rattle.modem_history.proofs.calls.StatesAfterActs.{after_both}
 use Rattle.modem_driver.specs.SessionStates.{Kept, KeptGoes, KeptLoses}
-use Rattle.modem_driver.specs.TurnSteps.{Standing, StandingFits, Leads, Places, view_of, inside}
-use Rattle.modem_driver.proofs.sessions.Keeping.{told_both}
-use Rattle.modem_driver.proofs.sessions.Listening.{heard_both}
-use Rattle.modem_driver.proofs.sessions.Losing.{fail_all}
+use Rattle.modem_driver.specs.TurnSteps.{TurnState, StandingFits, Leads, Places, view_of, inside}
+use Rattle.modem_driver.proofs.sessions.CollectedActs.{told_both}
+use Rattle.modem_driver.proofs.sessions.ListenedLines.{heard_both}
+use Rattle.modem_driver.proofs.sessions.LineLoss.{fail_all}
 use Rattle.modem_driver.proofs.sessions.OneFrame.{few_both}
-use Rattle.modem_driver.proofs.sessions.Turning.{Went, placed, went_placed, once_still, taken_still}
+use Rattle.modem_driver.proofs.sessions.WholeTurns.{Went, placed, went_placed, once_still, taken_still}
 
 -- acts that a turn may have don't lose the line
 pub none_loses : (us : List Urc) (acts past : List Act) → list_all (may_act us) acts ≡ true → is_lost past ≡ false → is_lost (after past acts) ≡ false
@@ -41,17 +41,17 @@ none_loses us (a ∷ acts) past h live =
     one_loses Given e = live
 
 -- there was no memory for a step of a turn
-pub wants_memory : (s0 s : Standing) (t : Dealings) (acts : List Act) → Went s0 s t 1 acts → (s0.kept.faulty ≡ false) ⊎ PlacesAlone (view_of s0) (view_of s) acts → s0.kept.core.lost ≡ false
+pub wants_memory : (s0 s : TurnState) (t : Exchange) (acts : List Act) → Went s0 s t 1 acts → (s0.kept.faulty ≡ false) ⊎ PlacesAlone (view_of s0) (view_of s) acts → s0.kept.core.lost ≡ false
     → GoesFault (view_of s0) (view_of s) (λ b. inside b s0) (λ b. inside b s) TurnFault.NoMemory
 unfolding Leads
 wants_memory s0 s t acts w sound live = record {
   acts = acts;
-  dealings = t;
+  exchange = t;
   goes = w.leads;
   fault = λ b past once f.
       let adds = w.adds b past once f in
       record {
-        deals = record {
+        exchanges = record {
           came = w.came;
           room = w.room;
           went = w.went;
@@ -74,7 +74,7 @@ wants_memory s0 s t acts w sound live = record {
 }
 
 -- the line is lost after so much of a turn
-lost_there : (s0 s1 : Standing) (new : Kept) (t : Dealings) (xs : List Act) → t.next ≡ None → Went s0 s1 t 1 xs → KeptLoses s1.kept new → s0.kept.core.lost ≡ false
+lost_there : (s0 s1 : TurnState) (new : Kept) (t : Exchange) (xs : List Act) → t.next ≡ None → Went s0 s1 t 1 xs → KeptLoses s1.kept new → s0.kept.core.lost ≡ false
     → GoesFault (view_of s0) (view_of (record s1 { kept = new })) (λ b. inside b s0) (λ b. inside b (record s1 { kept = new })) TurnFault.LineFailed
 unfolding Leads KeptGoes
 lost_there s0 s1 new t xs none w k live =
@@ -82,7 +82,7 @@ lost_there s0 s1 new t xs none w k live =
     let unfed : length new.unfed ≡ length s1.kept.unfed = ap (λ (v : Kept). length v.unfed) k.stays in
     record {
       acts = xs ++ k.acts;
-      dealings = t;
+      exchange = t;
       goes = λ b past once f.
           let mid = once_still b s0 s1 past still f in
           subst (StandingFits b (record s1 { kept = new })) (sym (after_both xs k.acts past)) (k.goes b s1.line s1.driver (after past xs) once (w.leads b past mid f));
@@ -94,7 +94,7 @@ lost_there s0 s1 new t xs none w k live =
           let lost = k.loses b s1.line s1.driver (after past xs) once at in
           let both = after_both xs k.acts past in
           record {
-            deals = record {
+            exchanges = record {
               came = w.came;
               room = w.room;
               went = w.went;
@@ -132,13 +132,13 @@ lost_there s0 s1 new t xs none w k live =
           };
     }
 
-pub loses_line : (s0 s1 s2 : Standing) (t : Dealings) (xs : List Act) → t.next ≡ None → Went s0 s1 t 1 xs → s2 ≡ record s1 { kept = s2.kept } → KeptLoses s1.kept s2.kept → s0.kept.core.lost ≡ false
+pub loses_line : (s0 s1 s2 : TurnState) (t : Exchange) (xs : List Act) → t.next ≡ None → Went s0 s1 t 1 xs → s2 ≡ record s1 { kept = s2.kept } → KeptLoses s1.kept s2.kept → s0.kept.core.lost ≡ false
     → GoesFault (view_of s0) (view_of s2) (λ b. inside b s0) (λ b. inside b s2) TurnFault.LineFailed
 loses_line s0 s1 s2 t xs none w same k live =
-    subst (λ (s : Standing). GoesFault (view_of s0) (view_of s) (λ b. inside b s0) (λ b. inside b s) TurnFault.LineFailed) (sym same) (lost_there s0 s1 s2.kept t xs none w k live)
+    subst (λ (s : TurnState). GoesFault (view_of s0) (view_of s) (λ b. inside b s0) (λ b. inside b s) TurnFault.LineFailed) (sym same) (lost_there s0 s1 s2.kept t xs none w k live)
 
 -- what waits was placed, and nothing else is done
-pub places_alone : (s0 s1 : Standing) (moved : Bool) → Places s0 s1 moved → PlacesAlone (view_of s0) (view_of s1) []
+pub places_alone : (s0 s1 : TurnState) (moved : Bool) → Places s0 s1 moved → PlacesAlone (view_of s0) (view_of s1) []
 places_alone s0 s1 moved p = record {
   no_acts = refl;
   stays =
@@ -147,19 +147,19 @@ places_alone s0 s1 moved p = record {
 }
 
 -- the line was lost before
-pub has_failed : (s0 s1 : Standing) (moved : Bool) → Places s0 s1 moved → s0.kept.core.lost ≡ true
+pub has_failed : (s0 s1 : TurnState) (moved : Bool) → Places s0 s1 moved → s0.kept.core.lost ≡ true
     → GoesFault (view_of s0) (view_of s1) (λ b. inside b s0) (λ b. inside b s1) TurnFault.Failed
 unfolding Leads
 has_failed s0 s1 moved p lost =
     let w = went_placed s0 s1 moved p in
     record {
       acts = [];
-      dealings = placed p;
+      exchange = placed p;
       goes = w.leads;
       fault = λ b past once f.
           let adds = w.adds b past once f in
           record {
-            deals = record {
+            exchanges = record {
               came = w.came;
               room = w.room;
               went = w.went;

@@ -11,12 +11,12 @@ use crate::driver::Core;
 use crate::error::CoreError;
 use crate::session::ending::Course;
 use crate::session::error::{SessionError, SessionFault};
-use crate::session::input::Input;
-use crate::session::output::Output;
 use crate::session::waiting::Waiting;
 use at_text::UrcKind;
 use modem_desk::{Outcome, Request, Urc};
 use mux_frame::Deframer;
+use mux_station::WriteBuffer;
+use serial_line::ReadBuffer;
 use std::alloc::Global;
 use std::marker::Model;
 
@@ -26,9 +26,9 @@ use std::marker::Model;
 pub(crate) struct Kept {
     pub(super) core: Core,
     pub(super) aside: Option<Request>,
-    pub(super) input: Input,
+    pub(super) input: ReadBuffer,
     pub(super) deframer: Deframer,
-    pub(super) output: Output,
+    pub(super) output: WriteBuffer,
     pub(super) waiting: Waiting,
     pub(super) faulty: bool,
     pub(super) course: Course,
@@ -75,9 +75,9 @@ impl Kept {
         Ok(Kept {
             core,
             aside: None,
-            input: Input::new(alloc)?,
+            input: ReadBuffer::new(alloc)?,
             deframer,
-            output: Output::new(alloc)?,
+            output: WriteBuffer::new(alloc)?,
             waiting: Waiting::new(alloc)?,
             faulty: false,
             course: Course::GoesOn,

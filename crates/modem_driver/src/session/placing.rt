@@ -2,8 +2,8 @@
 ghost use Rattle.std.specs.Prelude.{◌≡◌, ◌<◌};
 ghost use Rattle.modem_history.specs.Kinds.{kind_place};
 ghost use Rattle.modem_history.specs.Sessions.{LineView};
-ghost use Rattle.modem_driver.specs.Placing.{OffersFirst, Placed, TellsAlone, AnnouncesAlone, caller_of, place_of, IsRingOf, IsCaller, IsEarOf, IsHeard};
-ghost use Rattle.modem_driver.specs.TurnSteps.{standing, Places};
+ghost use Rattle.modem_driver.specs.Placing.{OffersFirst, Placed, TellsAlone, AnnouncesAlone, caller_of, place_of, IsRingOf, IsCaller, IsListenerOf, IsHeard};
+ghost use Rattle.modem_driver.specs.TurnSteps.{turn_state, Places};
 
 use crate::session::kept::Kept;
 use crate::session::waiting::Waiting;
@@ -78,7 +78,8 @@ impl Waiting {
     /// before. One that is handed back, or isn't offered, goes behind the others. Whether it was
     /// announced.
     fn offer_line(&mut self, driver: &mut DriverEnd, held_up: &mut [bool; KINDS]) -> bool
-        ensures offers { OffersFirst place_of (IsEarOf driver.old.desk.kinds) (IsHeard driver.old.desk.kinds)
+        ensures offers { OffersFirst place_of (IsListenerOf driver.old.desk.kinds)
+            (IsHeard driver.old.desk.kinds)
             driver.old.announced driver.new.announced driver.old.free_lines driver.new.free_lines held_up.old
             held_up.new self.old.lines self.new.lines result }
         ensures alone { AnnouncesAlone driver.old driver.new }
@@ -104,7 +105,7 @@ impl Waiting {
     /// order, and once one of a kind was handed back no other of that kind is offered. Whether any was
     /// announced.
     fn place_lines(&mut self, driver: &mut DriverEnd) -> bool
-        ensures placed { Placed place_of (IsEarOf driver.old.desk.kinds) (IsHeard driver.old.desk.kinds)
+        ensures placed { Placed place_of (IsListenerOf driver.old.desk.kinds) (IsHeard driver.old.desk.kinds)
             driver.old.announced driver.new.announced driver.new.free_lines
             self.old.lines self.new.lines result }
         ensures alone { AnnouncesAlone driver.old driver.new }
@@ -125,7 +126,7 @@ impl Kept {
     /// back, no other of it is offered. Whether anything was placed.
     pub(crate) fn place(&mut self, driver: &mut DriverEnd) -> bool
         ensures { (l : LineView)
-            → Places (standing l driver.old self.old) (standing l driver.new self.new) result }
+            → Places (turn_state l driver.old self.old) (turn_state l driver.new self.new) result }
     {
         let told = self.waiting.place_outcomes(driver);
         let announced = self.waiting.place_lines(driver);

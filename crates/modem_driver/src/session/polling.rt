@@ -2,8 +2,8 @@
 ghost use Rattle.std.specs.Prelude.{◌≡◌, ◌+◌, ◌≤◌, IfErr, IfSome};
 ghost use Rattle.modem_driver.specs.SessionStates.{line_by, TakesMore};
 ghost use Rattle.modem_history.specs.Turns.{says_moved};
-ghost use Rattle.modem_driver.specs.SessionTurns.{answer_of, LeavesLost};
-ghost use Rattle.modem_driver.specs.Polls.{has_ended, is_stopped, end_given, with_end, GoesOn, Runs, PollsOn, Polls, Gives};
+ghost use Rattle.modem_driver.specs.SessionTurns.{turn_answer, LeavesLost};
+ghost use Rattle.modem_driver.specs.Polls.{has_ended, is_stopped, end_given, with_end, SessionGoesOn, RunsTurns, PollsOn, Polls, Gives};
 
 use crate::session::Session;
 use crate::session::ending::{Course, Ended};
@@ -21,7 +21,7 @@ const TURNS: usize = 64;
 impl Turn {
     /// Whether it is Moved.
     fn is_moved(self) -> bool
-        ensures { result ≡ says_moved (answer_of self) }
+        ensures { result ≡ says_moved (turn_answer self) }
     {
         matches!(self, Turn::Moved)
     }
@@ -60,8 +60,8 @@ impl<L: SerialLine, R: Wait + Drop> Session<L, R> {
     /// At most 64 turns, none behind one that doesn't answer Moved, and none once it has ended. The fault
     /// by which the last one ended, if it did.
     fn turns(&mut self) -> Result<(), SessionFault>
-        ensures runs { Runs (line_by L.received L.sent L.calls L.failures) self.old self.new result }
-        ensures goes { GoesOn (line_by L.received L.sent L.calls L.failures) self.old self.new }
+        ensures runs { RunsTurns (line_by L.received L.sent L.calls L.failures) self.old self.new result }
+        ensures goes { SessionGoesOn (line_by L.received L.sent L.calls L.failures) self.old self.new }
         ensures bounded { L.calls self.new.line ≤ L.calls self.old.line + 128 }
         ensures takes { TakesMore self.old.driver self.new.driver }
         ensures lost { IfErr result (λ why. LeavesLost why self.new) }
@@ -106,7 +106,7 @@ impl<L: SerialLine, R: Wait + Drop> Session<L, R> {
     /// kept as the end, but for 1 NoMemory.
     fn run(&mut self) -> Option<Result<Ended, SessionFault>>
         ensures polls { PollsOn (line_by L.received L.sent L.calls L.failures) self.old self.new result }
-        ensures goes { GoesOn (line_by L.received L.sent L.calls L.failures) self.old self.new }
+        ensures goes { SessionGoesOn (line_by L.received L.sent L.calls L.failures) self.old self.new }
         ensures gives { IfSome result (Gives (line_by L.received L.sent L.calls L.failures) self.old) }
         ensures bounded { L.calls self.new.line ≤ L.calls self.old.line + 128 }
         ensures takes { TakesMore self.old.driver self.new.driver }
@@ -131,7 +131,7 @@ impl<L: SerialLine, R: Wait + Drop> Session<L, R> {
     /// session that is polled only the output is known.
     pub fn advance(&mut self) -> Option<Result<Ended, SessionFault>>
         ensures polls { Polls (line_by L.received L.sent L.calls L.failures) self.old self.new result }
-        ensures goes { GoesOn (line_by L.received L.sent L.calls L.failures) self.old self.new }
+        ensures goes { SessionGoesOn (line_by L.received L.sent L.calls L.failures) self.old self.new }
         ensures gives { IfSome result (Gives (line_by L.received L.sent L.calls L.failures) self.old) }
         ensures bounded { L.calls self.new.line ≤ L.calls self.old.line + 128 }
         ensures takes { TakesMore self.old.driver self.new.driver }

@@ -1,7 +1,7 @@
 //! A request is taken: the one kept aside, or else the next of the desk.
 ghost use Rattle.std.specs.Prelude.{◌≡◌, ◌≢◌, None, IfOk, OnErr};
 ghost use Rattle.modem_history.specs.Sessions.{LineView};
-ghost use Rattle.modem_driver.specs.TurnSteps.{standing, TakesOne, KeepsAside};
+ghost use Rattle.modem_driver.specs.TurnSteps.{turn_state, TakesOne, KeepsAside};
 ghost use Rattle.modem_driver.specs.TurnTakes.{Fetches, TakesIf};
 ghost use Rattle.modem_driver.specs.declared.session.error.SessionFault.TheVariants as fault;
 
@@ -15,7 +15,7 @@ impl Kept {
     /// the outcomes that wait are fewer than 128.
     fn fetch<R: Wait>(&mut self, driver: &mut DriverEnd, rt: &R)
         ensures { (l : LineView)
-            → Fetches (standing l driver.old self.old) (standing l driver.new self.new) }
+            → Fetches (turn_state l driver.old self.old) (turn_state l driver.new self.new) }
     {
         if self.aside.is_some() {
             return;
@@ -58,9 +58,9 @@ impl Kept {
         rt: &R,
     ) -> Result<bool, SessionFault>
         ensures takes { IfOk result (λ moved. (l : LineView)
-            → TakesOne (standing l driver.old self.old) (standing l driver.new self.new) moved) }
+            → TakesOne (turn_state l driver.old self.old) (turn_state l driver.new self.new) moved) }
         ensures keeps { OnErr result ((l : LineView)
-            → KeepsAside (standing l driver.old self.old) (standing l driver.new self.new)) }
+            → KeepsAside (turn_state l driver.old self.old) (turn_state l driver.new self.new)) }
         ensures no_memory { OnErr result (result ≡ Err fault.NoMemory) }
     {
         self.fetch(driver, rt);

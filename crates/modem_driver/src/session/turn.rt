@@ -1,8 +1,8 @@
 //! Turns of a session.
 ghost use Rattle.std.specs.Prelude.{◌≡◌, true, Err, IfOk, IfErr, OnErr};
 ghost use Rattle.modem_driver.specs.SessionStates.{has_lost_line, line_by, TakesMore};
-ghost use Rattle.modem_driver.specs.TurnSteps.{Places, Minds, MindsPart, SendsOn, Writes, Gets, ReadsOn, TakesOne, KeepsAside};
-ghost use Rattle.modem_driver.specs.SessionTurns.{standing_of, answer_of, fault_of, Answers, HasNoPlace, HasTurned, LeavesLost, LosesOr, Turns, Faults};
+ghost use Rattle.modem_driver.specs.TurnSteps.{Places, Checks, ChecksPart, SendsOn, Writes, Gets, ReadsOn, TakesOne, KeepsAside};
+ghost use Rattle.modem_driver.specs.SessionTurns.{standing_of, turn_answer, fault_of, Answers, HasNoPlace, HasTurned, LeavesLost, LosesOr, TakesTurn, Faults};
 ghost use Rattle.modem_driver.specs.declared.session.error.SessionFault.TheVariants as fault;
 
 use crate::session::Session;
@@ -31,7 +31,7 @@ pub enum Turn {
 impl Kept {
     /// What a turn answers by what still waits.
     fn answer(&self, moved: bool) -> Turn
-        ensures { Answers self.now moved (answer_of result) }
+        ensures { Answers self.now moved (turn_answer result) }
     {
         if moved {
             return Turn::Moved;
@@ -66,7 +66,7 @@ impl<L: SerialLine, R: Wait + Drop> Session<L, R> {
 
     /// What a turn answers.
     fn answer(&self, moved: bool) -> Turn
-        ensures { Answers self.now.kept moved (answer_of result) }
+        ensures { Answers self.now.kept moved (turn_answer result) }
     {
         self.kept.answer(moved)
     }
@@ -80,16 +80,16 @@ impl<L: SerialLine, R: Wait + Drop> Session<L, R> {
     }
 
     /// Looks at the backlogs.
-    fn mind_backlogs(&mut self) -> Result<bool, SessionFault>
-        ensures minds { IfOk result (λ moved. Minds
+    fn check_backlogs(&mut self) -> Result<bool, SessionFault>
+        ensures checks { IfOk result (λ moved. Checks
             (standing_of (line_by L.received L.sent L.calls L.failures) self.old)
             (standing_of (line_by L.received L.sent L.calls L.failures) self.new) moved) }
-        ensures part { OnErr result (MindsPart
+        ensures part { OnErr result (ChecksPart
             (standing_of (line_by L.received L.sent L.calls L.failures) self.old)
             (standing_of (line_by L.received L.sent L.calls L.failures) self.new)) }
         ensures no_memory { OnErr result (result ≡ Err fault.NoMemory) }
     {
-        self.kept.mind_backlogs()
+        self.kept.check_backlogs()
     }
 
     /// Takes the next frame into the output.
@@ -170,8 +170,8 @@ impl<L: SerialLine, R: Wait + Drop> Session<L, R> {
     /// which every turn answered NoMemory; 3 Failed in every turn after that, which still offers to the
     /// desk what waits.
     pub fn turn(&mut self) -> Result<Turn, SessionFault>
-        ensures turns { IfOk result (λ says. Turns (line_by L.received L.sent L.calls L.failures)
-            self.old self.new (answer_of says)) }
+        ensures turns { IfOk result (λ says. TakesTurn (line_by L.received L.sent L.calls L.failures)
+            self.old self.new (turn_answer says)) }
         ensures faults { IfErr result (λ why. Faults (line_by L.received L.sent L.calls L.failures)
             self.old self.new (fault_of why)) }
         ensures turned { HasTurned (standing_of (line_by L.received L.sent L.calls L.failures) self.old)
@@ -179,7 +179,7 @@ impl<L: SerialLine, R: Wait + Drop> Session<L, R> {
         ensures lost { IfErr result (λ why. LeavesLost why self.new) }
         ensures failed { has_lost_line self.old ≡ true → result ≡ Err fault.Failed }
         ensures takes { TakesMore self.old.driver self.new.driver }
-        ensures full { IfOk result (λ says. HasNoPlace self.new.driver (answer_of says)) }
+        ensures full { IfOk result (λ says. HasNoPlace self.new.driver (turn_answer says)) }
     {
         let placed = self.place();
         if self.is_lost() {
@@ -188,7 +188,7 @@ impl<L: SerialLine, R: Wait + Drop> Session<L, R> {
         if self.is_faulty() {
             return Err(self.lose_line());
         }
-        let Ok(minded) = self.mind_backlogs() else {
+        let Ok(checked) = self.check_backlogs() else {
             return Err(SessionFault::NoMemory);
         };
         let sent = self.send_on();
@@ -206,7 +206,7 @@ impl<L: SerialLine, R: Wait + Drop> Session<L, R> {
         let Ok(took) = self.take_one() else {
             return Err(SessionFault::NoMemory);
         };
-        let moved = placed | minded | sent | wrote | got | read | took;
+        let moved = placed | checked | sent | wrote | got | read | took;
         Ok(self.answer(moved))
     }
 }

@@ -78,7 +78,8 @@ impl<L: SerialLine + Drop, R: Wait + Drop> Future for Driven<'_, L, R> {
 
     ghost can_poll = { λ d. IsSome d.session };
 
-    ghost gives = { λ d out. IfSome d.session (λ s. Continues (line_by L.received L.sent L.calls L.failures) s out.0) };
+    ghost gives = { λ d out. IfSome d.session
+        (λ s. Continues (line_by L.received L.sent L.calls L.failures) s out.0) };
 
     fn poll(&mut self, cx: &mut Context<'_>) -> Poll<(Session<L, R>, Result<(), Fault>)> {
         let mut session = self.session.take().unwrap();

@@ -1,6 +1,6 @@
 //! A bench: callers, the driver and a simulated modem in threads of their own.
 ghost use Rattle.std.specs.Prelude.{◌≡◌, ◌≤◌, ◌<◌, ◌++◌, ◌∷◌, [], IfOk, OnOk, length, map, vec_items};
-ghost use Rattle.modem_desk.specs.Ends.{AreEars, IsWhole, Opened, ear_of, place_of};
+ghost use Rattle.modem_desk.specs.Ends.{AreSubscribed, IsWhole, Opened, subscription_of, place_of};
 ghost use Rattle.modem_driver.specs.SessionStates.{FitsAll, beginning_of, line_by};
 ghost use Rattle.modem_runs.specs.Calling.{Works};
 ghost use Rattle.modem_runs.specs.Driving.{IsBegun, IsOver};
@@ -65,7 +65,7 @@ where
 }
 
 /// Sends all callers out, as far as there is memory.
-#[tactic(auto, using(crate::proofs::Working::out_none, crate::proofs::Working::out_more))]
+#[tactic(auto, using(crate::proofs::bench_runs::CallerThreads::out_none, crate::proofs::bench_runs::CallerThreads::out_more))]
 fn send_out<R>(
     rt: &R,
     alloc: Global,
@@ -119,7 +119,7 @@ fn join_one(rt: &impl Threads, handle: Work, back: &mut Vec<Worked>) -> Result<(
 }
 
 /// Waits for each caller.
-#[tactic(auto, using(crate::proofs::Working::back_none, crate::proofs::Working::back_next))]
+#[tactic(auto, using(crate::proofs::bench_runs::CallerThreads::back_none, crate::proofs::bench_runs::CallerThreads::back_next))]
 fn bring_back(rt: &impl Threads, alloc: Global, out: Vec<Work>) -> Result<Vec<Worked>, Fault>
     ensures { IfOk result (λ back. AreBack out.items back.items) }
 {
@@ -136,7 +136,7 @@ fn bring_back(rt: &impl Threads, alloc: Global, out: Vec<Work>) -> Result<Vec<Wo
 }
 
 /// Sends all callers out, and waits for each.
-#[tactic(auto, using(crate::proofs::Working::all_work))]
+#[tactic(auto, using(crate::proofs::bench_runs::CallerThreads::all_work))]
 fn work_all<R>(
     rt: &R,
     alloc: Global,
@@ -183,7 +183,7 @@ fn stop_first<R: Wait>(rt: &R, back: &mut Vec<Worked>, signals: &Signals) -> Res
 }
 
 /// What the callers do, from the openings to the Stop.
-#[tactic(auto, using(crate::proofs::Working::opened_long, crate::proofs::Working::back_long, crate::proofs::Working::are_called))]
+#[tactic(auto, using(crate::proofs::bench_runs::CallerThreads::opened_long, crate::proofs::bench_runs::CallerThreads::back_long, crate::proofs::bench_runs::CallerThreads::are_called))]
 fn call<R>(
     rt: &R,
     alloc: Global,
@@ -255,8 +255,9 @@ where
     L: SerialLine + Drop,
     R: Wait + Drop,
     requires callers { IsWhole session.driver.desk (map place_of callers.items) }
-    requires listeners { AreEars session.driver.desk (map ear_of listeners.items) }
-    ensures { IfOk result (IsOver (line_by L.received L.sent L.calls L.failures) session callers.items listeners.items) }
+    requires listeners { AreSubscribed session.driver.desk (map subscription_of listeners.items) }
+    ensures { IfOk result
+        (IsOver (line_by L.received L.sent L.calls L.failures) session callers.items listeners.items) }
 {
     let finished = session.finish();
     match settle(rt, alloc, finished.driver, callers, listeners) {
@@ -288,8 +289,9 @@ where
     requires few { (0 < length ends.callers.items) × (length ends.callers.items ≤ 8) }
     requires begun { IsBegun (line_by L.received L.sent L.calls L.failures) ends.session }
     requires callers { IsWhole ends.session.driver.desk (map place_of ends.callers.items) }
-    requires listeners { AreEars ends.session.driver.desk (map ear_of ends.listeners.items) }
-    ensures { IfOk result (λ outcomes. RanFor submissions.now ends.callers.items (map vec_items outcomes.items)) }
+    requires listeners { AreSubscribed ends.session.driver.desk (map subscription_of ends.listeners.items) }
+    ensures { IfOk result
+        (λ outcomes. RanFor submissions.now ends.callers.items (map vec_items outcomes.items)) }
 {
     let Ends {
         session,
@@ -369,7 +371,8 @@ fn begin<L: SerialLine + Drop, R: Wait + Drop + Copy>(
     ensures many { IfOk result (λ e. AreFresh callers e.callers.items) }
     ensures begun { IfOk result (λ e. IsBegun (line_by L.received L.sent L.calls L.failures) e.session) }
     ensures callers { IfOk result (λ e. IsWhole e.session.driver.desk (map place_of e.callers.items)) }
-    ensures listeners { IfOk result (λ e. AreEars e.session.driver.desk (map ear_of e.listeners.items)) }
+    ensures listeners { IfOk result
+        (λ e. AreSubscribed e.session.driver.desk (map subscription_of e.listeners.items)) }
 {
     let (driver, callers, listeners) = open_desk(alloc, callers)?;
     let (near, far) = line;

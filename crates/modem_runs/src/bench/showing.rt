@@ -16,7 +16,8 @@ fn push_told(
     answer: &Answer,
     text: &mut String,
 ) -> Result<(), AllocError>
-    ensures { OnOk result (string_bytes text.new ≡ string_bytes text.old ++ told_text caller place answer.now) }
+    ensures { OnOk result
+        (string_bytes text.new ≡ string_bytes text.old ++ told_text caller place answer.now) }
 {
     let word = answer_word(answer);
     writeln!(text, "{caller} {place} {word}")?;

@@ -49,7 +49,8 @@ fn carrier_of(word: &[u8]) -> Result<Dlci, Refusal>
 
 /// The words behind the caller: a connection, one blank and a command line.
 fn command_of(alloc: Global, words: &[u8]) -> Result<(Dlci, CommandLine), Refusal>
-    ensures { MatchResult result (λ r. IsCommand words.now r.0.number r.1) (λ why. why ≡ Refusal.Bad → IsNoCommand words.now) }
+    ensures { MatchResult result (λ r. IsCommand words.now r.0.number r.1)
+        (λ why. why ≡ Refusal.Bad → IsNoCommand words.now) }
 {
     let Some((word, text)) = split_once(words, b' ') else {
         return Err(Refusal::Bad);
@@ -62,7 +63,8 @@ fn command_of(alloc: Global, words: &[u8]) -> Result<(Dlci, CommandLine), Refusa
 /// A line that isn't empty.
 fn submission_of(alloc: Global, callers: u8, line: &[u8]) -> Result<Submission, Refusal>
     requires { callers ≤ 8 }
-    ensures { MatchResult result (Submits callers line.now) (λ why. why ≡ Refusal.Bad → SubmitsNothing callers line.now) }
+    ensures { MatchResult result (Submits callers line.now)
+        (λ why. why ≡ Refusal.Bad → SubmitsNothing callers line.now) }
 {
     let Some((word, words)) = split_once(line, b' ') else {
         return Err(Refusal::Bad);

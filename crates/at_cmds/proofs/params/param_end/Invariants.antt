@@ -1,6 +1,6 @@
 use Rattle.std.proofs.Common.{◌≡◌, take, drop}
 use Rattle.at_cmds.specs.Params.{divided, parameters}
-use Rattle.at_cmds.proofs.ParamLemmas.{put_text}
+use Rattle.at_cmds.proofs.values_read.Parameters.{put_text}
 use Rattle.at_cmds.proofs.params.param_end.Given as goal
 
 -- the text so far belongs to the first parameter

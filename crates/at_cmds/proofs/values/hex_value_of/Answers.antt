@@ -1,5 +1,5 @@
 use Rattle.std.proofs.Common.{◌<◌, arith, length}
-use Rattle.at_cmds.proofs.ValueLemmas.{below_eight}
+use Rattle.at_cmds.proofs.values_read.ShortNumbers.{below_eight}
 use Rattle.at_cmds.proofs.values.hex_value_of.Goals as goal
 
 pub overflow_mul-value : goal.overflow_mul-value

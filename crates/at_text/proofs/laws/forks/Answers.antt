@@ -1,4 +1,4 @@
-use Rattle.at_text.proofs.ForkLemmas.{sees_apart, whole_again}
+use Rattle.at_text.proofs.windows.WindowForks.{sees_apart, whole_again}
 use Rattle.at_text.proofs.laws.forks.Goals as goal
 
 pub returns-clause-apart : goal.returns-clause-apart

@@ -1,4 +1,4 @@
-use Rattle.at_text.proofs.PlacingLemmas.{places_lines}
+use Rattle.at_text.proofs.lines.LinePlaces.{places_lines}
 use Rattle.at_text.proofs.laws.placing.Goals as goal
 
 pub returns : goal.returns

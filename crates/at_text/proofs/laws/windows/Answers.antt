@@ -1,4 +1,4 @@
-use Rattle.at_text.proofs.WholeLemmas.{none_lost}
+use Rattle.at_text.proofs.windows.AllLines.{none_lost}
 use Rattle.at_text.proofs.laws.windows.Goals as goal
 
 pub returns : goal.returns

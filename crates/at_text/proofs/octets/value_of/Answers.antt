@@ -1,5 +1,5 @@
 use Rattle.std.proofs.Common.{◌<◌, arith, length}
-use Rattle.at_text.proofs.OctetLemmas.{below_nine}
+use Rattle.at_text.proofs.ShortNumbers.{below_nine}
 use Rattle.at_text.proofs.octets.value_of.Goals as goal
 
 pub overflow_mul-value : goal.overflow_mul-value

@@ -1,5 +1,5 @@
 use Rattle.std.proofs.Common.{sym}
-use Rattle.modem_desk.proofs.KindLemmas.{elem_at, same_kind}
+use Rattle.modem_desk.proofs.desk_places.KindPlaces.{elem_at, same_kind}
 use Rattle.modem_desk.proofs.driver.place_in.Goals as goal
 
 pub returns-then-eq : goal.returns-then-eq

@@ -4,8 +4,8 @@ use Rattle.std.proofs.lemmas.List.Elements.{All-push}
 use Rattle.crossbeam_queue.specs.Passes.{view}
 use Rattle.modem_desk.specs.declared.rule.View.{View}
 use Rattle.modem_desk.specs.declared.request.Request.{Request}
-use Rattle.modem_desk.specs.Rule.{AllLeft, Drained}
-use Rattle.modem_desk.proofs.Rules.{drains, ends}
+use Rattle.modem_desk.specs.Rule.{AllLeft, DrainsOne}
+use Rattle.modem_desk.proofs.queue_rule.RuleSteps.{drains, ends}
 use Rattle.modem_desk.proofs.settling.drain.Goals as goal
 
 pub pop_as-requires-clause-rule : goal.pop_as-requires-clause-rule
@@ -19,7 +19,7 @@ few false n rest waiting x begun fresh is lt = let e : length n ≡ 0 = ap (leng
 pub loop-preserved : goal.loop-preserved
 loop-preserved g c =
     let i = c.loop.invariant in
-    let d : Drained (view c.loop.pass) c.in-Some-pop_as.request (view c.pop_as.new.pass) = c.in-Some-pop_as.ensures.rule in
+    let d : DrainsOne (view c.loop.pass) c.in-Some-pop_as.request (view c.pop_as.new.pass) = c.in-Some-pop_as.ensures.rule in
     let w = d.1 in
     let pushed : c.push.new.self.items ≡ c.loop.left.items ++ c.in-Some-pop_as.request ∷ [] = rw c.unwrap.ensures at c.push.ensures.items in
     record {

@@ -9,7 +9,7 @@ use Rattle.modem_desk.specs.declared.rule.View.{View}
 use Rattle.modem_desk.specs.Ends.{RingId}
 use Rattle.modem_desk.specs.Rule.{driver, AllLeft}
 use Rattle.modem_desk.specs.Settling.{known_of, HeldFor, HeardBy}
-use Rattle.modem_desk.proofs.Leavings.{all_left, books}
+use Rattle.modem_desk.proofs.desk_places.ReturnedEnds.{all_left, books}
 use Rattle.modem_desk.proofs.settling.gather.Goals as goal
 
 pub gather_outcomes-untaken-requires-clause-places : goal.gather_outcomes-untaken-requires-clause-places
@@ -20,7 +20,7 @@ gather_outcomes-untaken-requires-clause-places g c i a at =
 
 pub gather_lines-unheard-requires-clause-places : goal.gather_lines-unheard-requires-clause-places
 gather_lines-unheard-requires-clause-places g c i a at =
-    ap (λ (l : List RingId). get_elem? l a.ear.place) c.into_parts-queue.ensures.lines.0 ∙ (c.requires.whole.1 i a at).1
+    ap (λ (l : List RingId). get_elem? l a.subscription.place) c.into_parts-queue.ensures.lines.0 ∙ (c.requires.whole.1 i a at).1
 
 pub drain-requires-clause-pass : goal.drain-requires-clause-pass
 drain-requires-clause-pass g c =

@@ -14,7 +14,7 @@ use Rattle.modem_desk.specs.declared.rule.View.{View}
 use Rattle.modem_desk.specs.Ends.{CallerView, RingId, IsNumbered}
 use Rattle.modem_desk.specs.Rule.{driver}
 use Rattle.modem_desk.specs.Settling.{known_of, HeldFor}
-use Rattle.modem_desk.proofs.Leavings.{comes, held_more, each_more}
+use Rattle.modem_desk.proofs.desk_places.ReturnedEnds.{comes, held_more, each_more}
 use Rattle.modem_desk.proofs.settling.gather_outcomes.Goals as goal
 
 pub leave-requires-clause-place : goal.leave-requires-clause-place

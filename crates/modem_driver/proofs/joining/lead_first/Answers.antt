@@ -6,8 +6,8 @@ use Rattle.modem_history.specs.declared.act.Act as code
 use Rattle.modem_history.specs.Acts.{act_of}
 use Rattle.modem_driver.specs.Forks.{tells_lines}
 use Rattle.std.proofs.Common.{List}
-use Rattle.modem_driver.proofs.Reporting.{on_ok}
-use Rattle.modem_driver.proofs.Forking.{led_at, untold}
+use Rattle.modem_driver.proofs.lines.ReportedLines.{on_ok}
+use Rattle.modem_driver.proofs.lines.WindowForks.{led_at, untold}
 use Rattle.modem_driver.proofs.joining.lead_first.Goals as goal
 
 pub returns-in-Some-clause-acts : goal.returns-in-Some-clause-acts

@@ -4,7 +4,7 @@ use Rattle.std.specs.Prelude.{map}
 use Rattle.std.proofs.lemmas.List.{map-append}
 use Rattle.modem_history.specs.declared.act.Act as code
 use Rattle.modem_history.specs.Acts.{Heard, act_of}
-use Rattle.modem_driver.proofs.Reporting.{unheard, heard}
+use Rattle.modem_driver.proofs.lines.ReportedLines.{unheard, heard}
 use Rattle.modem_driver.proofs.reports.hear.Goals as goal
 
 pub returns-then-not-is_heard : goal.returns-then-not-is_heard

@@ -3,8 +3,8 @@ use Rattle.std.proofs.Common.{sym, subst, refl}
 use Rattle.std.specs.Prelude.{map}
 use Rattle.at_text.specs.declared.window.Seen as line_is
 use Rattle.modem_history.specs.Acts.{act_of}
-use Rattle.modem_driver.specs.Reports.{Read, Says, said_as}
-use Rattle.modem_driver.proofs.Reporting.{octet_ends, octet_none, on_ok}
+use Rattle.modem_driver.specs.Reports.{Read, ReportSays, said_as}
+use Rattle.modem_driver.proofs.lines.ReportedLines.{octet_ends, octet_none, on_ok}
 use Rattle.modem_driver.proofs.reports.read_octet.Goals as goal
 
 pub returns-in_default : goal.returns-in_default
@@ -21,4 +21,4 @@ returns c =
     on_ok _ _ c.say.result
     (λ g.
     octet_ends c.args.kinds.now c.args.reading old new c.args.octet l (sym c.in-Some.ensures.line) c.push.follows.holds-at-none c.in-Ok.ensures.after
-    (subst (λ (s : line_is.Seen). Says c.args.kinds.now c.args.reading (λ listens. said_as listens c.args.reading.dlci.number c.args.reading.owner l s) old.acts new.acts) c.in-Ok.ensures.seen g)) c.say.ensures
+    (subst (λ (s : line_is.Seen). ReportSays c.args.kinds.now c.args.reading (λ listens. said_as listens c.args.reading.dlci.number c.args.reading.owner l s) old.acts new.acts) c.in-Ok.ensures.seen g)) c.say.ensures

@@ -3,7 +3,7 @@ use Rattle.std.proofs.Common.{◌≡◌, ◌<◌, ◌∷◌, ◌+◌, drop, leng
 use Rattle.std.specs.Prelude.{map}
 use Rattle.modem_history.specs.Acts.{act_of}
 use Rattle.modem_driver.specs.Reports.{Read}
-use Rattle.modem_driver.proofs.Reporting.{reads_next, reads_last, all_dropped}
+use Rattle.modem_driver.proofs.lines.ReportedLines.{reads_next, reads_last, all_dropped}
 use Rattle.modem_driver.proofs.reports.read_octets.Goals as goal
 
 pub loop-octet-preserved : goal.loop-octet-preserved

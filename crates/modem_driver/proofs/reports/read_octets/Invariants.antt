@@ -1,7 +1,7 @@
 -- The octets so far are read.
 use Rattle.std.specs.Prelude.{drop, map}
 use Rattle.modem_history.specs.Acts.{act_of}
-use Rattle.modem_driver.proofs.Reporting.{ReadSoFar}
+use Rattle.modem_driver.proofs.lines.ReportedLines.{ReadSoFar}
 use Rattle.modem_driver.proofs.reports.read_octets.Given as goal
 
 abbrev pub invariant-loop-octet : goal.invariant-loop-octet

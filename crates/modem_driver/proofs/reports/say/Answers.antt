@@ -1,7 +1,7 @@
 -- What is said of a line is by what it is.
 use Rattle.std.specs.Prelude.{map}
 use Rattle.modem_history.specs.Acts.{act_of}
-use Rattle.modem_driver.proofs.Reporting.{quiet_said, done_said, on_ok}
+use Rattle.modem_driver.proofs.lines.ReportedLines.{quiet_said, done_said, on_ok}
 use Rattle.modem_driver.proofs.reports.say.Goals as goal
 
 pub returns-in-Echo : goal.returns-in-Echo

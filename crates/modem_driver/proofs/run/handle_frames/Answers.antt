@@ -4,7 +4,7 @@ use Rattle.std.proofs.Common.{sym, ◌∙◌, ap}
 use Rattle.mux_frame.specs.Frames.{frame_of}
 use Rattle.mux_frame.specs.Deframing.{Deframing}
 use Rattle.modem_driver.specs.Running.{running_of}
-use Rattle.modem_driver.proofs.Coming.{hears_none, hears_more}
+use Rattle.modem_driver.proofs.replays.ArrivalOrder.{hears_none, hears_more}
 use Rattle.modem_driver.proofs.run.handle_frames.Goals as goal
 
 pub loop-frame-init : goal.loop-frame-init

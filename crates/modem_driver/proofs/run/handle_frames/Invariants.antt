@@ -1,13 +1,13 @@
 -- The frames so far have come.
 use Rattle.std.specs.Prelude.{◌≡◌, []}
 use Rattle.std.proofs.Common.{length}
-use Rattle.modem_driver.specs.Running.{running_of, Hears, IsIdle}
+use Rattle.modem_driver.specs.Running.{running_of, Hears, CoreIsIdle}
 use Rattle.modem_driver.proofs.run.handle_frames.Given as goal
 
 abbrev pub invariant-loop-frame : goal.invariant-loop-frame
 invariant-loop-frame l = record {
   come : Hears [] l.initial.deframer l.deframer (running_of l.initial.running) (running_of l.running);
-  idle : IsIdle l.running.core;
+  idle : CoreIsIdle l.running.core;
   n1 : l.running.core.station.n1 ≡ l.deframer.n1;
 }
 

@@ -1,7 +1,7 @@
 -- The octets that the deframer took come behind those before them.
 use Rattle.std.proofs.Common.{rules}
 use Rattle.modem_driver.specs.Running.{running_of}
-use Rattle.modem_driver.proofs.Coming.{heard_none, heard_more}
+use Rattle.modem_driver.proofs.replays.ArrivalOrder.{heard_none, heard_more}
 use Rattle.modem_driver.proofs.run.hear.Goals as goal
 
 pub loop-left-init : goal.loop-left-init

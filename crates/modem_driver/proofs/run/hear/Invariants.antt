@@ -1,14 +1,14 @@
 -- A beginning of the octets has come.
 use Rattle.std.specs.Prelude.{◌≡◌}
 use Rattle.std.proofs.Common.{length}
-use Rattle.modem_driver.specs.Running.{running_of, IsIdle}
-use Rattle.modem_driver.proofs.Coming.{HeardSo}
+use Rattle.modem_driver.specs.Running.{running_of, CoreIsIdle}
+use Rattle.modem_driver.proofs.replays.ArrivalOrder.{HeardSo}
 use Rattle.modem_driver.proofs.run.hear.Given as goal
 
 abbrev pub invariant-loop-left : goal.invariant-loop-left
 invariant-loop-left l = record {
   come : HeardSo l.octets l.left l.initial.deframer l.deframer (running_of l.initial.running) (running_of l.running);
-  idle : IsIdle l.running.core;
+  idle : CoreIsIdle l.running.core;
   n1 : l.running.core.station.n1 ≡ l.deframer.n1;
 }
 

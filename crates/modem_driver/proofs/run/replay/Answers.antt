@@ -5,8 +5,8 @@ use Rattle.mux_frame.specs.Deframing.{Deframing}
 use Rattle.modem_history.specs.Acts.{act_of}
 use Rattle.modem_driver.specs.Cores.{Core}
 use Rattle.modem_driver.specs.Running.{running_of}
-use Rattle.modem_driver.proofs.Replaying.{so_far_start, so_far_step}
-use Rattle.modem_driver.proofs.Starting.{starts, idle_at_first}
+use Rattle.modem_driver.proofs.replays.ReplaySoFar.{so_far_start, so_far_step}
+use Rattle.modem_driver.proofs.replays.FirstCore.{starts, idle_at_first}
 use Rattle.modem_driver.proofs.run.replay.Goals as goal
 
 pub loop-event-init : goal.loop-event-init

@@ -7,8 +7,8 @@ use Rattle.modem_history.specs.Acts.{act_of, Sent}
 use Rattle.modem_history.specs.declared.act.Act.TheVariants as act
 use Rattle.modem_driver.specs.Cores.{Core}
 use Rattle.modem_driver.specs.CoreGoing.{left_to_go}
-use Rattle.modem_driver.specs.Running.{IsIdle}
-use Rattle.modem_driver.proofs.Pieces.{sends_none, sends_mark, sends_data, sends_all, n1_stays, idle_stays}
+use Rattle.modem_driver.specs.Running.{CoreIsIdle}
+use Rattle.modem_driver.proofs.outgoing.FramesAfterCall.{sends_none, sends_mark, sends_data, sends_all, n1_stays, idle_stays}
 use Rattle.modem_driver.proofs.run.send_all.Goals as goal
 
 pub loop-outgoing-init : goal.loop-outgoing-init
@@ -44,7 +44,7 @@ returns-clause-sends c =
     c.loop-outgoing.invariant.sends c.in_default.ensures.frame c.in_default.ensures.past c.outgoing.follows.holds-at-none
 
 pub returns-clause-idle : goal.returns-clause-idle
-returns-clause-idle c = subst IsIdle (sym c.outgoing.follows.holds-at-none) (idle_stays c.loop-outgoing.core c.in_default.ensures.idle)
+returns-clause-idle c = subst CoreIsIdle (sym c.outgoing.follows.holds-at-none) (idle_stays c.loop-outgoing.core c.in_default.ensures.idle)
 
 pub returns-clause-n1 : goal.returns-clause-n1
 returns-clause-n1 c = ap (λ (v : Core). v.station.n1) c.outgoing.follows.holds-at-none ∙ (n1_stays c.loop-outgoing.core ∙ c.loop-outgoing.invariant.n1)

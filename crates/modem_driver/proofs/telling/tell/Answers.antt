@@ -4,7 +4,7 @@ use Rattle.std.specs.Prelude.{slice_index_or}
 use Rattle.modem_desk.specs.declared.request.Request.{Request}
 use Rattle.modem_driver.specs.Telling.{told_by}
 use Rattle.modem_driver.specs.Cores.{state_shown}
-use Rattle.modem_driver.proofs.Tells.{told_on}
+use Rattle.modem_driver.proofs.requests.ToldRequests.{told_on}
 use Rattle.modem_driver.proofs.telling.tell.Goals as goal
 
 -- src/telling.rt:119:5

@@ -1,7 +1,7 @@
 -- One connection more.
 use Rattle.std.specs.Prelude.{◌≡◌, ◌+◌, Bool, if◌then◌else◌}
 use Rattle.std.proofs.Common.{ap, sym, ◌∙◌, arith}
-use Rattle.modem_driver.proofs.TickParts.{counted, all_counted}
+use Rattle.modem_driver.proofs.ticks.StationTicks.{counted, all_counted}
 use Rattle.modem_driver.proofs.tick.count_asking.Goals as goal
 use Rattle.modem_driver.proofs.tick.count_asking.Goals.{then-is_asking, else-is_asking}
 

@@ -6,7 +6,7 @@ use Rattle.mux_station.specs.Stations.{Station}
 use Rattle.modem_driver.specs.ActLists.{ActList}
 use Rattle.modem_history.specs.Acts.{Sent, act_of}
 use Rattle.modem_driver.specs.Ticked.{bared, queued_from}
-use Rattle.modem_driver.proofs.TickParts.{pushed_more, pushed_none}
+use Rattle.modem_driver.proofs.ticks.StationTicks.{pushed_more, pushed_none}
 use Rattle.modem_driver.proofs.tick.push_queued.Goals as goal
 use Rattle.modem_driver.proofs.tick.push_queued.Goals.{in-Some, in_default}
 

@@ -1,6 +1,6 @@
 use Rattle.std.proofs.Common.{inr}
 use Rattle.modem_runs.specs.Bench.{IsNoSubmission}
-use Rattle.modem_runs.proofs.Ends.{refused_for}
+use Rattle.modem_runs.proofs.outputs.RunEnds.{refused_for}
 use Rattle.modem_runs.proofs.bench.bench_run.Goals as goal
 
 pub returns-clause-refused : goal.returns-clause-refused

@@ -1,5 +1,5 @@
 use Rattle.std.specs.Prelude.{refl}
-use Rattle.modem_runs.proofs.Dumps.{word_cut}
+use Rattle.modem_runs.proofs.inputs.Dumps.{word_cut}
 use Rattle.modem_runs.proofs.dump.next_word.Goals as goal
 
 pub returns-clause-cut : goal.returns-clause-cut

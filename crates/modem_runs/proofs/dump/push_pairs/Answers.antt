@@ -1,5 +1,5 @@
 use Rattle.std.proofs.Common.{sym, ◌∙◌}
-use Rattle.modem_runs.proofs.Dumps.{word_more}
+use Rattle.modem_runs.proofs.inputs.Dumps.{word_more}
 use Rattle.modem_runs.proofs.dump.push_pairs.Goals as goal
 
 pub loop-left-preserved : goal.loop-left-preserved

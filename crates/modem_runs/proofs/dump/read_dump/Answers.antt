@@ -1,6 +1,6 @@
 use Rattle.modem_runs.specs.Dump.{IsNoDump}
-use Rattle.modem_runs.proofs.Readings.{refused}
-use Rattle.modem_runs.proofs.Dumps.{line_more}
+use Rattle.modem_runs.proofs.inputs.ReadLines.{refused}
+use Rattle.modem_runs.proofs.inputs.Dumps.{line_more}
 use Rattle.modem_runs.proofs.dump.read_dump.Goals as goal
 
 pub returns-in-Err : goal.returns-in-Err

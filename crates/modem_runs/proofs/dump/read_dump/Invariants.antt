@@ -1,5 +1,5 @@
 use Rattle.std.specs.Prelude.{length}
-use Rattle.modem_runs.proofs.Dumps.{AreOctets}
+use Rattle.modem_runs.proofs.inputs.Dumps.{AreOctets}
 use Rattle.modem_runs.proofs.dump.read_dump.Given as goal
 
 abbrev pub invariant-loop-line : goal.invariant-loop-line

@@ -1,7 +1,7 @@
 use Rattle.std.specs.Prelude.{map}
 use Rattle.std.proofs.Common.{rules}
 use Rattle.mux_frame.specs.Frames.{kept_frame}
-use Rattle.modem_runs.proofs.Framings.{taken_more, nothing_left, read_all}
+use Rattle.modem_runs.proofs.inputs.ReadFrames.{taken_more, nothing_left, read_all}
 use Rattle.modem_runs.proofs.framing.read_frames.Goals as goal
 
 pub loop-left-preserved : goal.loop-left-preserved

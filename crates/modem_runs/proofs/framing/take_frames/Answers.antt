@@ -2,7 +2,7 @@ use Rattle.std.specs.Prelude.{refl, map, [], ◌∷◌}
 use Rattle.std.proofs.Common.{sym}
 use Rattle.std.proofs.lemmas.List.{map-append}
 use Rattle.mux_frame.specs.Frames.{kept_frame, frame_of}
-use Rattle.modem_runs.proofs.Framings.{hands_more}
+use Rattle.modem_runs.proofs.inputs.ReadFrames.{hands_more}
 use Rattle.modem_runs.proofs.framing.take_frames.Goals as goal
 
 pub loop-frame-preserved : goal.loop-frame-preserved

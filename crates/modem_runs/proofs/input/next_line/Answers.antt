@@ -1,5 +1,5 @@
 use Rattle.std.specs.Prelude.{refl}
-use Rattle.modem_runs.proofs.Cuts.{line_cut, line_left}
+use Rattle.modem_runs.proofs.inputs.CutTexts.{line_cut, line_left}
 use Rattle.modem_runs.proofs.input.next_line.Goals as goal
 
 pub returns-in-Some-clause-cut : goal.returns-in-Some-clause-cut

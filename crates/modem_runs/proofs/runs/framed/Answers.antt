@@ -2,7 +2,7 @@ use Rattle.std.specs.Prelude.{map}
 use Rattle.std.specs.String.{string_bytes}
 use Rattle.mux_frame.specs.Frames.{kept_frame}
 use Rattle.modem_runs.specs.Printed.{IsFramed}
-use Rattle.modem_runs.proofs.Ends.{at_known}
+use Rattle.modem_runs.proofs.outputs.RunEnds.{at_known}
 use Rattle.modem_runs.proofs.runs.framed.Goals as goal
 
 pub returns-clause-ok : goal.returns-clause-ok

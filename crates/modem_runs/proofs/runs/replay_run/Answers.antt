@@ -2,7 +2,7 @@ use Rattle.std.proofs.Common.{inr}
 use Rattle.std.specs.String.{string_bytes}
 use Rattle.modem_runs.specs.Script.{IsNoOrder}
 use Rattle.modem_runs.specs.Printed.{IsReplayed}
-use Rattle.modem_runs.proofs.Ends.{printed_for, refused_for}
+use Rattle.modem_runs.proofs.outputs.RunEnds.{printed_for, refused_for}
 use Rattle.modem_runs.proofs.runs.replay_run.Goals as goal
 
 pub returns-clause-done : goal.returns-clause-done

@@ -3,8 +3,8 @@ use Rattle.std.specs.String.{string_bytes}
 use Rattle.modem_history.specs.Acts.{act_of}
 use Rattle.modem_runs.specs.Input.{input_lines}
 use Rattle.modem_runs.specs.Printed.{IsReplayed}
-use Rattle.modem_runs.proofs.Ends.{at_known}
-use Rattle.modem_runs.proofs.ScriptNumbers.{script_once}
+use Rattle.modem_runs.proofs.outputs.RunEnds.{at_known}
+use Rattle.modem_runs.proofs.inputs.RequestNumbers.{script_once}
 use Rattle.modem_runs.proofs.runs.replayed.Goals as goal
 
 pub returns-clause-ok : goal.returns-clause-ok

@@ -1,5 +1,5 @@
 use Rattle.std.proofs.lemmas.Result.{err_from_is_err_and}
-use Rattle.modem_runs.proofs.Orders.{cmd_nothing, without_blank, without_command}
+use Rattle.modem_runs.proofs.inputs.ScriptLines.{cmd_nothing, without_blank, without_command}
 use Rattle.modem_runs.proofs.script.command_of.Goals as goal
 
 pub returns-in_default : goal.returns-in_default

@@ -1,7 +1,7 @@
 use Rattle.std.proofs.Common.{◌+◌, refl}
 use Rattle.modem_runs.specs.Script.{IsNoOrder}
-use Rattle.modem_runs.proofs.Readings.{refused}
-use Rattle.modem_runs.proofs.Scripts.{all_events, asked_next, heard_next, lost_next, no_line, skipped, some_line, ticked_next}
+use Rattle.modem_runs.proofs.inputs.ReadLines.{refused}
+use Rattle.modem_runs.proofs.inputs.Scripts.{all_events, asked_next, heard_next, lost_next, no_line, skipped, some_line, ticked_next}
 use Rattle.modem_runs.proofs.script.read_script.Goals as goal
 
 pub loop-line-preserved-then-is_empty : goal.loop-line-preserved-then-is_empty

@@ -1,5 +1,5 @@
 use Rattle.std.proofs.Common.{length}
-use Rattle.modem_runs.proofs.Scripts.{AreEvents}
+use Rattle.modem_runs.proofs.inputs.Scripts.{AreEvents}
 use Rattle.modem_runs.proofs.script.read_script.Given as goal
 
 abbrev pub invariant-loop-line : goal.invariant-loop-line

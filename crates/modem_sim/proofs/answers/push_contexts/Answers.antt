@@ -1,6 +1,6 @@
 use Rattle.std.proofs.Common.{take, map, ◌+◌}
 use Rattle.modem_sim.specs.Steps.{line_of, context_text}
-use Rattle.modem_sim.proofs.AnswerLemmas.{more_contexts, pushed_line}
+use Rattle.modem_sim.proofs.modem_steps.AnswerLines.{more_contexts, pushed_line}
 use Rattle.modem_sim.proofs.answers.push_contexts.Goals as goal
 
 pub loop-context-preserved : goal.loop-context-preserved

@@ -1,4 +1,4 @@
-use Rattle.modem_sim.proofs.EndLemmas.{reached_answers_well}
+use Rattle.modem_sim.proofs.replies.AnswerEnds.{reached_answers_well}
 use Rattle.modem_sim.proofs.laws.answers.Goals as goal
 
 pub returns : goal.returns

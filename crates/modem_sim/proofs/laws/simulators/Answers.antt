@@ -1,4 +1,4 @@
-use Rattle.modem_sim.proofs.SimLemmas.{is_over}
+use Rattle.modem_sim.proofs.sims.SimPasts.{is_over}
 use Rattle.modem_sim.proofs.laws.simulators.Goals as goal
 
 pub returns-clause-ends : goal.returns-clause-ends

@@ -1,6 +1,6 @@
 use Rattle.std.proofs.Common.{drop}
 use Rattle.std.proofs.Math.ListN.{drop_of_length-le}
-use Rattle.modem_sim.proofs.ReplyingLemmas.{goes_on_at, ends_so}
+use Rattle.modem_sim.proofs.connections.OctetReplies.{goes_on_at, ends_so}
 use Rattle.modem_sim.proofs.replying.reply_to.Goals as goal
 
 pub loop-octet-preserved : goal.loop-octet-preserved

@@ -1,5 +1,5 @@
 use Rattle.std.proofs.Common.{drop}
-use Rattle.modem_sim.proofs.ReplyingLemmas.{IsGoing}
+use Rattle.modem_sim.proofs.connections.OctetReplies.{IsGoing}
 use Rattle.modem_sim.proofs.replying.reply_to.Given as goal
 
 -- the lines of the octets so far are replied to, and the others will be

@@ -1,5 +1,5 @@
 use Rattle.std.proofs.Common.{arith}
-use Rattle.mux_frame.proofs.Division.{registered_step, registered_end}
+use Rattle.mux_frame.proofs.CheckOctets.{registered_step, registered_end}
 use Rattle.mux_frame.proofs.check.check_octet.Goals as goal
 
 pub loop-octet-preserved : goal.loop-octet-preserved

@@ -1,5 +1,5 @@
 use Rattle.std.proofs.Common.{◌≡◌, drop}
-use Rattle.mux_frame.proofs.Division.{registered}
+use Rattle.mux_frame.proofs.CheckOctets.{registered}
 use Rattle.mux_frame.proofs.check.check_octet.Given as goal
 
 abbrev pub invariant-loop-octet : goal.invariant-loop-octet

@@ -1,6 +1,6 @@
 use Rattle.std.proofs.Common.{◌≡◌, ◌≤◌, ◌-◌, ◌%◌, ap, length, arith, rules}
 use Rattle.std.specs.Prelude.{slice_index}
-use Rattle.mux_frame.proofs.Fronts.{front_parts, front_view}
+use Rattle.mux_frame.proofs.candidates.Headers.{front_parts, front_view}
 use Rattle.mux_frame.proofs.judge.front_frame.Goals as goal
 
 pub slice_bounds-result-count : goal.slice_bounds-result-count

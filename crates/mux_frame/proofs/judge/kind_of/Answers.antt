@@ -1,5 +1,5 @@
 use Rattle.std.proofs.Common.{arith}
-use Rattle.mux_frame.proofs.Judgements.{uih_octet}
+use Rattle.mux_frame.proofs.candidates.Verdicts.{uih_octet}
 use Rattle.mux_frame.proofs.judge.kind_of.Goals as goal
 
 pub returns-then-control-eq255 : goal.returns-then-control-eq255

@@ -1,4 +1,4 @@
-use Rattle.mux_frame.proofs.Pasts.{past_all, past_next}
+use Rattle.mux_frame.proofs.deframers.DeframerPasts.{past_all, past_next}
 use Rattle.mux_frame.proofs.laws.deframed.Goals as goal
 
 pub returns : goal.returns

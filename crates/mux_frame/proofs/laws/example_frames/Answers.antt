@@ -1,4 +1,4 @@
-use Rattle.mux_frame.proofs.Examples.{spelled_so}
+use Rattle.mux_frame.proofs.RowFacts.{spelled_so}
 use Rattle.mux_frame.proofs.laws.example_frames.Goals as goal
 
 pub returns : goal.returns

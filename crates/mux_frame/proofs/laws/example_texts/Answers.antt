@@ -1,4 +1,4 @@
-use Rattle.mux_frame.proofs.Examples.{read_so}
+use Rattle.mux_frame.proofs.RowFacts.{read_so}
 use Rattle.mux_frame.proofs.laws.example_texts.Goals as goal
 
 pub returns : goal.returns

@@ -1,4 +1,4 @@
-use Rattle.mux_frame.proofs.Readings.{one_reading}
+use Rattle.mux_frame.proofs.readings.TextReadings.{one_reading}
 use Rattle.mux_frame.proofs.laws.one_reading.Goals as goal
 
 pub returns : goal.returns

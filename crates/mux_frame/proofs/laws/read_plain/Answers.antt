@@ -3,7 +3,7 @@ use Rattle.mux_frame.specs.Frames.{kept_frame}
 use Rattle.mux_frame.specs.Judging.{frame_at}
 use Rattle.mux_frame.specs.Judged.{header_seen}
 use Rattle.mux_frame.specs.Spelling.{flag}
-use Rattle.mux_frame.proofs.Slow.{so_far_none, so_far_refused, so_far_whole, so_far_end, so_far_cut, after_shorter, kept_more}
+use Rattle.mux_frame.proofs.readings.ComputedReadings.{so_far_none, so_far_refused, so_far_whole, so_far_end, so_far_cut, after_shorter, kept_more}
 use Rattle.mux_frame.proofs.laws.read_plain.Goals as goal
 
 pub loop-text-init : goal.loop-text-init

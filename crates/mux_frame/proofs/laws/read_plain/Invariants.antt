@@ -1,6 +1,6 @@
 use Rattle.std.proofs.Common.{length, map}
 use Rattle.mux_frame.specs.Frames.{kept_frame}
-use Rattle.mux_frame.proofs.Slow.{ReadsSoFar}
+use Rattle.mux_frame.proofs.readings.ComputedReadings.{ReadsSoFar}
 use Rattle.mux_frame.proofs.laws.read_plain.Given as goal
 
 abbrev pub invariant-loop-text : goal.invariant-loop-text

@@ -1,4 +1,4 @@
-use Rattle.mux_frame.proofs.ReadingOn.{reads_on}
+use Rattle.mux_frame.proofs.readings.LaterTexts.{reads_on}
 use Rattle.mux_frame.proofs.laws.reads_on.Goals as goal
 
 pub returns : goal.returns

@@ -1,4 +1,4 @@
-use Rattle.mux_frame.proofs.ReadingOn.{reads_written}
+use Rattle.mux_frame.proofs.readings.LaterTexts.{reads_written}
 use Rattle.mux_frame.proofs.laws.reads_written.Goals as goal
 
 pub returns : goal.returns

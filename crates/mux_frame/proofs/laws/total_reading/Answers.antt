@@ -1,4 +1,4 @@
-use Rattle.mux_frame.proofs.Slow.{total_reading}
+use Rattle.mux_frame.proofs.readings.ComputedReadings.{total_reading}
 use Rattle.mux_frame.proofs.laws.total_reading.Goals as goal
 
 pub returns : goal.returns

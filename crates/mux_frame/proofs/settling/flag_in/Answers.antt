@@ -1,4 +1,4 @@
-use Rattle.mux_frame.proofs.Decisions.{flag_in_slice}
+use Rattle.mux_frame.proofs.deframers.DeframerOctets.{flag_in_slice}
 use Rattle.mux_frame.proofs.settling.flag_in.Goals as goal
 
 pub returns-clause-rest : goal.returns-clause-rest

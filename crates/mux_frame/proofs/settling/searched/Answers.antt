@@ -2,8 +2,8 @@ use Rattle.std.proofs.Common.{◌≡◌, drop, sym, arith}
 use Rattle.mux_frame.specs.Deframing.{decision_on}
 use Rattle.mux_frame.specs.Judged.{header_seen}
 use Rattle.mux_frame.specs.Judging.{unfinished, refused, fits}
-use Rattle.mux_frame.proofs.Pasts.{at_place, next_of}
-use Rattle.mux_frame.proofs.Decisions.{octets-drop, passed_more, refused_some}
+use Rattle.mux_frame.proofs.deframers.DeframerPasts.{at_place, next_of}
+use Rattle.mux_frame.proofs.deframers.DeframerOctets.{octets-drop, passed_more, refused_some}
 use Rattle.mux_frame.proofs.settling.searched.Goals as goal
 
 pub returns-in-Fits-clause-at_hand : goal.returns-in-Fits-clause-at_hand

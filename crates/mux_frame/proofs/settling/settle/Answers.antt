@@ -1,8 +1,8 @@
 use Rattle.std.proofs.Common.{None, Some, ◌∙◌, ap, drop, subst, sym}
 use Rattle.mux_frame.specs.Judged.{IsCandidate, header_seen, verdict_seen}
 use Rattle.mux_frame.specs.Judging.{unfinished, refused, fits}
-use Rattle.mux_frame.proofs.Pasts.{at_place, next_of}
-use Rattle.mux_frame.proofs.Decisions.{candidate_decision, candidate_passed, fits_stays, octets-drop, passed_one, settles, settles_none, unfinished_stays}
+use Rattle.mux_frame.proofs.deframers.DeframerPasts.{at_place, next_of}
+use Rattle.mux_frame.proofs.deframers.DeframerOctets.{candidate_decision, candidate_passed, fits_stays, octets-drop, passed_one, settles, settles_none, unfinished_stays}
 use Rattle.mux_frame.proofs.settling.settle.Goals as goal
 
 pub returns-then-is_empty : goal.returns-then-is_empty

@@ -1,5 +1,5 @@
 use Rattle.std.proofs.Common.{◌∙◌, sym}
-use Rattle.mux_frame.proofs.Decisions.{empty_unfinished}
+use Rattle.mux_frame.proofs.deframers.DeframerOctets.{empty_unfinished}
 use Rattle.mux_frame.proofs.settling.short_verdict.Goals as goal
 
 pub returns-then-is_empty : goal.returns-then-is_empty

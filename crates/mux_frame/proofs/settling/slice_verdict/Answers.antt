@@ -1,4 +1,4 @@
-use Rattle.mux_frame.proofs.Decisions.{decision_flags}
+use Rattle.mux_frame.proofs.deframers.DeframerOctets.{decision_flags}
 use Rattle.mux_frame.proofs.settling.slice_verdict.Goals as goal
 
 pub returns-in-Some-eq249 : goal.returns-in-Some-eq249

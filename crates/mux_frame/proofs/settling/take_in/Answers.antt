@@ -1,7 +1,7 @@
 use Rattle.std.proofs.Common.{◌∙◌, ◌++◌, ap, arith, drop, sym}
 use Rattle.mux_frame.specs.Deframing.{SameReading}
 use Rattle.mux_frame.specs.Places.{Held}
-use Rattle.mux_frame.proofs.Decisions.{appended, none_appended, taken_all, taken_first}
+use Rattle.mux_frame.proofs.deframers.DeframerOctets.{appended, none_appended, taken_all, taken_first}
 use Rattle.mux_frame.proofs.settling.take_in.Goals as goal
 use Rattle.mux_frame.proofs.settling.take_in.Goals.{then-is_empty, else-is_empty}
 

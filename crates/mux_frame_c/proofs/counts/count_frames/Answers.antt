@@ -1,7 +1,7 @@
 use Rattle.std.specs.Prelude.{refl}
 use Rattle.std.proofs.Common.{sym, rules}
 use Rattle.mux_frame.specs.Frames.{frame_of}
-use Rattle.mux_frame_c.proofs.Countings.{counts_none, counts_more}
+use Rattle.mux_frame_c.proofs.FrameCounts.{counts_none, counts_more}
 use Rattle.mux_frame_c.proofs.counts.count_frames.Goals as goal
 
 pub loop-frame-init : goal.loop-frame-init

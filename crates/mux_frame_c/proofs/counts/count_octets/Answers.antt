@@ -1,5 +1,5 @@
 use Rattle.std.proofs.Common.{rules}
-use Rattle.mux_frame_c.proofs.Countings.{fed_piece, counted_more, counted_all}
+use Rattle.mux_frame_c.proofs.FrameCounts.{fed_piece, counted_more, counted_all}
 use Rattle.mux_frame_c.proofs.counts.count_octets.Goals as goal
 
 pub loop-left-preserved : goal.loop-left-preserved

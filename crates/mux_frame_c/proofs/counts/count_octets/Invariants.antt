@@ -1,5 +1,5 @@
 use Rattle.std.proofs.Common.{length}
-use Rattle.mux_frame_c.proofs.Countings.{AreCounted}
+use Rattle.mux_frame_c.proofs.FrameCounts.{AreCounted}
 use Rattle.mux_frame_c.proofs.counts.count_octets.Given as goal
 
 abbrev pub invariant-loop-left : goal.invariant-loop-left

@@ -1,5 +1,5 @@
 -- What is noted of a frame is what happens.
-use Rattle.mux_station.proofs.Notings.{noted_truly}
+use Rattle.mux_station.proofs.law_proofs.NotedEvents.{noted_truly}
 use Rattle.mux_station.proofs.laws.notings.Goals as goal
 
 pub returns : goal.returns

@@ -1,7 +1,7 @@
 -- Behind each name the value says which command it is.
 use Rattle.std.specs.Prelude.{Ok}
 use Rattle.at_cmds.specs.Commands.{Cpin, Creg, Csq, Cops, Cgdcont, Cgatt, Cmee, Cmux}
-use Rattle.at_cmds.proofs.ReadLemmas.{read_as}
+use Rattle.at_cmds.proofs.command_texts.ReadCommands.{read_as}
 use Rattle.at_cmds.proofs.command.Command.read.Goals as goal
 
 pub returns-in-Some : goal.returns-in-Some

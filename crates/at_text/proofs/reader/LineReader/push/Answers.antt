@@ -1,8 +1,8 @@
 use Rattle.std.specs.Prelude.{◌≡◌, ℕ, false, List, [], ◌∷◌, ◌++◌, refl, if◌then◌else◌}
 use Rattle.at_text.specs.Lines.{is_line_end, lines}
 use Rattle.at_text.specs.Reading.{lines_in}
-use Rattle.at_text.proofs.LineLemmas.{has_end}
-use Rattle.at_text.proofs.ReaderLemmas.{none_dropped, none_more, run_by_end, line_by_end, lines-push}
+use Rattle.at_text.proofs.lines.UnfinishedLines.{has_end}
+use Rattle.at_text.proofs.lines.KeptOctets.{none_dropped, none_more, run_by_end, line_by_end, lines-push}
 use Rattle.at_text.proofs.reader.LineReader.push.Goals as goal
 
 pub invariant_of-self : goal.invariant_of-self

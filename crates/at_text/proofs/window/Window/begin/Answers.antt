@@ -1,7 +1,7 @@
 use Rattle.std.specs.Prelude.{Some}
 use Rattle.std.proofs.Common.{ap}
 use Rattle.at_text.specs.OpenWindow.{OpenWindow}
-use Rattle.at_text.proofs.WindowLemmas.{begins}
+use Rattle.at_text.proofs.windows.AnswerWindows.{begins}
 use Rattle.at_text.proofs.window.Window.begin.Goals as goal
 
 pub returns-clause-past : goal.returns-clause-past

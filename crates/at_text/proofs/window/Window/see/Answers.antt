@@ -1,4 +1,4 @@
-use Rattle.at_text.proofs.WindowLemmas.{sees}
+use Rattle.at_text.proofs.windows.AnswerWindows.{sees}
 use Rattle.at_text.proofs.window.Window.see.Goals as goal
 
 pub returns-clause-past : goal.returns-clause-past

@@ -1,5 +1,5 @@
 use Rattle.std.proofs.Common.{rules}
-use Rattle.modem_desk.proofs.Rules.{submits}
+use Rattle.modem_desk.proofs.queue_rule.RuleSteps.{submits}
 use Rattle.modem_desk.proofs.caller.Caller.submit.Goals as goal
 
 pub push_as-requires-clause-rule : goal.push_as-requires-clause-rule

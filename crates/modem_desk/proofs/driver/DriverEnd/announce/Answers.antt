@@ -3,8 +3,8 @@ use mathlib.Core.Option.{some}
 use lib.ListN.{get_elem?}
 use Rattle.at_text.specs.declared.unsolicited.UrcKind.{UrcKind}
 use Rattle.modem_desk.specs.Ends.{DriverView, DeskId, RingId, FallsByOne, RunsOut, Hears, ring_of_producer, EachOnce}
-use Rattle.modem_desk.proofs.Rings.{same_rings, sent_appends, sent_same, free_at, free_changes}
-use Rattle.modem_desk.proofs.KindLemmas.{or_at, one_place, announces}
+use Rattle.modem_desk.proofs.desk_places.DriverRings.{same_rings, sent_appends, sent_same, free_at, free_changes}
+use Rattle.modem_desk.proofs.desk_places.KindPlaces.{or_at, one_place, announces}
 use Rattle.modem_desk.proofs.driver.DriverEnd.announce.Goals as goal
 
 pub index_mut-ring-requires : goal.index_mut-ring-requires
@@ -16,13 +16,13 @@ pub returns-in_default-clause-desk : goal.returns-in_default-clause-desk
 returns-in_default-clause-desk c =
     let was = c.self.view_is in
     let rings = same_rings c.self.inside.lines.items c.place_in-place.result c.index_mut-ring.result.now c.push.new.self c.index_mut-ring.ensures.value c.push.ensures.ring in
-    (ap (λ (l : List RingId). let d : DeskId = record { queue = c.self.inside.pass.table_id; rings = map ring_of_producer c.self.inside.rings.items; kinds = c.self.inside.kinds.items; ears = l } in d) rings ∙ ap (λ (v : DriverView). v.desk) was, ap (λ (v : DriverView). v.taken) was, ap (λ (v : DriverView). v.told) was, ap (λ (v : DriverView). v.free) was)
+    (ap (λ (l : List RingId). let d : DeskId = record { queue = c.self.inside.pass.table_id; rings = map ring_of_producer c.self.inside.rings.items; kinds = c.self.inside.kinds.items; line_rings = l } in d) rings ∙ ap (λ (v : DriverView). v.desk) was, ap (λ (v : DriverView). v.taken) was, ap (λ (v : DriverView). v.told) was, ap (λ (v : DriverView). v.free) was)
 
 pub returns-clause-desk : goal.returns-clause-desk
 returns-clause-desk c =
     let was = c.self.view_is in
     let rings = same_rings c.self.inside.lines.items c.place_in-place.result c.index_mut-ring.result.now c.push.new.self c.index_mut-ring.ensures.value c.push.ensures.ring in
-    (ap (λ (l : List RingId). let d : DeskId = record { queue = c.self.inside.pass.table_id; rings = map ring_of_producer c.self.inside.rings.items; kinds = c.self.inside.kinds.items; ears = l } in d) rings ∙ ap (λ (v : DriverView). v.desk) was, ap (λ (v : DriverView). v.taken) was, ap (λ (v : DriverView). v.told) was, ap (λ (v : DriverView). v.free) was)
+    (ap (λ (l : List RingId). let d : DeskId = record { queue = c.self.inside.pass.table_id; rings = map ring_of_producer c.self.inside.rings.items; kinds = c.self.inside.kinds.items; line_rings = l } in d) rings ∙ ap (λ (v : DriverView). v.desk) was, ap (λ (v : DriverView). v.taken) was, ap (λ (v : DriverView). v.told) was, ap (λ (v : DriverView). v.free) was)
 
 pub returns-in_default-clause-announced : goal.returns-in_default-clause-announced
 returns-in_default-clause-announced c =

@@ -2,7 +2,7 @@ use Rattle.std.proofs.Common.{◌↔◌, subst, List, ap, ◌∙◌}
 use Rattle.std.specs.Prelude.{IsTrue, Contains}
 use Rattle.at_text.specs.declared.unsolicited.UrcKind.{UrcKind}
 use Rattle.modem_desk.specs.Ends.{DriverView}
-use Rattle.modem_desk.proofs.KindLemmas.{found}
+use Rattle.modem_desk.proofs.desk_places.KindPlaces.{found}
 use Rattle.modem_desk.proofs.driver.DriverEnd.listens.Goals as goal
 
 pub returns : goal.returns

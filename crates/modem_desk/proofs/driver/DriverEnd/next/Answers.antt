@@ -1,5 +1,5 @@
 use Rattle.std.proofs.Common.{rules}
-use Rattle.modem_desk.proofs.Rules.{takes}
+use Rattle.modem_desk.proofs.queue_rule.RuleSteps.{takes}
 use Rattle.modem_desk.proofs.driver.DriverEnd.next.Goals as goal
 
 pub pop_as-requires-clause-rule : goal.pop_as-requires-clause-rule

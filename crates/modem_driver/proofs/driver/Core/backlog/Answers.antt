@@ -5,10 +5,10 @@ use Rattle.std.specs.Global.{Vec}
 use Rattle.mux_station.specs.declared.role.Role.TheVariants.{Initiator}
 use Rattle.modem_history.specs.Acts.{act_of}
 use Rattle.modem_driver.specs.Cores.{Core}
-use Rattle.modem_driver.specs.Holding.{Flows, Turns}
+use Rattle.modem_driver.specs.Holding.{Flows, TurnsFlow}
 use Rattle.modem_history.specs.declared.act.Act.{Act}
-use Rattle.modem_driver.proofs.CoreAccepts.{ok_too}
-use Rattle.modem_driver.proofs.CoreFlows.{none_flows, some_flows, some_lacks}
+use Rattle.modem_driver.proofs.requests.AcceptedRequests.{ok_too}
+use Rattle.modem_driver.proofs.holds.HeldAndFreed.{none_flows, some_flows, some_lacks}
 use Rattle.modem_driver.proofs.driver.Core.backlog.Goals as goal
 
 pub returns-in-None-clause-past : goal.returns-in-None-clause-past
@@ -24,7 +24,7 @@ returns-in-Some-clause-past c =
     let new = c.turn_flow.new.self in
     let d = c.args.dlci in
     let role : v.station.role ≡ Initiator = subst (λ (x : Core). x.station.role ≡ Initiator) c.self.view_is c.self.invariant.role_is in
-    ok_too (λ (acts : Vec Act). Turns v new d.number c.in-Some.go (map act_of acts.items)) (λ (acts : Vec Act). Flows v new d.number c.args.lines (map act_of acts.items)) c.turn_flow.result
+    ok_too (λ (acts : Vec Act). TurnsFlow v new d.number c.in-Some.go (map act_of acts.items)) (λ (acts : Vec Act). Flows v new d.number c.args.lines (map act_of acts.items)) c.turn_flow.result
     (λ acts t. some_flows v new d.number c.args.lines c.in-Some.go (map act_of acts.items) role d.in_range (sym c.in-Some.ensures) t) c.turn_flow.ensures.past
 
 pub returns-in-Some-clause-no_room : goal.returns-in-Some-clause-no_room

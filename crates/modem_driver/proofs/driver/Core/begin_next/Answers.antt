@@ -2,7 +2,7 @@
 use Rattle.std.proofs.Common.{subst}
 use Rattle.modem_driver.specs.Cores.{Core}
 use Rattle.modem_driver.specs.CoreGoing.{SendsTruly}
-use Rattle.modem_driver.proofs.GoingCores.{sends_truly}
+use Rattle.modem_driver.proofs.outgoing.CoreAfterFrame.{sends_truly}
 use Rattle.modem_driver.proofs.driver.Core.begin_next.Goals as goal
 
 -- src/sending.rt:54:13

@@ -9,12 +9,12 @@ use Rattle.mux_station.specs.Stations.{setting_of, seen_in}
 use Rattle.modem_history.specs.Acts.{act_of}
 use Rattle.modem_driver.specs.Cores.{Core, lane_at}
 use Rattle.modem_driver.specs.Forks.{joined}
-use Rattle.modem_driver.proofs.GoingCores.{sound}
-use Rattle.modem_driver.proofs.CoreWords.{taken_room}
-use Rattle.modem_driver.proofs.Handed.{ended_n1}
-use Rattle.modem_driver.proofs.FrameHolds.{data_holds}
-use Rattle.modem_driver.proofs.CoreData.{DataCame, data_handles}
-use Rattle.modem_driver.proofs.Forking.{IsJoined, sound_before, data_came}
+use Rattle.modem_driver.proofs.outgoing.CoreAfterFrame.{sound}
+use Rattle.modem_driver.proofs.frames.OtherFrames.{taken_room}
+use Rattle.modem_driver.proofs.commands.OfferedOctets.{ended_n1}
+use Rattle.modem_driver.proofs.holds.HoldsAndFrames.{data_holds}
+use Rattle.modem_driver.proofs.frames.DataFrames.{DataCame, data_handles}
+use Rattle.modem_driver.proofs.lines.WindowForks.{IsJoined, sound_before, data_came}
 use Rattle.modem_driver.proofs.driver.Core.got_data.Goals as goal
 
 pub returns-clause-past : goal.returns-clause-past
@@ -42,7 +42,7 @@ returns-clause-room c =
 pub returns-clause-n1 : goal.returns-clause-n1
 returns-clause-n1 c =
     ended_n1 _ _ c.go_on.new.self c.args.frame.dlci.number c.go_on.ensures
-    ∙ (ap (λ (s : station_sending.Setting). s.n1) c.take_data-noted.ensures.past.setting ∙ ap (λ (v : Core). v.station.n1) (c.self.view_is ∙ c.in_ok-done.ensures.after))
+    ∙ (ap (λ (s : station_sending.StationSetting). s.n1) c.take_data-noted.ensures.past.setting ∙ ap (λ (v : Core). v.station.n1) (c.self.view_is ∙ c.in_ok-done.ensures.after))
 
 pub returns-clause-holds : goal.returns-clause-holds
 returns-clause-holds c =

@@ -3,8 +3,8 @@ use Rattle.std.proofs.Common.{◌∷◌, [], ap, ◌∙◌}
 use Rattle.std.specs.Prelude.{map}
 use Rattle.mux_frame.specs.Frames.{Frame, frame_of}
 use Rattle.modem_history.specs.Acts.{Got, act_of}
-use Rattle.modem_driver.proofs.FrameHolds.{lost_holds}
-use Rattle.modem_driver.proofs.AfterLoss.{lost_got, lost_room}
+use Rattle.modem_driver.proofs.holds.HoldsAndFrames.{lost_holds}
+use Rattle.modem_driver.proofs.cores.FramesAfterLoss.{lost_got, lost_room}
 use Rattle.modem_driver.proofs.driver.Core.got_lost.Goals as goal
 
 -- src/receiving.rt:92:5

@@ -8,8 +8,8 @@ use Rattle.modem_driver.specs.Cores.{Core, Handles, state_shown}
 use Rattle.modem_driver.specs.Telling.{told_by, told_to, left_by}
 use Rattle.modem_history.specs.declared.act.Act.TheVariants as code
 use Rattle.modem_driver.specs.declared.telling.Happened.TheVariants as happened
-use Rattle.modem_driver.proofs.CoreLosses.{lost_handles}
-use Rattle.modem_driver.proofs.CoreHolds.{keeps_lost}
+use Rattle.modem_driver.proofs.cores.LineLoss.{lost_handles}
+use Rattle.modem_driver.proofs.holds.OtherCalls.{keeps_lost}
 use Rattle.modem_driver.proofs.driver.Core.lost.Goals as goal
 
 -- src/driver.rt:99:5

@@ -6,10 +6,10 @@ use Rattle.mux_station.specs.Giving.{next_given, GivesOn}
 use Rattle.mux_station.specs.GivenFrames.{outgoing_of, with_freshness}
 use Rattle.modem_driver.specs.Cores.{Core}
 use Rattle.modem_driver.specs.CoreGoing.{begun_next, gone_on}
-use Rattle.modem_driver.proofs.GoingCores.{IsSound, sound, goes_on, goes_out, goes_none, goes_on_lost, gone_lost, station_stays, gone, kept_on}
-use Rattle.modem_driver.specs.Running.{IsIdle}
-use Rattle.modem_driver.proofs.FrameHolds.{out_holds}
-use Rattle.modem_driver.proofs.GoingEnds.{leaves_less, idle_lost, idle_none, still_none, none_of}
+use Rattle.modem_driver.proofs.outgoing.CoreAfterFrame.{IsSound, sound, goes_on, goes_out, goes_none, goes_on_lost, gone_lost, station_stays, gone, kept_on}
+use Rattle.modem_driver.specs.Running.{CoreIsIdle}
+use Rattle.modem_driver.proofs.holds.HoldsAndFrames.{out_holds}
+use Rattle.modem_driver.proofs.outgoing.EndOfSending.{leaves_less, idle_lost, idle_none, still_none, none_of}
 use Rattle.modem_driver.proofs.driver.Core.outgoing.Goals as goal
 
 -- src/sending.rt:68:13
@@ -43,7 +43,7 @@ returns c =
         less = leaves_less old (option_map outgoing_of c.next_frame.result) (let l = is_sound.least in omega (arith, l)) live frame;
         short = c.next_frame.ensures.short;
         still = none_of outgoing_of (gone_on old ≡ old) c.next_frame.result (still_none old (option_map outgoing_of c.next_frame.result) frame);
-        idle = none_of outgoing_of (IsIdle old) c.next_frame.result (idle_none old (option_map outgoing_of c.next_frame.result) frame);
+        idle = none_of outgoing_of (CoreIsIdle old) c.next_frame.result (idle_none old (option_map outgoing_of c.next_frame.result) frame);
         after = tt;
       },
     )

@@ -13,7 +13,7 @@ use Rattle.modem_driver.specs.Lanes.{Lane, new_lane}
 use Rattle.modem_driver.specs.Cores.{Core, lane_at}
 use Rattle.modem_driver.specs.Reports.{Read, ReadsAll, owner_of}
 use Rattle.modem_driver.specs.Handing.{ReadsApart}
-use Rattle.modem_driver.proofs.Reporting.{reads_apart}
+use Rattle.modem_driver.proofs.lines.ReportedLines.{reads_apart}
 use Rattle.modem_driver.proofs.driver.Core.read.Goals as goal
 
 pub returns-clause-read : goal.returns-clause-read

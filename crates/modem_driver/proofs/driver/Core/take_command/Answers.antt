@@ -5,12 +5,12 @@ use Rattle.modem_desk.specs.declared.request.Request.{Request}
 use Rattle.modem_history.specs.Acts.{Took, act_of}
 use Rattle.modem_history.specs.Information.{line_of}
 use Rattle.modem_driver.specs.Refusals.{told_act}
-use Rattle.modem_driver.specs.Offers.{OffersFirst}
+use Rattle.modem_driver.specs.Offers.{OffersFirstCommand}
 use Rattle.modem_driver.specs.ActLists.{ActList}
 use Rattle.modem_driver.specs.Cores.{Core, Handles}
 use Rattle.modem_history.specs.declared.act.Act.TheVariants as code
-use Rattle.modem_driver.proofs.CoreAccepts.{pushed_on}
-use Rattle.modem_driver.proofs.CoreCommands.{Commands, command_handles, command_refused}
+use Rattle.modem_driver.proofs.requests.AcceptedRequests.{pushed_on}
+use Rattle.modem_driver.proofs.requests.CommandRequests.{Commands, command_handles, command_refused}
 use Rattle.modem_driver.proofs.driver.Core.take_command.Goals as goal
 
 -- it is told at once
@@ -39,7 +39,7 @@ returns-clause-past c =
       asks = c.requires.ask;
       taken_on = sym c.in_default.ensures;
       short = subst (λ (t : List ℕ). length t ≤ 256) text c.text_of-text.ensures.short;
-      offers = subst (λ (t : List ℕ). OffersFirst v.hand v.station w n t) text c.offer_first.ensures;
+      offers = subst (λ (t : List ℕ). OffersFirstCommand v.hand v.station w n t) text c.offer_first.ensures;
     } in
     subst (λ (x : Core). Handles x new (Took q) (map act_of c.into_vec-2.result.items)) c.self.view_is
     (command_handles v new w q c.args.dlci c.into_vec-2.result.items c.self.invariant.role_is (ap (λ (x : Core). x.lost) c.self.view_is ∙ c.requires.live)

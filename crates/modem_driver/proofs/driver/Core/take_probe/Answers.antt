@@ -8,11 +8,11 @@ use Rattle.mux_station.specs.Stations.{Station}
 use Rattle.modem_desk.specs.declared.request.Ask.TheVariants.{Probe}
 use Rattle.modem_desk.specs.declared.request.Request.{Request}
 use Rattle.modem_history.specs.Acts.{Took, act_of}
-use Rattle.modem_driver.specs.Refusals.{answer_of, told_act}
+use Rattle.modem_driver.specs.Refusals.{refusal_answer, told_act}
 use Rattle.modem_driver.specs.Cores.{Core, Handles}
 use Rattle.modem_history.specs.declared.act.Act.TheVariants as code
-use Rattle.modem_driver.proofs.CoreAccepts.{pushed_on}
-use Rattle.modem_driver.proofs.CoreProbes.{Probes, probe_handles, probe_refused}
+use Rattle.modem_driver.proofs.requests.AcceptedRequests.{pushed_on}
+use Rattle.modem_driver.proofs.requests.ProbeRequests.{Probes, probe_handles, probe_refused}
 use Rattle.modem_driver.proofs.driver.Core.take_probe.Goals as goal
 
 -- the station refuses
@@ -24,8 +24,8 @@ returns-in-Err-clause-past c =
     let v : Core = record { station = c.self.inside.station; lanes = c.self.inside.lanes.items; hand = c.self.inside.hand; kinds = c.self.inside.kinds.items; lost = c.self.inside.lost } in
     let new : Core = record v { station = c.probe.new.self } in
     let same : new ≡ v = ap (λ (w : Station). record v { station = w }) c.in-Err.ensures.err in
-    let told : c.told.result ≡ told_act q (answer_of c.in-Err.why)
-    = c.told.ensures ∙ (ap (told_act c.in_ok-acts.copy) c.answer_of.ensures ∙ ap (λ (r : Request). told_act r (answer_of c.in-Err.why)) c.in_ok-acts.ensures.copy) in
+    let told : c.told.result ≡ told_act q (refusal_answer c.in-Err.why)
+    = c.told.ensures ∙ (ap (told_act c.in_ok-acts.copy) c.answer_of.ensures ∙ ap (λ (r : Request). told_act r (refusal_answer c.in-Err.why)) c.in_ok-acts.ensures.copy) in
     let acts = pushed_on c.in_ok-acts.acts c.push.new.self (code.Took q ∷ []) c.into_vec.result.items c.told.result _ _ _ c.in_ok-acts.ensures.acts c.push.ensures told c.into_vec.ensures in
     subst (λ (x : Core). Handles x new (Took q) (map act_of c.into_vec.result.items)) c.self.view_is
     (probe_refused v new q octets c.in-Err.why c.into_vec.result.items c.self.invariant.role_is (ap (λ (x : Core). x.lost) c.self.view_is ∙ c.requires.live)

@@ -15,8 +15,8 @@ use Rattle.modem_driver.specs.Ticked.{queued_from, asking_from, is_probe_given}
 use Rattle.modem_driver.specs.Cores.{Core, Handles, state_shown}
 use Rattle.modem_history.specs.declared.act.Act.TheVariants as code
 use Rattle.modem_driver.specs.declared.telling.Happened.TheVariants as happened
-use Rattle.modem_driver.proofs.CoreTicks.{Ticks, tick_handles, tick_lost}
-use Rattle.modem_driver.proofs.CoreHolds.{keeps_tick}
+use Rattle.modem_driver.proofs.ticks.CoreTicks.{Ticks, tick_handles, tick_lost}
+use Rattle.modem_driver.proofs.holds.OtherCalls.{keeps_tick}
 use Rattle.modem_driver.proofs.driver.Core.tick.Goals as goal
 use Rattle.modem_driver.proofs.driver.Core.tick.Goals.{then-ran, else-ran}
 
@@ -49,7 +49,7 @@ returns-clause-past c =
     = ap (map act_of) (c.into_vec-2.ensures ∙ c.tell.ensures.acts)
     ∙ (map-append act_of c.push_queued.new.acts.acts (told_to says v.hand) ∙ ap (λ (x : List Act). x ++ map act_of (told_to says v.hand)) sent) in
     let ticks : Ticks v w c.tick-noticed.result.items g e = record {
-      goes_on = subst (λ (x : Station). station_fits.Handles st x station.Tick) (sym c.push_queued.ensures.same) c.tick-noticed.ensures.past;
+      goes_on = subst (λ (x : Station). station_fits.StationHandles st x station.Tick) (sym c.push_queued.ensures.same) c.tick-noticed.ensures.past;
       given = c.tick-noticed.ensures.noticed;
       given_is = c.has_probe.ensures ∙ ap (list_any is_probe_given) c.as_slice.ensures.value;
       ended_is = elim c.if-ran.branch [

@@ -8,8 +8,8 @@ use Rattle.modem_driver.specs.Refusals.{told_act}
 use Rattle.modem_driver.specs.Cores.{Core, Handles}
 use Rattle.modem_history.specs.declared.act.Act.{Act}
 use Rattle.modem_history.specs.declared.act.Act.TheVariants as code
-use Rattle.modem_driver.proofs.CoreAccepts.{lost_told, full_handles, ok_too}
-use Rattle.modem_driver.proofs.CoreHolds.{keeps_took}
+use Rattle.modem_driver.proofs.requests.AcceptedRequests.{lost_told, full_handles, ok_too}
+use Rattle.modem_driver.proofs.holds.OtherCalls.{keeps_took}
 use Rattle.modem_driver.proofs.driver.Core.took.Goals as goal
 
 pub returns-then-self-clause-past : goal.returns-then-self-clause-past

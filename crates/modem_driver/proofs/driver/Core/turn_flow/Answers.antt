@@ -12,11 +12,11 @@ use Rattle.modem_history.specs.Acts.{act_of}
 use Rattle.modem_driver.specs.ActLists.{ActList}
 use Rattle.modem_driver.specs.Lanes.{Lane, turned}
 use Rattle.modem_driver.specs.Cores.{Core, lane_at}
-use Rattle.modem_driver.specs.Holding.{Turns, CannotTurn}
+use Rattle.modem_driver.specs.Holding.{TurnsFlow, CannotTurn}
 use Rattle.modem_history.specs.declared.act.Act.{Act}
 use Rattle.modem_history.specs.declared.act.Act.TheVariants as code
-use Rattle.modem_driver.proofs.CoreAccepts.{pushed_on}
-use Rattle.modem_driver.proofs.CoreFlows.{Flowing, flow_frame, turn_handles, cannot_turn}
+use Rattle.modem_driver.proofs.requests.AcceptedRequests.{pushed_on}
+use Rattle.modem_driver.proofs.holds.HeldAndFreed.{Flowing, flow_frame, turn_handles, cannot_turn}
 use Rattle.modem_driver.proofs.driver.Core.turn_flow.Goals as goal
 
 pub returns-in-Err-clause-no_room : goal.returns-in-Err-clause-no_room
@@ -50,8 +50,8 @@ returns-clause-past c =
       taken_on = sym c.in_default.ensures.refusal;
       goes_on = c.in_default.ensures.past;
     } in
-    subst (λ (x : Core). Turns x new d.number go (map act_of c.into_vec.result.items)) c.self.view_is
+    subst (λ (x : Core). TurnsFlow x new d.number go (map act_of c.into_vec.result.items)) c.self.view_is
     (turn_handles v new w d go c.in_ok-msc.msc c.into_vec.result.items c.self.invariant.role_is (ap (λ (x : Core). x.lost) c.self.view_is ∙ c.requires.live) c.self.invariant.all flowing same frame acts)
 
 pub returns-clause-n1 : goal.returns-clause-n1
-returns-clause-n1 c = ap (λ (s : station_sending.Setting). s.n1) c.in_default.ensures.past.setting ∙ ap (λ (v : Core). v.station.n1) c.self.view_is
+returns-clause-n1 c = ap (λ (s : station_sending.StationSetting). s.n1) c.in_default.ensures.past.setting ∙ ap (λ (v : Core). v.station.n1) c.self.view_is

@@ -2,7 +2,7 @@
 use Rattle.std.proofs.Common.{refl, map}
 use Rattle.modem_history.specs.Acts.{act_of, Tick}
 use Rattle.modem_driver.specs.Running.{running_of}
-use Rattle.modem_driver.proofs.CallPieces.{steps}
+use Rattle.modem_driver.proofs.replays.Pieces.{steps}
 use Rattle.modem_driver.proofs.run.Running.tick.Goals as goal
 
 pub returns-clause-steps : goal.returns-clause-steps

@@ -1,8 +1,8 @@
 -- The end that a poll gave.
 use Rattle.std.proofs.Common.{◌∙◌, sym}
 use Rattle.modem_driver.specs.SessionStates.{line_by}
-use Rattle.modem_driver.proofs.sessions.Polling.{gives_end, given_is, goes_none}
-use Rattle.modem_driver.proofs.sessions.TakingMore.{takes_none}
+use Rattle.modem_driver.proofs.sessions.Polls.{gives_end, given_is, goes_none}
+use Rattle.modem_driver.proofs.sessions.TakenRequests.{takes_none}
 use Rattle.modem_driver.proofs.session.Session.advance.Goals as goal
 
 pub returns-in-Some-clause-goes : goal.returns-in-Some-clause-goes

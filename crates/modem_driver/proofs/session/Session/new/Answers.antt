@@ -1,6 +1,6 @@
 -- The history is empty.
 use Rattle.modem_driver.specs.SessionStates.{line_by}
-use Rattle.modem_driver.proofs.sessions.Ticking.{begins_over}
+use Rattle.modem_driver.proofs.sessions.StartAndTick.{begins_over}
 use Rattle.modem_driver.proofs.session.Session.new.Goals as goal
 
 pub returns-in-Ok-clause-begins : goal.returns-in-Ok-clause-begins

@@ -5,8 +5,8 @@ use Rattle.modem_driver.specs.declared.session.ending.Ended.{Ended}
 use Rattle.modem_driver.specs.declared.session.ending.Ended.TheVariants.{Stopped}
 use Rattle.modem_driver.specs.declared.session.error.SessionFault.{SessionFault}
 use Rattle.modem_driver.specs.SessionStates.{SessionState, TakesMore, line_by}
-use Rattle.modem_driver.specs.Polls.{GoesOn, has_ended, with_end}
-use Rattle.modem_driver.proofs.sessions.Polling.{ends_failing, ends_stopped, gives_end, gives_failing, goes_then}
+use Rattle.modem_driver.specs.Polls.{SessionGoesOn, has_ended, with_end}
+use Rattle.modem_driver.proofs.sessions.Polls.{ends_failing, ends_stopped, gives_end, gives_failing, goes_then}
 use Rattle.modem_driver.proofs.session.Session.run.Goals as goal
 
 pub returns-then-not-has_ended-clause-polls : goal.returns-then-not-has_ended-clause-polls
@@ -26,7 +26,7 @@ returns-else-not-has_ended-clause-goes g c =
     let look = line_by g.L.SerialLine.received g.L.SerialLine.sent g.L.SerialLine.calls g.L.SerialLine.failures in
     let mid = c.turns.new.self in
     let ended : has_ended mid.kept ≡ true = sym c.has_ended.ensures ∙ c.if-not-has_ended.false in
-    subst (GoesOn look c.args.self.now) (sym c.keep_end.ensures) (goes_then look c.args.self.now mid (with_end (Ok Stopped) mid) c.in-Ok.ensures.goes (ends_stopped look mid ended))
+    subst (SessionGoesOn look c.args.self.now) (sym c.keep_end.ensures) (goes_then look c.args.self.now mid (with_end (Ok Stopped) mid) c.in-Ok.ensures.goes (ends_stopped look mid ended))
 
 pub returns-else-not-has_ended-clause-gives : goal.returns-else-not-has_ended-clause-gives
 returns-else-not-has_ended-clause-gives g c =
@@ -42,11 +42,11 @@ returns-in-Err g c =
     let mid = c.turns.new.self in
     let why = c.in-Err.why in
     let kept = c.keep_end-in-Err.ensures in
-    let goes : GoesOn look old (with_end (Err why) mid) = goes_then look old mid (with_end (Err why) mid) c.in-Err.ensures.goes (ends_failing look mid why c.in-Err.ensures.lost) in
+    let goes : SessionGoesOn look old (with_end (Err why) mid) = goes_then look old mid (with_end (Err why) mid) c.in-Err.ensures.goes (ends_failing look mid why c.in-Err.ensures.lost) in
     let Few : SessionState g.row.L.Denot → Type 0 = λ s. g.L.SerialLine.calls s.line ≤ g.L.SerialLine.calls old.line + 128 in
     record {
       polls = record { mid = mid; ran = Err why; runs = c.in-Err.ensures.runs; given_is = refl; stays = kept };
-      goes = subst (GoesOn look old) (sym kept) goes;
+      goes = subst (SessionGoesOn look old) (sym kept) goes;
       gives = gives_failing look old mid why goes;
       bounded = subst Few (sym kept) c.in-Err.ensures.bounded;
       takes = subst (λ (s : SessionState g.row.L.Denot). TakesMore old.driver s.driver) (sym kept) c.in-Err.ensures.takes;

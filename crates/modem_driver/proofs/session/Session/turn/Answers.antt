@@ -2,12 +2,12 @@
 use Rattle.std.proofs.Common.{ap, sym, ◌∙◌, subst, true, false, Bool}
 use Rattle.std.specs.Prelude.{refl}
 use Rattle.modem_driver.specs.SessionStates.{line_by}
-use Rattle.modem_driver.specs.TurnSteps.{Standing}
-use Rattle.modem_driver.specs.SessionTurns.{Answers, Turns, Faults, standing_of, answer_of}
-use Rattle.modem_driver.proofs.sessions.TurnMeans.{goes_turn}
-use Rattle.modem_driver.proofs.sessions.TurnEnds.{all_turned, failed_before, lost_at_first, faulty_at_first, lost_first, lost_writing, lost_reading, minds_in_vain, gets_in_vain, takes_in_vain, all_or}
-use Rattle.modem_driver.proofs.sessions.NoPlace.{none_free}
-use Rattle.modem_driver.proofs.sessions.TakingMore.{kept_one, lost_driver, part_driver, read_driver, took_none, took_one, wrote_driver}
+use Rattle.modem_driver.specs.TurnSteps.{TurnState}
+use Rattle.modem_driver.specs.SessionTurns.{Answers, TakesTurn, Faults, standing_of, turn_answer}
+use Rattle.modem_driver.proofs.sessions.TurnMeanings.{goes_turn}
+use Rattle.modem_driver.proofs.sessions.TurnEnds.{all_turned, failed_before, lost_at_first, faulty_at_first, lost_first, lost_writing, lost_reading, checks_in_vain, gets_in_vain, takes_in_vain, all_or}
+use Rattle.modem_driver.proofs.sessions.FullRings.{none_free}
+use Rattle.modem_driver.proofs.sessions.TakenRequests.{kept_one, lost_driver, part_driver, read_driver, took_none, took_one, wrote_driver}
 use Rattle.modem_driver.proofs.session.Session.turn.Goals as goal
 
 pub returns-then-is_lost-clause-faults : goal.returns-then-is_lost-clause-faults
@@ -41,13 +41,13 @@ unfolding Faults
 returns-in_default-clause-faults g c =
     let look = line_by g.L.SerialLine.received g.L.SerialLine.sent g.L.SerialLine.calls g.L.SerialLine.failures in
     let p = c.place-placed.ensures in
-    (minds_in_vain (standing_of look c.mind_backlogs.new.self) p c.in_default.ensures.part (faulty_at_first false p (sym c.is_faulty.ensures ∙ c.if-is_faulty.false)) (lost_at_first false p (sym c.is_lost.ensures ∙ c.if-is_lost.false))).fault
+    (checks_in_vain (standing_of look c.check_backlogs.new.self) p c.in_default.ensures.part (faulty_at_first false p (sym c.is_faulty.ensures ∙ c.if-is_faulty.false)) (lost_at_first false p (sym c.is_lost.ensures ∙ c.if-is_lost.false))).fault
 
 pub returns-in_default-clause-turned : goal.returns-in_default-clause-turned
 returns-in_default-clause-turned g c =
     let look = line_by g.L.SerialLine.received g.L.SerialLine.sent g.L.SerialLine.calls g.L.SerialLine.failures in
     let p = c.place-placed.ensures in
-    (minds_in_vain (standing_of look c.mind_backlogs.new.self) p c.in_default.ensures.part (faulty_at_first false p (sym c.is_faulty.ensures ∙ c.if-is_faulty.false)) (lost_at_first false p (sym c.is_lost.ensures ∙ c.if-is_lost.false))).turned
+    (checks_in_vain (standing_of look c.check_backlogs.new.self) p c.in_default.ensures.part (faulty_at_first false p (sym c.is_faulty.ensures ∙ c.if-is_faulty.false)) (lost_at_first false p (sym c.is_lost.ensures ∙ c.if-is_lost.false))).turned
 
 pub returns-then-is_faulty-2-clause-faults : goal.returns-then-is_faulty-2-clause-faults
 unfolding Faults
@@ -55,27 +55,27 @@ returns-then-is_faulty-2-clause-faults g c =
     let look = line_by g.L.SerialLine.received g.L.SerialLine.sent g.L.SerialLine.calls g.L.SerialLine.failures in
     let p = c.place-placed.ensures in
     let end = c.lose_line-then-is_faulty-2 in
-    (lost_writing end.result (standing_of look end.new.self) p c.in-Ok.ensures.minds c.send_on-sent.ensures c.write_on-wrote.ensures end.ensures.loses (faulty_at_first false p (sym c.is_faulty.ensures ∙ c.if-is_faulty.false)) (lost_at_first false p (sym c.is_lost.ensures ∙ c.if-is_lost.false))).fault
+    (lost_writing end.result (standing_of look end.new.self) p c.in-Ok.ensures.checks c.send_on-sent.ensures c.write_on-wrote.ensures end.ensures.loses (faulty_at_first false p (sym c.is_faulty.ensures ∙ c.if-is_faulty.false)) (lost_at_first false p (sym c.is_lost.ensures ∙ c.if-is_lost.false))).fault
 
 pub returns-then-is_faulty-2-clause-turned : goal.returns-then-is_faulty-2-clause-turned
 returns-then-is_faulty-2-clause-turned g c =
     let look = line_by g.L.SerialLine.received g.L.SerialLine.sent g.L.SerialLine.calls g.L.SerialLine.failures in
     let p = c.place-placed.ensures in
     let end = c.lose_line-then-is_faulty-2 in
-    (lost_writing end.result (standing_of look end.new.self) p c.in-Ok.ensures.minds c.send_on-sent.ensures c.write_on-wrote.ensures end.ensures.loses (faulty_at_first false p (sym c.is_faulty.ensures ∙ c.if-is_faulty.false)) (lost_at_first false p (sym c.is_lost.ensures ∙ c.if-is_lost.false))).turned
+    (lost_writing end.result (standing_of look end.new.self) p c.in-Ok.ensures.checks c.send_on-sent.ensures c.write_on-wrote.ensures end.ensures.loses (faulty_at_first false p (sym c.is_faulty.ensures ∙ c.if-is_faulty.false)) (lost_at_first false p (sym c.is_lost.ensures ∙ c.if-is_lost.false))).turned
 
 pub returns-in_default-get_one-clause-faults : goal.returns-in_default-get_one-clause-faults
 unfolding Faults
 returns-in_default-get_one-clause-faults g c =
     let look = line_by g.L.SerialLine.received g.L.SerialLine.sent g.L.SerialLine.calls g.L.SerialLine.failures in
     let p = c.place-placed.ensures in
-    (gets_in_vain (standing_of look c.get_one.new.self) p c.in-Ok.ensures.minds c.send_on-sent.ensures c.write_on-wrote.ensures (ap (standing_of look) c.in_default-get_one.ensures.err) (faulty_at_first false p (sym c.is_faulty.ensures ∙ c.if-is_faulty.false)) (lost_at_first false p (sym c.is_lost.ensures ∙ c.if-is_lost.false))).fault
+    (gets_in_vain (standing_of look c.get_one.new.self) p c.in-Ok.ensures.checks c.send_on-sent.ensures c.write_on-wrote.ensures (ap (standing_of look) c.in_default-get_one.ensures.err) (faulty_at_first false p (sym c.is_faulty.ensures ∙ c.if-is_faulty.false)) (lost_at_first false p (sym c.is_lost.ensures ∙ c.if-is_lost.false))).fault
 
 pub returns-in_default-get_one-clause-turned : goal.returns-in_default-get_one-clause-turned
 returns-in_default-get_one-clause-turned g c =
     let look = line_by g.L.SerialLine.received g.L.SerialLine.sent g.L.SerialLine.calls g.L.SerialLine.failures in
     let p = c.place-placed.ensures in
-    (gets_in_vain (standing_of look c.get_one.new.self) p c.in-Ok.ensures.minds c.send_on-sent.ensures c.write_on-wrote.ensures (ap (standing_of look) c.in_default-get_one.ensures.err) (faulty_at_first false p (sym c.is_faulty.ensures ∙ c.if-is_faulty.false)) (lost_at_first false p (sym c.is_lost.ensures ∙ c.if-is_lost.false))).turned
+    (gets_in_vain (standing_of look c.get_one.new.self) p c.in-Ok.ensures.checks c.send_on-sent.ensures c.write_on-wrote.ensures (ap (standing_of look) c.in_default-get_one.ensures.err) (faulty_at_first false p (sym c.is_faulty.ensures ∙ c.if-is_faulty.false)) (lost_at_first false p (sym c.is_lost.ensures ∙ c.if-is_lost.false))).turned
 
 pub returns-then-is_faulty-3-clause-faults : goal.returns-then-is_faulty-3-clause-faults
 unfolding Faults
@@ -83,36 +83,36 @@ returns-then-is_faulty-3-clause-faults g c =
     let look = line_by g.L.SerialLine.received g.L.SerialLine.sent g.L.SerialLine.calls g.L.SerialLine.failures in
     let p = c.place-placed.ensures in
     let end = c.lose_line-then-is_faulty-3 in
-    (lost_reading end.result (standing_of look end.new.self) p c.in-Ok.ensures.minds c.send_on-sent.ensures c.write_on-wrote.ensures c.in-Ok-get_one.ensures.gets c.read_on-read.ensures end.ensures.loses (faulty_at_first false p (sym c.is_faulty.ensures ∙ c.if-is_faulty.false)) (lost_at_first false p (sym c.is_lost.ensures ∙ c.if-is_lost.false))).fault
+    (lost_reading end.result (standing_of look end.new.self) p c.in-Ok.ensures.checks c.send_on-sent.ensures c.write_on-wrote.ensures c.in-Ok-get_one.ensures.gets c.read_on-read.ensures end.ensures.loses (faulty_at_first false p (sym c.is_faulty.ensures ∙ c.if-is_faulty.false)) (lost_at_first false p (sym c.is_lost.ensures ∙ c.if-is_lost.false))).fault
 
 pub returns-then-is_faulty-3-clause-turned : goal.returns-then-is_faulty-3-clause-turned
 returns-then-is_faulty-3-clause-turned g c =
     let look = line_by g.L.SerialLine.received g.L.SerialLine.sent g.L.SerialLine.calls g.L.SerialLine.failures in
     let p = c.place-placed.ensures in
     let end = c.lose_line-then-is_faulty-3 in
-    (lost_reading end.result (standing_of look end.new.self) p c.in-Ok.ensures.minds c.send_on-sent.ensures c.write_on-wrote.ensures c.in-Ok-get_one.ensures.gets c.read_on-read.ensures end.ensures.loses (faulty_at_first false p (sym c.is_faulty.ensures ∙ c.if-is_faulty.false)) (lost_at_first false p (sym c.is_lost.ensures ∙ c.if-is_lost.false))).turned
+    (lost_reading end.result (standing_of look end.new.self) p c.in-Ok.ensures.checks c.send_on-sent.ensures c.write_on-wrote.ensures c.in-Ok-get_one.ensures.gets c.read_on-read.ensures end.ensures.loses (faulty_at_first false p (sym c.is_faulty.ensures ∙ c.if-is_faulty.false)) (lost_at_first false p (sym c.is_lost.ensures ∙ c.if-is_lost.false))).turned
 
 pub returns-in_default-take_one-clause-faults : goal.returns-in_default-take_one-clause-faults
 unfolding Faults
 returns-in_default-take_one-clause-faults g c =
     let look = line_by g.L.SerialLine.received g.L.SerialLine.sent g.L.SerialLine.calls g.L.SerialLine.failures in
     let p = c.place-placed.ensures in
-    (takes_in_vain (standing_of look c.take_one.new.self) p c.in-Ok.ensures.minds c.send_on-sent.ensures c.write_on-wrote.ensures c.in-Ok-get_one.ensures.gets c.read_on-read.ensures c.in_default-take_one.ensures.keeps (faulty_at_first false p (sym c.is_faulty.ensures ∙ c.if-is_faulty.false)) (lost_at_first false p (sym c.is_lost.ensures ∙ c.if-is_lost.false))).fault
+    (takes_in_vain (standing_of look c.take_one.new.self) p c.in-Ok.ensures.checks c.send_on-sent.ensures c.write_on-wrote.ensures c.in-Ok-get_one.ensures.gets c.read_on-read.ensures c.in_default-take_one.ensures.keeps (faulty_at_first false p (sym c.is_faulty.ensures ∙ c.if-is_faulty.false)) (lost_at_first false p (sym c.is_lost.ensures ∙ c.if-is_lost.false))).fault
 
 pub returns-in_default-take_one-clause-turned : goal.returns-in_default-take_one-clause-turned
 returns-in_default-take_one-clause-turned g c =
     let look = line_by g.L.SerialLine.received g.L.SerialLine.sent g.L.SerialLine.calls g.L.SerialLine.failures in
     let p = c.place-placed.ensures in
-    (takes_in_vain (standing_of look c.take_one.new.self) p c.in-Ok.ensures.minds c.send_on-sent.ensures c.write_on-wrote.ensures c.in-Ok-get_one.ensures.gets c.read_on-read.ensures c.in_default-take_one.ensures.keeps (faulty_at_first false p (sym c.is_faulty.ensures ∙ c.if-is_faulty.false)) (lost_at_first false p (sym c.is_lost.ensures ∙ c.if-is_lost.false))).turned
+    (takes_in_vain (standing_of look c.take_one.new.self) p c.in-Ok.ensures.checks c.send_on-sent.ensures c.write_on-wrote.ensures c.in-Ok-get_one.ensures.gets c.read_on-read.ensures c.in_default-take_one.ensures.keeps (faulty_at_first false p (sym c.is_faulty.ensures ∙ c.if-is_faulty.false)) (lost_at_first false p (sym c.is_lost.ensures ∙ c.if-is_lost.false))).turned
 
 pub returns-clause-turns : goal.returns-clause-turns
-unfolding Turns
+unfolding TakesTurn
 returns-clause-turns g c =
     let p = c.place-placed.ensures in
     goes_turn
     (record {
       places = p;
-      minds = c.in-Ok.ensures.minds;
+      checks = c.in-Ok.ensures.checks;
       sends = c.send_on-sent.ensures;
       writes = c.write_on-wrote.ensures;
       gets = c.in-Ok-get_one.ensures.gets;
@@ -122,12 +122,12 @@ returns-clause-turns g c =
       sound_written = sym c.is_faulty-2.ensures ∙ c.if-is_faulty-2.false;
       sound_read = sym c.is_faulty-3.ensures ∙ c.if-is_faulty-3.false;
     })
-    (answer_of c.answer.result)
-    (subst (λ (m : Bool). Answers c.take_one.new.self.kept m (answer_of c.answer.result)) (all_or c.place-placed.result c.in-Ok.minded c.send_on-sent.result c.write_on-wrote.result c.in-Ok-get_one.got c.read_on-read.result c.in-Ok-take_one.took) c.answer.ensures)
+    (turn_answer c.answer.result)
+    (subst (λ (m : Bool). Answers c.take_one.new.self.kept m (turn_answer c.answer.result)) (all_or c.place-placed.result c.in-Ok.checked c.send_on-sent.result c.write_on-wrote.result c.in-Ok-get_one.got c.read_on-read.result c.in-Ok-take_one.took) c.answer.ensures)
 
 pub returns-clause-turned : goal.returns-clause-turned
 returns-clause-turned g c =
-    all_turned c.place-placed.ensures c.in-Ok.ensures.minds c.send_on-sent.ensures c.write_on-wrote.ensures c.in-Ok-get_one.ensures.gets c.read_on-read.ensures c.in-Ok-take_one.ensures.takes
+    all_turned c.place-placed.ensures c.in-Ok.ensures.checks c.send_on-sent.ensures c.write_on-wrote.ensures c.in-Ok-get_one.ensures.gets c.read_on-read.ensures c.in-Ok-take_one.ensures.takes
 
 pub returns-then-is_lost-clause-takes : goal.returns-then-is_lost-clause-takes
 returns-then-is_lost-clause-takes g c =
@@ -143,41 +143,41 @@ returns-then-is_faulty-clause-takes g c =
 pub returns-in_default-clause-takes : goal.returns-in_default-clause-takes
 returns-in_default-clause-takes g c =
     let look = line_by g.L.SerialLine.received g.L.SerialLine.sent g.L.SerialLine.calls g.L.SerialLine.failures in
-    took_none (standing_of look c.mind_backlogs.new.self) c.place-placed.ensures (part_driver c.in_default.ensures.part)
+    took_none (standing_of look c.check_backlogs.new.self) c.place-placed.ensures (part_driver c.in_default.ensures.part)
 
 pub returns-then-is_faulty-2-clause-takes : goal.returns-then-is_faulty-2-clause-takes
 returns-then-is_faulty-2-clause-takes g c =
     let look = line_by g.L.SerialLine.received g.L.SerialLine.sent g.L.SerialLine.calls g.L.SerialLine.failures in
     let end = c.lose_line-then-is_faulty-2 in
     let s = standing_of look end.new.self in
-    took_none s c.place-placed.ensures (lost_driver end.result (standing_of look c.write_on-wrote.new.self) s end.ensures.loses ∙ wrote_driver c.in-Ok.ensures.minds c.send_on-sent.ensures c.write_on-wrote.ensures)
+    took_none s c.place-placed.ensures (lost_driver end.result (standing_of look c.write_on-wrote.new.self) s end.ensures.loses ∙ wrote_driver c.in-Ok.ensures.checks c.send_on-sent.ensures c.write_on-wrote.ensures)
 
 pub returns-in_default-get_one-clause-takes : goal.returns-in_default-get_one-clause-takes
 returns-in_default-get_one-clause-takes g c =
     let look = line_by g.L.SerialLine.received g.L.SerialLine.sent g.L.SerialLine.calls g.L.SerialLine.failures in
     let s = standing_of look c.get_one.new.self in
-    took_none s c.place-placed.ensures (ap (λ (x : Standing). x.driver) (ap (standing_of look) c.in_default-get_one.ensures.err) ∙ wrote_driver c.in-Ok.ensures.minds c.send_on-sent.ensures c.write_on-wrote.ensures)
+    took_none s c.place-placed.ensures (ap (λ (x : TurnState). x.driver) (ap (standing_of look) c.in_default-get_one.ensures.err) ∙ wrote_driver c.in-Ok.ensures.checks c.send_on-sent.ensures c.write_on-wrote.ensures)
 
 pub returns-then-is_faulty-3-clause-takes : goal.returns-then-is_faulty-3-clause-takes
 returns-then-is_faulty-3-clause-takes g c =
     let look = line_by g.L.SerialLine.received g.L.SerialLine.sent g.L.SerialLine.calls g.L.SerialLine.failures in
     let end = c.lose_line-then-is_faulty-3 in
     let s = standing_of look end.new.self in
-    took_none s c.place-placed.ensures (lost_driver end.result (standing_of look c.read_on-read.new.self) s end.ensures.loses ∙ read_driver c.in-Ok.ensures.minds c.send_on-sent.ensures c.write_on-wrote.ensures c.in-Ok-get_one.ensures.gets c.read_on-read.ensures)
+    took_none s c.place-placed.ensures (lost_driver end.result (standing_of look c.read_on-read.new.self) s end.ensures.loses ∙ read_driver c.in-Ok.ensures.checks c.send_on-sent.ensures c.write_on-wrote.ensures c.in-Ok-get_one.ensures.gets c.read_on-read.ensures)
 
 pub returns-in_default-take_one-clause-takes : goal.returns-in_default-take_one-clause-takes
 returns-in_default-take_one-clause-takes g c =
     let look = line_by g.L.SerialLine.received g.L.SerialLine.sent g.L.SerialLine.calls g.L.SerialLine.failures in
     let s = standing_of look c.read_on-read.new.self in
-    kept_one (standing_of look c.args.self.now) s (standing_of look c.take_one.new.self) (took_none s c.place-placed.ensures (read_driver c.in-Ok.ensures.minds c.send_on-sent.ensures c.write_on-wrote.ensures c.in-Ok-get_one.ensures.gets c.read_on-read.ensures)) c.in_default-take_one.ensures.keeps
+    kept_one (standing_of look c.args.self.now) s (standing_of look c.take_one.new.self) (took_none s c.place-placed.ensures (read_driver c.in-Ok.ensures.checks c.send_on-sent.ensures c.write_on-wrote.ensures c.in-Ok-get_one.ensures.gets c.read_on-read.ensures)) c.in_default-take_one.ensures.keeps
 
 pub returns-clause-takes : goal.returns-clause-takes
 returns-clause-takes g c =
     let look = line_by g.L.SerialLine.received g.L.SerialLine.sent g.L.SerialLine.calls g.L.SerialLine.failures in
     let s = standing_of look c.read_on-read.new.self in
-    took_one (standing_of look c.args.self.now) s (standing_of look c.take_one.new.self) (took_none s c.place-placed.ensures (read_driver c.in-Ok.ensures.minds c.send_on-sent.ensures c.write_on-wrote.ensures c.in-Ok-get_one.ensures.gets c.read_on-read.ensures)) c.in-Ok-take_one.ensures.takes
+    took_one (standing_of look c.args.self.now) s (standing_of look c.take_one.new.self) (took_none s c.place-placed.ensures (read_driver c.in-Ok.ensures.checks c.send_on-sent.ensures c.write_on-wrote.ensures c.in-Ok-get_one.ensures.gets c.read_on-read.ensures)) c.in-Ok-take_one.ensures.takes
 
 pub returns-clause-full : goal.returns-clause-full
 returns-clause-full g c =
-    none_free (answer_of c.answer.result) c.place-placed.ensures c.in-Ok.ensures.minds c.send_on-sent.ensures c.write_on-wrote.ensures c.in-Ok-get_one.ensures.gets c.read_on-read.ensures c.in-Ok-take_one.ensures.takes
-    (subst (λ (m : Bool). Answers c.take_one.new.self.kept m (answer_of c.answer.result)) (all_or c.place-placed.result c.in-Ok.minded c.send_on-sent.result c.write_on-wrote.result c.in-Ok-get_one.got c.read_on-read.result c.in-Ok-take_one.took) c.answer.ensures)
+    none_free (turn_answer c.answer.result) c.place-placed.ensures c.in-Ok.ensures.checks c.send_on-sent.ensures c.write_on-wrote.ensures c.in-Ok-get_one.ensures.gets c.read_on-read.ensures c.in-Ok-take_one.ensures.takes
+    (subst (λ (m : Bool). Answers c.take_one.new.self.kept m (turn_answer c.answer.result)) (all_or c.place-placed.result c.in-Ok.checked c.send_on-sent.result c.write_on-wrote.result c.in-Ok-get_one.got c.read_on-read.result c.in-Ok-take_one.took) c.answer.ensures)

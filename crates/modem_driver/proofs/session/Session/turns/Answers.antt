@@ -1,10 +1,10 @@
 -- One turn after the other.
 use Rattle.std.proofs.Common.{◌≡◌, ◌∙◌, ℕ, arith, subst, sym}
 use Rattle.modem_driver.specs.SessionStates.{line_by}
-use Rattle.modem_driver.specs.SessionTurns.{Turns, answer_of, fault_of}
+use Rattle.modem_driver.specs.SessionTurns.{TakesTurn, turn_answer, fault_of}
 use Rattle.modem_driver.specs.Polls.{MovesOn, moves_none, moves_once, goes_on, ends, rests, fails}
-use Rattle.modem_driver.proofs.sessions.Polling.{fault_goes, goes_none, goes_then, moved_is, turn_goes}
-use Rattle.modem_driver.proofs.sessions.TakingMore.{takes_none, takes_then}
+use Rattle.modem_driver.proofs.sessions.Polls.{fault_goes, goes_none, goes_then, moved_is, turn_goes}
+use Rattle.modem_driver.proofs.sessions.TakenRequests.{takes_none, takes_then}
 use Rattle.modem_driver.proofs.session.Session.turns.Goals as goal
 
 pub loop-init : goal.loop-init
@@ -18,11 +18,11 @@ loop-preserved g c =
     let turned = c.in-Ok.ensures.turned in
     let one = turned.calls in
     let before = c.loop.invariant.calls in
-    let says = answer_of c.in-Ok.says in
+    let says = turn_answer c.in-Ok.says in
     record {
       goes = goes_then look c.args.self.now c.loop.self c.turn.new.self c.loop.invariant.goes (turn_goes look c.loop.self c.turn.new.self says c.in-Ok.ensures.turns turned);
       moves = moves_once c.loop.counter c.loop.self c.turn.new.self c.loop.invariant.moves (sym c.has_ended.ensures ∙ c.if-has_ended.false)
-          (subst (Turns look c.loop.self c.turn.new.self) (moved_is says (sym c.is_moved.ensures ∙ c.if-not-is_moved.false)) c.in-Ok.ensures.turns);
+          (subst (TakesTurn look c.loop.self c.turn.new.self) (moved_is says (sym c.is_moved.ensures ∙ c.if-not-is_moved.false)) c.in-Ok.ensures.turns);
       takes = takes_then c.args.self.now.driver c.loop.self.driver c.turn.new.self.driver c.loop.invariant.takes c.in-Ok.ensures.takes;
       calls = omega (arith, one, before);
     }
@@ -35,12 +35,12 @@ returns-then-has_ended-clause-runs g c =
 pub returns-then-not-is_moved-clause-runs : goal.returns-then-not-is_moved-clause-runs
 returns-then-not-is_moved-clause-runs g c =
     let last = c.loop-test.true in
-    rests c.loop.counter c.loop.self (answer_of c.in-Ok.says) (omega (arith, last)) c.loop.invariant.moves (sym c.has_ended.ensures ∙ c.if-has_ended.false) c.in-Ok.ensures.turns (sym c.is_moved.ensures ∙ c.if-not-is_moved.true)
+    rests c.loop.counter c.loop.self (turn_answer c.in-Ok.says) (omega (arith, last)) c.loop.invariant.moves (sym c.has_ended.ensures ∙ c.if-has_ended.false) c.in-Ok.ensures.turns (sym c.is_moved.ensures ∙ c.if-not-is_moved.true)
 
 pub returns-then-not-is_moved-clause-goes : goal.returns-then-not-is_moved-clause-goes
 returns-then-not-is_moved-clause-goes g c =
     let look = line_by g.L.SerialLine.received g.L.SerialLine.sent g.L.SerialLine.calls g.L.SerialLine.failures in
-    goes_then look c.args.self.now c.loop.self c.turn.new.self c.loop.invariant.goes (turn_goes look c.loop.self c.turn.new.self (answer_of c.in-Ok.says) c.in-Ok.ensures.turns c.in-Ok.ensures.turned)
+    goes_then look c.args.self.now c.loop.self c.turn.new.self c.loop.invariant.goes (turn_goes look c.loop.self c.turn.new.self (turn_answer c.in-Ok.says) c.in-Ok.ensures.turns c.in-Ok.ensures.turned)
 
 pub returns-in-Err-clause-runs : goal.returns-in-Err-clause-runs
 returns-in-Err-clause-runs g c =

@@ -4,7 +4,7 @@ use Rattle.std.specs.Prelude.{Option}
 use Rattle.modem_history.specs.Acts.{act_of}
 use Rattle.modem_driver.specs.declared.session.ending.Asker.{Asker}
 use Rattle.modem_driver.specs.Endings.{is_answered}
-use Rattle.modem_driver.proofs.sessions.Ending.{any_of}
+use Rattle.modem_driver.proofs.sessions.StopProgress.{any_of}
 use Rattle.modem_driver.proofs.session.ending.is_answered.Goals as goal
 
 pub returns-in-Some : goal.returns-in-Some

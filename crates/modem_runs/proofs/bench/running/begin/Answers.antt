@@ -1,8 +1,8 @@
 use Rattle.std.proofs.Common.{map, subst, sym}
-use Rattle.modem_desk.specs.Ends.{AreEars, DriverView, IsWhole, ear_of, place_of}
+use Rattle.modem_desk.specs.Ends.{AreSubscribed, DriverView, IsWhole, subscription_of, place_of}
 use Rattle.std.specs.Prelude.{[]}
 use Rattle.modem_driver.specs.SessionStates.{line_by}
-use Rattle.modem_runs.proofs.Settlements.{begins}
+use Rattle.modem_runs.proofs.bench_runs.Settlements.{begins}
 use Rattle.modem_runs.proofs.bench.running.begin.Goals as goal
 
 pub returns-clause-many : goal.returns-clause-many
@@ -17,7 +17,7 @@ returns-clause-callers g c =
 
 pub returns-clause-listeners : goal.returns-clause-listeners
 returns-clause-listeners g c =
-    subst (λ (v : DriverView). AreEars v.desk (map ear_of c.in_ok-driver.listeners.items)) (sym c.in_ok-session.ensures.driver) c.in_ok-driver.ensures.ears
+    subst (λ (v : DriverView). AreSubscribed v.desk (map subscription_of c.in_ok-driver.listeners.items)) (sym c.in_ok-session.ensures.driver) c.in_ok-driver.ensures.subscribed
 
 pub returns-clause-begun : goal.returns-clause-begun
 returns-clause-begun g c =

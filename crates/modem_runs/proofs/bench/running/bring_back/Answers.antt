@@ -1,7 +1,7 @@
 use Rattle.std.proofs.Common.{◌≡◌, ◌∙◌, List, [], ◌∷◌, ◌++◌, ap, append_assoc, sym}
 use Rattle.std.specs.Vec.Iter.{into_iter_items}
 use Rattle.modem_runs.specs.Running.{Work}
-use Rattle.modem_runs.proofs.Working.{back_next}
+use Rattle.modem_runs.proofs.bench_runs.CallerThreads.{back_next}
 use Rattle.modem_runs.proofs.bench.running.bring_back.Goals as goal
 
 pub loop-handle-preserved-in-Ok : goal.loop-handle-preserved-in-Ok

@@ -1,5 +1,5 @@
 use Rattle.std.proofs.Common.{arith}
-use Rattle.modem_runs.proofs.Working.{opened_long}
+use Rattle.modem_runs.proofs.bench_runs.CallerThreads.{opened_long}
 use Rattle.modem_runs.proofs.bench.running.call.Goals as goal
 
 pub work_all-requires-after_bounds : goal.work_all-requires-after_bounds

@@ -1,7 +1,7 @@
 -- The session is finished, and the desk is settled with the driver's end that it gives back.
 use Rattle.std.proofs.Common.{ap, map, subst, sym}
 use Rattle.std.specs.Prelude.{vec_items}
-use Rattle.modem_desk.specs.Ends.{AreEars, DeskId, DriverView, IsWhole, ear_of, place_of}
+use Rattle.modem_desk.specs.Ends.{AreSubscribed, DeskId, DriverView, IsWhole, subscription_of, place_of}
 use Rattle.modem_desk.specs.Books.{DeskBooks}
 use Rattle.modem_driver.specs.SessionStates.{end_of, line_by}
 use Rattle.modem_runs.proofs.bench.running.end_run.Goals as goal
@@ -12,7 +12,7 @@ settle-requires-clause-callers g c =
 
 pub settle-requires-clause-listeners : goal.settle-requires-clause-listeners
 settle-requires-clause-listeners g c =
-    subst (λ (d : DeskId). AreEars d (map ear_of c.args.listeners.items)) (ap (λ (v : DriverView). v.desk) (sym c.finish-finished.ensures.same.1)) c.requires.listeners
+    subst (λ (d : DeskId). AreSubscribed d (map subscription_of c.args.listeners.items)) (ap (λ (v : DriverView). v.desk) (sym c.finish-finished.ensures.same.1)) c.requires.listeners
 
 pub returns-in-Ok : goal.returns-in-Ok
 returns-in-Ok g c =

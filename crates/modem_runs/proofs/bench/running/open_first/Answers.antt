@@ -1,4 +1,4 @@
-use Rattle.modem_runs.proofs.Working.{on_ok, opens_first}
+use Rattle.modem_runs.proofs.bench_runs.CallerThreads.{on_ok, opens_first}
 use Rattle.modem_runs.proofs.bench.running.open_first.Goals as goal
 
 pub returns : goal.returns

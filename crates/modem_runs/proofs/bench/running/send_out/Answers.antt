@@ -7,7 +7,7 @@ use Rattle.modem_desk.specs.declared.request.Ask.{Ask}
 use Rattle.modem_desk.specs.Ends.{CallerView}
 use Rattle.modem_runs.specs.Bench.{asks_for}
 use Rattle.modem_runs.specs.Running.{AreOut, IsOut, Work}
-use Rattle.modem_runs.proofs.Working.{out_more}
+use Rattle.modem_runs.proofs.bench_runs.CallerThreads.{out_more}
 use Rattle.modem_runs.proofs.bench.running.send_out.Goals as goal
 
 pub loop-caller-preserved : goal.loop-caller-preserved

@@ -1,4 +1,4 @@
-use Rattle.modem_runs.proofs.Working.{on_ok, stops_first}
+use Rattle.modem_runs.proofs.bench_runs.CallerThreads.{on_ok, stops_first}
 use Rattle.modem_runs.proofs.bench.running.stop_first.Goals as goal
 
 pub returns : goal.returns

@@ -1,7 +1,7 @@
 use Rattle.std.proofs.Common.{◌+◌, ◌∙◌, ◌++◌, ap, sym}
 use Rattle.std.specs.Prelude.{map, take, vec_items}
 use Rattle.modem_runs.specs.Shown.{callers_from, told_from}
-use Rattle.modem_runs.proofs.Showing.{callers_next}
+use Rattle.modem_runs.proofs.outputs.ShownOutcomes.{callers_next}
 use Rattle.modem_runs.proofs.bench.showing.outcomes_text.Goals as goal
 
 pub loop-outcomes-preserved : goal.loop-outcomes-preserved

@@ -2,7 +2,7 @@ use Rattle.std.proofs.Common.{◌+◌, ◌∙◌, ◌++◌, ap, sym, append_asso
 use Rattle.std.specs.Prelude.{take}
 use Rattle.std.specs.String.{string_bytes}
 use Rattle.modem_runs.specs.Shown.{told_from, told_text}
-use Rattle.modem_runs.proofs.Showing.{told_next}
+use Rattle.modem_runs.proofs.outputs.ShownOutcomes.{told_next}
 use Rattle.modem_runs.proofs.bench.showing.push_caller.Goals as goal
 
 pub loop-outcome-preserved : goal.loop-outcome-preserved

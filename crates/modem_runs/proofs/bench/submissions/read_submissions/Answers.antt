@@ -1,7 +1,7 @@
 use Rattle.modem_runs.specs.Bench.{IsNoSubmission}
-use Rattle.modem_runs.proofs.Readings.{refused}
-use Rattle.modem_runs.proofs.Scripts.{no_line, some_line}
-use Rattle.modem_runs.proofs.Submissions.{all_read, passed_over, submitted_next}
+use Rattle.modem_runs.proofs.inputs.ReadLines.{refused}
+use Rattle.modem_runs.proofs.inputs.Scripts.{no_line, some_line}
+use Rattle.modem_runs.proofs.inputs.Submissions.{all_read, passed_over, submitted_next}
 use Rattle.modem_runs.proofs.bench.submissions.read_submissions.Goals as goal
 
 pub loop-line-preserved-then-is_empty : goal.loop-line-preserved-then-is_empty

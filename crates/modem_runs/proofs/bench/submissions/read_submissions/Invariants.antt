@@ -1,5 +1,5 @@
 use Rattle.std.proofs.Common.{length}
-use Rattle.modem_runs.proofs.Submissions.{AreRead}
+use Rattle.modem_runs.proofs.inputs.Submissions.{AreRead}
 use Rattle.modem_runs.proofs.bench.submissions.read_submissions.Given as goal
 
 abbrev pub invariant-loop-line : goal.invariant-loop-line

@@ -1,5 +1,5 @@
 use Rattle.std.proofs.lemmas.Result.{err_from_is_err_and}
-use Rattle.modem_runs.proofs.Submissions.{no_caller, no_first_blank}
+use Rattle.modem_runs.proofs.inputs.Submissions.{no_caller, no_first_blank}
 use Rattle.modem_runs.proofs.bench.submissions.submission_of.Goals as goal
 
 pub returns-in_default : goal.returns-in_default

@@ -1,6 +1,6 @@
 use Rattle.std.proofs.Common.{arith, sym, ap, ◌∙◌}
 use Rattle.modem_sim.specs.Contexts.{with_context}
-use Rattle.modem_sim.proofs.ContextLemmas.{found_inside, replaced, inserted, appended}
+use Rattle.modem_sim.proofs.modem_steps.Contexts.{found_inside, replaced, inserted, appended}
 use Rattle.modem_sim.proofs.contexts.PdpContexts.set.Goals as goal
 
 pub index-requires : goal.index-requires

@@ -1,20 +1,18 @@
-use Rattle.std.proofs.Common.{◌≡◌, ◌∙◌, ◌<◌, sym, subst, option_map, length, take, List, None, ℕ}
+use Rattle.std.proofs.Common.{◌≡◌, ◌∙◌, ◌<◌, sym, subst, length, take, List, None, ℕ}
 use Rattle.mux_frame.specs.Deframing.{TakesIn}
-use Rattle.modem_sim.specs.Sims.{Kept, KeptGoes, pending_frame}
-use Rattle.modem_sim.proofs.SimLemmas.{kept_fed}
+use Rattle.modem_sim.specs.Sims.{Kept, KeptGoes}
+use Rattle.modem_sim.proofs.sims.SimPasts.{kept_fed}
 use Rattle.modem_sim.specs.Stills.{FeedsNone}
-use Rattle.modem_sim.proofs.PartLemmas.{feeds_none}
+use Rattle.modem_sim.proofs.sims.TurnParts.{feeds_none}
 use Rattle.modem_sim.proofs.kept.Kept.feed.Goals as goal
 
 pub returns-clause-goes : goal.returns-clause-goes
 returns-clause-goes c =
     let old : Kept = record {
       core = c.self.inside.core;
-      n1 = c.self.inside.n1;
       unfed = c.self.inside.unfed;
       deframer = c.self.inside.deframer;
-      pending = option_map pending_frame c.self.inside.pending;
-      out = c.self.inside.out.items;
+      out = c.self.inside.out;
       failed = c.self.inside.failed;
       end = c.self.inside.end;
     } in
@@ -30,11 +28,9 @@ pub returns-clause-none : goal.returns-clause-none
 returns-clause-none c = λ none.
     let old : Kept = record {
       core = c.self.inside.core;
-      n1 = c.self.inside.n1;
       unfed = c.self.inside.unfed;
       deframer = c.self.inside.deframer;
-      pending = option_map pending_frame c.self.inside.pending;
-      out = c.self.inside.out.items;
+      out = c.self.inside.out;
       failed = c.self.inside.failed;
       end = c.self.inside.end;
     } in

@@ -1,6 +1,6 @@
-use Rattle.modem_sim.specs.Stills.{at_line}
-use Rattle.modem_sim.proofs.SimLemmas.{sim_kept, sim_read_by, sim_then, sim_wrote_by}
-use Rattle.modem_sim.proofs.TurnLemmas.{Went, goes_once}
+use Rattle.modem_sim.specs.Stills.{at_line, leaves_frame, leaves_octets, leaves_step}
+use Rattle.modem_sim.proofs.sims.SimPasts.{sim_kept, sim_read_by, sim_then, sim_wrote_by}
+use Rattle.modem_sim.proofs.sims.WholeTurns.{Went, goes_once}
 use Rattle.modem_sim.proofs.kept.Kept.go_on.Goals as goal
 
 pub returns-in_err-done-clause-goes : goal.returns-in_err-done-clause-goes
@@ -112,3 +112,12 @@ returns-clause-turn g c =
     goes_once received sent calls c.args.line.now c.write.new.line c.receive.new.line
     c.args.self.now c.do_steps.new.self c.write.new.self c.load.new.self c.take_frame.new.self c.receive.new.self c.feed-fed.new.self
     c.in_ok-done.done c.in_ok-wrote.field-0 c.in_ok-loaded.loaded c.in_ok-took.took c.in_ok-came.came c.feed-fed.result went
+
+pub returns-in_err-done-clause-memory : goal.returns-in_err-done-clause-memory
+returns-in_err-done-clause-memory g c = λ _. leaves_step c.in_err-done.ensures.says
+
+pub returns-in_err-loaded-clause-memory : goal.returns-in_err-loaded-clause-memory
+returns-in_err-loaded-clause-memory g c = λ _. leaves_octets c.in_err-loaded.ensures.released
+
+pub returns-in_err-took-clause-memory : goal.returns-in_err-took-clause-memory
+returns-in_err-took-clause-memory g c = λ _. leaves_frame c.in_err-took.ensures.hand

@@ -1,8 +1,91 @@
-use Rattle.modem_sim.proofs.SimLemmas.{kept_then}
+use Rattle.std.proofs.Common.{◌∙◌, ◌==◌, length, sym, subst}
+use Rattle.mux_station.specs.GivenFrames.{outgoing_of}
+use Rattle.modem_sim.specs.Sims.{Kept, KeptGoes}
+use Rattle.modem_sim.specs.Stills.{Loads, LoadsNone, ready}
+use Rattle.modem_sim.proofs.sims.SimPasts.{kept_core, fetched_none, fetched_some, gone_n1}
+use Rattle.modem_sim.proofs.sims.TurnParts.{loads_nothing, more_ready, none_of}
 use Rattle.modem_sim.proofs.kept.Kept.load.Goals as goal
 
-pub returns-in_err-put-clause-goes : goal.returns-in_err-put-clause-goes
-returns-in_err-put-clause-goes c = kept_then c.args.self.now c.fetch.new.self c.put.new.self c.fetch.ensures.goes c.put.ensures.goes
+pub returns-in_err-offered-clause-goes : goal.returns-in_err-offered-clause-goes
+returns-in_err-offered-clause-goes c =
+    let old : Kept = record {
+      core = c.self.inside.core;
+      unfed = c.self.inside.unfed;
+      deframer = c.self.inside.deframer;
+      out = c.self.inside.out;
+      failed = c.self.inside.failed;
+      end = c.self.inside.end;
+    } in
+    let Goes_to : Kept → Type 0 = λ k. KeptGoes k (record old { core = c.offer_all.new.self }) in
+    subst Goes_to c.self.view_is (kept_core old c.offer_all.new.self c.offer_all.ensures.goes)
+
+pub returns-in_default-clause-goes : goal.returns-in_default-clause-goes
+returns-in_default-clause-goes c =
+    let old : Kept = record {
+      core = c.self.inside.core;
+      unfed = c.self.inside.unfed;
+      deframer = c.self.inside.deframer;
+      out = c.self.inside.out;
+      failed = c.self.inside.failed;
+      end = c.self.inside.end;
+    } in
+    let Goes_to : Kept → Type 0 = λ k. KeptGoes k (record old { core = c.outgoing.follows.lender-at-none }) in
+    subst Goes_to c.self.view_is
+    (fetched_none old c.offer_all.new.self c.outgoing.follows.lender-at-none (length c.offer_all.new.self.station.queue == 0) c.offer_all.ensures.goes
+    c.in_default.ensures.frame c.outgoing.follows.holds-at-none)
+
+pub returns-in_default-clause-none : goal.returns-in_default-clause-none
+returns-in_default-clause-none c = λ none.
+    let old : Kept = record {
+      core = c.self.inside.core;
+      unfed = c.self.inside.unfed;
+      deframer = c.self.inside.deframer;
+      out = c.self.inside.out;
+      failed = c.self.inside.failed;
+      end = c.self.inside.end;
+    } in
+    let From : Kept → Type 0 = λ k. LoadsNone k (record old { core = c.outgoing.follows.lender-at-none }) in
+    subst From c.self.view_is
+    (loads_nothing old c.offer_all.new.self c.outgoing.follows.lender-at-none (length c.offer_all.new.self.station.queue == 0)
+    (c.in_ok-offered.ensures.same none) c.in_default.ensures.frame c.outgoing.follows.holds-at-none (c.in_ok-offered.ensures.none none))
 
 pub returns-clause-goes : goal.returns-clause-goes
-returns-clause-goes c = kept_then c.args.self.now c.fetch.new.self c.put.new.self c.fetch.ensures.goes c.put.ensures.goes
+returns-clause-goes c =
+    let old : Kept = record {
+      core = c.self.inside.core;
+      unfed = c.self.inside.unfed;
+      deframer = c.self.inside.deframer;
+      out = c.self.inside.out;
+      failed = c.self.inside.failed;
+      end = c.self.inside.end;
+    } in
+    let new : Kept = record old { core = c.outgoing.follows.lender-at-none; out = c.put.new.self } in
+    let Goes_to : Kept → Type 0 = λ k. KeptGoes k new in
+    subst Goes_to c.self.view_is
+    (fetched_some old c.offer_all.new.self c.outgoing.follows.lender-at-none (length c.offer_all.new.self.station.queue == 0) (outgoing_of c.in-Some.outgoing) c.put.new.self
+    (none_of c.self.inside.out (sym c.is_empty.ensures ∙ c.if-not-is_empty.false)) c.offer_all.ensures.goes
+    c.in-Some.ensures.frame c.in-Some.ensures.short c.put.ensures.octets c.in-Some.ensures.past c.outgoing.follows.holds-at-none)
+
+pub returns-clause-loads : goal.returns-clause-loads
+returns-clause-loads c = λ _.
+    let old : Kept = record {
+      core = c.self.inside.core;
+      unfed = c.self.inside.unfed;
+      deframer = c.self.inside.deframer;
+      out = c.self.inside.out;
+      failed = c.self.inside.failed;
+      end = c.self.inside.end;
+    } in
+    let new : Kept = record old { core = c.outgoing.follows.lender-at-none; out = c.put.new.self } in
+    let From : Kept → Type 0 = λ k. Loads k new in
+    subst From c.self.view_is (ready (more_ready c.self.inside.out c.put.new.self (none_of c.self.inside.out (sym c.is_empty.ensures ∙ c.if-not-is_empty.false)) c.put.ensures.some))
+
+pub invariant_of-self-in_default : goal.invariant_of-self-in_default
+invariant_of-self-in_default c =
+    gone_n1 c.offer_all.new.self c.outgoing.follows.lender-at-none c.self.inside.deframer.n1 c.outgoing.follows.holds-at-none
+    (c.offer_all.ensures.n1 ∙ c.self.invariant)
+
+pub invariant_of-self-2 : goal.invariant_of-self-2
+invariant_of-self-2 c =
+    gone_n1 c.offer_all.new.self c.outgoing.follows.lender-at-none c.self.inside.deframer.n1 c.outgoing.follows.holds-at-none
+    (c.offer_all.ensures.n1 ∙ c.self.invariant)

@@ -1,18 +1,16 @@
-use Rattle.std.proofs.Common.{◌∙◌, refl, nat_lt, false, sym, subst, option_map}
-use Rattle.modem_sim.specs.Sims.{Kept, pending_frame}
+use Rattle.std.proofs.Common.{◌∙◌, refl, nat_lt, false, sym, subst}
+use Rattle.modem_sim.specs.Sims.{Kept}
 use Rattle.modem_sim.specs.Stills.{ReadsOnce}
-use Rattle.modem_sim.proofs.PartLemmas.{reads_nothing, reads_some}
+use Rattle.modem_sim.proofs.sims.TurnParts.{reads_nothing, reads_some}
 use Rattle.modem_sim.proofs.kept.Kept.receive.Goals as goal
 
 pub returns-then-not-is_empty-clause-reads : goal.returns-then-not-is_empty-clause-reads
 returns-then-not-is_empty-clause-reads g c =
     let old : Kept = record {
       core = c.self.inside.core;
-      n1 = c.self.inside.n1;
       unfed = c.self.inside.unfed;
       deframer = c.self.inside.deframer;
-      pending = option_map pending_frame c.self.inside.pending;
-      out = c.self.inside.out.items;
+      out = c.self.inside.out;
       failed = c.self.inside.failed;
       end = c.self.inside.end;
     } in
@@ -25,11 +23,9 @@ pub returns-in-Ok-clause-reads : goal.returns-in-Ok-clause-reads
 returns-in-Ok-clause-reads g c =
     let old : Kept = record {
       core = c.self.inside.core;
-      n1 = c.self.inside.n1;
       unfed = c.self.inside.unfed;
       deframer = c.self.inside.deframer;
-      pending = option_map pending_frame c.self.inside.pending;
-      out = c.self.inside.out.items;
+      out = c.self.inside.out;
       failed = c.self.inside.failed;
       end = c.self.inside.end;
     } in

@@ -1,20 +1,18 @@
-use Rattle.std.proofs.Common.{ap, sym, ◌∙◌, subst, option_map}
+use Rattle.std.proofs.Common.{ap, sym, ◌∙◌, subst}
 use Rattle.mux_frame.specs.Frames.{frame_of}
 use Rattle.mux_frame.specs.Deframing.{Deframing, HandsOver}
-use Rattle.modem_sim.specs.Sims.{Kept, KeptGoes, pending_frame}
+use Rattle.modem_sim.specs.Sims.{Kept, KeptGoes}
 use Rattle.modem_sim.specs.Stills.{KeptDoes}
-use Rattle.modem_sim.proofs.SimLemmas.{kept_did, kept_took}
+use Rattle.modem_sim.proofs.sims.SimPasts.{kept_did, kept_took}
 use Rattle.modem_sim.proofs.kept.Kept.take_frame.Goals as goal
 
 pub returns-clause-goes : goal.returns-clause-goes
 returns-clause-goes c =
     let old : Kept = record {
       core = c.self.inside.core;
-      n1 = c.self.inside.n1;
       unfed = c.self.inside.unfed;
       deframer = c.self.inside.deframer;
-      pending = option_map pending_frame c.self.inside.pending;
-      out = c.self.inside.out.items;
+      out = c.self.inside.out;
       failed = c.self.inside.failed;
       end = c.self.inside.end;
     } in
@@ -31,11 +29,9 @@ pub returns-clause-does : goal.returns-clause-does
 returns-clause-does c = λ _.
     let old : Kept = record {
       core = c.self.inside.core;
-      n1 = c.self.inside.n1;
       unfed = c.self.inside.unfed;
       deframer = c.self.inside.deframer;
-      pending = option_map pending_frame c.self.inside.pending;
-      out = c.self.inside.out.items;
+      out = c.self.inside.out;
       failed = c.self.inside.failed;
       end = c.self.inside.end;
     } in

@@ -6,7 +6,7 @@ use Rattle.futures.specs.declared.task.Poll.{Poll}
 use Rattle.modem_sim.specs.declared.error.SimError.{SimError}
 use Rattle.modem_sim.specs.declared.sim.SimTurn.{SimTurn}
 use Rattle.modem_sim.specs.Polls.{Gives}
-use Rattle.modem_sim.proofs.PollLemmas.{gives_before, gives_now}
+use Rattle.modem_sim.proofs.sims.PollSteps.{gives_before, gives_now}
 use Rattle.modem_sim.proofs.polling.SimFuture.poll.Goals as goal
 
 pub returns-in-Some-clause-value : goal.returns-in-Some-clause-value

@@ -1,6 +1,6 @@
 -- The end that is kept, or the one to which the turns lead.
 use Rattle.std.proofs.Common.{◌∙◌, sym}
-use Rattle.modem_sim.proofs.PollLemmas.{goes_given, polls_again, polls_on}
+use Rattle.modem_sim.proofs.sims.PollSteps.{goes_given, polls_again, polls_on}
 use Rattle.modem_sim.proofs.sim.Sim.advance.Goals as goal
 
 pub returns-in-Some-clause-polls : goal.returns-in-Some-clause-polls

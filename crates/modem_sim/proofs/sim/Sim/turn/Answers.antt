@@ -2,7 +2,8 @@ use Rattle.std.proofs.Common.{◌∙◌, sym, subst}
 use Rattle.modem_sim.specs.declared.sim.SimTurn.TheVariants.{Moved, Idle, Ended}
 use Rattle.modem_sim.specs.Sims.{SimState}
 use Rattle.modem_sim.specs.Turns.{GoesTurn}
-use Rattle.modem_sim.proofs.MeaningLemmas.{turn_idle, turn_moved, turn_over, turn_was_over}
+use Rattle.modem_sim.proofs.sims.TurnMeanings.{turn_idle, turn_moved, turn_over, turn_was_over}
+use Rattle.modem_sim.proofs.sims.IdleTurns.{refused_by, wants_memory}
 use Rattle.modem_sim.proofs.sim.Sim.turn.Goals as goal
 
 pub returns-then-is_ended-clause-turn : goal.returns-then-is_ended-clause-turn
@@ -35,3 +36,7 @@ returns-clause-turn g c =
     let From : SimState g.row.L.Denot → Type 0 = λ x. GoesTurn g.L.SerialLine.received g.L.SerialLine.sent g.L.SerialLine.calls x new Idle in
     subst From c.self.view_is
     (turn_idle g.L.SerialLine.received g.L.SerialLine.sent g.L.SerialLine.calls old new c.in_ok-moved.moved c.in_ok-moved.ensures.turn c.if-moved.false)
+
+pub returns-in_err-moved-clause-memory : goal.returns-in_err-moved-clause-memory
+returns-in_err-moved-clause-memory g c = λ why.
+    wants_memory g.L.SerialLine.received g.L.SerialLine.sent (record { line = c.go_on.new.line; kept = c.go_on.new.self }) (refused_by c.from_residual.result c.in_err-moved.field-0.0 c.from_residual.ensures.1 why c.in_err-moved.ensures.memory)

@@ -3,7 +3,7 @@ use Rattle.std.proofs.Common.{◌≡◌, ℕ, arith, subst}
 use Rattle.std.specs.Prelude.{Ok, Err}
 use Rattle.modem_sim.specs.declared.sim.SimTurn.{SimTurn}
 use Rattle.modem_sim.specs.Polls.{MovesOn, Turned, moves_none, moves_once, goes_on, rests, ends, fails}
-use Rattle.modem_sim.proofs.SimLemmas.{sim_none, sim_then}
+use Rattle.modem_sim.proofs.sims.SimPasts.{sim_none, sim_then}
 use Rattle.modem_sim.proofs.sim.Sim.turns.Goals as goal
 
 pub loop-init : goal.loop-init
@@ -18,6 +18,7 @@ loop-preserved g c =
       fails = c.in-Ok-Moved.ensures.fails;
       still = c.turn.ensures.still;
       over = c.in-Ok-Moved.ensures.over;
+      memory = c.in-Ok-Moved.ensures.memory;
       others = c.in-Ok-Moved.ensures.others;
       sound = c.in-Ok-Moved.ensures.sound;
       failure = c.in-Ok-Moved.ensures.failure;
@@ -47,6 +48,7 @@ returns-in-Ok-Idle-clause-runs g c =
       fails = c.in-Ok-Idle.ensures.fails;
       still = c.turn.ensures.still;
       over = c.in-Ok-Idle.ensures.over;
+      memory = c.in-Ok-Idle.ensures.memory;
       others = c.in-Ok-Idle.ensures.others;
       sound = c.in-Ok-Idle.ensures.sound;
       failure = c.in-Ok-Idle.ensures.failure;
@@ -71,6 +73,7 @@ returns-in-Ok-Ended-clause-runs g c =
       fails = c.in-Ok-Ended.ensures.fails;
       still = c.turn.ensures.still;
       over = c.in-Ok-Ended.ensures.over;
+      memory = c.in-Ok-Ended.ensures.memory;
       others = c.in-Ok-Ended.ensures.others;
       sound = c.in-Ok-Ended.ensures.sound;
       failure = c.in-Ok-Ended.ensures.failure;
@@ -95,6 +98,7 @@ returns-in-Err-clause-runs g c =
       fails = c.in-Err.ensures.fails;
       still = c.turn.ensures.still;
       over = c.in-Err.ensures.over;
+      memory = c.in-Err.ensures.memory;
       others = c.in-Err.ensures.others;
       sound = c.in-Err.ensures.sound;
       failure = c.in-Err.ensures.failure;

@@ -1,9 +1,9 @@
 use Rattle.std.proofs.Common.{Bool, List, ◌∷◌, ◌≡◌, ◌+◌, ◌||◌, drop, sym, ap, ◌∙◌, subst, arith}
 use Rattle.std.proofs.lemmas.Bool.Decides.{nat_tests}
-use Rattle.modem_sim.proofs.CoreLemmas.{either_way}
+use Rattle.modem_sim.proofs.ends.EndAfterFrame.{either_way}
 use Rattle.modem_sim.specs.declared.script.Step.{Step}
-use Rattle.modem_sim.specs.Cores.{Core, Goes, HasNoneToDo, Waits, boxes_done, for_lines, for_openings, for_room, waits}
-use Rattle.modem_sim.proofs.DoingLemmas.{does_goes, step_at}
+use Rattle.modem_sim.specs.Cores.{Core, Goes, HasNoneToDo, SaysNext, Waits, boxes_done, for_lines, for_openings, for_room, waits}
+use Rattle.modem_sim.proofs.ends.ScriptSteps.{does_goes, refused_any, step_at}
 use Rattle.modem_sim.proofs.sim_core.SimCore.do_next.Goals as goal
 use Rattle.modem_sim.proofs.sim_core.SimCore.do_next.Goals.{then-step-self-via-then-step-self, then-step-self-via-else-step-self+then-not-are_open}
 
@@ -80,3 +80,30 @@ returns-then-not-branch-clause-none c = λ _.
     let first = subst Steps c.deref.ensures.value (step_at c.deref.result.now c.self.inside.next step c.in-Some.ensures.lookup.3.0 c.in-Some.ensures.lookup.1) in
     let There : Core → Type 0 = λ o. HasNoneToDo o in
     subst There c.self.view_is (waits step later first (sym c.if-not-acts.ensures) (for_room (c.in_ok-carry_out.ensures.refused c.if-not-branch.true)))
+
+pub returns-in_err-carry_out-clause-says : goal.returns-in_err-carry_out-clause-says
+returns-in_err-carry_out-clause-says c =
+    let old : Core = record {
+      station = c.self.inside.station;
+      modem = c.self.inside.modem;
+      echo = c.self.inside.echo;
+      boxes = c.self.inside.channels.items;
+      come = c.self.inside.come;
+      steps = drop c.self.inside.next c.self.inside.steps.items;
+      closed = c.self.inside.closed;
+    } in
+    let step = c.in-Some.step.now in
+    let later = drop (c.self.inside.next + 1) c.self.inside.steps.items in
+    let Steps : List Step → Type 0 = λ xs. drop c.self.inside.next xs ≡ step ∷ drop (c.self.inside.next + 1) xs in
+    let first = subst Steps c.deref.ensures.value (step_at c.deref.result.now c.self.inside.next step c.in-Some.ensures.lookup.3.0 c.in-Some.ensures.lookup.1) in
+    let says : SaysNext old = record {
+      step = step;
+      later = later;
+      is_first = first;
+      is_done = sym c.if-not-acts.ensures;
+      come = let late = c.if-step-self.false in omega (arith, late);
+      open_are = sym c.if-not-are_open.ensures;
+      asks_nothing = c.in_err-carry_out.ensures.says;
+    } in
+    let There : Core → Type 0 = λ o. SaysNext o in
+    refused_any c.from_residual.result (subst There c.self.view_is says)

@@ -8,6 +8,7 @@ invariant-loop-done l = record {
   goes : Goes l.fn.self l.self;
   same : l.done ≡ false → l.self ≡ l.fn.self;
   fewer : l.done ≡ true → length l.self.steps < length l.fn.self.steps;
+  n1 : l.self.station.n1 ≡ l.fn.self.station.n1;
 }
 
 abbrev pub decreases-loop-done : goal.decreases-loop-done

@@ -4,8 +4,8 @@ use Rattle.mux_frame.specs.Frames.{frame_of}
 use Rattle.mux_station.specs.Stations.{channel_at, seen_in}
 use Rattle.mux_station.specs.States.{is_opened}
 use Rattle.mux_station.specs.Written.{is_on}
-use Rattle.modem_sim.specs.Cores.{Core, GoesOn, closes_all, closes_in, octets_in, opens_in}
-use Rattle.modem_sim.proofs.CoreLemmas.{got_goes_on, closing_noted, kept_of}
+use Rattle.modem_sim.specs.Cores.{Core, EndGoesOn, closes_all, closes_in, octets_in, opens_in}
+use Rattle.modem_sim.proofs.ends.EndAfterFrame.{got_goes_on, closing_noted, kept_of}
 use Rattle.modem_sim.proofs.sim_core.SimCore.got.Goals as goal
 
 pub keep-requires : goal.keep-requires
@@ -16,7 +16,7 @@ returns-clause-took c = λ _.
     let f = frame_of c.args.frame in
     let view = c.self.view_is in
     let place : c.from.result ≡ c.args.frame.dlci.number = omega arith in
-    let Goes : Core → Type 0 = λ o. GoesOn o c.keep.new.self f in
+    let Goes : Core → Type 0 = λ o. EndGoesOn o c.keep.new.self f in
     let old : Core = record {
       station = c.self.inside.station;
       modem = c.self.inside.modem;

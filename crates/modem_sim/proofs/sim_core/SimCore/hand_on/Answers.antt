@@ -5,8 +5,8 @@ use Rattle.mux_station.specs.Fitting as fitting
 use Rattle.mux_station.specs.Stations.{channel_at}
 use Rattle.modem_sim.specs.Boxes.{Box, fresh_box}
 use Rattle.modem_sim.specs.Cores.{Core, Goes, all_unhanded}
-use Rattle.modem_sim.proofs.CoreLemmas.{any_default, is_handled}
-use Rattle.modem_sim.proofs.HandingLemmas.{fewer_handed, hands_goes}
+use Rattle.modem_sim.proofs.ends.EndAfterFrame.{any_default, is_handled}
+use Rattle.modem_sim.proofs.ends.OfferedPieces.{fewer_handed, hands_goes}
 use Rattle.modem_sim.proofs.sim_core.SimCore.hand_on.Goals as goal
 
 pub returns-clause-goes : goal.returns-clause-goes
@@ -34,7 +34,7 @@ returns-clause-goes c = λ _.
     (ap (λ (o : Core). is_opened (channel_at o.station d).state) c.self.view_is ∙ c.requires)
     (c.index_mut-channel.ensures.value ∙ ap (λ i. slice_index_or c.self.inside.channels.items i b) place ∙ any_default c.self.inside.channels.items d b fresh_box inside)
     c.next_octets-octets.ensures
-    (is_handled c.offer.result (fitting.Handles c.self.inside.station c.offer.new.self (station.Called (station.Offer d c.next_octets-octets.result.now))) c.offer.ensures.past c.if-is_err.ensures.negation)
+    (is_handled c.offer.result (fitting.StationHandles c.self.inside.station c.offer.new.self (station.Called (station.Offer d c.next_octets-octets.result.now))) c.offer.ensures.past c.if-is_err.ensures.negation)
     (ap (λ i. record new { boxes = slice_set c.self.inside.channels.items i c.handed.new.self }) place
     ∙ ap (λ (x : Box). record new { boxes = slice_set c.self.inside.channels.items d x }) c.handed.ensures))
 

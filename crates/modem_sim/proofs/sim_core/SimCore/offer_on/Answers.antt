@@ -1,4 +1,4 @@
-use Rattle.modem_sim.proofs.HandingLemmas.{goes_then, goes_either, release_goes}
+use Rattle.modem_sim.proofs.ends.OfferedPieces.{goes_then, goes_either, release_goes}
 use Rattle.modem_sim.proofs.sim_core.SimCore.offer_on.Goals as goal
 
 pub returns-clause-goes : goal.returns-clause-goes

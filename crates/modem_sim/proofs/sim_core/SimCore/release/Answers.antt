@@ -1,8 +1,8 @@
 use Rattle.std.proofs.Common.{◌≡◌, ◌<◌, ◌∙◌, ap, subst, true, ℕ, Bool, IfOk, arith, length, slice_index_or, slice_set, sym}
 use Rattle.modem_sim.specs.Boxes.{fresh_box}
 use Rattle.modem_sim.specs.Cores.{Core, all_unhanded}
-use Rattle.modem_sim.proofs.CoreLemmas.{any_default}
-use Rattle.modem_sim.proofs.HandingLemmas.{fewer_released}
+use Rattle.modem_sim.proofs.ends.EndAfterFrame.{any_default}
+use Rattle.modem_sim.proofs.ends.OfferedPieces.{fewer_released}
 use Rattle.modem_sim.proofs.sim_core.SimCore.release.Goals as goal
 
 pub returns-clause-fewer : goal.returns-clause-fewer

@@ -1,6 +1,6 @@
 use Rattle.std.proofs.Common.{refl}
 use Rattle.modem_sim.specs.Acts.{end_of}
-use Rattle.modem_sim.proofs.CoreLemmas.{fits_nothing}
+use Rattle.modem_sim.proofs.ends.EndAfterFrame.{fits_nothing}
 use Rattle.modem_sim.proofs.sim_core.SimCore.start.Goals as goal
 
 pub returns : goal.returns

@@ -1,7 +1,7 @@
 use Rattle.std.proofs.Common.{◌∙◌, ap, sym, subst}
 use Rattle.mux_frame.specs.Deframing.{Deframes}
 use Rattle.mux_frame.specs.Judged.{IsAtHand}
-use Rattle.mux_frame.proofs.Pasts.{past_taken}
+use Rattle.mux_frame.proofs.deframers.DeframerPasts.{past_taken}
 use Rattle.mux_frame.proofs.deframer.Deframer.advance.Goals as goal
 
 pub returns-in-Some-clause-past : goal.returns-in-Some-clause-past

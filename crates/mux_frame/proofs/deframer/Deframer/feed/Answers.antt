@@ -2,9 +2,9 @@ use Rattle.std.proofs.Common.{◌≡◌, ◌≢◌, ◌∙◌, ◌+◌, ◌≤�
 use Rattle.mux_frame.specs.Deframing.{Deframes, decision_on, next_in}
 use Rattle.mux_frame.specs.Judging.{refused}
 use Rattle.mux_frame.specs.Laws.{AreOctets}
-use Rattle.mux_frame.proofs.Decisions.{same_reading_then}
-use Rattle.mux_frame.proofs.Pasts.{past_fed, undecided_short, next_some, next_stays, octets-take}
-use Rattle.mux_frame.proofs.Slow.{octets_both}
+use Rattle.mux_frame.proofs.deframers.DeframerOctets.{same_reading_then}
+use Rattle.mux_frame.proofs.deframers.DeframerPasts.{past_fed, undecided_short, next_some, next_stays, octets-take}
+use Rattle.mux_frame.proofs.readings.ComputedReadings.{octets_both}
 use Rattle.mux_frame.proofs.deframer.Deframer.feed.Goals as goal
 
 pub settle-self-inside-requires : goal.settle-self-inside-requires

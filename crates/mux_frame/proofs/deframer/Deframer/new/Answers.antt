@@ -1,6 +1,6 @@
 use Rattle.std.proofs.Common.{refl, rules}
 use Rattle.mux_frame.specs.Deframing.{next_in}
-use Rattle.mux_frame.proofs.Pasts.{past_none}
+use Rattle.mux_frame.proofs.deframers.DeframerPasts.{past_none}
 use Rattle.mux_frame.proofs.deframer.Deframer.new.Goals as goal
 
 pub returns-clause-ok : goal.returns-clause-ok

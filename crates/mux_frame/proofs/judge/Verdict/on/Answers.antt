@@ -1,7 +1,7 @@
 use Rattle.std.proofs.Common.{◌≡◌, arith, rules}
 use Rattle.mux_frame.specs.Judging.{unfinished, refused, verdict_on}
 use Rattle.mux_frame.specs.Judged.{verdict_seen}
-use Rattle.mux_frame.proofs.Judgements.{means_from}
+use Rattle.mux_frame.proofs.candidates.Verdicts.{means_from}
 use Rattle.mux_frame.proofs.judge.Verdict.on.Goals as goal
 
 pub returns-in-Fits-clause-means : goal.returns-in-Fits-clause-means

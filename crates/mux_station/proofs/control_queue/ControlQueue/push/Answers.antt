@@ -1,5 +1,5 @@
 -- A frame is put at the end.
-use Rattle.mux_station.proofs.Queues.{push_bound, push_view}
+use Rattle.mux_station.proofs.queues.ControlQueues.{push_bound, push_view}
 use Rattle.mux_station.proofs.control_queue.ControlQueue.push.Goals as goal
 
 pub invariant_of-self : goal.invariant_of-self

@@ -1,5 +1,5 @@
 -- A length field tells at most 127.
-use Rattle.mux_station.proofs.Values.{short_value}
+use Rattle.mux_station.proofs.received.MessageValues.{short_value}
 use Rattle.mux_station.proofs.message.Message.read.Goals as goal
 
 pub invariant_of-result : goal.invariant_of-result

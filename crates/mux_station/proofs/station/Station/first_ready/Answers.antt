@@ -1,6 +1,6 @@
 -- The connections are passed in rising order.
 use Rattle.std.proofs.Common.{◌∙◌, sym}
-use Rattle.mux_station.proofs.Turns.{ready_here, ready_next, ready_none}
+use Rattle.mux_station.proofs.turns.ReadyConnections.{ready_here, ready_next, ready_none}
 use Rattle.mux_station.proofs.station.Station.first_ready.Goals as goal
 
 pub returns-then-is_ready : goal.returns-then-is_ready

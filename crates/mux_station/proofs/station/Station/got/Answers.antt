@@ -1,6 +1,6 @@
 -- A frame is handled, and noted as each past says.
 use Rattle.mux_frame.specs.Frames.{frame_of}
-use Rattle.mux_station.proofs.Handling.{got_handles, noted_in_past}
+use Rattle.mux_station.proofs.received.AnsweredFrames.{got_handles, noted_in_past}
 use Rattle.mux_station.proofs.station.Station.got.Goals as goal
 
 pub returns-clause-past : goal.returns-clause-past

@@ -1,7 +1,7 @@
 -- A new station fits the empty past.
 use Rattle.std.proofs.Common.{ap}
 use Rattle.mux_station.specs.ControlQueues.{ControlQueue}
-use Rattle.mux_station.proofs.Fitted.{new_fits}
+use Rattle.mux_station.proofs.states.StationPasts.{new_fits}
 use Rattle.mux_station.proofs.station.Station.new.Goals as goal
 
 pub returns-clause-past : goal.returns-clause-past

@@ -1,7 +1,7 @@
 use Rattle.std.specs.Prelude.{◌≡◌, ◌==◌, ◌<◌, length, true}
 use Rattle.std.proofs.Common.{◌∙◌, ap, sym, subst}
 use Rattle.mux_station.specs.Stations.{Station}
-use Rattle.mux_station.proofs.Senders.{sender_alone, sends_next}
+use Rattle.mux_station.proofs.turns.NextData.{sender_alone, sends_next}
 use Rattle.mux_station.proofs.station.Station.next_sender.Goals as goal
 
 -- src/sending.rt:108:5

@@ -1,5 +1,5 @@
 -- An accepted call queues its frame.
-use Rattle.mux_station.proofs.Calling.{on_accepted, open_handles}
+use Rattle.mux_station.proofs.user_calls.OpenAndClose.{on_accepted, open_handles}
 use Rattle.mux_station.proofs.station.Station.open.Goals as goal
 
 pub returns-clause-past : goal.returns-clause-past

@@ -1,6 +1,6 @@
 -- An accepted call does what it asks for.
-use Rattle.mux_station.proofs.Calling.{on_accepted}
-use Rattle.mux_station.proofs.Asking.{probe_handles}
+use Rattle.mux_station.proofs.user_calls.OpenAndClose.{on_accepted}
+use Rattle.mux_station.proofs.user_calls.ProbeStopFlowOffer.{probe_handles}
 use Rattle.mux_station.proofs.station.Station.probe.Goals as goal
 
 pub returns-clause-past : goal.returns-clause-past

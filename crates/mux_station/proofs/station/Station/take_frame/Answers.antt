@@ -5,7 +5,7 @@ use Rattle.mux_frame.specs.declared.frame.Kind.{Kind}
 use Rattle.mux_frame.specs.declared.frame.Kind.TheVariants.{Uih}
 use Rattle.mux_frame.specs.Frames.{frame_of}
 use Rattle.mux_station.specs.Written.{is_kind, is_on}
-use Rattle.mux_station.proofs.Coming.{refused_by}
+use Rattle.mux_station.proofs.received.StatesAfterFrames.{refused_by}
 use Rattle.mux_station.proofs.station.Station.take_frame.Goals as goal
 
 pub returns-in-Uih-clause-refusal : goal.returns-in-Uih-clause-refusal

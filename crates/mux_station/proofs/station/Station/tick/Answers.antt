@@ -2,8 +2,8 @@
 use Rattle.std.specs.Prelude.{◌∷◌, [], Bool, if◌then◌else◌}
 use Rattle.std.proofs.Common.{◌∙◌, ap, sym, append-nil}
 use Rattle.mux_station.specs.Ticking.{UpProbe}
-use Rattle.mux_station.proofs.Ticks.{tick_handles}
-use Rattle.mux_station.proofs.TickTurns.{tick_new, tick_up, pushed_up}
+use Rattle.mux_station.proofs.ticks.WholeTicks.{tick_handles}
+use Rattle.mux_station.proofs.ticks.ConnectionTurns.{tick_new, tick_up, pushed_up}
 use Rattle.mux_station.proofs.station.Station.tick.Goals as goal
 
 pub returns-then-tick_probe-clause-past : goal.returns-then-tick_probe-clause-past

@@ -1,7 +1,7 @@
 -- The connections have their turns in rising order.
 use Rattle.std.specs.Prelude.{◌++◌, List, map, refl}
 use Rattle.std.proofs.Common.{◌∙◌, ap, sym, arith, append-nil}
-use Rattle.mux_station.proofs.TickTurns.{up_end, ticked_next, ticked_end, up_pushed, up_passed}
+use Rattle.mux_station.proofs.ticks.ConnectionTurns.{up_end, ticked_next, ticked_end, up_pushed, up_passed}
 use Rattle.mux_station.specs.Ticking.{Up}
 use Rattle.mux_station.specs.Noticing.{up_of}
 use Rattle.mux_station.proofs.station.Station.tick_channels.Goals as goal

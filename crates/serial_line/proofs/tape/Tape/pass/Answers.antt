@@ -1,5 +1,5 @@
 -- What passes now comes after what had passed before.
-use Rattle.serial_line.proofs.Tapes.{passes_more}
+use Rattle.serial_line.proofs.PassedOctets.{passes_more}
 use Rattle.serial_line.proofs.tape.Tape.pass.Goals as goal
 
 pub returns : goal.returns

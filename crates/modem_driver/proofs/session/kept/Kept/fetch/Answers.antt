@@ -3,16 +3,16 @@ use Rattle.std.proofs.Common.{◌≡◌, ap, sym, ◌∙◌, subst, arith, true,
 use Rattle.std.specs.Prelude.{is_some}
 use Rattle.modem_history.specs.Sessions.{LineView}
 use Rattle.modem_driver.specs.SessionStates.{Kept}
-use Rattle.modem_driver.specs.TurnSteps.{standing}
+use Rattle.modem_driver.specs.TurnSteps.{turn_state}
 use Rattle.modem_driver.specs.TurnTakes.{Fetches}
-use Rattle.modem_driver.proofs.sessions.TakingOne.{fetches, fetches_none, gives, is_none}
+use Rattle.modem_driver.proofs.sessions.NextRequest.{fetches, fetches_none, gives, is_none}
 use Rattle.modem_driver.proofs.session.kept.Kept.fetch.Goals as goal
 
 pub returns-then-is_some : goal.returns-then-is_some
 returns-then-is_some g c =
     let d = c.args.driver.now in
     let some : is_some c.self.inside.aside ≡ true = sym c.is_some.ensures ∙ c.if-is_some.true in
-    subst (λ (v : Kept). (l : LineView) → Fetches (standing l d v) (standing l d v)) c.self.view_is
+    subst (λ (v : Kept). (l : LineView) → Fetches (turn_state l d v) (turn_state l d v)) c.self.view_is
     (λ l. fetches_none l d _ (λ none. absurd (cc_none (sym some ∙ ap is_some none))))
   where
     cc_none : true ≡ false → ⊥
@@ -24,7 +24,7 @@ returns-then-count-hand_left g c =
     let waits = c.count.ensures in
     let left = c.hand_left.ensures in
     let full = c.if-count-hand_left.true in
-    subst (λ (v : Kept). (l : LineView) → Fetches (standing l d v) (standing l d v)) c.self.view_is
+    subst (λ (v : Kept). (l : LineView) → Fetches (turn_state l d v) (turn_state l d v)) c.self.view_is
     (λ l. fetches_none l d _ (λ none. omega arith))
 
 pub returns : goal.returns
@@ -47,5 +47,5 @@ returns g c =
       faulty = k.faulty;
       course = k.course;
     } in
-    subst (λ (v : Kept). (l : LineView) → Fetches (standing l d v) (standing l c.next.new.self (record old { aside = c.next.result }))) c.self.view_is
+    subst (λ (v : Kept). (l : LineView) → Fetches (turn_state l d v) (turn_state l c.next.new.self (record old { aside = c.next.result }))) c.self.view_is
     (λ l. fetches l d c.next.new.self old c.next.result none (omega arith) (gives d c.next.new.self c.next.result h.desk.0 h.desk.1 h.desk.2 (h.desk.3, h.desk.4) h.taken))

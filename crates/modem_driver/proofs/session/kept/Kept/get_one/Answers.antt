@@ -8,8 +8,8 @@ use Rattle.modem_driver.specs.declared.session.ending.Course.{Course}
 use Rattle.modem_driver.specs.Endings.{asker_of, course_after, is_answered, is_stop}
 use Rattle.modem_driver.specs.SessionStates.{Kept}
 use Rattle.modem_driver.specs.GettingSteps.{KeptGets}
-use Rattle.modem_driver.proofs.sessions.Ending.{noted}
-use Rattle.modem_driver.proofs.sessions.Getting.{gets_moved, gets_none, keeps_from, none_at_hand, stays_at_hand}
+use Rattle.modem_driver.proofs.sessions.StopProgress.{noted}
+use Rattle.modem_driver.proofs.sessions.FrameAtHand.{gets_moved, gets_none, keeps_from, none_at_hand, stays_at_hand}
 use Rattle.modem_driver.proofs.session.kept.Kept.get_one.Goals as goal
 
 pub returns-in_default-clause-gets : goal.returns-in_default-clause-gets

@@ -3,7 +3,7 @@ use Rattle.std.proofs.Common.{◌≡◌, ap, ◌∙◌, subst, false, true}
 use Rattle.std.specs.Prelude.{map}
 use Rattle.modem_history.specs.Acts.{act_of}
 use Rattle.modem_driver.specs.SessionStates.{Kept, KeptLoses}
-use Rattle.modem_driver.proofs.sessions.Losing.{loses}
+use Rattle.modem_driver.proofs.sessions.LineLoss.{loses}
 use Rattle.modem_driver.proofs.session.kept.Kept.lose.Goals as goal
 
 pub returns-clause-loses : goal.returns-clause-loses

@@ -3,10 +3,10 @@ use Rattle.std.proofs.Common.{sym, subst, List, ◌||◌}
 use Rattle.modem_desk.specs.declared.request.Outcome.{Outcome}
 use Rattle.modem_desk.specs.declared.request.Urc.{Urc}
 use Rattle.modem_history.specs.Sessions.{LineView}
-use Rattle.modem_driver.specs.Placing.{Placed, caller_of, place_of, IsRingOf, IsCaller, IsEarOf, IsHeard}
+use Rattle.modem_driver.specs.Placing.{Placed, caller_of, place_of, IsRingOf, IsCaller, IsListenerOf, IsHeard}
 use Rattle.modem_driver.specs.SessionStates.{Kept}
-use Rattle.modem_driver.specs.TurnSteps.{Places, standing}
-use Rattle.modem_driver.proofs.sessions.Placing.{places}
+use Rattle.modem_driver.specs.TurnSteps.{Places, turn_state}
+use Rattle.modem_driver.proofs.sessions.DeskOffers.{places}
 use Rattle.modem_driver.proofs.session.kept.Kept.place.Goals as goal
 
 pub returns : goal.returns
@@ -31,7 +31,7 @@ returns c =
     let one = c.place_outcomes-told.ensures in
     let other = c.place_lines-announced.ensures in
     let left = c.place_lines-announced.new.self in
-    subst (λ (v : Kept). (l : LineView) → Places (standing l d v) (standing l e (record old { unplaced = left.outcomes; unannounced = left.lines })) (told || announced)) c.self.view_is
+    subst (λ (v : Kept). (l : LineView) → Places (turn_state l d v) (turn_state l e (record old { unplaced = left.outcomes; unannounced = left.lines })) (told || announced)) c.self.view_is
     (places d m e old left.outcomes left.lines told announced
     (subst (λ (os : List Outcome). Placed caller_of IsRingOf (IsCaller d.desk) d.told m.told m.free k.waiting.outcomes os told) (sym other.outcomes) one.placed) one.alone
-    (subst (λ (us : List Urc). Placed place_of (IsEarOf m.desk.kinds) (IsHeard m.desk.kinds) m.announced e.announced e.free_lines us left.lines announced) one.lines other.placed) other.alone)
+    (subst (λ (us : List Urc). Placed place_of (IsListenerOf m.desk.kinds) (IsHeard m.desk.kinds) m.announced e.announced e.free_lines us left.lines announced) one.lines other.placed) other.alone)

@@ -4,7 +4,7 @@ use Rattle.std.proofs.lemmas.Bool.{eqb-false}
 use Rattle.std.proofs.lemmas.List.{append-nil, nil_from_length}
 use Rattle.modem_driver.specs.SessionStates.{Kept, line_by}
 use Rattle.modem_driver.specs.SessionTurns.{KeptReads, Feeds}
-use Rattle.modem_driver.proofs.sessions.Exchanging.{reads_fed, reads_none, reads_some, reads_failing}
+use Rattle.modem_driver.proofs.sessions.LineCalls.{reads_fed, reads_none, reads_some, reads_failing}
 use Rattle.modem_driver.proofs.session.kept.Kept.read_on.Goals as goal
 
 pub returns-then-not-is_empty : goal.returns-then-not-is_empty

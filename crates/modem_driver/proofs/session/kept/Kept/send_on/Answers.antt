@@ -5,7 +5,7 @@ use Rattle.mux_station.specs.GivenFrames.{outgoing_of}
 use Rattle.modem_driver.specs.Cores.{Core}
 use Rattle.modem_driver.specs.SessionStates.{Kept}
 use Rattle.modem_driver.specs.SendingSteps.{KeptSends}
-use Rattle.modem_driver.proofs.sessions.Sending.{send_goes, send_busy, send_none, some_wait, none_wait}
+use Rattle.modem_driver.proofs.sessions.NextFrame.{send_goes, send_busy, send_none, some_wait, none_wait}
 use Rattle.modem_driver.proofs.session.kept.Kept.send_on.Goals as goal
 
 pub returns-then-not-is_empty : goal.returns-then-not-is_empty

@@ -5,7 +5,7 @@ use Rattle.modem_desk.specs.declared.request.Request.{Request}
 use Rattle.modem_history.specs.Acts.{act_of}
 use Rattle.modem_driver.specs.SessionStates.{Kept}
 use Rattle.modem_driver.specs.TurnTakes.{TakesAside}
-use Rattle.modem_driver.proofs.sessions.Taking.{takes}
+use Rattle.modem_driver.proofs.sessions.RequestAside.{takes}
 use Rattle.modem_driver.proofs.session.kept.Kept.take_aside.Goals as goal
 
 pub returns-in-Ok-clause-takes : goal.returns-in-Ok-clause-takes

@@ -1,5 +1,5 @@
 -- The request put aside is taken, or stays aside.
-use Rattle.modem_driver.proofs.sessions.TakingOne.{takes_one, keeps_aside}
+use Rattle.modem_driver.proofs.sessions.NextRequest.{takes_one, keeps_aside}
 use Rattle.modem_driver.proofs.session.kept.Kept.take_one.Goals as goal
 
 pub returns-clause-takes : goal.returns-clause-takes

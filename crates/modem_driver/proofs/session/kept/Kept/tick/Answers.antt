@@ -6,8 +6,8 @@ use Rattle.modem_driver.specs.declared.session.ending.Course.{Course}
 use Rattle.modem_driver.specs.declared.session.kept.Kept.TheInside.{Inside}
 use Rattle.modem_driver.specs.Endings.{asker_of, course_after, is_answered, is_stop}
 use Rattle.modem_driver.specs.SessionStates.{Kept, KeptTicks}
-use Rattle.modem_driver.proofs.sessions.Ending.{noted}
-use Rattle.modem_driver.proofs.sessions.Ticking.{tick_goes}
+use Rattle.modem_driver.proofs.sessions.StopProgress.{noted}
+use Rattle.modem_driver.proofs.sessions.StartAndTick.{tick_goes}
 use Rattle.modem_driver.proofs.session.kept.Kept.tick.Goals as goal
 
 pub returns-clause-ticks : goal.returns-clause-ticks

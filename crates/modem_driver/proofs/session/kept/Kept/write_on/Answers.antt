@@ -4,7 +4,7 @@ use Rattle.std.proofs.lemmas.Bool.{eqb-false}
 use Rattle.std.proofs.lemmas.List.{nil_from_length}
 use Rattle.modem_driver.specs.SessionStates.{Kept, line_by}
 use Rattle.modem_driver.specs.SessionTurns.{KeptWrites}
-use Rattle.modem_driver.proofs.sessions.Exchanging.{writes_none, writes_some, writes_failing}
+use Rattle.modem_driver.proofs.sessions.LineCalls.{writes_none, writes_some, writes_failing}
 use Rattle.modem_driver.proofs.session.kept.Kept.write_on.Goals as goal
 
 pub returns-then-is_empty : goal.returns-then-is_empty

@@ -3,7 +3,7 @@ use Rattle.std.proofs.Common.{length, sym, subst}
 use Rattle.std.proofs.lemmas.Bool.{ltb-true}
 use Rattle.modem_driver.specs.SessionTurns.{IsFirstOf}
 use Rattle.modem_driver.specs.WaitingLists.{WaitingLists}
-use Rattle.modem_driver.proofs.sessions.Firsts.{first_of}
+use Rattle.modem_driver.proofs.sessions.FirstWaiting.{first_of}
 use Rattle.modem_driver.proofs.session.waiting.Waiting.first_kind.Goals as goal
 
 pub returns-in-Some : goal.returns-in-Some

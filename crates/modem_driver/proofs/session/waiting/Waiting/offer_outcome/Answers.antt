@@ -4,8 +4,8 @@ use Rattle.std.specs.Prelude.{slice_index_or, slice_set, [], ◌++◌}
 use Rattle.modem_desk.specs.declared.request.Outcome.{Outcome}
 use Rattle.modem_driver.specs.Placing.{OffersFirst, caller_of, IsRingOf, IsCaller}
 use Rattle.modem_driver.specs.WaitingLists.{WaitingLists}
-use Rattle.modem_driver.proofs.sessions.Offering.{offers_given, offers_back, offers_passed, offers_none}
-use Rattle.modem_driver.proofs.sessions.PlacingOutcomes.{rings_apart, ring_given, ring_dry}
+use Rattle.modem_driver.proofs.sessions.FirstOffers.{offers_given, offers_back, offers_passed, offers_none}
+use Rattle.modem_driver.proofs.sessions.CallerOffers.{rings_apart, ring_given, ring_full}
 use Rattle.modem_driver.proofs.session.waiting.Waiting.offer_outcome.Goals as goal
 use Rattle.modem_driver.proofs.session.waiting.Waiting.offer_outcome.Goals.{then-held_up-caller-via-then-held_up-caller, then-held_up-caller-via-else-held_up-caller+then-outcome-callers}
 
@@ -57,4 +57,4 @@ returns-clause-offers c =
     subst (λ (ts : List (List Outcome)). OffersFirst caller_of IsRingOf (IsCaller d.desk) d.told ts d.free e.free held (slice_set held c.from-caller.result true) c.args.self.now.outcomes c.push_back_reserved-2.new.self.items false) (sym c.in-Err.ensures.back.1)
     (subst (λ (n : ℕ). OffersFirst caller_of IsRingOf (IsCaller d.desk) d.told d.told d.free e.free held (slice_set held n true) c.args.self.now.outcomes c.push_back_reserved-2.new.self.items false) (sym c.from-caller.ensures)
     (offers_back caller_of IsRingOf (IsCaller d.desk) d.told d.free e.free held c.args.self.now.outcomes c.pop_front.new.self.items c.push_back_reserved-2.new.self.items o first back rings_apart
-    (ring_dry o.caller d.free e.free c.in-Err.ensures.full) (omega arith)))
+    (ring_full o.caller d.free e.free c.in-Err.ensures.full) (omega arith)))

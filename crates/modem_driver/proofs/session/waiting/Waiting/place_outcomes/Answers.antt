@@ -1,7 +1,7 @@
 -- Each is offered in its turn.
 use Rattle.std.proofs.Common.{◌∙◌, arith, refl}
-use Rattle.modem_driver.proofs.sessions.Offering.{none_held}
-use Rattle.modem_driver.proofs.sessions.PlacingOutcomes.{tells_first, tells_more, tells_last}
+use Rattle.modem_driver.proofs.sessions.FirstOffers.{none_held}
+use Rattle.modem_driver.proofs.sessions.CallerOffers.{tells_first, tells_more, tells_last}
 use Rattle.modem_driver.proofs.session.waiting.Waiting.place_outcomes.Goals as goal
 
 pub loop-place-init : goal.loop-place-init

@@ -1,6 +1,6 @@
 -- Where the bench is given up, or no poll is left, the session stays as it is.
 use Rattle.modem_driver.specs.SessionStates.{line_by}
-use Rattle.modem_runs.proofs.Settlements.{continues_none}
+use Rattle.modem_runs.proofs.bench_runs.Settlements.{continues_none}
 use Rattle.modem_runs.proofs.bench.driving.Driven.advance.Goals as goal
 
 pub returns-in_err-count-clause-continues : goal.returns-in_err-count-clause-continues

@@ -6,7 +6,7 @@ use Rattle.futures.specs.declared.task.Poll.{Poll}
 use Rattle.modem_driver.specs.SessionStates.{SessionState, line_by}
 use Rattle.modem_runs.specs.Driving.{Continues}
 use Rattle.modem_runs.specs.declared.bench.signals.Fault.{Fault}
-use Rattle.modem_runs.proofs.Settlements.{given_before}
+use Rattle.modem_runs.proofs.bench_runs.Settlements.{given_before}
 use Rattle.modem_runs.proofs.bench.driving.DrivenFuture.poll.Goals as goal
 
 pub returns-in-Ok-false-clause-same : goal.returns-in-Ok-false-clause-same

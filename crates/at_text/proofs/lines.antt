@@ -1,0 +1,4 @@
+-- Lines as they are read octet by octet.
+pub mod UnfinishedLines
+pub mod KeptOctets
+pub mod LinePlaces

@@ -1,0 +1,3 @@
+-- The rule of the request queue, step by step.
+pub mod CallerPasses
+pub mod RuleSteps

@@ -1,0 +1,4 @@
+-- Connections that are held and freed.
+pub mod HeldAndFreed
+pub mod OtherCalls
+pub mod HoldsAndFrames

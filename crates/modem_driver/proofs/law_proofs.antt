@@ -1,0 +1,5 @@
+-- What the headline rests on.
+pub mod SubmittedOrder
+pub mod RequestNumbers
+pub mod RequestPlaces
+pub mod Headlines

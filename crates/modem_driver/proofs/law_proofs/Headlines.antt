@@ -1,0 +1,300 @@
+-- What a session and its desk come to, from their opening to their settlement.
+use Rattle.std.proofs.Common.{ap, sym, subst, ◌∙◌, arith, eqb-true}
+use Rattle.std.proofs.lemmas.Bool.{and_parts, and_from, ltb-true}
+use Rattle.std.proofs.lemmas.List.{append_assoc, append-nil}
+use Rattle.std.proofs.lemmas.List.Elements.{filter-append, All-nil, All-cons, All-contains}
+use Rattle.std.proofs.lemmas.List.Folds.{list_any-append}
+use Rattle.std.specs.Prelude.{◌≡◌, ℕ, zero, suc, ◌+◌, ◌≤◌, ◌<◌, ◌==◌, ◌||◌, nat_lt, Bool, true, false, List, [], ◌∷◌, ◌++◌, length, map, drop, filter, option_to_list, slice_index_or, refl, if◌then◌else◌, All, Contains}
+use Rattle.std.specs.List.{list_all, list_any}
+use mathlib.Core.Option.{some, some-injective, some-ne-none}
+use lib.ListN.{get_elem?}
+use Rattle.mux_station.specs.Written.{is_data_frame}
+use Rattle.mux_station.specs.Opening.{is_open}
+use Rattle.mux_station.specs.declared.role.Role.TheVariants.{Initiator}
+use Rattle.modem_desk.specs.declared.request.Request.{Request}
+use Rattle.modem_desk.specs.declared.request.Outcome.{Outcome}
+use Rattle.modem_desk.specs.declared.request.Urc.{Urc}
+use Rattle.modem_desk.specs.Rule.{of_caller}
+use Rattle.modem_desk.specs.Ends.{CallerView, Each, ListenerView, Place, subscription_of, place_of}
+use Rattle.modem_desk.proofs.desk_places.DeskPlaces.{map_at}
+use Rattle.at_text.specs.declared.unsolicited.UrcKind.{UrcKind}
+use Rattle.modem_history.specs.Acts.{Act, Took, Got, Sent, Told, Heard, Tick, Lost, Held, Freed, Given, is_for, wire}
+use Rattle.modem_history.specs.Information.{command_on}
+use Rattle.modem_history.specs.Kinds.{of_kind}
+use Rattle.modem_history.specs.Lawful.{Gated, Lawful, When, owed}
+use Rattle.modem_history.specs.Requests.{are_distinct}
+use Rattle.modem_history.specs.Sessions as session
+use Rattle.modem_history.specs.Sessions.{AreOnce, IsHistory, SessionFits, TakesWithRoom, driving, heard_as, heards, taken_since}
+use Rattle.modem_history.specs.SessionLaws.{untold}
+use Rattle.modem_history.specs.Hearing.{HearsAll}
+use Rattle.modem_history.specs.Wholes.{TellsOwn, is_same, outcomes, taken_requests}
+use Rattle.modem_history.proofs.lists.Filters.{swapped}
+use Rattle.modem_history.proofs.lines.HeardLines.{hears_all}
+use Rattle.modem_history.proofs.commands.SentPrefixes.{leaves_once}
+use Rattle.modem_history.proofs.outcomes.OutcomeCounts.{answers_once, lawful_part, many, many_append, many_filtered}
+use Rattle.modem_history.proofs.outcomes.OwnAnswers.{tells_own}
+use Rattle.modem_history.proofs.requests.RequestsAfterCalls.{distinct_front}
+use Rattle.modem_history.proofs.outcomes.SingleOutcomes.{of_its_caller, uses_once}
+use Rattle.modem_history.proofs.requests.UntoldRequests.{all_answer, hand_is}
+use Rattle.modem_driver.specs.Headline.{AnswersOwn, Announces, HasEnd, HasOnePlace, HearsEach, Holds, InSubmittedOrder, IsHeadline, IsSettled, NoneAfterClose, Run, outcomes_of}
+use Rattle.modem_driver.proofs.law_proofs.RequestNumbers.{all_once, none_beyond, numbered_once}
+use Rattle.modem_driver.proofs.law_proofs.RequestPlaces.{counted_own, is_counted, one_place}
+use Rattle.modem_driver.proofs.law_proofs.SubmittedOrder.{Stretch, stretch_of}
+
+-- ## No caller used a number twice
+
+-- what the session took since it began is what the driver's end took
+since_are : (run : Run) → IsSettled run → taken_since run.start run.session ≡ run.driver.taken
+since_are run s = ap (λ (qs : List Request). drop (length qs) run.session.desk.taken) s.none_taken ∙ sym (s.taken ∙ ap (λ (d : session.EndView). d.taken) s.desk)
+
+-- of each caller
+caller_once : (run : Run) → IsSettled run → (c : ℕ) (b : Bool) → nat_lt c (length run.driver.desk.rings) ≡ b → are_distinct (of_caller c run.driver.taken) ≡ true
+caller_once run s c false e =
+    ap are_distinct (none_beyond (length run.driver.desk.rings) c run.driver.taken e (ap (list_all (λ (q : Request). nat_lt q.caller (length run.driver.desk.rings))) (sym (since_are run s)) ∙ s.callers))
+caller_once run s c true e =
+    let place = s.whole.1 c (lt_of e) in
+    let caller = map_at place_of run.callers place.0 place.1 place.2 in
+    let book = s.books.callers place.0 caller.0 caller.1 in
+    let named : caller.0.place.number ≡ c = ap (λ (p : Place). p.number) caller.2 ∙ place.3 in
+    ap (λ (n : ℕ). are_distinct (of_caller n run.driver.taken)) (sym named)
+    ∙ (distinct_front (of_caller caller.0.place.number run.driver.taken) (of_caller caller.0.place.number run.settlement.left) (ap are_distinct book.order ∙ numbered_once caller.0.place.first caller.0.submitted book.numbered)).0
+  where
+    lt_of : {m n : ℕ} → nat_lt m n ≡ true → m < n
+    lt_of h = ltb-true _ _ h
+
+are_once : (run : Run) → IsSettled run → AreOnce run.start run.session
+are_once run s = ap are_distinct (since_are run s) ∙ all_once run.driver.taken (λ c. caller_once run s c (nat_lt c (length run.driver.desk.rings)) refl)
+
+-- ## What leaves
+
+abbrev aside_of : Run → List Request
+aside_of run = option_to_list run.session.aside
+
+-- what the driver's end took is what the history took, and then what is kept aside
+driver_took : (run : Run) (s : IsSettled run) (past : List Act) → SessionFits run.start run.session past → run.driver.taken ≡ taken_requests past ++ aside_of run
+driver_took run s past f =
+    s.taken ∙ (ap (λ (d : session.EndView). d.taken) s.desk ∙ (f.requests.taken_are ∙ ap (λ (qs : List Request). qs ++ taken_requests past ++ aside_of run) s.none_taken))
+
+-- what a caller submitted: of what the history took, of what is kept aside, and of what was left
+submitted_are : (run : Run) (s : IsSettled run) (past : List Act) → SessionFits run.start run.session past → (i : ℕ) (c : CallerView) → get_elem? run.callers i ≡ some c
+    → c.submitted ≡ of_caller c.place.number (taken_requests past) ++ (of_caller c.place.number (aside_of run) ++ of_caller c.place.number run.settlement.left)
+submitted_are run s past f i c at =
+    let n = c.place.number in
+    sym ((s.books.callers i c at).order)
+    ∙ (ap (λ (qs : List Request). of_caller n qs ++ of_caller n run.settlement.left) (driver_took run s past f)
+    ∙ (ap (λ (qs : List Request). qs ++ of_caller n run.settlement.left) (filter-append (λ (q : Request). q.caller == n) (taken_requests past) (aside_of run))
+    ∙ append_assoc (of_caller n (taken_requests past)) (of_caller n (aside_of run)) (of_caller n run.settlement.left)))
+
+room_before : (newer older : List Act) → TakesWithRoom (newer ++ older) → TakesWithRoom older
+room_before [] older h = h
+room_before (Took r ∷ newer) older h = room_before newer older h.1
+room_before (Got f ∷ newer) older h = room_before newer older h
+room_before (Sent f ∷ newer) older h = room_before newer older h
+room_before (Told o ∷ newer) older h = room_before newer older h
+room_before (Heard k d line ∷ newer) older h = room_before newer older h
+room_before (Tick ∷ newer) older h = room_before newer older h
+room_before (Lost ∷ newer) older h = room_before newer older h
+room_before (Held d ∷ newer) older h = room_before newer older h
+room_before (Freed d ∷ newer) older h = room_before newer older h
+room_before (Given ∷ newer) older h = room_before newer older h
+
+taken_both : (newer older : List Act) → taken_requests (newer ++ older) ≡ taken_requests older ++ taken_requests newer
+taken_both [] older = sym (append-nil (taken_requests older))
+taken_both (Took r ∷ newer) older = ap (λ (qs : List Request). qs ++ r ∷ []) (taken_both newer older) ∙ append_assoc (taken_requests older) (taken_requests newer) (r ∷ [])
+taken_both (Got f ∷ newer) older = taken_both newer older
+taken_both (Sent f ∷ newer) older = taken_both newer older
+taken_both (Told o ∷ newer) older = taken_both newer older
+taken_both (Heard k d line ∷ newer) older = taken_both newer older
+taken_both (Tick ∷ newer) older = taken_both newer older
+taken_both (Lost ∷ newer) older = taken_both newer older
+taken_both (Held d ∷ newer) older = taken_both newer older
+taken_both (Freed d ∷ newer) older = taken_both newer older
+taken_both (Given ∷ newer) older = taken_both newer older
+
+-- at every moment
+in_order : (run : Run) (s : IsSettled run) (past : List Act) → SessionFits run.start run.session past → (newer older : List Act) → past ≡ newer ++ older
+    → (d : ℕ) → Each (λ i c. InSubmittedOrder d older c.place.number c.submitted) run.callers
+in_order run s past f newer older joins d i c at =
+    let n = c.place.number in
+    let own = λ (q : Request). q.caller == n in
+    let st : Stretch d older = stretch_of d older (room_before newer older (subst TakesWithRoom joins f.history.room)) in
+    let last = of_caller n (aside_of run) ++ of_caller n run.settlement.left in
+    let after = of_caller n (taken_requests newer) ++ last in
+    let first : c.submitted ≡ of_caller n (taken_requests older) ++ after =
+    submitted_are run s past f i c at
+    ∙ (ap (λ (qs : List Request). of_caller n qs ++ last) (ap taken_requests joins ∙ taken_both newer older)
+    ∙ (ap (λ (qs : List Request). qs ++ last) (filter-append own (taken_requests older) (taken_requests newer)) ∙ append_assoc (of_caller n (taken_requests older)) (of_caller n (taken_requests newer)) last)) in
+    record {
+      before = of_caller n st.before;
+      stretch = of_caller n st.stretch;
+      later = of_caller n st.later ++ after;
+      submitted_are =
+          first
+          ∙ (ap (λ (qs : List Request). of_caller n qs ++ after) st.taken_are
+          ∙ (ap (λ (qs : List Request). qs ++ after) (filter-append own st.before (st.stretch ++ st.later) ∙ ap (λ (qs : List Request). of_caller n st.before ++ qs) (filter-append own st.stretch st.later))
+          ∙ (append_assoc (of_caller n st.before) (of_caller n st.stretch ++ of_caller n st.later) after
+          ∙ (ap (λ (qs : List Request). of_caller n st.before ++ qs) (append_assoc (of_caller n st.stretch) (of_caller n st.later) after)
+          ∙ sym (append_assoc (of_caller n st.before) (of_caller n st.stretch) (of_caller n st.later ++ after))))));
+      commands_are = ap (of_caller n) st.commands ∙ swapped own (λ (q : Request). command_on d q.ask) st.stretch;
+    }
+
+while_open : (run : Run) (past : List Act) → Lawful (driving run.start) past → NoneAfterClose past
+unfolding Lawful
+while_open run past l newer older f joins is_data =
+    let here = lawful_part (driving run.start) newer (Sent f ∷ older) (subst (Lawful (driving run.start)) joins l) in
+    by_data (is_data_frame f) is_data here.0.gated
+  where
+    by_data : (b : Bool) → b ≡ true → When b (Gated (driving run.start) older (owed (driving run.start) older) f) → is_open Initiator f.dlci (wire older) ≡ true
+    by_data true e g = g.is_open
+    by_data false e g = cc
+
+-- ## What is answered, and what is announced
+
+once_taken : (run : Run) (s : IsSettled run) (past : List Act) → SessionFits run.start run.session past → are_distinct (taken_requests past) ≡ true
+once_taken run s past f =
+    (distinct_front (taken_requests past) (aside_of run) (ap are_distinct (sym (driver_took run s past f) ∙ sym (since_are run s)) ∙ are_once run s)).0
+
+answers_own : (run : Run) (s : IsSettled run) (past : List Act) → SessionFits run.start run.session past → AnswersOwn run.start past
+unfolding TellsOwn
+answers_own run s past f = tells_own (driving run.start) past f.history.lawful refl f.history.calls (uses_once (taken_requests past) (once_taken run s past f))
+
+hears_each : (run : Run) (past : List Act) → SessionFits run.start run.session past → HearsEach run.start past
+unfolding HearsAll
+hears_each run past f = hears_all (driving run.start) past f.history.lawful f.history.complete
+
+subscription_at : (ls : List ListenerView) (i : ℕ) (l : ListenerView) → get_elem? ls i ≡ some l → get_elem? (map subscription_of ls) i ≡ some l.subscription
+subscription_at [] i l e = absurd (some-ne-none l (sym e))
+subscription_at (x ∷ xs) zero l e = ap (λ (y : ListenerView). some y.subscription) (some-injective x l e)
+subscription_at (x ∷ xs) (suc i) l e = subscription_at xs i l e
+
+announces_each : (run : Run) (s : IsSettled run) (e : HasEnd run) → Each (Announces run e.past) run.listeners
+announces_each run s e i l at =
+    let subscription = s.subscribed i l.subscription (subscription_at run.listeners i l at) in
+    let to = e.fits.heard.each l.subscription.place l.subscription.kind (ap (λ (ks : List UrcKind). get_elem? ks l.subscription.place) (sym s.kinds) ∙ subscription.0) in
+    let same : l.heard ++ slice_index_or run.settlement.unheard i [] ≡ to.since =
+    (s.books.listeners i l at).lines
+    ∙ (ap (λ (us : List (List Urc)). slice_index_or us l.subscription.place []) (s.announced ∙ ap (λ (d : session.EndView). d.announced) s.desk)
+    ∙ (to.announced_are ∙ ap (λ (us : List Urc). us ++ to.since) (s.none_announced l.subscription.place))) in
+    ap (map heard_as) (ap (λ (us : List Urc). us ++ of_kind l.subscription.kind run.leftovers.unannounced) same ∙ ap (λ (us : List Urc). to.since ++ of_kind l.subscription.kind us) e.finishes.unannounced_are)
+    ∙ to.lines_are
+
+-- ## What each caller holds
+
+-- its outcomes are those of the history
+outcomes_are : (run : Run) (s : IsSettled run) (e : HasEnd run) (i : ℕ) (c : CallerView) → get_elem? run.callers i ≡ some c → outcomes_of run i c ≡ session.caller_outcomes c.place.number (outcomes e.past)
+outcomes_are run s e i c at =
+    let n = c.place.number in
+    let to = e.fits.told.each n in
+    let same : c.got ++ slice_index_or run.settlement.untaken i [] ≡ to.since =
+    (s.books.callers i c at).outcomes
+    ∙ (ap (λ (os : List (List Outcome)). slice_index_or os n []) (s.told ∙ ap (λ (d : session.EndView). d.told) s.desk)
+    ∙ (to.told_are ∙ ap (λ (os : List Outcome). os ++ to.since) (s.none_told n))) in
+    ap (λ (os : List Outcome). os ++ session.caller_outcomes n run.leftovers.unplaced) same
+    ∙ (ap (λ (os : List Outcome). to.since ++ session.caller_outcomes n os) e.finishes.unplaced_are ∙ to.outcomes_are)
+
+of_its_own : (n : ℕ) (qs : List Request) → All (λ q. q.caller ≡ n) (of_caller n qs)
+of_its_own n [] = All-nil (λ q. q.caller ≡ n)
+of_its_own n (q ∷ qs) = by_caller (q.caller == n) refl (of_its_own n qs)
+  where
+    by_caller : (b : Bool) → (q.caller == n) ≡ b → All (λ x. x.caller ≡ n) (of_caller n qs) → All (λ x. x.caller ≡ n) (if b then q ∷ of_caller n qs else of_caller n qs)
+    by_caller true h rest = All-cons (λ x. x.caller ≡ n) q (of_caller n qs) (eqb-true q.caller n h) rest
+    by_caller false h rest = rest
+
+-- a caller's request stands once among all that were taken, are kept aside or were left
+stands_once : (run : Run) (s : IsSettled run) (past : List Act) → SessionFits run.start run.session past → (i : ℕ) (c : CallerView) → get_elem? run.callers i ≡ some c
+    → (r : Request) → r.caller ≡ c.place.number → Contains c.submitted r → many r (taken_requests past) + (many r (aside_of run) + many r run.settlement.left) ≡ 1
+stands_once run s past f i c at r own in_it =
+    let book = s.books.callers i c at in
+    let few : many r c.submitted ≤ 1 = subst (λ (n : ℕ). n ≤ 1) (many_filtered r c.submitted) (uses_once c.submitted (numbered_once c.place.first c.submitted book.numbered) r) in
+    let some = is_counted c.submitted r in_it in
+    let whole : many r c.submitted ≡ many r (of_caller r.caller (taken_requests past)) + (many r (of_caller r.caller (aside_of run)) + many r (of_caller r.caller run.settlement.left)) =
+    ap (many r) (submitted_are run s past f i c at ∙ ap (λ (n : ℕ). of_caller n (taken_requests past) ++ (of_caller n (aside_of run) ++ of_caller n run.settlement.left)) (sym own))
+    ∙ (many_append r (of_caller r.caller (taken_requests past)) (of_caller r.caller (aside_of run) ++ of_caller r.caller run.settlement.left)
+    ∙ ap (λ (n : ℕ). many r (of_caller r.caller (taken_requests past)) + n) (many_append r (of_caller r.caller (aside_of run)) (of_caller r.caller run.settlement.left))) in
+    let t = counted_own r (taken_requests past) in
+    let a = counted_own r (aside_of run) in
+    let l = counted_own r run.settlement.left in
+    omega (arith, few, some, whole, t, a, l)
+
+has_one_place : (run : Run) (s : IsSettled run) (e : HasEnd run) (i : ℕ) (c : CallerView) → get_elem? run.callers i ≡ some c → (r : Request) → Contains c.submitted r → HasOnePlace (outcomes_of run i c) run.leftovers.in_hand run.settlement.left r
+has_one_place run s e i c at r in_it =
+    let n = c.place.number in
+    let f = e.fits in
+    let once = once_taken run s e.past f in
+    let whole : c.submitted ≡ of_caller n (taken_requests e.past ++ (aside_of run ++ run.settlement.left)) =
+    submitted_are run s e.past f i c at
+    ∙ sym (filter-append (λ (q : Request). q.caller == n) (taken_requests e.past) (aside_of run ++ run.settlement.left) ∙ ap (λ (qs : List Request). of_caller n (taken_requests e.past) ++ qs) (filter-append (λ (q : Request). q.caller == n) (aside_of run) run.settlement.left)) in
+    let own : r.caller ≡ n =
+    All-contains (λ q. q.caller ≡ n) (of_caller n (taken_requests e.past ++ (aside_of run ++ run.settlement.left))) r (of_its_own n (taken_requests e.past ++ (aside_of run ++ run.settlement.left))) (subst (λ (qs : List Request). Contains qs r) whole in_it) in
+    let answers : length (filter (λ o. is_for r o) (outcomes_of run i c)) ≡ length (filter (λ o. is_for r o) (outcomes e.past)) =
+    ap (λ (os : List Outcome). length (filter (λ o. is_for r o) os)) (outcomes_are run s e i c at ∙ ap (λ (m : ℕ). session.caller_outcomes m (outcomes e.past)) (sym own))
+    ∙ ap (λ (os : List Outcome). length os) (of_its_caller r (outcomes e.past)) in
+    let hand : run.leftovers.in_hand ≡ untold e.past ++ aside_of run = e.finishes.hand_is ∙ ap (λ (qs : List Request). qs ++ aside_of run) (hand_is (driving run.start) e.past f.history.lawful once) in
+    let few = (answers_once (driving run.start) e.past f.history.lawful).once (uses_once (taken_requests e.past) once) r in
+    let place = one_place r (outcomes e.past) (taken_requests e.past) (aside_of run) run.settlement.left few (all_answer (driving run.start) e.past f.history.lawful) (stands_once run s e.past f i c at r own in_it) in
+    let in_hand_are : length (filter (is_same r) run.leftovers.in_hand) ≡ many r (untold e.past ++ aside_of run) = many_filtered r run.leftovers.in_hand ∙ ap (many r) hand in
+    let left_are = many_filtered r run.settlement.left in
+    omega (arith, answers, place, in_hand_are, left_are)
+
+-- ## Each outcome answers a request of its caller's
+
+any_more : (o : Outcome) (xs ys : List Request) → list_any (λ q. is_for q o) xs ≡ true → list_any (λ q. is_for q o) (xs ++ ys) ≡ true
+any_more o xs ys h = list_any-append (λ q. is_for q o) xs ys ∙ ap (λ (b : Bool). b || list_any (λ q. is_for q o) ys) h
+
+-- whom it answers is a request of its own caller
+answers_one : (o : Outcome) (qs : List Request) → list_any (λ q. is_for q o) qs ≡ true → list_any (λ q. is_for q o) (of_caller o.caller qs) ≡ true
+answers_one o [] h = cc
+answers_one o (q ∷ qs) h = by_tests (is_for q o) (q.caller == o.caller) refl refl h (answers_one o qs)
+  where
+    by_tests : (a b : Bool) → is_for q o ≡ a → (q.caller == o.caller) ≡ b → (a || list_any (λ x. is_for x o) qs) ≡ true
+        → (list_any (λ x. is_for x o) qs ≡ true → list_any (λ x. is_for x o) (of_caller o.caller qs) ≡ true) → list_any (λ x. is_for x o) (if b then q ∷ of_caller o.caller qs else of_caller o.caller qs) ≡ true
+    by_tests true true e k g more = ap (λ (b : Bool). b || list_any (λ x. is_for x o) (of_caller o.caller qs)) e
+    by_tests true false e k g more = let n : false ≡ true = sym k ∙ (and_parts (q.caller == o.caller) (q.number == o.number) e).0 in cc
+    by_tests false true e k g more = ap (λ (b : Bool). b || list_any (λ x. is_for x o) (of_caller o.caller qs)) e ∙ more g
+    by_tests false false e k g more = more g
+
+own_answers : (n : ℕ) (qs more : List Request) (os : List Outcome) → list_all (λ o. list_any (λ q. is_for q o) qs) os ≡ true → list_all (λ o. list_any (λ q. is_for q o) (of_caller n qs ++ more)) (session.caller_outcomes n os) ≡ true
+own_answers n qs more [] h = refl
+own_answers n qs more (o ∷ os) h =
+    let parts = and_parts (list_any (λ q. is_for q o) qs) (list_all (λ p. list_any (λ q. is_for q p) qs) os) h in
+    by_caller (o.caller == n) refl parts.0 (own_answers n qs more os parts.1)
+  where
+    test : Outcome → Bool
+    test p = list_any (λ q. is_for q p) (of_caller n qs ++ more)
+
+    by_caller : (b : Bool) → (o.caller == n) ≡ b → list_any (λ q. is_for q o) qs ≡ true → list_all test (session.caller_outcomes n os) ≡ true
+        → list_all test (if b then o ∷ session.caller_outcomes n os else session.caller_outcomes n os) ≡ true
+    by_caller true e here rest =
+        and_from (test o) (list_all test (session.caller_outcomes n os)) (any_more o (of_caller n qs) more (subst (λ (m : ℕ). list_any (λ q. is_for q o) (of_caller m qs) ≡ true) (eqb-true o.caller n e) (answers_one o qs here))) rest
+    by_caller false e here rest = rest
+
+holds_each : (run : Run) (s : IsSettled run) (e : HasEnd run) → Each (Holds run) run.callers
+holds_each run s e i c at =
+    let n = c.place.number in
+    record {
+      each = has_one_place run s e i c at;
+      own =
+          ap (λ (qs : List Request). list_all (λ o. list_any (λ r. is_for r o) qs) (outcomes_of run i c)) (submitted_are run s e.past e.fits i c at)
+          ∙ (ap (list_all (λ o. list_any (λ r. is_for r o) (of_caller n (taken_requests e.past) ++ (of_caller n (aside_of run) ++ of_caller n run.settlement.left)))) (outcomes_are run s e i c at)
+          ∙ own_answers n (taken_requests e.past) (of_caller n (aside_of run) ++ of_caller n run.settlement.left) (outcomes e.past) (all_answer (driving run.start) e.past e.fits.history.lawful));
+    }
+
+-- ## The headline
+
+pub headline : (run : Run) → IsHeadline run
+unfolding IsHeadline
+headline run s =
+    let e = s.history (are_once run s) in
+    record {
+      past = e.past;
+      fits = e.fits;
+      leaves = λ newer older joins d. record {
+        is_prefix = leaves_once (driving run.start) older (lawful_part (driving run.start) newer older (subst (Lawful (driving run.start)) joins e.fits.history.lawful)) d;
+        order = in_order run s e.past e.fits newer older joins d;
+      };
+      none_after_close = while_open run e.past e.fits.history.lawful;
+      answers = answers_own run s e.past e.fits;
+      hears = hears_each run e.past e.fits;
+      announces = announces_each run s e;
+      holds = holds_each run s e;
+    }

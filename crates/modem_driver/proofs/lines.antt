@@ -1,0 +1,3 @@
+-- Lines that are read and reported, on a window or on a fork of it.
+pub mod ReportedLines
+pub mod WindowForks

@@ -1,0 +1,158 @@
+-- What is said of lines, whatever is listened to.
+use Rattle.std.specs.Prelude.{zero, suc, ◌≡◌, ℕ, ◌+◌, ◌≤◌, ◌↔◌, Bool, true, false, List, [], ◌∷◌, ◌++◌, length, drop, refl, Option, option_map, Result, Ok, Err, OnOk, ◌⊎◌, if◌then◌else◌}
+use Rattle.std.specs.List.{Contains}
+use Rattle.std.proofs.Common.{ap, sym, ◌∙◌, subst, arith, append-nil, append_assoc, length-append, inl, inr}
+use Rattle.at_text.specs.declared.answer.AnswerLine.{AnswerLine}
+use Rattle.at_text.specs.declared.unsolicited.UrcKind.{UrcKind}
+use Rattle.at_text.specs.declared.window.Seen as line_is
+use Rattle.at_text.specs.Lines.{lines, kept_run, ReadsOn}
+use Rattle.at_text.specs.OpenWindow.{OpenWindow, seen_by, after_line}
+use Rattle.at_text.specs.Forks.{forked}
+use Rattle.modem_driver.specs.declared.reports.Owner.{Owner}
+use Rattle.modem_driver.specs.declared.reports.Reading.{Reading}
+use Rattle.mux_frame.specs.Frames.{Frame}
+use Rattle.modem_history.specs.Acts.{Act, Got, Heard}
+use Rattle.modem_history.specs.Calls.{first_on}
+use Rattle.modem_driver.specs.Cores.{Core, lane_at}
+use Rattle.modem_driver.specs.Handing.{ReadsApart}
+use Rattle.modem_driver.specs.Reports.{owner_of, Listens, heard_by, done_by, said_as, said_lines, Read, after_all, read_on, read_each, ReadsOctet, ReadsAll, ReportSays}
+
+pub nothing_said : (kinds : List UrcKind) (r : Reading) (xs : List Act) → ReportSays kinds r (λ listens. []) xs xs
+unfolding ReportSays
+nothing_said kinds r xs listens h = sym (append-nil xs)
+
+pub said_so : (kinds : List UrcKind) (r : Reading) (said old new : List Act) → new ≡ old ++ said → ReportSays kinds r (λ listens. said) old new
+unfolding ReportSays
+said_so kinds r said old new e listens h = e
+
+pub unheard : (kinds : List UrcKind) (r : Reading) (kind : UrcKind) (line : List ℕ) (xs : List Act) (b : Bool) → b ≡ false → (b ≡ true) ↔ Contains kinds kind → ReportSays kinds r (λ listens. heard_by listens r.dlci.number kind line) xs xs
+unfolding ReportSays Listens
+unheard kinds r kind line xs b n e listens h = by_kind (listens kind) refl
+  where
+    by_kind : (l : Bool) → listens kind ≡ l → xs ≡ xs ++ (if l then Heard kind r.dlci.number line ∷ [] else [])
+    by_kind false g = sym (append-nil xs)
+    by_kind true g = absurd (let t : b ≡ true = e.1 ((h kind).0 g) in let x : false ≡ true = sym n ∙ t in cc)
+
+pub heard : (kinds : List UrcKind) (r : Reading) (kind : UrcKind) (line : List ℕ) (old new : List Act) (b : Bool) → b ≡ true → (b ≡ true) ↔ Contains kinds kind
+    → new ≡ old ++ Heard kind r.dlci.number line ∷ [] → ReportSays kinds r (λ listens. heard_by listens r.dlci.number kind line) old new
+unfolding ReportSays Listens
+heard kinds r kind line old new b t e g listens h =
+    let on : listens kind ≡ true = (h kind).1 (e.0 t) in
+    g ∙ ap (λ (l : Bool). old ++ (if l then Heard kind r.dlci.number line ∷ [] else [])) (sym on)
+
+-- ## Octets
+
+one_line : (listens : UrcKind → Bool) (d : ℕ) (owner : Option Owner) (old : Read) (c : ℕ) (l : List ℕ) (new : Read) → lines (old.kept ++ c ∷ []) ≡ l ∷ [] → new.kept ≡ kept_run (old.kept ++ c ∷ []) → new.window ≡ after_line old.window l
+    → new.acts ≡ old.acts ++ said_as listens d owner l (seen_by old.window l) → new ≡ read_on listens d owner old (c ∷ [])
+one_line listens d owner old c l new e k w a =
+    ap (λ (x : List ℕ). let v : Read = record { kept = x; window = new.window; acts = new.acts } in v) k
+    ∙ (ap (λ (x : Option OpenWindow). let v : Read = record { kept = kept_run (old.kept ++ c ∷ []); window = x; acts = new.acts } in v) (w ∙ ap (after_all old.window) (sym e))
+    ∙ ap (λ (x : List Act). let v : Read = record { kept = kept_run (old.kept ++ c ∷ []); window = after_all old.window (lines (old.kept ++ c ∷ [])); acts = x } in v)
+    (a ∙ (ap (λ (x : List Act). old.acts ++ x) (sym (append-nil (said_as listens d owner l (seen_by old.window l)))) ∙ ap (λ (ls : List (List ℕ)). old.acts ++ said_lines listens d owner old.window ls) (sym e))))
+
+pub octet_ends : (kinds : List UrcKind) (r : Reading) (old new : Read) (c : ℕ) (l : List ℕ) → lines (old.kept ++ c ∷ []) ≡ l ∷ [] → new.kept ≡ kept_run (old.kept ++ c ∷ []) → new.window ≡ after_line old.window l
+    → ReportSays kinds r (λ listens. said_as listens r.dlci.number r.owner l (seen_by old.window l)) old.acts new.acts → ReadsOctet kinds r c old new
+unfolding ReportSays ReadsOctet
+octet_ends kinds r old new c l e k w a listens h = one_line listens r.dlci.number r.owner old c l new e k w (a listens h)
+
+pub octet_none : (kinds : List UrcKind) (r : Reading) (old new : Read) (c : ℕ) → [] ≡ lines (old.kept ++ c ∷ []) → new.kept ≡ kept_run (old.kept ++ c ∷ []) → new.window ≡ old.window → new.acts ≡ old.acts → ReadsOctet kinds r c old new
+unfolding ReadsOctet
+octet_none kinds r old new c e k w a listens h =
+    ap (λ (x : List ℕ). let v : Read = record { kept = x; window = new.window; acts = new.acts } in v) k
+    ∙ (ap (λ (x : Option OpenWindow). let v : Read = record { kept = kept_run (old.kept ++ c ∷ []); window = x; acts = new.acts } in v) (w ∙ ap (after_all old.window) e)
+    ∙ ap (λ (x : List Act). let v : Read = record { kept = kept_run (old.kept ++ c ∷ []); window = after_all old.window (lines (old.kept ++ c ∷ [])); acts = x } in v)
+    (a ∙ (sym (append-nil old.acts) ∙ ap (λ (ls : List (List ℕ)). old.acts ++ said_lines listens r.dlci.number r.owner old.window ls) e)))
+
+-- so many of them are read
+unfoldable pub ReadSoFar : List UrcKind → Reading → Read → List ℕ → Read → List ℕ → Type 0
+ReadSoFar kinds r now rest first all = (listens : UrcKind → Bool) → Listens listens kinds → read_each listens r.dlci.number r.owner now rest ≡ read_each listens r.dlci.number r.owner first all
+
+pub reads_first : (kinds : List UrcKind) (r : Reading) (v : Read) (all : List ℕ) → ReadSoFar kinds r v all v all
+unfolding ReadSoFar
+reads_first kinds r v all listens h = refl
+
+pub reads_next : (kinds : List UrcKind) (r : Reading) (now next first : Read) (c : ℕ) (rest left all : List ℕ) → rest ≡ c ∷ left → ReadsOctet kinds r c now next → ReadSoFar kinds r now rest first all → ReadSoFar kinds r next left first all
+unfolding ReadSoFar ReadsOctet
+reads_next kinds r now next first c rest left all e o s listens h =
+    ap (λ (v : Read). read_each listens r.dlci.number r.owner v left) (o listens h)
+    ∙ (ap (λ (w : List ℕ). read_each listens r.dlci.number r.owner now w) (sym e) ∙ s listens h)
+
+pub reads_last : (kinds : List UrcKind) (r : Reading) (now first : Read) (rest all : List ℕ) → rest ≡ [] → ReadSoFar kinds r now rest first all → ReadsAll kinds r all first now
+unfolding ReadSoFar ReadsAll
+reads_last kinds r now first rest all e s listens h = ap (λ (w : List ℕ). read_each listens r.dlci.number r.owner now w) (sym e) ∙ s listens h
+
+-- ## All of them at once
+
+after_both : (w : Option OpenWindow) (xs ys : List (List ℕ)) → after_all w (xs ++ ys) ≡ after_all (after_all w xs) ys
+after_both w [] ys = refl
+after_both w (x ∷ xs) ys = after_both (after_line w x) xs ys
+
+said_both : (listens : UrcKind → Bool) (d : ℕ) (owner : Option Owner) (w : Option OpenWindow) (xs ys : List (List ℕ))
+    → said_lines listens d owner w (xs ++ ys) ≡ said_lines listens d owner w xs ++ said_lines listens d owner (after_all w xs) ys
+said_both listens d owner w [] ys = refl
+said_both listens d owner w (x ∷ xs) ys =
+    ap (λ (v : List Act). said_as listens d owner x (seen_by w x) ++ v) (said_both listens d owner (after_line w x) xs ys)
+    ∙ sym (append_assoc (said_as listens d owner x (seen_by w x)) (said_lines listens d owner (after_line w x) xs) (said_lines listens d owner (after_all (after_line w x) xs) ys))
+
+none_more : (xs ys : List (List ℕ)) → xs ≡ xs ++ ys → ys ≡ []
+none_more xs [] h = refl
+none_more xs (y ∷ ys) h = absurd (let n : length xs ≡ length xs + suc (length ys) = ap length h ∙ length-append xs (y ∷ ys) in omega (arith, n))
+
+-- from what is kept of some text, reading octets one by one is reading them all
+pub each_is : (listens : UrcKind → Bool) (d : ℕ) (owner : Option Owner) (v : Read) (x octets : List ℕ) → ((x y : List ℕ) → ReadsOn x y) → v.kept ≡ kept_run x → read_each listens d owner v octets ≡ read_on listens d owner v octets
+each_is listens d owner v x [] on k =
+    let e = on x [] in
+    let same : kept_run (v.kept ++ []) ≡ v.kept = ap (λ (w : List ℕ). kept_run (w ++ [])) k ∙ (sym e.keeps ∙ (ap kept_run (append-nil x) ∙ sym k)) in
+    let none : lines (v.kept ++ []) ≡ [] = ap (λ (w : List ℕ). lines (w ++ [])) k ∙ none_more (lines x) (lines (kept_run x ++ [])) (sym (ap lines (append-nil x)) ∙ e.reads_kept) in
+    sym (
+    ap (λ (w : List ℕ). let r : Read = record { kept = w; window = after_all v.window (lines (v.kept ++ [])); acts = v.acts ++ said_lines listens d owner v.window (lines (v.kept ++ [])) } in r) same
+    ∙ (ap (λ (ls : List (List ℕ)). let r : Read = record { kept = v.kept; window = after_all v.window ls; acts = v.acts ++ said_lines listens d owner v.window ls } in r) none
+    ∙ ap (λ (acts : List Act). let r : Read = record { kept = v.kept; window = v.window; acts = acts } in r) (append-nil v.acts)))
+each_is listens d owner v x (c ∷ octets) on k =
+    let one = read_on listens d owner v (c ∷ []) in
+    let y = x ++ c ∷ [] in
+    let kept : one.kept ≡ kept_run y = ap (λ (w : List ℕ). kept_run (w ++ c ∷ [])) k ∙ sym (on x (c ∷ [])).keeps in
+    let more = each_is listens d owner one y octets on kept in
+    let split = on (v.kept ++ c ∷ []) octets in
+    let join : (v.kept ++ c ∷ []) ++ octets ≡ v.kept ++ c ∷ octets = append_assoc v.kept (c ∷ []) octets in
+    let all_lines : lines (v.kept ++ c ∷ octets) ≡ lines (v.kept ++ c ∷ []) ++ lines (one.kept ++ octets) = ap lines (sym join) ∙ split.reads_kept in
+    let kept_all : kept_run (one.kept ++ octets) ≡ kept_run (v.kept ++ c ∷ octets) = sym split.keeps ∙ ap kept_run join in
+    more
+    ∙ (ap (λ (w : List ℕ). let r : Read = record { kept = w; window = after_all one.window (lines (one.kept ++ octets)); acts = one.acts ++ said_lines listens d owner one.window (lines (one.kept ++ octets)) } in r) kept_all
+    ∙ (ap (λ (w : Option OpenWindow). let r : Read = record { kept = kept_run (v.kept ++ c ∷ octets); window = w; acts = one.acts ++ said_lines listens d owner one.window (lines (one.kept ++ octets)) } in r)
+    (sym (after_both v.window (lines (v.kept ++ c ∷ [])) (lines (one.kept ++ octets))) ∙ ap (after_all v.window) (sym all_lines))
+    ∙ ap (λ (acts : List Act). let r : Read = record { kept = kept_run (v.kept ++ c ∷ octets); window = after_all v.window (lines (v.kept ++ c ∷ octets)); acts = acts } in r)
+    (append_assoc v.acts (said_lines listens d owner v.window (lines (v.kept ++ c ∷ []))) (said_lines listens d owner one.window (lines (one.kept ++ octets)))
+    ∙ (ap (λ (w : List Act). v.acts ++ w) (sym (said_both listens d owner v.window (lines (v.kept ++ c ∷ [])) (lines (one.kept ++ octets))))
+    ∙ ap (λ (ls : List (List ℕ)). v.acts ++ said_lines listens d owner v.window ls) (sym all_lines)))))
+
+-- ## What the calls say
+
+pub quiet_said : (kinds : List UrcKind) (r : Reading) (line : List ℕ) (seen : line_is.Seen) (xs : List Act) → (seen ≡ line_is.TheVariants.Echo) ⊎ (seen ≡ line_is.TheVariants.Kept) → ReportSays kinds r (λ listens. said_as listens r.dlci.number r.owner line seen) xs xs
+quiet_said kinds r line seen xs (inl e) = subst (λ (s : line_is.Seen). ReportSays kinds r (λ listens. said_as listens r.dlci.number r.owner line s) xs xs) (sym e) (nothing_said kinds r xs)
+quiet_said kinds r line seen xs (inr e) = subst (λ (s : line_is.Seen). ReportSays kinds r (λ listens. said_as listens r.dlci.number r.owner line s) xs xs) (sym e) (nothing_said kinds r xs)
+
+pub on_ok : {A E : Type 0} (P Q : Type 0) (r : Result A E) → (P → Q) → OnOk r P → OnOk r Q
+on_ok P Q (Ok a) f p = f p
+on_ok P Q (Err e) f p = tt
+
+pub done_said : (kinds : List UrcKind) (r : Reading) (line : List ℕ) (seen : line_is.Seen) (ls : List AnswerLine) (old new : List Act) → seen ≡ line_is.TheVariants.Done ls → new ≡ old ++ done_by r.owner ls
+    → ReportSays kinds r (λ listens. said_as listens r.dlci.number r.owner line seen) old new
+done_said kinds r line seen ls old new e g =
+    subst (λ (s : line_is.Seen). ReportSays kinds r (λ listens. said_as listens r.dlci.number r.owner line s) old new) (sym e) (said_so kinds r (done_by r.owner ls) old new g)
+
+pub all_dropped : (n : ℕ) (xs : List ℕ) → length xs ≤ n → drop n xs ≡ []
+all_dropped zero [] h = refl
+all_dropped (suc n) [] h = refl
+all_dropped zero (x ∷ xs) h = absurd (let e : suc (length xs) ≤ 0 = h in omega (arith, e))
+all_dropped (suc n) (x ∷ xs) h = all_dropped n xs (let e : suc (length xs) ≤ suc n = h in omega (arith, e))
+
+-- a frame is read from what is kept of its connection, on a fork of its window
+pub reads_apart : (v : Core) (f : Frame) (kinds : List UrcKind) (r : Reading) (first last : Read) (held : Bool) → kinds ≡ v.kinds → r.dlci.number ≡ f.dlci → r.owner ≡ option_map owner_of (first_on f.dlci v.hand)
+    → first ≡ record { kept = (lane_at v f.dlci).kept; window = forked (lane_at v f.dlci).window; acts = Got f ∷ [] } → ReadsAll kinds r f.info first last
+    → ReadsApart v f (record { kept = last.kept; window = last.window; held = held }) last.acts
+unfolding ReadsAll ReadsApart
+reads_apart v f kinds r first last held k d o e reads listens h =
+    reads listens (subst (λ (x : List UrcKind). Listens listens x) (sym k) h)
+    ∙ (ap (λ (n : ℕ). read_each listens n r.owner first f.info) d
+    ∙ (ap (λ (x : Option Owner). read_each listens f.dlci x first f.info) o ∙ ap (λ (x : Read). read_each listens f.dlci (option_map owner_of (first_on f.dlci v.hand)) x f.info) e))

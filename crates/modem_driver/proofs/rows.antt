@@ -1,0 +1,3 @@
+-- Worked rows, computed.
+pub mod HeadlineRowFacts
+pub mod EndingRowFacts

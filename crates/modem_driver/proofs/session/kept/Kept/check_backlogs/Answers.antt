@@ -1,0 +1,24 @@
+-- One connection after the other is checked.
+use Rattle.std.proofs.Common.{subst, arith, ℕ}
+use Rattle.modem_driver.specs.BacklogChecks.{ChecksOne}
+use Rattle.modem_driver.proofs.sessions.Backlogs.{checks_first, checks_more, checks_all, checks_part, same_number}
+use Rattle.modem_driver.proofs.session.kept.Kept.check_backlogs.Goals as goal
+
+pub loop-number-init : goal.loop-number-init
+loop-number-init c = checks_first c.args.self.now
+
+pub loop-number-preserved : goal.loop-number-preserved
+loop-number-preserved c =
+    let n = c.loop-number.number in
+    let same = same_number c.new.result c.unwrap.result n c.new.ensures.number c.unwrap.ensures in
+    checks_more c.args.self.now c.loop-number.self c.check_backlog.new.self n c.in_ok-moved.field-0 c.loop-number.moved
+    (subst (λ (m : ℕ). ChecksOne m c.loop-number.self c.check_backlog.new.self c.in_ok-moved.field-0) same c.in_ok-moved.ensures.checks) c.loop-number.invariant
+
+pub returns-clause-checks : goal.returns-clause-checks
+returns-clause-checks c =
+    let most = c.loop-number.auto.number-end in
+    let over = c.loop-number-test.false in
+    checks_all c.args.self.now c.loop-number.self c.loop-number.number c.loop-number.moved (omega arith) c.loop-number.invariant
+
+pub returns-in_err-moved-clause-part : goal.returns-in_err-moved-clause-part
+returns-in_err-moved-clause-part c = checks_part c.args.self.now c.loop-number.self c.check_backlog.new.self c.loop-number.number c.loop-number.moved c.from_residual.result c.loop-number.invariant c.in_err-moved.ensures.err

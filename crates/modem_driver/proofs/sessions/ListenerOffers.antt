@@ -1,0 +1,117 @@
+-- Lines are offered to the listeners of their kinds.
+use Rattle.std.proofs.Common.{ap, sym, ◌∙◌, subst, arith, inl, inr, ⊎_elim}
+use Rattle.std.proofs.lemmas.Bool.{eq-eqb}
+use Rattle.std.proofs.lemmas.Bool.Decides.{eqb_tells}
+use Rattle.std.specs.Prelude.{◌≡◌, ◌≢◌, ℕ, zero, suc, ◌+◌, ◌-◌, ◌<◌, ◌==◌, ◌||◌, ◌⊎◌, Bool, true, false, List, [], ◌∷◌, length, refl, slice_index_or, Contains, IsTrue, ◌↔◌}
+use mathlib.Core.Option.{some, some-injective, some-ne-none}
+use lib.ListN.{get_elem?}
+use Rattle.at_text.specs.declared.unsolicited.UrcKind.{UrcKind}
+use Rattle.modem_desk.specs.declared.request.Urc.{Urc}
+use Rattle.modem_desk.specs.Ends.{DriverView, DeskId, Announces, Changes, FallsByOne, RunsOut, Hears}
+use Rattle.modem_history.specs.Kinds.{kind_place}
+use Rattle.modem_driver.specs.Placing.{Placed, OneFewer, OffersFirst, AnnouncesAlone, place_of, IsListenerOf, IsHeard}
+use Rattle.modem_driver.proofs.sessions.Kinds.{same_place}
+use Rattle.modem_driver.proofs.sessions.FirstOffers.{either, AreApart, GivesOne, FillsUp, placing_first, placed_last}
+
+-- ## Listeners of kinds
+
+same_kind : (k m : UrcKind) → kind_place k ≡ kind_place m → k ≡ m
+same_kind k m e = same_place k m (eq-eqb (kind_place k) (kind_place m) e)
+
+one_kind : (ks : List UrcKind) (i : ℕ) (k m : UrcKind) → get_elem? ks i ≡ some k → get_elem? ks i ≡ some m → k ≡ m
+one_kind ks i k m p q = some-injective k m (sym p ∙ q)
+
+is_listener : (ks : List UrcKind) (n i : ℕ) → IsListenerOf ks n i ⊎ (¬ IsListenerOf ks n i)
+is_listener [] n i = inr (λ e. some-ne-none e.kind (sym e.is_at))
+is_listener (k ∷ ks) n zero = ⊎_elim (λ (y : (kind_place k == n) ≡ true × kind_place k ≡ n). inl (record { kind = k; is_place = y.1; is_at = refl }))
+    (λ (y : (kind_place k == n) ≡ false × kind_place k ≢ n). inr (λ e. y.1 (ap kind_place (some-injective k e.kind e.is_at) ∙ e.is_place))) (eqb_tells (kind_place k) n)
+is_listener (k ∷ ks) n (suc i) = ⊎_elim (λ (e : IsListenerOf ks n i). inl (record { kind = e.kind; is_place = e.is_place; is_at = e.is_at }))
+    (λ (o : ¬ IsListenerOf ks n i). inr (λ e. o (record { kind = e.kind; is_place = e.is_place; is_at = e.is_at }))) (is_listener ks n i)
+
+pub listeners_apart : (ks : List UrcKind) → AreApart (IsListenerOf ks)
+listeners_apart ks = record {
+  same = λ n m i a b. sym a.is_place ∙ (ap kind_place (one_kind ks i a.kind b.kind a.is_at b.is_at) ∙ b.is_place);
+  tells = is_listener ks;
+}
+
+-- where a kind stands
+record Stands (ks : List UrcKind) (k : UrcKind) : Type 0 where
+  place : ℕ
+  is_at : get_elem? ks place ≡ some k
+
+stands : (ks : List UrcKind) (k : UrcKind) → Contains ks k → Stands ks k
+stands [] k c = absurd (let lt : c.0 < 0 = c.1 in omega arith)
+stands (m ∷ ks) k (zero, lt, e) = record { place = zero; is_at = ap some e }
+stands (m ∷ ks) k (suc i, lt, e) = let s = stands ks k (i, omega arith, e) in record { place = suc s.place; is_at = s.is_at }
+
+subscription_at : (ks : List UrcKind) (k : UrcKind) (i : ℕ) → get_elem? ks i ≡ some k → IsListenerOf ks (kind_place k) i
+subscription_at ks k i e = record { kind = k; is_place = refl; is_at = e }
+
+at_subscription : (ks : List UrcKind) (k : UrcKind) (i : ℕ) → IsListenerOf ks (kind_place k) i → get_elem? ks i ≡ some k
+at_subscription ks k i e = e.is_at ∙ ap some (same_kind e.kind k e.is_place)
+
+pub listener_given : (ks : List UrcKind) (u : Urc) (now later : List (List Urc)) (free freer : List ℕ) → Contains ks u.kind → Announces ks u now later → Changes (Hears ks u.kind) FallsByOne free freer → GivesOne (IsListenerOf ks) (place_of u) u now later free freer
+listener_given ks u now later free freer has a c =
+    let s = stands ks u.kind has in
+    record {
+      here = λ i e. a.here i (at_subscription ks u.kind i e);
+      others = λ i o. a.others i (λ h. o (subscription_at ks u.kind i h));
+      free_others = λ i o. c.others i (λ h. o (subscription_at ks u.kind i h));
+      one = s.place;
+      is_one = subscription_at ks u.kind s.place s.is_at;
+    }
+
+pub listener_full : (ks : List UrcKind) (k : UrcKind) (free freer : List ℕ) → Changes (Hears ks k) RunsOut free freer → FillsUp (IsListenerOf ks) (kind_place k) free freer
+listener_full ks k free freer c = record { here = λ i e. c.here i (at_subscription ks k i e); others = λ i o. c.others i (λ h. o (subscription_at ks k i h)) }
+
+-- a kind that is listened to
+pub heard_kind : (ks : List UrcKind) (k : UrcKind) → IsHeard ks (kind_place k) → Contains ks k
+heard_kind ks k h = subst (Contains ks) (same_kind h.kind k h.is_place) h.listened
+
+is_false : (r : Bool) → r ≡ false → r ≡ true → ⊥
+is_false true e h = cc
+is_false false e h = cc
+
+pub not_heard : (ks : List UrcKind) (k : UrcKind) (r : Bool) → IsTrue r ↔ Contains ks k → r ≡ false → IsHeard ks (kind_place k) → ⊥
+not_heard ks k r both e h = is_false r e (both.1 (heard_kind ks k h))
+
+-- ## One after the other
+
+pub record AnnouncesSo (first now : DriverView) (held : List Bool) (waited waits : List Urc) (left : ℕ) (moved : Bool) : Type 0 where
+  pub fewer : OneFewer place_of (IsListenerOf first.desk.kinds) (IsHeard first.desk.kinds) first.announced now.announced now.free_lines held waited waits left moved
+  pub alone : AnnouncesAlone first now
+
+pub announces_first : (d : DriverView) (held : List Bool) (waited : List Urc) (count : ℕ) → ((n : ℕ) → slice_index_or held n false ≡ false) → count ≡ length waited → AnnouncesSo d d held waited waited (count - 0) false
+announces_first d held waited count none e = record {
+  fewer = subst (λ (n : ℕ). OneFewer place_of (IsListenerOf d.desk.kinds) (IsHeard d.desk.kinds) d.announced d.announced d.free_lines held waited waited n false) (sym e ∙ all) (placing_first place_of (IsListenerOf d.desk.kinds) (IsHeard d.desk.kinds) d.announced d.free_lines held waited none);
+  alone = record { desk = refl; taken = refl; told = refl; free = refl };
+}
+  where
+    all : count ≡ count - 0
+    all = omega arith
+
+pub announces_more : (first now later : DriverView) (held more_held : List Bool) (waited waits rest : List Urc) (place end : ℕ) (moved earlier : Bool) → place < end
+    → OffersFirst place_of (IsListenerOf now.desk.kinds) (IsHeard now.desk.kinds) now.announced later.announced now.free_lines later.free_lines held more_held waits rest moved → AnnouncesAlone now later
+    → AnnouncesSo first now held waited waits (end - place) earlier → AnnouncesSo first later more_held waited rest (end - (place + 1)) (earlier || moved)
+unfolding OffersFirst
+announces_more first now later held more_held waited waits rest place end moved earlier lt offers alone so =
+    let one : end - place ≡ (end - (place + 1)) + 1 = omega arith in
+    let before = subst (λ (n : ℕ). OneFewer place_of (IsListenerOf first.desk.kinds) (IsHeard first.desk.kinds) first.announced now.announced now.free_lines held waited waits n earlier) one so.fewer in
+    let here = subst (λ (k : DeskId). OneFewer place_of (IsListenerOf k.kinds) (IsHeard k.kinds) first.announced now.announced now.free_lines held waited waits (end - (place + 1) + 1) earlier) (sym so.alone.desk) before in
+    record {
+      fewer =
+          subst (λ (m : Bool). OneFewer place_of (IsListenerOf first.desk.kinds) (IsHeard first.desk.kinds) first.announced later.announced later.free_lines more_held waited rest (end - (place + 1)) m) (either moved earlier)
+          (subst (λ (k : DeskId). OneFewer place_of (IsListenerOf k.kinds) (IsHeard k.kinds) first.announced later.announced later.free_lines more_held waited rest (end - (place + 1)) (moved || earlier)) so.alone.desk (offers first.announced waited (end - (place + 1)) earlier here));
+      alone = record {
+        desk = alone.desk ∙ so.alone.desk;
+        taken = alone.taken ∙ so.alone.taken;
+        told = alone.told ∙ so.alone.told;
+        free = alone.free ∙ so.alone.free;
+      };
+    }
+
+pub announces_last : (first now : DriverView) (held : List Bool) (waited waits : List Urc) (left : ℕ) (moved : Bool) → left ≡ 0 → AnnouncesSo first now held waited waits left moved
+    → Placed place_of (IsListenerOf first.desk.kinds) (IsHeard first.desk.kinds) first.announced now.announced now.free_lines waited waits moved
+announces_last first now held waited waits left moved none so =
+    placed_last place_of (IsListenerOf first.desk.kinds) (IsHeard first.desk.kinds) first.announced now.announced now.free_lines held waited waits moved
+    (subst (λ (n : ℕ). OneFewer place_of (IsListenerOf first.desk.kinds) (IsHeard first.desk.kinds) first.announced now.announced now.free_lines held waited waits n moved) none so.fewer)

@@ -1,0 +1,123 @@
+-- A session begins, and a tick.
+use Rattle.std.proofs.Common.{ap, sym, ◌∙◌, subst, arith}
+use Rattle.std.specs.Prelude.{◌≡◌, ◌↔◌, ℕ, ◌≤◌, true, false, List, [], ◌∷◌, length, refl, find, option_map, Contains, Result, Ok, Err, IfOk}
+use Rattle.at_text.specs.declared.unsolicited.UrcKind.{UrcKind}
+use Rattle.modem_desk.specs.Ends.{DriverView}
+use Rattle.modem_history.specs.Acts.{Act, Tick, after}
+use Rattle.modem_history.specs.Calls.{calls, seen}
+use Rattle.modem_history.specs.Sessions.{LineView, SessionFits, FitsLoss, driving}
+use Rattle.modem_history.specs.SessionLaws.{BeginsFitting}
+use Rattle.modem_history.specs.Turns.{lines_heard}
+use Rattle.modem_history.proofs.calls.CalledActs.{calls_said}
+use Rattle.modem_history.proofs.law_proofs.SessionLaws.{begins_fitting}
+use Rattle.modem_driver.specs.Cores.{Core, Fits, Handles, GoesOn}
+use Rattle.modem_driver.specs.Holding.{HoldsFit, KeepsHeld}
+use Rattle.modem_driver.specs.Endings.{HasCome, asker_of, course_after, is_answered, is_stop}
+use Rattle.modem_driver.specs.SessionStates.{SessionState, Kept, KeptFits, KeptGoes, KeptTicks, Ticks, new_kept, beginning_of, seen_by, end_of}
+use Rattle.modem_driver.specs.declared.session.error.SessionError.{SessionError}
+use Rattle.modem_driver.specs.WaitingLists.{WaitingLists, Keeps}
+use Rattle.modem_driver.proofs.sessions.LongerHistories.{gots_after, losses_after, lost_after}
+use Rattle.modem_driver.proofs.sessions.CoreCalls.{FitsKept, IsBare, KeepsMore, call_fits, may_come}
+use Rattle.modem_driver.proofs.sessions.StopProgress.{come_noted, grows_none}
+use Rattle.modem_driver.proofs.sessions.Kinds.{listened_in, in_listened}
+use Rattle.modem_driver.proofs.sessions.ListenedLines.{calls_hear, lines_of_call}
+use Rattle.modem_driver.proofs.sessions.WaitingDeliveries.{received_part}
+use Rattle.modem_driver.proofs.sessions.EndedStops.{none_noted}
+use Rattle.modem_history.specs.Lawful.{Lawful}
+
+-- ## The beginning
+
+unsound : {P : Type 0} → true ≡ false → P
+unsound e = cc
+
+pub kept_begins : (n1 : ℕ) (ks : List UrcKind) (k : Kept) (d : DriverView) → k ≡ new_kept n1 ks → ((m : UrcKind) → Contains ks m ↔ Contains d.desk.kinds m) → Fits k.core [] → HoldsFit k.core []
+    → (l : LineView) → KeptFits (beginning_of n1 l d) l d k []
+kept_begins n1 ks k d e same fits holds l = record {
+  setting = record {
+    role_is = refl;
+    n1_is = sym (ap (λ (v : Kept). v.core.station.n1) e);
+    listens_are = λ m.
+        let known : k.core.kinds ≡ ks = ap (λ (v : Kept). v.core.kinds) e in (
+          (λ h. subst (λ (xs : List UrcKind). Contains xs m) (sym known) ((same m).1 (listened_in d.desk.kinds m h))),
+          (λ c. in_listened d.desk.kinds m ((same m).0 (subst (λ (xs : List UrcKind). Contains xs m) known c))),
+        );
+  };
+  fits = fits;
+  holds = holds;
+  kinds_are = refl;
+  callers_are = refl;
+  sound = λ h. refl;
+  by_fault = λ h. unsound (sym h ∙ ap (λ (v : Kept). v.faulty) e);
+  come = subst (HasCome (beginning_of n1 l d) (seen_by l (end_of d) k) []) (sym (ap (λ (v : Kept). v.course) e)) refl;
+  one_stop = omega arith;
+}
+
+pub begins_over : (n1 : ℕ) (ks : List UrcKind) (k : Kept) (l : LineView) (d : DriverView) → k ≡ new_kept n1 ks → KeptFits (beginning_of n1 l d) l d k [] → FitsKept (beginning_of n1 l d) l d k []
+unfolding BeginsFitting
+begins_over n1 ks k l d e inside =
+    let b = beginning_of n1 l d in
+    let fresh : SessionFits b (seen_by l (end_of d) (new_kept n1 ks)) [] = begins_fitting b in
+    record { session = subst (λ (v : Kept). SessionFits b (seen_by l (end_of d) v) []) (sym e) fresh; inside = inside }
+
+-- ## A tick
+
+tick_bare : (past : List Act) → IsBare Tick past
+tick_bare past = record { taken_is = refl; given_is = refl; hand_is = refl; room_is = λ h. h; told_is = λ more. refl; heard_is = λ more. refl }
+
+pub tick_goes : (old : Kept) (core : Core) (room : ℕ) (w : WaitingLists) (acts : List Act)
+    → Handles old.core core Tick acts → KeepsHeld old.core core Tick acts → Keeps (record { outcomes = old.unplaced; lines = old.unannounced; room = room }) w acts → old.core.lost ≡ false
+    → KeptTicks old (record old { core = core; unplaced = w.outcomes; unannounced = w.lines; course = course_after old.course (is_answered (option_map asker_of (find is_stop old.core.hand)) acts) })
+unfolding KeptGoes Handles KeepsHeld
+tick_goes old core room w acts handles held keeps live =
+    let new : Kept = record old { core = core; unplaced = w.outcomes; unannounced = w.lines; course = course_after old.course (is_answered (option_map asker_of (find is_stop old.core.hand)) acts) } in
+    record {
+      acts = acts;
+      goes = λ b l d past once f.
+          let s = driving b in
+          let may = may_come b l d old past Tick f refl in
+          let on = handles s past may in
+          let more = calls s past Tick in
+          let said = calls_said s (seen s past) Tick in
+          let none : lines_heard acts ≡ [] = ap lines_heard on.called ∙ lines_of_call s (seen s past) Tick in
+          let here : GoesOn s core past Tick (Tick ∷ more) = subst (GoesOn s core past Tick) on.called on in
+          let hold : HoldsFit core (after past (Tick ∷ more)) = subst (λ (xs : List Act). HoldsFit core (after past xs)) on.called (held s past may f.inside.holds) in
+          let keep : KeepsMore old new (Tick ∷ more) = subst (KeepsMore old new) on.called (record {
+            outcomes = keeps.outcomes;
+            lines = keeps.lines (subst (λ (xs : List Act). length xs ≤ room) (sym none) (omega arith));
+          }) in
+          let lost : FitsLoss b (seen_by l (end_of d) new) (after past (Tick ∷ more)) = record {
+            one = subst (λ (xs : List Act). length xs ≤ 1) (sym (losses_after more (Tick ∷ past) said)) f.session.loss.one;
+            by_fault = λ gone. f.session.loss.by_fault (sym (lost_after more (Tick ∷ past) said) ∙ gone);
+          } in
+          let come : HasCome b (seen_by l (end_of d) new) (after past (Tick ∷ more)) new.course =
+          subst (λ (xs : List Act). HasCome b (seen_by l (end_of d) new) (after past xs) new.course) on.called
+          (come_noted b (seen_by l (end_of d) old) (seen_by l (end_of d) new) past acts old.core.hand old.course f.inside.fits.hand_is (none_noted b l d old past acts more Tick f on.called refl (subst (λ (xs : List Act). Lawful s (after past xs)) (sym on.called) here.run.lawful) said refl) (grows_none (seen_by l (end_of d) old) (seen_by l (end_of d) new) refl refl) f.inside.come) in
+          subst (λ (xs : List Act). FitsKept b l d new (after past xs)) (sym on.called)
+          (call_fits b l d old new past more Tick f (tick_bare past) here hold said (calls_hear s (seen s past) Tick) keep refl refl refl come lost
+          (received_part b (seen_by l (end_of d) old) (seen_by l (end_of d) new) past (after past (Tick ∷ more)) f.session.received refl refl refl (gots_after more (Tick ∷ past) said)));
+      tick = λ b l d past f.
+          let s = driving b in
+          let on = handles s past (may_come b l d old past Tick f refl) in
+          record {
+            live = f.inside.fits.lost_is ∙ live;
+            more = calls s past Tick;
+            acts_are = on.called;
+            follow = calls_said s (seen s past) Tick;
+            line_stays = refl;
+            desk_stays = refl;
+            aside_stays = refl;
+            unfed_stay = refl;
+          };
+    }
+
+-- a session over any line and desk
+pub session_ticks : {X : Type 0} (look : X → LineView) (x : X) (d : DriverView) (s : SessionState X) (old new : Kept) → record { line = x; driver = d; kept = old } ≡ s → KeptTicks old new → Ticks look s (record { line = x; driver = d; kept = new })
+unfolding KeptGoes Ticks
+session_ticks {X} look x d s old new e h = subst (λ (v : SessionState X). Ticks look v (record { line = x; driver = d; kept = new })) e
+    (record { acts = h.acts; goes = λ b. h.goes b (look x) d; tick = λ b. h.tick b (look x) d })
+
+pub all_begin : (n1 : ℕ) (ks lent : List UrcKind) (r : Result Kept SessionError) (d : DriverView) → lent ≡ ks → ((m : UrcKind) → Contains ks m ↔ Contains d.desk.kinds m)
+    → IfOk r (λ k. k ≡ new_kept n1 lent) → IfOk r (λ k. Fits k.core []) → IfOk r (λ k. HoldsFit k.core [])
+    → IfOk r (λ k. (l : LineView) → KeptFits (beginning_of n1 l d) l d k [])
+all_begin n1 ks lent (Ok k) d e same is fits holds = kept_begins n1 ks k d (is ∙ ap (new_kept n1) e) same fits holds
+all_begin n1 ks lent (Err why) d e same is fits holds = tt

@@ -1,0 +1,4 @@
+-- Ticks of a core.
+pub mod StationTicks
+pub mod TickFrames
+pub mod CoreTicks

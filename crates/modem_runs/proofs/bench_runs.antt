@@ -1,0 +1,3 @@
+-- The run of a bench: its callers, its session and its settlement.
+pub mod CallerThreads
+pub mod Settlements

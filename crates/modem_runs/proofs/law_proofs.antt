@@ -1,0 +1,2 @@
+-- What the laws of one modem rest on.
+pub mod OneModem

@@ -1,0 +1,3 @@
+-- What the program shows.
+pub mod RunEnds
+pub mod ShownOutcomes

@@ -1,0 +1,2 @@
+-- Worked rows, computed.
+pub mod OneModemRowFacts

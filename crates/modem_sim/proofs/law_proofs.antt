@@ -1,0 +1,3 @@
+-- What the public laws of the simulated modem rest on.
+pub mod ContextOrder
+pub mod Histories

@@ -1,0 +1,7 @@
+-- What a modem does with one line.
+pub mod Contexts
+pub mod AnswerLines
+pub mod ReadCommands
+pub mod LineSteps
+pub mod DecimalNumbers
+pub mod ReachedStates

@@ -1,0 +1,147 @@
+-- What every state that a modem reaches has.
+use Rattle.std.specs.Prelude.{◌≡◌, ℕ, ◌<◌, ◌≤◌, ◌==◌, nat_lt, Bool, true, false, List, [], ◌∷◌, Option, Some, None, refl, if◌then◌else◌}
+use Rattle.std.specs.List.{list_all, list_any}
+use Rattle.std.proofs.Common.{arith}
+use Rattle.std.proofs.lemmas.Bool.Decides.{nat_tests}
+use Rattle.at_text.specs.Octets.{is_digit, is_quote}
+use Rattle.at_cmds.specs.declared.command.Command.{Command}
+use Rattle.at_cmds.specs.declared.command.Command.TheVariants.{PinQuery, PinEnter, RegReport, RegQuery, Signal, OperQuery, OperChoose, ContextSet, ContextQuery, AttachSet, AttachQuery, ErrorMode, Multiplex}
+use Rattle.at_cmds.specs.declared.command.OperChoice.{OperChoice}
+use Rattle.at_cmds.specs.declared.command.OperChoice.TheVariants.{Automatic, Deregister, Manual}
+use Rattle.at_cmds.specs.declared.error.CmdError.{CmdError}
+use Rattle.at_cmds.specs.declared.error.CmdError.TheVariants.{BadApn, BadNumber}
+use Rattle.at_cmds.specs.Forms.{is_oper, is_apn, is_in_apn, is_cid, is_mode}
+use Rattle.at_cmds.specs.Commands.{refused_for}
+use Rattle.at_cmds.proofs.command_texts.CommandLines.{both_true, run_is, cid_small}
+use Rattle.modem_sim.specs.declared.contexts.PdpContext.{PdpContext}
+use Rattle.modem_sim.specs.declared.modem.ModemStart.{ModemStart}
+use Rattle.modem_sim.specs.declared.state.ModemState.{ModemState}
+use Rattle.modem_sim.specs.Contexts.{with_context}
+use Rattle.modem_sim.specs.Reading.{is_attention, command_of}
+use Rattle.modem_sim.specs.Steps.{started, step, step_by, refusal_of, obeyed_unless, after_refusal, after_command}
+use Rattle.modem_sim.specs.Laws.{IsStart, after_lines, reached}
+use Rattle.modem_sim.proofs.modem_steps.ReadCommands.{command_reads}
+
+-- a number stands for itself, a name is one and holds no quote
+pub record IsContextKept (c : PdpContext) : Type 0 where
+  pub cid : c.cid < 256
+  pub apn : list_any is_quote c.apn ≡ false
+  pub name : is_apn c.apn ≡ true
+
+abbrev pub AreContextsKept : List PdpContext → Type 0
+AreContextsKept [] = Unit {0}
+AreContextsKept (c ∷ contexts) = IsContextKept c × AreContextsKept contexts
+
+abbrev pub IsOperKept : OperChoice → Type 0
+IsOperKept Automatic = Unit {0}
+IsOperKept Deregister = Unit {0}
+IsOperKept (Manual oper) = (list_any is_quote oper ≡ false) × (is_oper oper ≡ true)
+
+pub record IsKept (s : ModemState) : Type 0 where
+  pub reports : s.reports < 256
+  pub oper : IsOperKept s.oper
+  pub contexts : AreContextsKept s.contexts
+  pub rssi : s.rssi < 256
+  pub ber : s.ber < 256
+
+started_kept : (start : ModemStart) → IsStart start → IsKept (started start)
+started_kept start is = record { reports = omega arith; oper = tt; contexts = tt; rssi = is.rssi; ber = is.ber }
+
+not_refused : (b : Bool) (why : CmdError) → (if b then None else Some why) ≡ None → b ≡ true
+not_refused true why is = refl
+not_refused false why is = cc
+
+none_quoted : (test : ℕ → Bool) → ((c : ℕ) → test c ≡ true → is_quote c ≡ false) → (text : List ℕ) → list_all test text ≡ true → list_any is_quote text ≡ false
+none_quoted test apart [] all = refl
+none_quoted test apart (c ∷ text) all =
+    let parts = both_true (test c) (list_all test text) all in
+    rw (apart c parts.0) (none_quoted test apart text parts.1)
+
+digit_not_quote : (c : ℕ) → is_digit c ≡ true → is_quote c ≡ false
+digit_not_quote c is = grind (arith, nat_tests)
+
+apn_not_quote : (c : ℕ) → is_in_apn c ≡ true → is_quote c ≡ false
+apn_not_quote c is = grind (arith, nat_tests)
+
+context_may : (number name : Bool) → (if name then (if number then None else Some BadNumber) else Some BadApn) ≡ None → (number ≡ true) × (name ≡ true)
+context_may true true may = (refl, refl)
+context_may false true may = cc
+context_may true false may = cc
+context_may false false may = cc
+
+new_kept : (new : PdpContext) → is_cid new.cid ≡ true → is_apn new.apn ≡ true → IsContextKept new
+new_kept new number name =
+    let small = cid_small new.cid number in
+    record { cid = omega arith; apn = none_quoted is_in_apn apn_not_quote new.apn (run_is is_in_apn 1 63 new.apn name).all; name = name }
+
+with_kept_at : (new c : PdpContext) (contexts rest : List PdpContext) (below same : Bool) → IsContextKept new → IsContextKept c → AreContextsKept contexts → AreContextsKept rest → AreContextsKept (if below then c ∷ rest else if same then new ∷ contexts else new ∷ c ∷ contexts)
+with_kept_at new c contexts rest true same n k ks rs = (k, rs)
+with_kept_at new c contexts rest false true n k ks rs = (n, ks)
+with_kept_at new c contexts rest false false n k ks rs = (n, (k, ks))
+
+with_kept : (new : PdpContext) (contexts : List PdpContext) → IsContextKept new → AreContextsKept contexts → AreContextsKept (with_context new contexts)
+with_kept new [] n ks = (n, tt)
+with_kept new (c ∷ contexts) n ks = with_kept_at new c contexts (with_context new contexts) (nat_lt c.cid new.cid) (c.cid == new.cid) n ks.0 ks.1 (with_kept new contexts n ks.1)
+
+mode_small : (n : ℕ) → is_mode n ≡ true → n < 256
+mode_small n is = let small : n ≤ 2 = grind (arith, nat_tests) in omega arith
+
+after_kept : (s : ModemState) (c : Command) → IsKept s → refused_for c ≡ None → IsKept (after_command s c)
+after_kept s PinQuery kept may = kept
+after_kept s (PinEnter pin) kept may = record { reports = kept.reports; oper = kept.oper; contexts = kept.contexts; rssi = kept.rssi; ber = kept.ber }
+after_kept s (RegReport n) kept may = record { reports = mode_small n (not_refused (is_mode n) BadNumber may); oper = kept.oper; contexts = kept.contexts; rssi = kept.rssi; ber = kept.ber }
+after_kept s RegQuery kept may = kept
+after_kept s Signal kept may = kept
+after_kept s OperQuery kept may = kept
+after_kept s (OperChoose Automatic) kept may = record { reports = kept.reports; oper = tt; contexts = kept.contexts; rssi = kept.rssi; ber = kept.ber }
+after_kept s (OperChoose Deregister) kept may = record { reports = kept.reports; oper = tt; contexts = kept.contexts; rssi = kept.rssi; ber = kept.ber }
+after_kept s (OperChoose (Manual oper)) kept may =
+    let number = not_refused (is_oper oper) BadNumber may in
+    let run = run_is is_digit 5 6 oper number in
+    record { reports = kept.reports; oper = (none_quoted is_digit digit_not_quote oper run.all, number); contexts = kept.contexts; rssi = kept.rssi; ber = kept.ber }
+after_kept s (ContextSet cid pdp apn) kept may =
+    let tests = context_may (is_cid cid) (is_apn apn) may in
+    let new : PdpContext = record { cid = cid; pdp = pdp; apn = apn } in
+    record { reports = kept.reports; oper = kept.oper; contexts = with_kept new s.contexts (new_kept new tests.0 tests.1) kept.contexts; rssi = kept.rssi; ber = kept.ber }
+after_kept s ContextQuery kept may = kept
+after_kept s (AttachSet on) kept may = record { reports = kept.reports; oper = kept.oper; contexts = kept.contexts; rssi = kept.rssi; ber = kept.ber }
+after_kept s AttachQuery kept may = kept
+after_kept s (ErrorMode n) kept may = record { reports = kept.reports; oper = kept.oper; contexts = kept.contexts; rssi = kept.rssi; ber = kept.ber }
+after_kept s Multiplex kept may = kept
+
+refused_kept : (s : ModemState) (c : Command) → IsKept s → IsKept (after_refusal s c)
+refused_kept s (PinEnter pin) kept = record { reports = kept.reports; oper = kept.oper; contexts = kept.contexts; rssi = kept.rssi; ber = kept.ber }
+refused_kept s PinQuery kept = kept
+refused_kept s (RegReport n) kept = kept
+refused_kept s RegQuery kept = kept
+refused_kept s Signal kept = kept
+refused_kept s OperQuery kept = kept
+refused_kept s (OperChoose choice) kept = kept
+refused_kept s (ContextSet cid pdp apn) kept = kept
+refused_kept s ContextQuery kept = kept
+refused_kept s (AttachSet on) kept = kept
+refused_kept s AttachQuery kept = kept
+refused_kept s (ErrorMode n) kept = kept
+refused_kept s Multiplex kept = kept
+
+obeyed_kept : (o : Option ℕ) (s : ModemState) (c : Command) → IsKept s → refused_for c ≡ None → IsKept (obeyed_unless o s c).state
+obeyed_kept None s c kept may = after_kept s c kept may
+obeyed_kept (Some number) s c kept may = refused_kept s c kept
+
+-- the command of a line may be written
+command_written : (line : List ℕ) (o : Option Command) → command_of line ≡ o → (s : ModemState) → IsKept s → IsKept (step_by s o).state
+command_written line None is s kept = kept
+command_written line (Some c) is s kept =
+    let reads = rw is at (command_reads line) in
+    obeyed_kept (refusal_of s c) s c kept reads.is.written
+
+step_kept_at : (s : ModemState) (line : List ℕ) (at : Bool) → IsKept s → is_attention line ≡ at → IsKept (step s line).state
+step_kept_at s line true kept is = rw is kept
+step_kept_at s line false kept is = rw is (command_written line (command_of line) refl s kept)
+
+lines_kept : (s : ModemState) (lines : List (List ℕ)) → IsKept s → IsKept (after_lines s lines)
+lines_kept s [] kept = kept
+lines_kept s (line ∷ lines) kept = lines_kept (step s line).state lines (step_kept_at s line (is_attention line) kept refl)
+
+pub reached_kept : (start : ModemStart) (lines : List (List ℕ)) → IsStart start → IsKept (reached start lines)
+reached_kept start lines is = lines_kept (started start) lines (started_kept start is)

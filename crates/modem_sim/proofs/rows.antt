@@ -1,0 +1,5 @@
+-- Worked rows, computed.
+pub mod AnswerRowFacts
+pub mod HistoryRowFacts
+pub mod RefusedRowFacts
+pub mod TurnRowFacts

@@ -1,0 +1,149 @@
+-- The worked turns, computed.
+use Rattle.std.specs.Prelude.{◌≡◌, ℕ, nat_lt, ◌||◌, codes, Bool, true, false, List, [], ◌∷◌, length, Option, Some, None, Ok, Err, IsErrOf, refl}
+use Rattle.std.proofs.Common.{arith, sym, ap, ◌∙◌}
+use Rattle.std.proofs.lemmas.Bool.Decides.{nat_tests}
+use Rattle.mux_frame.specs.Reading.{no_flag}
+use Rattle.modem_sim.specs.declared.error.SimError.TheVariants as why
+use Rattle.modem_sim.specs.declared.script.StepAct.TheVariants.{Announce}
+use Rattle.modem_sim.specs.declared.script.Step.{Step}
+use Rattle.modem_sim.specs.declared.sim.SimTurn.{SimTurn}
+use Rattle.modem_sim.specs.Acts.{after}
+use Rattle.modem_sim.specs.Doing.{IsDue}
+use Rattle.modem_sim.specs.Sims.{Kept, SimState, has_failed}
+use Rattle.modem_sim.specs.Cores.{all_unhanded, box_at}
+use Rattle.modem_sim.specs.Boxes.{is_released}
+use Rattle.modem_sim.specs.Polls.{Says}
+use Rattle.mux_frame.specs.Frames.{Frame}
+use Rattle.modem_sim.specs.Turns.{IsAtRest, IsHeldUp, IsIdle, IsLeft, NoneCanBeDone, Write, at_rest, frame_at_hand, has_moved, hold_is_over, is_fewer, line_is_full, step_is_due}
+use Rattle.modem_sim.specs.HistoryRows.{announcing, one, plain, ready_one, silent, step_at}
+use Rattle.modem_sim.specs.TurnRows.{ComesTo, EndRows, IsStill, MovedRows, OneWaits, RightIdle, WantRows, WrongFailures, WrongGivings, WrongIdle, nothing_asked, offered_one, only_read}
+use Rattle.modem_sim.proofs.rows.RefusedRowFacts.{said_nothing}
+
+none_left : (next : Step) (later : List Step) → [] ≡ next ∷ later → ⊥
+none_left next later same = cc
+
+no_steps : NoneCanBeDone plain []
+no_steps act due = absurd (none_left due.next due.later due.is_first)
+
+rests : (k : Kept) → IsIdle plain [] [] k only_read []
+rests k = at_rest (record {
+  nothing_came = record { room = 512; some = omega arith; nothing = refl };
+  through = record { rest = []; reads = no_flag [] refl; written = refl };
+  all_out = λ d small there goes free. cc;
+  steps = no_steps;
+})
+
+some_octet : (x : ℕ) (xs : List ℕ) → x ∷ xs ≡ [] → ⊥
+some_octet x xs same = cc
+
+none_some : {A : Type 0} (x : A) → None ≡ Some x → ⊥
+none_some x same = cc
+
+held_up : (k : Kept) → OneWaits k → IsHeldUp plain k (offered_one 0) []
+held_up k waits = record {
+  waits = λ none. some_octet 7 [] (sym waits.out ∙ none);
+  offered = 7 ∷ [];
+  some = some_octet 7 [];
+  took_none = refl;
+  reads = λ fed. record { room = 512; some = omega arith; nothing = refl };
+  no_room = λ f hand. absurd (none_some f (sym waits.hand ∙ hand));
+  steps = no_steps;
+}
+
+pub right_idle : RightIdle
+right_idle = (rests, held_up)
+
+not_read : (k : Kept) → ¬ IsIdle plain [] [] k nothing_asked []
+not_read k (line_is_full full) = none_some _ full.took_none
+not_read k (at_rest rest) = none_some _ rest.nothing_came.nothing
+
+count_of : Option Write → ℕ
+count_of None = 0
+count_of (Some w) = w.count
+
+took_one : (k : Kept) → ¬ IsHeldUp plain k (offered_one 1) []
+unfolding count_of
+took_one k full = let same : 1 ≡ 0 = ap count_of full.took_none in absurd (omega (arith, same))
+
+unanswered : (came went : List ℕ) → ¬ IsAtRest plain came went only_read (after [] silent)
+unanswered came went rest = said_nothing rest.all_out
+
+due_now : IsDue (announcing 0 one) (after [] ready_one) (Announce one (codes "RING"))
+due_now = record { next = step_at 0 (Announce one (codes "RING")); later = []; is_first = refl; is_its = refl; come = refl; open_are = refl }
+
+not_done : (came went : List ℕ) → ¬ IsAtRest (announcing 0 one) came went only_read (after [] ready_one)
+not_done came went rest = none_some _ (rest.steps (Announce one (codes "RING")) due_now).asked
+
+pub wrong_idle : WrongIdle
+wrong_idle = (not_read, took_one, unanswered, not_done)
+
+same_length : (n : ℕ) → nat_lt n n ≡ false
+same_length n = grind (arith, nat_tests)
+
+neither : (a b : Bool) → a ≡ false → b ≡ false → (a || b) ≡ false
+neither true b is is_too = cc
+neither false b is is_too = is_too
+
+stays : (s : SimState ℕ) → has_moved (λ (l : ℕ). []) (λ l. []) s s [] ≡ false
+stays s =
+    neither (is_fewer s.kept.unfed s.kept.unfed) _ (same_length (length s.kept.unfed))
+    (neither (is_fewer s.kept.core.steps s.kept.core.steps) _ (same_length (length s.kept.core.steps))
+    (neither (is_fewer s.kept.out s.kept.out) _ (same_length (length s.kept.out))
+    (same_length (all_unhanded s.kept.core.boxes))))
+
+pub moved_rows : MovedRows
+moved_rows = (λ k. refl, λ s a. refl, stays)
+
+not_both : (b : Bool) → b ≡ true → b ≡ false → ⊥
+not_both true is other = cc
+not_both false is other = cc
+
+not_before : (old new : SimState ℕ) → has_failed old ≡ false → ¬ ComesTo old new (Err why.Failed)
+not_before old new sound turn = not_both (has_failed old) (turn.failed.0 refl) sound
+
+done_before : {says : SimTurn} → IsErrOf (Ok says) why.Failed → ⊥
+done_before same = cc
+
+not_after : (old new : SimState ℕ) (says : SimTurn) → has_failed new ≡ true → ¬ ComesTo old new (Ok says)
+not_after old new says failed turn = done_before (turn.failed.1 (sym turn.fails ∙ failed))
+
+refused_before : IsErrOf {T = SimTurn} (Err why.NoMemory) why.Failed → ⊥
+refused_before same = cc
+
+not_by_memory : (old new : SimState ℕ) → has_failed new ≡ true → ¬ ComesTo old new (Err why.NoMemory)
+not_by_memory old new failed turn = refused_before (turn.failed.1 (sym turn.fails ∙ failed))
+
+failing_before : IsErrOf {T = SimTurn} (Err why.Line) why.Failed → ⊥
+failing_before same = cc
+
+not_twice : (old new : SimState ℕ) → has_failed old ≡ true → ¬ ComesTo old new (Err why.Line)
+not_twice old new failed turn = failing_before (turn.failed.1 failed)
+
+pub wrong_failures : WrongFailures
+wrong_failures = (not_before, not_after, not_by_memory, not_twice)
+
+pub end_rows : EndRows
+end_rows = (refl, refl, refl)
+
+step_wants : (k : Kept) → IsLeft (announcing 0 one) k (after [] ready_one)
+step_wants k = step_is_due (Announce one (codes "RING")) due_now refl
+
+frame_wants : (k : Kept) (f : Frame) → k.deframer.next ≡ Some f → IsLeft plain k []
+frame_wants k f hand = frame_at_hand f hand
+
+nothing_wants : (k : Kept) → IsStill k → ¬ IsLeft plain k []
+nothing_wants k still (step_is_due act due none) = none_left due.next due.later due.is_first
+nothing_wants k still (hold_is_over d there over) = not_both (is_released (box_at k.core d).hold) over (still.holds d)
+nothing_wants k still (frame_at_hand f hand) = none_some f (sym still.hand ∙ hand)
+
+pub want_rows : WantRows
+want_rows = (step_wants, frame_wants, nothing_wants)
+
+no_line : (s : SimState ℕ) → ¬ Says (λ l. l) s s (Err why.Line)
+no_line s fails = let one = fails.one_failed in absurd (omega (arith, one))
+
+no_failed : (old new : SimState ℕ) → has_failed old ≡ false → ¬ Says (λ l. l) old new (Err why.Failed)
+no_failed old new sound had = not_both (has_failed old) had.before sound
+
+pub wrong_givings : WrongGivings
+wrong_givings = (no_line, no_failed, λ old new is. is, λ old new is. is, λ old new is. is)

@@ -1,0 +1,347 @@
+-- A simulated modem at its line goes on.
+use Rattle.std.specs.Prelude.{◌≡◌, ℕ, ◌≤◌, ◌==◌, ◌&&◌, Bool, true, false, List, [], ◌∷◌, ◌++◌, Option, Some, None, option_map, Result, Ok, Err, IfOk, OnOk, OnErr, take, drop, length, refl}
+use Rattle.std.specs.List.{flat_map}
+use Rattle.std.proofs.Common.{arith, sym, ap, ◌∙◌, subst, append_assoc, append-nil, length-append, take-append-drop}
+use Rattle.std.proofs.lemmas.Grind.{flat_map-append}
+use Rattle.mux_frame.specs.Frames.{Frame}
+use Rattle.mux_frame.specs.Deframing.{Deframing, HandsOver, TakesIn}
+use Rattle.mux_frame.specs.Spelling as spelling
+use Rattle.mux_frame.specs.Reading.{Reads}
+use Rattle.mux_frame.proofs.readings.ComputedReadings.{total_reading}
+use Rattle.at_cmds.proofs.command_texts.CommandLines.{both_true}
+use Rattle.std.proofs.lemmas.Bool.Decides.{nat_tests}
+use Rattle.modem_sim.specs.Histories.{got, sent}
+use Rattle.mux_station.specs.Stations as stations
+use Rattle.mux_station.specs.Giving.{data_frame, data_given, station_after, next_given, next_turn}
+use Rattle.mux_station.specs.GivenFrames.{Outgoing, with_freshness}
+use Rattle.modem_sim.specs.Acts.{Act, End}
+use Rattle.modem_sim.specs.Cores.{Core, Goes, EndGoesOn, GivesOut, gone_on}
+use Rattle.modem_sim.specs.Sims.{Kept, KeptFits, KeptGoes, Receives, SimState, SimGoes, Simulates, IsOver, is_ended}
+use Rattle.modem_sim.specs.Turns.{is_nil}
+use Rattle.modem_sim.specs.Stills.{KeptDoes, KeptStays}
+use Rattle.modem_sim.proofs.ends.OfferedPieces.{later_then}
+use Rattle.mux_station.proofs.law_proofs.PlainFrames.{plain_short}
+use Rattle.modem_sim.proofs.sims.WrittenFrames.{goes_out_plain}
+
+pub kept_none : (k : Kept) → KeptGoes k k
+kept_none k e came went past fits = record { now = past; later = record { newer = []; joins = refl }; fits = fits }
+
+pub kept_then : (a b c : Kept) → KeptGoes a b → KeptGoes b c → KeptGoes a c
+kept_then a b c p q e came went past fits =
+    let first = p e came went past fits in
+    let second = q e came went first.now first.fits in
+    record { now = second.now; later = later_then past first.now second.now first.later second.later; fits = second.fits }
+
+-- where its end goes on by itself
+pub kept_core : (old : Kept) (core : Core) → Goes old.core core → KeptGoes old (record old { core = core })
+kept_core old core goes e came went past fits =
+    let went_on = goes e fits.wired past fits.core_fits in
+    record {
+      now = went_on.now;
+      later = went_on.later;
+      fits = record {
+        wired = fits.wired;
+        core_fits = went_on.fits;
+        n1_is = fits.n1_is;
+        taken = fits.taken;
+        came_is = fits.came_is;
+        deframes = fits.deframes;
+        went_is = fits.went_is;
+      };
+    }
+
+-- a past with a frame more is another one
+not_same : (newer past now : List Act) (xs : List Frame) (f : Frame) → newer ++ past ≡ now → got past ≡ xs → got now ≡ xs ++ f ∷ [] → is_nil newer ≡ false
+not_same [] past now xs f joins before after =
+    let same : xs ≡ xs ++ f ∷ [] = sym before ∙ ap got joins ∙ after in
+    let long = ap length same ∙ length-append xs (f ∷ []) in
+    absurd (omega (arith, long))
+not_same (a ∷ newer) past now xs f joins before after = refl
+
+-- where it takes the frame at hand
+pub kept_did : (old : Kept) (core : Core) (d : Deframing) (f : Frame) → old.deframer.next ≡ Some f → EndGoesOn old.core core f → HandsOver old.deframer d → d.n1 ≡ old.deframer.n1 → KeptDoes old (record old { core = core; deframer = d })
+kept_did old core d f hand goes hands same e came went past fits =
+    let went_on = goes e fits.wired past fits.core_fits in
+    record {
+      from = record {
+        now = went_on.now;
+        later = went_on.later;
+        fits = record {
+          wired = record fits.wired { came = fits.wired.came ++ f ∷ [] };
+          core_fits = went_on.fits;
+          n1_is = same ∙ fits.n1_is;
+          taken = fits.taken;
+          came_is = fits.came_is;
+          deframes = hands fits.taken fits.wired.came f hand fits.deframes;
+          went_is = fits.went_is;
+        };
+      };
+      some = not_same went_on.later.newer past went_on.now fits.wired.came f went_on.later.joins fits.core_fits.came_are went_on.fits.came_are;
+    }
+
+pub kept_took : (old : Kept) (core : Core) (d : Deframing) (f : Frame) → old.deframer.next ≡ Some f → EndGoesOn old.core core f → HandsOver old.deframer d → d.n1 ≡ old.deframer.n1 → KeptGoes old (record old { core = core; deframer = d })
+kept_took old core d f hand goes hands same e came went past fits = (kept_did old core d f hand goes hands same e came went past fits).from
+
+-- where its end gives a frame on, whose octets are to be written
+pub kept_gave : (old : Kept) (f : Frame) (out : List ℕ) → old.out ≡ [] → next_given old.core.station old.core.station.queue ≡ Some f → length f.info ≤ 1024 → (length f.info ≤ spelling.most_info 1024 f.kind → out ≡ spelling.spelled f) → GivesOut old.core → KeptGoes old (record old { core = gone_on old.core; out = out })
+kept_gave old f out none next short writes gives e came went past fits =
+    let went_on = gives f next e fits.wired past fits.core_fits in
+    let written = writes (plain_short f (goes_out_plain e fits.wired old.core past f fits.core_fits next) short) in
+    record {
+      now = went_on.now;
+      later = went_on.later;
+      fits = record {
+        wired = record fits.wired { gone = fits.wired.gone ++ f ∷ [] };
+        core_fits = went_on.fits;
+        n1_is = fits.n1_is;
+        taken = fits.taken;
+        came_is = fits.came_is;
+        deframes = fits.deframes;
+        went_is = ap (λ x. went ++ x) written
+            ∙ ap (λ x. x ++ spelling.spelled f) (sym (append-nil went) ∙ ap (λ x. went ++ x) (sym none) ∙ fits.went_is)
+            ∙ ap (λ x. flat_map spelling.spelled fits.wired.gone ++ x) (sym (append-nil (spelling.spelled f)))
+            ∙ sym (flat_map-append spelling.spelled fits.wired.gone (f ∷ []));
+      };
+    }
+
+-- where its deframer takes octets
+pub fed_fits : (old : Kept) (d : Deframing) (n : ℕ) → TakesIn old.deframer (take n old.unfed) d → d.n1 ≡ old.deframer.n1 → KeptStays old (record old { unfed = drop n old.unfed; deframer = d })
+fed_fits old d n takes same e came went past fits = record {
+  wired = fits.wired;
+  core_fits = fits.core_fits;
+  n1_is = same ∙ fits.n1_is;
+  taken = fits.taken ++ take n old.unfed;
+  came_is = fits.came_is ∙ ap (λ x. fits.taken ++ x) (sym (take-append-drop n old.unfed)) ∙ sym (append_assoc fits.taken (take n old.unfed) (drop n old.unfed));
+  deframes = takes fits.taken fits.wired.came fits.deframes;
+  went_is = fits.went_is;
+}
+
+pub kept_fed : (old : Kept) (d : Deframing) (n : ℕ) → TakesIn old.deframer (take n old.unfed) d → d.n1 ≡ old.deframer.n1 → KeptGoes old (record old { unfed = drop n old.unfed; deframer = d })
+kept_fed old d n takes same e came went past fits = record {
+  now = past;
+  later = record { newer = []; joins = refl };
+  fits = fed_fits old d n takes same e came went past fits;
+}
+
+-- ## With the line
+
+-- octets came
+pub kept_read : (e : End) (came went : List ℕ) (past : List Act) (old : Kept) (octets : List ℕ) → KeptFits e came went old past → KeptFits e (came ++ octets) went (record old { unfed = old.unfed ++ octets }) past
+kept_read e came went past old octets fits = record {
+  wired = fits.wired;
+  core_fits = fits.core_fits;
+  n1_is = fits.n1_is;
+  taken = fits.taken;
+  came_is = ap (λ x. x ++ octets) fits.came_is ∙ append_assoc fits.taken old.unfed octets;
+  deframes = fits.deframes;
+  went_is = fits.went_is;
+}
+
+-- octets went
+pub kept_wrote : (e : End) (came went : List ℕ) (past : List Act) (old : Kept) (n : ℕ) → KeptFits e came went old past → KeptFits e came (went ++ take n old.out) (record old { out = drop n old.out }) past
+kept_wrote e came went past old n fits = record {
+  wired = fits.wired;
+  core_fits = fits.core_fits;
+  n1_is = fits.n1_is;
+  taken = fits.taken;
+  came_is = fits.came_is;
+  deframes = fits.deframes;
+  went_is = append_assoc went (take n old.out) (drop n old.out) ∙ ap (λ x. went ++ x) (take-append-drop n old.out) ∙ fits.went_is;
+}
+
+pub sim_none : {X : Type 0} (received sent : X → List ℕ) (s : SimState X) → SimGoes received sent s s
+sim_none received sent s at e past fits = record { now = past; later = record { newer = []; joins = refl }; fits = fits }
+
+pub sim_then : {X : Type 0} (received sent : X → List ℕ) (a b c : SimState X) → SimGoes received sent a b → SimGoes received sent b c → SimGoes received sent a c
+sim_then received sent a b c p q at e past fits =
+    let first = p at e past fits in
+    let second = q at e first.now first.fits in
+    record { now = second.now; later = later_then past first.now second.now first.later second.later; fits = second.fits }
+
+-- the line as it was
+pub sim_kept : {X : Type 0} (received sent : X → List ℕ) (s : SimState X) (k : Kept) → KeptGoes s.kept k → SimGoes received sent s (record s { kept = k })
+sim_kept received sent s k goes at e past fits =
+    let went_on = goes e fits.came fits.went past fits.kept_fits in
+    record {
+      now = went_on.now;
+      later = went_on.later;
+      fits = record { came = fits.came; went = fits.went; received_is = fits.received_is; sent_is = fits.sent_is; kept_fits = went_on.fits };
+    }
+
+-- a flag that says nothing of the past
+pub kept_failed : (k : Kept) → KeptGoes k (record k { failed = true })
+kept_failed k e came went past fits = record {
+  now = past;
+  later = record { newer = []; joins = refl };
+  fits = record {
+    wired = fits.wired;
+    core_fits = fits.core_fits;
+    n1_is = fits.n1_is;
+    taken = fits.taken;
+    came_is = fits.came_is;
+    deframes = fits.deframes;
+    went_is = fits.went_is;
+  };
+}
+
+-- another line on which the same came and went
+pub sim_line : {X : Type 0} (received sent : X → List ℕ) (s : SimState X) (line : X) → received line ≡ received s.line → sent line ≡ sent s.line → SimGoes received sent s (record s { line = line })
+sim_line received sent s line came went at e past fits = record {
+  now = past;
+  later = record { newer = []; joins = refl };
+  fits = record { came = fits.came; went = fits.went; received_is = came ∙ fits.received_is; sent_is = went ∙ fits.sent_is; kept_fits = fits.kept_fits };
+}
+
+pub sim_read : {X : Type 0} (received sent : X → List ℕ) (s : SimState X) (line : X) (k : Kept) → Receives (received s.line) (received line) s.kept k → sent line ≡ sent s.line → SimGoes received sent s (record { line = line; kept = k })
+sim_read received sent s line k got went at e past fits =
+    let At : Kept → Type 0 = λ x. KeptFits e (fits.came ++ got.fresh) fits.went x past in
+    record {
+      now = past;
+      later = record { newer = []; joins = refl };
+      fits = record {
+        came = fits.came ++ got.fresh;
+        went = fits.went;
+        received_is = got.came ∙ ap (λ x. x ++ got.fresh) fits.received_is ∙ append_assoc at.received fits.came got.fresh;
+        sent_is = went ∙ fits.sent_is;
+        kept_fits = subst At (sym got.kept) (kept_read e fits.came fits.went past s.kept got.fresh fits.kept_fits);
+      };
+    }
+
+pub sim_wrote : {X : Type 0} (received sent : X → List ℕ) (s : SimState X) (line : X) (k : Kept) (n : ℕ) → received line ≡ received s.line → sent line ≡ sent s.line ++ take n s.kept.out → k ≡ record s.kept { out = drop n s.kept.out } → SimGoes received sent s (record { line = line; kept = k })
+sim_wrote received sent s line k n came went is at e past fits =
+    let At : Kept → Type 0 = λ x. KeptFits e fits.came (fits.went ++ take n s.kept.out) x past in
+    record {
+      now = past;
+      later = record { newer = []; joins = refl };
+      fits = record {
+        came = fits.came;
+        went = fits.went ++ take n s.kept.out;
+        received_is = came ∙ fits.received_is;
+        sent_is = went ∙ ap (λ x. x ++ take n s.kept.out) fits.sent_is ∙ append_assoc at.sent fits.went (take n s.kept.out);
+        kept_fits = subst At (sym is) (kept_wrote e fits.came fits.went past s.kept n fits.kept_fits);
+      };
+    }
+
+-- the line failed
+pub sim_failed : {X : Type 0} (received sent : X → List ℕ) (s : SimState X) (line : X) (k : Kept) → received line ≡ received s.line → sent line ≡ sent s.line → k ≡ record s.kept { failed = true } → SimGoes received sent s (record { line = line; kept = k })
+sim_failed received sent s line k came went is =
+    let At : Kept → Type 0 = λ x. SimGoes received sent s (record { line = line; kept = x }) in
+    let there : SimState _ = record s { line = line } in
+    subst At (sym is)
+    (sim_then received sent s there (record { line = line; kept = record s.kept { failed = true } }) (sim_line received sent s line came went) (sim_kept received sent there (record s.kept { failed = true }) (kept_failed s.kept)))
+
+pub sim_wrote_by : {X E : Type 0} (received sent : X → List ℕ) (s : SimState X) (line : X) (k : Kept) (r : Result ℕ E) → IfOk r (λ n. sent line ≡ sent s.line ++ take n s.kept.out) → IfOk r (λ n. k ≡ record s.kept { out = drop n s.kept.out }) → OnErr r (sent line ≡ sent s.line) → OnErr r (k ≡ record s.kept { failed = true }) → received line ≡ received s.line → SimGoes received sent s (record { line = line; kept = k })
+sim_wrote_by received sent s line k (Ok n) went is none_went failed came = sim_wrote received sent s line k n came went is
+sim_wrote_by received sent s line k (Err why) went is none_went failed came = sim_failed received sent s line k came none_went failed
+
+pub sim_read_by : {X A E : Type 0} (received sent : X → List ℕ) (s : SimState X) (line : X) (k : Kept) (r : Result A E) → OnOk r (Receives (received s.line) (received line) s.kept k) → OnErr r (received line ≡ received s.line) → OnErr r (k ≡ record s.kept { failed = true }) → sent line ≡ sent s.line → SimGoes received sent s (record { line = line; kept = k })
+sim_read_by received sent s line k (Ok n) came none_came failed went = sim_read received sent s line k came went
+sim_read_by received sent s line k (Err why) came none_came failed went = sim_failed received sent s line k none_came went failed
+
+-- ## The next frame
+
+pub none_mapped : {A B : Type 0} (f : A → B) (o : Option A) → None ≡ option_map f o → o ≡ None
+none_mapped f None is = refl
+none_mapped f (Some x) is = cc
+
+some_mapped : (fresh : Bool) (g : Outgoing) (o : Option Frame) → Some g ≡ option_map (with_freshness fresh) o → o ≡ Some g.frame
+some_mapped fresh g None is = cc
+some_mapped fresh g (Some x) is = ap (λ (y : Option Outgoing). option_map (λ (z : Outgoing). z.frame) y) (sym is)
+
+given_none_at : (v : stations.Station) (q : List Frame) (o : Option ℕ) → v.queue ≡ q → next_turn v ≡ o → next_given v q ≡ None → station_after v q ≡ v
+given_none_at v [] None queue turn none = ap (data_given v) turn
+given_none_at v [] (Some d) queue turn none = no (sym (ap (λ (o : Option ℕ). option_map (data_frame v) o) turn) ∙ none)
+  where
+    no : {P : Type 0} → Some (data_frame v d) ≡ None → P
+    no is = cc
+given_none_at v (f ∷ q) o queue turn none = cc
+
+data_n1 : (v : stations.Station) (o : Option ℕ) → (data_given v o).n1 ≡ v.n1
+data_n1 v None = refl
+data_n1 v (Some d) = refl
+
+after_n1 : (v : stations.Station) (q : List Frame) → (station_after v q).n1 ≡ v.n1
+after_n1 v [] = data_n1 v (next_turn v)
+after_n1 v (f ∷ q) = refl
+
+-- it keeps its N1
+pub gone_n1 : (mid core : Core) (n : ℕ) → core ≡ gone_on mid → mid.station.n1 ≡ n → core.station.n1 ≡ n
+gone_n1 mid core n is same = ap (λ (c : Core). c.station.n1) is ∙ after_n1 mid.station mid.station.queue ∙ same
+
+gone_none : (c : Core) → next_given c.station c.station.queue ≡ None → gone_on c ≡ c
+gone_none c none = ap (λ (v : stations.Station). record c { station = v }) (given_none_at c.station c.station.queue (next_turn c.station) refl refl none)
+
+-- where none is there nothing changes
+pub fetched_nothing : (old mid core : Core) (fresh : Bool) → mid ≡ old → None ≡ option_map (with_freshness fresh) (next_given mid.station mid.station.queue) → core ≡ gone_on mid → core ≡ old
+fetched_nothing old mid core fresh same none is = is ∙ gone_none mid (none_mapped (with_freshness fresh) (next_given mid.station mid.station.queue) none) ∙ same
+
+pub fetched_none : (old : Kept) (mid core : Core) (fresh : Bool) → Goes old.core mid → None ≡ option_map (with_freshness fresh) (next_given mid.station mid.station.queue) → core ≡ gone_on mid → KeptGoes old (record old { core = core })
+fetched_none old mid core fresh goes none is =
+    let At : Core → Type 0 = λ c. KeptGoes old (record old { core = c }) in
+    subst At (sym (is ∙ gone_none mid (none_mapped (with_freshness fresh) (next_given mid.station mid.station.queue) none))) (kept_core old mid goes)
+
+pub fetched_some : (old : Kept) (mid core : Core) (fresh : Bool) (g : Outgoing) (out : List ℕ) → old.out ≡ [] → Goes old.core mid → Some g ≡ option_map (with_freshness fresh) (next_given mid.station mid.station.queue) → length g.frame.info ≤ 1024 → (length g.frame.info ≤ spelling.most_info 1024 g.frame.kind → out ≡ spelling.spelled g.frame) → GivesOut mid → core ≡ gone_on mid → KeptGoes old (record old { core = core; out = out })
+fetched_some old mid core fresh g out none goes some short writes gives is =
+    let At : Core → Type 0 = λ c. KeptGoes old (record old { core = c; out = out }) in
+    subst At (sym is)
+    (kept_then old (record old { core = mid }) (record old { core = gone_on mid; out = out }) (kept_core old mid goes)
+    (kept_gave (record old { core = mid }) g.frame out none (some_mapped fresh g (next_given mid.station mid.station.queue) some) short writes gives))
+
+-- ## What that comes to
+
+-- what is kept fits no past that isn't a simulated modem's
+pub simulates : (e : End) (came went : List ℕ) (k : Kept) (past : List Act) → KeptFits e came went k past → Simulates e came went k past
+simulates e came went k past fits =
+    let rest = total_reading k.deframer.n1 k.deframer.undecided fits.deframes.octets in
+    let Undecided : List ℕ → Type 0 = λ x. Reads k.deframer.n1 x rest.frames rest.rest in
+    let At : ℕ → Type 0 = λ n. Reads n fits.taken (got past ++ rest.frames) rest.rest in
+    let Taken : List ℕ → Type 0 = λ x. Reads k.deframer.n1 x (got past ++ rest.frames) rest.rest in
+    let Came : List Frame → Type 0 = λ fs. Reads k.deframer.n1 (fits.taken ++ []) (fs ++ rest.frames) rest.rest in
+    let core = fits.core_fits in
+    record {
+      lawful = record { at_station = core.lawful; acts = core.allowed };
+      complete = record { at_station = core.complete; called = core.free };
+      taken = fits.taken;
+      came_is = fits.came_is;
+      octets = record {
+        coming = rest.frames;
+        rest = rest.rest;
+        reads = subst At fits.n1_is
+            (subst Taken (append-nil fits.taken)
+            (subst Came (sym core.came_are) (fits.deframes.reads [] rest.frames rest.rest (subst Undecided (sym (append-nil k.deframer.undecided)) rest.reads))));
+        unwritten = k.out ++ flat_map spelling.spelled k.core.station.queue;
+        written = sym (append_assoc went k.out (flat_map spelling.spelled k.core.station.queue))
+            ∙ ap (λ x. x ++ flat_map spelling.spelled k.core.station.queue) fits.went_is
+            ∙ sym (flat_map-append spelling.spelled fits.wired.gone k.core.station.queue)
+            ∙ ap (flat_map spelling.spelled) (sym core.gone_are);
+      };
+      modem_is = core.modem_is;
+    }
+
+none_queued : (fs : List Frame) → (length fs == 0) ≡ true → fs ≡ []
+none_queued [] is = refl
+none_queued (f ∷ fs) is = absurd (omega (arith, some))
+  where
+    some : length (f ∷ fs) ≡ 0
+    some = grind (arith, nat_tests)
+
+none_written : (xs : List ℕ) → (length xs == 0) ≡ true → xs ≡ []
+none_written [] is = refl
+none_written (x ∷ xs) is = absurd (omega (arith, some))
+  where
+    some : length (x ∷ xs) ≡ 0
+    some = grind (arith, nat_tests)
+
+-- an end that is over has closed down and written all
+pub is_over : (e : End) (came went : List ℕ) (k : Kept) (past : List Act) → is_ended k ≡ true → KeptFits e came went k past → IsOver went past
+is_over e came went k past ended fits =
+    let first = both_true k.core.closed ((length k.out == 0) && (length k.core.station.queue == 0)) ended in
+    let third = both_true (length k.out == 0) (length k.core.station.queue == 0) first.1 in
+    let core = fits.core_fits in
+    record {
+      closed = core.closed_is ∙ first.0;
+      written = sym (append-nil went)
+          ∙ ap (λ x. went ++ x) (sym (none_written k.out third.0))
+          ∙ fits.went_is
+          ∙ ap (flat_map spelling.spelled) (sym (append-nil fits.wired.gone) ∙ ap (λ q. fits.wired.gone ++ q) (sym (none_queued k.core.station.queue third.1)) ∙ sym core.gone_are);
+    }

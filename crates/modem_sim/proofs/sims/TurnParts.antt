@@ -1,0 +1,116 @@
+-- What the parts of a turn do, or why they do nothing.
+use Rattle.std.specs.Prelude.{◌≡◌, ◌≢◌, ℕ, ◌<◌, ◌≤◌, nat_lt, ◌==◌, Bool, true, false, List, [], ◌∷◌, ◌++◌, length, take, drop, Option, Some, None, option_map, refl}
+use Rattle.std.proofs.Common.{arith, sym, ap, ◌∙◌, append-nil, length-take}
+use Rattle.std.proofs.lemmas.Bool.Decides.{nat_tests}
+use Rattle.std.proofs.lemmas.List.{nil_from_length}
+use Rattle.serial_line.specs.Counts.{one_more}
+use Rattle.mux_frame.specs.Frames.{Frame}
+use Rattle.mux_frame.specs.Deframing.{Deframing, TakesIn}
+use Rattle.modem_sim.specs.Sims.{Kept}
+use Rattle.mux_station.specs.Giving.{next_given}
+use Rattle.mux_station.specs.GivenFrames.{with_freshness}
+use Rattle.modem_sim.specs.Cores.{Core, IsHandedOn, gone_on}
+use Rattle.modem_sim.specs.Stills.{FeedsNone, LoadsNone, ReadsOnce, Writes}
+use Rattle.modem_sim.proofs.sims.SimPasts.{fed_fits, fetched_nothing, none_mapped}
+
+pub none_of : {A : Type 0} (xs : List A) → (length xs == 0) ≡ true → xs ≡ []
+none_of xs is = let zero : length xs ≡ 0 = grind (arith, nat_tests) in nil_from_length xs zero
+
+some_of : {A : Type 0} (xs : List A) → (length xs == 0) ≡ false → xs ≢ []
+some_of [] is = cc
+some_of (x ∷ xs) is = λ none. cc
+
+is_zero : (n : ℕ) → nat_lt 0 n ≡ false → n ≡ 0
+is_zero n is = grind (arith, nat_tests)
+
+-- ## Feeding
+
+pub feeds_nothing : (k : Kept) → (length k.unfed == 0) ≡ true → FeedsNone k k
+feeds_nothing k empty = record {
+  stays = λ e came went past fits. fits;
+  same_unfed = refl;
+  same_next = refl;
+  none = λ none. none_of k.unfed empty;
+}
+
+pub feeds_none : (old : Kept) (d : Deframing) (n : ℕ) → TakesIn old.deframer (take n old.unfed) d → d.n1 ≡ old.deframer.n1 → (old.deframer.next ≡ None → 0 < length old.unfed → 0 < n) → ((f : Frame) → old.deframer.next ≡ Some f → d.next ≡ Some f) → nat_lt 0 n ≡ false → (length old.unfed == 0) ≡ false → FeedsNone old (record old { unfed = drop n old.unfed; deframer = d })
+feeds_none old d n takes same some stays none waiting =
+    let zero = is_zero n none in
+    record {
+      stays = fed_fits old d n takes same;
+      same_unfed = ap (λ m. drop m old.unfed) zero;
+      same_next = by_next old.deframer.next refl;
+      none = λ without. all_fed without (length old.unfed == 0) refl;
+    }
+  where
+    all_fed : old.deframer.next ≡ None → (empty : Bool) → (length old.unfed == 0) ≡ empty → old.unfed ≡ []
+    all_fed without true is = none_of old.unfed is
+    all_fed without false is = let there : 0 < length old.unfed = grind (arith, nat_tests) in let fed = some without there in let zero = is_zero n none in absurd (omega (arith, fed, zero))
+
+    by_next : (o : Option Frame) → old.deframer.next ≡ o → d.next ≡ old.deframer.next
+    by_next (Some f) is = stays f is ∙ sym is
+    by_next None is = let there : 0 < length old.unfed = grind (arith, nat_tests) in let fed = some is there in let zero = is_zero n none in absurd (omega (arith, fed, zero))
+
+-- ## Loading
+
+some_length : (xs : List ℕ) → xs ≢ [] → 0 < length xs
+some_length [] some = absurd (some refl)
+some_length (x ∷ xs) some = omega arith
+
+pub more_ready : (before now : List ℕ) → before ≡ [] → now ≢ [] → length before < length now
+more_ready before now none some = let zero = ap length none in let long = some_length now some in omega (arith, zero, long)
+
+pub loads_nothing : (old : Kept) (mid core : Core) (fresh : Bool) → mid ≡ old.core → None ≡ option_map (with_freshness fresh) (next_given mid.station mid.station.queue) → core ≡ gone_on mid → ((d : ℕ) → d < 62 → IsHandedOn old.core d) → LoadsNone old (record old { core = core })
+loads_nothing old mid core fresh same none is handed = record {
+  same = ap (λ (c : Core). record old { core = c }) (fetched_nothing old.core mid core fresh same none is);
+  none = λ _. record {
+    handed = handed;
+    none_next = ap (λ (c : Core). next_given c.station c.station.queue) (sym same) ∙ none_mapped (with_freshness fresh) (next_given mid.station mid.station.queue) none;
+  };
+}
+
+-- ## The line
+
+pub writes_nothing : (k : Kept) (sent : List ℕ) (calls : ℕ) → (length k.out == 0) ≡ true → Writes sent sent calls calls k k 0
+writes_nothing k sent calls empty = record {
+  write = None;
+  offers = none_of k.out empty;
+  went = sym (append-nil sent);
+  calls_are = refl;
+  count_is = refl;
+  kept = refl;
+  none = λ some zero. absurd (some (none_of k.out empty));
+}
+
+pub writes_some : (old new : Kept) (before sent : List ℕ) (calls_before calls n : ℕ) → (length old.out == 0) ≡ false → n ≤ length old.out → sent ≡ before ++ take n old.out → calls ≡ one_more calls_before → new ≡ record old { out = drop n old.out } → Writes before sent calls_before calls old new n
+writes_some old new before sent calls_before calls n some bound went counted is = record {
+  write = Some (record { offered = old.out; count = n });
+  offers = record { some = some_of old.out some; bound = bound; first = record { rest = []; joins = append-nil old.out } };
+  went = went;
+  calls_are = counted;
+  count_is = let long = length-take n old.out in omega (arith, long, bound);
+  kept = is;
+  none = λ there zero. ap (λ m. Some (record { offered = old.out; count = m })) zero;
+}
+
+pub reads_nothing : (k : Kept) (received : List ℕ) (calls : ℕ) → (length k.unfed == 0) ≡ false → ReadsOnce received received calls calls k k false
+reads_nothing k received calls some = record {
+  read = None;
+  room = tt;
+  came_are = sym (append-nil received);
+  calls_are = refl;
+  says = refl;
+  kept = ap (λ xs. record k { unfed = xs }) (sym (append-nil k.unfed));
+  none = λ empty none. absurd (some_of k.unfed some empty);
+}
+
+pub reads_some : (old new : Kept) (before received octets : List ℕ) (calls_before calls n : ℕ) → (length old.unfed == 0) ≡ true → n ≤ 512 → n ≡ length octets → received ≡ before ++ octets → calls ≡ one_more calls_before → new ≡ record old { unfed = octets } → ReadsOnce before received calls_before calls old new (nat_lt 0 n)
+reads_some old new before received octets calls_before calls n empty bound count came counted is = record {
+  read = Some (record { room = 512; octets = octets });
+  room = record { some = omega arith; bound = omega (arith, bound, count) };
+  came_are = came;
+  calls_are = counted;
+  says = ap (nat_lt 0) count;
+  kept = is ∙ ap (λ xs. record old { unfed = xs ++ octets }) (sym (none_of old.unfed empty));
+  none = λ _ none. let zero = is_zero n none in ap (λ xs. Some (record { room = 512; octets = xs })) (nil_from_length octets (sym count ∙ zero));
+}

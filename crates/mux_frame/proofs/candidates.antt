@@ -1,0 +1,3 @@
+-- Candidates for a frame: header and verdict.
+pub mod Headers
+pub mod Verdicts

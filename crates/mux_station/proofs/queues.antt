@@ -1,0 +1,3 @@
+-- The control queue and the send rings, and room in them.
+pub mod ControlQueues
+pub mod QueueRoom
