@@ -1,11 +1,7 @@
-//! The tests of the driver, of the simulated modem, and of both on one line.
+//! The tests of the driver and of the program that stored runs can't show.
 #![tactic(auto)]
 
 #[cfg(test)]
 mod driver;
-#[cfg(test)]
-mod modem;
-#[cfg(test)]
-mod pairs;
 #[cfg(test)]
 mod program;

@@ -1,7 +1,7 @@
 //! The calls that take no memory, and what the calls of a command take, each between two marks on standard output, by
 //! which a counter of allocations knows them.
-use super::rig::{PLAIN, Rig};
 use at_text::{CommandLine, UrcKind};
+use modem_desk::Desk;
 use modem_driver::*;
 use mux_frame::{Dlci, FrameView, Kind};
 use mux_station::ChannelState;
@@ -13,22 +13,22 @@ use std::sync::Wait;
 use std::test::Fail;
 
 // The calls of this name begin.
-pub(super) fn begin(rt: &impl Print, call: &str) {
+fn begin(rt: &impl Print, call: &str) {
     let _ = rt.println(format_args!("> {call}"));
 }
 
 // They have ended.
-pub(super) fn end(rt: &impl Print) {
+fn end(rt: &impl Print) {
     let _ = rt.println("<");
 }
 
-pub(super) fn dlci(number: u8) -> Result<Dlci, Fail> {
+fn dlci(number: u8) -> Result<Dlci, Fail> {
     let dlci = Dlci::new(number).ok_or("no such DLCI")?;
     Ok(dlci)
 }
 
 // A request is taken: how many acts come of it.
-pub(super) fn takes(core: &mut Core, number: u64, ask: Ask) -> Result<usize, Fail> {
+fn takes(core: &mut Core, number: u64, ask: Ask) -> Result<usize, Fail> {
     let request = Request {
         caller: 0,
         number,
@@ -60,7 +60,7 @@ fn comes(core: &mut Core, number: u8, kind: Kind, info: &[u8]) -> Result<usize, 
 }
 
 // All that waits goes out: how many frames.
-pub(super) fn all_goes_out(core: &mut Core) -> u32 {
+fn all_goes_out(core: &mut Core) -> u32 {
     for count in 0..600 {
         if core.outgoing().is_none() {
             return count;
@@ -70,7 +70,7 @@ pub(super) fn all_goes_out(core: &mut Core) -> u32 {
 }
 
 // A core that listens to RING, with 0 and 1 open, whose first command has its answer.
-pub(super) fn warmed_up(rt: &impl Abort, alloc: Global) -> Result<Core, Fail> {
+fn warmed_up(rt: &impl Abort, alloc: Global) -> Result<Core, Fail> {
     let mut core = Core::new(alloc, 31, &[UrcKind::Ring])?;
     for number in 0..2 {
         takes(&mut core, 1, Ask::OpenChannel(dlci(number)?))?;
@@ -87,7 +87,11 @@ pub(super) fn warmed_up(rt: &impl Abort, alloc: Global) -> Result<Core, Fail> {
 
 // A session's line is lent, and the session ends, between marks.
 fn ends_a_session<R: Wait + Print + Drop + Copy>(rt: R, alloc: Global) -> Result<(), Fail> {
-    let Rig { mut session, .. } = Rig::new(rt, alloc, PLAIN)?;
+    let line = CutLine::new(alloc, b"", &[], &[], 64)?;
+    let (driver, _callers, _listeners) = Desk::open(alloc, 1, &[])?;
+    let Ok(mut session) = Session::new(rt, alloc, line, driver, 31) else {
+        return Err("no memory".into());
+    };
     begin(&rt, "Session::line_mut");
     let put = session.line_mut().put(b"\xF9");
     end(&rt);

@@ -1,0 +1,58 @@
+//! Plays scripts for tests, line by line, and prints what comes of each: a session on a line in memory, a simulated modem at its
+//! end of one, both on one line in one thread, a modem's answers, or the entry into the multiplexer.
+//!
+//! The first lines say what the line and its ends are (see `Setup`), and end with one that says what is played: `session`, `sim`,
+//! `pair`, `modem` or `enter CALLS`. A line that isn't read as one of these ends it with `bad line N` and status 2.
+#![tactic(auto)]
+
+mod modems;
+mod near;
+mod pairs;
+mod sessions;
+mod setup;
+mod sims;
+mod words;
+
+use modem_runs::{Stop, give_up};
+use setup::Setup;
+use std::process::ExitCode;
+use words::{BAD, Host, Lines, number, split};
+
+fn play<R: Host>(lines: &mut Lines<R>, setup: Setup, what: &str) -> Result<(), Stop> {
+    match split(what) {
+        ("session", "") => sessions::play(lines, &setup),
+        ("enter", calls) => sessions::enter_line(lines, &setup, number(calls)?),
+        ("sim", "") => sims::play(lines, setup),
+        ("pair", "") => pairs::play(lines, setup),
+        ("modem", "") => modems::play(lines, &setup),
+        _ => Err(BAD),
+    }
+}
+
+/// Takes the first lines, and gives the one that says what is played.
+fn set_up<R: Host>(lines: &mut Lines<R>, setup: &mut Setup) -> Result<String, Stop> {
+    let rt = lines.rt;
+    for _ in rt.forever() {
+        let Some(line) = lines.next_line()? else {
+            return Err(BAD);
+        };
+        if !setup.take(line.as_str())? {
+            return Ok(line);
+        }
+    }
+    unreachable!()
+}
+
+fn run<R: Host>(lines: &mut Lines<R>) -> Result<(), Stop> {
+    let mut setup = Setup::new(lines.rt.alloc());
+    let what = set_up(lines, &mut setup)?;
+    play(lines, setup, what.as_str())
+}
+
+fn main(rt: HostRuntime) -> ExitCode {
+    let mut lines = Lines::new(rt);
+    match run(&mut lines) {
+        Ok(()) => ExitCode::SUCCESS,
+        Err(stop) => ExitCode::from(give_up(&mut rt.stderr(), lines.placed(stop))),
+    }
+}

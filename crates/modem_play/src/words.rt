@@ -1,0 +1,174 @@
+//! The lines of a script, and its words.
+use at_text::UrcKind;
+use modem_driver::Event;
+use modem_runs::{Stop, read_script};
+use mux_frame::Dlci;
+use serial_line::Cut;
+use std::alloc::{AllocError, AllocGlobal, Global};
+use std::io::{Input, Print};
+use std::random::RandomSource;
+use std::str::FromStr;
+use std::sync::Wait;
+
+/// What a player asks of the runtime.
+pub trait Host: Wait + Input + Print + AllocGlobal + RandomSource + Copy + Drop {}
+
+impl<R: Wait + Input + Print + AllocGlobal + RandomSource + Copy + Drop> Host for R {}
+
+/// The line that was read last is bad. Each is read by itself, where it is the first one; `Lines::placed` says which it is.
+pub const BAD: Stop = Stop::BadLine(1);
+
+/// The lines on standard input, and how many were read.
+#[derive(Drop)]
+pub struct Lines<R: Host> {
+    pub rt: R,
+    place: u64,
+}
+
+impl<R: Host> Lines<R> {
+    pub fn new(rt: R) -> Lines<R> {
+        Lines { rt, place: 0 }
+    }
+
+    /// The next line without its end; nothing where the input ends.
+    pub fn next_line(&mut self) -> Result<Option<String>, Stop> {
+        let mut line = String::new(self.rt.alloc());
+        match self.rt.read_line(&mut line) {
+            Ok(0) => return Ok(None),
+            Ok(_) => {}
+            Err(_) => return Err(Stop::Input),
+        }
+        if line.ends_with('\n') {
+            line.pop();
+        }
+        self.place = self.place.saturating_add(1);
+        Ok(Some(line))
+    }
+
+    /// Why the run ends, where the line that was read last may be bad.
+    pub fn placed(&self, stop: Stop) -> Stop {
+        match stop {
+            Stop::BadLine(_) => Stop::BadLine(self.place),
+            other => other,
+        }
+    }
+}
+
+/// What plays the lines of a script.
+pub trait Player {
+    /// Takes a line, and says whether it is the last one.
+    fn go(&mut self, line: &str) -> Result<bool, Stop>;
+}
+
+/// Plays the lines that follow, and says whether one was the last one.
+pub fn play_all<R: Host, P: Player>(lines: &mut Lines<R>, player: &mut P) -> Result<bool, Stop> {
+    let rt = lines.rt;
+    for _ in rt.forever() {
+        let Some(line) = lines.next_line()? else {
+            return Ok(false);
+        };
+        if player.go(line.as_str())? {
+            return Ok(true);
+        }
+    }
+    unreachable!()
+}
+
+/// The first word, and what follows it.
+pub fn split(line: &str) -> (&str, &str) {
+    match line.split_once(' ') {
+        Some(parts) => parts,
+        None => (line, ""),
+    }
+}
+
+/// A number of this type.
+pub fn number<T: FromStr>(word: &str) -> Result<T, Stop>
+where
+    T::Err: Drop,
+{
+    match word.parse::<T>() {
+        Ok(number) => Ok(number),
+        Err(_) => Err(BAD),
+    }
+}
+
+pub fn dlci(word: &str) -> Result<Dlci, Stop> {
+    match Dlci::new(number(word)?) {
+        Some(dlci) => Ok(dlci),
+        None => Err(BAD),
+    }
+}
+
+pub fn kind(word: &str) -> Result<UrcKind, Stop> {
+    match word {
+        "RING" => Ok(UrcKind::Ring),
+        "CRING" => Ok(UrcKind::Cring),
+        "CREG" => Ok(UrcKind::Creg),
+        "CGREG" => Ok(UrcKind::Cgreg),
+        "CGEV" => Ok(UrcKind::Cgev),
+        "CIEV" => Ok(UrcKind::Ciev),
+        "OTHER" => Ok(UrcKind::Other),
+        _ => Err(BAD),
+    }
+}
+
+fn push_times(cuts: &mut Vec<Cut>, cut: Cut, times: u32) -> Result<(), AllocError> {
+    for _ in 0..times {
+        cuts.push(cut)?;
+    }
+    Ok(())
+}
+
+fn cut(word: &str) -> Result<Cut, Stop> {
+    if word == "fault" {
+        return Ok(Cut::Fault);
+    }
+    Ok(Cut::Upto(number(word)?))
+}
+
+/// Cuts of a line: so many octets, or `fault`, each once or, as `7x100`, so often.
+pub fn push_cuts(cuts: &mut Vec<Cut>, words: &str) -> Result<(), Stop> {
+    for word in words.split(' ') {
+        match word.split_once('x') {
+            Some((each, times)) => push_times(cuts, cut(each)?, number(times)?)?,
+            None => cuts.push(cut(word)?)?,
+        }
+    }
+    Ok(())
+}
+
+/// A line as `modemctl replay` reads it.
+pub fn event(alloc: Global, line: &str) -> Result<Event, Stop> {
+    let mut events = read_script(alloc, line.as_bytes())?;
+    match events.pop() {
+        Some(event) => Ok(event),
+        None => Err(BAD),
+    }
+}
+
+/// The octets of a line `in HEX`.
+pub fn octets(alloc: Global, line: &str) -> Result<Vec<u8>, Stop> {
+    match event(alloc, line)? {
+        Event::Octets(octets) => Ok(octets.into_vec()),
+        _ => Err(BAD),
+    }
+}
+
+/// Octets are printed as pairs of hexadecimal digits, or as `-` where there is none.
+pub fn print_octets<R: Host>(rt: &R, octets: &[u8]) -> Result<(), Stop> {
+    if octets.is_empty() {
+        let _ = rt.println("-");
+        return Ok(());
+    }
+    let text = hex::encode(rt.alloc(), octets)?;
+    let _ = rt.println(text.as_str());
+    Ok(())
+}
+
+/// A mark, by which a program that counts or refuses memory knows where the calls of this name begin, or `<` where they end.
+pub fn mark<R: Host>(rt: &R, marks: bool, text: &str) {
+    if marks {
+        let _ = rt.println(text);
+    }
+}

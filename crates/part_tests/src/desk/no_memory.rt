@@ -1,0 +1,81 @@
+//! The calls that take no memory, each between two marks on standard output, by which a counter of
+//! allocations knows them.
+use at_text::{Text, UrcKind};
+use modem_desk::*;
+use mux_frame::Dlci;
+use std::io::Print;
+use std::process::Abort;
+use std::test::Fail;
+
+// The calls of this name begin.
+fn begin(rt: &impl Print, call: &str) {
+    let _ = rt.println(format_args!("> {call}"));
+}
+
+// They have ended.
+fn end(rt: &impl Print) {
+    let _ = rt.println("<");
+}
+
+// Outcomes are told until they find no room.
+fn tell_all(rt: &impl Abort, driver: &mut DriverEnd) -> usize {
+    let mut told = 0usize;
+    for number in 1..=20 {
+        assert!(rt; driver.callers() > 0);
+        let outcome = Outcome {
+            caller: 0,
+            number,
+            answer: Answer::Stopped,
+        };
+        if driver.tell(outcome).is_ok() {
+            told = told.saturating_add(1);
+        }
+    }
+    told
+}
+
+// The line is announced, or comes back.
+fn announce(rt: &impl Abort, driver: &mut DriverEnd, line: Urc) -> Option<Urc> {
+    assert!(rt; driver.listens(line.kind));
+    driver.announce(line).err()
+}
+
+#[test]
+fn calls_that_take_no_memory(rt: HostRuntime) -> Result<(), Fail> {
+    let alloc = rt.alloc();
+    let (mut driver, mut callers, mut listeners) = Desk::open(alloc, 2, &[UrcKind::Ring])?;
+    let line = Urc {
+        kind: UrcKind::Ring,
+        dlci: Dlci::new(1).ok_or("no such DLCI")?,
+        line: Text::from(b"RING".to_vec(alloc)?),
+    };
+    assert_eq!(&rt; callers.len(), 2);
+    assert_eq!(&rt; listeners.len(), 1);
+    begin(&rt, "Caller::submit");
+    for _ in 0..20 {
+        let _ = callers[0].submit(&rt, Ask::Stop);
+    }
+    end(&rt);
+    begin(&rt, "DriverEnd::next");
+    for _ in 0..20 {
+        let _ = driver.next(&rt);
+    }
+    end(&rt);
+    begin(&rt, "DriverEnd::tell, DriverEnd::callers");
+    assert_eq!(&rt; tell_all(&rt, &mut driver), 8);
+    end(&rt);
+    begin(&rt, "Caller::take");
+    assert!(&rt; callers[0].take().is_some());
+    assert!(&rt; callers[1].take().is_none());
+    end(&rt);
+    begin(&rt, "DriverEnd::announce, DriverEnd::listens");
+    assert!(&rt; announce(&rt, &mut driver, line).is_none());
+    end(&rt);
+    begin(&rt, "Listener::take, Listener::kind");
+    assert_eq!(&rt; listeners[0].kind(), UrcKind::Ring);
+    let heard = listeners[0].take();
+    let more = listeners[0].take();
+    end(&rt);
+    assert!(&rt; heard.is_some() && more.is_none());
+    Ok(())
+}

@@ -1,0 +1,56 @@
+//! The calls that take no memory, each between two marks on standard output, by which a counter of
+//! allocations knows them.
+use crate::frames::{ROWS, frame_of};
+use mux_frame::*;
+use std::io::Print;
+use std::process::Abort;
+use std::test::Fail;
+
+// The calls of this name begin.
+fn begin(rt: &impl Print, call: &str) {
+    let _ = rt.println(format_args!("> {call}"));
+}
+
+// They have ended.
+fn end(rt: &impl Print) {
+    let _ = rt.println("<");
+}
+
+// Feeds the octets in pieces, and passes over each frame that stands there then.
+fn read_pieces(rt: &impl Abort, deframer: &mut Deframer, octets: &[u8], size: usize) {
+    assert!(rt; size > 0);
+    for piece in octets.chunks(size) {
+        deframer.feed(piece);
+        if let Some(_frame) = deframer.peek() {
+            deframer.advance();
+        }
+    }
+}
+
+#[test]
+fn calls_that_take_no_memory(rt: HostRuntime) -> Result<(), Fail> {
+    let alloc = rt.alloc();
+    let mut octets = Vec::new(alloc);
+    for _ in 0..20 {
+        for row in &ROWS {
+            write_frame(frame_of(row)?, 31, &mut octets)?;
+        }
+    }
+    let mut deframer = Deframer::new(alloc, 31)?;
+    begin(&rt, "Deframer::feed, Deframer::peek, Deframer::advance");
+    for size in [1, 7, 64] {
+        read_pieces(&rt, &mut deframer, octets.as_slice(), size);
+    }
+    end(&rt);
+    begin(&rt, "check_octet, Dlci::new, Dlci::number");
+    assert_eq!(&rt; check_octet(&[0x03, 0x3F, 0x01]), 0x1C);
+    assert_eq!(&rt; Dlci::new(61).map(Dlci::number), Some(61));
+    assert!(&rt; Dlci::new(62).is_none());
+    end(&rt);
+    begin(&rt, "ProbeData::new, ProbeData::octets");
+    let probe = ProbeData::new(&[0x41; 16]);
+    assert_eq!(&rt; probe.as_ref().map(|data| data.octets().len()), Some(16));
+    assert!(&rt; ProbeData::new(&[0x41; 17]).is_none());
+    end(&rt);
+    Ok(())
+}

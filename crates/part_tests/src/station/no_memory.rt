@@ -1,0 +1,121 @@
+//! The calls that take no memory, each between two marks on standard output, by which a counter of
+//! allocations knows them.
+use crate::station::{dlci, open};
+use mux_frame::{Dlci, FrameView, Kind};
+use mux_station::*;
+use std::io::Print;
+use std::process::Abort;
+use std::test::Fail;
+
+// The calls of this name begin.
+fn begin(rt: &impl Print, call: &str) {
+    let _ = rt.println(format_args!("> {call}"));
+}
+
+// They have ended.
+fn end(rt: &impl Print) {
+    let _ = rt.println("<");
+}
+
+// A frame of the other end comes.
+fn comes(station: &mut Station, number: u8, kind: Kind, info: &[u8]) -> Result<Noted, Fail> {
+    let most = match kind {
+        Kind::Uih => station.n1(),
+        _ => 0,
+    };
+    if info.len() > usize::from(most) {
+        return Err("too long".into());
+    }
+    let noted = station.got(FrameView {
+        dlci: dlci(number)?,
+        kind,
+        cr: true,
+        pf: true,
+        info,
+    })?;
+    Ok(noted)
+}
+
+// All that waits is given on.
+fn give_all(station: &mut Station) {
+    for _ in 0..600 {
+        if station.next_frame().is_none() {
+            return;
+        }
+    }
+}
+
+// The octets are offered until they find no room.
+fn offer_all(rt: &impl Abort, station: &mut Station, octets: &[u8]) -> Result<(), Fail> {
+    let one = dlci(1)?;
+    for _ in 0..200 {
+        if let Err(why) = station.offer(one, octets) {
+            assert_eq!(rt; why, StationError::NoRoom);
+            return Ok(());
+        }
+    }
+    Err("there is room for ever".into())
+}
+
+// The same of a message for the control channel.
+fn flow_all(rt: &impl Abort, station: &mut Station) -> Result<(), Fail> {
+    let one = dlci(1)?;
+    for _ in 0..2000 {
+        if let Err(why) = station.flow(one, true) {
+            assert_eq!(rt; why, StationError::NoRoom);
+            return Ok(());
+        }
+    }
+    Err("there is room for ever".into())
+}
+
+#[test]
+fn calls_that_take_no_memory(rt: HostRuntime) -> Result<(), Fail> {
+    let one = dlci(1)?;
+    let mut station = Station::new(rt.alloc(), Role::Initiator, 31)?;
+    begin(&rt, "Station::open, Station::next_frame, Station::got");
+    for number in 0..3 {
+        open(&mut station, number)?;
+        give_all(&mut station);
+        assert_eq!(&rt; comes(&mut station, number, Kind::Ua, &[])?, Noted::Opened);
+    }
+    comes(&mut station, 1, Kind::Uih, b"OK")?;
+    comes(&mut station, 0, Kind::Uih, b"\xE3\x05\x07\x0D")?;
+    comes(&mut station, 0, Kind::Uih, b"\x23\x05\x41\x42")?;
+    comes(&mut station, 5, Kind::Sabm, &[])?;
+    give_all(&mut station);
+    end(&rt);
+    begin(&rt, "Station::offer");
+    offer_all(&rt, &mut station, b"AT+CSQ\r")?;
+    end(&rt);
+    begin(&rt, "Station::role, Station::state, Station::stopped");
+    assert_eq!(&rt; station.role(), Role::Initiator);
+    assert_eq!(&rt; station.state(one), ChannelState::Opened);
+    assert!(&rt; !station.stopped(one));
+    end(&rt);
+    begin(
+        &rt,
+        "Station::next_sender, Station::waiting, Station::queue_len",
+    );
+    assert_eq!(&rt; station.next_sender().map(Dlci::number), Some(1));
+    assert!(&rt; station.waiting(one) > 1000);
+    assert_eq!(&rt; station.queue_len(), 0);
+    end(&rt);
+    begin(&rt, "Station::probe, Station::tick");
+    station.probe(&[0x41; 16])?;
+    for _ in 0..5 {
+        station.tick();
+    }
+    end(&rt);
+    begin(&rt, "Station::flow, Station::queued");
+    flow_all(&rt, &mut station)?;
+    assert!(&rt; station.queued(100).is_some());
+    end(&rt);
+    give_all(&mut station);
+    begin(&rt, "Station::close, Station::stop");
+    station.close(one)?;
+    station.stop()?;
+    end(&rt);
+    give_all(&mut station);
+    Ok(())
+}

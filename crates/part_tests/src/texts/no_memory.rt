@@ -1,0 +1,65 @@
+//! The calls that take no memory, each between two marks on standard output, by which a counter of
+//! allocations knows them.
+use at_text::*;
+use std::io::Print;
+use std::test::Fail;
+
+// The calls of this name begin.
+fn begin(rt: &impl Print, call: &str) {
+    let _ = rt.println(format_args!("> {call}"));
+}
+
+// They have ended.
+fn end(rt: &impl Print) {
+    let _ = rt.println("<");
+}
+
+// How many lines these octets end.
+fn push_all(reader: &mut LineReader, octets: &[u8]) -> usize {
+    let mut lines = 0usize;
+    for octet in octets {
+        if reader.push(*octet).is_some() {
+            lines = lines.saturating_add(1);
+        }
+    }
+    lines
+}
+
+#[test]
+fn calls_that_take_no_memory(rt: HostRuntime) -> Result<(), Fail> {
+    let alloc = rt.alloc();
+    let long = vec![in alloc; b'x'; 1000]?;
+    let line = CommandLine::new(alloc, b"AT+CSQ")?;
+    begin(
+        &rt,
+        "LineReader::new, LineReader::push, LineReader::reset, LineReader::copy",
+    );
+    let mut reader = LineReader::new();
+    assert_eq!(&rt; push_all(&mut reader, long.as_slice()), 0);
+    let mut copy = reader.copy();
+    reader.reset();
+    assert_eq!(&rt; push_all(&mut reader, b"\rOK\r\nRING\r\n"), 2);
+    assert_eq!(&rt; push_all(&mut copy, b"\n"), 1);
+    end(&rt);
+    begin(&rt, "final_of, unsolicited_of");
+    assert_eq!(&rt; final_of(b"+CME ERROR: 11"), Some(Final::Cme(Some(11))));
+    assert_eq!(&rt; final_of(long.as_slice()), None);
+    assert_eq!(&rt;
+        unsolicited_of(b"+CREG: 1,\"00A1\",\"1\""),
+        Some(UrcKind::Creg)
+    );
+    assert_eq!(&rt; unsolicited_of(long.as_slice()), None);
+    end(&rt);
+    begin(
+        &rt,
+        "Window::new, Window::begin, Window::fork, Window::drop_command, Window::idle, CommandLine::text",
+    );
+    let mut window = Window::new(alloc);
+    window.begin(&line);
+    assert!(&rt; !window.fork().idle());
+    window.drop_command();
+    assert!(&rt; window.idle());
+    assert_eq!(&rt; line.text(), b"AT+CSQ".as_slice());
+    end(&rt);
+    Ok(())
+}
