@@ -76,6 +76,17 @@ impl AnswerLines {
         Ok(())
     }
 
+    /// No lines, in the memory that these had, which are gone.
+    pub(crate) fn take_room(&mut self) -> AnswerLines
+        ensures none { result ≡ [] }
+        ensures gone { self.new ≡ [] }
+    {
+        let alloc = *self.lines.allocator();
+        let mut lines = mem::replace(&mut self.lines, Vec::new(alloc));
+        lines.clear();
+        AnswerLines { lines }
+    }
+
     /// The same lines once more.
     pub fn copy(&self) -> Result<AnswerLines, AllocError>
         ensures { IfOk result (λ copy. copy ≡ self.now) }

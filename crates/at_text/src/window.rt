@@ -13,6 +13,7 @@ use crate::unsolicited::{UrcKind, unsolicited_of};
 use arrayvec::ArrayVec;
 use std::alloc::{AllocError, Global};
 use std::marker::Model;
+use std::mem;
 
 /// What a line is, where its end stands.
 #[derive(Drop, Debug, PartialEq, Eq)]
@@ -76,14 +77,14 @@ impl Open {
         Ok(())
     }
 
-    fn fork(&self, alloc: Global) -> Open
-        ensures { result ≡ record self.now { lines = [] } }
+    fn fork(&self, lines: AnswerLines) -> Open
+        ensures { result ≡ record self.now { lines = lines } }
     {
         let mut command = ArrayVec::new();
         let _ = command.try_extend_from_slice(self.command.as_slice());
         Open {
             command,
-            lines: AnswerLines::from(Vec::new(alloc)),
+            lines,
             fresh: self.fresh,
         }
     }
@@ -103,9 +104,11 @@ impl Open {
 }
 
 /// Tells which lines answer the command under way. Contracts see that command, if there is one.
+/// The lines of a fork have their list in the memory of an earlier fork's.
 #[derive(Drop, Debug)]
 pub struct Window {
     open: Option<Open>,
+    room: AnswerLines,
     alloc: Global,
 }
 
@@ -125,7 +128,11 @@ impl Window {
         ensures none { result ≡ None }
         ensures past { FitsMarks result [] }
     {
-        Window { open: None, alloc }
+        Window {
+            open: None,
+            room: AnswerLines::from(Vec::new(alloc)),
+            alloc,
+        }
     }
 
     /// Whether no command is under way.
@@ -177,23 +184,34 @@ impl Window {
         };
         Ok(Window {
             open,
+            room: AnswerLines::from(Vec::new(self.alloc)),
             alloc: self.alloc,
         })
     }
 
     /// A window of the same command with none of its lines, on which lines can be seen and let go of again.
     /// `follow` puts the lines so far before its own, and `lead` before those of an answer that was whole on it.
-    pub fn fork(&self) -> Window
-        ensures { result ≡ forked self.now }
+    pub fn fork(&mut self) -> Window
+        ensures fork { result ≡ forked self.old }
+        ensures same { self.new ≡ self.old }
     {
         let open = match &self.open {
-            Some(open) => Some(open.fork(self.alloc)),
+            Some(open) => Some(open.fork(self.room.take_room())),
             None => None,
         };
         Window {
             open,
+            room: AnswerLines::from(Vec::new(self.alloc)),
             alloc: self.alloc,
         }
+    }
+
+    /// Keeps the memory for the lines of a fork that the window before kept, which this one stands for now.
+    pub fn take_room(&mut self, before: &mut Window)
+        ensures same { self.new ≡ self.old }
+        ensures before { before.new ≡ before.old }
+    {
+        mem::swap(&mut self.room, &mut before.room);
     }
 
     /// The lines so far come before these, and are gone from the window. 4 NoMemory leaves both as they were.
@@ -206,6 +224,7 @@ impl Window {
     {
         if let Some(open) = &mut self.open {
             open.lines.lead(lines)?;
+            self.room = open.lines.take_room();
         }
         Ok(())
     }

@@ -2,7 +2,7 @@
 use Rattle.std.specs.Prelude.{Bool, true, false, List, [], ◌∷◌, ◌++◌, Option, None, Some, if◌then◌else◌}
 use Rattle.at_text.specs.declared.answer.AnswerLine.{AnswerLine}
 use Rattle.at_text.specs.OpenWindow.{OpenWindow}
-use Rattle.at_text.specs.Forks.{lines_so_far, led_by}
+use Rattle.at_text.specs.Forks.{lines_so_far, forked, led_by}
 use Rattle.modem_desk.specs.declared.request.Answer.{Answer}
 use Rattle.modem_desk.specs.declared.request.Answer.TheVariants.{Done}
 use Rattle.modem_history.specs.Acts.{Act, Told}
@@ -38,6 +38,10 @@ led_first ls (a ∷ acts) = if tells_lines a then led ls a ∷ acts else a ∷ l
 abbrev pub joined_acts : List AnswerLine → Option OpenWindow → List Act → List Act
 joined_acts ls None acts = led_first ls acts
 joined_acts ls (Some o) acts = acts
+
+-- a lane whose window is a fork
+abbrev pub forked_lane : Lane → Lane
+forked_lane l = record l { window = forked l.window }
 
 -- the lane that was read on a fork of another, behind it
 abbrev pub joined : Lane → Lane → Lane

@@ -2,7 +2,7 @@
 ghost use Rattle.std.specs.Prelude.{◌≡◌, map, position, OnOk, OnErr};
 ghost use Rattle.modem_history.specs.Acts.{act_of};
 ghost use Rattle.at_text.specs.Forks.{lines_so_far};
-ghost use Rattle.modem_driver.specs.Forks.{tells_lines, led_answer, led, led_first, joined, joined_acts};
+ghost use Rattle.modem_driver.specs.Forks.{tells_lines, led_answer, led, led_first, forked_lane, joined, joined_acts};
 
 use crate::lane::Lane;
 use at_text::{TextError, Window};
@@ -61,6 +61,18 @@ fn lead_first(before: &mut Window, acts: &mut Vec<Act>) -> Result<(), TextError>
 }
 
 impl Lane {
+    /// The same, but that the lines of an answer so far aren't on it.
+    pub(crate) fn fork(&mut self) -> Lane
+        ensures fork { result ≡ forked_lane self.old }
+        ensures same { self.new ≡ self.old }
+    {
+        Lane {
+            reader: self.reader.copy(),
+            window: self.window.fork(),
+            held: self.held,
+        }
+    }
+
     /// Goes on as its fork, behind what came before. Want of memory leaves it as it was.
     pub(crate) fn join(&mut self, fork: Lane, acts: &mut Vec<Act>) -> Result<(), TextError>
         ensures lane { OnOk result (self.new ≡ joined self.old fork) }
@@ -75,6 +87,7 @@ impl Lane {
         } else {
             lane.window.follow(&mut self.window)?;
         }
+        lane.window.take_room(&mut self.window);
         *self = lane;
         Ok(())
     }

@@ -16,7 +16,7 @@ ghost use Rattle.modem_history.specs.Calls.{first_on};
 ghost use Rattle.modem_history.specs.Requests.{commands_on, without_first};
 ghost use Rattle.modem_driver.specs.Reports.{owner_of};
 ghost use Rattle.modem_driver.specs.Handing.{Offers, OffersLine, EndsCommand, EndedBy, ReadsApart};
-ghost use Rattle.modem_driver.specs.Forks.{joined, joined_acts};
+ghost use Rattle.modem_driver.specs.Forks.{forked_lane, joined, joined_acts};
 ghost use Rattle.at_text.specs.Forks.{lines_so_far};
 ghost use Rattle.modem_driver.specs.Receiving.{HasRoom, cut_to, sent_in, afresh_if, reads_data};
 ghost use Rattle.modem_driver.specs.Holding.{KeepsHeld};
@@ -180,11 +180,21 @@ impl Core {
         Ok(acts.into_vec())
     }
 
+    /// A fork of what is kept of a connection.
+    fn fork(&mut self, dlci: Dlci) -> Lane
+        ensures fork { result ≡ forked_lane (lane_at self.old dlci.number) }
+        ensures same { self.new ≡ self.old }
+    {
+        let lane = &mut self.lanes[usize::from(dlci.number())];
+        lane.fork()
+    }
+
     /// Reads the information of a frame on a fork of what is kept of its connection.
-    fn read(&self, frame: FrameView<'_>) -> Result<(Lane, Vec<Act>), CoreError>
+    fn read(&mut self, frame: FrameView<'_>) -> Result<(Lane, Vec<Act>), CoreError>
         ensures read { IfOk result (λ p.
-            ReadsApart self.now (frame_of frame.entry) p.0 (map act_of p.1.items)) }
-        ensures held { IfOk result (λ p. p.0.held ≡ (lane_at self.now (frame_of frame.entry).dlci).held) }
+            ReadsApart self.old (frame_of frame.entry) p.0 (map act_of p.1.items)) }
+        ensures held { IfOk result (λ p. p.0.held ≡ (lane_at self.old (frame_of frame.entry).dlci).held) }
+        ensures same { self.new ≡ self.old }
         ensures no_memory { OnErr result (result ≡ Err CoreError.NoMemory) }
     {
         let reading = Reading {
@@ -192,27 +202,17 @@ impl Core {
             dlci: frame.dlci,
             owner: first_owner(self.hand.as_slice(), frame.dlci),
         };
-        let lane = &self.lanes[usize::from(frame.dlci.number())];
-        let mut reader = lane.reader.copy();
-        let mut window = lane.window.fork();
+        let mut fork = self.fork(frame.dlci);
         let mut acts = vec![in self.alloc; Act::Got(frame.to_buf(self.alloc)?)]?;
         read_octets(
             reading,
             self.kinds.as_slice(),
             frame.info,
-            &mut reader,
-            &mut window,
+            &mut fork.reader,
+            &mut fork.window,
             &mut acts,
         )?;
-        let held = lane.held;
-        Ok((
-            Lane {
-                reader,
-                window,
-                held,
-            },
-            acts,
-        ))
+        Ok((fork, acts))
     }
 
     /// The command under way on the connection has its answer: it is in hand no more, and the next one

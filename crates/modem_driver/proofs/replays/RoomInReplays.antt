@@ -1,8 +1,8 @@
 -- A replay never meets want of room.
-use Rattle.std.specs.Prelude.{◌≡◌, ℕ, ◌+◌, ◌≤◌, ◌==◌, ◌&&◌, ◌||◌, not, nat_le, nat_lt, Bool, true, false, List, [], ◌∷◌, ◌++◌, length, drop, map, refl, Option, None, Some, filter_map, option_map, option_to_list, if◌then◌else◌}
-use Rattle.std.specs.List.{cons_option, flat_map, list_all, list_any, range_with_len}
+use Rattle.std.specs.Prelude.{◌≡◌, ℕ, ◌≤◌, ◌==◌, ◌&&◌, ◌||◌, not, nat_le, nat_lt, Bool, true, false, List, [], ◌∷◌, ◌++◌, length, drop, map, refl, Option, None, Some, filter_map, option_map, if◌then◌else◌}
+use Rattle.std.specs.List.{cons_option, list_all, list_any}
 use Rattle.std.specs.Str.{bytes_eq}
-use Rattle.std.proofs.Common.{ap, sym, ◌∙◌, subst, arith}
+use Rattle.std.proofs.Common.{ap, sym, ◌∙◌, arith}
 use Rattle.std.proofs.lemmas.Bool.{and_parts, ltb-false}
 use Rattle.std.proofs.lemmas.List.Folds.{list_any-append}
 use Rattle.mux_frame.specs.Frames.{Frame}
@@ -10,13 +10,11 @@ use Rattle.mux_frame.specs.Reading.{Reads, no_flag, fill, frame, cut_short, othe
 use Rattle.mux_frame.specs.Spelling.{most_info}
 use Rattle.mux_station.specs.declared.role.Role.TheVariants.{Initiator}
 use Rattle.mux_station.specs.States.{State, IsShut, IsOpening, IsOpened, IsClosing, IsStopping, is_opened, is_shut, is_stopping, state_of}
-use Rattle.mux_station.specs.Tables.{again, by_frame, by_tick, have_room, octets_of}
+use Rattle.mux_station.specs.Tables.{by_frame, by_tick, have_room, octets_of}
 use Rattle.mux_station.specs.Messages.{Message, command_of, message_in, nsc, test}
 use Rattle.mux_station.specs.Sending.{names_test, queue}
 use Rattle.mux_station.specs.Written.{is_data_frame}
-use Rattle.at_text.specs.declared.unsolicited.UrcKind.{UrcKind}
 use Rattle.at_text.specs.declared.unsolicited.UrcKind.TheVariants.{Other}
-use Rattle.at_text.specs.declared.answer.AnswerLine.{AnswerLine}
 use Rattle.at_text.specs.declared.window.Seen as line_is
 use Rattle.at_text.specs.declared.window.Seen.TheVariants.{Echo, Kept, Unsolicited}
 use Rattle.at_text.specs.Windows.{Mark, Line}
@@ -26,14 +24,14 @@ use Rattle.modem_desk.specs.declared.request.Ask.{Ask}
 use Rattle.modem_desk.specs.declared.request.Ask.TheVariants.{OpenChannel, CloseChannel, Command, Probe, Stop}
 use Rattle.modem_desk.specs.declared.request.Request.{Request}
 use Rattle.modem_desk.specs.declared.request.Answer.{Answer}
-use Rattle.modem_desk.specs.declared.request.Answer.TheVariants.{Opened, Shut, ProbeBack, Stopped, NotOpen, AlreadyOpen, Refused, NoAnswer, Closed, ControlChannel, LineLost, Busy}
+use Rattle.modem_desk.specs.declared.request.Answer.TheVariants.{Shut, ProbeBack, NotOpen, AlreadyOpen, Refused, NoAnswer, Closed, ControlChannel, LineLost, Busy}
 use Rattle.modem_history.specs.Acts.{Act, Took, Got, Sent, Told, Heard, Tick, Lost, Held, Freed, Given, after, told, wire}
-use Rattle.modem_history.specs.Calls.{Setting, HistoryView, all_have_room, asking, replaying, seen, frames, calls, refused_ask, at_once, cause, open_later, close_later, stop_ended, probe_answer, probe_later, later, told_later, tolds, by_seen, by_lines, lines_said, heard, done, first_on, said_of, said_at_once, states_now, probe_waits}
+use Rattle.modem_history.specs.Calls.{Setting, HistoryView, all_have_room, asking, replaying, seen, frames, calls, refused_ask, at_once, cause, open_later, close_later, stop_ended, probe_answer, probe_later, later, told_later, tolds, by_seen, by_lines, lines_said, first_on, said_of, said_at_once, states_now, probe_waits}
 use Rattle.modem_history.specs.Lawful.{Lawful, Complete, IsNext, When, Allows, owed}
 use Rattle.modem_history.specs.Wholes.{is_first, is_said}
 use Rattle.modem_driver.specs.declared.event.Event.{Event}
 use Rattle.modem_driver.specs.Replays.{Piece, first_of, after_call, with_piece, marks_for, IsPiece, ArePieces, BegunBy, ends, asks, hears, ticks, loses, Replays}
-use Rattle.modem_driver.specs.Room.{AllFits, BeginEmpty, EachBeginsEmpty, FindRoom, FindsRoom, FitsEmpty, NeverWantsRoom, is_busy_by, is_under_way, probe_size, says_busy, tells_busy}
+use Rattle.modem_driver.specs.Room.{AllFits, BeginEmpty, EachBeginsEmpty, FindRoom, FindsRoom, NeverWantsRoom, is_busy_by, is_under_way, probe_size, says_busy, tells_busy}
 use Rattle.modem_driver.specs.ReplayRows.{WantsRoom, busy_again, busy_at_first, full_queue, test_comes, while_opening}
 use Rattle.modem_driver.proofs.replays.EmptyQueues.{begin_empty, fits_empty}
 use Rattle.modem_driver.proofs.replays.FirstActs.{brought_first}

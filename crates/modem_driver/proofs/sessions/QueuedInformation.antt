@@ -2,19 +2,14 @@
 use Rattle.std.proofs.Common.{ap, sym, ◌∙◌}
 use Rattle.std.proofs.lemmas.Bool.{and_from, and_parts}
 use Rattle.std.proofs.lemmas.List.Folds.{list_all-append, list_all-map}
-use Rattle.std.specs.Prelude.{◌≡◌, ℕ, zero, suc, ◌+◌, ◌==◌, ◌&&◌, ◌||◌, not, Bool, true, false, List, [], ◌∷◌, ◌++◌, length, map, drop, refl, if◌then◌else◌, Option, Some, None, is_none}
+use Rattle.std.specs.Prelude.{◌≡◌, not, Bool, true, false, List, [], ◌∷◌, ◌++◌, map, drop, refl, if◌then◌else◌, is_none}
 use Rattle.std.specs.List.{list_all}
 use Rattle.mux_frame.specs.Frames.{Frame}
-use Rattle.mux_frame.specs.declared.frame.Kind.{Kind}
-use Rattle.mux_frame.specs.declared.frame.Kind.TheVariants.{Sabm, Ua, Dm, Disc, Uih}
 use Rattle.mux_station.specs.declared.role.Role.{Role}
-use Rattle.mux_station.specs.declared.role.Role.TheVariants.{Initiator, Responder}
-use Rattle.mux_station.specs.Written.{is_kind, is_on, written, is_data_frame}
-use Rattle.mux_station.specs.Messages.{Message, is_command, nsc, cld, brings_command, message_in, response_of}
+use Rattle.mux_station.specs.Written.{is_data_frame}
 use Rattle.mux_station.proofs.law_proofs.ControlFrames.{is_plain, plain_passes, all_both, all_if, all_more, all_of_frame, all_of_tick, all_of_flow}
 use Rattle.mux_station.specs.Sending.{queue}
-use Rattle.mux_station.specs.States.{State, IsShut, IsOpening, IsOpened, IsClosing, IsStopping, is_opened}
-use Rattle.mux_station.specs.Tables.{by_message, by_table, by_flow, response_to, is_supported, ua_or_dm, msc_after_opening, is_opening, ticked, if_room, again, has_room, octets_of, msc_frame, message_frame, ready, held_up}
+use Rattle.mux_station.specs.Tables.{ready, held_up}
 use Rattle.modem_desk.specs.declared.request.Ask.{Ask}
 use Rattle.modem_desk.specs.declared.request.Ask.TheVariants.{OpenChannel, CloseChannel, Command, Probe, Stop}
 use Rattle.modem_history.specs.Acts.{Act, Took, Got, Sent, Told, Heard, Tick, Lost, Held, Freed, Given, wire}

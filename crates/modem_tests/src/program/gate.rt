@@ -17,8 +17,15 @@ const TWO_TOLD: &str = "0 1 done\n| +CSQ: 18,99\n| OK\n1 1 done\n| +CGATT: 0\n| 
 // So many octets may be under way each way.
 const CUTS: [usize; 3] = [1, 7, 64];
 
-// Two callers on such a line come to TWO_TOLD.
-fn expect_two<R>(rt: &R, alloc: Global, cut: usize, script: Script)
+// What the bench comes to: its status, what it writes, and what it says beside it.
+type End<'a> = (u8, &'a [u8], &'a [u8]);
+
+const ALL_TOLD: End<'static> = (0, TWO_TOLD.as_bytes(), b"");
+
+const GAVE_UP: End<'static> = (1, b"", b"fault: gave up\n");
+
+// Two callers on such a line come to this.
+fn expect_two<R>(rt: &R, alloc: Global, cut: usize, script: Script, want: End<'_>)
 where
     R: Threads + Wait + RandomSource + AllocGlobal + Abort + Copy + Send + Drop + 'static,
 {
@@ -35,9 +42,7 @@ where
         cut,
         script,
     );
-    assert_eq!(rt; faults.len(), 0);
-    assert_eq!(rt; output.as_slice(), TWO_TOLD.as_bytes());
-    assert_eq!(rt; status, 0);
+    assert_eq!(rt; (status, output.as_slice(), faults.as_slice()), want);
 }
 
 #[test]
@@ -48,8 +53,22 @@ fn a_modem_may_echo(rt: HostRuntime) {
             echo: true,
             steps: Steps::from(Vec::new(alloc)),
         };
-        expect_two(&rt, alloc, cut, script);
+        expect_two(&rt, alloc, cut, script, ALL_TOLD);
     }
+}
+
+#[test]
+fn a_modem_that_ends_the_multiplexer_is_given_up(rt: HostRuntime) -> Result<(), Fail> {
+    let alloc = rt.alloc();
+    for cut in CUTS {
+        let act = StepAct::CloseDown;
+        let script = Script {
+            echo: false,
+            steps: Steps::from(vec![in alloc; Step { after: 0, act }]?),
+        };
+        expect_two(&rt, alloc, cut, script, GAVE_UP);
+    }
+    Ok(())
 }
 
 // Each answer is held back until a command has come on the other connection.
@@ -70,7 +89,7 @@ fn held_back(alloc: Global) -> Result<Script, Fail> {
 fn connections_and_callers_run_side_by_side(rt: HostRuntime) -> Result<(), Fail> {
     let alloc = rt.alloc();
     for cut in CUTS {
-        expect_two(&rt, alloc, cut, held_back(alloc)?);
+        expect_two(&rt, alloc, cut, held_back(alloc)?, ALL_TOLD);
     }
     Ok(())
 }

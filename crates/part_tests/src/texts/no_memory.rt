@@ -52,11 +52,13 @@ fn calls_that_take_no_memory(rt: HostRuntime) -> Result<(), Fail> {
     end(&rt);
     begin(
         &rt,
-        "Window::new, Window::begin, Window::fork, Window::drop_command, Window::idle, CommandLine::text",
+        "Window::new, Window::begin, Window::fork, Window::take_room, Window::drop_command, Window::idle, CommandLine::text",
     );
     let mut window = Window::new(alloc);
     window.begin(&line);
-    assert!(&rt; !window.fork().idle());
+    let mut fork = window.fork();
+    assert!(&rt; !fork.idle());
+    fork.take_room(&mut window);
     window.drop_command();
     assert!(&rt; window.idle());
     assert_eq!(&rt; line.text(), b"AT+CSQ".as_slice());

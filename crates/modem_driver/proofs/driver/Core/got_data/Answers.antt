@@ -1,6 +1,6 @@
 -- Data of an open connection is handled.
-use Rattle.std.proofs.Common.{◌≡◌, ◌∙◌, ap}
-use Rattle.std.specs.Prelude.{None, map}
+use Rattle.std.proofs.Common.{◌≡◌, ◌∙◌, ap, subst}
+use Rattle.std.specs.Prelude.{◌&&◌, None, map, is_some, is_none}
 use Rattle.std.proofs.lemmas.Bool.{and_parts}
 use Rattle.mux_frame.specs.Frames.{frame_of}
 use Rattle.mux_station.specs.Sending as station_sending
@@ -8,7 +8,8 @@ use Rattle.mux_station.specs.Sending.{got_refused}
 use Rattle.mux_station.specs.Stations.{setting_of, seen_in}
 use Rattle.modem_history.specs.Acts.{act_of}
 use Rattle.modem_driver.specs.Cores.{Core, lane_at}
-use Rattle.modem_driver.specs.Forks.{joined}
+use Rattle.at_text.specs.Forks.{lines_so_far}
+use Rattle.modem_driver.specs.Forks.{joined, joined_acts}
 use Rattle.modem_driver.proofs.outgoing.CoreAfterFrame.{sound}
 use Rattle.modem_driver.proofs.frames.OtherFrames.{taken_room}
 use Rattle.modem_driver.proofs.commands.OfferedOctets.{ended_n1}
@@ -23,26 +24,29 @@ returns-clause-past c =
     let mid : Core = record { station = c.self.inside.station; lanes = c.self.inside.lanes.items; hand = c.self.inside.hand; kinds = c.self.inside.kinds.items; lost = c.self.inside.lost } in
     let f = frame_of c.args.frame in
     let acts = map act_of c.join_lane.new.acts.items in
-    let m : IsJoined old mid f.dlci c.in_ok-fork.fork = c.self.view_is ∙ c.in_ok-done.ensures.after in
+    let m : IsJoined old mid f.dlci c.in_ok-fork.fork
+    = subst (λ (v : Core). IsJoined v mid f.dlci c.in_ok-fork.fork) c.read.ensures.same (c.self.view_is ∙ c.in_ok-done.ensures.after) in
+    let behind = subst (λ (v : Core). acts ≡ joined_acts (lines_so_far (lane_at v f.dlci).window) c.in_ok-fork.fork.window (map act_of c.in_ok-fork.acts.items)) c.read.ensures.same c.in_ok-done.ensures.acts in
+    let done = subst (λ (v : Core). c.in_ok-done.done ≡ (is_some (lane_at v f.dlci).window && is_none c.in_ok-fork.fork.window)) c.read.ensures.same c.in_ok-done.ensures.done in
     data_handles old c.go_on.new.self f c.take_data-noted.result (joined (lane_at old f.dlci) c.in_ok-fork.fork) c.take_data-noted.new.station acts (sound_before old mid f.dlci c.in_ok-fork.fork m (sound mid c.self.inside.n1 c.self.invariant))
     (data_came old mid c.go_on.new.self f c.in_ok-fork.fork (map act_of c.in_ok-fork.acts.items) acts c.in_ok-done.done c.take_data-noted.result c.take_data-noted.new.station c.requires.live c.requires.is_data c.args.frame.dlci.in_range
-    c.in_ok-fork.ensures.read m c.in_ok-done.ensures.acts c.in_ok-done.ensures.done c.take_data-noted.ensures.past c.take_data-noted.ensures.noted c.go_on.ensures)
+    c.in_ok-fork.ensures.read m behind done c.take_data-noted.ensures.past c.take_data-noted.ensures.noted c.go_on.ensures)
 
 pub returns-clause-room : goal.returns-clause-room
 returns-clause-room c =
     let old = c.args.self.now in
     let mid : Core = record { station = c.self.inside.station; lanes = c.self.inside.lanes.items; hand = c.self.inside.hand; kinds = c.self.inside.kinds.items; lost = c.self.inside.lost } in
     let f = frame_of c.args.frame in
-    let same = c.self.view_is ∙ c.in_ok-done.ensures.after in
-    let m : IsJoined old mid f.dlci c.in_ok-fork.fork = same in
+    let m : IsJoined old mid f.dlci c.in_ok-fork.fork
+    = subst (λ (v : Core). IsJoined v mid f.dlci c.in_ok-fork.fork) c.read.ensures.same (c.self.view_is ∙ c.in_ok-done.ensures.after) in
     let taken : None ≡ got_refused (setting_of old.station) (seen_in old.station) f
-    = c.take_data-noted.ensures.taken ∙ ap (λ (v : Core). got_refused (setting_of v.station) (seen_in v.station) f) same in
+    = c.take_data-noted.ensures.taken ∙ ap (λ (v : Core). got_refused (setting_of v.station) (seen_in v.station) f) m in
     taken_room old f (sound_before old mid f.dlci c.in_ok-fork.fork m (sound mid c.self.inside.n1 c.self.invariant)) c.requires.live c.args.frame.dlci.in_range taken
 
 pub returns-clause-n1 : goal.returns-clause-n1
 returns-clause-n1 c =
     ended_n1 _ _ c.go_on.new.self c.args.frame.dlci.number c.go_on.ensures
-    ∙ (ap (λ (s : station_sending.StationSetting). s.n1) c.take_data-noted.ensures.past.setting ∙ ap (λ (v : Core). v.station.n1) (c.self.view_is ∙ c.in_ok-done.ensures.after))
+    ∙ (ap (λ (s : station_sending.StationSetting). s.n1) c.take_data-noted.ensures.past.setting ∙ (ap (λ (v : Core). v.station.n1) (c.self.view_is ∙ c.in_ok-done.ensures.after) ∙ ap (λ (v : Core). v.station.n1) c.read.ensures.same))
 
 pub returns-clause-holds : goal.returns-clause-holds
 returns-clause-holds c =
@@ -53,8 +57,11 @@ returns-clause-holds c =
     let lane = joined (lane_at old f.dlci) c.in_ok-fork.fork in
     let acts = map act_of c.join_lane.new.acts.items in
     let quiet = (and_parts _ _ c.requires.is_data).1 in
-    let m : IsJoined old mid f.dlci c.in_ok-fork.fork = c.self.view_is ∙ c.in_ok-done.ensures.after in
+    let m : IsJoined old mid f.dlci c.in_ok-fork.fork
+    = subst (λ (v : Core). IsJoined v mid f.dlci c.in_ok-fork.fork) c.read.ensures.same (c.self.view_is ∙ c.in_ok-done.ensures.after) in
+    let behind = subst (λ (v : Core). acts ≡ joined_acts (lines_so_far (lane_at v f.dlci).window) c.in_ok-fork.fork.window (map act_of c.in_ok-fork.acts.items)) c.read.ensures.same c.in_ok-done.ensures.acts in
+    let done = subst (λ (v : Core). c.in_ok-done.done ≡ (is_some (lane_at v f.dlci).window && is_none c.in_ok-fork.fork.window)) c.read.ensures.same c.in_ok-done.ensures.done in
     let came : DataCame old new f c.take_data-noted.result lane c.take_data-noted.new.station acts
     = data_came old mid new f c.in_ok-fork.fork (map act_of c.in_ok-fork.acts.items) acts c.in_ok-done.done c.take_data-noted.result c.take_data-noted.new.station c.requires.live c.requires.is_data c.args.frame.dlci.in_range
-    c.in_ok-fork.ensures.read m c.in_ok-done.ensures.acts c.in_ok-done.ensures.done c.take_data-noted.ensures.past c.take_data-noted.ensures.noted c.go_on.ensures in
+    c.in_ok-fork.ensures.read m behind done c.take_data-noted.ensures.past c.take_data-noted.ensures.noted c.go_on.ensures in
     data_holds old new f lane c.take_data-noted.new.station _ acts quiet c.in_ok-fork.ensures.held came.ends (returns-clause-past c)
