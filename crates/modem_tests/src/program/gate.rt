@@ -18,14 +18,14 @@ const TWO_TOLD: &str = "0 1 done\n| +CSQ: 18,99\n| OK\n1 1 done\n| +CGATT: 0\n| 
 const CUTS: [usize; 3] = [1, 7, 64];
 
 // What the bench comes to: its status, what it writes, and what it says beside it.
-type End<'a> = (u8, &'a [u8], &'a [u8]);
+type End = (u8, &'static str, &'static str);
 
-const ALL_TOLD: End<'static> = (0, TWO_TOLD.as_bytes(), b"");
+const ALL_TOLD: End = (0, TWO_TOLD, "");
 
-const GAVE_UP: End<'static> = (1, b"", b"fault: gave up\n");
+const GAVE_UP: End = (1, "", "fault: gave up\n");
 
 // Two callers on such a line come to this.
-fn expect_two<R>(rt: &R, alloc: Global, cut: usize, script: Script, want: End<'_>)
+fn expect_two<R>(rt: &R, alloc: Global, cut: usize, script: Script, want: End)
 where
     R: Threads + Wait + RandomSource + AllocGlobal + Abort + Copy + Send + Drop + 'static,
 {
@@ -42,7 +42,10 @@ where
         cut,
         script,
     );
-    assert_eq!(rt; (status, output.as_slice(), faults.as_slice()), want);
+    let (wanted, told, said) = want;
+    assert_eq!(rt; faults.as_slice(), said.as_bytes());
+    assert_eq!(rt; output.as_slice(), told.as_bytes());
+    assert_eq!(rt; status, wanted);
 }
 
 #[test]
