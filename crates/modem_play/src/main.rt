@@ -18,13 +18,13 @@ use setup::Setup;
 use std::process::ExitCode;
 use words::{BAD, Host, Lines, number, split};
 
-fn play<R: Host>(lines: &mut Lines<R>, setup: Setup, what: &str) -> Result<(), Stop> {
+fn play<R: Host>(lines: &mut Lines<R>, setup: &mut Setup, what: &str) -> Result<(), Stop> {
     match split(what) {
-        ("session", "") => sessions::play(lines, &setup),
-        ("enter", calls) => sessions::enter_line(lines, &setup, number(calls)?),
+        ("session", "") => sessions::play(lines, setup),
+        ("enter", calls) => sessions::enter_line(lines, setup, number(calls)?),
         ("sim", "") => sims::play(lines, setup),
         ("pair", "") => pairs::play(lines, setup),
-        ("modem", "") => modems::play(lines, &setup),
+        ("modem", "") => modems::play(lines, setup),
         _ => Err(BAD),
     }
 }
@@ -46,7 +46,7 @@ fn set_up<R: Host>(lines: &mut Lines<R>, setup: &mut Setup) -> Result<String, St
 fn run<R: Host>(lines: &mut Lines<R>) -> Result<(), Stop> {
     let mut setup = Setup::new(lines.rt.alloc());
     let what = set_up(lines, &mut setup)?;
-    play(lines, setup, what.as_str())
+    play(lines, &mut setup, what.as_str())
 }
 
 fn main(rt: HostRuntime) -> ExitCode {

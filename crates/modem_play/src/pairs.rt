@@ -51,13 +51,13 @@ impl<R: Host> Player for Pair<R> {
 }
 
 /// Plays the lines that follow.
-pub fn play<R: Host>(lines: &mut Lines<R>, setup: Setup) -> Result<(), Stop> {
+pub fn play<R: Host>(lines: &mut Lines<R>, setup: &mut Setup) -> Result<(), Stop> {
     let (one, other) = match ThreadLine::pair(setup.alloc, setup.room) {
         Ok(ends) => ends,
         Err(LineError::BadRoom) => return Err(BAD),
         Err(LineError::NoMemory) => return Err(Stop::NoMemory),
     };
-    let near = Near::new(lines.rt, one, &setup)?;
+    let near = Near::new(lines.rt, one, setup)?;
     let sim = made(other, setup)?;
     let mut pair = Pair { near, sim };
     play_all(lines, &mut pair)?;

@@ -6,6 +6,7 @@ use modem_runs::Stop;
 use modem_sim::{Modem, ModemStart, Script, Step, StepAct, Steps};
 use serial_line::{Cut, CutLine};
 use std::alloc::Global;
+use std::mem;
 
 /// What a line and its ends are made with:
 ///
@@ -160,11 +161,12 @@ impl Setup {
         Ok(Modem::new(self.alloc, ModemStart { pin, rssi, ber }))
     }
 
-    /// What the modem does beside answering.
-    pub fn script(self) -> Script {
+    /// What the modem does beside answering. Its steps are taken.
+    pub fn script(&mut self) -> Script {
+        let steps = mem::replace(&mut self.steps, Vec::new(self.alloc));
         Script {
             echo: self.echo,
-            steps: Steps::from(self.steps),
+            steps: Steps::from(steps),
         }
     }
 }

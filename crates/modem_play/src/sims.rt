@@ -10,10 +10,10 @@ use serial_line::{CutLine, SerialLine};
 /// The most turns in a row.
 const TURNS: u32 = 1_000_000;
 
-pub fn made<L: SerialLine + Drop>(line: L, setup: Setup) -> Result<Sim<L>, Stop> {
-    let n1 = setup.n1;
+pub fn made<L: SerialLine + Drop>(line: L, setup: &mut Setup) -> Result<Sim<L>, Stop> {
     let modem = setup.modem()?;
-    match Sim::new(setup.alloc, line, modem, setup.script(), n1) {
+    let script = setup.script();
+    match Sim::new(setup.alloc, line, modem, script, setup.n1) {
         Ok(sim) => Ok(sim),
         Err(refused) if refused.why == SimError::BadN1 => Err(Stop::BadN1),
         Err(_) => Err(Stop::NoMemory),
@@ -121,8 +121,9 @@ impl<R: Host> Player for Played<R> {
 }
 
 /// Plays the lines that follow.
-pub fn play<R: Host>(lines: &mut Lines<R>, setup: Setup) -> Result<(), Stop> {
-    let sim = made(setup.line()?, setup)?;
+pub fn play<R: Host>(lines: &mut Lines<R>, setup: &mut Setup) -> Result<(), Stop> {
+    let line = setup.line()?;
+    let sim = made(line, setup)?;
     let mut played = Played {
         rt: lines.rt,
         sim,
