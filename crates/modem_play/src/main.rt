@@ -1,8 +1,9 @@
 //! Plays scripts for tests, line by line, and prints what comes of each: a session on a line in memory, a simulated modem at its
-//! end of one, both on one line in one thread, a modem's answers, or the entry into the multiplexer.
+//! end of one, both on one line in one thread, a modem's answers, typed commands and their replies, or the entry into the
+//! multiplexer.
 //!
 //! The first lines say what the line and its ends are (see `Setup`), and end with one that says what is played: `session`, `sim`,
-//! `pair`, `modem` or `enter CALLS`. A line that isn't read as one of these ends it with `bad line N` and status 2.
+//! `pair`, `modem`, `typed` or `enter CALLS`. A line that isn't read as one of these ends it with `bad line N` and status 2.
 #![tactic(auto)]
 
 mod modems;
@@ -11,6 +12,7 @@ mod pairs;
 mod sessions;
 mod setup;
 mod sims;
+mod typed;
 mod words;
 
 use modem_runs::{Stop, give_up};
@@ -25,6 +27,7 @@ fn play<R: Host>(lines: &mut Lines<R>, setup: &mut Setup, what: &str) -> Result<
         ("sim", "") => sims::play(lines, setup),
         ("pair", "") => pairs::play(lines, setup),
         ("modem", "") => modems::play(lines, setup),
+        ("typed", "") => typed::play(lines),
         _ => Err(BAD),
     }
 }

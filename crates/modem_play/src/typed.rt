@@ -1,0 +1,116 @@
+//! Typed commands, and what they are answered.
+use crate::words::{BAD, Host, Lines, Player, number, play_all, split};
+use at_cmds::{Command, Registration, Reply, ReplyFault, cme_text};
+use at_text::{AnswerLine, Text};
+use modem_runs::Stop;
+use std::alloc::{AllocError, Global};
+use std::str;
+
+/// A typed command, and what it is answered. What it reads:
+///
+/// - `command TEXT`: a command, to which the answers are that follow. It prints which one it is and its text, or `-` where it
+///   is none.
+/// - `answer LINE|LINE..`: the lines of an answer. It prints the reply, or what is wrong with it.
+/// - `report LINE`: an unsolicited registration, which it prints with the meaning of its status, or `-`.
+/// - `cme NUMBER`: prints the text of this error, or `-`.
+#[derive(Drop)]
+struct Played<R: Host> {
+    rt: R,
+    alloc: Global,
+    command: Option<Command>,
+}
+
+/// The lines of an answer.
+fn answer_lines(alloc: Global, words: &str) -> Result<Vec<AnswerLine>, AllocError> {
+    let mut lines = Vec::new(alloc);
+    if words.is_empty() {
+        return Ok(lines);
+    }
+    for line in words.split('|') {
+        let text = Text::from(Vec::from_slice(alloc, line.as_bytes())?);
+        lines.push(AnswerLine { text })?;
+    }
+    Ok(lines)
+}
+
+fn print_command<R: Host>(rt: &R, alloc: Global, command: &Command) -> Result<(), Stop> {
+    let Ok(line) = command.line(alloc) else {
+        return Err(Stop::NoMemory);
+    };
+    let Ok(text) = str::from_utf8(line.text()) else {
+        return Err(BAD);
+    };
+    let _ = rt.println(format_args!("{command:?} {text}"));
+    Ok(())
+}
+
+fn print_reply<R: Host>(rt: &R, reply: Result<Reply, ReplyFault>) -> Result<(), Stop> {
+    let _ = match reply {
+        Ok(reply) => rt.println(format_args!("{reply:?}")),
+        Err(ReplyFault::NoMemory) => return Err(Stop::NoMemory),
+        Err(fault) => rt.println(format_args!("{fault}")),
+    };
+    Ok(())
+}
+
+fn print_report<R: Host>(rt: &R, line: &str) {
+    let _ = match Registration::read(line.as_bytes()) {
+        Some(registration) => {
+            let status = registration.status();
+            rt.println(format_args!("{registration:?} {status}"))
+        }
+        None => rt.println("-"),
+    };
+}
+
+fn print_cme<R: Host>(rt: &R, number: u32) {
+    let _ = rt.println(cme_text(number).unwrap_or("-"));
+}
+
+impl<R: Host> Played<R> {
+    fn read_command(&mut self, text: &str) -> Result<(), Stop> {
+        let Ok(command) = Command::read(self.alloc, text.as_bytes()) else {
+            return Err(Stop::NoMemory);
+        };
+        self.command = command;
+        match &self.command {
+            Some(command) => print_command(&self.rt, self.alloc, command),
+            None => {
+                let _ = self.rt.println("-");
+                Ok(())
+            }
+        }
+    }
+
+    fn read_answer(&self, words: &str) -> Result<(), Stop> {
+        let Some(command) = &self.command else {
+            return Err(BAD);
+        };
+        let lines = answer_lines(self.alloc, words)?;
+        print_reply(&self.rt, Reply::read(self.alloc, command, lines.as_slice()))
+    }
+}
+
+impl<R: Host> Player for Played<R> {
+    fn go(&mut self, line: &str) -> Result<bool, Stop> {
+        match split(line) {
+            ("command", text) => self.read_command(text)?,
+            ("answer", words) => self.read_answer(words)?,
+            ("report", line) => print_report(&self.rt, line),
+            ("cme", word) => print_cme(&self.rt, number(word)?),
+            _ => return Err(BAD),
+        }
+        Ok(false)
+    }
+}
+
+/// Plays the lines that follow.
+pub fn play<R: Host>(lines: &mut Lines<R>) -> Result<(), Stop> {
+    let mut played = Played {
+        rt: lines.rt,
+        alloc: lines.rt.alloc(),
+        command: None,
+    };
+    play_all(lines, &mut played)?;
+    Ok(())
+}
