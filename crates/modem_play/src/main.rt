@@ -1,17 +1,20 @@
 //! Plays scripts for tests, line by line, and prints what comes of each: a session on a line in memory, a simulated modem at its
-//! end of one, both on one line in one thread, a modem's answers, typed commands and their replies, or the entry into the
-//! multiplexer.
+//! end of one, both on one line in one thread, a modem's answers, typed commands and their replies, lines of text, how frames are
+//! spelled, or the entry into the multiplexer.
 //!
 //! The first lines say what the line and its ends are (see `Setup`), and end with one that says what is played: `session`, `sim`,
-//! `pair`, `modem`, `typed` or `enter CALLS`. A line that isn't read as one of these ends it with `bad line N` and status 2.
+//! `pair`, `modem`, `typed`, `texts`, `frames` or `enter CALLS`. A line that isn't read as one of these ends it with `bad line N`
+//! and status 2.
 #![tactic(auto)]
 
+mod frames;
 mod modems;
 mod near;
 mod pairs;
 mod sessions;
 mod setup;
 mod sims;
+mod texts;
 mod typed;
 mod words;
 
@@ -28,6 +31,8 @@ fn play<R: Host>(lines: &mut Lines<R>, setup: &mut Setup, what: &str) -> Result<
         ("pair", "") => pairs::play(lines, setup),
         ("modem", "") => modems::play(lines, setup),
         ("typed", "") => typed::play(lines),
+        ("texts", "") => texts::play(lines),
+        ("frames", "") => frames::play(lines, setup.n1),
         _ => Err(BAD),
     }
 }

@@ -1,6 +1,9 @@
 //! Typed commands, and what they are answered.
 use crate::words::{BAD, Host, Lines, Player, number, play_all, split};
-use at_cmds::{Command, Registration, Reply, ReplyFault, cme_text};
+use at_cmds::{
+    Apn, CmdError, Command, OperChoice, OperNumber, Pdp, Pin, Registration, Reply, ReplyFault,
+    cme_text,
+};
 use at_text::{AnswerLine, Text};
 use modem_runs::Stop;
 use std::alloc::{AllocError, Global};
@@ -13,6 +16,8 @@ use std::str;
 /// - `answer LINE|LINE..`: the lines of an answer. It prints the reply, or what is wrong with it.
 /// - `report LINE`: an unsolicited registration, which it prints with the meaning of its status, or `-`.
 /// - `cme NUMBER`: prints the text of this error, or `-`.
+/// - `pin DIGITS`, `operator DIGITS`, `context CID NAME`, `reports MODE`, `errors MODE`: a command with this. It prints the
+///   command's text, or what is wrong with it.
 #[derive(Drop)]
 struct Played<R: Host> {
     rt: R,
@@ -33,6 +38,10 @@ fn answer_lines(alloc: Global, words: &str) -> Result<Vec<AnswerLine>, AllocErro
     Ok(lines)
 }
 
+fn copied(alloc: Global, text: &str) -> Result<Vec<u8>, AllocError> {
+    Vec::from_slice(alloc, text.as_bytes())
+}
+
 fn print_command<R: Host>(rt: &R, alloc: Global, command: &Command) -> Result<(), Stop> {
     let Ok(line) = command.line(alloc) else {
         return Err(Stop::NoMemory);
@@ -42,6 +51,40 @@ fn print_command<R: Host>(rt: &R, alloc: Global, command: &Command) -> Result<()
     };
     let _ = rt.println(format_args!("{command:?} {text}"));
     Ok(())
+}
+
+/// The text of a command that was made, or what is wrong with it.
+fn print_made<R: Host>(rt: &R, alloc: Global, command: &Command) -> Result<(), Stop> {
+    let _ = match command.line(alloc) {
+        Ok(line) => match str::from_utf8(line.text()) {
+            Ok(text) => rt.println(text),
+            Err(_) => return Err(BAD),
+        },
+        Err(CmdError::NoMemory) => return Err(Stop::NoMemory),
+        Err(why) => rt.println(format_args!("{why}")),
+    };
+    Ok(())
+}
+
+fn made(alloc: Global, word: &str, rest: &str) -> Result<Command, Stop> {
+    match word {
+        "pin" => Ok(Command::PinEnter(Pin::from(copied(alloc, rest)?))),
+        "operator" => {
+            let oper = OperNumber::from(copied(alloc, rest)?);
+            Ok(Command::OperChoose(OperChoice::Manual(oper)))
+        }
+        "context" => {
+            let (cid, apn) = split(rest);
+            Ok(Command::ContextSet {
+                cid: number(cid)?,
+                pdp: Pdp::Ip,
+                apn: Apn::from(copied(alloc, apn)?),
+            })
+        }
+        "reports" => Ok(Command::RegReport(number(rest)?)),
+        "errors" => Ok(Command::ErrorMode(number(rest)?)),
+        _ => Err(BAD),
+    }
 }
 
 fn print_reply<R: Host>(rt: &R, reply: Result<Reply, ReplyFault>) -> Result<(), Stop> {
@@ -98,7 +141,10 @@ impl<R: Host> Player for Played<R> {
             ("answer", words) => self.read_answer(words)?,
             ("report", line) => print_report(&self.rt, line),
             ("cme", word) => print_cme(&self.rt, number(word)?),
-            _ => return Err(BAD),
+            (word, rest) => {
+                let command = made(self.alloc, word, rest)?;
+                print_made(&self.rt, self.alloc, &command)?;
+            }
         }
         Ok(false)
     }

@@ -1,4 +1,4 @@
-//! The tests of frames, of a station, of texts, of typed commands, of lines of octets and of the desk.
+//! Tests of frames, of a station, of lines of octets and of the desk, and of which calls take no memory.
 #![tactic(auto)]
 
 #[cfg(test)]
@@ -8,8 +8,6 @@ mod frames;
 #[cfg(test)]
 mod lines;
 #[cfg(test)]
+mod no_memory;
+#[cfg(test)]
 mod station;
-#[cfg(test)]
-mod texts;
-#[cfg(test)]
-mod typed;

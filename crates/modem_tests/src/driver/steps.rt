@@ -1,18 +1,10 @@
-//! A core on the line: a connection whose lines wait is held and freed again, and a stop holds up the rest of a command.
+//! A core on the line: a stop holds up the rest of a command.
 use at_text::CommandLine;
 use modem_driver::*;
 use mux_frame::{Deframer, Dlci, FrameView, Kind, write_frame};
 use std::alloc::Global;
 use std::process::Abort;
 use std::test::Fail;
-
-/// What a backlog came to.
-#[derive(Clone, Copy, PartialEq, Eq, Debug)]
-enum Turn {
-    Nothing,
-    Held(u8),
-    Freed(u8),
-}
 
 /// What is done to a core, and what has to come of it.
 #[derive(Clone, Copy)]
@@ -24,11 +16,7 @@ enum Step {
     Got(&'static [u8]),
     /// The next frame that leaves, as the line gets it; nothing where none does.
     Leaves(&'static [u8]),
-    /// So many lines wait on a connection: what comes of it, and the frame that is sent.
-    Backlog(u8, usize, Turn, &'static [u8]),
 }
-
-const MSC_HELD: &[u8] = b"\xF9\x03\xEF\x09\xE3\x05\x07\x8F\xFB\xF9";
 
 const MSC_READY: &[u8] = b"\xF9\x03\xEF\x09\xE3\x05\x07\x8D\xFB\xF9";
 
@@ -42,40 +30,6 @@ const OPENED: &[Step] = &[
     Step::Got(b"\xF9\x07\x73\x01\x15\xF9"),
     Step::Leaves(MSC_READY),
     Step::Leaves(b""),
-];
-
-/// A connection is held at 256 lines, once, and freed below 128, once; 0 and what is shut are neither.
-const HELD_BACK: &[Step] = &[
-    Step::Backlog(1, 255, Turn::Nothing, b""),
-    Step::Backlog(0, 256, Turn::Nothing, b""),
-    Step::Backlog(2, 256, Turn::Nothing, b""),
-    Step::Backlog(1, 127, Turn::Nothing, b""),
-    Step::Backlog(1, 256, Turn::Held(1), MSC_HELD),
-    Step::Leaves(MSC_HELD),
-    Step::Leaves(b""),
-    Step::Got(b"\xF9\x01\xEF\x09\xE1\x05\x07\x8F\x9A\xF9"),
-    Step::Leaves(b""),
-    Step::Backlog(1, 300, Turn::Nothing, b""),
-    Step::Backlog(1, 128, Turn::Nothing, b""),
-    Step::Backlog(1, 127, Turn::Freed(1), MSC_READY),
-    Step::Leaves(MSC_READY),
-    Step::Backlog(1, 0, Turn::Nothing, b""),
-    Step::Leaves(b""),
-];
-
-/// A close forgets that a connection was held: opened anew, it is held anew.
-const HELD_AND_CLOSED: &[Step] = &[
-    Step::Backlog(1, 256, Turn::Held(1), MSC_HELD),
-    Step::Leaves(MSC_HELD),
-    Step::Got(b"\xF9\x05\x53\x01\x5E\xF9"),
-    Step::Leaves(b"\xF9\x05\x73\x01\x74\xF9"),
-    Step::Backlog(1, 0, Turn::Nothing, b""),
-    Step::Open(1),
-    Step::Leaves(b"\xF9\x07\x3F\x01\xDE\xF9"),
-    Step::Got(b"\xF9\x07\x73\x01\x15\xF9"),
-    Step::Leaves(MSC_READY),
-    Step::Backlog(1, 0, Turn::Nothing, b""),
-    Step::Backlog(1, 256, Turn::Held(1), MSC_HELD),
 ];
 
 /// Of a command of 37 octets 31 leave; an MSC that stops the connection holds up the rest until the next one.
@@ -138,26 +92,6 @@ fn leaves(alloc: Global, core: &mut Core) -> Result<Vec<u8>, Fail> {
     }
 }
 
-/// What so many lines that wait come to, and the octets of the frame that is sent.
-fn backlog(
-    alloc: Global,
-    core: &mut Core,
-    number: u8,
-    lines: usize,
-) -> Result<(Turn, Vec<u8>), Fail> {
-    let mut turn = Turn::Nothing;
-    let mut octets = Vec::new(alloc);
-    for act in &core.backlog(dlci(number)?, lines)? {
-        match act {
-            Act::Held(on) => turn = Turn::Held(on.number()),
-            Act::Freed(on) => turn = Turn::Freed(on.number()),
-            Act::Sent(frame) => octets = spelled(alloc, frame.view())?,
-            _ => return Err("another act".into()),
-        }
-    }
-    Ok((turn, octets))
-}
-
 fn play_one(rt: &impl Abort, alloc: Global, core: &mut Core, step: Step) -> Result<(), Fail> {
     match step {
         Step::Open(number) => took(core, Ask::OpenChannel(dlci(number)?)),
@@ -168,12 +102,6 @@ fn play_one(rt: &impl Abort, alloc: Global, core: &mut Core, step: Step) -> Resu
         Step::Got(octets) => got(alloc, core, octets),
         Step::Leaves(octets) => {
             assert_eq!(rt; leaves(alloc, core)?.as_slice(), octets);
-            Ok(())
-        }
-        Step::Backlog(number, lines, turn, sent) => {
-            let (came, octets) = backlog(alloc, core, number, lines)?;
-            assert_eq!(rt; came, turn, "{lines}");
-            assert_eq!(rt; octets.as_slice(), sent, "{lines}");
             Ok(())
         }
     }
@@ -189,13 +117,6 @@ fn play(rt: &impl Abort, alloc: Global, steps: &[Step]) -> Result<(), Fail> {
         play_one(rt, alloc, &mut core, *step)?;
     }
     Ok(())
-}
-
-#[test]
-fn a_connection_whose_lines_wait_is_held_and_freed(rt: HostRuntime) -> Result<(), Fail> {
-    let alloc = rt.alloc();
-    play(&rt, alloc, HELD_BACK)?;
-    play(&rt, alloc, HELD_AND_CLOSED)
 }
 
 #[test]

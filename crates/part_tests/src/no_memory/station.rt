@@ -1,21 +1,10 @@
-//! The calls that take no memory, each between two marks on standard output, by which a counter of
-//! allocations knows them.
+//! Of a station.
+use crate::no_memory::{begin, end};
 use crate::station::{dlci, open};
 use mux_frame::{Dlci, FrameView, Kind};
 use mux_station::*;
-use std::io::Print;
 use std::process::Abort;
 use std::test::Fail;
-
-// The calls of this name begin.
-fn begin(rt: &impl Print, call: &str) {
-    let _ = rt.println(format_args!("> {call}"));
-}
-
-// They have ended.
-fn end(rt: &impl Print) {
-    let _ = rt.println("<");
-}
 
 // A frame of the other end comes.
 fn comes(station: &mut Station, number: u8, kind: Kind, info: &[u8]) -> Result<Noted, Fail> {

@@ -1,19 +1,7 @@
-//! The calls that take no memory, each between two marks on standard output, by which a counter of
-//! allocations knows them.
-use crate::lines::expect_put;
+//! Of lines of octets.
+use crate::no_memory::{begin, end};
 use serial_line::*;
-use std::io::Print;
 use std::test::Fail;
-
-// The calls of this name begin.
-fn begin(rt: &impl Print, call: &str) {
-    let _ = rt.println(format_args!("> {call}"));
-}
-
-// They have ended.
-fn end(rt: &impl Print) {
-    let _ = rt.println("<");
-}
 
 // Reads and writes in turn.
 fn turn<L: SerialLine>(line: &mut L, buffer: &mut [u8]) {
@@ -31,7 +19,7 @@ fn calls_that_take_no_memory(rt: HostRuntime) -> Result<(), Fail> {
     let mut far = CutLine::new(alloc, b"", &[], &[], 4096)?;
     let mut buffer = [0x41; 32];
     begin(&rt, "CutLine::put, CutLine::try_read, CutLine::try_write");
-    expect_put(&rt, &mut near, b"gh", 2);
+    assert_eq!(&rt; near.put(b"gh"), 2);
     turn(&mut near, &mut buffer);
     turn(&mut far, &mut buffer);
     end(&rt);

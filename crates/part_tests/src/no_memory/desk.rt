@@ -1,21 +1,10 @@
-//! The calls that take no memory, each between two marks on standard output, by which a counter of
-//! allocations knows them.
+//! Of the desk.
+use crate::no_memory::{begin, end};
 use at_text::{Text, UrcKind};
 use modem_desk::*;
 use mux_frame::Dlci;
-use std::io::Print;
 use std::process::Abort;
 use std::test::Fail;
-
-// The calls of this name begin.
-fn begin(rt: &impl Print, call: &str) {
-    let _ = rt.println(format_args!("> {call}"));
-}
-
-// They have ended.
-fn end(rt: &impl Print) {
-    let _ = rt.println("<");
-}
 
 // Outcomes are told until they find no room.
 fn tell_all(rt: &impl Abort, driver: &mut DriverEnd) -> usize {

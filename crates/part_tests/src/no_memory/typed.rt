@@ -1,18 +1,7 @@
-//! The calls that take no memory, each between two marks on standard output, by which a counter of
-//! allocations knows them.
+//! Of typed commands.
+use crate::no_memory::{begin, end};
 use at_cmds::*;
-use std::io::Print;
 use std::test::Fail;
-
-// The calls of this name begin.
-fn begin(rt: &impl Print, call: &str) {
-    let _ = rt.println(format_args!("> {call}"));
-}
-
-// They have ended.
-fn end(rt: &impl Print) {
-    let _ = rt.println("<");
-}
 
 #[test]
 fn calls_that_take_no_memory(rt: HostRuntime) -> Result<(), Fail> {
