@@ -1,6 +1,6 @@
 -- Lines seen on a fork of a window.
 use Rattle.std.specs.Prelude.{◌≡◌, ℕ, Bool, true, false, List, [], ◌∷◌, ◌++◌, refl, if◌then◌else◌, Option, Some, None}
-use Rattle.std.proofs.Common.{ap, sym, ◌∙◌, append_assoc}
+use Rattle.std.proofs.Common.{ap, ◌∙◌, append_assoc}
 use Rattle.std.proofs.lemmas.List.{append-nil}
 use Rattle.at_text.specs.declared.answer.AnswerLine.{AnswerLine}
 use Rattle.at_text.specs.declared.unsolicited.UrcKind.{UrcKind}
@@ -9,8 +9,8 @@ use Rattle.at_text.specs.declared.window.Seen.TheVariants.{Echo, Kept, Done}
 use Rattle.at_text.specs.Finals.{is_final}
 use Rattle.at_text.specs.Unsolicited.{unsolicited_of, is_solicited}
 use Rattle.at_text.specs.Seeing.{by_kind}
-use Rattle.at_text.specs.OpenWindow.{OpenWindow, is_echo, with_line, solicited_by, seen_by, after_solicited, after_line}
-use Rattle.at_text.specs.Forks.{lines_so_far, forked, led_by, led_seen, SeesApart, IsWhole}
+use Rattle.at_text.specs.OpenWindow.{OpenWindow, is_echo, with_line, solicited_by, after_solicited}
+use Rattle.at_text.specs.Forks.{led_by, led_seen, SeesApart, IsWhole}
 
 led : List AnswerLine → OpenWindow → OpenWindow
 led ls o = record o { lines = ls ++ o.lines }
