@@ -1,7 +1,8 @@
 //! Windows: which lines answer a command, by their place (V.250, 5.2.3 and 5.7.1).
-ghost use Rattle.std.specs.Prelude.{◌≡◌, List, [], ◌∷◌, ◌++◌, ◌↔◌, IsTrue, IsNone, is_some, IfOk, IfErr, OnOk, OnErr, if◌then◌else◌};
+ghost use Rattle.std.specs.Prelude.{◌≡◌, List, [], ◌∷◌, ◌++◌, ◌↔◌, IsTrue, IsNone, is_none, is_some, IfOk, IfErr, OnOk, OnErr, if◌then◌else◌};
 ghost use Rattle.at_text.specs.Windows.{Mark, Begun};
-ghost use Rattle.at_text.specs.OpenWindow.{opened, FitsMarks, Sees, is_echo, with_line, seen_by, after_line};
+ghost use Rattle.at_text.specs.Seeing.{by_kind};
+ghost use Rattle.at_text.specs.OpenWindow.{opened, FitsMarks, Sees, is_echo, with_line, solicited_by, after_solicited, seen_by, after_line};
 ghost use Rattle.at_text.specs.Forks.{lines_so_far, forked, led_by};
 
 use crate::answer::{AnswerLine, AnswerLines};
@@ -250,9 +251,28 @@ impl Window {
         ensures after { OnOk result (self.new ≡ after_line self.old line.now) }
         ensures err { OnErr result (self.new ≡ self.old) }
     {
-        if let Some(kind) = unsolicited_of(line) {
-            return Ok(Seen::Unsolicited(kind));
+        self.place_by(unsolicited_of(line), line)
+    }
+
+    /// What a line of this kind is, or of none.
+    fn place_by(&mut self, kind: Option<UrcKind>, line: &[u8]) -> Result<Seen, AllocError>
+        ensures seen { IfOk result (λ seen. seen ≡ by_kind kind (solicited_by self.old line.now)) }
+        ensures after { OnOk result (
+            self.new ≡ (if is_none kind then after_solicited self.old line.now else self.old)) }
+        ensures err { OnErr result (self.new ≡ self.old) }
+    {
+        match kind {
+            Some(kind) => Ok(Seen::Unsolicited(kind)),
+            None => self.place_solicited(line),
         }
+    }
+
+    /// What a line of no kind is.
+    fn place_solicited(&mut self, line: &[u8]) -> Result<Seen, AllocError>
+        ensures seen { IfOk result (λ seen. seen ≡ solicited_by self.old line.now) }
+        ensures after { OnOk result (self.new ≡ after_solicited self.old line.now) }
+        ensures err { OnErr result (self.new ≡ self.old) }
+    {
         let Some(open) = &mut self.open else {
             return Ok(Seen::Other);
         };

@@ -10,5 +10,3 @@ pub mod Running
 pub mod Shown
 pub mod Statuses
 pub mod Texts
-pub mod OneModem
-pub mod OneModemRows

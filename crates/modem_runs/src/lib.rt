@@ -6,7 +6,6 @@ mod bench;
 mod dump;
 mod framing;
 mod input;
-pub mod laws;
 mod runs;
 mod script;
 mod stop;

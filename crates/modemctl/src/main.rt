@@ -4,7 +4,7 @@
 
 mod words;
 
-pub use modem_runs::{bench_run, frames_run, laws, replay_run};
+pub use modem_runs::{bench_run, frames_run, replay_run};
 use modem_runs::{Stop, give_up};
 use std::env;
 use std::io::ErrorKind;

@@ -42,25 +42,23 @@ struct Driven<'a, L: SerialLine + Drop, R: Wait + Drop> {
     signals: &'a Signals,
 }
 
-impl<L: SerialLine + Drop, R: Wait + Drop> Driven<'_, L, R> {
-    /// Counts a poll. Refused where the bench is given up, and where no poll is left.
-    fn count(&mut self) -> Result<(), Fault>
-        ensures { self.new.session ≡ self.old.session }
-    {
-        self.signals.check()?;
-        if self.left == 0 {
-            return Err(Fault::GaveUp);
-        }
-        self.left -= 1;
-        Ok(())
+/// Counts a poll. Refused where the bench is given up, and where no poll is left.
+fn count(left: &mut u32, signals: &Signals) -> Result<(), Fault> {
+    signals.check()?;
+    if *left == 0 {
+        return Err(Fault::GaveUp);
     }
+    *left -= 1;
+    Ok(())
+}
 
+impl<L: SerialLine + Drop, R: Wait + Drop> Driven<'_, L, R> {
     /// A poll of the session, and whether it has ended by it.
     fn advance(&mut self, session: &mut Session<L, R>) -> Result<bool, Fault>
         ensures same { self.new.session ≡ self.old.session }
         ensures continues { Continues (line_by L.received L.sent L.calls L.failures) session.old session.new }
     {
-        self.count()?;
+        count(&mut self.left, self.signals)?;
         match session.advance() {
             Some(Ok(Ended::Stopped)) => Ok(true),
             Some(Err(fault)) => Err(fault_of(fault)),

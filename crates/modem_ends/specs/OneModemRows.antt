@@ -22,7 +22,7 @@ use Rattle.modem_sim.specs.Heard.{heard}
 use Rattle.modem_sim.specs.HistoryRows as sim
 use Rattle.modem_sim.specs.HistoryRows.{announcing, asks, comes, gives, offers, sends}
 use Rattle.modem_sim.specs.Pieces.{framed}
-use Rattle.modem_runs.specs.OneModem.{AtDriver, AtModem, EndAct, IsAnswerAt, IsOneLine, IsOneModem, modem_past}
+use Rattle.modem_ends.specs.OneModem.{AtDriver, AtModem, EndAct, IsAnswerAt, IsOneLine, IsOneModem, modem_past}
 
 -- the line after these acts, of which the first comes first
 abbrev pub after : List EndAct → List EndAct → List EndAct

@@ -45,8 +45,8 @@ use Rattle.modem_sim.specs.Reading.{command_of}
 use Rattle.modem_sim.specs.Rows.{unlocked}
 use Rattle.modem_sim.specs.Steps.{step}
 use Rattle.modem_sim.proofs.rows.HistoryRowFacts.{GoodThere, called, due, end, given_on, got, leaves, next_offer, offer, ready_one_allowed, ready_one_there}
-use Rattle.modem_runs.specs.OneModem.{EndAct, IsOneLine, driver_past, driver_wire, modem_past, modem_wire}
-use Rattle.modem_runs.specs.OneModemRows.{RightAnswer, RightLine, WrongAnswers, WrongLines, after, ask_mux, error_three, ringing, set_mode, two_commands}
+use Rattle.modem_ends.specs.OneModem.{EndAct, IsOneLine, driver_past, driver_wire, modem_past, modem_wire}
+use Rattle.modem_ends.specs.OneModemRows.{RightAnswer, RightLine, WrongAnswers, WrongLines, after, ask_mux, error_three, ringing, set_mode, two_commands}
 
 -- ## One line
 

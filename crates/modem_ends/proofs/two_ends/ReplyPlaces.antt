@@ -32,7 +32,7 @@ use Rattle.modem_sim.specs.Replied.{all_of, is_answer_line, replied_on, text_of,
 use Rattle.modem_sim.proofs.replies.AnswerEnds.{reached_answers_well}
 use Rattle.modem_sim.proofs.connections.OctetReplies.{after_lines-append}
 use Rattle.modem_sim.proofs.replies.AnswerTexts.{answers_in_lines}
-use Rattle.modem_runs.proofs.two_ends.FinalCodes.{AllEnd, Ends, ended_whole}
+use Rattle.modem_ends.proofs.two_ends.FinalCodes.{AllEnd, Ends, ended_whole}
 
 -- ## Marks
 

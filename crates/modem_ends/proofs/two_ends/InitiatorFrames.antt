@@ -19,7 +19,7 @@ use Rattle.modem_history.specs.Wholes.{IsPrefixOf}
 use Rattle.modem_history.proofs.commands.FramesOnLine.{AsksOne, asked_first, asks_fewer, info_in, info_none}
 use Rattle.modem_history.proofs.connections.InformationGrowth.{got_grows, got_same, is_got, opens_none, sent_grows, sent_same, sent_still}
 use Rattle.modem_sim.proofs.connections.BoxesAfterFrame.{carries_data}
-use Rattle.modem_runs.proofs.two_ends.ResponderFrames.{ComesBehindUa, IsTimeless, answering, behind_ua, data_while_open, first_behind_ua, older_behind_ua, sabms, stands, uas}
+use Rattle.modem_ends.proofs.two_ends.ResponderFrames.{ComesBehindUa, IsTimeless, answering, behind_ua, data_while_open, first_behind_ua, older_behind_ua, sabms, stands, uas}
 
 -- ## Both ends
 

@@ -32,10 +32,10 @@ use Rattle.modem_sim.specs.Acts as modem
 use Rattle.modem_sim.specs.Acts.{End, Wire, Did}
 use Rattle.modem_sim.specs.Heard.{heard}
 use Rattle.modem_sim.specs.Replied.{IsFirstOf, all_of}
-use Rattle.modem_runs.specs.OneModem.{AtDriver, AtModem, EndAct, IsAnswerAt, ReadsCommands, TellsModem, driver_past, modem_past, modem_wire}
-use Rattle.modem_runs.proofs.two_ends.LinePoints.{Along, along, both_ways, driver_earlier, first_same, first_then, marks_at, modem_earlier, replied_first, replies_at}
-use Rattle.modem_runs.proofs.two_ends.ModemAnswers.{before_begun, ended_by, finishes, self_first}
-use Rattle.modem_runs.proofs.two_ends.ReplyPlaces.{answered_before, last_begun, turn_before}
+use Rattle.modem_ends.specs.OneModem.{AtDriver, AtModem, EndAct, IsAnswerAt, ReadsCommands, TellsModem, driver_past, modem_past, modem_wire}
+use Rattle.modem_ends.proofs.two_ends.LinePoints.{Along, along, both_ways, driver_earlier, first_same, first_then, marks_at, modem_earlier, replied_first, replies_at}
+use Rattle.modem_ends.proofs.two_ends.ModemAnswers.{before_begun, ended_by, finishes, self_first}
+use Rattle.modem_ends.proofs.two_ends.ReplyPlaces.{answered_before, last_begun, turn_before}
 
 -- ## What the modem reads
 

@@ -41,9 +41,9 @@ use Rattle.modem_sim.specs.Histories as modem_laws
 use Rattle.modem_sim.specs.Histories.{EachAllowed}
 use Rattle.modem_sim.specs.Replied.{AnnouncesUnsolicited, IsFirstOf, IsModem, SendsReplies, all_of, replied_on}
 use Rattle.modem_sim.proofs.replies.ReplyOrder.{sends_replies}
-use Rattle.modem_runs.specs.OneModem.{AtDriver, AtModem, ComesBothWays, EndAct, IsOneLine, IsOneModem, driver_past, driver_wire, modem_past, modem_wire}
-use Rattle.modem_runs.proofs.two_ends.ResponderFrames.{IsTimeless, answering}
-use Rattle.modem_runs.proofs.two_ends.InitiatorFrames.{Both, Near, Far, Point, Points, comes_back, far, info_later, near, prefix_more, prefix_then, same_prefix, whole_prefix}
+use Rattle.modem_ends.specs.OneModem.{AtDriver, AtModem, ComesBothWays, EndAct, IsOneLine, IsOneModem, driver_past, driver_wire, modem_past, modem_wire}
+use Rattle.modem_ends.proofs.two_ends.ResponderFrames.{IsTimeless, answering}
+use Rattle.modem_ends.proofs.two_ends.InitiatorFrames.{Both, Near, Far, Point, Points, comes_back, far, info_later, near, prefix_more, prefix_then, same_prefix, whole_prefix}
 
 -- ## What a responder gets
 

@@ -32,10 +32,10 @@ use Rattle.modem_sim.specs.Replied.{IsFirstOf, IsModem, all_of, replied_on, writ
 use Rattle.modem_sim.specs.Steps.{step}
 use Rattle.modem_sim.proofs.connections.OctetReplies.{after_lines-append}
 use Rattle.modem_sim.proofs.replies.ReplyOrder.{all-append, replied_on-append}
-use Rattle.modem_runs.specs.OneModem.{AtDriver, AtModem, EndAct, IsAnswerAt, driver_past, modem_past}
-use Rattle.modem_runs.proofs.two_ends.FinalCodes.{AllEnd, all_finals, answer_whole, answered_few, finals, some_answered, whole_by_count}
-use Rattle.modem_runs.proofs.two_ends.LinePoints.{Along, driver_earlier, first_same, first_then, marks_at, modem_earlier, read_first, replied_first, replies_at}
-use Rattle.modem_runs.proofs.two_ends.ReplyPlaces.{AllAt, RepliesAt, all_end, all_solicited_in, at_of, last_at, line_on, replied_count, replies_at_place, reply_answer, reply_ends, solicited_in}
+use Rattle.modem_ends.specs.OneModem.{AtDriver, AtModem, EndAct, IsAnswerAt, driver_past, modem_past}
+use Rattle.modem_ends.proofs.two_ends.FinalCodes.{AllEnd, all_finals, answer_whole, answered_few, finals, some_answered, whole_by_count}
+use Rattle.modem_ends.proofs.two_ends.LinePoints.{Along, driver_earlier, first_same, first_then, marks_at, modem_earlier, read_first, replied_first, replies_at}
+use Rattle.modem_ends.proofs.two_ends.ReplyPlaces.{AllAt, RepliesAt, all_end, all_solicited_in, at_of, last_at, line_on, replied_count, replies_at_place, reply_answer, reply_ends, solicited_in}
 
 -- ## Before a command begins
 

@@ -2,8 +2,8 @@
 ghost use Rattle.std.specs.Prelude.{List};
 ghost use Rattle.modem_history.specs.Calls.{Setting};
 ghost use Rattle.modem_sim.specs.Acts.{End};
-ghost use Rattle.modem_runs.specs.OneModem.{EndAct, ReadsCommands, TellsModem};
-ghost use Rattle.modem_runs.specs.OneModemRows.{RightAnswer, RightLine, WrongAnswers, WrongLines};
+ghost use Rattle.modem_ends.specs.OneModem.{EndAct, ReadsCommands, TellsModem};
+ghost use Rattle.modem_ends.specs.OneModemRows.{RightAnswer, RightLine, WrongAnswers, WrongLines};
 
 /// The lines that the modem reads, over all connections, are commands that the driver was given, each on its connection, in
 /// the order in which they were wholly sent. Each command told Done is among them, at its place, and what it is told is what

@@ -1,0 +1,3 @@
+pub mod two_ends
+pub mod law_proofs
+pub mod rows

@@ -1,0 +1,2 @@
+pub mod OneModem
+pub mod OneModemRows
