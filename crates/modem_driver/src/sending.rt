@@ -1,10 +1,11 @@
 //! Frames that go out.
-ghost use Rattle.std.specs.Prelude.{◌≡◌, ◌≤◌, length, option_map, IfNone, IfSome};
+ghost use Rattle.std.specs.Prelude.{◌≡◌, ◌≤◌, length, nat_le, option_map, IfNone, IfSome};
 ghost use Rattle.modem_driver.specs.Running.{CoreIsIdle};
 ghost use Rattle.std.specs.Option.{option_copied};
 ghost use Rattle.std.specs.Borrow.{sem};
 ghost use Rattle.std.specs.Io.BufRead.{Rests};
 ghost use Rattle.mux_station.specs.GivenFrames.{outgoing_of};
+ghost use Rattle.mux_station.specs.Stations.{channel_at};
 ghost use Rattle.modem_history.specs.Information.{line_of};
 ghost use Rattle.modem_history.specs.Calls.{first_on};
 ghost use Rattle.modem_driver.specs.CoreGoing.{begun_by, begun_next, gone_on, GoesOut, CoreGoesOn, LeavesLess, SendsTruly};
@@ -48,6 +49,14 @@ impl Core {
         }
     }
 
+    /// Whether all octets that wait on the connection fit one frame.
+    fn fits_a_frame(&self, dlci: Dlci) -> bool
+        ensures { result
+            ≡ nat_le (length (channel_at self.now.station dlci.number).waiting) self.now.station.n1 }
+    {
+        self.station.waiting(dlci) <= usize::from(self.n1)
+    }
+
     /// A command whose last octets go out next begins its window.
     fn begin_next(&mut self)
         ensures after { self.new ≡ begun_next self.old }
@@ -56,7 +65,7 @@ impl Core {
         let Some(dlci) = self.station.next_sender() else {
             return;
         };
-        if self.station.waiting(dlci) <= usize::from(self.n1) {
+        if self.fits_a_frame(dlci) {
             self.begin_first(dlci);
         }
     }

@@ -2,7 +2,7 @@
 use crate::near::Near;
 use crate::setup::Setup;
 use crate::sims::made;
-use crate::words::{BAD, Host, Lines, Player, play_all};
+use crate::words::{BAD, Host, Lines, Player, play_begun};
 use modem_driver::Turn;
 use modem_runs::Stop;
 use modem_sim::{Sim, SimTurn};
@@ -50,16 +50,25 @@ impl<R: Host> Player for Pair<R> {
     }
 }
 
+/// The two ends of a line.
+fn ends(setup: &Setup) -> Result<(ThreadLine, ThreadLine), Stop> {
+    match ThreadLine::pair(setup.alloc, setup.room) {
+        Ok(ends) => Ok(ends),
+        Err(LineError::BadRoom) => Err(BAD),
+        Err(LineError::NoMemory) => Err(Stop::NoMemory),
+    }
+}
+
+fn begin<R: Host>(rt: R, setup: &mut Setup) -> Result<Pair<R>, Stop> {
+    let (one, other) = ends(setup)?;
+    let near = Near::new(rt, one, setup)?;
+    let sim = made(other, setup)?;
+    Ok(Pair { near, sim })
+}
+
 /// Plays the lines that follow.
 pub fn play<R: Host>(lines: &mut Lines<R>, setup: &mut Setup) -> Result<(), Stop> {
-    let (one, other) = match ThreadLine::pair(setup.alloc, setup.room) {
-        Ok(ends) => ends,
-        Err(LineError::BadRoom) => return Err(BAD),
-        Err(LineError::NoMemory) => return Err(Stop::NoMemory),
-    };
-    let near = Near::new(lines.rt, one, setup)?;
-    let sim = made(other, setup)?;
-    let mut pair = Pair { near, sim };
-    play_all(lines, &mut pair)?;
+    let begun = begin(lines.rt, setup);
+    play_begun(lines, begun)?;
     Ok(())
 }

@@ -1,7 +1,7 @@
 //! A session on a line in memory.
 use crate::near::{Near, caller_takes};
 use crate::setup::Setup;
-use crate::words::{Host, Lines, Player, octets, play_all, print_octets, split};
+use crate::words::{Host, Lines, Player, octets, play_begun, print_octets, split};
 use modem_desk::DriverEnd;
 use modem_driver::enter;
 use modem_runs::Stop;
@@ -83,11 +83,16 @@ impl<R: Host> Player for Played<R> {
     }
 }
 
+fn begin<R: Host>(rt: R, setup: &Setup) -> Result<Played<R>, Stop> {
+    let line = setup.line()?;
+    let near = Near::new(rt, line, setup)?;
+    Ok(Played { near, printed: 0 })
+}
+
 /// Plays the lines that follow.
 pub fn play<R: Host>(lines: &mut Lines<R>, setup: &Setup) -> Result<(), Stop> {
-    let near = Near::new(lines.rt, setup.line()?, setup)?;
-    let mut played = Played { near, printed: 0 };
-    if play_all(lines, &mut played)? {
+    let begun = begin(lines.rt, setup);
+    if let Some(played) = play_begun(lines, begun)? {
         played.finish();
     }
     Ok(())

@@ -74,6 +74,18 @@ pub fn play_all<R: Host, P: Player>(lines: &mut Lines<R>, player: &mut P) -> Res
     unreachable!()
 }
 
+/// The same with a player that was begun, which is given back where a line was the last one.
+pub fn play_begun<R: Host, P: Player + Drop>(
+    lines: &mut Lines<R>,
+    begun: Result<P, Stop>,
+) -> Result<Option<P>, Stop> {
+    let mut player = begun?;
+    if play_all(lines, &mut player)? {
+        return Ok(Some(player));
+    }
+    Ok(None)
+}
+
 /// The first word, and what follows it.
 pub fn split(line: &str) -> (&str, &str) {
     match line.split_once(' ') {

@@ -1,3 +1,2 @@
 pub mod inputs
 pub mod outputs
-pub mod bench_runs

@@ -1,12 +1,9 @@
 pub mod Bench
-pub mod Calling
-pub mod Driving
 pub mod Dump
 pub mod Framing
 pub mod Input
 pub mod Printed
 pub mod Script
-pub mod Running
 pub mod Shown
 pub mod Statuses
 pub mod Texts

@@ -10,11 +10,11 @@ use Rattle.modem_desk.specs.declared.request.Outcome.{Outcome}
 use Rattle.modem_runs.specs.Bench.{AreSubmitted}
 use Rattle.modem_runs.specs.Dump.{dump_octets}
 use Rattle.modem_runs.specs.Input.{input_lines}
-use Rattle.modem_runs.specs.Running.{Ran}
+use Rattle.modem_bench.specs.Running.{Ran}
 use Rattle.modem_runs.specs.Script.{IsScript}
 use Rattle.modem_runs.specs.Shown.{outcomes_text}
 use Rattle.modem_runs.specs.Texts.{acts_text, frames_text}
-use Rattle.modem_runs.specs.declared.bench.submissions.Submission.{Submission}
+use Rattle.modem_bench.specs.declared.submission.Submission.{Submission}
 
 -- a text stands for octets, and this is printed of the frames that they are read as, and of the rest
 pub record IsFramed (n1 : ℕ) (text shown : List ℕ) : Type 0 where

@@ -6,21 +6,15 @@ ghost use Rattle.modem_runs.specs.Input.{HasBad, IsFirstBad, input_lines};
 ghost use Rattle.modem_runs.specs.Printed.{IsBenched, IsNoBench, IsPrinted};
 ghost use Rattle.modem_runs.specs.declared.stop.Stop.TheVariants as Stop;
 
-mod calling;
-mod driving;
-mod running;
 mod showing;
-mod signals;
-mod simulating;
 mod submissions;
 
 use crate::input::read_whole;
 use crate::runs::{finish, give_up};
 use crate::stop::Stop;
+use modem_bench::{Fault, run_bench};
 use modem_sim::Script;
-use running::run_bench;
 use showing::outcomes_text;
-use signals::Fault;
 use std::alloc::{AllocGlobal, Global};
 use std::io::{Read, Write};
 use std::random::RandomSource;

@@ -1,3 +1,125 @@
-//! Tests of a core and of a session.
-mod no_memory;
-mod steps;
+//! A core on the line: a stop holds up the rest of a command.
+use at_text::CommandLine;
+use modem_driver::*;
+use mux_frame::{Deframer, Dlci, FrameView, Kind, write_frame};
+use std::alloc::Global;
+use std::process::Abort;
+use std::test::Fail;
+
+/// What is done to a core, and what has to come of it.
+#[derive(Clone, Copy)]
+enum Step {
+    Open(u8),
+    /// A command is to be sent on 1.
+    Command(&'static [u8]),
+    /// A frame comes.
+    Got(&'static [u8]),
+    /// The next frame that leaves, as the line gets it; nothing where none does.
+    Leaves(&'static [u8]),
+}
+
+const MSC_READY: &[u8] = b"\xF9\x03\xEF\x09\xE3\x05\x07\x8D\xFB\xF9";
+
+/// Opens 0 and 1.
+const OPENED: &[Step] = &[
+    Step::Open(0),
+    Step::Leaves(b"\xF9\x03\x3F\x01\x1C\xF9"),
+    Step::Got(b"\xF9\x03\x73\x01\xD7\xF9"),
+    Step::Open(1),
+    Step::Leaves(b"\xF9\x07\x3F\x01\xDE\xF9"),
+    Step::Got(b"\xF9\x07\x73\x01\x15\xF9"),
+    Step::Leaves(MSC_READY),
+    Step::Leaves(b""),
+];
+
+/// Of a command of 37 octets 31 leave; an MSC that stops the connection holds up the rest until the next one.
+const STOPPED_MIDWAY: &[Step] = &[
+    Step::Command(b"AT+CGDCONT=1,\"IP\",\"internet.example\""),
+    Step::Leaves(b"\xF9\x07\xEF\x3FAT+CGDCONT=1,\"IP\",\"internet.exa\xF9\xF9"),
+    Step::Got(b"\xF9\x01\xEF\x09\xE3\x05\x07\x0F\x9A\xF9"),
+    Step::Leaves(b"\xF9\x03\xEF\x09\xE1\x05\x07\x0F\xFB\xF9"),
+    Step::Leaves(b""),
+    Step::Got(b"\xF9\x01\xEF\x09\xE3\x05\x07\x0D\x9A\xF9"),
+    Step::Leaves(b"\xF9\x03\xEF\x09\xE1\x05\x07\x0D\xFB\xF9"),
+    Step::Leaves(b"\xF9\x07\xEF\x0D\x6D\x70\x6C\x65\x22\x0D\x3E\xF9"),
+    Step::Leaves(b""),
+];
+
+fn dlci(number: u8) -> Result<Dlci, Fail> {
+    let dlci = Dlci::new(number).ok_or("no such DLCI")?;
+    Ok(dlci)
+}
+
+fn took(core: &mut Core, ask: Ask) -> Result<(), Fail> {
+    let request = Request {
+        caller: 0,
+        number: 1,
+        ask,
+    };
+    match core.took(request) {
+        Ok(_) => Ok(()),
+        Err((why, _)) => Err(why.into()),
+    }
+}
+
+/// The first frame in these octets comes.
+fn got(alloc: Global, core: &mut Core, octets: &[u8]) -> Result<(), Fail> {
+    let mut deframer = Deframer::new(alloc, 31)?;
+    deframer.feed(octets);
+    let frame = deframer.peek().ok_or("no frame")?;
+    let most = match frame.kind {
+        Kind::Uih => core.n1(),
+        _ => 0,
+    };
+    if frame.info.len() > usize::from(most) {
+        return Err("too long".into());
+    }
+    core.got(frame)?;
+    Ok(())
+}
+
+fn spelled(alloc: Global, frame: FrameView<'_>) -> Result<Vec<u8>, Fail> {
+    let mut octets = Vec::new(alloc);
+    write_frame(frame, 31, &mut octets)?;
+    Ok(octets)
+}
+
+/// The next frame as the line gets it, or nothing.
+fn leaves(alloc: Global, core: &mut Core) -> Result<Vec<u8>, Fail> {
+    match core.outgoing() {
+        Some(outgoing) => spelled(alloc, outgoing.frame),
+        None => Ok(Vec::new(alloc)),
+    }
+}
+
+fn play_one(rt: &impl Abort, alloc: Global, core: &mut Core, step: Step) -> Result<(), Fail> {
+    match step {
+        Step::Open(number) => took(core, Ask::OpenChannel(dlci(number)?)),
+        Step::Command(text) => {
+            let line = CommandLine::new(alloc, text)?;
+            took(core, Ask::Command(dlci(1)?, line))
+        }
+        Step::Got(octets) => got(alloc, core, octets),
+        Step::Leaves(octets) => {
+            assert_eq!(rt; leaves(alloc, core)?.as_slice(), octets);
+            Ok(())
+        }
+    }
+}
+
+/// A new core on which 0 and 1 are opened, and then these steps.
+fn play(rt: &impl Abort, alloc: Global, steps: &[Step]) -> Result<(), Fail> {
+    let mut core = Core::new(alloc, 31, &[])?;
+    for step in OPENED {
+        play_one(rt, alloc, &mut core, *step)?;
+    }
+    for step in steps {
+        play_one(rt, alloc, &mut core, *step)?;
+    }
+    Ok(())
+}
+
+#[test]
+fn a_stop_holds_up_the_rest_of_a_command(rt: HostRuntime) -> Result<(), Fail> {
+    play(&rt, rt.alloc(), STOPPED_MIDWAY)
+}

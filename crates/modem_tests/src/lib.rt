@@ -1,7 +1,18 @@
-//! The tests of the driver and of the program that stored runs can't show.
+//! The tests of what stored runs can't show: of frames, a station, lines of octets and the desk, of the core, of the program's runs,
+//! and of which calls take no memory.
 #![tactic(auto)]
 
 #[cfg(test)]
+mod desk;
+#[cfg(test)]
 mod driver;
 #[cfg(test)]
+mod frames;
+#[cfg(test)]
+mod lines;
+#[cfg(test)]
+mod no_memory;
+#[cfg(test)]
 mod program;
+#[cfg(test)]
+mod station;

@@ -7,21 +7,29 @@ use modem_desk::Urc;
 use modem_driver::Act;
 use modem_runs::{frames_run, push_act, replay_run};
 use mux_frame::Dlci;
+use std::alloc::Global;
 use std::io;
 use std::io::{ErrorKind, Read, Write};
 use std::test::Fail;
+
+// A line of octets that are printed as they are and others.
+fn heard(alloc: Global, dlci: Dlci) -> Result<Act, Fail> {
+    let line = Text::from(vec![in alloc; 0x20, 0x7E, 0x7F, 0xFF, 0x1F]?);
+    let kind = UrcKind::Cgreg;
+    Ok(Act::Heard(Urc { kind, dlci, line }))
+}
 
 #[test]
 fn acts_without_a_request_are_printed(rt: HostRuntime) -> Result<(), Fail> {
     let alloc = rt.alloc();
     let dlci = Dlci::new(61).ok_or("61 is a connection")?;
     let mut text = String::new(alloc);
-    for act in [Act::Tick, Act::Lost, Act::Held(dlci), Act::Freed(dlci)] {
-        push_act(alloc, &act, &mut text)?;
-    }
-    let line = Text::from(vec![in alloc; 0x20, 0x7E, 0x7F, 0xFF, 0x1F]?);
-    let kind = UrcKind::Cgreg;
-    push_act(alloc, &Act::Heard(Urc { kind, dlci, line }), &mut text)?;
+    push_act(alloc, &Act::Tick, &mut text)?;
+    push_act(alloc, &Act::Lost, &mut text)?;
+    push_act(alloc, &Act::Held(dlci), &mut text)?;
+    push_act(alloc, &Act::Freed(dlci), &mut text)?;
+    let act = heard(alloc, dlci)?;
+    push_act(alloc, &act, &mut text)?;
     let want = "tick\nlost\nheld 61\nfreed 61\nheard CGREG 61  ~\\x7f\\xff\\x1f\n";
     assert_eq!(rt; text.as_str(), want);
     Ok(())

@@ -17,7 +17,7 @@ use modem_desk::{Outcome, Request, Urc};
 use mux_frame::Deframer;
 use mux_station::WriteBuffer;
 use serial_line::ReadBuffer;
-use std::alloc::Global;
+use std::alloc::{AllocError, Global};
 use std::marker::Model;
 
 /// The core, the octets that come and go, what waits for a place at the desk, a request kept aside,
@@ -55,6 +55,17 @@ impl Model for Kept {
     ghost invariant = { λ k. k.core.station.n1 ≡ k.deframer.n1 };
 }
 
+/// Room for the octets that come and go, and for what waits.
+fn make_room(alloc: Global) -> Result<(ReadBuffer, WriteBuffer, Waiting), AllocError>
+    ensures octets { IfOk result (λ room. (room.0 ≡ []) × (room.1 ≡ [])) }
+    ensures waiting { IfOk result (λ room. (room.2.outcomes ≡ []) × (room.2.lines ≡ [])) }
+{
+    let input = ReadBuffer::new(alloc)?;
+    let output = WriteBuffer::new(alloc)?;
+    let waiting = Waiting::new(alloc)?;
+    Ok((input, output, waiting))
+}
+
 impl Kept {
     /// Nothing has happened yet; it listens to these kinds. It takes all the room that it needs but
     /// for lines that wait. Refusals: 2 BadN1, checked first; 1 NoMemory.
@@ -72,13 +83,14 @@ impl Kept {
         let Ok(deframer) = Deframer::new(alloc, n1) else {
             return Err(SessionError::NoMemory);
         };
+        let (input, output, waiting) = make_room(alloc)?;
         Ok(Kept {
             core,
             aside: None,
-            input: ReadBuffer::new(alloc)?,
+            input,
             deframer,
-            output: WriteBuffer::new(alloc)?,
-            waiting: Waiting::new(alloc)?,
+            output,
+            waiting,
             faulty: false,
             course: Course::GoesOn,
         })

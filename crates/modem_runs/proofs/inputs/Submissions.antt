@@ -4,7 +4,7 @@ use Rattle.std.specs.Str.Iter.{LacksByte}
 use Rattle.std.proofs.Common.{sym, ap, ◌∙◌}
 use Rattle.std.proofs.lemmas.List.{append_assoc, append-nil}
 use Rattle.at_text.specs.Commands.{refusal_of}
-use Rattle.modem_runs.specs.declared.bench.submissions.Submission.{Submission}
+use Rattle.modem_bench.specs.declared.submission.Submission.{Submission}
 use Rattle.modem_runs.specs.Bench.{AreSubmitted, IsNoCommand, IsNoSubmission, Submits, SubmitsNothing}
 use Rattle.modem_runs.specs.Input.{input_lines}
 use Rattle.modem_runs.specs.Script.{number_text}

@@ -1,6 +1,6 @@
 //! The input of a bench: a line for each command.
-ghost use Rattle.std.specs.Prelude.{◌≡◌, ◌≢◌, ℕ, ◌<◌, ◌≤◌, IfOk, MatchResult};
-ghost use Rattle.modem_runs.specs.Bench.{AreSubmitted, IsCommand, IsNoCommand, IsNoSubmission, Submits, SubmitsNothing, asks_for, is_named};
+ghost use Rattle.std.specs.Prelude.{◌≡◌, ◌≢◌, ℕ, ◌<◌, ◌≤◌, MatchResult};
+ghost use Rattle.modem_runs.specs.Bench.{AreSubmitted, IsCommand, IsNoCommand, IsNoSubmission, Submits, SubmitsNothing};
 ghost use Rattle.modem_runs.specs.Input.{IsReason, input_lines};
 ghost use Rattle.modem_runs.specs.Script.{number_text};
 ghost use Rattle.modem_runs.specs.declared.stop.Refusal.TheVariants as Refusal;
@@ -9,17 +9,9 @@ use crate::input::{next_line, split_once};
 use crate::script::connection_of;
 use crate::stop::{Refusal, Stop};
 use at_text::CommandLine;
-use modem_desk::Ask;
+use modem_bench::Submission;
 use mux_frame::Dlci;
-use std::alloc::{AllocError, Global};
-
-/// A line: a caller, a connection that isn't 0, and a command line.
-#[derive(Drop, Debug)]
-pub struct Submission {
-    pub caller: u8,
-    pub dlci: Dlci,
-    pub line: CommandLine,
-}
+use std::alloc::Global;
 
 /// The number of a caller in decimal: below the number of callers.
 fn caller_of(callers: u8, word: &[u8]) -> Result<u8, Refusal>
@@ -95,34 +87,4 @@ pub fn read_submissions(alloc: Global, callers: u8, input: &[u8]) -> Result<Vec<
         }
     }
     Ok(all)
-}
-
-/// Whether one of these is for this connection.
-pub fn names(submissions: &[Submission], dlci: Dlci) -> bool
-    ensures { result ≡ is_named submissions.now dlci.number }
-{
-    for submission in submissions {
-        if submission.dlci.number() == dlci.number() {
-            return true;
-        }
-    }
-    false
-}
-
-/// What this caller asks for, in order.
-pub fn asks_for(
-    alloc: Global,
-    submissions: &[Submission],
-    caller: u8,
-) -> Result<Vec<Ask>, AllocError>
-    ensures { IfOk result (λ asks. asks.items ≡ asks_for caller submissions.now) }
-{
-    let mut asks = Vec::new(alloc);
-    for submission in submissions {
-        if submission.caller == caller {
-            let line = submission.line.copy()?;
-            asks.push(Ask::Command(submission.dlci, line))?;
-        }
-    }
-    Ok(asks)
 }

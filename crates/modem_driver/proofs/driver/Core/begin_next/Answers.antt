@@ -10,9 +10,9 @@ pub returns-in_default-clause-sender : goal.returns-in_default-clause-sender
 returns-in_default-clause-sender c = subst (λ (v : Core). SendsTruly v.station) c.self.view_is (sends_truly c.self.inside.station c.next_sender.result c.next_sender.ensures.value c.next_sender.ensures.past)
 
 -- src/sending.rt:48:5
-pub returns-then-waiting-from-clause-sender : goal.returns-then-waiting-from-clause-sender
-returns-then-waiting-from-clause-sender c = subst (λ (v : Core). SendsTruly v.station) c.self.view_is (sends_truly c.self.inside.station c.next_sender.result c.next_sender.ensures.value c.next_sender.ensures.past)
+pub returns-then-fits_a_frame-clause-sender : goal.returns-then-fits_a_frame-clause-sender
+returns-then-fits_a_frame-clause-sender c = subst (λ (v : Core). SendsTruly v.station) c.self.view_is (sends_truly c.self.inside.station c.next_sender.result c.next_sender.ensures.value c.next_sender.ensures.past)
 
 -- src/sending.rt:48:5
-pub returns-else-waiting-from-clause-sender : goal.returns-else-waiting-from-clause-sender
-returns-else-waiting-from-clause-sender c = subst (λ (v : Core). SendsTruly v.station) c.self.view_is (sends_truly c.self.inside.station c.next_sender.result c.next_sender.ensures.value c.next_sender.ensures.past)
+pub returns-else-fits_a_frame-clause-sender : goal.returns-else-fits_a_frame-clause-sender
+returns-else-fits_a_frame-clause-sender c = subst (λ (v : Core). SendsTruly v.station) c.self.view_is (sends_truly c.self.inside.station c.next_sender.result c.next_sender.ensures.value c.next_sender.ensures.past)

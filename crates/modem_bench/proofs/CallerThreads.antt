@@ -1,0 +1,135 @@
+-- Callers that go out, work and come back.
+use Rattle.std.specs.Prelude.{◌≡◌, ℕ, ◌+◌, ◌<◌, List, [], ◌∷◌, ◌++◌, length, map, refl, vec_items, Result, Ok, Err, IfOk, OnOk, slice_index_or, slice_set}
+use Rattle.std.proofs.Common.{ap, ◌∙◌, sym, arith, subst}
+use Rattle.std.specs.declared.vec.Vec.{Vec}
+use Rattle.std.specs.declared.alloc.Global.{Global}
+use Rattle.modem_desk.specs.declared.request.Ask.{Ask}
+use Rattle.modem_desk.specs.declared.request.Outcome.{Outcome}
+use Rattle.modem_desk.specs.Ends.{CallerView, Place, place_of}
+use Rattle.modem_bench.specs.Asks.{asks_for}
+use Rattle.modem_bench.specs.Calling.{OpensAll, Stops, Works}
+use Rattle.modem_bench.specs.Running.{AllWork, AreBack, AreCalled, AreOut, ComesBack, IsBack, IsOut, OpensFirst, Ran, StopsFirst, Work}
+use Rattle.modem_bench.specs.declared.calling.Worked.{Worked}
+use Rattle.modem_bench.specs.declared.signals.Fault.{Fault}
+use Rattle.modem_bench.specs.declared.submission.Submission.{Submission}
+
+pub out_none : (all : List Submission) (n : ℕ) → AreOut all n [] []
+unfolding AreOut
+out_none all n = tt
+
+pub out_more : (all : List Submission) (n : ℕ) (cs : List CallerView) (hs : List Work) (c : CallerView) (h : Work) → AreOut all n cs hs → IsOut all (n + length cs) c h → AreOut all n (cs ++ c ∷ []) (hs ++ h ∷ [])
+unfolding AreOut
+out_more all n [] [] c h out is = let e : n + 0 ≡ n = omega arith in (subst (λ m. IsOut all m c h) e is, tt)
+out_more all n [] (k ∷ hs) c h out is = absurd out
+out_more all n (d ∷ cs) [] c h out is = absurd out
+out_more all n (d ∷ cs) (k ∷ hs) c h out is =
+    let e : n + length (d ∷ cs) ≡ n + 1 + length cs = omega arith in
+    (out.0, out_more all (n + 1) cs hs c h out.1 (subst (λ m. IsOut all m c h) e is))
+
+pub back_none : AreBack [] []
+unfolding AreBack
+back_none = tt
+
+pub back_more : (hs : List Work) (ws : List Worked) (h : Work) (w : Worked) → AreBack hs ws → IsBack h w → AreBack (hs ++ h ∷ []) (ws ++ w ∷ [])
+unfolding AreBack
+back_more [] [] h w back is = (is, tt)
+back_more [] (v ∷ ws) h w back is = absurd back
+back_more (k ∷ hs) [] h w back is = absurd back
+back_more (k ∷ hs) (v ∷ ws) h w back is = (back.0, back_more hs ws h w back.1 is)
+
+pub back_next : (end : Result (Unit {0}) Fault) (hs : List Work) (ws vs : List Worked) (h : Work) → OnOk end (AreBack hs ws) → ComesBack h ws vs → OnOk end (AreBack (hs ++ h ∷ []) vs)
+back_next (Ok x) hs ws vs h back comes = subst (AreBack (hs ++ h ∷ [])) (sym comes.items) (back_more hs ws h comes.worked back comes.is_back)
+back_next (Err e) hs ws vs h back comes = tt
+
+pub all_work : (all : List Submission) (n : ℕ) (cs : List CallerView) (hs : List Work) (ws : List Worked) → AreOut all n cs hs → AreBack hs ws → AllWork all n cs ws
+unfolding AreOut AreBack AllWork
+all_work all n [] [] [] out back = tt
+all_work all n [] [] (w ∷ ws) out back = absurd back
+all_work all n [] (h ∷ hs) ws out back = absurd out
+all_work all n (c ∷ cs) [] ws out back = absurd out
+all_work all n (c ∷ cs) (h ∷ hs) [] out back = absurd back
+all_work all n (c ∷ cs) (h ∷ hs) (w ∷ ws) out back = (
+  subst (λ (x : CallerView × List Ask). Works x.0 w.caller x.1 w.outcomes.items) (λ i. (out.0.was i, out.0.asks i)) back.0,
+  all_work all (n + 1) cs hs ws out.1 back.1,
+)
+
+pub opened_long : (all : List Submission) (old new : List CallerView) → OpensFirst all old new → length new ≡ length old
+unfolding OpensFirst
+opened_long all [] new h = absurd h
+opened_long all (c ∷ cs) [] h = absurd h
+opened_long all (c ∷ cs) (d ∷ ds) h = ap (λ (l : List CallerView). length (c ∷ l)) h.1
+
+pub back_long : (all : List Submission) (n : ℕ) (cs : List CallerView) (ws : List Worked) → AllWork all n cs ws → length ws ≡ length cs
+unfolding AllWork
+back_long all n [] [] h = refl
+back_long all n [] (w ∷ ws) h = absurd h
+back_long all n (c ∷ cs) [] h = absurd h
+back_long all n (c ∷ cs) (w ∷ ws) h = let later = back_long all (n + 1) cs ws h.1 in omega (arith, later)
+
+pub are_called : (all : List Submission) (cs ds : List CallerView) (ws vs : List Worked) → OpensFirst all cs ds → AllWork all 0 ds ws → StopsFirst ws vs → AreCalled all cs vs
+unfolding OpensFirst AllWork StopsFirst AreCalled
+are_called all [] ds ws vs o h s = absurd o
+are_called all (c ∷ cs) [] ws vs o h s = absurd o
+are_called all (c ∷ cs) (d ∷ ds) [] vs o h s = absurd h
+are_called all (c ∷ cs) (d ∷ ds) (w ∷ ws) [] o h s = absurd s
+are_called all (c ∷ cs) (d ∷ ds) (w ∷ ws) (v ∷ vs) o h s = (
+  record {
+    first = d;
+    later = w.caller;
+    opens = o.0;
+    works = subst (λ (x : Vec Outcome Global). Works d w.caller (asks_for 0 all) (vec_items x)) (sym s.1) h.0;
+    stops = s.0;
+  },
+  subst (λ (x : List CallerView × List Worked). AllWork all 1 x.0 x.1) (λ i. (o.1 i, sym s.2 i)) h.1,
+)
+
+works_places : (all : List Submission) (n : ℕ) (cs : List CallerView) (ws : List Worked) → AllWork all n cs ws → map (λ (w : Worked). w.caller.place) ws ≡ map place_of cs
+unfolding AllWork
+works_places all n [] [] h = refl
+works_places all n [] (w ∷ ws) h = absurd h
+works_places all n (c ∷ cs) [] h = absurd h
+works_places all n (c ∷ cs) (w ∷ ws) h = let later = works_places all (n + 1) cs ws h.1 in λ i. h.0.place i ∷ later i
+
+-- each caller keeps its place at the desk
+pub called_places : (all : List Submission) (cs : List CallerView) (ws : List Worked) → AreCalled all cs ws → map (λ (w : Worked). w.caller.place) ws ≡ map place_of cs
+unfolding AreCalled
+called_places all [] ws h = absurd h
+called_places all (c ∷ cs) [] h = absurd h
+called_places all (c ∷ cs) (w ∷ ws) h =
+    let place : w.caller.place ≡ c.place = h.0.stops.place ∙ h.0.works.place ∙ h.0.opens.opens.place in
+    let later = works_places all 1 cs ws h.1 in
+    λ i. place i ∷ later i
+
+pub called_long : (all : List Submission) (cs : List CallerView) (ws : List Worked) → AreCalled all cs ws → length ws ≡ length cs
+unfolding AreCalled
+called_long all [] ws h = absurd h
+called_long all (c ∷ cs) [] h = absurd h
+called_long all (c ∷ cs) (w ∷ ws) h = let later = back_long all 1 cs ws h.1 in omega (arith, later)
+
+pub maps_through : (ws : List Worked) (cs : List CallerView) → cs ≡ map (λ (w : Worked). w.caller) ws → map place_of cs ≡ map (λ (w : Worked). w.caller.place) ws
+maps_through [] cs e = ap (map place_of) e
+maps_through (w ∷ ws) cs e = ap (map place_of) e ∙ ap (λ (l : List Place). w.caller.place ∷ l) (maps_through ws (map (λ (w : Worked). w.caller) ws) refl)
+
+pub lists_through : (ws : List Worked) (vs : List (Vec Outcome Global)) → vs ≡ map (λ (w : Worked). w.outcomes) ws → map vec_items vs ≡ map (λ (w : Worked). w.outcomes.items) ws
+lists_through [] vs e = ap (map vec_items) e
+lists_through (w ∷ ws) vs e = ap (map vec_items) e ∙ ap (λ (l : List (List Outcome)). w.outcomes.items ∷ l) (lists_through ws (map (λ (w : Worked). w.outcomes) ws) refl)
+
+pub on_ok : {A E P Q : Type 0} (r : Result A E) → (P → Q) → OnOk r P → OnOk r Q
+on_ok (Ok x) f h = f h
+on_ok (Err e) f h = tt
+
+pub opens_first : (all : List Submission) (cs : List CallerView) (c d : CallerView) → 0 < length cs → c ≡ slice_index_or cs 0 c → OpensAll all 62 c d → OpensFirst all cs (slice_set cs 0 d)
+unfolding OpensFirst
+opens_first all [] c d lt e h = absurd (omega (arith, lt))
+opens_first all (x ∷ cs) c d lt e h = (subst (λ (y : CallerView). OpensAll all 62 y d) e h, refl)
+
+pub stops_first : (ws : List Worked) (w : Worked) (d : CallerView) → 0 < length ws → w ≡ slice_index_or ws 0 w → Stops w.caller d → StopsFirst ws (slice_set ws 0 (record { caller = d; outcomes = w.outcomes }))
+unfolding StopsFirst
+stops_first [] w d lt e h = absurd (omega (arith, lt))
+stops_first (x ∷ ws) w d lt e h = (subst (λ (y : Worked). Stops y.caller d) e h, ap (λ (y : Worked). y.outcomes) e, refl)
+
+pub known_ok : {A E : Type 0} (P : A → Type 0) (r : Result A E) (x : A) → r ≡ Ok x → IfOk r P → P x
+known_ok {A} {E} P r x e h = subst (λ (s : Result A E). IfOk s P) e h
+
+pub ran_many : (all : List Submission) (count : ℕ) (os : List (List Outcome)) → Ran all count os → length os ≡ count
+ran_many all count os h = h.ran.one_each ∙ h.fresh.many

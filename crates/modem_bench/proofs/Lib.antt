@@ -1,0 +1,2 @@
+pub mod CallerThreads
+pub mod Settlements

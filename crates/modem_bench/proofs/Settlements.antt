@@ -1,0 +1,122 @@
+-- The run of a bench: its session begins, goes on and is finished, and then its desk is settled.
+use Rattle.std.specs.Prelude.{◌≡◌, ℕ, zero, suc, replicate, true, List, [], ◌++◌, drop, length, map, nat_lt, refl, vec_items, slice_index_or, Option, Some, IfSome}
+use Rattle.std.specs.List.{list_all}
+use Rattle.std.proofs.Common.{ap, ◌∙◌, sym, subst}
+use Rattle.std.proofs.lemmas.List.{length-map}
+use Rattle.std.specs.declared.vec.Vec.{Vec}
+use Rattle.std.specs.declared.alloc.Global.{Global}
+use Rattle.at_text.specs.declared.unsolicited.UrcKind.{UrcKind}
+use Rattle.modem_desk.specs.declared.request.Outcome.{Outcome}
+use Rattle.modem_desk.specs.declared.request.Request.{Request}
+use Rattle.modem_desk.specs.declared.settling.Settled.{Settled}
+use Rattle.modem_desk.specs.Ends.{AreSubscribed, CallerView, DeskId, DriverView, IsWhole, ListenerView, Opened, subscription_of, place_of}
+use Rattle.modem_history.specs.Acts.{after}
+use Rattle.modem_history.specs.Sessions.{EndView, LineView, at_place, taken_since}
+use Rattle.modem_driver.specs.Headline.{IsHeadline, IsSettled, Run}
+use Rattle.modem_driver.specs.Polls.{SessionGoesOn}
+use Rattle.modem_driver.specs.SessionStates.{FitsAll, SessionState, beginning_of, end_of, session_view}
+use Rattle.modem_driver.proofs.law_proofs.Headlines.{headline}
+use Rattle.modem_driver.proofs.sessions.Polls.{goes_none, goes_then}
+use Rattle.modem_driver.proofs.sessions.TakenRequests.{takes_none, takes_then}
+use Rattle.modem_bench.specs.Driving.{Continues, IsBegun, IsOver}
+use Rattle.modem_bench.specs.Running.{AreCalled, RanFor}
+use Rattle.modem_bench.specs.declared.calling.Worked.{Worked}
+use Rattle.modem_bench.specs.declared.submission.Submission.{Submission}
+use Rattle.modem_bench.proofs.CallerThreads.{called_long, lists_through}
+
+none_at : {A : Type 0} → (n i : ℕ) → at_place {A = A} i (replicate n []) ≡ []
+none_at zero zero = refl
+none_at zero (suc i) = refl
+none_at (suc n) zero = refl
+none_at (suc n) (suc i) = none_at n i
+
+module _ {X : Type 0} (look : X → LineView) where
+  -- ## It begins, and goes on
+
+  pub begins : (n1 : ℕ) (l : LineView) (count : ℕ) (kinds : List UrcKind) (first : ℕ) (d : DriverView) (cs : List CallerView) (ls : List ListenerView) (s : SessionState X)
+      → Opened count kinds first d cs ls → FitsAll (beginning_of n1 l d) look s [] → s.driver ≡ d → IsBegun look s
+  begins n1 l count kinds first d cs ls s o fits same = record {
+    start = beginning_of n1 l d;
+    fits = fits;
+    none_taken = o.taken;
+    none_told = λ c. ap (λ xss. slice_index_or xss c []) o.told ∙ none_at count c;
+    none_announced = λ i. ap (λ xss. slice_index_or xss i []) o.announced ∙ none_at (length kinds) i;
+    desk = ap end_of same;
+    kinds = ap (λ (v : DriverView). v.desk.kinds) same;
+  }
+
+  pub continues_none : (s : SessionState X) → Continues look s s
+  continues_none s = record { takes = takes_none s.driver; goes = goes_none look s }
+
+  pub continues_then : (s0 s1 s2 : SessionState X) → Continues look s0 s1 → Continues look s1 s2 → Continues look s0 s2
+  continues_then s0 s1 s2 a b = record {
+    takes = takes_then s0.driver s1.driver s2.driver a.takes b.takes;
+    goes = goes_then look s0 s1 s2 a.goes b.goes;
+  }
+
+  -- what a later one continues to, it continues to
+  pub given_before : (o : Option (SessionState X)) (old new end : SessionState X) → o ≡ Some old → Continues look old new → Continues look new end → IfSome o (λ s. Continues look s end)
+  given_before o old new end e h later = subst (λ (x : Option (SessionState X)). IfSome x (λ s. Continues look s end)) (sym e) (continues_then old new end h later)
+
+  -- ## It is over
+
+  -- the run that it was
+  abbrev pub run_of : (s0 s1 : SessionState X) (cs : List CallerView) (ls : List ListenerView) (settled : Settled) → IsBegun look s0 → IsOver look s1 cs ls settled → Run
+  run_of s0 s1 cs ls settled begun over = record {
+    start = begun.start;
+    session = session_view look s1;
+    leftovers = over.leftovers;
+    driver = s1.driver;
+    callers = cs;
+    listeners = ls;
+    settlement = record { left = settled.left.items; untaken = map vec_items settled.untaken.items; unheard = map vec_items settled.unheard.items };
+  }
+
+  -- all that it took since it began is of its desk's callers
+  of_callers : (s0 s1 : SessionState X) (begun : IsBegun look s0) → Continues look s0 s1 → list_all (λ (q : Request). nat_lt q.caller (length s1.driver.desk.rings)) (taken_since begun.start (session_view look s1)) ≡ true
+  of_callers s0 s1 begun h =
+      let none : s0.driver.taken ≡ [] = ap (λ (e : EndView). e.taken) begun.desk ∙ begun.none_taken in
+      let more : s1.driver.taken ≡ h.takes.more = h.takes.taken ∙ ap (λ (qs : List Request). qs ++ h.takes.more) none in
+      let since : taken_since begun.start (session_view look s1) ≡ h.takes.more = ap (λ (qs : List Request). drop (length qs) s1.driver.taken) begun.none_taken ∙ more in
+      ap (list_all (λ (q : Request). nat_lt q.caller (length s1.driver.desk.rings))) since
+      ∙ subst (λ (d : DeskId). list_all (λ (q : Request). nat_lt q.caller (length d.rings)) h.takes.more ≡ true) (sym h.takes.desk) h.takes.callers
+
+  pub settles : (s0 s1 : SessionState X) (cs : List CallerView) (ls : List ListenerView) (settled : Settled) (begun : IsBegun look s0) → Continues look s0 s1
+      → IsWhole s1.driver.desk (map place_of cs) → AreSubscribed s1.driver.desk (map subscription_of ls) → (over : IsOver look s1 cs ls settled) → IsSettled (run_of s0 s1 cs ls settled begun over)
+  unfolding SessionGoesOn
+  settles s0 s1 cs ls settled begun h whole subscribed over =
+      record {
+        none_taken = begun.none_taken;
+        none_told = begun.none_told;
+        none_announced = begun.none_announced;
+        callers = of_callers s0 s1 begun h;
+        history = λ once.
+            let fits = h.goes.goes begun.start [] once begun.fits in
+            record { past = after [] h.goes.acts; fits = fits.session; finishes = over.ends begun.start (after [] h.goes.acts) fits };
+        desk = over.desk;
+        taken = ap (λ (e : EndView). e.taken) (sym over.desk);
+        told = ap (λ (e : EndView). e.told) (sym over.desk);
+        announced = ap (λ (e : EndView). e.announced) (sym over.desk);
+        kinds = ap (λ (d : DeskId). d.kinds) h.takes.desk ∙ begun.kinds;
+        whole = whole;
+        subscribed = subscribed;
+        books = over.books;
+      }
+
+  pub ran_for : (all : List Submission) (fresh cs : List CallerView) (ws : List Worked) (vs : List (Vec Outcome Global)) (s0 s1 : SessionState X) (ls : List ListenerView) (settled : Settled)
+      → AreCalled all fresh ws → cs ≡ map (λ (w : Worked). w.caller) ws → vs ≡ map (λ (w : Worked). w.outcomes) ws
+      → IsBegun look s0 → Continues look s0 s1 → IsWhole s1.driver.desk (map place_of cs) → AreSubscribed s1.driver.desk (map subscription_of ls) → IsOver look s1 cs ls settled
+      → RanFor all fresh (map vec_items vs)
+  unfolding IsHeadline
+  ran_for all fresh cs ws vs s0 s1 ls settled h callers e begun on whole subscribed over =
+      let done = settles s0 s1 cs ls settled begun on whole subscribed over in
+      record {
+        worked = ws;
+        called = h;
+        outcomes_are = lists_through ws vs e;
+        one_each = ap (length {A = List Outcome}) (lists_through ws vs e) ∙ length-map ws (λ (w : Worked). w.outcomes.items) ∙ called_long all fresh ws h;
+        run = run_of s0 s1 cs ls settled begun over;
+        callers_are = callers;
+        settled = done;
+        headline = headline (run_of s0 s1 cs ls settled begun over) done;
+      }

@@ -1,0 +1,20 @@
+-- What is given later continues the session that was polled before.
+use Rattle.std.proofs.Common.{◌∙◌, IfSome, sym, subst}
+use Rattle.std.specs.Prelude.{Result}
+use Rattle.futures.specs.Poll.{OnPending}
+use Rattle.futures.specs.declared.task.Poll.{Poll}
+use Rattle.modem_driver.specs.SessionStates.{SessionState, line_by}
+use Rattle.modem_bench.specs.Driving.{Continues}
+use Rattle.modem_bench.specs.declared.signals.Fault.{Fault}
+use Rattle.modem_bench.proofs.Settlements.{given_before}
+use Rattle.modem_bench.proofs.driving.DrivenFuture.poll.Goals as goal
+
+pub returns-in-Ok-false-clause-same : goal.returns-in-Ok-false-clause-same
+returns-in-Ok-false-clause-same g c =
+    let look = line_by g.L.SerialLine.received g.L.SerialLine.sent g.L.SerialLine.calls g.L.SerialLine.failures in
+    let old = c.args.self.now.session in
+    let new = c.advance.new.session in
+    let Output : Type 0 = SessionState g.row.L.Denot × Result (Unit {0}) Fault in
+    let Before : Type 0 = (out : Output) → Continues look new out.0 → IfSome old (λ s. Continues look s out.0) in
+    subst (λ (r : Poll Output). OnPending r Before) (sym c.yield_now-in-Ok-false.ensures.pending)
+    (λ out later. given_before look old c.unwrap-session.result new out.0 (sym c.take.ensures.value ∙ c.unwrap-session.ensures) c.advance.ensures.continues later)

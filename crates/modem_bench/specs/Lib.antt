@@ -1,0 +1,4 @@
+pub mod Asks
+pub mod Calling
+pub mod Driving
+pub mod Running

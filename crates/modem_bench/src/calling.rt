@@ -1,0 +1,222 @@
+//! What the callers of a bench do.
+ghost use Rattle.std.specs.Prelude.{◌≡◌, ◌≤◌, ◌<◌, ◌++◌, ◌∷◌, [], IfOk, OnOk, length};
+ghost use Rattle.std.specs.List.Sorted.{IsNonDecreasingBy, IsPermutation};
+ghost use Rattle.modem_desk.specs.declared.request.Ask.TheVariants as ask;
+ghost use Rattle.modem_bench.specs.Calling.{Asks, Opens, OpensAll, PutsBehind, Stops, Works, asked};
+
+use crate::signals::{Fault, Signals};
+use crate::submission::{Submission, names};
+use modem_desk::{Answer, Ask, Caller, Outcome};
+use mux_frame::Dlci;
+use std::alloc::Global;
+use std::sync::Wait;
+use std::thread;
+
+/// A caller that has worked, and the outcomes that it took meanwhile, by their numbers.
+#[derive(Drop)]
+pub struct Worked {
+    pub caller: Caller,
+    pub outcomes: Vec<Outcome>,
+}
+
+/// Takes the outcome that waits, if one does, and says whether one did.
+fn take_one(caller: &mut Caller, outcomes: &mut Vec<Outcome>) -> Result<bool, Fault>
+    ensures stays { (caller.new.place ≡ caller.old.place) × (caller.new.submitted ≡ caller.old.submitted) }
+    ensures puts { OnOk result (PutsBehind caller.old caller.new outcomes.old.items outcomes.new.items) }
+{
+    let Some(outcome) = caller.take() else {
+        return Ok(false);
+    };
+    outcomes.push(outcome)?;
+    Ok(true)
+}
+
+/// Submits a request, taking outcomes where it is refused.
+fn submit<R: Wait>(
+    rt: &R,
+    caller: &mut Caller,
+    ask: Ask,
+    outcomes: &mut Vec<Outcome>,
+    signals: &Signals,
+) -> Result<(), Fault>
+    ensures { OnOk result (Asks caller.old caller.new (ask ∷ []) outcomes.old.items outcomes.new.items) }
+{
+    let mut left = ask;
+    for _ in rt.forever() {
+        match caller.submit(rt, left) {
+            Ok(_) => return Ok(()),
+            Err((_, back)) => left = back,
+        }
+        signals.check()?;
+        if !take_one(caller, outcomes)? {
+            thread::yield_now();
+        }
+    }
+    unreachable!()
+}
+
+/// Takes outcomes until there are so many.
+fn take_all<R: Wait>(
+    rt: &R,
+    caller: &mut Caller,
+    count: usize,
+    outcomes: &mut Vec<Outcome>,
+    signals: &Signals,
+) -> Result<(), Fault>
+    ensures asks { OnOk result (Asks caller.old caller.new [] outcomes.old.items outcomes.new.items) }
+    ensures all { OnOk result (count ≤ length outcomes.new.items) }
+{
+    for _ in rt.forever() {
+        if outcomes.len() >= count {
+            return Ok(());
+        }
+        signals.check()?;
+        if !take_one(caller, outcomes)? {
+            thread::yield_now();
+        }
+    }
+    unreachable!()
+}
+
+/// Submits requests in order.
+fn submit_all<R: Wait>(
+    rt: &R,
+    caller: &mut Caller,
+    asks: Vec<Ask>,
+    outcomes: &mut Vec<Outcome>,
+    signals: &Signals,
+) -> Result<(), Fault>
+    ensures { OnOk result (Asks caller.old caller.new asks.items outcomes.old.items outcomes.new.items) }
+{
+    for ask in asks {
+        submit(rt, caller, ask, outcomes, signals)?;
+    }
+    Ok(())
+}
+
+/// Puts outcomes in the order of their numbers.
+fn in_order(outcomes: Vec<Outcome>) -> Vec<Outcome>
+    ensures same { IsPermutation outcomes.items result.items }
+    ensures by_number { IsNonDecreasingBy (λ o. o.number) result.items }
+    ensures long { length result.items ≡ length outcomes.items }
+{
+    let mut sorted = outcomes;
+    sorted.sort_unstable_by_key(|outcome| outcome.number);
+    sorted
+}
+
+/// Submits requests in order, taking outcomes where it is refused, and then takes outcomes until it has as many.
+fn work_on<R: Wait>(
+    rt: &R,
+    alloc: Global,
+    caller: Caller,
+    asks: Vec<Ask>,
+    signals: &Signals,
+) -> Result<Worked, Fault>
+    ensures { IfOk result (λ w. Works caller w.caller asks.items w.outcomes.items) }
+{
+    let mut caller = caller;
+    let mut outcomes = Vec::new(alloc);
+    let count = asks.len();
+    submit_all(rt, &mut caller, asks, &mut outcomes, signals)?;
+    take_all(rt, &mut caller, count, &mut outcomes, signals)?;
+    let outcomes = in_order(outcomes);
+    Ok(Worked { caller, outcomes })
+}
+
+/// What a caller does in its thread.
+pub fn work<R: Wait>(
+    rt: &R,
+    alloc: Global,
+    caller: Caller,
+    asks: Vec<Ask>,
+    signals: Signals,
+) -> Result<Worked, Fault>
+    ensures { IfOk result (λ w. Works caller w.caller asks.items w.outcomes.items) }
+{
+    match work_on(rt, alloc, caller, asks, &signals) {
+        Ok(worked) => Ok(worked),
+        Err(fault) => Err(signals.give_up(fault)),
+    }
+}
+
+/// Submits a request once it can be.
+fn submit_alone<R: Wait>(
+    rt: &R,
+    caller: &mut Caller,
+    ask: Ask,
+    signals: &Signals,
+) -> Result<(), Fault>
+    ensures { OnOk result ((caller.new.place ≡ caller.old.place) × (caller.new.got ≡ caller.old.got)
+        × (asked caller.new ≡ asked caller.old ++ ask ∷ [])) }
+{
+    let mut left = ask;
+    for _ in rt.forever() {
+        match caller.submit(rt, left) {
+            Ok(_) => return Ok(()),
+            Err((_, back)) => left = back,
+        }
+        signals.check()?;
+        thread::yield_now();
+    }
+    unreachable!()
+}
+
+/// Waits for an outcome.
+fn next_outcome<R: Wait>(rt: &R, caller: &mut Caller, signals: &Signals) -> Result<Outcome, Fault>
+    ensures stays { (caller.new.place ≡ caller.old.place) × (caller.new.submitted ≡ caller.old.submitted) }
+    ensures got { IfOk result (λ o. caller.new.got ≡ caller.old.got ++ o ∷ []) }
+{
+    for _ in rt.forever() {
+        if let Some(outcome) = caller.take() {
+            return Ok(outcome);
+        }
+        signals.check()?;
+        thread::yield_now();
+    }
+    unreachable!()
+}
+
+/// Opens a connection, and waits until it is open.
+fn open<R: Wait>(rt: &R, caller: &mut Caller, dlci: Dlci, signals: &Signals) -> Result<(), Fault>
+    ensures { OnOk result (Opens caller.old caller.new (ask.OpenChannel dlci ∷ [])) }
+{
+    submit_alone(rt, caller, Ask::OpenChannel(dlci), signals)?;
+    let outcome = next_outcome(rt, caller, signals)?;
+    match &outcome.answer {
+        Answer::Opened => Ok(()),
+        _ => Err(Fault::GaveUp),
+    }
+}
+
+/// Opens 0, and then each connection that a submission is for, in rising order, each once the one before is open.
+pub fn open_all<R: Wait>(
+    rt: &R,
+    caller: &mut Caller,
+    submissions: &[Submission],
+    signals: &Signals,
+) -> Result<(), Fault>
+    ensures { OnOk result (OpensAll submissions.now 62 caller.old caller.new) }
+{
+    for number in 0..62 {
+        let Some(dlci) = Dlci::new(number) else {
+            unreachable!();
+        };
+        if number == 0 || names(submissions, dlci) {
+            open(rt, caller, dlci, signals)?;
+        }
+    }
+    Ok(())
+}
+
+/// Ends the multiplexer, and waits until it has ended.
+pub fn stop<R: Wait>(rt: &R, caller: &mut Caller, signals: &Signals) -> Result<(), Fault>
+    ensures { OnOk result (Stops caller.old caller.new) }
+{
+    submit_alone(rt, caller, Ask::Stop, signals)?;
+    let outcome = next_outcome(rt, caller, signals)?;
+    match &outcome.answer {
+        Answer::Stopped | Answer::NoAnswer => Ok(()),
+        _ => Err(Fault::GaveUp),
+    }
+}

@@ -1,0 +1,128 @@
+//! The driver's thread of a bench.
+ghost use Rattle.std.specs.Prelude.{◌≡◌, IfOk};
+ghost use Rattle.modem_driver.specs.SessionStates.{line_by};
+ghost use Rattle.modem_bench.specs.Driving.{Continues};
+
+use crate::signals::{Fault, Signals};
+use futures::Future;
+use futures::executor::block_on;
+use futures::task::{Context, Poll};
+use modem_driver::{Ended, Session, SessionFault};
+use serial_line::SerialLine;
+use std::alloc::AllocGlobal;
+use std::random::RandomSource;
+use std::snapshot::Snapshot;
+use std::sync::Wait;
+use std::thread;
+use std::thread::Promise;
+
+/// How often the session of a bench is polled at most.
+const POLLS: u32 = 10_000_000;
+
+fn fault_of(fault: SessionFault) -> Fault {
+    match fault {
+        SessionFault::NoMemory => Fault::NoMemory,
+        SessionFault::Line | SessionFault::Failed => Fault::Line,
+    }
+}
+
+/// The same session, later.
+#[derive(Drop)]
+pub struct Later<L: SerialLine + Drop, R: Wait + Drop>(pub Snapshot<Session<L, R>>);
+
+impl<L: SerialLine + Drop, R: Wait + Drop> Promise<Result<Session<L, R>, Fault>> for Later<L, R> {
+    ghost kept_by = { λ p r. IfOk r (Continues (line_by L.received L.sent L.calls L.failures) p.0.value) };
+}
+
+/// A session that is polled until the multiplexer has ended, and then handed back.
+#[derive(Drop)]
+struct Driven<'a, L: SerialLine + Drop, R: Wait + Drop> {
+    session: Option<Session<L, R>>,
+    left: u32,
+    signals: &'a Signals,
+}
+
+/// Counts a poll. Refused where the bench is given up, and where no poll is left.
+fn count(left: &mut u32, signals: &Signals) -> Result<(), Fault> {
+    signals.check()?;
+    if *left == 0 {
+        return Err(Fault::GaveUp);
+    }
+    *left -= 1;
+    Ok(())
+}
+
+impl<L: SerialLine + Drop, R: Wait + Drop> Driven<'_, L, R> {
+    /// A poll of the session, and whether it has ended by it.
+    fn advance(&mut self, session: &mut Session<L, R>) -> Result<bool, Fault>
+        ensures same { self.new.session ≡ self.old.session }
+        ensures continues { Continues (line_by L.received L.sent L.calls L.failures) session.old session.new }
+    {
+        count(&mut self.left, self.signals)?;
+        match session.advance() {
+            Some(Ok(Ended::Stopped)) => Ok(true),
+            Some(Err(fault)) => Err(fault_of(fault)),
+            None => Ok(false),
+        }
+    }
+}
+
+impl<L: SerialLine + Drop, R: Wait + Drop> Future for Driven<'_, L, R> {
+    ghost use Rattle.std.specs.Prelude.{IfSome, IsSome};
+    ghost use Rattle.modem_driver.specs.SessionStates.{line_by};
+    ghost use Rattle.modem_bench.specs.Driving.{Continues};
+
+    type Output = (Session<L, R>, Result<(), Fault>);
+
+    ghost can_poll = { λ d. IsSome d.session };
+
+    ghost gives = { λ d out. IfSome d.session
+        (λ s. Continues (line_by L.received L.sent L.calls L.failures) s out.0) };
+
+    fn poll(&mut self, cx: &mut Context<'_>) -> Poll<(Session<L, R>, Result<(), Fault>)> {
+        let mut session = self.session.take().unwrap();
+        match self.advance(&mut session) {
+            Ok(true) => Poll::Ready((session, Ok(()))),
+            Ok(false) => {
+                self.session = Some(session);
+                thread::yield_now();
+                cx.yield_now()
+            }
+            Err(fault) => Poll::Ready((session, Err(fault))),
+        }
+    }
+}
+
+/// Polls a session until the multiplexer has ended, and hands it back.
+fn drive_on<L: SerialLine + Drop, R: Wait + RandomSource + AllocGlobal + Drop>(
+    rt: &R,
+    session: Session<L, R>,
+    signals: &Signals,
+) -> Result<Session<L, R>, Fault>
+    ensures { IfOk result (Continues (line_by L.received L.sent L.calls L.failures) session) }
+{
+    let driven = Driven {
+        session: Some(session),
+        left: POLLS,
+        signals,
+    };
+    match block_on(rt, driven) {
+        Ok((session, Ok(()))) => Ok(session),
+        Ok((_, Err(fault))) => Err(fault),
+        Err(error) => Err(Fault::from(error)),
+    }
+}
+
+/// What the driver does in its thread.
+pub fn drive<L: SerialLine + Drop, R: Wait + RandomSource + AllocGlobal + Drop>(
+    rt: &R,
+    session: Session<L, R>,
+    signals: Signals,
+) -> Result<Session<L, R>, Fault>
+    ensures { IfOk result (Continues (line_by L.received L.sent L.calls L.failures) session) }
+{
+    match drive_on(rt, session, &signals) {
+        Ok(session) => Ok(session),
+        Err(fault) => Err(signals.give_up(fault)),
+    }
+}

@@ -1,0 +1,13 @@
+//! A bench: callers, the driver and a simulated modem, in threads of their own.
+#![tactic(auto)]
+
+mod calling;
+mod driving;
+mod running;
+mod signals;
+mod simulating;
+mod submission;
+
+pub use running::run_bench;
+pub use signals::Fault;
+pub use submission::Submission;

@@ -1,8 +1,0 @@
-use Rattle.std.specs.Prelude.{◌≡◌}
-use Rattle.modem_runs.proofs.bench.calling.submit_alone.Given as goal
-
-abbrev pub invariant-loop : goal.invariant-loop
-invariant-loop g l = record {
-  stays : l.caller ≡ l.initial.caller;
-  same : l.left ≡ l.fn.ask;
-}

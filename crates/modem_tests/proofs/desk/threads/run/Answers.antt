@@ -1,0 +1,10 @@
+use Rattle.std.proofs.Common.{◌≡◌, ◌∙◌, List, map, sym, ap, subst}
+use Rattle.modem_desk.specs.Ends.{DeskId, Place, DriverView, place_of, IsWhole}
+use Rattle.modem_tests.proofs.desk.threads.run.Goals as goal
+
+pub settle-requires-clause-callers : goal.settle-requires-clause-callers
+settle-requires-clause-callers g c =
+    let was = ap (λ p. p.0.value) c.in_ok-driving.ensures.ok ∙ c.of.ensures in
+    let desk : c.join-driver.result.desk ≡ c.in_ok-driver.driver.desk = c.join-driver.ensures ∙ ap (λ (v : DriverView). v.desk) was in
+    let places : map place_of c.in_ok-back.back.items ≡ map place_of c.in_ok-driver.all.items = c.in_ok-back.ensures ∙ c.in_ok-out.ensures in
+    subst (λ (x : DeskId × List Place). IsWhole x.0 x.1) (λ i. (sym desk i, sym places i)) c.in_ok-driver.ensures.opened.whole

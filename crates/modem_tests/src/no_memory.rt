@@ -1,0 +1,20 @@
+//! The calls that take no memory, each between two marks on standard output, by which a counter of allocations knows them.
+use std::io::Print;
+
+mod desk;
+mod driver;
+mod frames;
+mod lines;
+mod station;
+mod texts;
+mod typed;
+
+// The calls of this name begin.
+fn begin(rt: &impl Print, call: &str) {
+    let _ = rt.println(format_args!("> {call}"));
+}
+
+// They have ended.
+fn end(rt: &impl Print) {
+    let _ = rt.println("<");
+}

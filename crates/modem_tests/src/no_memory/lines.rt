@@ -1,0 +1,63 @@
+//! Of lines of octets.
+use crate::no_memory::{begin, end};
+use serial_line::*;
+use std::alloc::Global;
+use std::io::Print;
+use std::process::Abort;
+use std::test::Fail;
+
+// Reads and writes in turn.
+fn turn<L: SerialLine>(line: &mut L, buffer: &mut [u8]) {
+    for _ in 0..20 {
+        let _ = line.try_read(buffer);
+        let _ = line.try_write(buffer);
+    }
+}
+
+// The calls of lines in memory.
+fn cut_lines<R: Abort + Print>(rt: &R, near: &mut CutLine, far: &mut CutLine) {
+    let mut buffer = [0x41; 32];
+    begin(rt, "CutLine::put, CutLine::try_read, CutLine::try_write");
+    assert_eq!(rt; near.put(b"gh"), 2);
+    turn(near, &mut buffer);
+    turn(far, &mut buffer);
+    end(rt);
+    begin(rt, "CutLine::take, CutLine::sent, CutLine::carry");
+    assert_eq!(rt; far.take(&mut [0; 2]), 2);
+    assert!(rt; !near.sent().is_empty());
+    let _ = near.carry(far, 1000);
+    end(rt);
+}
+
+// The calls of each end of a line between threads.
+fn thread_lines<R: Print>(rt: &R, near: &mut ThreadLine, far: &mut ThreadLine) {
+    let mut buffer = [0x41; 32];
+    begin(rt, "ThreadLine::try_read, ThreadLine::try_write");
+    turn(near, &mut buffer);
+    turn(far, &mut buffer);
+    end(rt);
+}
+
+fn in_memory<R: Abort + Print>(rt: &R, alloc: Global) -> Result<(), Fail> {
+    let cuts = [Cut::Upto(3), Cut::Fault, Cut::Upto(1)];
+    let mut near = CutLine::new(alloc, b"abcdef", &cuts, &cuts, 4096)?;
+    let mut far = CutLine::new(alloc, b"", &[], &[], 4096)?;
+    cut_lines(rt, &mut near, &mut far);
+    Ok(())
+}
+
+fn between_threads<R: Abort + Print>(rt: &R, alloc: Global) -> Result<(), Fail> {
+    let (mut near, mut far) = ThreadLine::pair(alloc, 64)?;
+    begin(rt, "ThreadLine::under_way");
+    assert_eq!(rt; near.under_way(&mut far), 0);
+    end(rt);
+    thread_lines(rt, &mut near, &mut far);
+    Ok(())
+}
+
+#[test]
+fn calls_that_take_no_memory(rt: HostRuntime) -> Result<(), Fail> {
+    let alloc = rt.alloc();
+    in_memory(&rt, alloc)?;
+    between_threads(&rt, alloc)
+}

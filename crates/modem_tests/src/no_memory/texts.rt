@@ -1,0 +1,74 @@
+//! Of texts.
+use crate::no_memory::{begin, end};
+use at_text::*;
+use std::alloc::Global;
+use std::io::Print;
+use std::process::Abort;
+use std::test::Fail;
+
+// How many lines these octets end.
+fn push_all(reader: &mut LineReader, octets: &[u8]) -> usize {
+    let mut lines = 0usize;
+    for octet in octets {
+        if reader.push(*octet).is_some() {
+            lines = lines.saturating_add(1);
+        }
+    }
+    lines
+}
+
+// The calls of a reader.
+fn readers<R: Abort + Print>(rt: &R, long: &[u8]) {
+    begin(
+        rt,
+        "LineReader::new, LineReader::push, LineReader::reset, LineReader::copy",
+    );
+    let mut reader = LineReader::new();
+    assert_eq!(rt; push_all(&mut reader, long), 0);
+    let mut copy = reader.copy();
+    reader.reset();
+    assert_eq!(rt; push_all(&mut reader, b"\rOK\r\nRING\r\n"), 2);
+    assert_eq!(rt; push_all(&mut copy, b"\n"), 1);
+    end(rt);
+}
+
+// What lines are read as.
+fn lines<R: Abort + Print>(rt: &R, long: &[u8]) {
+    begin(rt, "final_of, unsolicited_of");
+    assert_eq!(rt; final_of(b"+CME ERROR: 11"), Some(Final::Cme(Some(11))));
+    assert_eq!(rt; final_of(long), None);
+    assert_eq!(rt;
+        unsolicited_of(b"+CREG: 1,\"00A1\",\"1\""),
+        Some(UrcKind::Creg)
+    );
+    assert_eq!(rt; unsolicited_of(long), None);
+    end(rt);
+}
+
+// The calls of a window.
+fn windows<R: Abort + Print>(rt: &R, alloc: Global, line: &CommandLine) {
+    begin(
+        rt,
+        "Window::new, Window::begin, Window::fork, Window::take_room, Window::drop_command, Window::idle, CommandLine::text",
+    );
+    let mut window = Window::new(alloc);
+    window.begin(line);
+    let mut fork = window.fork();
+    assert!(rt; !fork.idle());
+    fork.take_room(&mut window);
+    window.drop_command();
+    assert!(rt; window.idle());
+    assert_eq!(rt; line.text(), b"AT+CSQ".as_slice());
+    end(rt);
+}
+
+#[test]
+fn calls_that_take_no_memory(rt: HostRuntime) -> Result<(), Fail> {
+    let alloc = rt.alloc();
+    let long = vec![in alloc; b'x'; 1000]?;
+    let line = CommandLine::new(alloc, b"AT+CSQ")?;
+    readers(&rt, long.as_slice());
+    lines(&rt, long.as_slice());
+    windows(&rt, alloc, &line);
+    Ok(())
+}
