@@ -423,7 +423,8 @@ fn begin<L: SerialLine + Drop, R: Wait + Drop + Copy>(
     })
 }
 
-/// Runs a bench: the outcomes that each caller took for what the submissions ask of it, by their numbers.
+/// Runs a bench: the outcomes that each caller took for what the submissions ask of it, by their numbers. `cut`, 1 to 65536, is
+/// how many octets may be under way each way. Refusals: why the bench was given up; NoMemory too for another cut.
 pub fn run_bench<R>(
     rt: &R,
     alloc: Global,
