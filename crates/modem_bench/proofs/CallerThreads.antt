@@ -131,5 +131,9 @@ stops_first (x ∷ ws) w d lt e h = (subst (λ (y : Worked). Stops y.caller d) e
 pub known_ok : {A E : Type 0} (P : A → Type 0) (r : Result A E) (x : A) → r ≡ Ok x → IfOk r P → P x
 known_ok {A} {E} P r x e h = subst (λ (s : Result A E). IfOk s P) e h
 
+pub ok_both : {A E : Type 0} (P Q R : A → Type 0) (r : Result A E) → ((x : A) → P x → Q x → R x) → IfOk r P → IfOk r Q → IfOk r R
+ok_both P Q R (Ok x) f p q = f x p q
+ok_both P Q R (Err e) f p q = tt
+
 pub ran_many : (all : List Submission) (count : ℕ) (os : List (List Outcome)) → Ran all count os → length os ≡ count
 ran_many all count os h = h.ran.one_each ∙ h.fresh.many

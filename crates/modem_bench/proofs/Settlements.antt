@@ -55,8 +55,10 @@ module _ {X : Type 0} (look : X → LineView) where
   }
 
   -- what a later one continues to, it continues to
-  pub given_before : (o : Option (SessionState X)) (old new end : SessionState X) → o ≡ Some old → Continues look old new → Continues look new end → IfSome o (λ s. Continues look s end)
-  given_before o old new end e h later = subst (λ (x : Option (SessionState X)). IfSome x (λ s. Continues look s end)) (sym e) (continues_then old new end h later)
+  pub given_before : (o p : Option (SessionState X)) (old new end : SessionState X) → o ≡ Some old → p ≡ Some new → Continues look old new → IfSome p (λ s. Continues look s end) → IfSome o (λ s. Continues look s end)
+  given_before o p old new end e f h later =
+      let on : Continues look new end = subst (λ (x : Option (SessionState X)). IfSome x (λ s. Continues look s end)) f later in
+      subst (λ (x : Option (SessionState X)). IfSome x (λ s. Continues look s end)) (sym e) (continues_then old new end h on)
 
   -- ## It is over
 

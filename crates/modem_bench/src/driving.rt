@@ -1,5 +1,5 @@
 //! The driver's thread of a bench.
-ghost use Rattle.std.specs.Prelude.{◌≡◌, IfOk};
+ghost use Rattle.std.specs.Prelude.{◌≡◌, IfOk, IsSome, None, Ok, Some};
 ghost use Rattle.modem_driver.specs.SessionStates.{line_by};
 ghost use Rattle.modem_bench.specs.Driving.{Continues};
 
@@ -13,8 +13,8 @@ use std::alloc::AllocGlobal;
 use std::random::RandomSource;
 use std::snapshot::Snapshot;
 use std::sync::Wait;
-use std::thread;
 use std::thread::Promise;
+use std::{io, thread};
 
 /// How often the session of a bench is polled at most.
 const POLLS: u32 = 10_000_000;
@@ -67,6 +67,31 @@ impl<L: SerialLine + Drop, R: Wait + Drop> Driven<'_, L, R> {
     }
 }
 
+/// Takes out what is there. Here too the session may be anything, so that its parts cost nothing.
+fn take_out<S>(place: &mut Option<S>) -> S
+    requires { IsSome place.old }
+    ensures taken { place.old ≡ Some result }
+    ensures left { place.new ≡ None }
+{
+    place.take().unwrap()
+}
+
+/// Puts it back.
+fn put_back<S: Drop>(place: &mut Option<S>, taken: S)
+    ensures { place.new ≡ Some taken }
+{
+    *place = Some(taken);
+}
+
+/// What was polled for, unless that failed.
+fn polled<S: Drop>(end: io::Result<(S, Result<(), Fault>)>) -> Result<S, Fault>
+    ensures { IfOk result (λ s. end ≡ Ok (s, Ok tt)) }
+{
+    let (session, end) = end?;
+    end?;
+    Ok(session)
+}
+
 impl<L: SerialLine + Drop, R: Wait + Drop> Future for Driven<'_, L, R> {
     ghost use Rattle.std.specs.Prelude.{IfSome, IsSome};
     ghost use Rattle.modem_driver.specs.SessionStates.{line_by};
@@ -80,11 +105,11 @@ impl<L: SerialLine + Drop, R: Wait + Drop> Future for Driven<'_, L, R> {
         (λ s. Continues (line_by L.received L.sent L.calls L.failures) s out.0) };
 
     fn poll(&mut self, cx: &mut Context<'_>) -> Poll<(Session<L, R>, Result<(), Fault>)> {
-        let mut session = self.session.take().unwrap();
+        let mut session = take_out(&mut self.session);
         match self.advance(&mut session) {
             Ok(true) => Poll::Ready((session, Ok(()))),
             Ok(false) => {
-                self.session = Some(session);
+                put_back(&mut self.session, session);
                 thread::yield_now();
                 cx.yield_now()
             }
@@ -106,11 +131,7 @@ fn drive_on<L: SerialLine + Drop, R: Wait + RandomSource + AllocGlobal + Drop>(
         left: POLLS,
         signals,
     };
-    match block_on(rt, driven) {
-        Ok((session, Ok(()))) => Ok(session),
-        Ok((_, Err(fault))) => Err(fault),
-        Err(error) => Err(Fault::from(error)),
-    }
+    polled(block_on(rt, driven))
 }
 
 /// What the driver does in its thread.

@@ -1,9 +1,9 @@
 //! A bench: callers, the driver and a simulated modem in threads of their own.
-ghost use Rattle.std.specs.Prelude.{◌≡◌, ◌≤◌, ◌<◌, ◌++◌, ◌∷◌, [], IfOk, OnOk, length, map, vec_items};
+ghost use Rattle.std.specs.Prelude.{◌≡◌, ◌≤◌, ◌<◌, ◌++◌, ◌∷◌, [], IfOk, Ok, OnOk, length, map, vec_items};
 ghost use Rattle.modem_desk.specs.Ends.{AreSubscribed, IsWhole, Opened, subscription_of, place_of};
 ghost use Rattle.modem_driver.specs.SessionStates.{FitsAll, beginning_of, line_by};
 ghost use Rattle.modem_bench.specs.Calling.{Works};
-ghost use Rattle.modem_bench.specs.Driving.{IsBegun, IsOver, WasSettled};
+ghost use Rattle.modem_bench.specs.Driving.{Continues, IsBegun, IsOver, WasSettled};
 ghost use Rattle.modem_bench.specs.Running.{AllWork, AreBack, AreCalled, AreFresh, AreOut, ComesBack, OpensFirst, Ran, RanFor, StopsFirst};
 
 use crate::calling::{Worked, open_all, stop, work};
@@ -20,10 +20,42 @@ use std::random::RandomSource;
 use std::snapshot::Snapshot;
 use std::sync::Wait;
 use std::thread;
-use std::thread::{Promise, PromisedHandle, Threads};
+use std::thread::{JoinHandle, Promise, PromisedHandle, SpawnError, Threads};
 
 /// Octets of information that a frame of a bench may have.
 const N1: u16 = 31;
+
+/// What was made, beside what is kept. That something is dropped where nothing was made costs less to prove here, where it may
+/// be anything.
+fn beside<A: Drop, K: Drop, E: Drop>(made: Result<A, E>, kept: K) -> Result<(A, K), E>
+    ensures made { IfOk result (λ r. made ≡ Ok r.0) }
+    ensures kept { IfOk result (λ r. r.1 ≡ kept) }
+{
+    match made {
+        Ok(value) => Ok((value, kept)),
+        Err(error) => Err(error),
+    }
+}
+
+/// What came of two threads, unless one failed.
+fn both<A: Drop, B: Drop>(
+    first: Result<A, Fault>,
+    second: Result<B, Fault>,
+) -> Result<(A, B), Fault>
+    ensures first { IfOk result (λ r. first ≡ Ok r.0) }
+    ensures second { IfOk result (λ r. second ≡ Ok r.1) }
+{
+    let first = first?;
+    let second = second?;
+    Ok((first, second))
+}
+
+/// A thread that was spawned.
+fn spawned<H: Drop, F: Drop>(thread: Result<H, SpawnError<F>>) -> Result<H, Fault>
+    ensures { IfOk result (λ h. thread ≡ Ok h) }
+{
+    Ok(thread?)
+}
 
 /// The same caller, which worked on these asks.
 #[derive(Drop)]
@@ -203,6 +235,21 @@ where
     Ok(back)
 }
 
+/// Has a simulated modem go on in a thread of its own.
+fn send_modem<L, R>(
+    rt: &R,
+    sim: Sim<L>,
+    signals: &Signals,
+) -> Result<JoinHandle<Result<(), Fault>>, Fault>
+where
+    L: SerialLine + Drop + Send + 'static,
+    R: Threads + Wait + RandomSource + AllocGlobal + Copy + Send + Drop + 'static,
+{
+    let (theirs, sim) = beside(signals.share(), sim)?;
+    let own = *rt;
+    spawned(thread::spawn(rt, move || simulate(&own, sim, theirs)))
+}
+
 /// The same, beside the simulated modem's thread.
 fn call_modem<L, R>(
     rt: &R,
@@ -218,9 +265,7 @@ where
     requires { (0 < length callers.items) × (length callers.items ≤ 8) }
     ensures { IfOk result (λ back. AreCalled submissions.now callers.items back.items) }
 {
-    let theirs = signals.share()?;
-    let own = *rt;
-    let simulating = thread::spawn(rt, move || simulate(&own, sim, theirs))?;
+    let simulating = send_modem(rt, sim, signals)?;
     let called = call(rt, alloc, callers, submissions, signals);
     if let Err(fault) = &called {
         signals.give_up(*fault);
@@ -277,11 +322,10 @@ where
     R: Threads + Wait + RandomSource + AllocGlobal + Copy + Send + Drop + 'static,
     ensures { IfOk result (λ handle. handle.promise.0.value ≡ session) }
 {
-    let theirs = signals.share()?;
+    let (theirs, session) = beside(signals.share(), session)?;
     let own = *rt;
     let promise = Later(Snapshot::of(&session));
-    let handle = thread::spawn_with(rt, promise, move || drive(&own, session, theirs))?;
-    Ok(handle)
+    spawned(thread::spawn_with(rt, promise, move || drive(&own, session, theirs)))
 }
 
 /// Ends a session and settles its desk with the callers that have worked: the outcomes that each took.
@@ -302,10 +346,36 @@ where
         (λ _. WasSettled (line_by L.received L.sent L.calls L.failures) session
         (map (λ w. w.caller) back.items) listeners.items) }
 {
-    let (callers, outcomes) = parted(alloc, back)?;
+    let ((callers, outcomes), session) = beside(parted(alloc, back), session)?;
     let settled = end_run(rt, alloc, session, callers, listeners)?;
     drop(settled);
     Ok(outcomes)
+}
+
+/// Runs callers, driver and simulated modem in their threads.
+fn run_beside<L, R>(
+    rt: &R,
+    alloc: Global,
+    session: Session<L, R>,
+    sim: Sim<L>,
+    callers: Vec<Caller>,
+    submissions: &[Submission],
+    signals: &Signals,
+) -> Result<(Session<L, R>, Vec<Worked>), Fault>
+where
+    L: SerialLine + Drop + Send + 'static,
+    R: Threads + Wait + RandomSource + AllocGlobal + Copy + Send + Drop + 'static,
+    requires { (0 < length callers.items) × (length callers.items ≤ 8) }
+    ensures continues { IfOk result
+        (λ r. Continues (line_by L.received L.sent L.calls L.failures) session r.0) }
+    ensures called { IfOk result (λ r. AreCalled submissions.now callers.items r.1.items) }
+{
+    let (driving, sim) = beside(send_driver(rt, session, signals), sim)?;
+    let called = call_modem(rt, alloc, sim, callers, submissions, signals);
+    if let Err(fault) = &called {
+        signals.give_up(*fault);
+    }
+    both(driving.join(rt), called)
 }
 
 /// What a bench begins with.
@@ -317,7 +387,7 @@ struct Ends<L: SerialLine + Drop, R: Wait + Drop> {
     listeners: Vec<Listener>,
 }
 
-/// Runs callers, driver and simulated modem in their threads, and settles.
+/// The same, and then settles.
 fn run_threads<L, R>(
     rt: &R,
     alloc: Global,
@@ -341,15 +411,8 @@ where
         callers,
         listeners,
     } = ends;
-    let driving = send_driver(rt, session, signals)?;
-    let called = call_modem(rt, alloc, sim, callers, submissions, signals);
-    if let Err(fault) = &called {
-        signals.give_up(*fault);
-    }
-    let session = driving.join(rt)?;
-    let back = called?;
-    let outcomes = settle_run(rt, alloc, session, back, listeners)?;
-    Ok(outcomes)
+    let (session, back) = run_beside(rt, alloc, session, sim, callers, submissions, signals)?;
+    settle_run(rt, alloc, session, back, listeners)
 }
 
 /// A desk with so many callers, and no listener.
@@ -414,7 +477,7 @@ fn begin<L: SerialLine + Drop, R: Wait + Drop + Copy>(
     let (driver, callers, listeners) = open_desk(alloc, callers)?;
     let (near, far) = line;
     let session = make_session(*rt, alloc, near, driver)?;
-    let sim = make_sim(alloc, far, script)?;
+    let (sim, session) = beside(make_sim(alloc, far, script), session)?;
     Ok(Ends {
         session,
         sim,

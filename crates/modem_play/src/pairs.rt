@@ -2,7 +2,7 @@
 use crate::near::Near;
 use crate::setup::Setup;
 use crate::sims::made;
-use crate::words::{BAD, Host, Lines, Player, play_begun};
+use crate::words::{BAD, Begins, Host, Lines, Player, play_by};
 use modem_driver::Turn;
 use modem_runs::Stop;
 use modem_sim::{Sim, SimTurn};
@@ -59,16 +59,18 @@ fn ends(setup: &Setup) -> Result<(ThreadLine, ThreadLine), Stop> {
     }
 }
 
-fn begin<R: Host>(rt: R, setup: &mut Setup) -> Result<Pair<R>, Stop> {
-    let (one, other) = ends(setup)?;
-    let near = Near::new(rt, one, setup)?;
-    let sim = made(other, setup)?;
-    Ok(Pair { near, sim })
+impl<R: Host> Begins<R> for Pair<R> {
+    fn begin(rt: R, setup: &mut Setup) -> Result<Pair<R>, Stop> {
+        let (one, other) = ends(setup)?;
+        let sim = made(other, setup)?;
+        let near = Near::new(rt, one, setup)?;
+        Ok(Pair { near, sim })
+    }
+
+    fn end(self) {}
 }
 
 /// Plays the lines that follow.
 pub fn play<R: Host>(lines: &mut Lines<R>, setup: &mut Setup) -> Result<(), Stop> {
-    let begun = begin(lines.rt, setup);
-    play_begun(lines, begun)?;
-    Ok(())
+    play_by::<R, Pair<R>>(lines, setup)
 }

@@ -1,7 +1,7 @@
 //! A session on a line in memory.
 use crate::near::{Near, caller_takes};
 use crate::setup::Setup;
-use crate::words::{Host, Lines, Player, octets, play_begun, print_octets, split};
+use crate::words::{Begins, Host, Lines, Player, octets, play_by, print_octets, split};
 use modem_desk::DriverEnd;
 use modem_driver::enter;
 use modem_runs::Stop;
@@ -83,19 +83,21 @@ impl<R: Host> Player for Played<R> {
     }
 }
 
-fn begin<R: Host>(rt: R, setup: &Setup) -> Result<Played<R>, Stop> {
-    let line = setup.line()?;
-    let near = Near::new(rt, line, setup)?;
-    Ok(Played { near, printed: 0 })
+impl<R: Host> Begins<R> for Played<R> {
+    fn begin(rt: R, setup: &mut Setup) -> Result<Played<R>, Stop> {
+        let line = setup.line()?;
+        let near = Near::new(rt, line, setup)?;
+        Ok(Played { near, printed: 0 })
+    }
+
+    fn end(self) {
+        self.finish();
+    }
 }
 
 /// Plays the lines that follow.
-pub fn play<R: Host>(lines: &mut Lines<R>, setup: &Setup) -> Result<(), Stop> {
-    let begun = begin(lines.rt, setup);
-    if let Some(played) = play_begun(lines, begun)? {
-        played.finish();
-    }
-    Ok(())
+pub fn play<R: Host>(lines: &mut Lines<R>, setup: &mut Setup) -> Result<(), Stop> {
+    play_by::<R, Played<R>>(lines, setup)
 }
 
 /// Enters the multiplexer with so many calls of the line at most, and what was sent.

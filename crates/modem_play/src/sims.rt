@@ -1,6 +1,6 @@
 //! A simulated modem at its end of a line in memory.
 use crate::setup::Setup;
-use crate::words::{BAD, Host, Lines, Player, mark, octets, play_begun, print_octets, split};
+use crate::words::{BAD, Begins, Host, Lines, Player, mark, octets, play_by, print_octets, split};
 use futures::executor::block_on;
 use futures::future::poll_immediate;
 use modem_runs::Stop;
@@ -120,20 +120,22 @@ impl<R: Host> Player for Played<R> {
     }
 }
 
-fn begin<R: Host>(rt: R, setup: &mut Setup) -> Result<Played<R>, Stop> {
-    let line = setup.line()?;
-    let sim = made(line, setup)?;
-    Ok(Played {
-        rt,
-        sim,
-        printed: 0,
-        marks: false,
-    })
+impl<R: Host> Begins<R> for Played<R> {
+    fn begin(rt: R, setup: &mut Setup) -> Result<Played<R>, Stop> {
+        let line = setup.line()?;
+        let sim = made(line, setup)?;
+        Ok(Played {
+            rt,
+            sim,
+            printed: 0,
+            marks: false,
+        })
+    }
+
+    fn end(self) {}
 }
 
 /// Plays the lines that follow.
 pub fn play<R: Host>(lines: &mut Lines<R>, setup: &mut Setup) -> Result<(), Stop> {
-    let begun = begin(lines.rt, setup);
-    play_begun(lines, begun)?;
-    Ok(())
+    play_by::<R, Played<R>>(lines, setup)
 }

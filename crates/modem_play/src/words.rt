@@ -1,4 +1,5 @@
 //! The lines of a script, and its words.
+use crate::setup::Setup;
 use at_text::UrcKind;
 use modem_driver::Event;
 use modem_runs::{Stop, read_script};
@@ -74,16 +75,22 @@ pub fn play_all<R: Host, P: Player>(lines: &mut Lines<R>, player: &mut P) -> Res
     unreachable!()
 }
 
-/// The same with a player that was begun, which is given back where a line was the last one.
-pub fn play_begun<R: Host, P: Player + Drop>(
-    lines: &mut Lines<R>,
-    begun: Result<P, Stop>,
-) -> Result<Option<P>, Stop> {
-    let mut player = begun?;
+/// A player that a setup says how to begin.
+pub trait Begins<R: Host>: Player + Drop {
+    /// It begins.
+    fn begin(rt: R, setup: &mut Setup) -> Result<Self, Stop>;
+
+    /// A line was the last one.
+    fn end(self);
+}
+
+/// Begins such a player, and plays the lines that follow. What a player holds isn't looked at here, so this proves at little cost.
+pub fn play_by<R: Host, P: Begins<R>>(lines: &mut Lines<R>, setup: &mut Setup) -> Result<(), Stop> {
+    let mut player = P::begin(lines.rt, setup)?;
     if play_all(lines, &mut player)? {
-        return Ok(Some(player));
+        player.end();
     }
-    Ok(None)
+    Ok(())
 }
 
 /// The first word, and what follows it.

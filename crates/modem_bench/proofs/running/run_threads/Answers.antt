@@ -1,47 +1,51 @@
 -- Driver and callers come back from their threads, still of their desk.
-use Rattle.std.proofs.Common.{◌≡◌, ◌∙◌, List, ap, map, refl, subst, sym}
+use Rattle.std.proofs.Common.{◌≡◌, ◌∙◌, List, map, refl, subst, sym}
+use Rattle.std.specs.Prelude.{vec_items}
 use Rattle.std.specs.declared.vec.Vec.{Vec}
 use Rattle.std.specs.declared.alloc.Global.{Global}
 use Rattle.modem_desk.specs.Ends.{AreSubscribed, CallerView, DeskId, Place, IsWhole, subscription_of, place_of}
-use Rattle.modem_driver.specs.SessionStates.{SessionState, line_by}
-use Rattle.modem_bench.specs.Driving.{Continues}
-use Rattle.modem_bench.specs.Running.{AreCalled}
+use Rattle.modem_desk.specs.declared.request.Outcome.{Outcome}
+use Rattle.modem_driver.specs.SessionStates.{line_by}
+use Rattle.modem_bench.specs.Driving.{WasSettled}
+use Rattle.modem_bench.specs.Running.{RanFor}
 use Rattle.modem_bench.specs.declared.calling.Worked.{Worked}
 use Rattle.modem_bench.proofs.Settlements.{ran_for}
-use Rattle.modem_bench.proofs.CallerThreads.{called_places, known_ok, maps_through}
+use Rattle.modem_bench.proofs.CallerThreads.{called_places, maps_through, ok_both}
 use Rattle.modem_bench.proofs.running.run_threads.Goals as goal
 
 pub settle_run-requires-clause-callers : goal.settle_run-requires-clause-callers
 settle_run-requires-clause-callers g c =
-    let was = c.in_ok-driving.ensures in
-    let desk : c.in_ok-session.session.driver.desk ≡ c.args.ends.session.driver.desk = c.in_ok-session.ensures.takes.desk ∙ ap (λ s. s.driver.desk) was in
-    let cs : List CallerView = map (λ (w : Worked). w.caller) c.in_ok-back.back.items in
+    let desk : c.in_ok-session.session.driver.desk ≡ c.args.ends.session.driver.desk = c.in_ok-session.ensures.continues.takes.desk in
+    let cs : List CallerView = map (λ (w : Worked). w.caller) c.in_ok-session.back.items in
     let places : map place_of cs ≡ map place_of c.args.ends.callers.items =
-    maps_through c.in_ok-back.back.items cs refl
-    ∙ called_places c.args.submissions.now c.args.ends.callers.items c.in_ok-back.back.items (known_ok (λ (v : Vec Worked Global). AreCalled c.args.submissions.now c.args.ends.callers.items v.items) c.call_modem-called.result c.in_ok-back.back c.in_ok-back.was c.call_modem-called.ensures) in
+    maps_through c.in_ok-session.back.items cs refl
+    ∙ called_places c.args.submissions.now c.args.ends.callers.items c.in_ok-session.back.items c.in_ok-session.ensures.called in
     subst (λ (x : DeskId × List Place). IsWhole x.0 x.1) (λ i. (sym desk i, sym places i)) c.requires.callers
 
 pub settle_run-requires-clause-listeners : goal.settle_run-requires-clause-listeners
 settle_run-requires-clause-listeners g c =
-    let was = c.in_ok-driving.ensures in
-    let desk : c.in_ok-session.session.driver.desk ≡ c.args.ends.session.driver.desk = c.in_ok-session.ensures.takes.desk ∙ ap (λ s. s.driver.desk) was in
+    let desk : c.in_ok-session.session.driver.desk ≡ c.args.ends.session.driver.desk = c.in_ok-session.ensures.continues.takes.desk in
     subst (λ (d : DeskId). AreSubscribed d (map subscription_of c.args.ends.listeners.items)) (sym desk) c.requires.listeners
 
 pub returns : goal.returns
 returns g c =
     let look = line_by g.L.SerialLine.received g.L.SerialLine.sent g.L.SerialLine.calls g.L.SerialLine.failures in
-    let was = c.in_ok-driving.ensures in
-    let s0 = c.args.ends.session in
     let s1 = c.in_ok-session.session in
-    let cs : List CallerView = map (λ (w : Worked). w.caller) c.in_ok-back.back.items in
-    let on : Continues look s0 s1 = subst (λ (s : SessionState g.row.L.Denot). Continues look s s1) was c.in_ok-session.ensures in
-    let called = known_ok (λ (v : Vec Worked Global). AreCalled c.args.submissions.now c.args.ends.callers.items v.items) c.call_modem-called.result c.in_ok-back.back c.in_ok-back.was c.call_modem-called.ensures in
+    let ws = c.in_ok-session.back.items in
+    let ls = c.args.ends.listeners.items in
+    let cs : List CallerView = map (λ (w : Worked). w.caller) ws in
+    let on = c.in_ok-session.ensures.continues in
+    let called = c.in_ok-session.ensures.called in
     let places : map place_of cs ≡ map place_of c.args.ends.callers.items =
-    maps_through c.in_ok-back.back.items cs refl
-    ∙ called_places c.args.submissions.now c.args.ends.callers.items c.in_ok-back.back.items called in
-    ran_for look c.args.submissions.now c.args.ends.callers.items cs c.in_ok-back.back.items c.in_ok-outcomes.outcomes.items
-    s0 s1 c.args.ends.listeners.items c.in_ok-outcomes.ensures.over.settled
-    called refl c.in_ok-outcomes.ensures.outcomes c.requires.begun on
+    maps_through ws cs refl ∙ called_places c.args.submissions.now c.args.ends.callers.items ws called in
+    ok_both (λ (os : Vec (Vec Outcome Global) Global). os.items ≡ map (λ (w : Worked). w.outcomes) ws)
+    (λ (os : Vec (Vec Outcome Global) Global). WasSettled look s1 cs ls)
+    (λ (os : Vec (Vec Outcome Global) Global). RanFor c.args.submissions.now c.args.ends.callers.items (map vec_items os.items))
+    c.settle_run.result
+    (λ os outcomes over. ran_for look c.args.submissions.now c.args.ends.callers.items cs ws os.items
+    c.args.ends.session s1 ls over.settled
+    called refl outcomes c.requires.begun on
     (subst (λ (x : DeskId × List Place). IsWhole x.0 x.1) (λ i. (sym on.takes.desk i, sym places i)) c.requires.callers)
-    (subst (λ (d : DeskId). AreSubscribed d (map subscription_of c.args.ends.listeners.items)) (sym on.takes.desk) c.requires.listeners)
-    c.in_ok-outcomes.ensures.over.over
+    (subst (λ (d : DeskId). AreSubscribed d (map subscription_of ls)) (sym on.takes.desk) c.requires.listeners)
+    over.over)
+    c.settle_run.ensures.outcomes c.settle_run.ensures.over

@@ -1,18 +1,41 @@
 -- The callers that have worked are those that the desk is settled with.
-use Rattle.std.proofs.Common.{List, map, subst, sym}
-use Rattle.modem_desk.specs.Ends.{CallerView, IsWhole, place_of}
-use Rattle.modem_driver.specs.SessionStates.{line_by}
+use Rattle.std.proofs.Common.{◌≡◌, List, ap, map, subst, sym}
+use Rattle.std.specs.declared.alloc.Global.{Global}
+use Rattle.std.specs.declared.vec.Vec.{Vec}
+use Rattle.modem_desk.specs.Ends.{AreSubscribed, CallerView, DeskId, IsWhole, subscription_of, place_of}
+use Rattle.modem_desk.specs.declared.request.Outcome.{Outcome}
+use Rattle.modem_driver.specs.SessionStates.{SessionState, line_by}
 use Rattle.modem_bench.specs.Driving.{IsOver}
+use Rattle.modem_bench.specs.declared.calling.Worked.{Worked}
+use Rattle.modem_bench.proofs.CallerThreads.{known_ok}
 use Rattle.modem_bench.proofs.running.settle_run.Goals as goal
+
+abbrev Parts : Type 0
+Parts = Vec CallerView Global × Vec (Vec Outcome Global) Global
 
 pub end_run-requires-clause-callers : goal.end_run-requires-clause-callers
 end_run-requires-clause-callers g c =
-    subst (λ (cs : List CallerView). IsWhole c.args.session.driver.desk (map place_of cs)) (sym c.in_ok-callers.ensures.callers) c.requires.callers
+    let desk : c.in_ok-callers.session.driver.desk ≡ c.args.session.driver.desk = ap (λ (s : SessionState g.row.L.Denot). s.driver.desk) c.in_ok-callers.ensures.kept in
+    let callers : c.in_ok-callers.callers.items ≡ map (λ (w : Worked). w.caller) c.args.back.items =
+    known_ok (λ (r : Parts). r.0.items ≡ map (λ (w : Worked). w.caller) c.args.back.items) c.parted.result (c.in_ok-callers.callers, c.in_ok-callers.outcomes) c.in_ok-callers.ensures.made c.parted.ensures.callers in
+    subst (λ (x : DeskId × List CallerView). IsWhole x.0 (map place_of x.1)) (λ i. (sym desk i, sym callers i)) c.requires.callers
+
+pub end_run-requires-clause-listeners : goal.end_run-requires-clause-listeners
+end_run-requires-clause-listeners g c =
+    let desk : c.in_ok-callers.session.driver.desk ≡ c.args.session.driver.desk = ap (λ (s : SessionState g.row.L.Denot). s.driver.desk) c.in_ok-callers.ensures.kept in
+    subst (λ (d : DeskId). AreSubscribed d (map subscription_of c.args.listeners.items)) (sym desk) c.requires.listeners
+
+pub returns-clause-outcomes : goal.returns-clause-outcomes
+returns-clause-outcomes g c =
+    known_ok (λ (r : Parts). r.1.items ≡ map (λ (w : Worked). w.outcomes) c.args.back.items) c.parted.result (c.in_ok-callers.callers, c.in_ok-callers.outcomes) c.in_ok-callers.ensures.made c.parted.ensures.outcomes
 
 pub returns-clause-over : goal.returns-clause-over
 returns-clause-over g c =
     let look = line_by g.L.SerialLine.received g.L.SerialLine.sent g.L.SerialLine.calls g.L.SerialLine.failures in
+    let callers : c.in_ok-callers.callers.items ≡ map (λ (w : Worked). w.caller) c.args.back.items =
+    known_ok (λ (r : Parts). r.0.items ≡ map (λ (w : Worked). w.caller) c.args.back.items) c.parted.result (c.in_ok-callers.callers, c.in_ok-callers.outcomes) c.in_ok-callers.ensures.made c.parted.ensures.callers in
+    let kept = c.in_ok-callers.ensures.kept in
     record {
       settled = c.in_ok-settled.settled;
-      over = subst (λ (cs : List CallerView). IsOver look c.args.session cs c.args.listeners.items c.in_ok-settled.settled) c.in_ok-callers.ensures.callers c.in_ok-settled.ensures;
+      over = subst (λ (x : SessionState g.row.L.Denot × List CallerView). IsOver look x.0 x.1 c.args.listeners.items c.in_ok-settled.settled) (λ i. (kept i, callers i)) c.in_ok-settled.ensures;
     }

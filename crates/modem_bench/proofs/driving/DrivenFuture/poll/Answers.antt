@@ -1,5 +1,5 @@
 -- What is given later continues the session that was polled before.
-use Rattle.std.proofs.Common.{◌∙◌, IfSome, sym, subst}
+use Rattle.std.proofs.Common.{IfSome, sym, subst}
 use Rattle.std.specs.Prelude.{Result}
 use Rattle.futures.specs.Poll.{OnPending}
 use Rattle.futures.specs.declared.task.Poll.{Poll}
@@ -15,6 +15,6 @@ returns-in-Ok-false-clause-same g c =
     let old = c.args.self.now.session in
     let new = c.advance.new.session in
     let Output : Type 0 = SessionState g.row.L.Denot × Result (Unit {0}) Fault in
-    let Before : Type 0 = (out : Output) → Continues look new out.0 → IfSome old (λ s. Continues look s out.0) in
+    let Before : Type 0 = (out : Output) → IfSome c.put_back.new.place (λ s. Continues look s out.0) → IfSome old (λ s. Continues look s out.0) in
     subst (λ (r : Poll Output). OnPending r Before) (sym c.yield_now-in-Ok-false.ensures.pending)
-    (λ out later. given_before look old c.unwrap-session.result new out.0 (sym c.take.ensures.value ∙ c.unwrap-session.ensures) c.advance.ensures.continues later)
+    (λ out later. given_before look old c.put_back.new.place c.take_out-session.result new out.0 c.take_out-session.ensures.taken c.put_back.ensures c.advance.ensures.continues later)
