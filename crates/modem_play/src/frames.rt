@@ -71,12 +71,14 @@ impl<R: Host> Player for Played<R> {
         let (kind, rest) = split(rest);
         let (cr, rest) = split(rest);
         let (pf, rest) = split(rest);
+        let (dlci, kind) = (dlci(connection)?, frame_kind(kind)?);
+        let (cr, pf) = (bit(cr)?, bit(pf)?);
         let info = info(self.alloc, rest)?;
         let frame = FrameView {
-            dlci: dlci(connection)?,
-            kind: frame_kind(kind)?,
-            cr: bit(cr)?,
-            pf: bit(pf)?,
+            dlci,
+            kind,
+            cr,
+            pf,
             info: info.as_slice(),
         };
         spell(&self.rt, self.n1, frame)?;

@@ -23,17 +23,23 @@ use setup::Setup;
 use std::process::ExitCode;
 use words::{BAD, Host, Lines, number, split};
 
-fn play<R: Host>(lines: &mut Lines<R>, setup: &mut Setup, what: &str) -> Result<(), Stop> {
+fn play_entry<R: Host>(lines: &mut Lines<R>, setup: &Setup, what: &str) -> Result<(), Stop> {
     match split(what) {
-        ("session", "") => sessions::play(lines, setup),
         ("enter", calls) => sessions::enter_line(lines, setup, number(calls)?),
-        ("sim", "") => sims::play(lines, setup),
-        ("pair", "") => pairs::play(lines, setup),
-        ("modem", "") => modems::play(lines, setup),
-        ("typed", "") => typed::play(lines),
-        ("texts", "") => texts::play(lines),
-        ("frames", "") => frames::play(lines, setup.n1),
         _ => Err(BAD),
+    }
+}
+
+fn play<R: Host>(lines: &mut Lines<R>, setup: &mut Setup, what: &str) -> Result<(), Stop> {
+    match what {
+        "session" => sessions::play(lines, setup),
+        "sim" => sims::play(lines, setup),
+        "pair" => pairs::play(lines, setup),
+        "modem" => modems::play(lines, setup),
+        "typed" => typed::play(lines),
+        "texts" => texts::play(lines),
+        "frames" => frames::play(lines, setup.n1),
+        _ => play_entry(lines, setup, what),
     }
 }
 

@@ -169,22 +169,27 @@ impl<L: SerialLine + Drop, R: Host> Near<L, R> {
         }
     }
 
+    /// Prints the outcome that the caller takes, and says whether one waits.
+    fn print_next(&mut self) -> Result<bool, Stop> {
+        let Some(outcome) = self.next_outcome()? else {
+            return Ok(false);
+        };
+        print_act(&self.rt, &Act::Told(outcome))?;
+        Ok(true)
+    }
+
     fn take(&mut self) -> Result<(), Stop> {
-        match self.next_outcome()? {
-            Some(outcome) => print_act(&self.rt, &Act::Told(outcome)),
-            None => {
-                let _ = self.rt.println("-");
-                Ok(())
-            }
+        if !self.print_next()? {
+            let _ = self.rt.println("-");
         }
+        Ok(())
     }
 
     fn drain(&mut self) -> Result<(), Stop> {
         for _ in 0..WAITING {
-            let Some(outcome) = self.next_outcome()? else {
+            if !self.print_next()? {
                 return Ok(());
-            };
-            print_act(&self.rt, &Act::Told(outcome))?;
+            }
         }
         Ok(())
     }

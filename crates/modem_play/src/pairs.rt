@@ -2,7 +2,7 @@
 use crate::near::Near;
 use crate::setup::Setup;
 use crate::sims::made;
-use crate::words::{BAD, Begins, Host, Lines, Player, play_by};
+use crate::words::{BAD, Begins, Host, Lines, Player, beside, play_by};
 use modem_driver::Turn;
 use modem_runs::Stop;
 use modem_sim::{Sim, SimTurn};
@@ -62,12 +62,10 @@ fn ends(setup: &Setup) -> Result<(ThreadLine, ThreadLine), Stop> {
 impl<R: Host> Begins<R> for Pair<R> {
     fn begin(rt: R, setup: &mut Setup) -> Result<Pair<R>, Stop> {
         let (one, other) = ends(setup)?;
-        let sim = made(other, setup)?;
-        let near = Near::new(rt, one, setup)?;
+        let (sim, one) = beside(made(other, setup), one)?;
+        let (near, sim) = beside(Near::new(rt, one, setup), sim)?;
         Ok(Pair { near, sim })
     }
-
-    fn end(self) {}
 }
 
 /// Plays the lines that follow.

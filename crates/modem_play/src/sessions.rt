@@ -2,8 +2,8 @@
 use crate::near::{Near, caller_takes};
 use crate::setup::Setup;
 use crate::words::{Begins, Host, Lines, Player, octets, play_by, print_octets, split};
-use modem_desk::DriverEnd;
-use modem_driver::enter;
+use modem_desk::{Caller, DriverEnd};
+use modem_driver::{Finished, enter};
 use modem_runs::Stop;
 use serial_line::CutLine;
 
@@ -29,6 +29,24 @@ fn count_left<R: Host>(rt: &R, driver: &mut DriverEnd) -> u32 {
     64
 }
 
+fn print_finished<R: Host>(rt: &R, finished: &mut Finished<CutLine>) {
+    let in_hand = finished.in_hand.len();
+    let unplaced = finished.unplaced.len();
+    let unannounced = finished.unannounced.len();
+    let left = count_left(rt, &mut finished.driver);
+    let _ = rt.println(format_args!(
+        "{in_hand} in hand, {unplaced} unplaced, {unannounced} unannounced, {left} left"
+    ));
+}
+
+/// How many outcomes each caller takes.
+fn print_untaken<R: Host>(rt: &R, callers: &mut [Caller]) {
+    for caller in callers {
+        let taken = caller_takes(caller);
+        let _ = rt.println(format_args!("{taken} untaken"));
+    }
+}
+
 impl<R: Host> Played<R> {
     fn come(&mut self, line: &str) -> Result<(), Stop> {
         let octets = octets(self.near.alloc, line)?;
@@ -49,25 +67,15 @@ impl<R: Host> Played<R> {
     }
 
     fn finish(self) {
-        let Played { near, .. } = self;
         let Near {
             rt,
             session,
             mut callers,
             ..
-        } = near;
+        } = self.near;
         let mut finished = session.finish();
-        let in_hand = finished.in_hand.len();
-        let unplaced = finished.unplaced.len();
-        let unannounced = finished.unannounced.len();
-        let left = count_left(&rt, &mut finished.driver);
-        let _ = rt.println(format_args!(
-            "{in_hand} in hand, {unplaced} unplaced, {unannounced} unannounced, {left} left"
-        ));
-        for caller in callers.iter_mut() {
-            let taken = caller_takes(caller);
-            let _ = rt.println(format_args!("{taken} untaken"));
-        }
+        print_finished(&rt, &mut finished);
+        print_untaken(&rt, &mut callers);
     }
 }
 

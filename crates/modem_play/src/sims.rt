@@ -131,8 +131,6 @@ impl<R: Host> Begins<R> for Played<R> {
             marks: false,
         })
     }
-
-    fn end(self) {}
 }
 
 /// Plays the lines that follow.

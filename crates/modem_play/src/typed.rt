@@ -132,6 +132,11 @@ impl<R: Host> Played<R> {
         let lines = answer_lines(self.alloc, words)?;
         print_reply(&self.rt, Reply::read(self.alloc, command, lines.as_slice()))
     }
+
+    fn make(&self, word: &str, rest: &str) -> Result<(), Stop> {
+        let command = made(self.alloc, word, rest)?;
+        print_made(&self.rt, self.alloc, &command)
+    }
 }
 
 impl<R: Host> Player for Played<R> {
@@ -141,10 +146,7 @@ impl<R: Host> Player for Played<R> {
             ("answer", words) => self.read_answer(words)?,
             ("report", line) => print_report(&self.rt, line),
             ("cme", word) => print_cme(&self.rt, number(word)?),
-            (word, rest) => {
-                let command = made(self.alloc, word, rest)?;
-                print_made(&self.rt, self.alloc, &command)?;
-            }
+            (word, rest) => self.make(word, rest)?,
         }
         Ok(false)
     }

@@ -76,12 +76,12 @@ pub fn play_all<R: Host, P: Player>(lines: &mut Lines<R>, player: &mut P) -> Res
 }
 
 /// A player that a setup says how to begin.
-pub trait Begins<R: Host>: Player + Drop {
+pub trait Begins<R: Host>: Player + Drop + Sized {
     /// It begins.
     fn begin(rt: R, setup: &mut Setup) -> Result<Self, Stop>;
 
     /// A line was the last one.
-    fn end(self);
+    fn end(self) {}
 }
 
 /// Begins such a player, and plays the lines that follow. What a player holds isn't looked at here, so this proves at little cost.
@@ -91,6 +91,14 @@ pub fn play_by<R: Host, P: Begins<R>>(lines: &mut Lines<R>, setup: &mut Setup) -
         player.end();
     }
     Ok(())
+}
+
+/// What was made, beside what is kept, which may be anything here too.
+pub fn beside<A: Drop, K: Drop>(made: Result<A, Stop>, kept: K) -> Result<(A, K), Stop> {
+    match made {
+        Ok(value) => Ok((value, kept)),
+        Err(stop) => Err(stop),
+    }
 }
 
 /// The first word, and what follows it.
