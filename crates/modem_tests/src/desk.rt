@@ -56,7 +56,7 @@ fn take_requests<R: Wait + Abort>(rt: &R, driver: &mut DriverEnd, wanted: &[(u8,
 {
     for (caller, number) in wanted {
         let request = driver.next(rt).expect(rt, "a request");
-        assert_eq!(rt; (request.caller, request.number), (*caller, *number));
+        assert!(rt; request.caller == *caller && request.number == *number);
     }
 }
 
@@ -94,7 +94,7 @@ fn settle_by_two<R: Wait + Abort>(
         callers,
         listeners,
     } = refused;
-    assert_eq!(rt; why, DeskError::NoMemory);
+    assert!(rt; why == DeskError::NoMemory);
     let Ok(settled) = settle(rt, alloc, driver, callers, listeners) else {
         panic!(rt; "memory was refused twice");
     };
@@ -114,8 +114,7 @@ fn a_caller_has_16_outcomes_to_take_and_the_queue_64_places(rt: HostRuntime) -> 
     let Err((why, Ask::CloseChannel(back))) = more else {
         return Err(Fail::from("a full queue"));
     };
-    assert_eq!(rt; why, SubmitError::Full);
-    assert_eq!(rt; back.number(), 7);
+    assert!(rt; why == SubmitError::Full && back.number() == 7);
     assert!(rt; driver.next(&rt).is_some());
     let more = submit_one(&rt, &mut callers, 4, Ask::CloseChannel(back));
     assert!(rt; matches!(more, Ok(1)));
@@ -132,18 +131,20 @@ fn the_last_number_is_the_last(rt: HostRuntime) -> Result<(), Fail> {
     Ok(())
 }
 
+fn is_bad_count(alloc: Global, callers: u8, kinds: &[UrcKind], first: u64) -> bool {
+    matches!(
+        Desk::open_from(alloc, callers, kinds, first),
+        Err(DeskError::BadCount)
+    )
+}
+
 #[test]
 fn a_desk_of_no_caller_of_nine_of_a_kind_twice_or_from_0_is_refused(rt: HostRuntime) {
     let alloc = rt.alloc();
-    let twice = [UrcKind::Ring, UrcKind::Ring];
-    let cases: [(u8, &[UrcKind], u64); 4] = [(0, &[], 1), (9, &[], 1), (1, &twice, 1), (1, &[], 0)];
-    for (callers, kinds, first) in cases {
-        let opened = Desk::open_from(alloc, callers, kinds, first);
-        assert!(rt;
-            matches!(opened, Err(DeskError::BadCount)),
-            "{callers} from {first}"
-        );
-    }
+    assert!(rt; is_bad_count(alloc, 0, &[], 1));
+    assert!(rt; is_bad_count(alloc, 9, &[], 1));
+    assert!(rt; is_bad_count(alloc, 1, &[UrcKind::Ring, UrcKind::Ring], 1));
+    assert!(rt; is_bad_count(alloc, 1, &[], 0));
 }
 
 #[test]
@@ -156,21 +157,21 @@ fn what_was_taken_told_and_left_is_counted(rt: HostRuntime) -> Result<(), Fail> 
     tell_stopped(&rt, &mut driver, 0, 1);
     tell_stopped(&rt, &mut driver, 0, 2);
     let taken = taken_by(&rt, &mut callers, 0).expect(&rt, "an outcome");
-    assert_eq!(rt; (taken.caller, taken.number), (0, 1));
+    assert!(rt; taken.caller == 0 && taken.number == 1);
     assert!(rt; taken_by(&rt, &mut callers, 1).is_none());
     let Settled {
         left,
         untaken,
         unheard,
     } = settle_by_two(&rt, alloc, driver, callers, listeners);
-    assert_eq!(rt; left.len(), 2);
-    assert_eq!(rt; (left[0].caller, left[0].number), (1, 2));
-    assert_eq!(rt; (left[1].caller, left[1].number), (1, 3));
-    assert_eq!(rt; untaken.len(), 2);
-    assert_eq!(rt; untaken[0].len(), 1);
-    assert_eq!(rt; untaken[0][0].number, 2);
-    assert_eq!(rt; untaken[1].len(), 0);
-    assert_eq!(rt; unheard.len(), 0);
+    assert!(rt; left.len() == 2 && untaken.len() == 2 && unheard.is_empty());
+    let rest = [
+        (left[0].caller, left[0].number),
+        (left[1].caller, left[1].number),
+    ];
+    assert!(rt; rest == [(1, 2), (1, 3)]);
+    assert!(rt; untaken[0].len() == 1 && untaken[1].is_empty());
+    assert!(rt; untaken[0][0].number == 2);
     Ok(())
 }
 
@@ -189,11 +190,8 @@ fn what_memory_held_up_is_settled_by_a_second_call(rt: HostRuntime) -> Result<()
         untaken,
         unheard,
     } = settle_by_two(&rt, alloc, driver, callers, listeners);
-    assert_eq!(rt; left.len(), 2);
-    assert_eq!(rt; (left[0].number, left[1].number), (2, 3));
-    assert_eq!(rt; untaken.len(), 1);
-    assert_eq!(rt; untaken[0].len(), 1);
-    assert_eq!(rt; unheard.len(), 1);
-    assert_eq!(rt; unheard[0].len(), 0);
+    assert!(rt; left.len() == 2 && untaken.len() == 1 && unheard.len() == 1);
+    assert!(rt; left[0].number == 2 && left[1].number == 3);
+    assert!(rt; untaken[0].len() == 1 && unheard[0].is_empty());
     Ok(())
 }

@@ -1,7 +1,8 @@
 //! A core on the line: a stop holds up the rest of a command.
+use crate::station::dlci;
 use at_text::CommandLine;
 use modem_driver::*;
-use mux_frame::{Deframer, Dlci, FrameView, Kind, write_frame};
+use mux_frame::{Deframer, FrameView, Kind, write_frame};
 use std::alloc::Global;
 use std::process::Abort;
 use std::test::Fail;
@@ -45,11 +46,6 @@ const STOPPED_MIDWAY: &[Step] = &[
     Step::Leaves(b""),
 ];
 
-fn dlci(number: u8) -> Result<Dlci, Fail> {
-    let dlci = Dlci::new(number).ok_or("no such DLCI")?;
-    Ok(dlci)
-}
-
 fn took(core: &mut Core, ask: Ask) -> Result<(), Fail> {
     let request = Request {
         caller: 0,
@@ -92,31 +88,35 @@ fn leaves(alloc: Global, core: &mut Core) -> Result<Vec<u8>, Fail> {
     }
 }
 
+fn command(alloc: Global, text: &[u8]) -> Result<Ask, Fail> {
+    let one = dlci(1)?;
+    Ok(Ask::Command(one, CommandLine::new(alloc, text)?))
+}
+
 fn play_one(rt: &impl Abort, alloc: Global, core: &mut Core, step: Step) -> Result<(), Fail> {
     match step {
         Step::Open(number) => took(core, Ask::OpenChannel(dlci(number)?)),
-        Step::Command(text) => {
-            let line = CommandLine::new(alloc, text)?;
-            took(core, Ask::Command(dlci(1)?, line))
-        }
+        Step::Command(text) => took(core, command(alloc, text)?),
         Step::Got(octets) => got(alloc, core, octets),
         Step::Leaves(octets) => {
-            assert_eq!(rt; leaves(alloc, core)?.as_slice(), octets);
+            assert!(rt; leaves(alloc, core)?.as_slice() == octets);
             Ok(())
         }
     }
 }
 
+fn play_all(rt: &impl Abort, alloc: Global, core: &mut Core, steps: &[Step]) -> Result<(), Fail> {
+    for step in steps {
+        play_one(rt, alloc, core, *step)?;
+    }
+    Ok(())
+}
+
 /// A new core on which 0 and 1 are opened, and then these steps.
 fn play(rt: &impl Abort, alloc: Global, steps: &[Step]) -> Result<(), Fail> {
     let mut core = Core::new(alloc, 31, &[])?;
-    for step in OPENED {
-        play_one(rt, alloc, &mut core, *step)?;
-    }
-    for step in steps {
-        play_one(rt, alloc, &mut core, *step)?;
-    }
-    Ok(())
+    play_all(rt, alloc, &mut core, OPENED)?;
+    play_all(rt, alloc, &mut core, steps)
 }
 
 #[test]

@@ -20,9 +20,9 @@ fn a_line_between_threads_has_room_for_1_to_65536(rt: HostRuntime) -> Result<(),
     let text = long_text(rt.alloc(), 65537)?;
     for room in [1, 65536] {
         let (mut near, mut far) = ThreadLine::pair(rt.alloc(), room)?;
-        assert_eq!(rt; near.try_write(&text), Ok(room));
-        assert_eq!(rt; near.under_way(&mut far), room);
-        assert_eq!(rt; far.under_way(&mut near), 0);
+        assert!(rt; near.try_write(&text) == Ok(room));
+        assert!(rt; near.under_way(&mut far) == room);
+        assert!(rt; far.under_way(&mut near) == 0);
     }
     Ok(())
 }
@@ -93,6 +93,6 @@ fn across<R: Threads + Wait + Sync>(
 fn octets_between_threads_come_in_order(rt: HostRuntime) -> Result<(), Fail> {
     let text = long_text(rt.alloc(), 100_000)?;
     let came = across(&rt, rt.alloc(), &text, 64)?;
-    assert_eq!(rt; came.as_slice(), text.as_slice());
+    assert!(rt; came.as_slice() == text.as_slice());
     Ok(())
 }

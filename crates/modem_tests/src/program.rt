@@ -10,6 +10,7 @@ use mux_frame::Dlci;
 use std::alloc::Global;
 use std::io;
 use std::io::{ErrorKind, Read, Write};
+use std::process::Abort;
 use std::test::Fail;
 
 // A line of octets that are printed as they are and others.
@@ -19,19 +20,22 @@ fn heard(alloc: Global, dlci: Dlci) -> Result<Act, Fail> {
     Ok(Act::Heard(Urc { kind, dlci, line }))
 }
 
+fn printed(alloc: Global, act: Act) -> Result<String, Fail> {
+    let mut text = String::new(alloc);
+    push_act(alloc, &act, &mut text)?;
+    Ok(text)
+}
+
 #[test]
 fn acts_without_a_request_are_printed(rt: HostRuntime) -> Result<(), Fail> {
     let alloc = rt.alloc();
-    let dlci = Dlci::new(61).ok_or("61 is a connection")?;
-    let mut text = String::new(alloc);
-    push_act(alloc, &Act::Tick, &mut text)?;
-    push_act(alloc, &Act::Lost, &mut text)?;
-    push_act(alloc, &Act::Held(dlci), &mut text)?;
-    push_act(alloc, &Act::Freed(dlci), &mut text)?;
-    let act = heard(alloc, dlci)?;
-    push_act(alloc, &act, &mut text)?;
-    let want = "tick\nlost\nheld 61\nfreed 61\nheard CGREG 61  ~\\x7f\\xff\\x1f\n";
-    assert_eq!(rt; text.as_str(), want);
+    let dlci = Dlci::new(61).expect(&rt, "61 is a connection");
+    assert!(rt; printed(alloc, Act::Tick)?.as_str() == "tick\n");
+    assert!(rt; printed(alloc, Act::Lost)?.as_str() == "lost\n");
+    assert!(rt; printed(alloc, Act::Held(dlci))?.as_str() == "held 61\n");
+    assert!(rt; printed(alloc, Act::Freed(dlci))?.as_str() == "freed 61\n");
+    let heard = printed(alloc, heard(alloc, dlci)?)?;
+    assert!(rt; heard.as_str() == "heard CGREG 61  ~\\x7f\\xff\\x1f\n");
     Ok(())
 }
 
@@ -66,34 +70,34 @@ impl Write for Failing {
     }
 }
 
+// A run of replay ends with this status, having said this.
+fn expect_replay<I: Read, O: Write>(
+    rt: &impl Abort,
+    alloc: Global,
+    input: &mut I,
+    output: &mut O,
+    status: u8,
+    said: &[u8],
+) {
+    let mut faults = Vec::new(alloc);
+    assert!(rt; replay_run(alloc, input, output, &mut faults, 31) == status);
+    assert!(rt; faults.as_slice() == said);
+}
+
 #[test]
 fn readers_and_writers_may_fail(rt: HostRuntime) {
     let alloc = rt.alloc();
     for left in [0, 3] {
         let mut output = Vec::new(alloc);
-        let mut faults = Vec::new(alloc);
-        let mut input = Failing { left };
-        assert_eq!(rt;
-            replay_run(alloc, &mut input, &mut output, &mut faults, 31),
-            1
-        );
-        assert_eq!(rt; faults.as_slice(), b"fault: input\n".as_slice());
-        assert_eq!(rt; output.len(), 0);
+        let mut failing = Failing { left };
+        expect_replay(&rt, alloc, &mut failing, &mut output, 1, b"fault: input\n");
+        assert!(rt; output.is_empty());
         let mut input = b"open 0\n".as_slice();
-        let mut faults = Vec::new(alloc);
-        let mut output = Failing { left };
-        assert_eq!(rt;
-            replay_run(alloc, &mut input, &mut output, &mut faults, 31),
-            1
-        );
-        assert_eq!(rt; faults.as_slice(), b"fault: output\n".as_slice());
+        let mut failing = Failing { left };
+        expect_replay(&rt, alloc, &mut input, &mut failing, 1, b"fault: output\n");
         let mut input = b"x".as_slice();
-        let mut output = Vec::new(alloc);
-        let mut faults = Failing { left };
-        assert_eq!(rt;
-            frames_run(alloc, &mut input, &mut output, &mut faults, 31),
-            2
-        );
+        let mut failing = Failing { left };
+        assert!(rt; frames_run(alloc, &mut input, &mut output, &mut failing, 31) == 2);
     }
 }
 
@@ -145,36 +149,45 @@ fn a_reader_may_give_octets_one_by_one_and_be_interrupted(rt: HostRuntime) {
         let mut output = Vec::new(alloc);
         let mut faults = Vec::new(alloc);
         let got = frames_run(alloc, &mut input, &mut output, &mut faults, 31);
-        assert_eq!(rt; output.as_slice(), b"0 UA 1 1 -\nrest f9\n".as_slice());
-        assert_eq!(rt; (got, faults.len()), (0, 0));
+        assert!(rt; output.as_slice() == b"0 UA 1 1 -\nrest f9\n".as_slice());
+        assert!(rt; got == 0 && faults.is_empty());
     }
 }
 
 #[test]
 fn output_that_is_not_flushed_is_a_fault(rt: HostRuntime) {
-    let alloc = rt.alloc();
+    let mut script = b"open 0\n".as_slice();
+    expect_replay(
+        &rt,
+        rt.alloc(),
+        &mut script,
+        &mut Unflushed,
+        1,
+        b"fault: output\n",
+    );
+}
+
+// A run with this N1 reads and writes nothing, and says why.
+fn expect_bad_n1(rt: &impl Abort, alloc: Global, n1: u16, of_frames: bool) {
+    let mut input = b"x".as_slice();
+    let mut output = Vec::new(alloc);
     let mut faults = Vec::new(alloc);
-    let script = b"open 0\n".as_slice();
-    let got = replay_run(alloc, &mut &*script, &mut Unflushed, &mut faults, 31);
-    assert_eq!(rt; faults.as_slice(), b"fault: output\n".as_slice());
-    assert_eq!(rt; got, 1);
+    let status = if of_frames {
+        frames_run(alloc, &mut input, &mut output, &mut faults, n1)
+    } else {
+        replay_run(alloc, &mut input, &mut output, &mut faults, n1)
+    };
+    assert!(rt;
+        status == 2 && input.len() == 1 && output.is_empty(),
+        "{n1}"
+    );
+    assert!(rt; faults.as_slice() == b"error: N1 is 31 to 32767\n".as_slice());
 }
 
 #[test]
 fn a_bad_n1_is_refused_before_anything_is_read(rt: HostRuntime) {
-    let alloc = rt.alloc();
     for n1 in [0, 30, 32768, u16::MAX] {
-        for of_frames in [false, true] {
-            let mut input = b"x".as_slice();
-            let mut output = Vec::new(alloc);
-            let mut faults = Vec::new(alloc);
-            let got = if of_frames {
-                frames_run(alloc, &mut input, &mut output, &mut faults, n1)
-            } else {
-                replay_run(alloc, &mut input, &mut output, &mut faults, n1)
-            };
-            assert_eq!(rt; (got, input.len(), output.len()), (2, 1, 0), "{n1}");
-            assert_eq!(rt; faults.as_slice(), b"error: N1 is 31 to 32767\n".as_slice());
-        }
+        expect_bad_n1(&rt, rt.alloc(), n1, false);
+        expect_bad_n1(&rt, rt.alloc(), n1, true);
     }
 }

@@ -6,7 +6,6 @@ use std::alloc::{AllocError, Global};
 use std::process::Abort;
 use std::snapshot::Snapshot;
 use std::sync::Wait;
-use std::test::Fail;
 use std::thread;
 use std::thread::{Promise, PromisedHandle, Threads};
 
@@ -48,8 +47,7 @@ fn take_next<R: Abort>(rt: &R, caller: &mut Caller, taken: u64) -> u64
         return taken;
     };
     let number = taken.saturating_add(1);
-    assert_eq!(rt; outcome.number, number);
-    assert!(rt; matches!(outcome.answer, Answer::NotOpen));
+    assert!(rt; outcome.number == number && matches!(outcome.answer, Answer::NotOpen));
     number
 }
 
@@ -122,20 +120,23 @@ fn send_out<R>(
     alloc: Global,
     callers: Vec<Caller>,
     job: CallerJob,
-) -> Result<Vec<PromisedHandle<Caller, SamePlace>>, AllocError>
+) -> Vec<PromisedHandle<Caller, SamePlace>>
 where
     R: Threads + Wait + Abort + Copy + Send + 'static,
-    ensures { IfOk result
-        (λ handles. map (λ h. h.promise.0.value.place) handles.items ≡ map place_of callers.items) }
+    ensures { map (λ h. h.promise.0.value.place) result.items ≡ map place_of callers.items }
 {
     let mut out = Vec::new(alloc);
     let rt = *rt;
     for caller in callers {
         let was = SamePlace(Snapshot::of(&caller));
-        let child = thread::spawn_with(&rt, was, move || work(&rt, caller, job))?;
-        out.push(child)?;
+        let Ok(child) = thread::spawn_with(&rt, was, move || work(&rt, caller, job)) else {
+            panic!(rt; "no memory");
+        };
+        let Ok(()) = out.push(child) else {
+            panic!(rt; "no memory");
+        };
     }
-    Ok(out)
+    out
 }
 
 // Waits for each thread.
@@ -148,32 +149,56 @@ fn bring_back(
     Ok(thread::join_promised(rt, out)?)
 }
 
-// Callers and a driver, each in a thread of its own, and then a settlement.
-fn run<R>(
+// Callers, each in a thread of its own.
+fn call_all<R>(
     rt: &R,
     alloc: Global,
-    callers: u8,
-    callers_job: CallerJob,
-    job: DriverJob,
-) -> Result<Settled, Fail>
+    callers: Vec<Caller>,
+    job: CallerJob,
+) -> Result<Vec<Caller>, AllocError>
+where
+    R: Threads + Wait + Abort + Copy + Send + 'static,
+    ensures { IfOk result (λ back. map place_of back.items ≡ map place_of callers.items) }
+{
+    let out = send_out(rt, alloc, callers, job);
+    bring_back(rt, out)
+}
+
+// Callers and a driver, each in a thread of its own, and then a settlement.
+fn run<R>(rt: &R, alloc: Global, callers: u8, callers_job: CallerJob, job: DriverJob) -> Settled
 where
     R: Threads + Wait + Abort + Copy + Send + 'static,
 {
-    let (driver, all, listeners) = Desk::open(alloc, callers, &[])?;
+    let Ok((driver, all, listeners)) = Desk::open(alloc, callers, &[]) else {
+        panic!(rt; "no memory");
+    };
     let was = SameDesk(Snapshot::of(&driver));
     let own = *rt;
-    let driving = thread::spawn_with(rt, was, move || drive(&own, driver, job))?;
-    let out = send_out(rt, alloc, all, callers_job)?;
-    let back = bring_back(rt, out)?;
+    let Ok(driving) = thread::spawn_with(rt, was, move || drive(&own, driver, job)) else {
+        panic!(rt; "no memory");
+    };
+    let Ok(back) = call_all(rt, alloc, all, callers_job) else {
+        panic!(rt; "no memory");
+    };
     let driver = driving.join(rt);
     let Ok(settled) = settle(rt, alloc, driver, back, listeners) else {
-        return Err(Fail::from("ample memory"));
+        panic!(rt; "no memory");
     };
-    Ok(settled)
+    settled
+}
+
+// Whether no outcome is left untaken.
+fn are_taken(untaken: &[Vec<Outcome>]) -> bool {
+    for outcomes in untaken {
+        if !outcomes.is_empty() {
+            return false;
+        }
+    }
+    true
 }
 
 #[test]
-fn eight_callers_take_each_outcome_once(rt: HostRuntime) -> Result<(), Fail> {
+fn eight_callers_take_each_outcome_once(rt: HostRuntime) {
     let callers_job = CallerJob {
         asks: 100,
         outcomes: 100,
@@ -182,17 +207,25 @@ fn eight_callers_take_each_outcome_once(rt: HostRuntime) -> Result<(), Fail> {
         requests: 800,
         tells: true,
     };
-    let settled = run(&rt, rt.alloc(), 8, callers_job, job)?;
-    assert_eq!(rt; settled.left.len(), 0);
-    assert_eq!(rt; settled.untaken.len(), 8);
-    for untaken in &settled.untaken {
-        assert_eq!(rt; untaken.len(), 0);
+    let settled = run(&rt, rt.alloc(), 8, callers_job, job);
+    assert!(rt; settled.left.is_empty() && settled.untaken.len() == 8);
+    assert!(rt; are_taken(&settled.untaken));
+}
+
+// The last number of this caller's requests that are left, which are in their order; 0 where none is.
+fn last_left(rt: &impl Abort, left: &[Request], caller: u8) -> u64 {
+    let mut last = 0;
+    for request in left {
+        if request.caller == caller {
+            assert!(rt; last < request.number);
+            last = request.number;
+        }
     }
-    Ok(())
+    last
 }
 
 #[test]
-fn what_a_driver_leaves_is_each_callers_rest(rt: HostRuntime) -> Result<(), Fail> {
+fn what_a_driver_leaves_is_each_callers_rest(rt: HostRuntime) {
     let callers_job = CallerJob {
         asks: 16,
         outcomes: 0,
@@ -201,19 +234,10 @@ fn what_a_driver_leaves_is_each_callers_rest(rt: HostRuntime) -> Result<(), Fail
         requests: 20,
         tells: false,
     };
-    let settled = run(&rt, rt.alloc(), 4, callers_job, job)?;
-    assert_eq!(rt; settled.left.len(), 44);
+    let settled = run(&rt, rt.alloc(), 4, callers_job, job);
+    assert!(rt; settled.left.len() == 44);
     for caller in 0..4 {
-        let mut last = 0;
-        for request in settled
-            .left
-            .iter()
-            .filter(|request| request.caller == caller)
-        {
-            assert!(rt; last < request.number);
-            last = request.number;
-        }
+        let last = last_left(&rt, &settled.left, caller);
         assert!(rt; last == 0 || last == 16);
     }
-    Ok(())
 }

@@ -37,7 +37,7 @@ fn callers_and_driver<R: Wait + Abort + Print>(
     driver: &mut DriverEnd,
     callers: &mut [Caller],
 ) {
-    assert_eq!(rt; callers.len(), 2);
+    assert!(rt; callers.len() == 2);
     begin(rt, "Caller::submit");
     for _ in 0..20 {
         let _ = callers[0].submit(rt, Ask::Stop);
@@ -49,7 +49,7 @@ fn callers_and_driver<R: Wait + Abort + Print>(
     }
     end(rt);
     begin(rt, "DriverEnd::tell, DriverEnd::callers");
-    assert_eq!(rt; tell_all(rt, driver), 8);
+    assert!(rt; tell_all(rt, driver) == 8);
     end(rt);
     begin(rt, "Caller::take");
     assert!(rt; callers[0].take().is_some());
@@ -64,12 +64,12 @@ fn listener_and_driver<R: Abort + Print>(
     listeners: &mut [Listener],
     line: Urc,
 ) {
-    assert_eq!(rt; listeners.len(), 1);
+    assert!(rt; listeners.len() == 1);
     begin(rt, "DriverEnd::announce, DriverEnd::listens");
     assert!(rt; announce(rt, driver, line).is_none());
     end(rt);
     begin(rt, "Listener::take, Listener::kind");
-    assert_eq!(rt; listeners[0].kind(), UrcKind::Ring);
+    assert!(rt; listeners[0].kind() == UrcKind::Ring);
     let heard = listeners[0].take();
     let more = listeners[0].take();
     end(rt);

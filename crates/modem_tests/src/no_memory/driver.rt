@@ -1,9 +1,10 @@
 //! Of the driver, and what the calls of a command take.
 use crate::no_memory::{begin, end};
+use crate::station::dlci;
 use at_text::{CommandLine, UrcKind};
 use modem_desk::Desk;
 use modem_driver::*;
-use mux_frame::{Dlci, FrameView, Kind};
+use mux_frame::{FrameView, Kind};
 use mux_station::ChannelState;
 use serial_line::CutLine;
 use std::alloc::Global;
@@ -12,9 +13,10 @@ use std::process::Abort;
 use std::sync::Wait;
 use std::test::Fail;
 
-fn dlci(number: u8) -> Result<Dlci, Fail> {
-    let dlci = Dlci::new(number).ok_or("no such DLCI")?;
-    Ok(dlci)
+// A command on 1.
+fn command(alloc: Global, text: &[u8]) -> Result<Ask, Fail> {
+    let one = dlci(1)?;
+    Ok(Ask::Command(one, CommandLine::new(alloc, text)?))
 }
 
 // A request is taken: how many acts come of it.
@@ -67,10 +69,9 @@ fn warm_up(rt: &impl Abort, alloc: Global, core: &mut Core) -> Result<(), Fail> 
         comes(core, number, Kind::Ua, &[])?;
         all_goes_out(core);
     }
-    let line = CommandLine::new(alloc, b"AT")?;
-    takes(core, 2, Ask::Command(dlci(1)?, line))?;
+    takes(core, 2, command(alloc, b"AT")?)?;
     all_goes_out(core);
-    assert_eq!(rt; comes(core, 1, Kind::Uih, b"\r\nOK\r\n")?, 2);
+    assert!(rt; comes(core, 1, Kind::Uih, b"\r\nOK\r\n")? == 2);
     Ok(())
 }
 
@@ -83,12 +84,12 @@ fn warmed_up(rt: &impl Abort, alloc: Global) -> Result<Core, Fail> {
 
 // A command leaves, between marks.
 fn command_leaves<R: Abort + Print>(rt: &R, alloc: Global, core: &mut Core) -> Result<(), Fail> {
-    let line = CommandLine::new(alloc, b"AT+CGDCONT=1,\"IP\",\"internet.example\"")?;
-    takes(core, 3, Ask::Command(dlci(1)?, line))?;
-    let dlci = dlci(1)?;
+    let text = b"AT+CGDCONT=1,\"IP\",\"internet.example\"";
+    takes(core, 3, command(alloc, text)?)?;
+    let one = dlci(1)?;
     begin(rt, "Core::outgoing, Core::state");
-    assert_eq!(rt; core.state(dlci), ChannelState::Opened);
-    assert_eq!(rt; all_goes_out(core), 2);
+    assert!(rt; core.state(one) == ChannelState::Opened);
+    assert!(rt; all_goes_out(core) == 2);
     end(rt);
     Ok(())
 }
@@ -102,28 +103,30 @@ fn enters(rt: &impl Print, alloc: Global) -> Result<(), Fail> {
     Ok(())
 }
 
-fn new_session<R: Wait + Drop>(rt: R, alloc: Global) -> Result<Session<CutLine, R>, Fail> {
-    let line = CutLine::new(alloc, b"", &[], &[], 64)?;
-    let (driver, _, _) = Desk::open(alloc, 1, &[])?;
-    match Session::new(rt, alloc, line, driver, 31) {
-        Ok(session) => Ok(session),
-        Err(_) => Err("no memory".into()),
+// What was made.
+fn ready<A: Drop, E: Drop>(rt: &impl Abort, made: Result<A, E>) -> A {
+    match made {
+        Ok(value) => value,
+        Err(_) => panic!(rt; "no memory"),
     }
 }
 
+fn new_session<R: Wait + Abort + Drop + Copy>(rt: R, alloc: Global) -> Session<CutLine, R> {
+    let line = ready(&rt, CutLine::new(alloc, b"", &[], &[], 64));
+    let (driver, _, _) = ready(&rt, Desk::open(alloc, 1, &[]));
+    ready(&rt, Session::new(rt, alloc, line, driver, 31))
+}
+
 // A session's line is lent, and the session ends, between marks.
-fn ends_a_session<R: Wait + Print + Drop + Copy>(rt: R, alloc: Global) -> Result<(), Fail> {
-    let mut session = new_session(rt, alloc)?;
+fn ends_a_session<R: Wait + Abort + Print + Drop + Copy>(rt: R, alloc: Global) {
+    let mut session = new_session(rt, alloc);
     begin(&rt, "Session::line_mut");
     let put = session.line_mut().put(b"\xF9");
     end(&rt);
     begin(&rt, "Session::finish");
     let finished = session.finish();
     end(&rt);
-    if put != 1 || !finished.in_hand.is_empty() {
-        return Err("another session".into());
-    }
-    Ok(())
+    assert!(&rt; put == 1 && finished.in_hand.is_empty());
 }
 
 #[test]
@@ -133,7 +136,8 @@ fn calls_that_take_no_memory(rt: HostRuntime) -> Result<(), Fail> {
     command_leaves(&rt, alloc, &mut core)?;
     drop(core);
     enters(&rt, alloc)?;
-    ends_a_session(rt, alloc)
+    ends_a_session(rt, alloc);
+    Ok(())
 }
 
 // A line comes in a frame of its own, between marks: so many acts come of it.
@@ -147,7 +151,7 @@ fn line_comes<R: Abort + Print>(
     begin(rt, call);
     let came = comes(core, 1, Kind::Uih, line)?;
     end(rt);
-    assert_eq!(rt; came, acts);
+    assert!(rt; came == acts);
     Ok(())
 }
 
@@ -165,13 +169,12 @@ fn command_is_answered<R: Abort + Print>(
     alloc: Global,
     core: &mut Core,
 ) -> Result<(), Fail> {
-    let line = CommandLine::new(alloc, b"AT+CSQ")?;
-    let ask = Ask::Command(dlci(1)?, line);
+    let ask = command(alloc, b"AT+CSQ")?;
     begin(rt, "Core::took of a command");
-    assert_eq!(rt; takes(core, 3, ask)?, 1);
+    assert!(rt; takes(core, 3, ask)? == 1);
     end(rt);
     begin(rt, "Core::outgoing of a command");
-    assert_eq!(rt; all_goes_out(core), 1);
+    assert!(rt; all_goes_out(core) == 1);
     end(rt);
     line_comes(rt, core, "Core::got of a line", b"\r\n+CSQ: 18,99\r\n", 1)?;
     line_comes(rt, core, "Core::got of a RING", b"\r\nRING\r\n", 2)?;

@@ -29,13 +29,13 @@ fn calls_that_take_no_memory(rt: HostRuntime) -> Result<(), Fail> {
     }
     end(&rt);
     begin(&rt, "check_octet, Dlci::new, Dlci::number");
-    assert_eq!(&rt; check_octet(&[0x03, 0x3F, 0x01]), 0x1C);
-    assert_eq!(&rt; Dlci::new(61).map(Dlci::number), Some(61));
+    assert!(&rt; check_octet(&[0x03, 0x3F, 0x01]) == 0x1C);
+    assert!(&rt; Dlci::new(61).map(Dlci::number) == Some(61));
     assert!(&rt; Dlci::new(62).is_none());
     end(&rt);
     begin(&rt, "ProbeData::new, ProbeData::octets");
     let probe = ProbeData::new(&[0x41; 16]);
-    assert_eq!(&rt; probe.as_ref().map(|data| data.octets().len()), Some(16));
+    assert!(&rt; probe.as_ref().map(|data| data.octets().len()) == Some(16));
     assert!(&rt; ProbeData::new(&[0x41; 17]).is_none());
     end(&rt);
     Ok(())

@@ -18,12 +18,12 @@ fn turn<L: SerialLine>(line: &mut L, buffer: &mut [u8]) {
 fn cut_lines<R: Abort + Print>(rt: &R, near: &mut CutLine, far: &mut CutLine) {
     let mut buffer = [0x41; 32];
     begin(rt, "CutLine::put, CutLine::try_read, CutLine::try_write");
-    assert_eq!(rt; near.put(b"gh"), 2);
+    assert!(rt; near.put(b"gh") == 2);
     turn(near, &mut buffer);
     turn(far, &mut buffer);
     end(rt);
     begin(rt, "CutLine::take, CutLine::sent, CutLine::carry");
-    assert_eq!(rt; far.take(&mut [0; 2]), 2);
+    assert!(rt; far.take(&mut [0; 2]) == 2);
     assert!(rt; !near.sent().is_empty());
     let _ = near.carry(far, 1000);
     end(rt);
@@ -38,9 +38,12 @@ fn thread_lines<R: Print>(rt: &R, near: &mut ThreadLine, far: &mut ThreadLine) {
     end(rt);
 }
 
+const CUTS: [Cut; 3] = [Cut::Upto(3), Cut::Fault, Cut::Upto(1)];
+
 fn in_memory<R: Abort + Print>(rt: &R, alloc: Global) -> Result<(), Fail> {
-    let cuts = [Cut::Upto(3), Cut::Fault, Cut::Upto(1)];
-    let mut near = CutLine::new(alloc, b"abcdef", &cuts, &cuts, 4096)?;
+    let Ok(mut near) = CutLine::new(alloc, b"abcdef", &CUTS, &CUTS, 4096) else {
+        panic!(rt; "no memory");
+    };
     let mut far = CutLine::new(alloc, b"", &[], &[], 4096)?;
     cut_lines(rt, &mut near, &mut far);
     Ok(())
@@ -49,7 +52,7 @@ fn in_memory<R: Abort + Print>(rt: &R, alloc: Global) -> Result<(), Fail> {
 fn between_threads<R: Abort + Print>(rt: &R, alloc: Global) -> Result<(), Fail> {
     let (mut near, mut far) = ThreadLine::pair(alloc, 64)?;
     begin(rt, "ThreadLine::under_way");
-    assert_eq!(rt; near.under_way(&mut far), 0);
+    assert!(rt; near.under_way(&mut far) == 0);
     end(rt);
     thread_lines(rt, &mut near, &mut far);
     Ok(())

@@ -24,24 +24,21 @@ fn readers<R: Abort + Print>(rt: &R, long: &[u8]) {
         "LineReader::new, LineReader::push, LineReader::reset, LineReader::copy",
     );
     let mut reader = LineReader::new();
-    assert_eq!(rt; push_all(&mut reader, long), 0);
+    assert!(rt; push_all(&mut reader, long) == 0);
     let mut copy = reader.copy();
     reader.reset();
-    assert_eq!(rt; push_all(&mut reader, b"\rOK\r\nRING\r\n"), 2);
-    assert_eq!(rt; push_all(&mut copy, b"\n"), 1);
+    assert!(rt; push_all(&mut reader, b"\rOK\r\nRING\r\n") == 2);
+    assert!(rt; push_all(&mut copy, b"\n") == 1);
     end(rt);
 }
 
 // What lines are read as.
 fn lines<R: Abort + Print>(rt: &R, long: &[u8]) {
     begin(rt, "final_of, unsolicited_of");
-    assert_eq!(rt; final_of(b"+CME ERROR: 11"), Some(Final::Cme(Some(11))));
-    assert_eq!(rt; final_of(long), None);
-    assert_eq!(rt;
-        unsolicited_of(b"+CREG: 1,\"00A1\",\"1\""),
-        Some(UrcKind::Creg)
-    );
-    assert_eq!(rt; unsolicited_of(long), None);
+    assert!(rt; final_of(b"+CME ERROR: 11") == Some(Final::Cme(Some(11))));
+    assert!(rt; final_of(long) == None);
+    assert!(rt; unsolicited_of(b"+CREG: 1,\"00A1\",\"1\"") == Some(UrcKind::Creg));
+    assert!(rt; unsolicited_of(long) == None);
     end(rt);
 }
 
@@ -58,7 +55,7 @@ fn windows<R: Abort + Print>(rt: &R, alloc: Global, line: &CommandLine) {
     fork.take_room(&mut window);
     window.drop_command();
     assert!(rt; window.idle());
-    assert_eq!(rt; line.text(), b"AT+CSQ".as_slice());
+    assert!(rt; line.text() == b"AT+CSQ".as_slice());
     end(rt);
 }
 

@@ -43,9 +43,9 @@ where
         script,
     );
     let (wanted, told, said) = want;
-    assert_eq!(rt; faults.as_slice(), said.as_bytes());
-    assert_eq!(rt; output.as_slice(), told.as_bytes());
-    assert_eq!(rt; status, wanted);
+    assert!(rt; faults.as_slice() == said.as_bytes());
+    assert!(rt; output.as_slice() == told.as_bytes());
+    assert!(rt; status == wanted);
 }
 
 #[test]
@@ -79,7 +79,8 @@ fn held_back(alloc: Global) -> Result<Script, Fail> {
     let one = Dlci::new(1).ok_or("1 is a connection")?;
     let two = Dlci::new(2).ok_or("2 is a connection")?;
     let mut steps = Vec::new(alloc);
-    for act in [StepAct::Hold(one, two), StepAct::Hold(two, one)] {
+    for (held, awaited) in &[(one, two), (two, one)] {
+        let act = StepAct::Hold(*held, *awaited);
         steps.push(Step { after: 0, act })?;
     }
     Ok(Script {

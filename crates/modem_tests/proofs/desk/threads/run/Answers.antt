@@ -4,7 +4,7 @@ use Rattle.modem_tests.proofs.desk.threads.run.Goals as goal
 
 pub settle-requires-clause-callers : goal.settle-requires-clause-callers
 settle-requires-clause-callers g c =
-    let was = ap (λ p. p.0.value) c.in_ok-driving.ensures.ok ∙ c.of.ensures in
-    let desk : c.join-driver.result.desk ≡ c.in_ok-driver.driver.desk = c.join-driver.ensures ∙ ap (λ (v : DriverView). v.desk) was in
-    let places : map place_of c.in_ok-back.back.items ≡ map place_of c.in_ok-driver.all.items = c.in_ok-back.ensures ∙ c.in_ok-out.ensures in
-    subst (λ (x : DeskId × List Place). IsWhole x.0 x.1) (λ i. (sym desk i, sym places i)) c.in_ok-driver.ensures.opened.whole
+    let was = ap (λ p. p.0.value) c.in-Ok-spawn_with.ensures.ok ∙ c.of.ensures in
+    let desk : c.join-driver.result.desk ≡ c.in-Ok.driver.desk = c.join-driver.ensures ∙ ap (λ (v : DriverView). v.desk) was in
+    let places : map place_of c.in-Ok-call_all.back.items ≡ map place_of c.in-Ok.all.items = c.in-Ok-call_all.ensures in
+    subst (λ (x : DeskId × List Place). IsWhole x.0 x.1) (λ i. (sym desk i, sym places i)) c.in-Ok.ensures.opened.whole
