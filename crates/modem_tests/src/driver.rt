@@ -88,7 +88,8 @@ fn leaves(alloc: Global, core: &mut Core) -> Result<Vec<u8>, Fail> {
     }
 }
 
-fn command(alloc: Global, text: &[u8]) -> Result<Ask, Fail> {
+/// A command on 1.
+pub fn command(alloc: Global, text: &[u8]) -> Result<Ask, Fail> {
     let one = dlci(1)?;
     Ok(Ask::Command(one, CommandLine::new(alloc, text)?))
 }

@@ -1,7 +1,8 @@
 //! Of the driver, and what the calls of a command take.
+use crate::driver::command;
 use crate::no_memory::{begin, end};
 use crate::station::dlci;
-use at_text::{CommandLine, UrcKind};
+use at_text::UrcKind;
 use modem_desk::Desk;
 use modem_driver::*;
 use mux_frame::{FrameView, Kind};
@@ -12,12 +13,6 @@ use std::io::Print;
 use std::process::Abort;
 use std::sync::Wait;
 use std::test::Fail;
-
-// A command on 1.
-fn command(alloc: Global, text: &[u8]) -> Result<Ask, Fail> {
-    let one = dlci(1)?;
-    Ok(Ask::Command(one, CommandLine::new(alloc, text)?))
-}
 
 // A request is taken: how many acts come of it.
 fn takes(core: &mut Core, number: u64, ask: Ask) -> Result<usize, Fail> {
