@@ -1,6 +1,10 @@
 -- Counts that end.
-use Rattle.std.specs.Prelude.{ℕ, ◌+◌, ◌-◌, ◌^◌, min}
+use Rattle.std.specs.Prelude.{ℕ, ◌+◌, ◌-◌, ◌^◌, ◌==◌, ◌&&◌, nat_lt, min, if◌then◌else◌}
 
 -- one more, but never above u64::MAX
 abbrev pub one_more : ℕ → ℕ
 one_more n = min (n + 1) (2 ^ 64 - 1)
+
+-- a count of calls that moved nothing, after a call that could move so many octets and moved n
+abbrev pub counted_if_none : (could n count : ℕ) → ℕ
+counted_if_none could n count = if nat_lt 0 could && (n == 0) then one_more count else count

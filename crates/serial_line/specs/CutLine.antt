@@ -2,7 +2,7 @@
 use Rattle.std.specs.Prelude.{ℕ, ◌+◌, ◌-◌, List, [], ◌++◌, length, take, drop, min, Result, Ok, Err}
 use Rattle.serial_line.specs.declared.cuts.Cut.{Cut}
 use Rattle.serial_line.specs.declared.line.LineFault.{LineFault}
-use Rattle.serial_line.specs.Counts.{one_more}
+use Rattle.serial_line.specs.Counts.{one_more, counted_if_none}
 
 pub record CutState : Type 0 where
   pub received : List ℕ  -- what its reads gave
@@ -14,6 +14,8 @@ pub record CutState : Type 0 where
   pub room : ℕ  -- so many octets it keeps of what is to be received, and as many of what is sent
   pub calls : ℕ
   pub failures : ℕ
+  pub empty_reads : ℕ  -- so many reads could give octets and gave none
+  pub stalled_writes : ℕ  -- so many writes could take octets and took none
 
 -- a line on which nothing has happened yet, with this input as far as there is room
 abbrev pub new_line : List ℕ → List Cut → List Cut → ℕ → CutState
@@ -27,6 +29,8 @@ new_line input reads writes room = record {
   room = room;
   calls = 0;
   failures = 0;
+  empty_reads = 0;
+  stalled_writes = 0;
 }
 
 -- how many octets more are kept to be received
@@ -41,15 +45,16 @@ room_to_send s = s.room - length s.sent
 abbrev pub unmoved : CutState → List ℕ
 unmoved s = drop s.moved s.sent
 
--- after a read: it counts as a call, and its entry is used up
-abbrev pub after_read : CutState → Result ℕ LineFault → CutState
-after_read s (Ok n) = record s {
+-- after a read with this room: it counts as a call, and its entry is used up
+abbrev pub after_read : CutState → (room : ℕ) → Result ℕ LineFault → CutState
+after_read s room (Ok n) = record s {
   received = s.received ++ take n s.waiting;
   waiting = drop n s.waiting;
   reads = drop 1 s.reads;
   calls = one_more s.calls;
+  empty_reads = counted_if_none room n s.empty_reads;
 }
-after_read s (Err fault) =
+after_read s room (Err fault) =
     record s { reads = drop 1 s.reads; calls = one_more s.calls; failures = s.failures + 1 }
 
 -- after a write of these octets
@@ -58,6 +63,7 @@ after_write s octets (Ok n) = record s {
   sent = s.sent ++ take n octets;
   writes = drop 1 s.writes;
   calls = one_more s.calls;
+  stalled_writes = counted_if_none (length octets) n s.stalled_writes;
 }
 after_write s octets (Err fault) =
     record s { writes = drop 1 s.writes; calls = one_more s.calls; failures = s.failures + 1 }

@@ -29,6 +29,8 @@ pub record EndState : Type 0 where
   pub sent : List ℕ  -- what its writes took
   pub free : ℕ  -- so many octets it knows to find room
   pub calls : ℕ
+  pub empty_reads : ℕ  -- so many reads could give octets and gave none
+  pub stalled_writes : ℕ  -- so many writes could take octets and took none
   pub incoming : RingId
   pub outgoing : RingId
 
@@ -44,3 +46,5 @@ pub record IsNew (room : ℕ) (e : EndState) : Type 0 where
   pub sent : e.sent ≡ []
   pub free : e.free ≡ room
   pub calls : e.calls ≡ 0
+  pub empty_reads : e.empty_reads ≡ 0
+  pub stalled_writes : e.stalled_writes ≡ 0

@@ -4,6 +4,7 @@ ghost use Rattle.serial_line.specs.Counts.{one_more};
 ghost use Rattle.serial_line.specs.Cuts.{outcome_of};
 ghost use Rattle.serial_line.specs.CutLine.{new_line, room_to_receive, room_to_send, unmoved, after_read, after_write, carried, after_carry};
 
+use crate::counting::count_if_none;
 use crate::cuts::{Cut, Cuts};
 use crate::errors::LineError;
 use crate::line::{LineFault, SerialLine};
@@ -22,6 +23,8 @@ pub struct CutLine {
     writes: Cuts,
     calls: u64,
     failures: u64,
+    empty_reads: u64,
+    stalled_writes: u64,
 }
 
 impl Model for CutLine {
@@ -40,6 +43,8 @@ impl Model for CutLine {
       room = l.input.room;
       calls = l.calls;
       failures = l.failures;
+      empty_reads = l.empty_reads;
+      stalled_writes = l.stalled_writes;
     } };
 
     ghost invariant = { λ l. l.output.room ≡ l.input.room };
@@ -66,6 +71,8 @@ impl CutLine {
             writes: Cuts::new(writes.to_vec(alloc)?),
             calls: 0,
             failures: 0,
+            empty_reads: 0,
+            stalled_writes: 0,
         };
         line.put(input);
         Ok(line)
@@ -140,6 +147,10 @@ impl SerialLine for CutLine {
 
     ghost failures = { λ l. l.failures };
 
+    ghost empty_reads = { λ l. l.empty_reads };
+
+    ghost stalled_writes = { λ l. l.stalled_writes };
+
     /// Gives as many octets as its entry, the buffer and the octets there allow.
     fn try_read(&mut self, buffer: &mut [u8]) -> Result<usize, LineFault>
         ensures value { let most = min (length buffer.old) (length self.old.waiting)
@@ -147,12 +158,13 @@ impl SerialLine for CutLine {
         ensures bound { IfOk result (λ n. n ≤ length buffer.old) }
         ensures octets { IfOk result (λ n. buffer.new ≡ take n self.old.waiting ++ drop n buffer.old) }
         ensures untouched { OnErr result (buffer.new ≡ buffer.old) }
-        ensures line { self.new ≡ after_read self.old result }
+        ensures line { self.new ≡ after_read self.old (length buffer.old) result }
     {
         self.calls = self.calls.saturating_add(1);
         let next = self.input.ahead();
         let most = buffer.len().min(next.len());
         let count = self.reads.pass(most, &mut self.failures)?;
+        count_if_none(&mut self.empty_reads, buffer.len(), count);
         buffer[..count].copy_from_slice(&next[..count]);
         self.input.pass(count);
         Ok(count)
@@ -168,6 +180,7 @@ impl SerialLine for CutLine {
         self.calls = self.calls.saturating_add(1);
         let most = octets.len().min(self.output.free());
         let count = self.writes.pass(most, &mut self.failures)?;
+        count_if_none(&mut self.stalled_writes, octets.len(), count);
         self.output.append(&octets[..count]);
         Ok(count)
     }

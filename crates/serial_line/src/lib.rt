@@ -2,6 +2,7 @@
 //! chosen beforehand, and a line between two threads.
 #![tactic(auto)]
 
+mod counting;
 mod cut_line;
 mod cuts;
 mod errors;

@@ -1,6 +1,6 @@
 //! What a line is to its callers.
 ghost use Rattle.std.specs.Prelude.{◌≡◌, ℕ, ◌+◌, ◌<◌, ◌≤◌, ◌++◌, List, length, take, IfOk, OnErr};
-ghost use Rattle.serial_line.specs.Counts.{one_more};
+ghost use Rattle.serial_line.specs.Counts.{one_more, counted_if_none};
 
 use thiserror::Error;
 
@@ -12,9 +12,10 @@ pub struct LineFault;
 /// A line of octets, which stands for a serial device. No call on it waits: 0 octets mean that
 /// nothing goes now.
 ///
-/// Contracts see which octets it gave and took so far, how many calls there were, and how many of
-/// them failed. Both counts end at `u64::MAX`: that of calls stays there, and a line that failed so
-/// often gives no more faults.
+/// Contracts see which octets it gave and took so far, how many calls there were, how many of them
+/// failed, and how many moved nothing though they could: reads with room for an octet that gave none,
+/// and writes that were offered an octet and took none. All counts end at `u64::MAX`: those of calls
+/// and of calls that moved nothing stay there, and a line that failed so often gives no more faults.
 pub trait SerialLine {
     /// All octets that it gave, in order.
     ghost received: { Self → List ℕ };
@@ -28,6 +29,12 @@ pub trait SerialLine {
     /// The calls so far that failed.
     ghost failures: { Self → ℕ };
 
+    /// The reads so far with room for at least one octet that gave none.
+    ghost empty_reads: { Self → ℕ };
+
+    /// The writes so far that were offered at least one octet and took none.
+    ghost stalled_writes: { Self → ℕ };
+
     /// Writes the next octets to the front of the buffer, and says how many. What stands behind them
     /// there is left open.
     fn try_read(&mut self, buffer: &mut [u8]) -> Result<usize, LineFault>
@@ -40,7 +47,13 @@ pub trait SerialLine {
         ensures counted { calls self.new ≡ one_more (calls self.old) }
         ensures sound { IfOk result (λ _. failures self.new ≡ failures self.old) }
         ensures last { OnErr result (failures self.old < u64.MAX) }
-        ensures failure { OnErr result (failures self.new ≡ failures self.old + 1) };
+        ensures failure { OnErr result (failures self.new ≡ failures self.old + 1) }
+
+        // A read that could give an octet and gave none counts as empty.
+        ensures empty { IfOk result (λ n.
+            empty_reads self.new ≡ counted_if_none (length buffer.old) n (empty_reads self.old)) }
+        ensures not_empty { OnErr result (empty_reads self.new ≡ empty_reads self.old) }
+        ensures no_write { stalled_writes self.new ≡ stalled_writes self.old };
 
     /// Takes octets from the front of these, and says how many.
     fn try_write(&mut self, octets: &[u8]) -> Result<usize, LineFault>
@@ -53,5 +66,11 @@ pub trait SerialLine {
         ensures counted { calls self.new ≡ one_more (calls self.old) }
         ensures sound { IfOk result (λ _. failures self.new ≡ failures self.old) }
         ensures last { OnErr result (failures self.old < u64.MAX) }
-        ensures failure { OnErr result (failures self.new ≡ failures self.old + 1) };
+        ensures failure { OnErr result (failures self.new ≡ failures self.old + 1) }
+
+        // A write that could take an octet and took none counts as stalled.
+        ensures stalled { IfOk result (λ n.
+            stalled_writes self.new ≡ counted_if_none (length octets.now) n (stalled_writes self.old)) }
+        ensures not_stalled { OnErr result (stalled_writes self.new ≡ stalled_writes self.old) }
+        ensures no_read { empty_reads self.new ≡ empty_reads self.old };
 }

@@ -1,6 +1,6 @@
 //! Octets that were read from a line and wait to be used.
 ghost use Rattle.std.specs.Prelude.{◌≡◌, ◌+◌, ◌≤◌, ◌==◌, ◌++◌, [], length, drop, IfOk, OnErr, OnOk};
-ghost use Rattle.serial_line.specs.Counts.{one_more};
+ghost use Rattle.serial_line.specs.Counts.{one_more, counted_if_none};
 
 use crate::{LineFault, SerialLine};
 use std::alloc::{AllocError, Global};
@@ -74,6 +74,10 @@ impl ReadBuffer {
         ensures counted { L.calls line.new ≡ one_more (L.calls line.old) }
         ensures sound { OnOk result (L.failures line.new ≡ L.failures line.old) }
         ensures failure { OnErr result (L.failures line.new ≡ L.failures line.old + 1) }
+        ensures empty { IfOk result (λ n.
+            L.empty_reads line.new ≡ counted_if_none 512 n (L.empty_reads line.old)) }
+        ensures not_empty { OnErr result (L.empty_reads line.new ≡ L.empty_reads line.old) }
+        ensures no_write { L.stalled_writes line.new ≡ L.stalled_writes line.old }
     {
         self.start = 0;
         self.end = 0;

@@ -1,9 +1,10 @@
 //! A line between two threads.
 ghost use Rattle.std.specs.Prelude.{◌≡◌, ◌+◌, ◌<◌, ◌≤◌, ◌++◌, ◌↔◌, ◌⊎◌, [], take, drop, length, IsOk, IfOk, IsErrOf};
 ghost use mathlib.Core.List.{IsPrefix};
-ghost use Rattle.serial_line.specs.Counts.{one_more};
+ghost use Rattle.serial_line.specs.Counts.{one_more, counted_if_none};
 ghost use Rattle.serial_line.specs.ThreadLine.{AreEnds, IsNew};
 
+use crate::counting::count_if_none;
 use crate::errors::LineError;
 use crate::line::{LineFault, SerialLine};
 use rtrb::{Consumer, Producer, RingBuffer};
@@ -20,6 +21,8 @@ pub struct ThreadLine {
     incoming: Consumer<u8>,
     outgoing: Producer<u8>,
     calls: u64,
+    empty_reads: u64,
+    stalled_writes: u64,
 }
 
 impl Model for ThreadLine {
@@ -34,6 +37,8 @@ impl Model for ThreadLine {
       sent = sent l.outgoing;
       free = known_free l.outgoing;
       calls = l.calls;
+      empty_reads = l.empty_reads;
+      stalled_writes = l.stalled_writes;
       incoming = ring_of_consumer l.incoming;
       outgoing = ring_of_producer l.outgoing;
     } };
@@ -56,11 +61,15 @@ impl ThreadLine {
             incoming: back_out,
             outgoing: there,
             calls: 0,
+            empty_reads: 0,
+            stalled_writes: 0,
         };
         let far = ThreadLine {
             incoming: there_out,
             outgoing: back,
             calls: 0,
+            empty_reads: 0,
+            stalled_writes: 0,
         };
         Ok((near, far))
     }
@@ -88,6 +97,10 @@ impl SerialLine for ThreadLine {
 
     ghost failures = { λ _. 0 };
 
+    ghost empty_reads = { λ l. l.empty_reads };
+
+    ghost stalled_writes = { λ l. l.stalled_writes };
+
     /// Gives what is there, as far as the buffer goes.
     fn try_read(&mut self, buffer: &mut [u8]) -> Result<usize, LineFault>
         ensures sound { IsOk result }
@@ -96,13 +109,16 @@ impl SerialLine for ThreadLine {
           received = self.old.received ++ take n buffer.new;
           seen = self.new.seen;
           calls = one_more self.old.calls;
+          empty_reads = counted_if_none (length buffer.old) n self.old.empty_reads;
         }) }
         ensures rest { IfOk result (λ n. drop n buffer.new ≡ drop n buffer.old) }
         ensures seen { IfOk result (λ n. IsPrefix self.old.seen (take n buffer.new ++ self.new.seen)) }
         ensures most { IfOk result (λ n. n < length buffer.old → self.new.seen ≡ []) }
     {
         self.calls = self.calls.saturating_add(1);
-        Ok(self.incoming.pop_partial_slice(buffer))
+        let count = self.incoming.pop_partial_slice(buffer);
+        count_if_none(&mut self.empty_reads, buffer.len(), count);
+        Ok(count)
     }
 
     /// Takes as many octets as find room.
@@ -113,12 +129,15 @@ impl SerialLine for ThreadLine {
           sent = self.old.sent ++ take n octets.now;
           free = self.new.free;
           calls = one_more self.old.calls;
+          stalled_writes = counted_if_none (length octets.now) n self.old.stalled_writes;
         }) }
         ensures free { IfOk result (λ n. self.old.free ≤ self.new.free + n) }
         ensures most { IfOk result (λ n. n < length octets.now → self.new.free ≡ 0) }
     {
         self.calls = self.calls.saturating_add(1);
         let (taken, _) = self.outgoing.push_partial_slice(octets);
-        Ok(taken.len())
+        let count = taken.len();
+        count_if_none(&mut self.stalled_writes, octets.len(), count);
+        Ok(count)
     }
 }
