@@ -31,7 +31,7 @@ fn fault_of(fault: SessionFault) -> Fault {
 pub struct Later<L: SerialLine + Drop, R: Wait + Drop>(pub Snapshot<Session<L, R>>);
 
 impl<L: SerialLine + Drop, R: Wait + Drop> Promise<Result<Session<L, R>, Fault>> for Later<L, R> {
-    ghost kept_by = { λ p r. IfOk r (Continues (line_by L.received L.sent L.calls L.failures) p.0.value) };
+    ghost kept_by = { λ p r. IfOk r (Continues (line_by L.received L.sent L.calls L.failures L.empty_reads L.stalled_writes) p.0.value) };
 }
 
 /// A session that is polled until the multiplexer has ended, and then handed back.
@@ -56,7 +56,7 @@ impl<L: SerialLine + Drop, R: Wait + Drop> Driven<'_, L, R> {
     /// A poll of the session, and whether it has ended by it.
     fn advance(&mut self, session: &mut Session<L, R>) -> Result<bool, Fault>
         ensures same { self.new.session ≡ self.old.session }
-        ensures continues { Continues (line_by L.received L.sent L.calls L.failures) session.old session.new }
+        ensures continues { Continues (line_by L.received L.sent L.calls L.failures L.empty_reads L.stalled_writes) session.old session.new }
     {
         count(&mut self.left, self.signals)?;
         match session.advance() {
@@ -102,7 +102,7 @@ impl<L: SerialLine + Drop, R: Wait + Drop> Future for Driven<'_, L, R> {
     ghost can_poll = { λ d. IsSome d.session };
 
     ghost gives = { λ d out. IfSome d.session
-        (λ s. Continues (line_by L.received L.sent L.calls L.failures) s out.0) };
+        (λ s. Continues (line_by L.received L.sent L.calls L.failures L.empty_reads L.stalled_writes) s out.0) };
 
     fn poll(&mut self, cx: &mut Context<'_>) -> Poll<(Session<L, R>, Result<(), Fault>)> {
         let mut session = take_out(&mut self.session);
@@ -124,7 +124,7 @@ fn drive_on<L: SerialLine + Drop, R: Wait + RandomSource + AllocGlobal + Drop>(
     session: Session<L, R>,
     signals: &Signals,
 ) -> Result<Session<L, R>, Fault>
-    ensures { IfOk result (Continues (line_by L.received L.sent L.calls L.failures) session) }
+    ensures { IfOk result (Continues (line_by L.received L.sent L.calls L.failures L.empty_reads L.stalled_writes) session) }
 {
     let driven = Driven {
         session: Some(session),
@@ -140,7 +140,7 @@ pub fn drive<L: SerialLine + Drop, R: Wait + RandomSource + AllocGlobal + Drop>(
     session: Session<L, R>,
     signals: Signals,
 ) -> Result<Session<L, R>, Fault>
-    ensures { IfOk result (Continues (line_by L.received L.sent L.calls L.failures) session) }
+    ensures { IfOk result (Continues (line_by L.received L.sent L.calls L.failures L.empty_reads L.stalled_writes) session) }
 {
     match drive_on(rt, session, &signals) {
         Ok(session) => Ok(session),

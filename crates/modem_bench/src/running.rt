@@ -302,7 +302,7 @@ where
     requires callers { IsWhole session.driver.desk (map place_of callers.items) }
     requires listeners { AreSubscribed session.driver.desk (map subscription_of listeners.items) }
     ensures { IfOk result
-        (IsOver (line_by L.received L.sent L.calls L.failures) session callers.items listeners.items) }
+        (IsOver (line_by L.received L.sent L.calls L.failures L.empty_reads L.stalled_writes) session callers.items listeners.items) }
 {
     let finished = session.finish();
     match settle(rt, alloc, finished.driver, callers, listeners) {
@@ -343,7 +343,7 @@ where
     requires listeners { AreSubscribed session.driver.desk (map subscription_of listeners.items) }
     ensures outcomes { IfOk result (λ outcomes. outcomes.items ≡ map (λ w. w.outcomes) back.items) }
     ensures over { IfOk result
-        (λ _. WasSettled (line_by L.received L.sent L.calls L.failures) session
+        (λ _. WasSettled (line_by L.received L.sent L.calls L.failures L.empty_reads L.stalled_writes) session
         (map (λ w. w.caller) back.items) listeners.items) }
 {
     let ((callers, outcomes), session) = beside(parted(alloc, back), session)?;
@@ -367,7 +367,7 @@ where
     R: Threads + Wait + RandomSource + AllocGlobal + Copy + Send + Drop + 'static,
     requires { (0 < length callers.items) × (length callers.items ≤ 8) }
     ensures continues { IfOk result
-        (λ r. Continues (line_by L.received L.sent L.calls L.failures) session r.0) }
+        (λ r. Continues (line_by L.received L.sent L.calls L.failures L.empty_reads L.stalled_writes) session r.0) }
     ensures called { IfOk result (λ r. AreCalled submissions.now callers.items r.1.items) }
 {
     let (driving, sim) = beside(send_driver(rt, session, signals), sim)?;
@@ -399,7 +399,7 @@ where
     L: SerialLine + Drop + Send + 'static,
     R: Threads + Wait + RandomSource + AllocGlobal + Copy + Send + Drop + 'static,
     requires few { (0 < length ends.callers.items) × (length ends.callers.items ≤ 8) }
-    requires begun { IsBegun (line_by L.received L.sent L.calls L.failures) ends.session }
+    requires begun { IsBegun (line_by L.received L.sent L.calls L.failures L.empty_reads L.stalled_writes) ends.session }
     requires callers { IsWhole ends.session.driver.desk (map place_of ends.callers.items) }
     requires listeners { AreSubscribed ends.session.driver.desk (map subscription_of ends.listeners.items) }
     ensures { IfOk result
@@ -441,8 +441,8 @@ fn make_session<L: SerialLine + Drop, R: Wait + Drop>(
     driver: DriverEnd,
 ) -> Result<Session<L, R>, Fault>
     ensures begins { IfOk result (λ s.
-        FitsAll (beginning_of 31 (line_by L.received L.sent L.calls L.failures line) driver)
-        (line_by L.received L.sent L.calls L.failures) s []) }
+        FitsAll (beginning_of 31 (line_by L.received L.sent L.calls L.failures L.empty_reads L.stalled_writes line) driver)
+        (line_by L.received L.sent L.calls L.failures L.empty_reads L.stalled_writes) s []) }
     ensures driver { IfOk result (λ s. s.driver ≡ driver) }
 {
     match Session::new(rt, alloc, line, driver, N1) {
@@ -469,7 +469,7 @@ fn begin<L: SerialLine + Drop, R: Wait + Drop + Copy>(
     script: Script,
 ) -> Result<Ends<L, R>, Fault>
     ensures many { IfOk result (λ e. AreFresh callers e.callers.items) }
-    ensures begun { IfOk result (λ e. IsBegun (line_by L.received L.sent L.calls L.failures) e.session) }
+    ensures begun { IfOk result (λ e. IsBegun (line_by L.received L.sent L.calls L.failures L.empty_reads L.stalled_writes) e.session) }
     ensures callers { IfOk result (λ e. IsWhole e.session.driver.desk (map place_of e.callers.items)) }
     ensures listeners { IfOk result
         (λ e. AreSubscribed e.session.driver.desk (map subscription_of e.listeners.items)) }

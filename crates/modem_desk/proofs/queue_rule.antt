@@ -1,3 +1,4 @@
 -- The rule of the request queue, step by step.
 pub mod CallerPasses
 pub mod RuleSteps
+pub mod CallerNumbers

@@ -1,5 +1,5 @@
 -- What contracts see of a caller, of a listener and of the driver's end, and the desk books.
-use Rattle.std.specs.Prelude.{◌≡◌, ◌≢◌, ℕ, zero, suc, ◌+◌, ◌∷◌, map, ◌<◌, ◌≤◌, ◌++◌, List, [], length, slice_index_or, replicate, Contains}
+use Rattle.std.specs.Prelude.{◌≡◌, ◌≢◌, ℕ, zero, suc, ◌+◌, ◌-◌, ◌^◌, min, ◌∷◌, map, ◌<◌, ◌≤◌, ◌++◌, List, [], length, slice_index_or, replicate, Contains}
 use mathlib.Core.Option.{some}
 use lib.ListN.{get_elem?}
 use denote.RawPtr.{Ptr}
@@ -64,8 +64,9 @@ pub record DeskId : Type 0 where
   pub kinds : List UrcKind
   pub line_rings : List RingId
 
--- the driver's end: what it took, what it told each caller, and what it announced to each listener; and of
--- each caller's and each listener's ring, how many places it knows to be free
+-- the driver's end: what it took, what it told each caller, and what it announced to each listener; of each
+-- caller's and each listener's ring, how many places it knows to be free; and how often it found no request,
+-- and handed an outcome of each caller or a line of each listener back
 pub record DriverView : Type 0 where
   pub desk : DeskId
   pub taken : List Request
@@ -73,6 +74,9 @@ pub record DriverView : Type 0 where
   pub announced : List (List Urc)
   pub free : List ℕ
   pub free_lines : List ℕ
+  pub found_none : ℕ
+  pub told_back : List ℕ
+  pub announced_back : List ℕ
 
 -- n numbers, one after the other
 abbrev pub count_from : ℕ → ℕ → List ℕ
@@ -133,6 +137,10 @@ FallsByOne old new = old ≤ new + 1
 abbrev pub RunsOut : ℕ → ℕ → Type 0
 RunsOut old new = new ≡ 0
 
+-- it is one more, but never above u64::MAX
+abbrev pub RisesByOne : ℕ → ℕ → Type 0
+RisesByOne old new = new ≡ min (old + 1) (2 ^ 64 - 1)
+
 -- the places of listeners of this kind
 abbrev pub Hears : List UrcKind → UrcKind → ℕ → Type 0
 Hears kinds kind k = get_elem? kinds k ≡ some kind
@@ -176,6 +184,8 @@ pub record Opened (count : ℕ) (listened : List UrcKind) (first : ℕ) (d : Dri
   pub told : d.told ≡ replicate count []
   pub announced : d.announced ≡ replicate (length listened) []
   pub free : (d.free ≡ replicate count 8) × (d.free_lines ≡ replicate (length listened) 256)
+  pub none_found : d.found_none ≡ 0
+  pub none_back : (d.told_back ≡ replicate count 0) × (d.announced_back ≡ replicate (length listened) 0)
   pub callers : (length cs ≡ count) × AreNewCallers d.desk first cs
   pub listeners : (length ls ≡ length listened) × AreNewListeners d.desk ls
   pub whole : IsWhole d.desk (map place_of cs)

@@ -7,10 +7,20 @@ use lib.ListN.{get_elem?}
 use Rattle.modem_desk.specs.declared.request.Request.{Request}
 use Rattle.modem_desk.specs.declared.rule.Known.{Known}
 use Rattle.modem_desk.specs.declared.rule.View.{View}
+use Rattle.modem_desk.specs.Ends.{IsNumbered}
 
 -- a caller's requests among these, in order
 abbrev pub of_caller : ℕ → List Request → List Request
 of_caller n = filter (λ r. r.caller == n)
+
+-- they are numbered one after the other from some number
+pub record IsCounted (rs : List Request) : Type 0 where
+  pub first : ℕ
+  pub numbered : IsNumbered first rs
+
+-- so are those of each caller among these: no caller used a number twice
+abbrev pub AreNumbered : List Request → Type 0
+AreNumbered rs = (n : ℕ) → IsCounted (of_caller n rs)
 
 -- what the desk knows of a caller that has left: its number, and what it had submitted
 abbrev pub known : ℕ → List Request → Known
@@ -104,11 +114,12 @@ FitsPass d items pass v =
 
 -- All that came through the queue is what the driver took and then what is queued. Of a number that wasn't
 -- given out nothing came, and nobody has it. Of a caller that has left, what came is what it had submitted.
--- Each pass knows what fits.
+-- The requests of each caller are numbered one after the other. Each pass knows what fits.
 pub record RuleKept (items : List Request) (views : List View) : Type 0 where
   pub desk : Shared
   pub whole : desk.all ≡ desk.taken ++ items
   pub room : length items ≤ 64
+  pub numbered : AreNumbered desk.all
   pub later : (n : ℕ) → desk.given ≤ n → (desk.pass_of n ≡ None) × (of_caller n desk.all ≡ [])
   pub left :
       (i : ℕ) (k : Known) → get_elem? desk.known i ≡ some k

@@ -69,7 +69,8 @@ fn are_each_once(kinds: &[UrcKind]) -> bool
 // The driver's end of a desk without callers and listeners.
 fn unconnected(alloc: Global) -> Result<DriverEnd, AllocError>
     ensures { IfOk result (λ d. (d.desk.rings ≡ []) × (d.desk.kinds ≡ []) × (d.desk.line_rings ≡ [])
-        × (d.taken ≡ []) × (d.told ≡ []) × (d.announced ≡ []) × (d.free ≡ []) × (d.free_lines ≡ [])) }
+        × (d.taken ≡ []) × (d.told ≡ []) × (d.announced ≡ []) × (d.free ≡ []) × (d.free_lines ≡ [])
+        × (d.found_none ≡ 0) × (d.told_back ≡ []) × (d.announced_back ≡ [])) }
 {
     let (queue, pass) = Queue::ruled(alloc, QUEUED)?;
     let queue = Arc::new(alloc, queue)?;
@@ -79,6 +80,7 @@ fn unconnected(alloc: Global) -> Result<DriverEnd, AllocError>
         Vec::new(alloc),
         Vec::new(alloc),
         Vec::new(alloc),
+        (Vec::new(alloc), Vec::new(alloc)),
     ))
 }
 
@@ -90,12 +92,15 @@ fn add_callers(
     first: u64,
 ) -> Result<Vec<Caller>, AllocError>
     requires { (callers ≤ 8) × (1 ≤ first) × (driver.old.desk.rings ≡ []) × (driver.old.told ≡ [])
-        × (driver.old.free ≡ []) }
+        × (driver.old.free ≡ []) × (driver.old.told_back ≡ []) }
     ensures driver { IfOk result (λ all. (driver.new.taken ≡ driver.old.taken)
         × (driver.new.told ≡ replicate callers [])
         × (driver.new.announced ≡ driver.old.announced)) }
     ensures free { IfOk result (λ all. (driver.new.free ≡ replicate callers 8)
         × (driver.new.free_lines ≡ driver.old.free_lines)) }
+    ensures back { IfOk result (λ all. (driver.new.told_back ≡ replicate callers 0)
+        × (driver.new.announced_back ≡ driver.old.announced_back)
+        × (driver.new.found_none ≡ driver.old.found_none)) }
     ensures desk { IfOk result (λ all. (length driver.new.desk.rings ≡ callers)
         × (driver.new.desk.kinds ≡ driver.old.desk.kinds)
         × (driver.new.desk.line_rings ≡ driver.old.desk.line_rings)) }
@@ -117,12 +122,15 @@ fn add_listeners(
     kinds: &[UrcKind],
 ) -> Result<Vec<Listener>, AllocError>
     requires { EachOnce kinds.now × (driver.old.desk.kinds ≡ []) × (driver.old.desk.line_rings ≡ [])
-        × (driver.old.announced ≡ []) × (driver.old.free_lines ≡ []) }
+        × (driver.old.announced ≡ []) × (driver.old.free_lines ≡ []) × (driver.old.announced_back ≡ []) }
     ensures driver { IfOk result (λ all. (driver.new.taken ≡ driver.old.taken)
         × (driver.new.told ≡ driver.old.told)
         × (driver.new.announced ≡ replicate (length kinds.now) [])) }
     ensures free { IfOk result (λ all. (driver.new.free ≡ driver.old.free)
         × (driver.new.free_lines ≡ replicate (length kinds.now) 256)) }
+    ensures back { IfOk result (λ all. (driver.new.told_back ≡ driver.old.told_back)
+        × (driver.new.announced_back ≡ replicate (length kinds.now) 0)
+        × (driver.new.found_none ≡ driver.old.found_none)) }
     ensures desk { IfOk result (λ all. (driver.new.desk.queue ≡ driver.old.desk.queue)
         × (driver.new.desk.rings ≡ driver.old.desk.rings) × (driver.new.desk.kinds ≡ kinds.now)) }
     ensures listeners { IfOk result (λ all. (length all.items ≡ length kinds.now)

@@ -1,7 +1,8 @@
 //! The driver's end of the desk.
-ghost use Rattle.std.specs.Prelude.{◌≡◌, ◌↔◌, ℕ, ◌∷◌, [], ◌++◌, ◌<◌, ◌≤◌, map, IsOk, IfOk, IfErr, IsTrue, Contains, length, MatchOption, MatchResult, slice_set, slice_index_or};
+ghost use Rattle.std.specs.Prelude.{◌≡◌, ◌↔◌, ℕ, ◌∷◌, [], ◌++◌, ◌<◌, ◌≤◌, map, IsOk, IfOk, IfErr, IsTrue, Contains, length, min, ◌+◌, ◌-◌, ◌^◌, MatchOption, MatchResult, slice_set, slice_index_or};
 ghost use mathlib.Core.Option.{some};
 ghost use lib.ListN.{get_elem?};
+ghost use Rattle.modem_desk.specs.Ends.{Changes, RisesByOne};
 
 use crate::caller::{Caller, Queue, WAITING};
 use crate::listener::{LINES, Listener};
@@ -16,7 +17,7 @@ use std::sync::{Arc, Wait};
 
 /// The end at which the driver takes requests, and gives outcomes and lines.
 ///
-/// Contracts see which desk it is of, the requests that it took, the outcomes that it told each caller, by the caller's number, and the lines that it announced to each listener, in the order of the desk's kinds; and of each ring, how many places it knows to be free.
+/// Contracts see which desk it is of, the requests that it took, the outcomes that it told each caller, by the caller's number, and the lines that it announced to each listener, in the order of the desk's kinds; of each ring, how many places it knows to be free; and how often `next` found nothing and what was for each ring was handed back. These counts end at `u64::MAX`.
 #[derive(Drop)]
 pub struct DriverEnd {
     queue: Arc<Queue, Global>,
@@ -24,6 +25,9 @@ pub struct DriverEnd {
     rings: Vec<Producer<Outcome>>,
     kinds: Vec<UrcKind>,
     lines: Vec<Producer<Urc>>,
+    found_none: u64,
+    told_back: Vec<u64>,
+    lines_back: Vec<u64>,
 }
 
 impl Model for DriverEnd {
@@ -31,7 +35,7 @@ impl Model for DriverEnd {
     ghost use Rattle.std.specs.Arc.{arc_value};
     ghost use Rattle.crossbeam_queue.specs.Passes.{view as knows, IsPassOf, ruled_capacity};
     ghost use Rattle.rtrb.specs.Ring.{sent, known_free};
-    ghost use Rattle.modem_desk.specs.Rule.{driver};
+    ghost use Rattle.modem_desk.specs.Rule.{driver, AreNumbered};
     ghost use Rattle.modem_desk.specs.Ends.{DriverView, ring_of_producer, EachOnce};
 
     ghost Value = { DriverView };
@@ -48,20 +52,25 @@ impl Model for DriverEnd {
       announced = map sent d.lines.items;
       free = map known_free d.rings.items;
       free_lines = map known_free d.lines.items;
+      found_none = d.found_none;
+      told_back = d.told_back.items;
+      announced_back = d.lines_back.items;
     } };
 
     ghost invariant = { λ d. IsPassOf (arc_value d.queue) d.pass × (ruled_capacity (arc_value d.queue) ≡ 64)
         × (knows d.pass ≡ driver (length d.rings.items) (knows d.pass).taken [])
         × (length d.rings.items ≤ 8) × (length d.lines.items ≡ length d.kinds.items)
-        × EachOnce d.kinds.items };
+        × EachOnce d.kinds.items × AreNumbered (knows d.pass).taken
+        × (length d.told_back.items ≡ length d.rings.items)
+        × (length d.lines_back.items ≡ length d.kinds.items) };
 }
 
 impl DriverEnd {
     ghost use Rattle.std.specs.Arc.{arc_value};
     ghost use Rattle.crossbeam_queue.specs.Passes.{view, IsPassOf, ruled_capacity};
     ghost use Rattle.rtrb.specs.Ring.{sent};
-    ghost use Rattle.modem_desk.specs.Rule.{driver};
-    ghost use Rattle.modem_desk.specs.Ends.{ring_of_producer, IsFresh, Appends, Announces, Changes, FallsByOne, RunsOut, Hears};
+    ghost use Rattle.modem_desk.specs.Rule.{driver, AreNumbered};
+    ghost use Rattle.modem_desk.specs.Ends.{ring_of_producer, IsFresh, Appends, Announces, Changes, FallsByOne, RisesByOne, RunsOut, Hears};
 
     pub(crate) fn new(
         queue: Arc<Queue, Global>,
@@ -69,10 +78,12 @@ impl DriverEnd {
         rings: Vec<Producer<Outcome>>,
         kinds: Vec<UrcKind>,
         lines: Vec<Producer<Urc>>,
+        counts: (Vec<u64>, Vec<u64>),
     ) -> DriverEnd
         requires pass { IsPassOf (arc_value queue) pass × (ruled_capacity (arc_value queue) ≡ 64)
             × (view pass ≡ driver 0 [] []) }
         requires none { (rings.items ≡ []) × (kinds.items ≡ []) × (lines.items ≡ []) }
+        requires none_back { (counts.0.items ≡ []) × (counts.1.items ≡ []) }
         ensures { result ≡ record {
           desk = record {
             queue = pass.table_id;
@@ -85,14 +96,21 @@ impl DriverEnd {
           announced = [];
           free = [];
           free_lines = [];
+          found_none = 0;
+          told_back = [];
+          announced_back = [];
         } }
     {
+        let (told_back, lines_back) = counts;
         DriverEnd {
             queue,
             pass,
             rings,
             kinds,
             lines,
+            found_none: 0,
+            told_back,
+            lines_back,
         }
     }
 
@@ -115,8 +133,8 @@ impl DriverEnd {
             queue,
             pass,
             rings,
-            kinds: _,
             lines,
+            ..
         } = self;
         (queue, pass, rings, lines)
     }
@@ -128,6 +146,9 @@ impl DriverEnd {
             ++ [] ∷ []) × (self.new.announced ≡ self.old.announced)) }
         ensures free { IfOk result (λ c. (self.new.free ≡ self.old.free ++ 8 ∷ [])
             × (self.new.free_lines ≡ self.old.free_lines)) }
+        ensures back { IfOk result (λ c. (self.new.told_back ≡ self.old.told_back ++ 0 ∷ [])
+            × (self.new.announced_back ≡ self.old.announced_back)
+            × (self.new.found_none ≡ self.old.found_none)) }
         ensures desk { IfOk result (λ c. self.new.desk ≡ record self.old.desk {
           rings = self.old.desk.rings
               ++ c.place.ring ∷ [];
@@ -139,7 +160,9 @@ impl DriverEnd {
         let queue = Arc::try_clone(&self.queue)?;
         let (producer, consumer) = RingBuffer::new(alloc, WAITING)?;
         let number = self.rings.len() as u8;
+        self.told_back.try_reserve(1)?;
         self.rings.push(producer)?;
+        self.told_back.push(0)?;
         let pass = queue.another::<AddsCaller>(&mut self.pass);
         Ok(Caller::new(queue, pass, consumer, number, first))
     }
@@ -155,6 +178,9 @@ impl DriverEnd {
             × (self.new.announced ≡ self.old.announced ++ [] ∷ [])) }
         ensures free { IfOk result (λ l. (self.new.free ≡ self.old.free)
             × (self.new.free_lines ≡ self.old.free_lines ++ 256 ∷ [])) }
+        ensures back { IfOk result (λ l. (self.new.told_back ≡ self.old.told_back)
+            × (self.new.announced_back ≡ self.old.announced_back ++ 0 ∷ [])
+            × (self.new.found_none ≡ self.old.found_none)) }
         ensures desk { IfOk result (λ l. self.new.desk ≡ record self.old.desk {
           kinds = self.old.desk.kinds
               ++ kind ∷ [];
@@ -167,9 +193,19 @@ impl DriverEnd {
         let (producer, consumer) = RingBuffer::new(alloc, LINES)?;
         let place = self.kinds.len();
         self.kinds.try_reserve(1)?;
+        self.lines_back.try_reserve(1)?;
         self.lines.push(producer)?;
         self.kinds.push(kind)?;
+        self.lines_back.push(0)?;
         Ok(Listener::new(consumer, kind, place))
+    }
+
+    /// Of the requests that were taken those of each caller are numbered one after the other: so no caller used a number
+    /// twice. There is nothing to do for it.
+    pub fn numbers(&self)
+        ensures { AreNumbered self.now.taken }
+    {
+        let _ = self.rings.len();
     }
 
     /// How many callers the desk has.
@@ -190,12 +226,20 @@ impl DriverEnd {
     pub fn next<R: Wait>(&mut self, rt: &R) -> Option<Request>
         ensures desk { (self.new.desk ≡ self.old.desk) × (self.new.told ≡ self.old.told)
             × (self.new.announced ≡ self.old.announced) × (self.new.free ≡ self.old.free)
-            × (self.new.free_lines ≡ self.old.free_lines) }
+            × (self.new.free_lines ≡ self.old.free_lines) × (self.new.told_back ≡ self.old.told_back)
+            × (self.new.announced_back ≡ self.old.announced_back) }
+        ensures found { MatchOption result (RisesByOne self.old.found_none self.new.found_none)
+            (λ _. self.new.found_none ≡ self.old.found_none) }
+        ensures numbered { AreNumbered self.new.taken }
         ensures taken { MatchOption result (self.new.taken ≡ self.old.taken) (λ request.
             (self.new.taken ≡ self.old.taken ++ request ∷ [])
             × (request.caller < length self.old.desk.rings)) }
     {
-        self.queue.pop_as::<Takes, R>(rt, &mut self.pass)
+        let request = self.queue.pop_as::<Takes, R>(rt, &mut self.pass);
+        if request.is_none() {
+            self.found_none = self.found_none.saturating_add(1);
+        }
+        request
     }
 
     /// Gives an outcome to its caller, or back where 8 wait for that caller: never where it knows of a free place.
@@ -203,6 +247,11 @@ impl DriverEnd {
         requires { outcome.caller < length self.old.desk.rings }
         ensures desk { (self.new.desk ≡ self.old.desk) × (self.new.taken ≡ self.old.taken)
             × (self.new.announced ≡ self.old.announced) × (self.new.free_lines ≡ self.old.free_lines) }
+        ensures counts { (self.new.found_none ≡ self.old.found_none)
+            × (self.new.announced_back ≡ self.old.announced_back) }
+        ensures counted { IfOk result (λ _. self.new.told_back ≡ self.old.told_back) }
+        ensures back_counted { IfErr result
+            (λ _. Changes (λ k. k ≡ outcome.caller) RisesByOne self.old.told_back self.new.told_back) }
         ensures told { IfOk result (λ _. Appends outcome.caller outcome self.old.told self.new.told) }
         ensures back { IfErr result (λ back. (back ≡ outcome) × (self.new.told ≡ self.old.told)) }
         ensures free { IfOk result
@@ -211,11 +260,13 @@ impl DriverEnd {
             (λ _. Changes (λ k. k ≡ outcome.caller) RunsOut self.old.free self.new.free) }
         ensures fits { 0 < slice_index_or self.old.free outcome.caller 0 → IsOk result }
     {
+        let place = outcome.caller as usize;
         let ring = &mut self.rings[outcome.caller as usize];
         let Err(refused) = ring.push(outcome) else {
             return Ok(());
         };
         let PushError::Full(back) = refused;
+        count_one(&mut self.told_back, place);
         Err(back)
     }
 
@@ -224,6 +275,11 @@ impl DriverEnd {
         requires { Contains self.old.desk.kinds line.kind }
         ensures desk { (self.new.desk ≡ self.old.desk) × (self.new.taken ≡ self.old.taken)
             × (self.new.told ≡ self.old.told) × (self.new.free ≡ self.old.free) }
+        ensures counts { (self.new.found_none ≡ self.old.found_none)
+            × (self.new.told_back ≡ self.old.told_back) }
+        ensures counted { IfOk result (λ _. self.new.announced_back ≡ self.old.announced_back) }
+        ensures back_counted { IfErr result (λ _. Changes (Hears self.old.desk.kinds line.kind) RisesByOne
+            self.old.announced_back self.new.announced_back) }
         ensures announced { IfOk result
             (λ _. Announces self.old.desk.kinds line self.old.announced self.new.announced) }
         ensures back { IfErr result (λ back. (back ≡ line) × (self.new.announced ≡ self.old.announced)) }
@@ -240,8 +296,18 @@ impl DriverEnd {
             return Ok(());
         };
         let PushError::Full(back) = refused;
+        count_one(&mut self.lines_back, place);
         Err(back)
     }
+}
+
+// One more is counted at this place.
+fn count_one(counts: &mut Vec<u64>, place: usize)
+    requires { place < length counts.old.items }
+    ensures changes { Changes (λ k. k ≡ place) RisesByOne counts.old.items counts.new.items }
+    ensures long { length counts.new.items ≡ length counts.old.items }
+{
+    counts[place] = counts[place].saturating_add(1);
 }
 
 // Where the kind stands in the list.

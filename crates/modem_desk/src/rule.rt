@@ -76,14 +76,16 @@ impl Lesson<Request, View> for Submits {
     ghost fact = { λ v items. ⊤ };
 }
 
-/// The driver's list grows by the request, which is of a caller that has a number.
+/// The driver's list grows by the request, which is of a caller that has a number. The requests of each caller on it are
+/// numbered one after the other.
 pub struct Takes;
 
 impl Outcome<Request, View> for Takes {
     ghost use Rattle.std.specs.Prelude.{◌≡◌, [], ◌++◌, ◌∷◌, ◌<◌};
-    ghost use Rattle.modem_desk.specs.Rule.{driver};
+    ghost use Rattle.modem_desk.specs.Rule.{driver, AreNumbered};
 
-    ghost then = { λ v x w. (w ≡ driver v.given (v.taken ++ x ∷ []) v.known) × (x.caller < v.given) };
+    ghost then = { λ v x w. (w ≡ driver v.given (v.taken ++ x ∷ []) v.known) × (x.caller < v.given)
+        × AreNumbered (v.taken ++ x ∷ []) };
 }
 
 impl Lesson<Request, View> for Takes {

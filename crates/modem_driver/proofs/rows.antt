@@ -1,3 +1,4 @@
 -- Worked rows, computed.
 pub mod HeadlineRowFacts
 pub mod EndingRowFacts
+pub mod PollRowFacts

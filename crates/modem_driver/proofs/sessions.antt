@@ -38,3 +38,4 @@ pub mod DeskOffers
 pub mod TurnEnds
 pub mod Backlogs
 pub mod Polls
+pub mod PollLaws

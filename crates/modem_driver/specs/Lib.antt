@@ -35,3 +35,5 @@ pub mod SendingSteps
 pub mod GettingSteps
 pub mod Placing
 pub mod BacklogChecks
+pub mod PollLaws
+pub mod PollRows

@@ -1,6 +1,7 @@
 -- What a poll of a session comes to.
 use Rattle.std.specs.Prelude.{◌≡◌, ℕ, ◌+◌, ◌<◌, ◌≤◌, ◌==◌, ◌&&◌, not, Bool, true, false, List, length, Option, None, Some, Result, Ok, Err, if◌then◌else◌}
 use Rattle.modem_history.specs.Acts.{Act}
+use Rattle.modem_history.specs.Requests.{are_distinct}
 use Rattle.modem_history.specs.Sessions.{Beginning, LineView, SessionView, Goes}
 use Rattle.modem_history.specs.Turns.{TurnAnswer, says_moved}
 use Rattle.modem_driver.specs.declared.session.ending.Course.{Course}
@@ -10,8 +11,8 @@ use Rattle.modem_driver.specs.declared.session.ending.Ended.TheVariants.{Stopped
 use Rattle.modem_driver.specs.declared.session.error.SessionFault.{SessionFault}
 use Rattle.modem_driver.specs.declared.session.error.SessionFault.TheVariants as fault
 use Rattle.modem_driver.specs.Endings.{IsEnd}
-use Rattle.modem_driver.specs.SessionStates.{Kept, SessionState, FitsInside, FitsAll, session_view}
-use Rattle.modem_driver.specs.SessionTurns.{TakesTurn, Faults, fault_of}
+use Rattle.modem_driver.specs.SessionStates.{Kept, SessionState, FitsInside, FitsAll, TakesMore, session_view}
+use Rattle.modem_driver.specs.SessionTurns.{TakesTurn, Faults, HasTurned, LeavesLost, fault_of, standing_of}
 
 -- ## The end
 
@@ -34,11 +35,33 @@ SessionGoesOn look old new =
     Goes (session_view look old) (session_view look new) (λ b. FitsInside b look old)
     (λ b. FitsInside b look new)
 
+-- One turn where it hadn't ended, that ends in this answer: the line had at most two calls more, an end that a
+-- poll gave stays, the desk's end took requests of its callers more and forgot none, and no caller used a
+-- number twice. (All but the turn's meaning is said whatever history there is: so no turn leads to a session
+-- of which its meaning says nothing.)
+pub record TurnsOnce {X : Type 0} (look : X → LineView) (old new : SessionState X)
+    (says : TurnAnswer) : Type 0 where
+  pub going : has_ended old.kept ≡ false
+  pub turn : TakesTurn look old new says
+  pub turned : HasTurned (standing_of look old) (standing_of look new)
+  pub takes : TakesMore old.driver new.driver
+  pub once : are_distinct new.driver.taken ≡ true
+
+-- the same, that ends in this fault; after one other than want of memory the line is lost
+pub record FaultsOnce {X : Type 0} (look : X → LineView) (old new : SessionState X)
+    (why : SessionFault) : Type 0 where
+  pub going : has_ended old.kept ≡ false
+  pub fault : Faults look old new (fault_of why)
+  pub turned : HasTurned (standing_of look old) (standing_of look new)
+  pub takes : TakesMore old.driver new.driver
+  pub once : are_distinct new.driver.taken ≡ true
+  pub lost : LeavesLost why new
+
 -- so many turns, each where it hasn't ended, and each of which answers Moved
 pub data MovesOn {X : Type 0} (look : X → LineView) (old : SessionState X) : ℕ → SessionState X → Type 0 where
   moves_none : MovesOn look old 0 old
-  moves_once : (n : ℕ) (mid new : SessionState X) → MovesOn look old n mid → has_ended mid.kept ≡ false
-      → TakesTurn look mid new TurnAnswer.Moved → MovesOn look old (n + 1) new
+  moves_once : (n : ℕ) (mid new : SessionState X) → MovesOn look old n mid
+      → TurnsOnce look mid new TurnAnswer.Moved → MovesOn look old (n + 1) new
 
 -- The turns of a poll: 64 that answer Moved; or fewer, where it has ended; or fewer and one that answers
 -- otherwise, or that fails.
@@ -48,10 +71,9 @@ pub data RunsTurns {X : Type 0} (look : X → LineView)
   ends : (n : ℕ) → n ≤ 64 → MovesOn look old n new → has_ended new.kept ≡ true
       → RunsTurns look old new (Ok tt)
   rests : (n : ℕ) (mid : SessionState X) (says : TurnAnswer) → n < 64 → MovesOn look old n mid
-      → has_ended mid.kept ≡ false → TakesTurn look mid new says → says_moved says ≡ false
-      → RunsTurns look old new (Ok tt)
+      → TurnsOnce look mid new says → says_moved says ≡ false → RunsTurns look old new (Ok tt)
   fails : (n : ℕ) (mid : SessionState X) (why : SessionFault) → n < 64 → MovesOn look old n mid
-      → has_ended mid.kept ≡ false → Faults look mid new (fault_of why) → RunsTurns look old new (Err why)
+      → FaultsOnce look mid new why → RunsTurns look old new (Err why)
 
 -- ## What it gives
 
@@ -103,10 +125,23 @@ abbrev pub PollSays : Beginning → SessionView → List Act → Result Ended Se
 PollSays b v past (Err fault.NoMemory) = Unit {0}
 PollSays b v past end = IsEnd b v past end
 
--- it went on to where that is so
+-- in every history that it fits
+abbrev pub SaysEnd : {X : Type 0} → (X → LineView) → SessionState X → Result Ended SessionFault → Type 0
+SaysEnd look s given =
+    (b : Beginning) (past : List Act) → FitsAll b look s past → PollSays b (session_view look s) past given
+
+-- polls that gave nothing
+pub data Waits {X : Type 0} (look : X → LineView) : (old new : SessionState X) → Type 0 where
+  waits_none : (s : SessionState X) → Waits look s s
+  waits_once : (old mid new : SessionState X) → Polls look old mid None → Waits look mid new
+      → Waits look old new
+
+-- after polls that gave nothing one gave this, and says so; all of them went on by some acts
 pub record Gives {X : Type 0} (look : X → LineView) (s : SessionState X)
     (given : Result Ended SessionFault) : Type 0 where
+  pub mid : SessionState X
   pub new : SessionState X
+  pub waits : Waits look s mid
+  pub polls : Polls look mid new (Some given)
   pub goes : SessionGoesOn look s new
-  pub says : (b : Beginning) (past : List Act) → FitsAll b look new past
-      → PollSays b (session_view look new) past given
+  pub says : SaysEnd look new given

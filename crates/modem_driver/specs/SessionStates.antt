@@ -63,17 +63,27 @@ KeepsItsEnd old new = KeepsEnd old.kept.course new.kept.course
 -- ## What a history speaks of
 
 -- a line of any type, by its trait's words
-abbrev pub line_by : {X : Type 0} → (received sent : X → List ℕ) → (calls failures : X → ℕ) → X → LineView
-line_by received sent calls failures x = record {
+abbrev pub line_by : {X : Type 0} → (received sent : X → List ℕ) → (calls failures empty_reads stalled_writes : X → ℕ)
+    → X → LineView
+line_by received sent calls failures empty_reads stalled_writes x = record {
   received = received x;
   sent = sent x;
   calls = calls x;
   failures = failures x;
+  empty_reads = empty_reads x;
+  stalled_writes = stalled_writes x;
 }
 
 -- the desk's end
 abbrev pub end_of : DriverView → EndView
-end_of d = record { taken = d.taken; told = d.told; announced = d.announced }
+end_of d = record {
+  taken = d.taken;
+  told = d.told;
+  announced = d.announced;
+  found_none = d.found_none;
+  told_back = d.told_back;
+  announced_back = d.announced_back;
+}
 
 abbrev pub seen_by : LineView → EndView → Kept → SessionView
 seen_by l e k = record {

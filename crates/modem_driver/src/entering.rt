@@ -82,10 +82,10 @@ impl Entry {
     fn go_on<L: SerialLine>(&mut self, line: &mut L) -> Result<Option<Final>, LineFault>
         requires { self.old.written ≤ 10 }
         ensures goes { IfOk result (λ code.
-            EntryGoesOn (line_by L.received L.sent L.calls L.failures line.old)
-            (line_by L.received L.sent L.calls L.failures line.new) self.old self.new code) }
-        ensures fails { OnErr result (Fails (line_by L.received L.sent L.calls L.failures line.old)
-            (line_by L.received L.sent L.calls L.failures line.new) self.old) }
+            EntryGoesOn (line_by L.received L.sent L.calls L.failures L.empty_reads L.stalled_writes line.old)
+            (line_by L.received L.sent L.calls L.failures L.empty_reads L.stalled_writes line.new) self.old self.new code) }
+        ensures fails { OnErr result (Fails (line_by L.received L.sent L.calls L.failures L.empty_reads L.stalled_writes line.old)
+            (line_by L.received L.sent L.calls L.failures L.empty_reads L.stalled_writes line.new) self.old) }
     {
         if self.written < TEXT.len() {
             self.write(line)?;
@@ -97,10 +97,10 @@ impl Entry {
     /// Offers the line the rest of the text.
     fn write<L: SerialLine>(&mut self, line: &mut L) -> Result<(), LineFault>
         requires { self.old.written < 10 }
-        ensures goes { OnOk result (EntryGoesOn (line_by L.received L.sent L.calls L.failures line.old)
-            (line_by L.received L.sent L.calls L.failures line.new) self.old self.new None) }
-        ensures fails { OnErr result (Fails (line_by L.received L.sent L.calls L.failures line.old)
-            (line_by L.received L.sent L.calls L.failures line.new) self.old) }
+        ensures goes { OnOk result (EntryGoesOn (line_by L.received L.sent L.calls L.failures L.empty_reads L.stalled_writes line.old)
+            (line_by L.received L.sent L.calls L.failures L.empty_reads L.stalled_writes line.new) self.old self.new None) }
+        ensures fails { OnErr result (Fails (line_by L.received L.sent L.calls L.failures L.empty_reads L.stalled_writes line.old)
+            (line_by L.received L.sent L.calls L.failures L.empty_reads L.stalled_writes line.new) self.old) }
     {
         self.written += line.try_write(&TEXT[self.written..])?;
         Ok(())
@@ -110,10 +110,10 @@ impl Entry {
     fn read<L: SerialLine>(&mut self, line: &mut L) -> Result<Option<Final>, LineFault>
         requires { self.old.written ≡ 10 }
         ensures goes { IfOk result (λ code.
-            EntryGoesOn (line_by L.received L.sent L.calls L.failures line.old)
-            (line_by L.received L.sent L.calls L.failures line.new) self.old self.new code) }
-        ensures fails { OnErr result (Fails (line_by L.received L.sent L.calls L.failures line.old)
-            (line_by L.received L.sent L.calls L.failures line.new) self.old) }
+            EntryGoesOn (line_by L.received L.sent L.calls L.failures L.empty_reads L.stalled_writes line.old)
+            (line_by L.received L.sent L.calls L.failures L.empty_reads L.stalled_writes line.new) self.old self.new code) }
+        ensures fails { OnErr result (Fails (line_by L.received L.sent L.calls L.failures L.empty_reads L.stalled_writes line.old)
+            (line_by L.received L.sent L.calls L.failures L.empty_reads L.stalled_writes line.new) self.old) }
     {
         match next_octet(line)? {
             Some(octet) => Ok(see(&mut self.reader, octet)),
@@ -154,11 +154,11 @@ fn see(reader: &mut LineReader, octet: u8) -> Option<Final>
 /// final code. It makes at most so many calls on the line. Refusals: 1 Refused, where the code isn't `OK`; 2 NoAnswer,
 /// where none came in so many calls; 3 Line, where the line failed.
 pub fn enter<L: SerialLine>(line: &mut L, turns: u32) -> Result<(), EntryError>
-    ensures entered { OnOk result (IsEntry turns (line_by L.received L.sent L.calls L.failures line.old)
-        (line_by L.received L.sent L.calls L.failures line.new) Entered) }
+    ensures entered { OnOk result (IsEntry turns (line_by L.received L.sent L.calls L.failures L.empty_reads L.stalled_writes line.old)
+        (line_by L.received L.sent L.calls L.failures L.empty_reads L.stalled_writes line.new) Entered) }
     ensures not_entered { IfErr result (λ why.
-        IsEntry turns (line_by L.received L.sent L.calls L.failures line.old)
-        (line_by L.received L.sent L.calls L.failures line.new) (entry_answer why)) }
+        IsEntry turns (line_by L.received L.sent L.calls L.failures L.empty_reads L.stalled_writes line.old)
+        (line_by L.received L.sent L.calls L.failures L.empty_reads L.stalled_writes line.new) (entry_answer why)) }
 {
     let mut entry = Entry::new();
     for _ in 0..turns {

@@ -9,6 +9,9 @@ ghost use Rattle.modem_driver.specs.ReplayRows.{NoReplay, NoReplayOfAny, WantsRo
 ghost use Rattle.modem_driver.specs.Room.{EachBeginsEmpty, FindsRoom, FitsEmpty, NeverWantsRoom};
 ghost use Rattle.modem_driver.specs.declared.event.Event.{Event};
 ghost use Rattle.modem_history.specs.Acts.{Act};
+ghost use Rattle.modem_history.specs.Sessions.{LineView};
+ghost use Rattle.modem_driver.specs.PollRows.{AreNoPolls, IsLostSession};
+ghost use Rattle.modem_driver.specs.PollLaws.{RunsInHistories, LostFails, NoLossIsKeptBack, NoLossIsStopped, CallsTheLine, LostGivesFailed};
 
 /// The requests taken, frames got, ticks and losses of a replay are those that its events bring, in their order, and no
 /// others. So no replay loses the line by itself, gets a frame of which no octet came, or drops a request. Of each command
@@ -59,4 +62,20 @@ pub fn endings()
     ensures stays { StaysEnded }
     ensures wrong { AreNoEndings }
     ensures going_on { IsNoGoing }
+{}
+
+/// The turns of a poll, over a line that shows itself: whatever history the session had, each session on the way fits that
+/// history and what came since, and each turn is one in it. So where the line is lost nothing but Failed comes of them, no
+/// loss of the line is kept back or given as Stopped, and where octets wait the line is called: a body that makes no turn, or
+/// ticks instead, makes no poll.
+#[tactic(auto, using(crate::proofs::sessions::PollLaws::runs_in_histories, crate::proofs::sessions::PollLaws::lost_fails, crate::proofs::sessions::PollLaws::no_loss_is_kept_back, crate::proofs::sessions::PollLaws::no_loss_is_stopped, crate::proofs::sessions::PollLaws::calls_the_line, crate::proofs::sessions::PollLaws::lost_gives_failed, crate::proofs::rows::PollRowFacts::is_lost_session, crate::proofs::rows::PollRowFacts::no_polls))]
+pub fn polls()
+    ensures histories { RunsInHistories (λ (l : LineView). l) }
+    ensures lost { LostFails (λ (l : LineView). l) }
+    ensures kept_back { NoLossIsKeptBack (λ (l : LineView). l) }
+    ensures stopped { NoLossIsStopped (λ (l : LineView). l) }
+    ensures called { CallsTheLine (λ (l : LineView). l) }
+    ensures gives { LostGivesFailed (λ (l : LineView). l) }
+    ensures lost_session { IsLostSession }
+    ensures no_polls { AreNoPolls }
 {}

@@ -104,8 +104,8 @@ impl<L: SerialLine, R: Wait + Drop> Session<L, R> {
         n1: u16,
     ) -> Result<Session<L, R>, SessionRefused<L>>
         ensures begins { IfOk result (λ s.
-            FitsAll (beginning_of n1 (line_by L.received L.sent L.calls L.failures line) driver)
-            (line_by L.received L.sent L.calls L.failures) s []) }
+            FitsAll (beginning_of n1 (line_by L.received L.sent L.calls L.failures L.empty_reads L.stalled_writes line) driver)
+            (line_by L.received L.sent L.calls L.failures L.empty_reads L.stalled_writes) s []) }
         ensures same { IfOk result (λ s. (s.line ≡ line) × (s.driver ≡ driver)) }
         ensures bad_n1 { (IfErr result (λ e. e.why ≡ why.BadN1 → ((n1 < 31) ⊎ (32767 < n1))))
             × (((n1 < 31) ⊎ (32767 < n1)) → IsErr result × IfErr result (λ e. e.why ≡ why.BadN1)) }
@@ -135,7 +135,7 @@ impl<L: SerialLine, R: Wait + Drop> Session<L, R> {
     /// A tick: SABM and DISC that weren't answered are sent again, and at the fourth what waits is
     /// given up. Refusals, which change nothing: 3 Failed where a turn has answered Line; 1 NoMemory.
     pub fn tick(&mut self) -> Result<(), SessionFault>
-        ensures ticks { OnOk result (Ticks (line_by L.received L.sent L.calls L.failures) self.old self.new) }
+        ensures ticks { OnOk result (Ticks (line_by L.received L.sent L.calls L.failures L.empty_reads L.stalled_writes) self.old self.new) }
         ensures ended { KeepsItsEnd self.old self.new }
         ensures err { OnErr result (self.new ≡ self.old) }
         ensures failed { (result ≡ Err fault.Failed) ↔ (has_lost_line self.old ≡ true) }
@@ -148,8 +148,8 @@ impl<L: SerialLine, R: Wait + Drop> Session<L, R> {
     /// The line, the desk's end and what is left, without taking memory: the requests that were taken
     /// and not told, in order, and then the one kept aside; and all outcomes and lines that wait.
     pub fn finish(self) -> Finished<L>
-        ensures left { SessionEnds (line_by L.received L.sent L.calls L.failures) self (record {
-          line = line_by L.received L.sent L.calls L.failures result.line;
+        ensures left { SessionEnds (line_by L.received L.sent L.calls L.failures L.empty_reads L.stalled_writes) self (record {
+          line = line_by L.received L.sent L.calls L.failures L.empty_reads L.stalled_writes result.line;
           desk = end_of result.driver;
           in_hand = result.in_hand.items;
           unplaced = result.unplaced.items;

@@ -23,18 +23,25 @@ use Rattle.modem_history.specs.Wholes.{taken_requests, outcomes, CompleteCalls}
 
 -- ## What is seen of a session
 
--- a line: the octets that it gave and took, its calls, and those that failed
+-- a line: the octets that it gave and took, its calls, those that failed, the reads that could give octets and
+-- gave none, and the writes that could take octets and took none
 pub record LineView : Type 0 where
   pub received : List ℕ
   pub sent : List ℕ
   pub calls : ℕ
   pub failures : ℕ
+  pub empty_reads : ℕ
+  pub stalled_writes : ℕ
 
--- the desk's end: the requests that it took, what it told each caller, and what it announced to each listener
+-- the desk's end: the requests that it took, what it told each caller, and what it announced to each listener;
+-- and how often it found no request, and handed an outcome of each caller or a line of each listener back
 pub record EndView : Type 0 where
   pub taken : List Request
   pub told : List (List Outcome)
   pub announced : List (List Urc)
+  pub found_none : ℕ
+  pub told_back : List ℕ
+  pub announced_back : List ℕ
 
 -- how a session began: its N1, how many callers its desk has and which kinds of lines it listens to, and what
 -- its line and its desk's end had by then

@@ -8,7 +8,7 @@ use lib.ListN.{get_elem?}
 use denote.Enum.Bare.{sameb, same_true, true_same}
 use Rattle.at_text.specs.declared.unsolicited.UrcKind.{UrcKind}
 use Rattle.at_text.specs.contracts.unsolicited.UrcKind.{the_type}
-use Rattle.modem_desk.specs.Ends.{EachOnce, Appends, Announces}
+use Rattle.modem_desk.specs.Ends.{EachOnce, Appends, Changes, Announces}
 use Rattle.modem_desk.specs.declared.request.Urc.{Urc}
 use Rattle.modem_desk.proofs.queue_rule.CallerPasses.{at_end}
 
@@ -72,3 +72,7 @@ announces kinds i line old new once at more =
       here = λ k same. subst (λ (j : ℕ). get_or new j [] ≡ get_or old j [] ++ line ∷ []) (one_place kinds i k line.kind once at same) more.here;
       others = λ k apart. more.others k (λ e. apart (ap (λ j. get_elem? kinds j) e ∙ at));
     }
+
+-- a change at one place, said of what holds at that place alone
+pub changes_where : (at : ℕ → Type 0) (how : ℕ → ℕ → Type 0) (i : ℕ) (old new : List ℕ) → ((k : ℕ) → at k → k ≡ i) → at i → Changes (λ k. k ≡ i) how old new → Changes at how old new
+changes_where at how i old new one here c = record { here = λ k a. c.here k (one k a); others = λ k apart. c.others k (λ e. apart (subst at (sym e) here)) }

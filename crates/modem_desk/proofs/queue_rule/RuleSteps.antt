@@ -1,4 +1,5 @@
 -- Each step keeps the rule.
+use Rattle.modem_desk.proofs.queue_rule.CallerNumbers.{fronts_numbered, none_numbered}
 use Rattle.std.proofs.Common.{◌≡◌, ◌≢◌, ℕ, zero, suc, ◌+◌, ◌<◌, ◌≤◌, true, false, true≢false, List, [], ◌∷◌, ◌++◌, length, set, Option, Some, None, sym, refl, ap, ◌∙◌, subst, ⊎_elim, append_assoc, lt_of_not-le, length-append, arith}
 use mathlib.Core.Option.{some, some-ne-none}
 use mathlib.Core.Logic.{dite}
@@ -9,7 +10,7 @@ use Rattle.crossbeam_queue.proofs.Lists.{at_set, at_snoc}
 use Rattle.modem_desk.specs.declared.request.Request.{Request}
 use Rattle.modem_desk.specs.declared.rule.Known.{Known}
 use Rattle.modem_desk.specs.declared.rule.View.{View}
-use Rattle.modem_desk.specs.Rule.{of_caller, known, driver, draining, caller, returned_view, Shared, FitsPass, RuleKept, AllLeft, DrainsOne, IsDrained}
+use Rattle.modem_desk.specs.Rule.{IsCounted, AreNumbered, of_caller, known, driver, draining, caller, returned_view, Shared, FitsPass, RuleKept, AllLeft, DrainsOne, IsDrained}
 use Rattle.modem_desk.proofs.queue_rule.CallerPasses.{with_pass, with_pass-here, with_pass-else, at_number, of_more_same, of_more_other, not_none, at_end, below_length, all_set}
 
 false≢true : false ≢ true
@@ -32,6 +33,7 @@ begins =
       desk = d;
       whole = refl;
       room = omega arith;
+      numbered = none_numbered;
       later = λ n h. (refl, refl);
       left = λ i k e. absurd (some-ne-none k (sym e));
       each = all_set (FitsPass d []) (driver 0 [] [] ∷ []) 0 (driver 0 [] [])
@@ -39,9 +41,9 @@ begins =
           (λ j u other e. absurd (other (zero_of j u e)));
     }
 
-pub submits : (n pass : ℕ) (v : View) (x : Request) → n ≡ 64 → v.submits ≡ true → x.caller ≡ v.number
+pub submits : (n pass : ℕ) (v : View) (x : Request) → n ≡ 64 → v.submits ≡ true → x.caller ≡ v.number → IsCounted (v.submitted ++ x ∷ [])
     → Pushes RuleKept n pass v x (λ w. w ≡ caller v.number (v.submitted ++ x ∷ []))
-submits n pass v x size may same items views short h at =
+submits n pass v x size may same next items views short h at =
     let d = h.desk in
     let mine = (h.each pass v at).1 may in
     let w : View = caller v.number (v.submitted ++ x ∷ []) in
@@ -53,6 +55,9 @@ submits n pass v x size may same items views short h at =
         desk = d';
         whole = ap (λ l. l ++ x ∷ []) h.whole ∙ append_assoc d.taken items (x ∷ []);
         room = omega (arith, length-append items (x ∷ []));
+        numbered = λ m. at_number m x.caller
+            (λ i. subst IsCounted (sym (of_more_same m d.all x (sym i) ∙ ap (λ l. l ++ x ∷ []) (ap (λ k. of_caller k d.all) (i ∙ same) ∙ mine.submitted))) next)
+            (λ i. subst IsCounted (sym (of_more_other m d.all x i)) (h.numbered m));
         later = λ m le. ((h.later m le).0, of_more_other m d.all x (apart m (h.later m le).0) ∙ (h.later m le).1);
         left = λ i k q. ((h.left i k q).0, (h.left i k q).1, of_more_other k.number d.all x (apart k.number (h.left i k q).1) ∙ (h.left i k q).2);
         each = all_set (FitsPass d' (items ++ x ∷ [])) views pass w
@@ -82,7 +87,7 @@ front_below d x items whole later =
     at_least x.caller d.given (λ le. not_none d.taken items x (ap (of_caller x.caller) (sym whole) ∙ (later x.caller le).1))
 
 pub takes : (pass : ℕ) (v : View) → v.drives ≡ true → v.counted ≡ false
-    → Pops RuleKept pass v (λ x w. (w ≡ driver v.given (v.taken ++ x ∷ []) v.known) × (x.caller < v.given))
+    → Pops RuleKept pass v (λ x w. (w ≡ driver v.given (v.taken ++ x ∷ []) v.known) × (x.caller < v.given) × AreNumbered (v.taken ++ x ∷ []))
 takes pass v may idle x items views h at =
     let d = h.desk in
     let mine = (h.each pass v at).0 may in
@@ -94,6 +99,7 @@ takes pass v may idle x items views h at =
         desk = d';
         whole = h.whole ∙ sym (append_assoc d.taken (x ∷ []) items);
         room = let r : length (x ∷ items) ≤ 64 = h.room in omega arith;
+        numbered = h.numbered;
         later = h.later;
         left = h.left;
         each = all_set (FitsPass d' items) views pass w
@@ -104,7 +110,7 @@ takes pass v may idle x items views h at =
               (λ r. let o = old.1 r in record { here = o.here; below = o.below; submitted = o.submitted }),
             ));
       },
-      (refl, subst (λ g. x.caller < g) (sym mine.given) below),
+      (refl, subst (λ g. x.caller < g) (sym mine.given) below, subst AreNumbered (ap (λ l. l ++ x ∷ []) (sym mine.taken)) (fronts_numbered (d.taken ++ x ∷ []) items (subst AreNumbered (h.whole ∙ sym (append_assoc d.taken (x ∷ []) items)) h.numbered))),
     )
 
 pub drains : (pass : ℕ) (v : View) → v.drives ≡ true → AllLeft v → Pops RuleKept pass v (DrainsOne v)
@@ -125,6 +131,7 @@ drains pass v may gone x items views h at =
         desk = d';
         whole = h.whole ∙ sym (append_assoc d.taken (x ∷ []) items);
         room = omega arith;
+        numbered = h.numbered;
         later = h.later;
         left = h.left;
         each = all_set (FitsPass d' items) views pass w
@@ -169,6 +176,7 @@ adds_caller pass v may idle items views h at =
       desk = d';
       whole = h.whole;
       room = h.room;
+      numbered = h.numbered;
       later = λ n le. (kept n (λ i. omega arith) ∙ (h.later n (omega arith)).0, (h.later n (omega arith)).1);
       left = λ i k e. let b : k.number < d.given = (h.left i k e).0 in ((omega arith), kept k.number (λ q. omega arith) ∙ (h.left i k e).1, (h.left i k e).2);
       each = λ j u e. ⊎_elim (λ q. old j u q (below_length vs j u q))
@@ -200,6 +208,7 @@ leaves pass v other u may idle theirs items views h at two at' =
       desk = d';
       whole = h.whole;
       room = h.room;
+      numbered = h.numbered;
       later = λ n le. (closed n (h.later n le).0, (h.later n le).1);
       left = λ i k e. ⊎_elim
           (λ q. let o = h.left i k (ap (λ l. get_elem? l i) (sym mine.known) ∙ q) in (o.0, closed k.number o.1, o.2))

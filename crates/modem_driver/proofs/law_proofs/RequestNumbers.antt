@@ -4,7 +4,7 @@ use Rattle.std.proofs.lemmas.Bool.{and_parts, and_from, eq-eqb}
 use Rattle.std.specs.Prelude.{◌≡◌, ℕ, zero, suc, ◌+◌, ◌<◌, ◌==◌, ◌&&◌, not, nat_lt, Bool, true, false, List, [], ◌∷◌, ◌++◌, length, map, drop, refl}
 use Rattle.std.specs.List.{list_all}
 use Rattle.modem_desk.specs.declared.request.Request.{Request}
-use Rattle.modem_desk.specs.Rule.{of_caller}
+use Rattle.modem_desk.specs.Rule.{AreNumbered, of_caller}
 use Rattle.modem_desk.specs.Ends.{IsNumbered, count_from}
 use Rattle.modem_history.specs.Requests.{is_apart, are_distinct}
 use Rattle.modem_history.proofs.lists.Filters.{passed, taken_too}
@@ -88,6 +88,10 @@ all_once (q ∷ qs) h =
     less : (c : ℕ) (b : Bool) → (q.caller == c) ≡ b → are_distinct (of_caller c qs) ≡ true
     less c true e = (and_parts (list_all (is_apart q) (of_caller c qs)) (are_distinct (of_caller c qs)) (sym (ap are_distinct (taken_too (is_of c) q qs e)) ∙ h c)).1
     less c false e = sym (ap are_distinct (passed (is_of c) q qs e)) ∙ h c
+
+-- what the desk's end took
+pub taken_once : (qs : List Request) → AreNumbered qs → are_distinct qs ≡ true
+taken_once qs h = all_once qs (λ c. numbered_once (h c).first (of_caller c qs) (h c).numbered)
 
 -- of a caller that there isn't, there are none
 pub none_beyond : (n c : ℕ) (qs : List Request) → nat_lt c n ≡ false → list_all (λ (q : Request). nat_lt q.caller n) qs ≡ true → of_caller c qs ≡ []

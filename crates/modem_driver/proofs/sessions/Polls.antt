@@ -2,7 +2,7 @@
 use Rattle.std.proofs.Common.{ap, sym, ◌∙◌, subst, eqb-true}
 use Rattle.std.proofs.lemmas.Bool.{and_parts}
 use Rattle.std.proofs.lemmas.List.{append-nil, nil_from_length}
-use Rattle.std.specs.Prelude.{◌≡◌, ◌==◌, ◌&&◌, not, Bool, true, false, List, [], ◌++◌, length, refl, Some, Result, Ok, Err}
+use Rattle.std.specs.Prelude.{◌≡◌, ◌==◌, ◌&&◌, not, Bool, true, false, List, [], ◌++◌, length, refl, Option, None, Some, IfSome, Result, Ok, Err}
 use Rattle.mux_station.specs.Sending.{queue}
 use Rattle.modem_desk.specs.declared.request.Outcome.{Outcome}
 use Rattle.modem_history.specs.Acts.{Act, wire}
@@ -18,7 +18,7 @@ use Rattle.modem_driver.specs.declared.session.ending.Ended.TheVariants.{Stopped
 use Rattle.modem_driver.specs.declared.session.error.SessionFault.{SessionFault}
 use Rattle.modem_driver.specs.declared.session.error.SessionFault.TheVariants as fault
 use Rattle.modem_driver.specs.Endings.{Begins, HasCome, HasEnded, IsEnd, has_stopped}
-use Rattle.modem_driver.specs.Polls.{Gives, SessionGoesOn, PollSays, end_given, has_ended, is_stopped, with_end}
+use Rattle.modem_driver.specs.Polls.{Gives, Polls, PollsFrom, PollsOn, SaysEnd, SessionGoesOn, PollSays, end_given, has_ended, is_stopped, waits_none, waits_once, with_end}
 use Rattle.modem_driver.specs.SessionStates.{SessionState, FitsAll, FitsInside, session_view}
 use Rattle.modem_driver.specs.SessionTurns.{Faults, HasTurned, LeavesLost, TakesTurn, standing_of}
 use Rattle.modem_driver.proofs.sessions.StopProgress.{begins_whole}
@@ -136,14 +136,34 @@ module _ {X : Type 0} (look : X → LineView) where
   says_end b s past (Err fault.Failed) h = h
 
   -- the end that is kept
-  pub gives_end : (old new : SessionState X) (end : Result Ended SessionFault) → SessionGoesOn look old new → new.kept.course ≡ course.Ended end → Gives look old end
-  gives_end old new end g e = record { new = new; goes = g; says = λ b past f. says_end b new past end (subst (HasCome b (session_view look new) past) e f.inside.come) }
+  pub ended_says : (s : SessionState X) (end : Result Ended SessionFault) → s.kept.course ≡ course.Ended end → SaysEnd look s end
+  ended_says s end e b past f = says_end b s past end (subst (HasCome b (session_view look s) past) e f.inside.come)
 
-  pub gives_failing : (old mid : SessionState X) (why : SessionFault) → SessionGoesOn look old (with_end (Err why) mid) → Gives look old (Err why)
-  gives_failing old mid fault.NoMemory g = record { new = mid; goes = g; says = λ b past f. tt }
-  gives_failing old mid fault.Line g = gives_end old (with_end (Err fault.Line) mid) (Err fault.Line) g refl
-  gives_failing old mid fault.Failed g = gives_end old (with_end (Err fault.Failed) mid) (Err fault.Failed) g refl
+  pub failing_says : (s : SessionState X) (why : SessionFault) → SaysEnd look (with_end (Err why) s) (Err why)
+  failing_says s fault.NoMemory b past f = tt
+  failing_says s fault.Line b past f = ended_says (with_end (Err fault.Line) s) (Err fault.Line) refl b past f
+  failing_says s fault.Failed b past f = ended_says (with_end (Err fault.Failed) s) (Err fault.Failed) refl b past f
+
+  -- a poll after an end, and one after none
+  pub polls_again : (s : SessionState X) (end : Result Ended SessionFault) → s.kept.course ≡ course.Ended end → Polls look s s (Some end)
+  polls_again s end e = subst (λ (c : Course). PollsFrom look c s s (Some end)) (sym e) (refl, refl)
+
+  pub polls_on : (old new : SessionState X) (given : Option (Result Ended SessionFault)) → end_given old.kept.course ≡ None → PollsOn look old new given → Polls look old new given
+  polls_on old new given none p = by old.kept.course none
+    where
+      by : (c : Course) → end_given c ≡ None → PollsFrom look c old new given
+      by course.GoesOn e = p
+      by course.Stopped e = p
+      by (course.Ended end) e = let x : Some end ≡ None = e in absurd (let y : Some end ≡ None = x in cc)
+
+  pub gives_now : (old new : SessionState X) (end : Result Ended SessionFault) → Polls look old new (Some end) → SessionGoesOn look old new → SaysEnd look new end → Gives look old end
+  gives_now old new end p g h = record { mid = old; new = new; waits = waits_none old; polls = p; goes = g; says = h }
+
+  pub gives_some : (old new : SessionState X) (given : Option (Result Ended SessionFault)) → Polls look old new given → SessionGoesOn look old new → IfSome given (SaysEnd look new) → IfSome given (Gives look old)
+  gives_some old new None p g h = h
+  gives_some old new (Some end) p g h = gives_now old new end p g h
 
   -- what it gives from here on it gave before
-  pub gives_before : (old new : SessionState X) (end : Result Ended SessionFault) → SessionGoesOn look old new → Gives look new end → Gives look old end
-  gives_before old new end g h = record { new = h.new; goes = goes_then old new h.new g h.goes; says = h.says }
+  pub gives_before : (old new : SessionState X) (end : Result Ended SessionFault) → Polls look old new None → SessionGoesOn look old new → Gives look new end → Gives look old end
+  gives_before old new end p g h =
+      record { mid = h.mid; new = h.new; waits = waits_once old new h.mid p h.waits; polls = h.polls; goes = goes_then old new h.new g h.goes; says = h.says }

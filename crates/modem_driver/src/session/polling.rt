@@ -3,7 +3,7 @@ ghost use Rattle.std.specs.Prelude.{◌≡◌, ◌+◌, ◌≤◌, IfErr, IfSome
 ghost use Rattle.modem_driver.specs.SessionStates.{line_by, TakesMore};
 ghost use Rattle.modem_history.specs.Turns.{says_moved};
 ghost use Rattle.modem_driver.specs.SessionTurns.{turn_answer, LeavesLost};
-ghost use Rattle.modem_driver.specs.Polls.{has_ended, is_stopped, end_given, with_end, SessionGoesOn, RunsTurns, PollsOn, Polls, Gives};
+ghost use Rattle.modem_driver.specs.Polls.{has_ended, is_stopped, end_given, with_end, SessionGoesOn, RunsTurns, PollsOn, Polls, SaysEnd, Gives};
 
 use crate::session::Session;
 use crate::session::ending::{Course, Ended};
@@ -60,8 +60,8 @@ impl<L: SerialLine, R: Wait + Drop> Session<L, R> {
     /// At most 64 turns, none behind one that doesn't answer Moved, and none once it has ended. The fault
     /// by which the last one ended, if it did.
     fn turns(&mut self) -> Result<(), SessionFault>
-        ensures runs { RunsTurns (line_by L.received L.sent L.calls L.failures) self.old self.new result }
-        ensures goes { SessionGoesOn (line_by L.received L.sent L.calls L.failures) self.old self.new }
+        ensures runs { RunsTurns (line_by L.received L.sent L.calls L.failures L.empty_reads L.stalled_writes) self.old self.new result }
+        ensures goes { SessionGoesOn (line_by L.received L.sent L.calls L.failures L.empty_reads L.stalled_writes) self.old self.new }
         ensures bounded { L.calls self.new.line ≤ L.calls self.old.line + 128 }
         ensures takes { TakesMore self.old.driver self.new.driver }
         ensures lost { IfErr result (λ why. LeavesLost why self.new) }
@@ -105,9 +105,9 @@ impl<L: SerialLine, R: Wait + Drop> Session<L, R> {
     /// What at most 64 turns lead to: Stopped where it has ended then, or the fault of the last one. It is
     /// kept as the end, but for 1 NoMemory.
     fn run(&mut self) -> Option<Result<Ended, SessionFault>>
-        ensures polls { PollsOn (line_by L.received L.sent L.calls L.failures) self.old self.new result }
-        ensures goes { SessionGoesOn (line_by L.received L.sent L.calls L.failures) self.old self.new }
-        ensures gives { IfSome result (Gives (line_by L.received L.sent L.calls L.failures) self.old) }
+        ensures polls { PollsOn (line_by L.received L.sent L.calls L.failures L.empty_reads L.stalled_writes) self.old self.new result }
+        ensures goes { SessionGoesOn (line_by L.received L.sent L.calls L.failures L.empty_reads L.stalled_writes) self.old self.new }
+        ensures says { IfSome result (SaysEnd (line_by L.received L.sent L.calls L.failures L.empty_reads L.stalled_writes) self.new) }
         ensures bounded { L.calls self.new.line ≤ L.calls self.old.line + 128 }
         ensures takes { TakesMore self.old.driver self.new.driver }
     {
@@ -130,9 +130,9 @@ impl<L: SerialLine, R: Wait + Drop> Session<L, R> {
     /// to which at most 64 turns lead. A future of one's own that hands the session on calls it, since of a
     /// session that is polled only the output is known.
     pub fn advance(&mut self) -> Option<Result<Ended, SessionFault>>
-        ensures polls { Polls (line_by L.received L.sent L.calls L.failures) self.old self.new result }
-        ensures goes { SessionGoesOn (line_by L.received L.sent L.calls L.failures) self.old self.new }
-        ensures gives { IfSome result (Gives (line_by L.received L.sent L.calls L.failures) self.old) }
+        ensures polls { Polls (line_by L.received L.sent L.calls L.failures L.empty_reads L.stalled_writes) self.old self.new result }
+        ensures goes { SessionGoesOn (line_by L.received L.sent L.calls L.failures L.empty_reads L.stalled_writes) self.old self.new }
+        ensures gives { IfSome result (Gives (line_by L.received L.sent L.calls L.failures L.empty_reads L.stalled_writes) self.old) }
         ensures bounded { L.calls self.new.line ≤ L.calls self.old.line + 128 }
         ensures takes { TakesMore self.old.driver self.new.driver }
     {
@@ -154,7 +154,7 @@ impl<L: SerialLine + Drop, R: Wait + Drop> Future for Session<L, R> {
 
     type Output = Result<Ended, SessionFault>;
 
-    ghost gives = { λ s end. Gives (line_by L.received L.sent L.calls L.failures) s end };
+    ghost gives = { λ s end. Gives (line_by L.received L.sent L.calls L.failures L.empty_reads L.stalled_writes) s end };
 
     fn poll(&mut self, cx: &mut Context<'_>) -> Poll<Result<Ended, SessionFault>> {
         match self.advance() {

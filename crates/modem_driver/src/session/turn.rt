@@ -1,5 +1,6 @@
 //! Turns of a session.
 ghost use Rattle.std.specs.Prelude.{◌≡◌, true, Err, IfOk, IfErr, OnErr};
+ghost use Rattle.modem_history.specs.Requests.{are_distinct};
 ghost use Rattle.modem_driver.specs.SessionStates.{has_lost_line, line_by, TakesMore};
 ghost use Rattle.modem_driver.specs.TurnSteps.{Places, Checks, ChecksPart, SendsOn, Writes, Gets, ReadsOn, TakesOne, KeepsAside};
 ghost use Rattle.modem_driver.specs.SessionTurns.{standing_of, turn_answer, fault_of, Answers, HasNoPlace, HasTurned, LeavesLost, LosesOr, TakesTurn, Faults};
@@ -73,8 +74,8 @@ impl<L: SerialLine, R: Wait + Drop> Session<L, R> {
 
     /// Offers what waits to the desk.
     fn place(&mut self) -> bool
-        ensures { Places (standing_of (line_by L.received L.sent L.calls L.failures) self.old)
-            (standing_of (line_by L.received L.sent L.calls L.failures) self.new) result }
+        ensures { Places (standing_of (line_by L.received L.sent L.calls L.failures L.empty_reads L.stalled_writes) self.old)
+            (standing_of (line_by L.received L.sent L.calls L.failures L.empty_reads L.stalled_writes) self.new) result }
     {
         self.kept.place(&mut self.driver)
     }
@@ -82,11 +83,11 @@ impl<L: SerialLine, R: Wait + Drop> Session<L, R> {
     /// Looks at the backlogs.
     fn check_backlogs(&mut self) -> Result<bool, SessionFault>
         ensures checks { IfOk result (λ moved. Checks
-            (standing_of (line_by L.received L.sent L.calls L.failures) self.old)
-            (standing_of (line_by L.received L.sent L.calls L.failures) self.new) moved) }
+            (standing_of (line_by L.received L.sent L.calls L.failures L.empty_reads L.stalled_writes) self.old)
+            (standing_of (line_by L.received L.sent L.calls L.failures L.empty_reads L.stalled_writes) self.new) moved) }
         ensures part { OnErr result (ChecksPart
-            (standing_of (line_by L.received L.sent L.calls L.failures) self.old)
-            (standing_of (line_by L.received L.sent L.calls L.failures) self.new)) }
+            (standing_of (line_by L.received L.sent L.calls L.failures L.empty_reads L.stalled_writes) self.old)
+            (standing_of (line_by L.received L.sent L.calls L.failures L.empty_reads L.stalled_writes) self.new)) }
         ensures no_memory { OnErr result (result ≡ Err fault.NoMemory) }
     {
         self.kept.check_backlogs()
@@ -95,8 +96,8 @@ impl<L: SerialLine, R: Wait + Drop> Session<L, R> {
     /// Takes the next frame into the output.
     #[tactic(auto, unfolding(crate::specs::SendingSteps::KeptSends))]
     fn send_on(&mut self) -> bool
-        ensures { SendsOn (standing_of (line_by L.received L.sent L.calls L.failures) self.old)
-            (standing_of (line_by L.received L.sent L.calls L.failures) self.new) result }
+        ensures { SendsOn (standing_of (line_by L.received L.sent L.calls L.failures L.empty_reads L.stalled_writes) self.old)
+            (standing_of (line_by L.received L.sent L.calls L.failures L.empty_reads L.stalled_writes) self.new) result }
     {
         self.kept.send_on()
     }
@@ -104,8 +105,8 @@ impl<L: SerialLine, R: Wait + Drop> Session<L, R> {
     /// Writes to the line.
     #[tactic(auto, unfolding(crate::specs::SessionTurns::KeptWrites))]
     fn write_on(&mut self) -> bool
-        ensures { Writes (standing_of (line_by L.received L.sent L.calls L.failures) self.old)
-            (standing_of (line_by L.received L.sent L.calls L.failures) self.new) result }
+        ensures { Writes (standing_of (line_by L.received L.sent L.calls L.failures L.empty_reads L.stalled_writes) self.old)
+            (standing_of (line_by L.received L.sent L.calls L.failures L.empty_reads L.stalled_writes) self.new) result }
     {
         self.kept.write_on(&mut self.line)
     }
@@ -114,8 +115,8 @@ impl<L: SerialLine, R: Wait + Drop> Session<L, R> {
     #[tactic(auto, unfolding(crate::specs::GettingSteps::KeptGets))]
     fn get_one(&mut self) -> Result<bool, SessionFault>
         ensures gets { IfOk result (λ moved. Gets
-            (standing_of (line_by L.received L.sent L.calls L.failures) self.old)
-            (standing_of (line_by L.received L.sent L.calls L.failures) self.new) moved) }
+            (standing_of (line_by L.received L.sent L.calls L.failures L.empty_reads L.stalled_writes) self.old)
+            (standing_of (line_by L.received L.sent L.calls L.failures L.empty_reads L.stalled_writes) self.new) moved) }
         ensures err { OnErr result (self.new ≡ self.old) }
         ensures no_memory { OnErr result (result ≡ Err fault.NoMemory) }
     {
@@ -125,8 +126,8 @@ impl<L: SerialLine, R: Wait + Drop> Session<L, R> {
     /// Reads from the line, and feeds.
     #[tactic(auto, unfolding(crate::specs::SessionTurns::KeptReads))]
     fn read_on(&mut self) -> bool
-        ensures { ReadsOn (standing_of (line_by L.received L.sent L.calls L.failures) self.old)
-            (standing_of (line_by L.received L.sent L.calls L.failures) self.new) result }
+        ensures { ReadsOn (standing_of (line_by L.received L.sent L.calls L.failures L.empty_reads L.stalled_writes) self.old)
+            (standing_of (line_by L.received L.sent L.calls L.failures L.empty_reads L.stalled_writes) self.new) result }
     {
         self.kept.read_on(&mut self.line)
     }
@@ -134,11 +135,11 @@ impl<L: SerialLine, R: Wait + Drop> Session<L, R> {
     /// Takes a request.
     fn take_one(&mut self) -> Result<bool, SessionFault>
         ensures takes { IfOk result (λ moved. TakesOne
-            (standing_of (line_by L.received L.sent L.calls L.failures) self.old)
-            (standing_of (line_by L.received L.sent L.calls L.failures) self.new) moved) }
+            (standing_of (line_by L.received L.sent L.calls L.failures L.empty_reads L.stalled_writes) self.old)
+            (standing_of (line_by L.received L.sent L.calls L.failures L.empty_reads L.stalled_writes) self.new) moved) }
         ensures keeps { OnErr result (KeepsAside
-            (standing_of (line_by L.received L.sent L.calls L.failures) self.old)
-            (standing_of (line_by L.received L.sent L.calls L.failures) self.new)) }
+            (standing_of (line_by L.received L.sent L.calls L.failures L.empty_reads L.stalled_writes) self.old)
+            (standing_of (line_by L.received L.sent L.calls L.failures L.empty_reads L.stalled_writes) self.new)) }
         ensures no_memory { OnErr result (result ≡ Err fault.NoMemory) }
     {
         self.kept.take_one(&mut self.driver, &self.rt)
@@ -149,8 +150,8 @@ impl<L: SerialLine, R: Wait + Drop> Session<L, R> {
     fn lose_line(&mut self) -> SessionFault
         requires { self.old.kept.faulty ≡ true }
         ensures lost { LeavesLost result self.new }
-        ensures loses { LosesOr result (standing_of (line_by L.received L.sent L.calls L.failures) self.old)
-            (standing_of (line_by L.received L.sent L.calls L.failures) self.new) }
+        ensures loses { LosesOr result (standing_of (line_by L.received L.sent L.calls L.failures L.empty_reads L.stalled_writes) self.old)
+            (standing_of (line_by L.received L.sent L.calls L.failures L.empty_reads L.stalled_writes) self.new) }
     {
         if self.kept.core.lost {
             return SessionFault::Failed;
@@ -161,21 +162,21 @@ impl<L: SerialLine, R: Wait + Drop> Session<L, R> {
         }
     }
 
-    /// Does each of these once, in this order: offers the outcomes and lines that wait to the desk;
-    /// looks at the backlog of each connection; where all octets are written, takes the next frame
-    /// into the output; writes; handles the frame at hand; where no octets wait to be fed, reads, and
-    /// feeds the deframer; takes a request, where those in hand and the outcomes that wait are fewer
-    /// than 128. Faults, which end the turn: 1 NoMemory, after which what was done stands and the next
-    /// turn goes on; 2 Line, where a call on the line failed in this turn, or in an earlier one since
-    /// which every turn answered NoMemory; 3 Failed in every turn after that, which still offers to the
-    /// desk what waits.
-    pub fn turn(&mut self) -> Result<Turn, SessionFault>
-        ensures turns { IfOk result (λ says. TakesTurn (line_by L.received L.sent L.calls L.failures)
+    /// No caller used a number twice.
+    fn once(&self)
+        ensures { are_distinct self.now.driver.taken ≡ true }
+    {
+        self.driver.numbers();
+    }
+
+    /// The steps of a turn.
+    fn make_turn(&mut self) -> Result<Turn, SessionFault>
+        ensures turns { IfOk result (λ says. TakesTurn (line_by L.received L.sent L.calls L.failures L.empty_reads L.stalled_writes)
             self.old self.new (turn_answer says)) }
-        ensures faults { IfErr result (λ why. Faults (line_by L.received L.sent L.calls L.failures)
+        ensures faults { IfErr result (λ why. Faults (line_by L.received L.sent L.calls L.failures L.empty_reads L.stalled_writes)
             self.old self.new (fault_of why)) }
-        ensures turned { HasTurned (standing_of (line_by L.received L.sent L.calls L.failures) self.old)
-            (standing_of (line_by L.received L.sent L.calls L.failures) self.new) }
+        ensures turned { HasTurned (standing_of (line_by L.received L.sent L.calls L.failures L.empty_reads L.stalled_writes) self.old)
+            (standing_of (line_by L.received L.sent L.calls L.failures L.empty_reads L.stalled_writes) self.new) }
         ensures lost { IfErr result (λ why. LeavesLost why self.new) }
         ensures failed { has_lost_line self.old ≡ true → result ≡ Err fault.Failed }
         ensures takes { TakesMore self.old.driver self.new.driver }
@@ -208,5 +209,31 @@ impl<L: SerialLine, R: Wait + Drop> Session<L, R> {
         };
         let moved = placed | checked | sent | wrote | got | read | took;
         Ok(self.answer(moved))
+    }
+
+    /// Does each of these once, in this order: offers the outcomes and lines that wait to the desk;
+    /// looks at the backlog of each connection; where all octets are written, takes the next frame
+    /// into the output; writes; handles the frame at hand; where no octets wait to be fed, reads, and
+    /// feeds the deframer; takes a request, where those in hand and the outcomes that wait are fewer
+    /// than 128. Faults, which end the turn: 1 NoMemory, after which what was done stands and the next
+    /// turn goes on; 2 Line, where a call on the line failed in this turn, or in an earlier one since
+    /// which every turn answered NoMemory; 3 Failed in every turn after that, which still offers to the
+    /// desk what waits.
+    pub fn turn(&mut self) -> Result<Turn, SessionFault>
+        ensures turns { IfOk result (λ says. TakesTurn (line_by L.received L.sent L.calls L.failures L.empty_reads L.stalled_writes)
+            self.old self.new (turn_answer says)) }
+        ensures faults { IfErr result (λ why. Faults (line_by L.received L.sent L.calls L.failures L.empty_reads L.stalled_writes)
+            self.old self.new (fault_of why)) }
+        ensures turned { HasTurned (standing_of (line_by L.received L.sent L.calls L.failures L.empty_reads L.stalled_writes) self.old)
+            (standing_of (line_by L.received L.sent L.calls L.failures L.empty_reads L.stalled_writes) self.new) }
+        ensures lost { IfErr result (λ why. LeavesLost why self.new) }
+        ensures failed { has_lost_line self.old ≡ true → result ≡ Err fault.Failed }
+        ensures takes { TakesMore self.old.driver self.new.driver }
+        ensures once { are_distinct self.new.driver.taken ≡ true }
+        ensures full { IfOk result (λ says. HasNoPlace self.new.driver (turn_answer says)) }
+    {
+        let says = self.make_turn();
+        self.once();
+        says
     }
 }

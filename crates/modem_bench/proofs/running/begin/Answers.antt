@@ -24,6 +24,6 @@ returns-clause-listeners g c =
 
 pub returns-clause-begun : goal.returns-clause-begun
 returns-clause-begun g c =
-    let look = line_by g.L.SerialLine.received g.L.SerialLine.sent g.L.SerialLine.calls g.L.SerialLine.failures in
+    let look = line_by g.L.SerialLine.received g.L.SerialLine.sent g.L.SerialLine.calls g.L.SerialLine.failures g.L.SerialLine.empty_reads g.L.SerialLine.stalled_writes in
     subst (λ (s : SessionState g.row.L.Denot). IsBegun look s) (sym c.in_ok-sim.ensures.kept)
     (begins look 31 (look c.args.line.0) c.args.callers [] 1 c.in_ok-driver.driver c.in_ok-driver.callers.items c.in_ok-driver.listeners.items c.in_ok-session.session c.in_ok-driver.ensures c.in_ok-session.ensures.begins c.in_ok-session.ensures.driver)

@@ -29,7 +29,7 @@ settle_run-requires-clause-listeners g c =
 
 pub returns : goal.returns
 returns g c =
-    let look = line_by g.L.SerialLine.received g.L.SerialLine.sent g.L.SerialLine.calls g.L.SerialLine.failures in
+    let look = line_by g.L.SerialLine.received g.L.SerialLine.sent g.L.SerialLine.calls g.L.SerialLine.failures g.L.SerialLine.empty_reads g.L.SerialLine.stalled_writes in
     let s1 = c.in_ok-session.session in
     let ws = c.in_ok-session.back.items in
     let ls = c.args.ends.listeners.items in

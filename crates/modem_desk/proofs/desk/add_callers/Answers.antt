@@ -16,6 +16,9 @@ loop-preserved c =
       told = e.driver.1 ∙ ap (λ l. l ++ [] ∷ []) i.told ∙ replicate_more _ _;
       free = e.free.0 ∙ ap (λ l. l ++ 8 ∷ []) i.free ∙ replicate_more _ _;
       free_lines = e.free.1 ∙ i.free_lines;
+      told_back = e.back.0 ∙ ap (λ l. l ++ 0 ∷ []) i.told_back ∙ replicate_more _ _;
+      announced_back = e.back.1 ∙ i.announced_back;
+      found_none = e.back.2 ∙ i.found_none;
       announced = e.driver.2 ∙ i.announced;
       length = ap (length {A = CallerView}) c.in_ok-push.ensures.items ∙ length_push c.loop.all.items c.in_ok-caller.caller ∙ ap (λ n. n + 1) i.length;
       new_callers = subst (λ (l : List CallerView). AreNewCallers c.add_caller.new.self.desk c.args.first l) (sym c.in_ok-push.ensures.items)

@@ -11,6 +11,9 @@ invariant-loop l = record {
   told : l.driver.told ≡ replicate l.counter [];
   free : l.driver.free ≡ replicate l.counter 8;
   free_lines : l.driver.free_lines ≡ l.initial.driver.free_lines;
+  told_back : l.driver.told_back ≡ replicate l.counter 0;
+  announced_back : l.driver.announced_back ≡ l.initial.driver.announced_back;
+  found_none : l.driver.found_none ≡ l.initial.driver.found_none;
   announced : l.driver.announced ≡ l.initial.driver.announced;
   length : length l.all.items ≡ l.counter;
   new_callers : AreNewCallers l.driver.desk l.first l.all.items;

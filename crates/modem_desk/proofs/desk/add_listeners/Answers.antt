@@ -29,6 +29,9 @@ loop-kind-preserved c =
       told = e.driver.1 ∙ i.told;
       free = e.free.0 ∙ i.free;
       free_lines = e.free.1 ∙ ap (λ l. l ++ 256 ∷ []) i.free_lines ∙ replicate_more _ _;
+      told_back = e.back.0 ∙ i.told_back;
+      announced_back = e.back.1 ∙ ap (λ l. l ++ 0 ∷ []) i.announced_back ∙ replicate_more _ _;
+      found_none = e.back.2 ∙ i.found_none;
       announced = e.driver.2 ∙ ap (λ l. l ++ [] ∷ []) i.announced ∙ replicate_more _ _;
       length = ap (length {A = ListenerView}) c.in_ok-push.ensures.items ∙ length_push c.loop-kind.all.items c.in_ok-listener.listener ∙ ap (λ n. n + 1) i.length;
       new_listeners = subst (λ (l : List ListenerView). AreNewListeners c.add_listener.new.self.desk l) (sym c.in_ok-push.ensures.items)

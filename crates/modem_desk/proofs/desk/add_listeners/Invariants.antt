@@ -12,6 +12,9 @@ invariant-loop-kind l = record {
   told : l.driver.told ≡ l.initial.driver.told;
   free : l.driver.free ≡ l.initial.driver.free;
   free_lines : l.driver.free_lines ≡ replicate l.kind-index 256;
+  told_back : l.driver.told_back ≡ l.initial.driver.told_back;
+  announced_back : l.driver.announced_back ≡ replicate l.kind-index 0;
+  found_none : l.driver.found_none ≡ l.initial.driver.found_none;
   announced : l.driver.announced ≡ replicate l.kind-index [];
   length : length l.all.items ≡ l.kind-index;
   new_listeners : AreNewListeners l.driver.desk l.all.items;

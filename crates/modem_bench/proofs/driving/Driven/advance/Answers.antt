@@ -5,4 +5,4 @@ use Rattle.modem_bench.proofs.driving.Driven.advance.Goals as goal
 
 pub returns-in_err-count-clause-continues : goal.returns-in_err-count-clause-continues
 returns-in_err-count-clause-continues g c =
-    continues_none (line_by g.L.SerialLine.received g.L.SerialLine.sent g.L.SerialLine.calls g.L.SerialLine.failures) c.args.session.now
+    continues_none (line_by g.L.SerialLine.received g.L.SerialLine.sent g.L.SerialLine.calls g.L.SerialLine.failures g.L.SerialLine.empty_reads g.L.SerialLine.stalled_writes) c.args.session.now

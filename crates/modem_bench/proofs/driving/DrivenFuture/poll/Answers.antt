@@ -11,7 +11,7 @@ use Rattle.modem_bench.proofs.driving.DrivenFuture.poll.Goals as goal
 
 pub returns-in-Ok-false-clause-same : goal.returns-in-Ok-false-clause-same
 returns-in-Ok-false-clause-same g c =
-    let look = line_by g.L.SerialLine.received g.L.SerialLine.sent g.L.SerialLine.calls g.L.SerialLine.failures in
+    let look = line_by g.L.SerialLine.received g.L.SerialLine.sent g.L.SerialLine.calls g.L.SerialLine.failures g.L.SerialLine.empty_reads g.L.SerialLine.stalled_writes in
     let old = c.args.self.now.session in
     let new = c.advance.new.session in
     let Output : Type 0 = SessionState g.row.L.Denot × Result (Unit {0}) Fault in

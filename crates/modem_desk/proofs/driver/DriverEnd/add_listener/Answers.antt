@@ -1,4 +1,4 @@
-use Rattle.std.proofs.Common.{◌≡◌, ap, ◌∙◌, ◌++◌, ◌∷◌, [], List, length, sym, subst, ◌+◌}
+use Rattle.std.proofs.Common.{◌≡◌, ℕ, ap, ◌∙◌, ◌++◌, ◌∷◌, [], List, length, sym, subst, ◌+◌}
 use Rattle.std.proofs.lemmas.List.{length_push}
 use Rattle.std.specs.Prelude.{Contains}
 use Rattle.std.specs.declared.alloc.Global.{Global}
@@ -18,4 +18,7 @@ invariant_of-self-2 c =
     let many = ap (λ (l : List (Producer Urc Global AnyItems)). length l) lines ∙ length_push c.self.inside.lines.items c.in_ok-producer.producer ∙ ap (λ n. n + 1) i.4
     ∙ sym (ap (λ (l : List UrcKind). length l) kinds ∙ length_push c.self.inside.kinds.items c.args.kind) in
     let new = subst (λ (ks : List UrcKind). ¬ Contains ks c.args.kind) (ap (λ (d : DriverView). d.desk.kinds) (sym c.self.view_is)) c.requires in
-    (i.0, i.1, i.2, i.3, many, subst EachOnce (sym kinds) (once_more c.self.inside.kinds.items c.args.kind i.5 new))
+    let counts : length c.push-3.new.self.items ≡ length c.push-2.new.self.items =
+    ap (λ (l : List ℕ). length l) (c.in_ok-push-3.ensures.items ∙ ap (λ (l : List ℕ). l ++ 0 ∷ []) c.try_reserve-2.ensures.items) ∙ length_push c.self.inside.lines_back.items 0 ∙ ap (λ n. n + 1) i.8
+    ∙ sym (ap (λ (l : List UrcKind). length l) kinds ∙ length_push c.self.inside.kinds.items c.args.kind) in
+    (i.0, i.1, i.2, i.3, many, subst EachOnce (sym kinds) (once_more c.self.inside.kinds.items c.args.kind i.5 new), i.6, i.7, counts)

@@ -1,10 +1,10 @@
-use Rattle.std.proofs.Common.{rules, ◌≡◌, sym, ap, ◌∙◌, ◌<◌, List, length, map, get_or, subst, arith}
+use Rattle.std.proofs.Common.{rules, ℕ, ◌≡◌, sym, ap, ◌∙◌, ◌<◌, List, length, map, get_or, subst, arith}
 use mathlib.Core.Option.{some}
 use lib.ListN.{get_elem?}
 use Rattle.at_text.specs.declared.unsolicited.UrcKind.{UrcKind}
-use Rattle.modem_desk.specs.Ends.{DriverView, DeskId, RingId, FallsByOne, RunsOut, Hears, ring_of_producer, EachOnce}
+use Rattle.modem_desk.specs.Ends.{Changes, DriverView, DeskId, RingId, FallsByOne, RunsOut, RisesByOne, Hears, ring_of_producer, EachOnce}
 use Rattle.modem_desk.proofs.desk_places.DriverRings.{same_rings, sent_appends, sent_same, free_at, free_changes}
-use Rattle.modem_desk.proofs.desk_places.KindPlaces.{or_at, one_place, announces}
+use Rattle.modem_desk.proofs.desk_places.KindPlaces.{or_at, one_place, announces, changes_where}
 use Rattle.modem_desk.proofs.driver.DriverEnd.announce.Goals as goal
 
 pub index_mut-ring-requires : goal.index_mut-ring-requires
@@ -68,3 +68,17 @@ returns-clause-fits c k at room =
     let e = free_at c.self.inside.lines.items c.place_in-place.result c.index_mut-ring.result.now c.args.self.now.free_lines lt c.index_mut-ring.ensures.value (ap (λ (v : DriverView). v.free_lines) c.self.view_is) in
     let same = one_place c.args.self.now.desk.kinds k c.place_in-place.result c.args.line.kind once at here in
     c.in-Err.ensures.succeeds (subst (λ n. 0 < n) (ap (λ j. get_or c.args.self.now.free_lines j 0) same ∙ sym e) room)
+
+pub count_one-requires : goal.count_one-requires
+count_one-requires c =
+    let lt = (or_at c.deref.result.now c.place_in-place.result c.args.line.kind c.args.line.kind c.place_in-place.ensures).0 in
+    let e = c.deref.ensures.len in let same = c.self.invariant.8 in omega arith
+
+pub returns-clause-back_counted : goal.returns-clause-back_counted
+returns-clause-back_counted c =
+    let kinds : c.deref.result.now ≡ c.args.self.now.desk.kinds = c.deref.ensures.value ∙ ap (λ (v : DriverView). v.desk.kinds) c.self.view_is in
+    let here : get_elem? c.args.self.now.desk.kinds c.place_in-place.result ≡ some c.args.line.kind = subst (λ (ks : List UrcKind). get_elem? ks c.place_in-place.result ≡ some c.args.line.kind) kinds c.place_in-place.ensures in
+    let once = subst EachOnce (ap (λ (v : DriverView). v.desk.kinds) c.self.view_is) c.self.invariant.5 in
+    subst (λ (l : List ℕ). Changes (Hears c.args.self.now.desk.kinds c.args.line.kind) RisesByOne l c.count_one.new.counts.items) (ap (λ (v : DriverView). v.announced_back) c.self.view_is)
+    (changes_where (Hears c.args.self.now.desk.kinds c.args.line.kind) RisesByOne c.place_in-place.result c.self.inside.lines_back.items c.count_one.new.counts.items
+    (λ k at. one_place c.args.self.now.desk.kinds k c.place_in-place.result c.args.line.kind once at here) here c.count_one.ensures.changes)

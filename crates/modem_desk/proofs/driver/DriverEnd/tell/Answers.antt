@@ -1,6 +1,7 @@
-use Rattle.std.proofs.Common.{rules, ◌≡◌, refl, ap, ◌∙◌, ◌<◌, List, length, map, subst, sym}
+use Rattle.std.proofs.Common.{rules, ℕ, arith, ◌≡◌, refl, ap, ◌∙◌, ◌<◌, List, length, map, subst, sym}
 use Rattle.std.proofs.lemmas.List.{length-map}
-use Rattle.modem_desk.specs.Ends.{DriverView, DeskId, RingId, FallsByOne, RunsOut, ring_of_producer}
+use Rattle.modem_desk.specs.declared.request.Outcome.{Outcome}
+use Rattle.modem_desk.specs.Ends.{DriverView, DeskId, RingId, FallsByOne, RisesByOne, RunsOut, Changes, ring_of_producer}
 use Rattle.modem_desk.proofs.desk_places.DriverRings.{same_rings, sent_appends, sent_same, free_at, free_changes}
 use Rattle.modem_desk.proofs.driver.DriverEnd.tell.Goals as goal
 
@@ -43,3 +44,13 @@ returns-clause-fits c room =
     let lt : c.args.outcome.caller < length c.self.inside.rings.items = subst (λ n. c.args.outcome.caller < n) (ap (λ (v : DriverView). length v.desk.rings) (sym c.self.view_is) ∙ length-map c.self.inside.rings.items _) c.requires in
     let e = free_at c.self.inside.rings.items c.args.outcome.caller c.index_mut-ring.result.now c.args.self.now.free lt c.index_mut-ring.ensures.value (ap (λ (v : DriverView). v.free) c.self.view_is) in
     c.in-Err.ensures.succeeds (subst (λ n. 0 < n) (sym e) room)
+
+pub count_one-requires : goal.count_one-requires
+count_one-requires c =
+    let lt : c.args.outcome.caller < length c.self.inside.rings.items = subst (λ n. c.args.outcome.caller < n) (ap (λ (v : DriverView). length v.desk.rings) (sym c.self.view_is) ∙ length-map c.self.inside.rings.items _) c.requires in
+    let same = c.self.invariant.7 in
+    omega arith
+
+pub returns-clause-back_counted : goal.returns-clause-back_counted
+returns-clause-back_counted c =
+    subst (λ (l : List ℕ). Changes (λ k. k ≡ c.args.outcome.caller) RisesByOne l c.count_one.new.counts.items) (ap (λ (v : DriverView). v.told_back) c.self.view_is) c.count_one.ensures.changes

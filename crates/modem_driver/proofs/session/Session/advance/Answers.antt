@@ -1,18 +1,27 @@
 -- The end that a poll gave.
 use Rattle.std.proofs.Common.{◌∙◌, sym}
 use Rattle.modem_driver.specs.SessionStates.{line_by}
-use Rattle.modem_driver.proofs.sessions.Polls.{gives_end, given_is, goes_none}
+use Rattle.modem_driver.proofs.sessions.Polls.{ended_says, given_is, gives_now, gives_some, goes_none, polls_again, polls_on}
 use Rattle.modem_driver.proofs.sessions.TakenRequests.{takes_none}
 use Rattle.modem_driver.proofs.session.Session.advance.Goals as goal
 
 pub returns-in-Some-clause-goes : goal.returns-in-Some-clause-goes
-returns-in-Some-clause-goes g c = goes_none (line_by g.L.SerialLine.received g.L.SerialLine.sent g.L.SerialLine.calls g.L.SerialLine.failures) c.args.self.now
+returns-in-Some-clause-goes g c = goes_none (line_by g.L.SerialLine.received g.L.SerialLine.sent g.L.SerialLine.calls g.L.SerialLine.failures g.L.SerialLine.empty_reads g.L.SerialLine.stalled_writes) c.args.self.now
 
 pub returns-in-Some-clause-gives : goal.returns-in-Some-clause-gives
 returns-in-Some-clause-gives g c =
-    let look = line_by g.L.SerialLine.received g.L.SerialLine.sent g.L.SerialLine.calls g.L.SerialLine.failures in
+    let look = line_by g.L.SerialLine.received g.L.SerialLine.sent g.L.SerialLine.calls g.L.SerialLine.failures g.L.SerialLine.empty_reads g.L.SerialLine.stalled_writes in
     let s = c.args.self.now in
-    gives_end look s s c.in-Some.end (goes_none look s) (given_is s.kept.course c.in-Some.end (sym c.end.ensures ∙ c.in-Some.is))
+    let end = c.in-Some.end in
+    let kept = given_is s.kept.course end (sym c.end.ensures ∙ c.in-Some.is) in
+    gives_now look s s end (polls_again look s end kept) (goes_none look s) (ended_says look s end kept)
+
+pub returns-in-None-clause-gives : goal.returns-in-None-clause-gives
+returns-in-None-clause-gives g c =
+    let look = line_by g.L.SerialLine.received g.L.SerialLine.sent g.L.SerialLine.calls g.L.SerialLine.failures g.L.SerialLine.empty_reads g.L.SerialLine.stalled_writes in
+    let old = c.args.self.now in
+    let new = c.run.new.self in
+    gives_some look old new c.run.result (polls_on look old new c.run.result (sym c.end.ensures ∙ c.in-None.is) c.run.ensures.polls) c.run.ensures.goes c.run.ensures.says
 
 pub returns-in-Some-clause-takes : goal.returns-in-Some-clause-takes
 returns-in-Some-clause-takes g c = takes_none c.args.self.now.driver

@@ -5,5 +5,5 @@ use Rattle.modem_driver.proofs.session.Session.new.Goals as goal
 
 pub returns-in-Ok-clause-begins : goal.returns-in-Ok-clause-begins
 returns-in-Ok-clause-begins g c =
-    let l = line_by g.L.SerialLine.received g.L.SerialLine.sent g.L.SerialLine.calls g.L.SerialLine.failures c.args.line in
+    let l = line_by g.L.SerialLine.received g.L.SerialLine.sent g.L.SerialLine.calls g.L.SerialLine.failures g.L.SerialLine.empty_reads g.L.SerialLine.stalled_writes c.args.line in
     begins_over c.args.n1 c.in-Ok.kept.core.kinds c.in-Ok.kept l c.args.driver c.in-Ok.ensures.fresh (c.in-Ok.ensures.begins l)

@@ -5,8 +5,8 @@ use Rattle.modem_driver.specs.declared.session.ending.Ended.{Ended}
 use Rattle.modem_driver.specs.declared.session.ending.Ended.TheVariants.{Stopped}
 use Rattle.modem_driver.specs.declared.session.error.SessionFault.{SessionFault}
 use Rattle.modem_driver.specs.SessionStates.{SessionState, TakesMore, line_by}
-use Rattle.modem_driver.specs.Polls.{SessionGoesOn, has_ended, with_end}
-use Rattle.modem_driver.proofs.sessions.Polls.{ends_failing, ends_stopped, gives_end, gives_failing, goes_then}
+use Rattle.modem_driver.specs.Polls.{SaysEnd, SessionGoesOn, has_ended, with_end}
+use Rattle.modem_driver.proofs.sessions.Polls.{ended_says, ends_failing, ends_stopped, failing_says, goes_then}
 use Rattle.modem_driver.proofs.session.Session.run.Goals as goal
 
 pub returns-then-not-has_ended-clause-polls : goal.returns-then-not-has_ended-clause-polls
@@ -23,21 +23,20 @@ returns-else-not-has_ended-clause-polls g c =
 
 pub returns-else-not-has_ended-clause-goes : goal.returns-else-not-has_ended-clause-goes
 returns-else-not-has_ended-clause-goes g c =
-    let look = line_by g.L.SerialLine.received g.L.SerialLine.sent g.L.SerialLine.calls g.L.SerialLine.failures in
+    let look = line_by g.L.SerialLine.received g.L.SerialLine.sent g.L.SerialLine.calls g.L.SerialLine.failures g.L.SerialLine.empty_reads g.L.SerialLine.stalled_writes in
     let mid = c.turns.new.self in
     let ended : has_ended mid.kept ≡ true = sym c.has_ended.ensures ∙ c.if-not-has_ended.false in
     subst (SessionGoesOn look c.args.self.now) (sym c.keep_end.ensures) (goes_then look c.args.self.now mid (with_end (Ok Stopped) mid) c.in-Ok.ensures.goes (ends_stopped look mid ended))
 
-pub returns-else-not-has_ended-clause-gives : goal.returns-else-not-has_ended-clause-gives
-returns-else-not-has_ended-clause-gives g c =
-    let look = line_by g.L.SerialLine.received g.L.SerialLine.sent g.L.SerialLine.calls g.L.SerialLine.failures in
+pub returns-else-not-has_ended-clause-says : goal.returns-else-not-has_ended-clause-says
+returns-else-not-has_ended-clause-says g c =
+    let look = line_by g.L.SerialLine.received g.L.SerialLine.sent g.L.SerialLine.calls g.L.SerialLine.failures g.L.SerialLine.empty_reads g.L.SerialLine.stalled_writes in
     let mid = c.turns.new.self in
-    let ended : has_ended mid.kept ≡ true = sym c.has_ended.ensures ∙ c.if-not-has_ended.false in
-    gives_end look c.args.self.now (with_end (Ok Stopped) mid) (Ok Stopped) (goes_then look c.args.self.now mid (with_end (Ok Stopped) mid) c.in-Ok.ensures.goes (ends_stopped look mid ended)) refl
+    subst (λ (s : SessionState g.row.L.Denot). SaysEnd look s (Ok Stopped)) (sym c.keep_end.ensures) (ended_says look (with_end (Ok Stopped) mid) (Ok Stopped) refl)
 
 pub returns-in-Err : goal.returns-in-Err
 returns-in-Err g c =
-    let look = line_by g.L.SerialLine.received g.L.SerialLine.sent g.L.SerialLine.calls g.L.SerialLine.failures in
+    let look = line_by g.L.SerialLine.received g.L.SerialLine.sent g.L.SerialLine.calls g.L.SerialLine.failures g.L.SerialLine.empty_reads g.L.SerialLine.stalled_writes in
     let old = c.args.self.now in
     let mid = c.turns.new.self in
     let why = c.in-Err.why in
@@ -47,7 +46,7 @@ returns-in-Err g c =
     record {
       polls = record { mid = mid; ran = Err why; runs = c.in-Err.ensures.runs; given_is = refl; stays = kept };
       goes = subst (SessionGoesOn look old) (sym kept) goes;
-      gives = gives_failing look old mid why goes;
+      says = subst (λ (s : SessionState g.row.L.Denot). SaysEnd look s (Err why)) (sym kept) (failing_says look mid why);
       bounded = subst Few (sym kept) c.in-Err.ensures.bounded;
       takes = subst (λ (s : SessionState g.row.L.Denot). TakesMore old.driver s.driver) (sym kept) c.in-Err.ensures.takes;
     }

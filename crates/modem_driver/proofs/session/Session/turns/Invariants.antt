@@ -6,7 +6,7 @@ use Rattle.modem_driver.proofs.session.Session.turns.Given as goal
 
 abbrev pub invariant-loop : goal.invariant-loop
 invariant-loop g l =
-    let look = line_by g.L.SerialLine.received g.L.SerialLine.sent g.L.SerialLine.calls g.L.SerialLine.failures in
+    let look = line_by g.L.SerialLine.received g.L.SerialLine.sent g.L.SerialLine.calls g.L.SerialLine.failures g.L.SerialLine.empty_reads g.L.SerialLine.stalled_writes in
     record {
       goes : SessionGoesOn look l.fn.self l.self;
       moves : MovesOn look l.fn.self l.counter l.self;

@@ -10,7 +10,7 @@ use Rattle.modem_driver.proofs.session.kept.Kept.read_on.Goals as goal
 pub returns-then-not-is_empty : goal.returns-then-not-is_empty
 returns-then-not-is_empty g c =
     let k = c.self.inside in
-    let look = line_by g.L.SerialLine.received g.L.SerialLine.sent g.L.SerialLine.calls g.L.SerialLine.failures in
+    let look = line_by g.L.SerialLine.received g.L.SerialLine.sent g.L.SerialLine.calls g.L.SerialLine.failures g.L.SerialLine.empty_reads g.L.SerialLine.stalled_writes in
     let size = eqb-false (length k.input) 0 (sym c.is_empty.ensures ∙ c.if-not-is_empty.true) in
     let same : c.args.self.now.unfed ≡ k.input = ap (λ (v : Kept). v.unfed) (sym c.self.view_is) in
     reads_fed (look c.args.line.now) c.args.self.now c.feed.new.self c.feed.result (λ none. size (ap length (sym same ∙ none))) c.feed.ensures
@@ -29,7 +29,7 @@ returns-in-Ok-eq0 g c =
       faulty = k.faulty;
       course = k.course;
     } in
-    let look = line_by g.L.SerialLine.received g.L.SerialLine.sent g.L.SerialLine.calls g.L.SerialLine.failures in
+    let look = line_by g.L.SerialLine.received g.L.SerialLine.sent g.L.SerialLine.calls g.L.SerialLine.failures g.L.SerialLine.empty_reads g.L.SerialLine.stalled_writes in
     let l = look c.args.line.now in
     let m = look c.read.new.line in
     let e = c.in-Ok-eq0.ensures in
@@ -53,7 +53,7 @@ returns-in-Ok g c =
       faulty = k.faulty;
       course = k.course;
     } in
-    let look = line_by g.L.SerialLine.received g.L.SerialLine.sent g.L.SerialLine.calls g.L.SerialLine.failures in
+    let look = line_by g.L.SerialLine.received g.L.SerialLine.sent g.L.SerialLine.calls g.L.SerialLine.failures g.L.SerialLine.empty_reads g.L.SerialLine.stalled_writes in
     let l = look c.args.line.now in
     let m = look c.read.new.line in
     let e = c.in-Ok.ensures in
@@ -79,7 +79,7 @@ returns-in-Err g c =
       faulty = k.faulty;
       course = k.course;
     } in
-    let look = line_by g.L.SerialLine.received g.L.SerialLine.sent g.L.SerialLine.calls g.L.SerialLine.failures in
+    let look = line_by g.L.SerialLine.received g.L.SerialLine.sent g.L.SerialLine.calls g.L.SerialLine.failures g.L.SerialLine.empty_reads g.L.SerialLine.stalled_writes in
     let l = look c.args.line.now in
     let m = look c.read.new.line in
     let e = c.in-Err.ensures in

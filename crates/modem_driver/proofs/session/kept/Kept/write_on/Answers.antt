@@ -10,7 +10,7 @@ use Rattle.modem_driver.proofs.session.kept.Kept.write_on.Goals as goal
 pub returns-then-is_empty : goal.returns-then-is_empty
 returns-then-is_empty g c =
     let k = c.self.inside in
-    let look = line_by g.L.SerialLine.received g.L.SerialLine.sent g.L.SerialLine.calls g.L.SerialLine.failures in
+    let look = line_by g.L.SerialLine.received g.L.SerialLine.sent g.L.SerialLine.calls g.L.SerialLine.failures g.L.SerialLine.empty_reads g.L.SerialLine.stalled_writes in
     let none : k.output ≡ [] = nil_from_length k.output (eqb-true (length k.output) 0 (sym c.is_empty.ensures ∙ c.if-is_empty.true)) in
     writes_none (look c.args.line.now) c.args.self.now (ap (λ (v : Kept). v.unwritten) (sym c.self.view_is) ∙ none)
 
@@ -28,7 +28,7 @@ returns-in-Ok g c =
       faulty = k.faulty;
       course = k.course;
     } in
-    let look = line_by g.L.SerialLine.received g.L.SerialLine.sent g.L.SerialLine.calls g.L.SerialLine.failures in
+    let look = line_by g.L.SerialLine.received g.L.SerialLine.sent g.L.SerialLine.calls g.L.SerialLine.failures g.L.SerialLine.empty_reads g.L.SerialLine.stalled_writes in
     let l = look c.args.line.now in
     let m = look c.try_write.new.self in
     let e = c.in-Ok.ensures in
@@ -53,7 +53,7 @@ returns-in-Err g c =
       faulty = k.faulty;
       course = k.course;
     } in
-    let look = line_by g.L.SerialLine.received g.L.SerialLine.sent g.L.SerialLine.calls g.L.SerialLine.failures in
+    let look = line_by g.L.SerialLine.received g.L.SerialLine.sent g.L.SerialLine.calls g.L.SerialLine.failures g.L.SerialLine.empty_reads g.L.SerialLine.stalled_writes in
     let l = look c.args.line.now in
     let m = look c.try_write.new.self in
     let e = c.in-Err.ensures in

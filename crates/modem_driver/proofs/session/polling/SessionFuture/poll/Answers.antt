@@ -12,8 +12,8 @@ use Rattle.modem_driver.proofs.session.polling.SessionFuture.poll.Goals as goal
 
 pub returns-in-None-clause-same : goal.returns-in-None-clause-same
 returns-in-None-clause-same g c =
-    let look = line_by g.L.SerialLine.received g.L.SerialLine.sent g.L.SerialLine.calls g.L.SerialLine.failures in
+    let look = line_by g.L.SerialLine.received g.L.SerialLine.sent g.L.SerialLine.calls g.L.SerialLine.failures g.L.SerialLine.empty_reads g.L.SerialLine.stalled_writes in
     let old = c.args.self.now in
     let new = c.advance.new.self in
     let Before : Type 0 = (end : Result Ended SessionFault) → Gives look new end → Gives look old end in
-    subst (λ (r : Poll (Result Ended SessionFault)). OnPending r Before) (sym c.yield_now.ensures.pending) (λ end h. gives_before look old new end c.in-None.ensures.goes h)
+    subst (λ (r : Poll (Result Ended SessionFault)). OnPending r Before) (sym c.yield_now.ensures.pending) (λ end h. gives_before look old new end c.in-None.ensures.polls c.in-None.ensures.goes h)

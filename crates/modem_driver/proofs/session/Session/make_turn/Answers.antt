@@ -8,58 +8,58 @@ use Rattle.modem_driver.proofs.sessions.TurnMeanings.{goes_turn}
 use Rattle.modem_driver.proofs.sessions.TurnEnds.{all_turned, failed_before, lost_at_first, faulty_at_first, lost_first, lost_writing, lost_reading, checks_in_vain, gets_in_vain, takes_in_vain, all_or}
 use Rattle.modem_driver.proofs.sessions.FullRings.{none_free}
 use Rattle.modem_driver.proofs.sessions.TakenRequests.{kept_one, lost_driver, part_driver, read_driver, took_none, took_one, wrote_driver}
-use Rattle.modem_driver.proofs.session.Session.turn.Goals as goal
+use Rattle.modem_driver.proofs.session.Session.make_turn.Goals as goal
 
 pub returns-then-is_lost-clause-faults : goal.returns-then-is_lost-clause-faults
 unfolding Faults
 returns-then-is_lost-clause-faults g c =
-    let look = line_by g.L.SerialLine.received g.L.SerialLine.sent g.L.SerialLine.calls g.L.SerialLine.failures in
+    let look = line_by g.L.SerialLine.received g.L.SerialLine.sent g.L.SerialLine.calls g.L.SerialLine.failures g.L.SerialLine.empty_reads g.L.SerialLine.stalled_writes in
     let p = c.place-placed.ensures in
     (failed_before p (lost_at_first true p (sym c.is_lost.ensures ∙ c.if-is_lost.true))).fault
 
 pub returns-then-is_lost-clause-turned : goal.returns-then-is_lost-clause-turned
 returns-then-is_lost-clause-turned g c =
-    let look = line_by g.L.SerialLine.received g.L.SerialLine.sent g.L.SerialLine.calls g.L.SerialLine.failures in
+    let look = line_by g.L.SerialLine.received g.L.SerialLine.sent g.L.SerialLine.calls g.L.SerialLine.failures g.L.SerialLine.empty_reads g.L.SerialLine.stalled_writes in
     let p = c.place-placed.ensures in
     (failed_before p (lost_at_first true p (sym c.is_lost.ensures ∙ c.if-is_lost.true))).turned
 
 pub returns-then-is_faulty-clause-faults : goal.returns-then-is_faulty-clause-faults
 unfolding Faults
 returns-then-is_faulty-clause-faults g c =
-    let look = line_by g.L.SerialLine.received g.L.SerialLine.sent g.L.SerialLine.calls g.L.SerialLine.failures in
+    let look = line_by g.L.SerialLine.received g.L.SerialLine.sent g.L.SerialLine.calls g.L.SerialLine.failures g.L.SerialLine.empty_reads g.L.SerialLine.stalled_writes in
     let p = c.place-placed.ensures in
     (lost_first c.lose_line.result (standing_of look c.lose_line.new.self) p c.lose_line.ensures.loses (lost_at_first false p (sym c.is_lost.ensures ∙ c.if-is_lost.false))).fault
 
 pub returns-then-is_faulty-clause-turned : goal.returns-then-is_faulty-clause-turned
 returns-then-is_faulty-clause-turned g c =
-    let look = line_by g.L.SerialLine.received g.L.SerialLine.sent g.L.SerialLine.calls g.L.SerialLine.failures in
+    let look = line_by g.L.SerialLine.received g.L.SerialLine.sent g.L.SerialLine.calls g.L.SerialLine.failures g.L.SerialLine.empty_reads g.L.SerialLine.stalled_writes in
     let p = c.place-placed.ensures in
     (lost_first c.lose_line.result (standing_of look c.lose_line.new.self) p c.lose_line.ensures.loses (lost_at_first false p (sym c.is_lost.ensures ∙ c.if-is_lost.false))).turned
 
 pub returns-in_default-clause-faults : goal.returns-in_default-clause-faults
 unfolding Faults
 returns-in_default-clause-faults g c =
-    let look = line_by g.L.SerialLine.received g.L.SerialLine.sent g.L.SerialLine.calls g.L.SerialLine.failures in
+    let look = line_by g.L.SerialLine.received g.L.SerialLine.sent g.L.SerialLine.calls g.L.SerialLine.failures g.L.SerialLine.empty_reads g.L.SerialLine.stalled_writes in
     let p = c.place-placed.ensures in
     (checks_in_vain (standing_of look c.check_backlogs.new.self) p c.in_default.ensures.part (faulty_at_first false p (sym c.is_faulty.ensures ∙ c.if-is_faulty.false)) (lost_at_first false p (sym c.is_lost.ensures ∙ c.if-is_lost.false))).fault
 
 pub returns-in_default-clause-turned : goal.returns-in_default-clause-turned
 returns-in_default-clause-turned g c =
-    let look = line_by g.L.SerialLine.received g.L.SerialLine.sent g.L.SerialLine.calls g.L.SerialLine.failures in
+    let look = line_by g.L.SerialLine.received g.L.SerialLine.sent g.L.SerialLine.calls g.L.SerialLine.failures g.L.SerialLine.empty_reads g.L.SerialLine.stalled_writes in
     let p = c.place-placed.ensures in
     (checks_in_vain (standing_of look c.check_backlogs.new.self) p c.in_default.ensures.part (faulty_at_first false p (sym c.is_faulty.ensures ∙ c.if-is_faulty.false)) (lost_at_first false p (sym c.is_lost.ensures ∙ c.if-is_lost.false))).turned
 
 pub returns-then-is_faulty-2-clause-faults : goal.returns-then-is_faulty-2-clause-faults
 unfolding Faults
 returns-then-is_faulty-2-clause-faults g c =
-    let look = line_by g.L.SerialLine.received g.L.SerialLine.sent g.L.SerialLine.calls g.L.SerialLine.failures in
+    let look = line_by g.L.SerialLine.received g.L.SerialLine.sent g.L.SerialLine.calls g.L.SerialLine.failures g.L.SerialLine.empty_reads g.L.SerialLine.stalled_writes in
     let p = c.place-placed.ensures in
     let end = c.lose_line-then-is_faulty-2 in
     (lost_writing end.result (standing_of look end.new.self) p c.in-Ok.ensures.checks c.send_on-sent.ensures c.write_on-wrote.ensures end.ensures.loses (faulty_at_first false p (sym c.is_faulty.ensures ∙ c.if-is_faulty.false)) (lost_at_first false p (sym c.is_lost.ensures ∙ c.if-is_lost.false))).fault
 
 pub returns-then-is_faulty-2-clause-turned : goal.returns-then-is_faulty-2-clause-turned
 returns-then-is_faulty-2-clause-turned g c =
-    let look = line_by g.L.SerialLine.received g.L.SerialLine.sent g.L.SerialLine.calls g.L.SerialLine.failures in
+    let look = line_by g.L.SerialLine.received g.L.SerialLine.sent g.L.SerialLine.calls g.L.SerialLine.failures g.L.SerialLine.empty_reads g.L.SerialLine.stalled_writes in
     let p = c.place-placed.ensures in
     let end = c.lose_line-then-is_faulty-2 in
     (lost_writing end.result (standing_of look end.new.self) p c.in-Ok.ensures.checks c.send_on-sent.ensures c.write_on-wrote.ensures end.ensures.loses (faulty_at_first false p (sym c.is_faulty.ensures ∙ c.if-is_faulty.false)) (lost_at_first false p (sym c.is_lost.ensures ∙ c.if-is_lost.false))).turned
@@ -67,27 +67,27 @@ returns-then-is_faulty-2-clause-turned g c =
 pub returns-in_default-get_one-clause-faults : goal.returns-in_default-get_one-clause-faults
 unfolding Faults
 returns-in_default-get_one-clause-faults g c =
-    let look = line_by g.L.SerialLine.received g.L.SerialLine.sent g.L.SerialLine.calls g.L.SerialLine.failures in
+    let look = line_by g.L.SerialLine.received g.L.SerialLine.sent g.L.SerialLine.calls g.L.SerialLine.failures g.L.SerialLine.empty_reads g.L.SerialLine.stalled_writes in
     let p = c.place-placed.ensures in
     (gets_in_vain (standing_of look c.get_one.new.self) p c.in-Ok.ensures.checks c.send_on-sent.ensures c.write_on-wrote.ensures (ap (standing_of look) c.in_default-get_one.ensures.err) (faulty_at_first false p (sym c.is_faulty.ensures ∙ c.if-is_faulty.false)) (lost_at_first false p (sym c.is_lost.ensures ∙ c.if-is_lost.false))).fault
 
 pub returns-in_default-get_one-clause-turned : goal.returns-in_default-get_one-clause-turned
 returns-in_default-get_one-clause-turned g c =
-    let look = line_by g.L.SerialLine.received g.L.SerialLine.sent g.L.SerialLine.calls g.L.SerialLine.failures in
+    let look = line_by g.L.SerialLine.received g.L.SerialLine.sent g.L.SerialLine.calls g.L.SerialLine.failures g.L.SerialLine.empty_reads g.L.SerialLine.stalled_writes in
     let p = c.place-placed.ensures in
     (gets_in_vain (standing_of look c.get_one.new.self) p c.in-Ok.ensures.checks c.send_on-sent.ensures c.write_on-wrote.ensures (ap (standing_of look) c.in_default-get_one.ensures.err) (faulty_at_first false p (sym c.is_faulty.ensures ∙ c.if-is_faulty.false)) (lost_at_first false p (sym c.is_lost.ensures ∙ c.if-is_lost.false))).turned
 
 pub returns-then-is_faulty-3-clause-faults : goal.returns-then-is_faulty-3-clause-faults
 unfolding Faults
 returns-then-is_faulty-3-clause-faults g c =
-    let look = line_by g.L.SerialLine.received g.L.SerialLine.sent g.L.SerialLine.calls g.L.SerialLine.failures in
+    let look = line_by g.L.SerialLine.received g.L.SerialLine.sent g.L.SerialLine.calls g.L.SerialLine.failures g.L.SerialLine.empty_reads g.L.SerialLine.stalled_writes in
     let p = c.place-placed.ensures in
     let end = c.lose_line-then-is_faulty-3 in
     (lost_reading end.result (standing_of look end.new.self) p c.in-Ok.ensures.checks c.send_on-sent.ensures c.write_on-wrote.ensures c.in-Ok-get_one.ensures.gets c.read_on-read.ensures end.ensures.loses (faulty_at_first false p (sym c.is_faulty.ensures ∙ c.if-is_faulty.false)) (lost_at_first false p (sym c.is_lost.ensures ∙ c.if-is_lost.false))).fault
 
 pub returns-then-is_faulty-3-clause-turned : goal.returns-then-is_faulty-3-clause-turned
 returns-then-is_faulty-3-clause-turned g c =
-    let look = line_by g.L.SerialLine.received g.L.SerialLine.sent g.L.SerialLine.calls g.L.SerialLine.failures in
+    let look = line_by g.L.SerialLine.received g.L.SerialLine.sent g.L.SerialLine.calls g.L.SerialLine.failures g.L.SerialLine.empty_reads g.L.SerialLine.stalled_writes in
     let p = c.place-placed.ensures in
     let end = c.lose_line-then-is_faulty-3 in
     (lost_reading end.result (standing_of look end.new.self) p c.in-Ok.ensures.checks c.send_on-sent.ensures c.write_on-wrote.ensures c.in-Ok-get_one.ensures.gets c.read_on-read.ensures end.ensures.loses (faulty_at_first false p (sym c.is_faulty.ensures ∙ c.if-is_faulty.false)) (lost_at_first false p (sym c.is_lost.ensures ∙ c.if-is_lost.false))).turned
@@ -95,13 +95,13 @@ returns-then-is_faulty-3-clause-turned g c =
 pub returns-in_default-take_one-clause-faults : goal.returns-in_default-take_one-clause-faults
 unfolding Faults
 returns-in_default-take_one-clause-faults g c =
-    let look = line_by g.L.SerialLine.received g.L.SerialLine.sent g.L.SerialLine.calls g.L.SerialLine.failures in
+    let look = line_by g.L.SerialLine.received g.L.SerialLine.sent g.L.SerialLine.calls g.L.SerialLine.failures g.L.SerialLine.empty_reads g.L.SerialLine.stalled_writes in
     let p = c.place-placed.ensures in
     (takes_in_vain (standing_of look c.take_one.new.self) p c.in-Ok.ensures.checks c.send_on-sent.ensures c.write_on-wrote.ensures c.in-Ok-get_one.ensures.gets c.read_on-read.ensures c.in_default-take_one.ensures.keeps (faulty_at_first false p (sym c.is_faulty.ensures ∙ c.if-is_faulty.false)) (lost_at_first false p (sym c.is_lost.ensures ∙ c.if-is_lost.false))).fault
 
 pub returns-in_default-take_one-clause-turned : goal.returns-in_default-take_one-clause-turned
 returns-in_default-take_one-clause-turned g c =
-    let look = line_by g.L.SerialLine.received g.L.SerialLine.sent g.L.SerialLine.calls g.L.SerialLine.failures in
+    let look = line_by g.L.SerialLine.received g.L.SerialLine.sent g.L.SerialLine.calls g.L.SerialLine.failures g.L.SerialLine.empty_reads g.L.SerialLine.stalled_writes in
     let p = c.place-placed.ensures in
     (takes_in_vain (standing_of look c.take_one.new.self) p c.in-Ok.ensures.checks c.send_on-sent.ensures c.write_on-wrote.ensures c.in-Ok-get_one.ensures.gets c.read_on-read.ensures c.in_default-take_one.ensures.keeps (faulty_at_first false p (sym c.is_faulty.ensures ∙ c.if-is_faulty.false)) (lost_at_first false p (sym c.is_lost.ensures ∙ c.if-is_lost.false))).turned
 
@@ -131,49 +131,49 @@ returns-clause-turned g c =
 
 pub returns-then-is_lost-clause-takes : goal.returns-then-is_lost-clause-takes
 returns-then-is_lost-clause-takes g c =
-    let look = line_by g.L.SerialLine.received g.L.SerialLine.sent g.L.SerialLine.calls g.L.SerialLine.failures in
+    let look = line_by g.L.SerialLine.received g.L.SerialLine.sent g.L.SerialLine.calls g.L.SerialLine.failures g.L.SerialLine.empty_reads g.L.SerialLine.stalled_writes in
     took_none (standing_of look c.place-placed.new.self) c.place-placed.ensures refl
 
 pub returns-then-is_faulty-clause-takes : goal.returns-then-is_faulty-clause-takes
 returns-then-is_faulty-clause-takes g c =
-    let look = line_by g.L.SerialLine.received g.L.SerialLine.sent g.L.SerialLine.calls g.L.SerialLine.failures in
+    let look = line_by g.L.SerialLine.received g.L.SerialLine.sent g.L.SerialLine.calls g.L.SerialLine.failures g.L.SerialLine.empty_reads g.L.SerialLine.stalled_writes in
     let s = standing_of look c.lose_line.new.self in
     took_none s c.place-placed.ensures (lost_driver c.lose_line.result (standing_of look c.place-placed.new.self) s c.lose_line.ensures.loses)
 
 pub returns-in_default-clause-takes : goal.returns-in_default-clause-takes
 returns-in_default-clause-takes g c =
-    let look = line_by g.L.SerialLine.received g.L.SerialLine.sent g.L.SerialLine.calls g.L.SerialLine.failures in
+    let look = line_by g.L.SerialLine.received g.L.SerialLine.sent g.L.SerialLine.calls g.L.SerialLine.failures g.L.SerialLine.empty_reads g.L.SerialLine.stalled_writes in
     took_none (standing_of look c.check_backlogs.new.self) c.place-placed.ensures (part_driver c.in_default.ensures.part)
 
 pub returns-then-is_faulty-2-clause-takes : goal.returns-then-is_faulty-2-clause-takes
 returns-then-is_faulty-2-clause-takes g c =
-    let look = line_by g.L.SerialLine.received g.L.SerialLine.sent g.L.SerialLine.calls g.L.SerialLine.failures in
+    let look = line_by g.L.SerialLine.received g.L.SerialLine.sent g.L.SerialLine.calls g.L.SerialLine.failures g.L.SerialLine.empty_reads g.L.SerialLine.stalled_writes in
     let end = c.lose_line-then-is_faulty-2 in
     let s = standing_of look end.new.self in
     took_none s c.place-placed.ensures (lost_driver end.result (standing_of look c.write_on-wrote.new.self) s end.ensures.loses ∙ wrote_driver c.in-Ok.ensures.checks c.send_on-sent.ensures c.write_on-wrote.ensures)
 
 pub returns-in_default-get_one-clause-takes : goal.returns-in_default-get_one-clause-takes
 returns-in_default-get_one-clause-takes g c =
-    let look = line_by g.L.SerialLine.received g.L.SerialLine.sent g.L.SerialLine.calls g.L.SerialLine.failures in
+    let look = line_by g.L.SerialLine.received g.L.SerialLine.sent g.L.SerialLine.calls g.L.SerialLine.failures g.L.SerialLine.empty_reads g.L.SerialLine.stalled_writes in
     let s = standing_of look c.get_one.new.self in
     took_none s c.place-placed.ensures (ap (λ (x : TurnState). x.driver) (ap (standing_of look) c.in_default-get_one.ensures.err) ∙ wrote_driver c.in-Ok.ensures.checks c.send_on-sent.ensures c.write_on-wrote.ensures)
 
 pub returns-then-is_faulty-3-clause-takes : goal.returns-then-is_faulty-3-clause-takes
 returns-then-is_faulty-3-clause-takes g c =
-    let look = line_by g.L.SerialLine.received g.L.SerialLine.sent g.L.SerialLine.calls g.L.SerialLine.failures in
+    let look = line_by g.L.SerialLine.received g.L.SerialLine.sent g.L.SerialLine.calls g.L.SerialLine.failures g.L.SerialLine.empty_reads g.L.SerialLine.stalled_writes in
     let end = c.lose_line-then-is_faulty-3 in
     let s = standing_of look end.new.self in
     took_none s c.place-placed.ensures (lost_driver end.result (standing_of look c.read_on-read.new.self) s end.ensures.loses ∙ read_driver c.in-Ok.ensures.checks c.send_on-sent.ensures c.write_on-wrote.ensures c.in-Ok-get_one.ensures.gets c.read_on-read.ensures)
 
 pub returns-in_default-take_one-clause-takes : goal.returns-in_default-take_one-clause-takes
 returns-in_default-take_one-clause-takes g c =
-    let look = line_by g.L.SerialLine.received g.L.SerialLine.sent g.L.SerialLine.calls g.L.SerialLine.failures in
+    let look = line_by g.L.SerialLine.received g.L.SerialLine.sent g.L.SerialLine.calls g.L.SerialLine.failures g.L.SerialLine.empty_reads g.L.SerialLine.stalled_writes in
     let s = standing_of look c.read_on-read.new.self in
     kept_one (standing_of look c.args.self.now) s (standing_of look c.take_one.new.self) (took_none s c.place-placed.ensures (read_driver c.in-Ok.ensures.checks c.send_on-sent.ensures c.write_on-wrote.ensures c.in-Ok-get_one.ensures.gets c.read_on-read.ensures)) c.in_default-take_one.ensures.keeps
 
 pub returns-clause-takes : goal.returns-clause-takes
 returns-clause-takes g c =
-    let look = line_by g.L.SerialLine.received g.L.SerialLine.sent g.L.SerialLine.calls g.L.SerialLine.failures in
+    let look = line_by g.L.SerialLine.received g.L.SerialLine.sent g.L.SerialLine.calls g.L.SerialLine.failures g.L.SerialLine.empty_reads g.L.SerialLine.stalled_writes in
     let s = standing_of look c.read_on-read.new.self in
     took_one (standing_of look c.args.self.now) s (standing_of look c.take_one.new.self) (took_none s c.place-placed.ensures (read_driver c.in-Ok.ensures.checks c.send_on-sent.ensures c.write_on-wrote.ensures c.in-Ok-get_one.ensures.gets c.read_on-read.ensures)) c.in-Ok-take_one.ensures.takes
 

@@ -1,0 +1,46 @@
+-- A session whose line is lost, and what isn't a poll of it.
+use Rattle.std.specs.Prelude.{[], ◌∷◌, true, Ok, Err}
+use Rattle.modem_desk.specs.Ends.{DeskId, DriverView}
+use Rattle.modem_history.specs.Acts.{Lost}
+use Rattle.modem_history.specs.Sessions.{LineView}
+use Rattle.modem_driver.specs.declared.session.ending.Ended.TheVariants.{Stopped}
+use Rattle.modem_driver.specs.declared.session.error.SessionFault.TheVariants as fault
+use Rattle.modem_driver.specs.SessionStates.{SessionState, FitsAll, beginning_of, new_kept}
+use Rattle.modem_driver.specs.Polls.{Gives, RunsTurns}
+
+-- a desk with this queue, without callers and listeners
+abbrev pub bare_desk : DeskId → DriverView
+bare_desk at = record {
+  desk = record at { rings = []; kinds = []; line_rings = [] };
+  taken = [];
+  told = [];
+  announced = [];
+  free = [];
+  free_lines = [];
+}
+
+-- nothing came and went, and the first call of the line failed
+abbrev pub first_line : LineView
+first_line = record { received = []; sent = []; calls = 0; failures = 0 }
+
+abbrev pub lost_session : DeskId → SessionState LineView
+lost_session at = record {
+  line = record first_line { calls = 1; failures = 1 };
+  driver = bare_desk at;
+  kept = record (new_kept 31 []) { core = record (new_kept 31 []).core { lost = true }; faulty = true };
+}
+
+-- it is one: its history is the loss
+unfoldable pub IsLostSession : Type 0
+IsLostSession =
+    (at : DeskId) → FitsAll (beginning_of 31 first_line (bare_desk at)) (λ (l : LineView). l)
+    (lost_session at) (Lost ∷ [])
+
+-- To do nothing is no poll of it, nor is it to keep its loss back; and it gives neither Stopped nor Line.
+unfoldable pub AreNoPolls : Type 0
+AreNoPolls =
+    (at : DeskId)
+    → (¬ RunsTurns (λ (l : LineView). l) (lost_session at) (lost_session at) (Ok tt))
+    × (((new : SessionState LineView) → ¬ RunsTurns (λ (l : LineView). l) (lost_session at) new (Ok tt))
+    × ((¬ Gives (λ (l : LineView). l) (lost_session at) (Ok Stopped))
+    × (¬ Gives (λ (l : LineView). l) (lost_session at) (Err fault.Line))))
