@@ -19,6 +19,7 @@ pub mod LineLoss
 pub mod RequestAside
 pub mod WholeTurns
 pub mod TurnAnswers
+pub mod EveryStep
 pub mod TurnMeanings
 pub mod TurnFaults
 pub mod LineCalls

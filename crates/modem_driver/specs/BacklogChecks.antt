@@ -1,13 +1,23 @@
 -- How a backlog is checked.
-use Rattle.std.specs.Prelude.{◌≡◌, ◌⊎◌, ℕ, Bool, true, false, List, [], None}
+use Rattle.std.specs.Prelude.{◌≡◌, ◌≢◌, ◌⊎◌, ℕ, Bool, true, false, List, [], None}
 use Rattle.std.specs.List.{list_all, list_any}
 use Rattle.modem_desk.specs.Ends.{DriverView}
-use Rattle.modem_history.specs.Acts.{Act}
+use Rattle.modem_desk.specs.declared.request.Urc.{Urc}
+use Rattle.modem_history.specs.Acts.{Act, after}
+use Rattle.modem_history.specs.EveryTurn.{is_check}
 use Rattle.modem_history.specs.Sessions.{Beginning, LineView, FitsWith, driving, gots, backlog_in}
 use Rattle.modem_history.specs.Turns.{LacksMscRoom, outcomes_told, lines_heard, may_act}
 use Rattle.modem_driver.specs.Holding.{due_by}
 use Rattle.modem_driver.specs.SessionStates.{Kept, KeptFits, KeptGoes, seen_by, end_of}
 use Rattle.modem_driver.specs.TurnSteps.{is_more}
+
+-- Of one connection: afterwards its backlog calls for nothing, or no MSC has a place. Of any other nothing
+-- changes, and where no MSC had a place none has.
+pub record SettlesOne (b : Beginning) (past acts : List Act) (d : ℕ) (lines : List Urc) : Type 0 where
+  pub here : (due_by (driving b) (after past acts) d (backlog_in d lines) ≡ None)
+      ⊎ LacksMscRoom b (after past acts)
+  pub others : (m n : ℕ) → m ≢ d → due_by (driving b) (after past acts) m n ≡ due_by (driving b) past m n
+  pub full : LacksMscRoom b past → LacksMscRoom b (after past acts)
 
 -- The connection is held or freed where its backlog calls for it. Where the control queue is empty then, it
 -- called for nothing; and where neither was done, it called for nothing, or no MSC had a place.
@@ -28,4 +38,8 @@ pub record ChecksOne (d : ℕ) (old new : Kept) (moved : Bool) : Type 0 where
       → (acts ≡ []) × ((b : Beginning) (l : LineView) (e : DriverView) (past : List Act)
       → FitsWith b (seen_by l (end_of e) old) (KeptFits b l e old) past
       → (due_by (driving b) past d (backlog_in d old.unannounced) ≡ None) ⊎ LacksMscRoom b past)
+  pub are_checks : list_all is_check acts ≡ true
+  pub flows : (b : Beginning) (l : LineView) (e : DriverView) (past : List Act)
+      → FitsWith b (seen_by l (end_of e) old) (KeptFits b l e old) past
+      → SettlesOne b past acts d old.unannounced
   pub stays : new ≡ record old { core = new.core }

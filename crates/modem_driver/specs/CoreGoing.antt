@@ -11,7 +11,7 @@ use Rattle.modem_history.specs.Acts.{Act}
 use Rattle.modem_history.specs.Information.{line_of}
 use Rattle.modem_history.specs.Calls.{Setting, first_on}
 use Rattle.modem_driver.specs.Cores.{Core, Fits, IsRun, IsSettingOf, lane_at}
-use Rattle.modem_driver.specs.GoingOut.{next_out, after_out}
+use Rattle.modem_history.specs.GoingOut.{next_out, after_out}
 
 -- a history that the core fits, and that may go on
 pub record StandsIn (s : Setting) (v : Core) (past : List Act) : Type 0 where

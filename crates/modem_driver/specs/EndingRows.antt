@@ -67,8 +67,8 @@ cld_octets = 0xF9 ∷ 0x03 ∷ 0xEF ∷ 0x05 ∷ 0xC3 ∷ 0x01 ∷ 0xF2 ∷ 0xF9
 -- so much was written since it began, and so much caller 0 was told
 abbrev pub ending : List ℕ → List Outcome → SessionView
 ending written told = record {
-  line = record { received = []; sent = entry_text ++ written; calls = 30; failures = 0 };
-  desk = record { taken = []; told = told ∷ [] ∷ []; announced = [] ∷ [] ∷ [] };
+  line = record { received = []; sent = entry_text ++ written; calls = 30; failures = 0; empty_reads = 0; stalled_writes = 0 };
+  desk = record { taken = []; told = told ∷ [] ∷ []; announced = [] ∷ [] ∷ []; found_none = 0; told_back = 0 ∷ 0 ∷ []; announced_back = 0 ∷ 0 ∷ [] };
   aside = None;
   unfed = [];
   deframer = record { n1 = 31; undecided = []; next = None };

@@ -9,7 +9,7 @@ use Rattle.modem_history.specs.Acts.{Act, Sent, Held, Freed, wire, after}
 use Rattle.modem_history.specs.Holding.{last_held, is_held}
 use Rattle.modem_history.specs.Calls.{Setting, seen, is_lost, all_have_room}
 use Rattle.modem_driver.specs.CoreGoing.{StandsIn, gone_on}
-use Rattle.modem_driver.specs.GoingOut.{after_out}
+use Rattle.modem_history.specs.GoingOut.{after_out}
 use Rattle.modem_driver.specs.Cores.{Core, Fits, IsRun, IsSettingOf, MayCome, GoesOn, lane_at}
 
 -- so many lines wait for their listener: a connection is held from 256 on, and freed below 128

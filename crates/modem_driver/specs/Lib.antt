@@ -5,7 +5,6 @@ pub mod Forks
 pub mod Cores
 pub mod CoreKeeping
 pub mod ActLists
-pub mod GoingOut
 pub mod CoreGoing
 pub mod Receiving
 pub mod Refusals

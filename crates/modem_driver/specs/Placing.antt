@@ -1,6 +1,6 @@
 -- What waits is offered to the rings of a desk, each to those of its key: an outcome by its caller, a line by
 -- its kind.
-use Rattle.std.specs.Prelude.{◌≡◌, ◌≢◌, ℕ, ◌+◌, ◌≤◌, ◌<◌, ◌==◌, ◌||◌, nat_lt, Bool, true, false, List, [], ◌∷◌, ◌++◌, length, filter, slice_index_or, Contains}
+use Rattle.std.specs.Prelude.{◌≡◌, ◌≢◌, ℕ, ◌+◌, ◌≤◌, ◌<◌, ◌==◌, ◌||◌, nat_lt, Bool, true, false, List, [], ◌∷◌, ◌++◌, length, take, filter, slice_index_or, Contains}
 use Rattle.std.specs.List.{list_all}
 use mathlib.Core.Option.{some}
 use lib.ListN.{get_elem?}
@@ -10,10 +10,18 @@ use Rattle.modem_desk.specs.declared.request.Urc.{Urc}
 use Rattle.modem_desk.specs.Ends.{DriverView, DeskId}
 use Rattle.modem_history.specs.Kinds.{kind_place}
 use Rattle.modem_history.specs.Sessions.{at_place}
-use Rattle.modem_history.specs.Turns.{amount}
+use Rattle.modem_history.specs.EveryTurn.{count_at}
+use Rattle.modem_history.specs.Turns.{amount, counted}
 
 abbrev pub of_key : {X : Type 0} → (X → ℕ) → ℕ → List X → List X
 of_key key n xs = filter (λ x. key x == n) xs
+
+-- of each ring, what it was given, how many places it is known to have free, and how often something for it was
+-- handed back
+pub record Rings (X : Type 0) : Type 0 where
+  pub given : List (List X)
+  pub free : List ℕ
+  pub back : List ℕ
 
 -- what a ring was given, and then what of its key still waits, is what of it waited
 pub record Gave {X : Type 0} (key : X → ℕ) (before now : List (List X)) (waited waits : List X)
@@ -30,51 +38,59 @@ pub data Stay {X : Type 0} (key : X → ℕ) : (waited waits : List X) → Type 
       → Stay key (x ∷ xs) (x ∷ ys)
 
 -- Each of a key that the desk knows was offered until one was handed back: its rings are full where some
--- still wait.
+-- still wait, and count the one.
 pub record Placed {X : Type 0} (key : X → ℕ) (at : ℕ → ℕ → Type 0) (known : ℕ → Type 0)
-    (before now : List (List X)) (free : List ℕ) (waited waits : List X) (moved : Bool) : Type 0 where
-  pub each : (n i : ℕ) → at n i → Gave key before now waited waits n i
+    (before now : Rings X) (waited waits : List X) (moved : Bool) : Type 0 where
+  pub each : (n i : ℕ) → at n i → Gave key before.given now.given waited waits n i
   pub in_order : Stay key waited waits
-  pub elsewhere : (i : ℕ) → ((n : ℕ) → ¬ at n i) → at_place i now ≡ at_place i before
-  pub full : (n i : ℕ) → at n i → known n → of_key key n waits ≢ [] → slice_index_or free i 0 ≡ 0
+  pub elsewhere : (i : ℕ) → ((n : ℕ) → ¬ at n i) → at_place i now.given ≡ at_place i before.given
+  pub full : (n i : ℕ) → at n i → known n → of_key key n waits ≢ [] → slice_index_or now.free i 0 ≡ 0
+  pub counts : (n i : ℕ) → at n i → known n
+      → count_at i now.back ≡ counted (count_at i before.back) (length (take 1 (of_key key n waits)))
   pub all : (p : X → Bool) → list_all p waited ≡ true → list_all p waits ≡ true
   pub fewer : length waits ≤ length waited
-  pub grows : amount before ≤ amount now
-  pub moved_is : moved ≡ nat_lt (amount before) (amount now)
+  pub grows : amount before.given ≤ amount now.given
+  pub moved_is : moved ≡ nat_lt (amount before.given) (amount now.given)
+
+-- one where something is held up
+abbrev pub one_if : Bool → ℕ
+one_if true = 1
+one_if false = 0
 
 -- The same on the way: some wait to be offered, behind those that stay, of which none is of a key that isn't
 -- held up.
 pub record Placing {X : Type 0} (key : X → ℕ) (at : ℕ → ℕ → Type 0) (known : ℕ → Type 0)
-    (before now : List (List X)) (free : List ℕ) (held : List Bool) (waited waits stay : List X)
-    (moved : Bool) : Type 0 where
-  pub each : (n i : ℕ) → at n i → Gave key before now waited (stay ++ waits) n i
+    (before now : Rings X) (held : List Bool) (waited waits stay : List X) (moved : Bool) : Type 0 where
+  pub each : (n i : ℕ) → at n i → Gave key before.given now.given waited (stay ++ waits) n i
   pub in_order : Stay key waited (stay ++ waits)
-  pub elsewhere : (i : ℕ) → ((n : ℕ) → ¬ at n i) → at_place i now ≡ at_place i before
+  pub elsewhere : (i : ℕ) → ((n : ℕ) → ¬ at n i) → at_place i now.given ≡ at_place i before.given
   pub free_way : (n : ℕ) → known n → slice_index_or held n false ≡ false → of_key key n stay ≡ []
-  pub full : (n i : ℕ) → at n i → known n → slice_index_or held n false ≡ true → slice_index_or free i 0 ≡ 0
+  pub held_up : (n : ℕ) → slice_index_or held n false ≡ true → of_key key n stay ≢ []
+  pub full : (n i : ℕ) → at n i → known n → slice_index_or held n false ≡ true
+      → slice_index_or now.free i 0 ≡ 0
+  pub counts : (n i : ℕ) → at n i → known n
+      → count_at i now.back ≡ counted (count_at i before.back) (one_if (slice_index_or held n false))
   pub all : (p : X → Bool) → list_all p waited ≡ true → list_all p (stay ++ waits) ≡ true
   pub fewer : length (stay ++ waits) ≤ length waited
-  pub grows : amount before ≤ amount now
-  pub moved_is : moved ≡ nat_lt (amount before) (amount now)
+  pub grows : amount before.given ≤ amount now.given
+  pub moved_is : moved ≡ nat_lt (amount before.given) (amount now.given)
 
 -- one fewer waits to be offered
 pub record OneFewer {X : Type 0} (key : X → ℕ) (at : ℕ → ℕ → Type 0) (known : ℕ → Type 0)
-    (before now : List (List X)) (free : List ℕ) (held : List Bool) (waited new : List X) (left : ℕ)
-    (moved : Bool) : Type 0 where
+    (before now : Rings X) (held : List Bool) (waited new : List X) (left : ℕ) (moved : Bool) : Type 0 where
   pub waits : List X
   pub stay : List X
   pub are : new ≡ waits ++ stay
   pub left_are : length waits ≡ left
-  pub placing : Placing key at known before now free held waited waits stay moved
+  pub placing : Placing key at known before now held waited waits stay moved
 
 -- the first that waits was offered, or stays
 unfoldable pub OffersFirst : {X : Type 0} → (key : X → ℕ) → (at : ℕ → ℕ → Type 0) → (known : ℕ → Type 0)
-    → (now later : List (List X)) → (free freer : List ℕ) → (held more_held : List Bool) → (old new : List X)
-    → (moved : Bool) → Type 0
-OffersFirst {X} key at known now later free freer held more_held old new moved =
-    (before : List (List X)) (waited : List X) (left : ℕ) (earlier : Bool)
-    → OneFewer key at known before now free held waited old (left + 1) earlier
-    → OneFewer key at known before later freer more_held waited new left (moved || earlier)
+    → (now later : Rings X) → (held more_held : List Bool) → (old new : List X) → (moved : Bool) → Type 0
+OffersFirst {X} key at known now later held more_held old new moved =
+    (before : Rings X) (waited : List X) (left : ℕ) (earlier : Bool)
+    → OneFewer key at known before now held waited old (left + 1) earlier
+    → OneFewer key at known before later more_held waited new left (moved || earlier)
 
 -- ## Outcomes and lines
 
@@ -102,15 +118,22 @@ pub record IsHeard (kinds : List UrcKind) (n : ℕ) : Type 0 where
   pub is_place : kind_place kind ≡ n
   pub listened : Contains kinds kind
 
+-- the rings of callers, and those of listeners
+abbrev pub caller_rings : DriverView → Rings Outcome
+caller_rings d = record { given = d.told; free = d.free; back = d.told_back }
+
+abbrev pub listener_rings : DriverView → Rings Urc
+listener_rings d = record { given = d.announced; free = d.free_lines; back = d.announced_back }
+
 -- nothing else changed at the desk's end
 pub record TellsAlone (old new : DriverView) : Type 0 where
   pub desk : new.desk ≡ old.desk
   pub taken : new.taken ≡ old.taken
-  pub announced : new.announced ≡ old.announced
-  pub free_lines : new.free_lines ≡ old.free_lines
+  pub found_none : new.found_none ≡ old.found_none
+  pub listeners : listener_rings new ≡ listener_rings old
 
 pub record AnnouncesAlone (old new : DriverView) : Type 0 where
   pub desk : new.desk ≡ old.desk
   pub taken : new.taken ≡ old.taken
-  pub told : new.told ≡ old.told
-  pub free : new.free ≡ old.free
+  pub found_none : new.found_none ≡ old.found_none
+  pub callers : caller_rings new ≡ caller_rings old

@@ -1,5 +1,5 @@
 -- What the turns of a poll say of each history.
-use Rattle.std.specs.Prelude.{◌≡◌, ◌≢◌, ℕ, ◌+◌, ◌-◌, ◌^◌, ◌<◌, ◌≤◌, true, false, List, [], None, Some, Result, Ok, Err}
+use Rattle.std.specs.Prelude.{◌≡◌, ◌≢◌, ℕ, ◌+◌, ◌-◌, ◌^◌, ◌<◌, ◌≤◌, Bool, true, false, List, [], None, Result, Ok, Err}
 use Rattle.modem_history.specs.Acts.{Act, after}
 use Rattle.modem_history.specs.Sessions.{Beginning, LineView}
 use Rattle.modem_history.specs.Turns.{Exchange, TurnAnswer, IsTurn, IsFault, says_moved}
@@ -7,6 +7,7 @@ use Rattle.modem_driver.specs.declared.session.ending.Ended.{Ended}
 use Rattle.modem_driver.specs.declared.session.ending.Ended.TheVariants.{Stopped}
 use Rattle.modem_driver.specs.declared.session.error.SessionFault.{SessionFault}
 use Rattle.modem_driver.specs.declared.session.error.SessionFault.TheVariants as fault
+use Rattle.modem_driver.specs.declared.session.polling.Progress.TheVariants as progress
 use Rattle.modem_driver.specs.SessionStates.{SessionState, FitsAll, has_lost_line, session_view}
 use Rattle.modem_driver.specs.SessionTurns.{fault_of}
 use Rattle.modem_driver.specs.Polls.{Gives, PollsOn, RunsTurns, end_given, has_ended}
@@ -25,16 +26,16 @@ pub data MovesThrough {X : Type 0} (look : X → LineView) (b : Beginning) (old 
 
 -- the same of all turns of a poll
 pub data RunsThrough {X : Type 0} (look : X → LineView) (b : Beginning) (old : SessionState X)
-    (past : List Act) (new : SessionState X) : List Act → Result (Unit {0}) SessionFault → Type 0 where
+    (past : List Act) (new : SessionState X) : List Act → Result Bool SessionFault → Type 0 where
   all_through : (now : List Act) → MovesThrough look b old past 64 new now
-      → RunsThrough look b old past new now (Ok tt)
+      → RunsThrough look b old past new now (Ok true)
   ended_through : (n : ℕ) (now : List Act) → n ≤ 64 → MovesThrough look b old past n new now
-      → has_ended new.kept ≡ true → RunsThrough look b old past new now (Ok tt)
+      → has_ended new.kept ≡ true → RunsThrough look b old past new now (Ok false)
   rests_through : (n : ℕ) (mid : SessionState X) (before acts : List Act) (t : Exchange) (says : TurnAnswer)
       → n < 64 → MovesThrough look b old past n mid before → has_ended mid.kept ≡ false
       → FitsAll b look new (after before acts)
       → IsTurn b (session_view look mid) (session_view look new) t before acts says
-      → says_moved says ≡ false → RunsThrough look b old past new (after before acts) (Ok tt)
+      → says_moved says ≡ false → RunsThrough look b old past new (after before acts) (Ok false)
   fails_through : (n : ℕ) (mid : SessionState X) (before acts : List Act) (t : Exchange) (why : SessionFault)
       → n < 64 → MovesThrough look b old past n mid before → has_ended mid.kept ≡ false
       → FitsAll b look new (after before acts)
@@ -42,14 +43,14 @@ pub data RunsThrough {X : Type 0} (look : X → LineView) (b : Beginning) (old :
       → RunsThrough look b old past new (after before acts) (Err why)
 
 pub record HasRun {X : Type 0} (look : X → LineView) (b : Beginning) (old : SessionState X) (past : List Act)
-    (new : SessionState X) (ran : Result (Unit {0}) SessionFault) : Type 0 where
+    (new : SessionState X) (ran : Result Bool SessionFault) : Type 0 where
   pub now : List Act
   pub through : RunsThrough look b old past new now ran
 
 -- The law: whatever history the session had, the turns of a poll are turns in it, one after the other.
 unfoldable pub RunsInHistories : {X : Type 0} → (X → LineView) → Type 0
 RunsInHistories {X} look =
-    (b : Beginning) (past : List Act) (old new : SessionState X) (ran : Result (Unit {0}) SessionFault)
+    (b : Beginning) (past : List Act) (old new : SessionState X) (ran : Result Bool SessionFault)
     → FitsAll b look old past → RunsTurns look old new ran → HasRun look b old past new ran
 
 -- ## What isn't a poll
@@ -63,25 +64,25 @@ pub record IsSession {X : Type 0} (look : X → LineView) (s : SessionState X) :
 -- where its line is lost, its turns come to Failed, whatever else they do
 unfoldable pub LostFails : {X : Type 0} → (X → LineView) → Type 0
 LostFails {X} look =
-    (old new : SessionState X) (ran : Result (Unit {0}) SessionFault) → IsSession look old
+    (old new : SessionState X) (ran : Result Bool SessionFault) → IsSession look old
     → has_lost_line old ≡ true → RunsTurns look old new ran → ran ≡ Err fault.Failed
 
 -- no loss of the line is kept back, neither by nothing given nor by Stopped
 unfoldable pub NoLossIsKeptBack : {X : Type 0} → (X → LineView) → Type 0
 NoLossIsKeptBack {X} look =
-    (old new : SessionState X) → IsSession look old → has_lost_line new ≡ true
-    → ¬ RunsTurns look old new (Ok tt)
+    (old new : SessionState X) (more : Bool) → IsSession look old → has_lost_line new ≡ true
+    → ¬ RunsTurns look old new (Ok more)
 
 unfoldable pub NoLossIsStopped : {X : Type 0} → (X → LineView) → Type 0
 NoLossIsStopped {X} look =
     (old new : SessionState X) → IsSession look old → has_lost_line new ≡ true
-    → ¬ PollsOn look old new (Some (Ok Stopped))
+    → ¬ PollsOn look old new (progress.Ended (Ok Stopped))
 
 -- where octets wait the line is called: so it is no poll that makes no turn, or that ticks instead
 unfoldable pub CallsTheLine : {X : Type 0} → (X → LineView) → Type 0
 CallsTheLine {X} look =
-    (old new : SessionState X) → IsSession look old → old.kept.unwritten ≢ []
-    → (look old.line).calls < 2 ^ 64 - 1 → RunsTurns look old new (Ok tt)
+    (old new : SessionState X) (more : Bool) → IsSession look old → old.kept.unwritten ≢ []
+    → (look old.line).calls < 2 ^ 64 - 1 → RunsTurns look old new (Ok more)
     → (look old.line).calls < (look new.line).calls
 
 -- where its line is lost and no poll gave an end, a future of it gives Failed

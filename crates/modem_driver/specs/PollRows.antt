@@ -1,5 +1,5 @@
 -- A session whose line is lost, and what isn't a poll of it.
-use Rattle.std.specs.Prelude.{[], ◌∷◌, true, Ok, Err}
+use Rattle.std.specs.Prelude.{[], ◌∷◌, Bool, true, Ok, Err}
 use Rattle.modem_desk.specs.Ends.{DeskId, DriverView}
 use Rattle.modem_history.specs.Acts.{Lost}
 use Rattle.modem_history.specs.Sessions.{LineView}
@@ -17,11 +17,14 @@ bare_desk at = record {
   announced = [];
   free = [];
   free_lines = [];
+  found_none = 0;
+  told_back = [];
+  announced_back = [];
 }
 
 -- nothing came and went, and the first call of the line failed
 abbrev pub first_line : LineView
-first_line = record { received = []; sent = []; calls = 0; failures = 0 }
+first_line = record { received = []; sent = []; calls = 0; failures = 0; empty_reads = 0; stalled_writes = 0 }
 
 abbrev pub lost_session : DeskId → SessionState LineView
 lost_session at = record {
@@ -40,7 +43,7 @@ IsLostSession =
 unfoldable pub AreNoPolls : Type 0
 AreNoPolls =
     (at : DeskId)
-    → (¬ RunsTurns (λ (l : LineView). l) (lost_session at) (lost_session at) (Ok tt))
-    × (((new : SessionState LineView) → ¬ RunsTurns (λ (l : LineView). l) (lost_session at) new (Ok tt))
+    → ((more : Bool) → ¬ RunsTurns (λ (l : LineView). l) (lost_session at) (lost_session at) (Ok more))
+    × (((new : SessionState LineView) (more : Bool) → ¬ RunsTurns (λ (l : LineView). l) (lost_session at) new (Ok more))
     × ((¬ Gives (λ (l : LineView). l) (lost_session at) (Ok Stopped))
     × (¬ Gives (λ (l : LineView). l) (lost_session at) (Err fault.Line))))

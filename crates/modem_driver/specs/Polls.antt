@@ -1,7 +1,6 @@
 -- What a poll of a session comes to.
 use Rattle.std.specs.Prelude.{◌≡◌, ℕ, ◌+◌, ◌<◌, ◌≤◌, ◌==◌, ◌&&◌, not, Bool, true, false, List, length, Option, None, Some, Result, Ok, Err, if◌then◌else◌}
 use Rattle.modem_history.specs.Acts.{Act}
-use Rattle.modem_history.specs.Requests.{are_distinct}
 use Rattle.modem_history.specs.Sessions.{Beginning, LineView, SessionView, Goes}
 use Rattle.modem_history.specs.Turns.{TurnAnswer, says_moved}
 use Rattle.modem_driver.specs.declared.session.ending.Course.{Course}
@@ -10,6 +9,8 @@ use Rattle.modem_driver.specs.declared.session.ending.Ended.{Ended}
 use Rattle.modem_driver.specs.declared.session.ending.Ended.TheVariants.{Stopped}
 use Rattle.modem_driver.specs.declared.session.error.SessionFault.{SessionFault}
 use Rattle.modem_driver.specs.declared.session.error.SessionFault.TheVariants as fault
+use Rattle.modem_driver.specs.declared.session.polling.Progress.{Progress}
+use Rattle.modem_driver.specs.declared.session.polling.Progress.TheVariants as progress
 use Rattle.modem_driver.specs.Endings.{IsEnd}
 use Rattle.modem_driver.specs.SessionStates.{Kept, SessionState, FitsInside, FitsAll, TakesMore, session_view}
 use Rattle.modem_driver.specs.SessionTurns.{TakesTurn, Faults, HasTurned, LeavesLost, fault_of, standing_of}
@@ -35,52 +36,55 @@ SessionGoesOn look old new =
     Goes (session_view look old) (session_view look new) (λ b. FitsInside b look old)
     (λ b. FitsInside b look new)
 
--- One turn where it hadn't ended, that ends in this answer: the line had at most two calls more, an end that a
--- poll gave stays, the desk's end took requests of its callers more and forgot none, and no caller used a
--- number twice. (All but the turn's meaning is said whatever history there is: so no turn leads to a session
--- of which its meaning says nothing.)
-pub record TurnsOnce {X : Type 0} (look : X → LineView) (old new : SessionState X)
+-- One turn where it hadn't ended, that ends in this answer: whatever history the session had goes on by it. The
+-- line had at most two calls more, an end that a poll gave stays, and the desk's end took requests of its
+-- callers more and forgot none.
+pub record MakesTurn {X : Type 0} (look : X → LineView) (old new : SessionState X)
     (says : TurnAnswer) : Type 0 where
   pub going : has_ended old.kept ≡ false
   pub turn : TakesTurn look old new says
   pub turned : HasTurned (standing_of look old) (standing_of look new)
   pub takes : TakesMore old.driver new.driver
-  pub once : are_distinct new.driver.taken ≡ true
 
 -- the same, that ends in this fault; after one other than want of memory the line is lost
-pub record FaultsOnce {X : Type 0} (look : X → LineView) (old new : SessionState X)
+pub record MakesFault {X : Type 0} (look : X → LineView) (old new : SessionState X)
     (why : SessionFault) : Type 0 where
   pub going : has_ended old.kept ≡ false
   pub fault : Faults look old new (fault_of why)
   pub turned : HasTurned (standing_of look old) (standing_of look new)
   pub takes : TakesMore old.driver new.driver
-  pub once : are_distinct new.driver.taken ≡ true
   pub lost : LeavesLost why new
 
 -- so many turns, each where it hasn't ended, and each of which answers Moved
 pub data MovesOn {X : Type 0} (look : X → LineView) (old : SessionState X) : ℕ → SessionState X → Type 0 where
   moves_none : MovesOn look old 0 old
   moves_once : (n : ℕ) (mid new : SessionState X) → MovesOn look old n mid
-      → TurnsOnce look mid new TurnAnswer.Moved → MovesOn look old (n + 1) new
+      → MakesTurn look mid new TurnAnswer.Moved → MovesOn look old (n + 1) new
 
--- The turns of a poll: 64 that answer Moved; or fewer, where it has ended; or fewer and one that answers
--- otherwise, or that fails.
+-- The turns of a poll: 64 that answer Moved, and then there may be more; or fewer, where it has ended; or fewer
+-- and one that answers otherwise, or that fails.
 pub data RunsTurns {X : Type 0} (look : X → LineView)
-    (old new : SessionState X) : Result (Unit {0}) SessionFault → Type 0 where
-  goes_on : MovesOn look old 64 new → RunsTurns look old new (Ok tt)
+    (old new : SessionState X) : (more : Result Bool SessionFault) → Type 0 where
+  goes_on : MovesOn look old 64 new → RunsTurns look old new (Ok true)
   ends : (n : ℕ) → n ≤ 64 → MovesOn look old n new → has_ended new.kept ≡ true
-      → RunsTurns look old new (Ok tt)
+      → RunsTurns look old new (Ok false)
   rests : (n : ℕ) (mid : SessionState X) (says : TurnAnswer) → n < 64 → MovesOn look old n mid
-      → TurnsOnce look mid new says → says_moved says ≡ false → RunsTurns look old new (Ok tt)
+      → MakesTurn look mid new says → says_moved says ≡ false → RunsTurns look old new (Ok false)
   fails : (n : ℕ) (mid : SessionState X) (why : SessionFault) → n < 64 → MovesOn look old n mid
-      → FaultsOnce look mid new why → RunsTurns look old new (Err why)
+      → MakesFault look mid new why → RunsTurns look old new (Err why)
 
 -- ## What it gives
 
--- the fault, or that it has ended, or nothing yet
-abbrev pub given_by : Kept → Result (Unit {0}) SessionFault → Option (Result Ended SessionFault)
-given_by k (Ok _) = if has_ended k then Some (Ok Stopped) else None
-given_by k (Err why) = Some (Err why)
+-- the fault, or that it has ended; or else whether there may be more to do at once
+abbrev pub given_by : Kept → Result Bool SessionFault → Progress
+given_by k (Ok more) =
+    if has_ended k then progress.Ended (Ok Stopped) else if more then progress.More else progress.Idle
+given_by k (Err why) = progress.Ended (Err why)
+
+-- the end that there is in it
+abbrev pub end_in : Progress → Option (Result Ended SessionFault)
+end_in (progress.Ended end) = Some end
+end_in _ = None
 
 -- the end that one gave
 abbrev pub end_given : Course → Option (Result Ended SessionFault)
@@ -100,22 +104,20 @@ with_given None s = s
 with_given (Some end) s = with_end end s
 
 -- it makes its turns, gives what they lead to, and keeps that
-pub record PollsOn {X : Type 0} (look : X → LineView) (old new : SessionState X)
-    (given : Option (Result Ended SessionFault)) : Type 0 where
+pub record PollsOn {X : Type 0} (look : X → LineView) (old new : SessionState X) (given : Progress) :
+    Type 0 where
   pub mid : SessionState X
-  pub ran : Result (Unit {0}) SessionFault
+  pub ran : Result Bool SessionFault
   pub runs : RunsTurns look old mid ran
   pub given_is : given ≡ given_by mid.kept ran
-  pub stays : new ≡ with_given given mid
+  pub stays : new ≡ with_given (end_in given) mid
 
 -- a poll after an end gives that end, and does nothing
-abbrev pub PollsFrom : {X : Type 0} → (X → LineView) → Course → (old new : SessionState X)
-    → Option (Result Ended SessionFault) → Type 0
-PollsFrom look (course.Ended end) old new given = (given ≡ Some end) × (new ≡ old)
+abbrev pub PollsFrom : {X : Type 0} → (X → LineView) → Course → (old new : SessionState X) → Progress → Type 0
+PollsFrom look (course.Ended end) old new given = (given ≡ progress.Ended end) × (new ≡ old)
 PollsFrom look _ old new given = PollsOn look old new given
 
-abbrev pub Polls : {X : Type 0} → (X → LineView) → (old new : SessionState X)
-    → Option (Result Ended SessionFault) → Type 0
+abbrev pub Polls : {X : Type 0} → (X → LineView) → (old new : SessionState X) → Progress → Type 0
 Polls look old new given = PollsFrom look old.kept.course old new given
 
 -- ## What an output says
@@ -130,18 +132,18 @@ abbrev pub SaysEnd : {X : Type 0} → (X → LineView) → SessionState X → Re
 SaysEnd look s given =
     (b : Beginning) (past : List Act) → FitsAll b look s past → PollSays b (session_view look s) past given
 
--- polls that gave nothing
+-- polls that gave no end
 pub data Waits {X : Type 0} (look : X → LineView) : (old new : SessionState X) → Type 0 where
   waits_none : (s : SessionState X) → Waits look s s
-  waits_once : (old mid new : SessionState X) → Polls look old mid None → Waits look mid new
-      → Waits look old new
+  waits_once : (old mid new : SessionState X) (given : Progress) → Polls look old mid given
+      → end_in given ≡ None → Waits look mid new → Waits look old new
 
--- after polls that gave nothing one gave this, and says so; all of them went on by some acts
+-- after polls that gave no end one gave this, and says so; all of them went on by some acts
 pub record Gives {X : Type 0} (look : X → LineView) (s : SessionState X)
     (given : Result Ended SessionFault) : Type 0 where
   pub mid : SessionState X
   pub new : SessionState X
   pub waits : Waits look s mid
-  pub polls : Polls look mid new (Some given)
+  pub polls : Polls look mid new (progress.Ended given)
   pub goes : SessionGoesOn look s new
   pub says : SaysEnd look new given

@@ -12,7 +12,7 @@ use Rattle.modem_history.specs.Acts.{Act, Took, Got, Sent, Tick, Lost, Given, af
 use Rattle.modem_history.specs.Calls.{Setting, replaying}
 use Rattle.modem_history.specs.Lawful.{Keeps}
 use Rattle.modem_history.specs.Wholes.{is_said, is_first}
-use Rattle.modem_driver.specs.GoingOut.{next_out}
+use Rattle.modem_history.specs.GoingOut.{next_out}
 
 -- ## Events
 

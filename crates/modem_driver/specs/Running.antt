@@ -12,7 +12,7 @@ use Rattle.modem_driver.specs.declared.event.Event.{Event}
 use Rattle.modem_driver.specs.declared.event.Event.TheVariants as event
 use Rattle.modem_driver.specs.Cores.{Core}
 use Rattle.modem_driver.specs.CoreGoing.{StandsIn}
-use Rattle.modem_driver.specs.GoingOut.{next_out}
+use Rattle.modem_history.specs.GoingOut.{next_out}
 use Rattle.modem_driver.specs.Replays.{Piece, acts_in, first_of, with_piece, past_of, IsPiece, ArePieces, BegunBy, octets, requests}
 
 -- ## What goes out

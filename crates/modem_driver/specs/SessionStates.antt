@@ -8,7 +8,7 @@ use Rattle.modem_desk.specs.declared.request.Outcome.{Outcome}
 use Rattle.modem_desk.specs.declared.request.Urc.{Urc}
 use Rattle.modem_desk.specs.Ends.{DriverView}
 use Rattle.modem_history.specs.Acts.{Act, in_hand}
-use Rattle.modem_history.specs.Sessions.{LineView, EndView, Beginning, SessionView, Leftovers, FitsWith, Finishes, AreOnce, GoesBy, driving, gots, heard_as}
+use Rattle.modem_history.specs.Sessions.{LineView, EndView, Beginning, SessionView, Leftovers, FitsWith, Finishes, GoesBy, driving, gots, heard_as}
 use Rattle.modem_history.specs.Turns.{GoesTick, IsTick, LosesLine, may_fail, outcomes_told, lines_heard}
 use Rattle.modem_driver.specs.Cores.{Core, Fits, IsSettingOf, new_core}
 use Rattle.modem_driver.specs.Holding.{HoldsFit}
@@ -192,7 +192,7 @@ pub record KeptLoses (old new : Kept) : Type 0 where
   pub acts : List Act
   pub goes : KeptGoes old new acts
   pub loses : (b : Beginning) (l : LineView) (d : DriverView) (past : List Act)
-      → AreOnce b (seen_by l (end_of d) new) → FitsWith b (seen_by l (end_of d) old) (KeptFits b l d old) past
+      → FitsWith b (seen_by l (end_of d) old) (KeptFits b l d old) past
       → LosesLine b (seen_by l (end_of d) old) (seen_by l (end_of d) new) past acts
   pub adds : (b : Beginning) (l : LineView) (d : DriverView) (past : List Act)
       → FitsWith b (seen_by l (end_of d) old) (KeptFits b l d old) past → AddsLost old new acts

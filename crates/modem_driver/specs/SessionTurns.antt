@@ -9,8 +9,9 @@ use Rattle.at_text.specs.declared.unsolicited.UrcKind.{UrcKind}
 use Rattle.modem_desk.specs.declared.request.Outcome.{Outcome}
 use Rattle.modem_desk.specs.declared.request.Urc.{Urc}
 use Rattle.modem_desk.specs.Ends.{DriverView}
-use Rattle.modem_history.specs.Sessions.{LineView, caller_outcomes}
-use Rattle.modem_history.specs.Turns.{TurnAnswer, TurnFault, GoesTurn, GoesFault}
+use Rattle.modem_history.specs.Sessions.{LineView, at_place, caller_outcomes}
+use Rattle.modem_history.specs.Turns.{TurnAnswer, TurnFault}
+use Rattle.modem_history.specs.EveryTurn.{GoesTurn, GoesFault}
 use Rattle.modem_driver.specs.declared.session.error.SessionFault.{SessionFault}
 use Rattle.modem_driver.specs.declared.session.turn.Turn.{Turn}
 use Rattle.modem_driver.specs.Endings.{Begins, KeepsEnd}
@@ -84,11 +85,13 @@ Faults look old new says =
     GoesFault (session_view look old) (session_view look new) (λ b. FitsInside b look old)
     (λ b. FitsInside b look new) says
 
--- Whichever way it ends: the line had at most two calls more, the desk's end keeps what it took, and an end
--- that a poll gave stays.
+-- Whichever way it ends: the line had at most two calls more, the desk's end keeps what it took, what it told
+-- each caller and what it announced to each listener, and an end that a poll gave stays.
 pub record HasTurned (old new : TurnState) : Type 0 where
   pub calls : new.line.calls ≤ old.line.calls + 2
   pub taken : Begins old.driver.taken new.driver.taken
+  pub told : (c : ℕ) → Begins (at_place c old.driver.told) (at_place c new.driver.told)
+  pub announced : (i : ℕ) → Begins (at_place i old.driver.announced) (at_place i new.driver.announced)
   pub ended : KeepsEnd old.kept.course new.kept.course
 
 -- an outcome waits only where its caller's ring has no place that the desk's end knows to be free, and a line

@@ -1,6 +1,6 @@
 -- The steps of a turn: what each is promised to do. A step leads on by some acts, the same whatever history
 -- there was, and says whether it moved anything.
-use Rattle.std.specs.Prelude.{◌≡◌, ◌≢◌, ℕ, ◌+◌, ◌≤◌, ◌<◌, ◌||◌, ◌⊎◌, not, nat_lt, Bool, true, false, List, [], ◌++◌, length, map, take, Option, None, Some, option_to_list, slice_index_or}
+use Rattle.std.specs.Prelude.{◌≡◌, ◌≢◌, ℕ, ◌+◌, ◌≤◌, ◌<◌, ◌||◌, ◌⊎◌, not, nat_lt, Bool, true, false, List, [], ◌++◌, length, map, take, drop, Option, None, Some, option_to_list, slice_index_or}
 use Rattle.std.specs.List.{list_all, list_any}
 use mathlib.Core.Option.{some}
 use lib.ListN.{get_elem?}
@@ -13,9 +13,10 @@ use Rattle.modem_desk.specs.Ends.{DriverView}
 use Rattle.modem_history.specs.Acts.{Act, after, in_hand}
 use Rattle.modem_history.specs.Calls.{is_lost}
 use Rattle.modem_history.specs.Kinds.{of_kind}
-use Rattle.modem_history.specs.Sessions.{Beginning, LineView, SessionView, FitsWith, AreOnce, GoesBy, driving, gots, heard_as, caller_outcomes}
+use Rattle.modem_history.specs.Sessions.{Beginning, LineView, SessionView, FitsWith, GoesBy, driving, gots, heard_as, at_place, caller_outcomes}
 use Rattle.modem_history.specs.Turns.{Write, Read, Offers, ReadHasRoom, HoldsByBacklog, HoldsWhereRoom, octets_written, octets_read, request_given, calls_made, counted, outcomes_told, lines_heard, may_act, is_mark, amount, has_room_for}
-use Rattle.modem_driver.specs.GoingOut.{next_out}
+use Rattle.modem_history.specs.GoingOut.{next_out}
+use Rattle.modem_history.specs.EveryTurn.{GivesSome, ReadsWhereFed, count_at, is_check, octets_out, acts_out, goes_in, octets_offered, count_taken, stalled_after, empty_after, asked_in_vain}
 use Rattle.modem_driver.specs.Running.{CoreIsIdle}
 use Rattle.modem_driver.specs.Endings.{KeepsEnd}
 use Rattle.modem_driver.specs.SessionStates.{Kept, KeptFits, seen_by, end_of}
@@ -59,7 +60,7 @@ pub record Adds (old new : Kept) (waiting : List Urc) (most : ℕ) (acts : List 
 -- that is so after every history of which no caller used a number twice
 unfoldable pub AddsAll : (old new : TurnState) → List Urc → ℕ → List Act → Type 0
 AddsAll old new waiting most acts =
-    (b : Beginning) (past : List Act) → AreOnce b (view_of new) → StandingFits b old past
+    (b : Beginning) (past : List Act) → StandingFits b old past
     → Adds old.kept new.kept waiting most acts
 
 -- ## What waits is offered to the desk
@@ -76,6 +77,21 @@ pub record Places (old new : TurnState) (moved : Bool) : Type 0 where
       → slice_index_or new.driver.free c 0 ≡ 0
   pub lines_full : (i : ℕ) (k : UrcKind) → get_elem? new.driver.desk.kinds i ≡ some k
       → of_kind k new.kept.unannounced ≢ [] → slice_index_or new.driver.free_lines i 0 ≡ 0
+  -- what a caller was told and a listener was announced is the first of what waited for it
+  pub each_told : (c : ℕ) → GivesSome (at_place c old.driver.told) (at_place c new.driver.told)
+      (caller_outcomes c old.kept.unplaced) (caller_outcomes c new.kept.unplaced)
+  pub each_announced : (i : ℕ) (k : UrcKind) → get_elem? old.driver.desk.kinds i ≡ some k
+      → GivesSome (at_place i old.driver.announced) (at_place i new.driver.announced)
+      (of_kind k old.kept.unannounced) (of_kind k new.kept.unannounced)
+  pub elsewhere : (i : ℕ) → ((k : UrcKind) → ¬ (get_elem? old.driver.desk.kinds i ≡ some k))
+      → at_place i new.driver.announced ≡ at_place i old.driver.announced
+  pub told_counts : (c : ℕ) → c < length old.driver.desk.rings
+      → count_at c new.driver.told_back
+      ≡ counted (count_at c old.driver.told_back) (length (caller_outcomes c told_back))
+  pub announced_counts : (i : ℕ) (k : UrcKind) → get_elem? old.driver.desk.kinds i ≡ some k
+      → count_at i new.driver.announced_back
+      ≡ counted (count_at i old.driver.announced_back) (length (of_kind k heard_back))
+  pub found_stays : new.driver.found_none ≡ old.driver.found_none
   pub moved_is : moved ≡ (nat_lt (amount old.driver.told) (amount new.driver.told)
       || nat_lt (amount old.driver.announced) (amount new.driver.announced))
   pub told_grows : amount old.driver.told ≤ amount new.driver.told
@@ -96,12 +112,15 @@ pub record Checks (old new : TurnState) (moved : Bool) : Type 0 where
   pub leads : Leads old new acts
   pub adds : AddsAll old new old.kept.unannounced 0 acts
   pub moved_is : moved ≡ list_any is_more acts
-  pub held : (b : Beginning) (past : List Act) → AreOnce b (view_of new) → StandingFits b old past
+  pub held : (b : Beginning) (past : List Act) → StandingFits b old past
       → new.kept.core.lost ≡ false → new.kept.core.station.queue ≡ []
       → HoldsByBacklog (view_of new) (after past acts)
   pub looks : moved ≡ false
-      → (acts ≡ []) × ((b : Beginning) (past : List Act) → AreOnce b (view_of new) → StandingFits b old past
+      → (acts ≡ []) × ((b : Beginning) (past : List Act) → StandingFits b old past
       → is_lost past ≡ false → HoldsWhereRoom b (view_of new) past)
+  pub are_checks : list_all is_check acts ≡ true
+  pub looked : (b : Beginning) (past : List Act) → StandingFits b old past → is_lost past ≡ false
+      → HoldsWhereRoom b (view_of new) (after past acts)
   pub stays : new ≡ record old { kept = record old.kept { core = new.kept.core } }
 
 -- Where there was no memory for one of them, those before it are checked.
@@ -123,6 +142,10 @@ pub record SendsOn (old new : TurnState) (moved : Bool) : Type 0 where
   pub none_left : new.kept.unwritten ≡ [] → (b : Beginning) (past : List Act) → StandingFits b new past
       → next_out (driving b) past ≡ None
   pub busy : moved ≡ false → old.kept.unwritten ≢ [] → (acts ≡ []) × (new ≡ old)
+  pub acts_are : (b : Beginning) (past : List Act) → StandingFits b old past
+      → acts ≡ acts_out (goes_in b (view_of old) past)
+  pub octets_are : (b : Beginning) (past : List Act) → StandingFits b old past
+      → new.kept.unwritten ≡ old.kept.unwritten ++ octets_out (goes_in b (view_of old) past)
   pub stays : new ≡ record old {
     kept = record old.kept { core = new.kept.core; unwritten = new.kept.unwritten };
   }
@@ -134,6 +157,11 @@ pub record Writes (old new : TurnState) (moved : Bool) : Type 0 where
   pub write : Option Write
   pub leads : Leads old new []
   pub offers : Offers write new.kept.unwritten
+  pub offered : octets_offered write ≡ old.kept.unwritten
+  pub left : new.kept.unwritten ≡ drop (count_taken write) old.kept.unwritten
+  pub stalled : new.kept.faulty ≡ false
+      → new.line.stalled_writes ≡ stalled_after write old.line.stalled_writes
+  pub empty_stays : new.line.empty_reads ≡ old.line.empty_reads
   pub went : new.line.sent ≡ old.line.sent ++ octets_written write
   pub came_none : new.line.received ≡ old.line.received
   pub calls : new.line.calls ≡ counted old.line.calls (calls_made write)
@@ -153,6 +181,8 @@ pub record Gets (old new : TurnState) (moved : Bool) : Type 0 where
   pub adds : (waiting : List Urc) → AddsAll old new waiting 1 acts
   pub moved_is : moved ≡ list_any is_more acts
   pub still : moved ≡ false → (acts ≡ []) × (new ≡ old)
+  pub got : (b : Beginning) (past : List Act) → StandingFits b old past → moved ≡ true
+      → gots acts ≡ option_to_list old.kept.deframer.next
   pub ended : KeepsEnd old.kept.course new.kept.course
   pub no_room : (f : Frame) → moved ≡ false → old.kept.deframer.next ≡ Some f
       → (¬ CoreIsIdle old.kept.core)
@@ -185,6 +215,12 @@ pub record ReadsOn (old new : TurnState) (moved : Bool) : Type 0 where
   pub nothing_came : moved ≡ false → new.kept.faulty ≡ old.kept.faulty → old.kept.unfed ≡ []
       → (read ≡ Some (record { room = 512; octets = [] })) × (new.kept ≡ old.kept)
   pub feeds : moved ≡ false → old.kept.unfed ≢ [] → old.kept.deframer.next ≢ None
+  pub reads : ReadsWhereFed read old.kept.unfed
+  pub empty : new.kept.faulty ≡ false
+      → new.line.empty_reads ≡ empty_after read old.line.empty_reads
+  pub stalled_stays : new.line.stalled_writes ≡ old.line.stalled_writes
+  pub fewer : new.kept.deframer.next ≡ None → old.kept.unfed ++ octets_read read ≢ []
+      → length new.kept.unfed < length old.kept.unfed + length (octets_read read)
   pub frame_stays : (f : Frame) → old.kept.deframer.next ≡ Some f → new.kept.deframer.next ≡ Some f
   pub stays : new ≡ record old {
     line = new.line;
@@ -217,6 +253,11 @@ pub record TakesOne (old new : TurnState) (moved : Bool) : Type 0 where
   pub desk_stays : (new.driver.desk ≡ old.driver.desk)
       × ((new.driver.told ≡ old.driver.told) × (new.driver.announced ≡ old.driver.announced))
   pub places_stay : (new.driver.free ≡ old.driver.free) × (new.driver.free_lines ≡ old.driver.free_lines)
+  pub backs_stay : (new.driver.told_back ≡ old.driver.told_back)
+      × (new.driver.announced_back ≡ old.driver.announced_back)
+  pub asks : (b : Beginning) (past : List Act) → StandingFits b new past → next ≡ None
+      → old.kept.aside ≡ None → length (in_hand past) + length new.kept.unplaced ≡ 128
+  pub found : new.driver.found_none ≡ counted old.driver.found_none (asked_in_vain next)
   pub stays : new ≡ record old {
     driver = new.driver;
     kept = record old.kept {
@@ -239,4 +280,6 @@ pub record KeepsAside (old new : TurnState) : Type 0 where
       × (option_to_list new.kept.aside ≡ option_to_list old.kept.aside ++ request_given next)
   pub desk_stays : (new.driver.desk ≡ old.driver.desk)
       × ((new.driver.told ≡ old.driver.told) × (new.driver.announced ≡ old.driver.announced))
+  pub backs_stay : (new.driver.told_back ≡ old.driver.told_back)
+      × (new.driver.announced_back ≡ old.driver.announced_back)
   pub stays : new ≡ record old { driver = new.driver; kept = record old.kept { aside = new.kept.aside } }

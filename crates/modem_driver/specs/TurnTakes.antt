@@ -5,8 +5,9 @@ use Rattle.modem_desk.specs.declared.request.Request.{Request}
 use Rattle.modem_desk.specs.declared.request.Urc.{Urc}
 use Rattle.modem_desk.specs.Ends.{DriverView}
 use Rattle.modem_history.specs.Acts.{Act}
-use Rattle.modem_history.specs.Sessions.{Beginning, LineView, FitsWith, AreOnce}
-use Rattle.modem_history.specs.Turns.{request_given}
+use Rattle.modem_history.specs.Sessions.{Beginning, LineView, FitsWith}
+use Rattle.modem_history.specs.EveryTurn.{asked_in_vain}
+use Rattle.modem_history.specs.Turns.{counted, request_given}
 use Rattle.modem_driver.specs.SessionStates.{Kept, KeptFits, KeptGoes, seen_by, end_of}
 use Rattle.modem_driver.specs.TurnSteps.{TurnState, Leads, Adds, is_more}
 
@@ -24,6 +25,10 @@ pub record Fetches (old new : TurnState) : Type 0 where
   pub desk_stays : (new.driver.desk ≡ old.driver.desk)
       × ((new.driver.told ≡ old.driver.told) × (new.driver.announced ≡ old.driver.announced))
   pub places_stay : (new.driver.free ≡ old.driver.free) × (new.driver.free_lines ≡ old.driver.free_lines)
+  pub backs_stay : (new.driver.told_back ≡ old.driver.told_back)
+      × (new.driver.announced_back ≡ old.driver.announced_back)
+  pub asks : next ≡ None → old.kept.aside ≡ None → 128 ≤ length old.kept.core.hand + length old.kept.unplaced
+  pub found : new.driver.found_none ≡ counted old.driver.found_none (asked_in_vain next)
   pub stays : new.kept ≡ record old.kept { aside = new.kept.aside }
   pub line_stays : new.line ≡ old.line
 
@@ -32,8 +37,9 @@ pub record TakesAside (old new : Kept) : Type 0 where
   pub acts : List Act
   pub goes : KeptGoes old new acts
   pub adds : (waiting : List Urc) (b : Beginning) (l : LineView) (d : DriverView) (past : List Act)
-      → AreOnce b (seen_by l (end_of d) new) → FitsWith b (seen_by l (end_of d) old) (KeptFits b l d old) past
+      → FitsWith b (seen_by l (end_of d) old) (KeptFits b l d old) past
       → Adds old new waiting 0 acts
+  pub some : old.aside ≢ None
   pub moves : list_any is_more acts ≡ true
   pub stays : new ≡ record old {
     core = new.core;

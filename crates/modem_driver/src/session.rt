@@ -24,6 +24,7 @@ use crate::run::KINDS;
 use at_text::UrcKind;
 pub(crate) use ending::Asker;
 pub use ending::Ended;
+pub use polling::Progress;
 pub use error::{SessionError, SessionFault, SessionRefused};
 use kept::Kept;
 use modem_desk::{DriverEnd, Outcome, Request, Urc};

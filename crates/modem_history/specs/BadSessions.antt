@@ -194,6 +194,8 @@ lost_twice = record {
       sent = entry_text ++ sabm_zero;
       calls = 40;
       failures = 1;
+      empty_reads = 0;
+      stalled_writes = 0;
     };
   };
   acts = opening_zero ++ Lost ∷ Lost ∷ [];
@@ -221,7 +223,7 @@ outcome_dropped = record {
 abbrev pub told_to_another : SessionRow
 told_to_another = record {
   view = record (settled zero_came sabm_zero (first_request ∷ []) [] [] [] last_flag) {
-    desk = record { taken = first_request ∷ []; told = [] ∷ opened_zero ∷ []; announced = [] ∷ [] ∷ [] };
+    desk = record { taken = first_request ∷ []; told = [] ∷ opened_zero ∷ []; announced = [] ∷ [] ∷ []; found_none = 0; told_back = 0 ∷ 0 ∷ []; announced_back = 0 ∷ 0 ∷ [] };
   };
   acts = opening_zero;
 }

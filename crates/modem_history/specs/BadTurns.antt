@@ -271,6 +271,8 @@ full_though_read = record {
       sent = sabm_half_sent.view.line.sent;
       calls = 40;
       failures = 0;
+      empty_reads = 0;
+      stalled_writes = 0;
     };
     deframer = record { n1 = 31; undecided = last_flag; next = None };
   });

@@ -5,7 +5,7 @@ use Rattle.modem_history.specs.Entering.{EntryAnswer, Entered, Refused, NoAnswer
 
 -- the line before it
 abbrev pub line_before : LineView
-line_before = record { received = codes "\r\nOK\r"; sent = codes "AT\r"; calls = 3; failures = 0 }
+line_before = record { received = codes "\r\nOK\r"; sent = codes "AT\r"; calls = 3; failures = 0; empty_reads = 0; stalled_writes = 0 }
 
 -- the line after it: these octets were sent and read, by so many calls, of which so many failed
 abbrev pub line_after : (sent read : List ℕ) → (calls failures : ℕ) → LineView
@@ -14,6 +14,8 @@ line_after sent read calls failures = record {
   sent = codes "AT\r" ++ sent;
   calls = calls;
   failures = failures;
+  empty_reads = 0;
+  stalled_writes = 0;
 }
 
 -- an entry of so many turns

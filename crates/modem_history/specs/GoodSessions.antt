@@ -131,6 +131,8 @@ line_lost = record {
           sent = entry_text ++ sabm_zero ++ take 2 sabm_one;
           calls = 40;
           failures = 1;
+          empty_reads = 0;
+          stalled_writes = 0;
         };
         unwritten = drop 2 sabm_one;
         unplaced = outcome_of 2 LineLost ∷ [];

@@ -18,6 +18,8 @@ pub mod BadRows
 pub mod Kinds
 pub mod Sessions
 pub mod Turns
+pub mod GoingOut
+pub mod EveryTurn
 pub mod Entering
 pub mod SessionRows
 pub mod GoodSessions

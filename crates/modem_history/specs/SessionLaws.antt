@@ -10,7 +10,7 @@ use Rattle.modem_desk.specs.declared.request.Outcome.{Outcome}
 use Rattle.modem_history.specs.Acts.{Act, wire, is_for, in_hand}
 use Rattle.modem_history.specs.Calls.{is_lost}
 use Rattle.modem_history.specs.Wholes.{taken_requests, outcomes}
-use Rattle.modem_history.specs.Sessions.{Beginning, SessionView, SessionFits, HasHistory, AreOnce, Goes, gots, sents, given_on, octets_of_frames, caller_outcomes, at_place}
+use Rattle.modem_history.specs.Sessions.{Beginning, SessionView, SessionFits, HasHistory, Goes, gots, sents, given_on, octets_of_frames, caller_outcomes, at_place}
 
 -- a session that has done nothing yet
 abbrev pub fresh : Beginning → SessionView
@@ -101,11 +101,11 @@ abbrev pub RunsOn : (old mid new : SessionView) → (first second third : Beginn
 RunsOn old mid new first second third =
     Goes old mid first second → Goes mid new second third → Goes old new first third
 
--- what had a history has one after a call, where no caller used a number twice
+-- what had a history has one after a call
 abbrev pub KeepsHistory : Beginning → (old new : SessionView) → (core later : Beginning → List Act → Type 0)
     → Type 0
 KeepsHistory b old new core later =
-    HasHistory b old (core b) → Goes old new core later → AreOnce b new → HasHistory b new (later b)
+    HasHistory b old (core b) → Goes old new core later → HasHistory b new (later b)
 
 -- the histories that a core fits, by a test of them: a clause can speak of all tests, but not of all types
 abbrev pub by_test : (Beginning → List Act → Bool) → Beginning → List Act → Type 0

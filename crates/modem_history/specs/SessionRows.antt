@@ -26,8 +26,8 @@ beginning = record {
   n1 = 31;
   callers = 2;
   kinds = Ring ∷ Creg ∷ [];
-  line = record { received = entry_answer; sent = entry_text; calls = 20; failures = 0 };
-  desk = record { taken = []; told = [] ∷ [] ∷ []; announced = [] ∷ [] ∷ [] };
+  line = record { received = entry_answer; sent = entry_text; calls = 20; failures = 0; empty_reads = 0; stalled_writes = 0 };
+  desk = record { taken = []; told = [] ∷ [] ∷ []; announced = [] ∷ [] ∷ []; found_none = 0; told_back = 0 ∷ 0 ∷ []; announced_back = 0 ∷ 0 ∷ [] };
 }
 
 -- ## Octets (27.010, 5.2.1)
@@ -127,8 +127,8 @@ ring = line_on_one Ring (codes "RING")
 abbrev pub settled : (came left : List ℕ) → List Request → List Outcome → (rings cregs : List Urc)
     → (kept : List ℕ) → SessionView
 settled came left requests told rings cregs kept = record {
-  line = record { received = entry_answer ++ came; sent = entry_text ++ left; calls = 40; failures = 0 };
-  desk = record { taken = requests; told = told ∷ [] ∷ []; announced = rings ∷ cregs ∷ [] };
+  line = record { received = entry_answer ++ came; sent = entry_text ++ left; calls = 40; failures = 0; empty_reads = 0; stalled_writes = 0 };
+  desk = record { taken = requests; told = told ∷ [] ∷ []; announced = rings ∷ cregs ∷ []; found_none = 0; told_back = 0 ∷ 0 ∷ []; announced_back = 0 ∷ 0 ∷ [] };
   aside = None;
   unfed = [];
   deframer = record { n1 = 31; undecided = kept; next = None };

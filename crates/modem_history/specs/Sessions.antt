@@ -237,11 +237,10 @@ pub record HasHistory (b : Beginning) (v : SessionView) (core : List Act → Typ
   pub past : List Act
   pub fits : FitsWith b v core past
 
--- by these acts a call led from the one to the other, whatever history it had before, where no caller used a
--- number twice
+-- by these acts a call led from the one to the other, whatever history it had before
 abbrev pub GoesBy : Beginning → (old new : SessionView) → (core later : List Act → Type 0) → List Act → Type 0
 GoesBy b old new core later acts =
-    (past : List Act) → AreOnce b new → FitsWith b old core past → FitsWith b new later (after past acts)
+    (past : List Act) → FitsWith b old core past → FitsWith b new later (after past acts)
 
 -- a call led from the one to the other by some acts, the same whatever it began with and whatever history it
 -- had, and took these requests more

@@ -19,7 +19,7 @@ use Rattle.modem_history.specs.Holding.{is_held}
 use Rattle.modem_history.specs.Lawful.{Quiet}
 use Rattle.modem_history.specs.Wholes.{IsPrefixOf, is_said}
 use Rattle.modem_history.specs.Calls.{is_lost}
-use Rattle.modem_history.specs.Sessions.{Beginning, SessionView, FitsWith, AreOnce, GoesBy, driving, gots, sents, octets_of_frames, heard_as, caller_outcomes, backlog, backlog_in}
+use Rattle.modem_history.specs.Sessions.{Beginning, SessionView, FitsWith, GoesBy, driving, gots, sents, octets_of_frames, heard_as, caller_outcomes, backlog, backlog_in}
 
 -- ## A turn's calls on the line and on the desk
 
@@ -276,16 +276,6 @@ pub record IsTurn (b : Beginning) (old new : SessionView) (t : Exchange) (past a
   pub none_aside : new.aside ≡ None
   pub means : Means b new t past (after past acts) says
 
--- a turn: some acts and exchange, the same whatever the session began with and whatever history it had, by
--- which it ends in this answer
-pub record GoesTurn (old new : SessionView) (core later : Beginning → List Act → Type 0)
-    (says : TurnAnswer) : Type 0 where
-  pub acts : List Act
-  pub exchange : Exchange
-  pub goes : (b : Beginning) → GoesBy b old new (core b) (later b) acts
-  pub turn : (b : Beginning) (past : List Act) → AreOnce b new → FitsWith b old (core b) past
-      → IsTurn b old new exchange past acts says
-
 -- ## Faults
 
 pub data TurnFault : Type 0 where
@@ -309,7 +299,12 @@ pub record LosesLine (b : Beginning) (old new : SessionView) (past acts : List A
 pub record PlacesAlone (old new : SessionView) (acts : List Act) : Type 0 where
   pub no_acts : acts ≡ []
   pub stays : new ≡ record old {
-    desk = record { taken = old.desk.taken; told = new.desk.told; announced = new.desk.announced };
+    desk = record old.desk {
+      told = new.desk.told;
+      announced = new.desk.announced;
+      told_back = new.desk.told_back;
+      announced_back = new.desk.announced_back;
+    };
     unplaced = new.unplaced;
     unannounced = new.unannounced;
   }
@@ -341,15 +336,6 @@ pub record IsFault (b : Beginning) (old new : SessionView) (t : Exchange) (past 
   pub exchanges : Exchanges old new t acts
   pub acts_may : list_all (may_fail t.still_heard) acts ≡ true
   pub means : FaultMeans b old new past acts says
-
--- a turn by which it ends in this fault
-pub record GoesFault (old new : SessionView) (core later : Beginning → List Act → Type 0)
-    (says : TurnFault) : Type 0 where
-  pub acts : List Act
-  pub exchange : Exchange
-  pub goes : (b : Beginning) → GoesBy b old new (core b) (later b) acts
-  pub fault : (b : Beginning) (past : List Act) → AreOnce b new → FitsWith b old (core b) past
-      → IsFault b old new exchange past acts says
 
 -- ## Ticks
 

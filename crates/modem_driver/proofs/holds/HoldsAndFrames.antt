@@ -27,7 +27,7 @@ use Rattle.modem_history.proofs.connections.ShutAfterLoss.{none_open}
 use Rattle.modem_driver.specs.Lanes.{Lane, new_lane}
 use Rattle.modem_driver.specs.Cores.{Core, Handles, lane_at}
 use Rattle.modem_driver.specs.CoreGoing.{begun_by, begun_on, begun_next, gone_on}
-use Rattle.modem_driver.specs.GoingOut.{next_out, with_out}
+use Rattle.modem_history.specs.GoingOut.{next_out, with_out}
 use Rattle.modem_driver.specs.Handing.{EndedBy}
 use Rattle.modem_driver.specs.Receiving.{afresh_if}
 use Rattle.modem_driver.specs.Holding.{HoldsFit, KeepsHeld, KeepsHeldOut}

@@ -38,7 +38,7 @@ use Rattle.modem_history.specs.Lawful.{Lawful, Complete, Allows, Gated, Once, In
 use Rattle.modem_history.specs.Wholes.{InStep, commands_for, StaysInStep}
 use Rattle.modem_driver.specs.Cores.{Core, LaneFits, Runs, RunsUnless, Fits, IsRun, IsSettingOf, lane_at, state_shown}
 use Rattle.modem_driver.specs.CoreGoing.{StandsIn, begun_by, begun_on, begun_next, gone_on, GoesOut, CoreGoesOn, SendsTruly}
-use Rattle.modem_driver.specs.GoingOut.{may_leave, waits_on, data_of, out_by, next_out, with_out, after_out}
+use Rattle.modem_history.specs.GoingOut.{may_leave, waits_on, data_of, out_by, next_out, with_out, after_out}
 use Rattle.modem_history.proofs.commands.BegunCommands.{Kept, kept}
 use Rattle.modem_history.proofs.requests.StepsOfHistory.{stays_in_step, given_open, data_open}
 use Rattle.modem_history.proofs.requests.RequestsAfterCalls.{first_head, head_of}

@@ -10,7 +10,7 @@ use Rattle.modem_history.specs.Acts.{Act, Sent, Given}
 use Rattle.modem_history.specs.Calls.{Setting}
 use Rattle.modem_driver.specs.Cores.{Core}
 use Rattle.modem_driver.specs.CoreGoing.{StandsIn, begun_next, gone_on, GoesOut, CoreGoesOn}
-use Rattle.modem_driver.specs.GoingOut.{next_out, with_out}
+use Rattle.modem_history.specs.GoingOut.{next_out, with_out}
 use Rattle.modem_driver.specs.Running.{CoreIsIdle, GoesTo, stays, marks, sends, SendsSome, SendsAll}
 
 -- ## One frame more

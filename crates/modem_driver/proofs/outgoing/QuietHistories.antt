@@ -30,7 +30,7 @@ use Rattle.modem_history.proofs.commands.TextCounts.{whole_front, texts_filled, 
 use Rattle.modem_history.proofs.commands.WholeTexts.{whole_few, whole_more}
 use Rattle.modem_history.proofs.connections.ShutAfterLoss.{none_open}
 use Rattle.modem_driver.specs.Cores.{IsRun}
-use Rattle.modem_driver.specs.GoingOut.{data_of, waits_on, may_send, from_on, else_by, next_to_send, out_by, next_out}
+use Rattle.modem_history.specs.GoingOut.{data_of, waits_on, may_send, from_on, else_by, next_to_send, out_by, next_out}
 use Rattle.modem_driver.proofs.commands.SentTexts.{texts_both}
 
 -- ## No connection is ready

@@ -24,7 +24,7 @@ use Rattle.modem_history.specs.Acts.{Act, wire}
 use Rattle.modem_history.specs.Information.{carries, info_of, info_sent, information_out}
 use Rattle.modem_driver.specs.Cores.{LaneFits}
 use Rattle.modem_driver.specs.Lanes.{Lane}
-use Rattle.modem_driver.specs.GoingOut.{may_leave, waits_on, may_send, from_on, else_by, next_to_send}
+use Rattle.modem_history.specs.GoingOut.{may_leave, waits_on, may_send, from_on, else_by, next_to_send}
 use Rattle.modem_driver.proofs.cores.StationPasts.{IsSeen, open_seen, stopped_seen}
 
 -- ## What left

@@ -17,7 +17,7 @@ use Rattle.modem_desk.specs.declared.request.Ask.TheVariants.{OpenChannel, Close
 use Rattle.modem_history.specs.Acts.{Act, Sent, after, wire}
 use Rattle.modem_history.specs.Calls.{HistoryView, Setting, all_have_room, asking, replaying}
 use Rattle.modem_driver.specs.declared.event.Event.{Event}
-use Rattle.modem_driver.specs.GoingOut.{next_out}
+use Rattle.modem_history.specs.GoingOut.{next_out}
 use Rattle.modem_driver.specs.Replays.{Piece, after_call, with_piece, GoOutInTurn, ArePieces}
 use Rattle.modem_driver.specs.Room.{BeginEmpty, EachBeginsEmpty, FitsEmpty, probe_size}
 use Rattle.modem_driver.specs.Receiving.{answer_room}

@@ -20,7 +20,7 @@ use Rattle.modem_history.specs.Information.{accepted, texts, line_of, informatio
 use Rattle.modem_history.specs.Placing.{marks}
 use Rattle.modem_history.specs.Wholes.{is_first, is_said}
 use Rattle.modem_driver.specs.declared.event.Event.{Event}
-use Rattle.modem_driver.specs.GoingOut.{waits_on, may_send, from_on, next_to_send, data_of, out_by, next_out}
+use Rattle.modem_history.specs.GoingOut.{waits_on, may_send, from_on, next_to_send, data_of, out_by, next_out}
 use Rattle.modem_driver.specs.Replays.{Piece, acts_in, first_of, after_call, with_piece, GoOutInTurn, ArePieces, Replays, AreFull, ends_command, is_full}
 use Rattle.modem_driver.specs.ReplayRows.{half_frames, NoReplayOfAny}
 use Rattle.modem_driver.proofs.replays.FirstActs.{brought_first}

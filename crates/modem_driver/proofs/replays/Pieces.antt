@@ -17,7 +17,7 @@ use Rattle.modem_history.proofs.calls.CalledActs.{calls_said}
 use Rattle.modem_history.proofs.connections.SendingAfterLoss.{none_after_loss}
 use Rattle.modem_driver.specs.Cores.{Core, Fits, IsRun, MayCome, Handles}
 use Rattle.modem_driver.specs.CoreGoing.{StandsIn}
-use Rattle.modem_driver.specs.GoingOut.{may_send, from_on, else_by, next_to_send, data_of, out_by, next_out}
+use Rattle.modem_history.specs.GoingOut.{may_send, from_on, else_by, next_to_send, data_of, out_by, next_out}
 use Rattle.modem_driver.specs.Replays.{Piece, marks_for, with_piece, GoOutInTurn}
 use Rattle.modem_driver.specs.Running.{GoesTo, stays, marks, sends, SendsAll, Running, Steps}
 use Rattle.modem_driver.proofs.outgoing.QuietHistories.{drained_quiet}

@@ -48,7 +48,7 @@ is_one : (at : DeskId) → IsSession (λ (l : LineView). l) (lost_session at)
 unfolding IsLostSession
 is_one at = record { b = beginning_of 31 first_line (bare_desk at); past = Lost ∷ []; fits = is_lost_session at }
 
-abbrev ran_well : Result (Unit {0}) SessionFault → Bool
+abbrev ran_well : Result Bool SessionFault → Bool
 ran_well (Ok _) = true
 ran_well (Err _) = false
 
@@ -59,9 +59,9 @@ gave_other _ = true
 pub no_polls : AreNoPolls
 unfolding AreNoPolls LostFails LostGivesFailed
 no_polls at = (
-  (λ runs. never (sym (ap ran_well (lost_fails (λ (l : LineView). l) (lost_session at) (lost_session at) (Ok tt) (is_one at) refl runs)))),
+  (λ more runs. never (sym (ap ran_well (lost_fails (λ (l : LineView). l) (lost_session at) (lost_session at) (Ok more) (is_one at) refl runs)))),
   (
-    (λ new runs. never (sym (ap ran_well (lost_fails (λ (l : LineView). l) (lost_session at) new (Ok tt) (is_one at) refl runs)))),
+    (λ new more runs. never (sym (ap ran_well (lost_fails (λ (l : LineView). l) (lost_session at) new (Ok more) (is_one at) refl runs)))),
     (
       (λ g. never (sym (ap gave_other (lost_gives_failed (λ (l : LineView). l) (lost_session at) (Ok Stopped) (is_one at) refl refl g)))),
       (λ g. never (sym (ap gave_other (lost_gives_failed (λ (l : LineView). l) (lost_session at) (Err fault.Line) (is_one at) refl refl g)))),

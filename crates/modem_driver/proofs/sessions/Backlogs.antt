@@ -22,13 +22,15 @@ use Rattle.modem_history.specs.Turns.{HoldsByBacklog, HoldsWhereRoom, LacksMscRo
 use Rattle.modem_history.proofs.calls.StatesAfterActs.{after_both}
 use Rattle.modem_driver.specs.declared.session.error.SessionFault.{SessionFault}
 use Rattle.modem_driver.specs.Holding.{due_by, flow_due}
-use Rattle.modem_driver.specs.BacklogChecks.{ChecksOne}
+use Rattle.modem_driver.specs.BacklogChecks.{ChecksOne, SettlesOne}
+use Rattle.modem_history.specs.EveryTurn.{is_check}
 use Rattle.modem_driver.specs.SessionStates.{Kept, KeptGoes, seen_by, end_of}
 use Rattle.modem_driver.specs.TurnSteps.{Leads, AddsAll, Checks, ChecksPart, turn_state, is_more}
 use Rattle.modem_driver.proofs.sessions.CoreCalls.{FitsKept}
 use Rattle.modem_driver.proofs.sessions.CollectedActs.{told_both}
 use Rattle.modem_driver.proofs.sessions.ListenedLines.{heard_both}
 use Rattle.modem_driver.proofs.sessions.OneFrame.{none_both}
+use Rattle.modem_driver.proofs.sessions.TurnFaults.{none_loses}
 
 -- ## 0 is never held
 
@@ -128,13 +130,15 @@ pub record ChecksSo (first now : Kept) (number : ℕ) (moved : Bool) : Type 0 wh
   pub settled : (b : Beginning) (l : LineView) (e : DriverView) (past : List Act) → FitsKept b l e first past → now.core.station.queue ≡ [] → (acts ≡ []) × NoneDue b past first.unannounced number
   pub looked : moved ≡ false
       → (acts ≡ []) × ((b : Beginning) (l : LineView) (e : DriverView) (past : List Act) → FitsKept b l e first past → NoneDue b past first.unannounced number ⊎ LacksMscRoom b past)
+  pub are_checks : list_all is_check acts ≡ true
+  pub flowed : (b : Beginning) (l : LineView) (e : DriverView) (past : List Act) → FitsKept b l e first past → NoneDue b (after past acts) first.unannounced number ⊎ LacksMscRoom b (after past acts)
   pub stays : now ≡ record first { core = now.core }
 
 pub checks_first : (k : Kept) → ChecksSo k k 1 false
 unfolding KeptGoes
 checks_first k = record {
   acts = [];
-  goes = λ b l e past once f. f;
+  goes = λ b l e past f. f;
   none_told = refl;
   none_heard = refl;
   none_got = refl;
@@ -142,6 +146,8 @@ checks_first k = record {
   may = λ b l e past f. refl;
   settled = λ b l e past f empty. (refl, λ m least lt. absurd (omega arith));
   looked = λ still. (refl, λ b l e past f. inl (λ m least lt. absurd (omega arith)));
+  are_checks = refl;
+  flowed = λ b l e past f. inl (λ m least lt. absurd (omega arith));
   stays = refl;
 }
 
@@ -163,11 +169,23 @@ both_looked b past acts us vs number none same (inr full) here = inr full
 both_looked b past acts us vs number none same (inl before) (inr full) = inr (subst (λ (xs : List Act). LacksMscRoom b (after past xs)) none full)
 both_looked b past acts us vs number none same (inl before) (inl here) = inl (none_more b past acts us vs number none same before here)
 
+-- one more connection is settled
+flowed_more : (b : Beginning) (past acts : List Act) (us : List Urc) (number : ℕ) → NoneDue b past us number ⊎ LacksMscRoom b past → SettlesOne b past acts number us → NoneDue b (after past acts) us (number + 1) ⊎ LacksMscRoom b (after past acts)
+flowed_more b past acts us number (inr full) one = inr (one.full full)
+flowed_more b past acts us number (inl none) one = ⊎_elim (λ (here : due_by (driving b) (after past acts) number (backlog_in number us) ≡ None). inl (all here)) (λ (full : LacksMscRoom b (after past acts)). inr full) one.here
+  where
+    all : due_by (driving b) (after past acts) number (backlog_in number us) ≡ None → NoneDue b (after past acts) us (number + 1)
+    all here m least lt =
+        ⊎_elim
+        (λ (y : (m == number) ≡ true × m ≡ number). subst (λ (j : ℕ). due_by (driving b) (after past acts) j (backlog_in j us) ≡ None) (sym y.1) here)
+        (λ (y : (m == number) ≡ false × m ≢ number). let other = y.1 in one.others m (backlog_in m us) y.1 ∙ none m least (omega (arith, other, lt)))
+        (eqb_tells m number)
+
 pub checks_more : (first now next : Kept) (number : ℕ) (moved earlier : Bool) → ChecksOne number now next moved → ChecksSo first now number earlier → ChecksSo first next (number + 1) (earlier || moved)
 unfolding KeptGoes
 checks_more first now next number moved earlier one so = record {
   acts = so.acts ++ one.acts;
-  goes = λ b l e past once f. subst (FitsKept b l e next) (sym (after_both so.acts one.acts past)) (one.goes b l e (after past so.acts) once (so.goes b l e past once f));
+  goes = λ b l e past f. subst (FitsKept b l e next) (sym (after_both so.acts one.acts past)) (one.goes b l e (after past so.acts) (so.goes b l e past f));
   none_told = told_both so.acts one.acts ∙ (ap (λ (os : List Outcome). os ++ outcomes_told one.acts) so.none_told ∙ one.none_told);
   none_heard = heard_both so.acts one.acts ∙ (ap (λ (hs : List Act). hs ++ lines_heard one.acts) so.none_heard ∙ one.none_heard);
   none_got = none_both so.acts one.acts so.none_got one.none_got;
@@ -175,9 +193,9 @@ checks_more first now next number moved earlier one so = record {
   may = λ b l e past f.
       list_all-append (may_act first.unannounced) so.acts one.acts
       ∙ and_from (list_all (may_act first.unannounced) so.acts) (list_all (may_act first.unannounced) one.acts) (so.may b l e past f)
-      (subst (λ (us : List Urc). list_all (may_act us) one.acts ≡ true) (ap (λ (k : Kept). k.unannounced) so.stays) (one.may b l e (after past so.acts) (so.goes b l e past f.session.requests.once f)));
+      (subst (λ (us : List Urc). list_all (may_act us) one.acts ≡ true) (ap (λ (k : Kept). k.unannounced) so.stays) (one.may b l e (after past so.acts) (so.goes b l e past f)));
   settled = λ b l e past f empty.
-      let here = one.settles b l e (after past so.acts) (so.goes b l e past f.session.requests.once f) empty in
+      let here = one.settles b l e (after past so.acts) (so.goes b l e past f) empty in
       let before = so.settled b l e past f (sym (ap (λ (k : Kept). k.core.station.queue) here.1.0) ∙ empty) in
       (ap (λ (xs : List Act). xs ++ one.acts) before.0 ∙ here.0, none_more b past so.acts first.unannounced now.unannounced number before.0 (ap (λ (k : Kept). k.unannounced) so.stays) before.1 here.1.1);
   looked = λ still.
@@ -187,8 +205,14 @@ checks_more first now next number moved earlier one so = record {
         ap (λ (xs : List Act). xs ++ one.acts) before.0 ∙ here.0,
         λ b l e past f.
             both_looked b past so.acts first.unannounced now.unannounced number before.0 (ap (λ (k : Kept). k.unannounced) so.stays) (before.1 b l e past f)
-            (here.1 b l e (after past so.acts) (so.goes b l e past f.session.requests.once f)),
+            (here.1 b l e (after past so.acts) (so.goes b l e past f)),
       );
+  are_checks = list_all-append is_check so.acts one.acts ∙ and_from (list_all is_check so.acts) (list_all is_check one.acts) so.are_checks one.are_checks;
+  flowed = λ b l e past f.
+      let there = so.goes b l e past f in
+      let one_is = subst (λ (us : List Urc). SettlesOne b (after past so.acts) one.acts number us) (ap (λ (k : Kept). k.unannounced) so.stays) (one.flows b l e (after past so.acts) there) in
+      subst (λ (p : List Act). NoneDue b p first.unannounced (number + 1) ⊎ LacksMscRoom b p) (sym (after_both so.acts one.acts past))
+      (flowed_more b (after past so.acts) one.acts first.unannounced number (so.flowed b l e past f) one_is);
   stays = one.stays ∙ ap (λ (k : Kept). record k { core = next.core }) so.stays;
 }
 
@@ -200,7 +224,7 @@ same_number o x n h e = subst (λ (y : Option Dlci). IfSome y (λ d. d.number �
 
 adds_none : (first now : Kept) (number : ℕ) (moved : Bool) → (so : ChecksSo first now number moved) → (l : LineView) (d : DriverView) → AddsAll (turn_state l d first) (turn_state l d now) first.unannounced 0 so.acts
 unfolding AddsAll
-adds_none first now number moved so l d b past once f = record {
+adds_none first now number moved so l d b past f = record {
   outcomes = ap (λ (k : Kept). k.unplaced) so.stays ∙ (sym (append-nil first.unplaced) ∙ ap (λ (os : List Outcome). first.unplaced ++ os) (sym so.none_told));
   lines = ap (λ (k : Kept). map heard_as k.unannounced) so.stays ∙ (sym (append-nil (map heard_as first.unannounced)) ∙ ap (λ (hs : List Act). map heard_as first.unannounced ++ hs) (sym so.none_heard));
   may = so.may b l d past f;
@@ -209,14 +233,14 @@ adds_none first now number moved so l d b past once f = record {
 
 leads_by : (first now : Kept) (acts : List Act) → KeptGoes first now acts → (l : LineView) (d : DriverView) → Leads (turn_state l d first) (turn_state l d now) acts
 unfolding Leads KeptGoes
-leads_by first now acts goes l d b past once f = goes b l d past once f
+leads_by first now acts goes l d b past f = goes b l d past f
 
 all_held : (first now : Kept) (moved : Bool) → (so : ChecksSo first now 62 moved) → (l : LineView) (d : DriverView) (b : Beginning) (past : List Act) → FitsKept b l d first past → now.core.lost ≡ false → now.core.station.queue ≡ []
     → HoldsByBacklog (seen_by l (end_of d) now) (after past so.acts)
 unfolding KeptGoes
 all_held first now moved so l d b past f live empty =
     let s = so.settled b l d past f empty in
-    let fits = so.goes b l d past f.session.requests.once f in
+    let fits = so.goes b l d past f in
     let here : is_lost past ≡ false = subst (λ (xs : List Act). is_lost (after past xs) ≡ false) s.0 (fits.inside.fits.lost_is ∙ live) in
     subst (λ (xs : List Act). HoldsByBacklog (seen_by l (end_of d) now) (after past xs)) (sym s.0)
     (holds_by b (seen_by l (end_of d) now) past first.unannounced (ap (λ (k : Kept). k.unannounced) so.stays) here f.session.history.lawful s.1)
@@ -226,7 +250,13 @@ all_looked : (first now : Kept) (us : List Urc) (l : LineView) (d : DriverView) 
 all_looked first now us l d b past same live f (inl none) = inl (holds_by b (seen_by l (end_of d) now) past us same live f.session.history.lawful none)
 all_looked first now us l d b past same live f (inr full) = inr full
 
+all_flowed : (first now : Kept) (l : LineView) (d : DriverView) (b : Beginning) (past acts : List Act) → now.unannounced ≡ first.unannounced → is_lost (after past acts) ≡ false → FitsKept b l d now (after past acts)
+    → NoneDue b (after past acts) first.unannounced 62 ⊎ LacksMscRoom b (after past acts) → HoldsWhereRoom b (seen_by l (end_of d) now) (after past acts)
+all_flowed first now l d b past acts same live f (inl none) = inl (holds_by b (seen_by l (end_of d) now) (after past acts) first.unannounced same live f.session.history.lawful none)
+all_flowed first now l d b past acts same live f (inr full) = inr full
+
 pub checks_all : (first now : Kept) (number : ℕ) (moved : Bool) → number ≡ 62 → ChecksSo first now number moved → (l : LineView) (d : DriverView) → Checks (turn_state l d first) (turn_state l d now) moved
+unfolding KeptGoes
 checks_all first now number moved last any l d = by_last (subst (λ (n : ℕ). ChecksSo first now n moved) last any)
   where
     by_last : ChecksSo first now 62 moved → Checks (turn_state l d first) (turn_state l d now) moved
@@ -235,10 +265,14 @@ checks_all first now number moved last any l d = by_last (subst (λ (n : ℕ). C
       leads = leads_by first now so.acts so.goes l d;
       adds = adds_none first now 62 moved so l d;
       moved_is = so.moved_is;
-      held = λ b past once f live empty. all_held first now moved so l d b past f live empty;
+      held = λ b past f live empty. all_held first now moved so l d b past f live empty;
       looks = λ still.
           let k = so.looked still in
-          (k.0, λ b past once f live. all_looked first now first.unannounced l d b past (ap (λ (v : Kept). v.unannounced) so.stays) live f (k.1 b l d past f));
+          (k.0, λ b past f live. all_looked first now first.unannounced l d b past (ap (λ (v : Kept). v.unannounced) so.stays) live f (k.1 b l d past f));
+      are_checks = so.are_checks;
+      looked = λ b past f live.
+          let there = so.goes b l d past f in
+          all_flowed first now l d b past so.acts (ap (λ (v : Kept). v.unannounced) so.stays) (none_loses first.unannounced so.acts past (so.may b l d past f) live) there (so.flowed b l d past f);
       stays = ap (turn_state l d) so.stays;
     }
 

@@ -13,10 +13,12 @@ use Rattle.modem_desk.specs.declared.request.Outcome.{Outcome}
 use Rattle.modem_desk.specs.declared.request.Urc.{Urc}
 use Rattle.modem_desk.specs.Ends.{DriverView, DeskId}
 use Rattle.modem_history.specs.Acts.{Act}
+use Rattle.modem_history.specs.Requests.{are_distinct}
 use Rattle.modem_history.specs.Kinds.{kind_place, of_kind, is_listened}
 use Rattle.modem_history.specs.Sessions.{Beginning, LineView, SessionView, FitsTold, FitsHeard, at_place, caller_outcomes, heard_as}
-use Rattle.modem_history.specs.Turns.{amount}
-use Rattle.modem_driver.specs.Placing.{of_key, Gave, Stay, Placed, TellsAlone, AnnouncesAlone, caller_of, place_of, IsRingOf, IsCaller, IsListenerOf, IsHeard}
+use Rattle.modem_history.specs.EveryTurn.{count_at}
+use Rattle.modem_history.specs.Turns.{amount, counted}
+use Rattle.modem_driver.specs.Placing.{of_key, Gave, Stay, Placed, TellsAlone, AnnouncesAlone, caller_of, place_of, IsRingOf, IsCaller, IsListenerOf, IsHeard, Rings, caller_rings, listener_rings}
 use Rattle.modem_driver.specs.Endings.{Begins}
 use Rattle.modem_driver.specs.SessionStates.{Kept, seen_by, end_of}
 use Rattle.modem_driver.specs.TurnSteps.{Leads, Places, turn_state}
@@ -112,22 +114,22 @@ heard_more b old new past f gave listened stay elsewhere = record {
 
 -- what waited was offered, and nothing else changed
 pub record PlacedBoth (d e : DriverView) (os ps : List Outcome) (us vs : List Urc) (told announced : Bool) : Type 0 where
-  pub outcomes : Placed caller_of IsRingOf (IsCaller d.desk) d.told e.told e.free os ps told
-  pub lines : Placed place_of (IsListenerOf d.desk.kinds) (IsHeard d.desk.kinds) d.announced e.announced e.free_lines us vs announced
+  pub outcomes : Placed caller_of IsRingOf (IsCaller d.desk) (caller_rings d) (caller_rings e) os ps told
+  pub lines : Placed place_of (IsListenerOf d.desk.kinds) (IsHeard d.desk.kinds) (listener_rings d) (listener_rings e) us vs announced
   pub desk : e.desk ≡ d.desk
   pub taken : e.taken ≡ d.taken
+  pub found_none : e.found_none ≡ d.found_none
 
-both : (d m e : DriverView) (os ps : List Outcome) (us vs : List Urc) (told announced : Bool) → Placed caller_of IsRingOf (IsCaller d.desk) d.told m.told m.free os ps told → TellsAlone d m
-    → Placed place_of (IsListenerOf m.desk.kinds) (IsHeard m.desk.kinds) m.announced e.announced e.free_lines us vs announced → AnnouncesAlone m e → PlacedBoth d e os ps us vs told announced
+both : (d m e : DriverView) (os ps : List Outcome) (us vs : List Urc) (told announced : Bool) → Placed caller_of IsRingOf (IsCaller d.desk) (caller_rings d) (caller_rings m) os ps told → TellsAlone d m
+    → Placed place_of (IsListenerOf m.desk.kinds) (IsHeard m.desk.kinds) (listener_rings m) (listener_rings e) us vs announced → AnnouncesAlone m e → PlacedBoth d e os ps us vs told announced
 both d m e os ps us vs told announced p t q a = record {
-  outcomes =
-      subst (λ (xs : List ℕ). Placed caller_of IsRingOf (IsCaller d.desk) d.told e.told xs os ps told) (sym a.free)
-      (subst (λ (xss : List (List Outcome)). Placed caller_of IsRingOf (IsCaller d.desk) d.told xss m.free os ps told) (sym a.told) p);
+  outcomes = subst (λ (r : Rings Outcome). Placed caller_of IsRingOf (IsCaller d.desk) (caller_rings d) r os ps told) (sym a.callers) p;
   lines =
-      subst (λ (k : DeskId). Placed place_of (IsListenerOf k.kinds) (IsHeard k.kinds) d.announced e.announced e.free_lines us vs announced) t.desk
-      (subst (λ (xss : List (List Urc)). Placed place_of (IsListenerOf m.desk.kinds) (IsHeard m.desk.kinds) xss e.announced e.free_lines us vs announced) t.announced q);
+      subst (λ (k : DeskId). Placed place_of (IsListenerOf k.kinds) (IsHeard k.kinds) (listener_rings d) (listener_rings e) us vs announced) t.desk
+      (subst (λ (r : Rings Urc). Placed place_of (IsListenerOf m.desk.kinds) (IsHeard m.desk.kinds) r (listener_rings e) us vs announced) t.listeners q);
   desk = a.desk ∙ t.desk;
   taken = a.taken ∙ t.taken;
+  found_none = a.found_none ∙ t.found_none;
 }
 
 -- each caller has what it had, and then more
@@ -140,7 +142,7 @@ grows_told v w gave sent = record {
 placed_fits : (l : LineView) (d e : DriverView) (old : Kept) (ps : List Outcome) (vs : List Urc) (told announced : Bool) → PlacedBoth d e old.unplaced ps old.unannounced vs told announced
     → Leads (turn_state l d old) (turn_state l e (record old { unplaced = ps; unannounced = vs })) []
 unfolding Leads
-placed_fits l d e old ps vs told announced p b past once f =
+placed_fits l d e old ps vs told announced p b past f =
     let new : Kept = record old { unplaced = ps; unannounced = vs } in
     let v = seen_by l (end_of d) old in
     let w = seen_by l (end_of e) new in
@@ -154,7 +156,7 @@ placed_fits l d e old ps vs told announced p b past once f =
         loss = loss_with b v w past s (omega arith);
         requests = record {
           taken_are = p.taken ∙ s.requests.taken_are;
-          once = once;
+          once = ap (λ (qs : List Request). are_distinct (drop (length b.desk.taken) qs)) p.taken ∙ s.requests.once;
           callers = ap (λ (qs : List Request). list_all (is_caller b.callers) (drop (length b.desk.taken) qs)) p.taken ∙ s.requests.callers;
           few = omega arith;
         };
@@ -178,8 +180,8 @@ placed_fits l d e old ps vs told announced p b past once f =
       };
     }
 
-pub places : (d m e : DriverView) (old : Kept) (ps : List Outcome) (vs : List Urc) (told announced : Bool) → Placed caller_of IsRingOf (IsCaller d.desk) d.told m.told m.free old.unplaced ps told → TellsAlone d m
-    → Placed place_of (IsListenerOf m.desk.kinds) (IsHeard m.desk.kinds) m.announced e.announced e.free_lines old.unannounced vs announced → AnnouncesAlone m e
+pub places : (d m e : DriverView) (old : Kept) (ps : List Outcome) (vs : List Urc) (told announced : Bool) → Placed caller_of IsRingOf (IsCaller d.desk) (caller_rings d) (caller_rings m) old.unplaced ps told → TellsAlone d m
+    → Placed place_of (IsListenerOf m.desk.kinds) (IsHeard m.desk.kinds) (listener_rings m) (listener_rings e) old.unannounced vs announced → AnnouncesAlone m e
     → (l : LineView) → Places (turn_state l d old) (turn_state l e (record old { unplaced = ps; unannounced = vs })) (told || announced)
 places d m e old ps vs told announced p t q a l =
     let h = both d m e old.unplaced ps old.unannounced vs told announced p t q a in
@@ -193,6 +195,20 @@ places d m e old ps vs told announced p t q a l =
       lines_full = λ i k at some_wait.
           let here : get_elem? d.desk.kinds i ≡ some k = ap (λ (x : DeskId). get_elem? x.kinds i) (sym h.desk) ∙ at in
           h.lines.full (kind_place k) i (record { kind = k; is_place = refl; is_at = here }) (record { kind = k; is_place = refl; listened = has_at d.desk.kinds i k here }) (λ none. some_wait (kinds_of k vs ∙ none));
+      each_told = λ c. let g = h.outcomes.each c c refl in record { given = g.since; given_are = g.given_are; rest_are = g.rest_are };
+      each_announced = λ i k at.
+          let g = h.lines.each (kind_place k) i (record { kind = k; is_place = refl; is_at = at }) in
+          record {
+            given = g.since;
+            given_are = g.given_are;
+            rest_are = ap (λ (us : List Urc). g.since ++ us) (kinds_of k vs) ∙ (g.rest_are ∙ sym (kinds_of k old.unannounced));
+          };
+      elsewhere = λ i o. h.lines.elsewhere i (λ n e. o e.kind e.is_at);
+      told_counts = λ c lt. h.outcomes.counts c c refl lt ∙ ap (λ (os : List Outcome). counted (count_at c d.told_back) (length os)) (sym (firsts_are caller_of c ps));
+      announced_counts = λ i k at.
+          h.lines.counts (kind_place k) i (record { kind = k; is_place = refl; is_at = at }) (record { kind = k; is_place = refl; listened = has_at d.desk.kinds i k at })
+          ∙ ap (λ (us : List Urc). counted (count_at i d.announced_back) (length us)) (sym (kinds_of k (firsts place_of vs) ∙ firsts_are place_of (kind_place k) vs));
+      found_stays = h.found_none;
       moved_is = ap (λ (x : Bool). x || announced) h.outcomes.moved_is ∙ ap (λ (x : Bool). nat_lt (amount d.told) (amount e.told) || x) h.lines.moved_is;
       told_grows = h.outcomes.grows;
       announced_grows = h.lines.grows;

@@ -1,7 +1,7 @@
 -- The frame at hand is handled.
 use Rattle.std.proofs.Common.{ap, sym, ◌∙◌, subst, arith}
 use Rattle.std.proofs.lemmas.List.{append-nil}
-use Rattle.std.specs.Prelude.{◌≡◌, ℕ, ◌≤◌, Bool, true, false, List, [], ◌∷◌, ◌++◌, length, drop, map, refl, find, option_map, None, Some, if◌then◌else◌}
+use Rattle.std.specs.Prelude.{◌≡◌, ℕ, ◌≤◌, Bool, true, false, List, [], ◌∷◌, ◌++◌, length, drop, map, refl, find, option_map, option_to_list, None, Some, if◌then◌else◌}
 use Rattle.mux_frame.specs.Frames.{Frame}
 use Rattle.mux_frame.specs.Deframing.{Deframing, Deframes, HandsOver}
 use Rattle.mux_station.specs.States.{state_of}
@@ -32,7 +32,7 @@ use Rattle.modem_driver.proofs.sessions.OneBacklog.{said_may}
 use Rattle.modem_driver.proofs.sessions.FrameLines.{few_called}
 use Rattle.modem_driver.proofs.sessions.ListenedLines.{calls_hear}
 use Rattle.modem_driver.proofs.sessions.NextFrame.{stands_in}
-use Rattle.modem_driver.proofs.sessions.OneFrame.{one_few}
+use Rattle.modem_driver.proofs.sessions.OneFrame.{one_few, said_none}
 use Rattle.modem_driver.proofs.sessions.EndedStops.{none_noted}
 use Rattle.modem_history.specs.Lawful.{Lawful}
 
@@ -47,6 +47,7 @@ came f acts = Got f ∷ drop 1 acts
 record Gotten (b : Beginning) (l : LineView) (d : DriverView) (old new : Kept) (past : List Act) (f : Frame) (acts : List Act) : Type 0 where
   fits : FitsKept b l d new (after past (came f acts))
   adds : (waiting : List Urc) → Adds old new waiting 1 (came f acts)
+  got : gots (came f acts) ≡ f ∷ []
 
 gotten : (old : Kept) (core : Core) (fed : Deframing) (room : ℕ) (w : WaitingLists) (acts : List Act) (f : Frame)
     → Handles old.core core (Got f) acts → KeepsHeld old.core core (Got f) acts → Keeps (record { outcomes = old.unplaced; lines = old.unannounced; room = room }) w acts → length f.info ≤ room
@@ -95,6 +96,7 @@ gotten old core fed room w acts f handles held keeps enough at_hand bound over b
         may = said_may waiting more said;
         few_got = one_few f more said;
       });
+      got = ap gots same ∙ ap (λ (fs : List Frame). fs ++ f ∷ []) (said_none more said);
     }
 
 pub gets_moved : (old : Kept) (core : Core) (fed : Deframing) (room : ℕ) (w : WaitingLists) (acts : List Act) (f : Frame)
@@ -104,10 +106,11 @@ pub gets_moved : (old : Kept) (core : Core) (fed : Deframing) (room : ℕ) (w : 
 unfolding KeptGets Leads AddsAll
 gets_moved old core fed room w acts f handles held keeps enough at_hand bound over l d = record {
   acts = came f acts;
-  leads = λ b past once fit. (gotten old core fed room w acts f handles held keeps enough at_hand bound over b l d past fit).fits;
-  adds = λ waiting b past once fit. (gotten old core fed room w acts f handles held keeps enough at_hand bound over b l d past fit).adds waiting;
+  leads = λ b past fit. (gotten old core fed room w acts f handles held keeps enough at_hand bound over b l d past fit).fits;
+  adds = λ waiting b past fit. (gotten old core fed room w acts f handles held keeps enough at_hand bound over b l d past fit).adds waiting;
   moved_is = refl;
   still = λ e. absurd (let x : true ≡ false = e in cc);
+  got = λ b past fit moved. (gotten old core fed room w acts f handles held keeps enough at_hand bound over b l d past fit).got ∙ ap option_to_list (sym at_hand);
   ended = ended_after old.course (is_answered (option_map asker_of (find is_stop old.core.hand)) acts);
   no_room = λ g e. absurd (let x : true ≡ false = e in cc);
   stays = refl;
@@ -149,10 +152,11 @@ still_gets : (old : Kept) → Remains old → KeptGets old old false
 unfolding KeptGets Leads AddsAll HasRoom
 still_gets old stays l d = record {
   acts = [];
-  leads = λ b past once fit. fit;
-  adds = λ waiting b past once fit. record { outcomes = sym (append-nil old.unplaced); lines = sym (append-nil (map heard_as old.unannounced)); may = refl; few_got = omega arith };
+  leads = λ b past fit. fit;
+  adds = λ waiting b past fit. record { outcomes = sym (append-nil old.unplaced); lines = sym (append-nil (map heard_as old.unannounced)); may = refl; few_got = omega arith };
   moved_is = refl;
   still = λ e. (refl, refl);
+  got = λ b past fit e. absurd (let x : false ≡ true = e in cc);
   ended = λ end e. e;
   no_room = λ f e at_hand. (
     stays.busy f at_hand,

@@ -123,7 +123,7 @@ loses old core room w acts handles held keeps faulty live =
     let new : Kept = record old { core = core; unplaced = w.outcomes; unannounced = w.lines } in
     record {
       acts = acts;
-      goes = λ b l d past once f.
+      goes = λ b l d past f.
           let s = driving b in
           let on = handles s past (may_come b l d old past Lost f refl) in
           let more = calls s past Lost in
@@ -145,7 +145,7 @@ loses old core room w acts handles held keeps faulty live =
           subst (λ (xs : List Act). FitsKept b l d new (after past xs)) (sym on.called)
           (call_fits b l d old new past more Lost f (lost_bare past) here hold said (calls_hear s (seen s past) Lost) keep refl refl refl come lost
           (received_part b (seen_by l (end_of d) old) (seen_by l (end_of d) new) past (after past (Lost ∷ more)) f.session.received refl refl refl (gots_after more (Lost ∷ past) said)));
-      loses = λ b l d past once f.
+      loses = λ b l d past f.
           let s = driving b in
           let on = handles s past (may_come b l d old past Lost f refl) in
           let more = calls s past Lost in

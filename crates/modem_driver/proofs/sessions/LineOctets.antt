@@ -48,7 +48,7 @@ loss_with b old new past f more = record {
 
 pub feed_goes : (old : Kept) (fed : Deframing) (count : ℕ) → TakesIn old.deframer (take count old.unfed) fed → fed.n1 ≡ old.deframer.n1 → KeptGoes old (record old { unfed = drop count old.unfed; deframer = fed }) []
 unfolding KeptGoes
-feed_goes old fed count takes bound b l d past once f =
+feed_goes old fed count takes bound b l d past f =
     let new : Kept = record old { unfed = drop count old.unfed; deframer = fed } in
     let v = seen_by l (end_of d) old in
     let w = seen_by l (end_of d) new in
@@ -121,7 +121,7 @@ inside_faulty b l m d old new past f core faulty more come = record {
 pub read_goes : (l m : LineView) (old : Kept) (came : List ℕ) → old.unfed ≡ [] → m.received ≡ l.received ++ came → m.sent ≡ l.sent → m.failures ≡ l.failures
     → KeptMoves l m old (record old { unfed = came })
 unfolding KeptMoves
-read_goes l m old came none received sent failures b d past once f =
+read_goes l m old came none received sent failures b d past f =
     let new : Kept = record old { unfed = came } in
     let v = seen_by l (end_of d) old in
     let w = seen_by m (end_of d) new in
@@ -143,7 +143,7 @@ read_goes l m old came none received sent failures b d past once f =
 pub fault_goes : (l m : LineView) (old : Kept) → m.received ≡ l.received → m.sent ≡ l.sent → m.failures ≡ l.failures + 1
     → KeptMoves l m old (record old { faulty = true })
 unfolding KeptMoves
-fault_goes l m old received sent failures b d past once f =
+fault_goes l m old received sent failures b d past f =
     let new : Kept = record old { faulty = true } in
     let v = seen_by l (end_of d) old in
     let w = seen_by m (end_of d) new in
@@ -157,7 +157,7 @@ fault_goes l m old received sent failures b d past once f =
 pub write_goes : (l m : LineView) (old : Kept) (count : ℕ) → m.received ≡ l.received → m.sent ≡ l.sent ++ take count old.unwritten → m.failures ≡ l.failures
     → KeptMoves l m old (record old { unwritten = drop count old.unwritten })
 unfolding KeptMoves
-write_goes l m old count received sent failures b d past once f =
+write_goes l m old count received sent failures b d past f =
     let new : Kept = record old { unwritten = drop count old.unwritten } in
     let v = seen_by l (end_of d) old in
     let w = seen_by m (end_of d) new in

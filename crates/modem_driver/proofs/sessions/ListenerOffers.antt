@@ -7,9 +7,9 @@ use mathlib.Core.Option.{some, some-injective, some-ne-none}
 use lib.ListN.{get_elem?}
 use Rattle.at_text.specs.declared.unsolicited.UrcKind.{UrcKind}
 use Rattle.modem_desk.specs.declared.request.Urc.{Urc}
-use Rattle.modem_desk.specs.Ends.{DriverView, DeskId, Announces, Changes, FallsByOne, RunsOut, Hears}
+use Rattle.modem_desk.specs.Ends.{DriverView, DeskId, Announces, Changes, FallsByOne, RunsOut, RisesByOne, Hears}
 use Rattle.modem_history.specs.Kinds.{kind_place}
-use Rattle.modem_driver.specs.Placing.{Placed, OneFewer, OffersFirst, AnnouncesAlone, place_of, IsListenerOf, IsHeard}
+use Rattle.modem_driver.specs.Placing.{Placed, OneFewer, OffersFirst, AnnouncesAlone, place_of, IsListenerOf, IsHeard, listener_rings}
 use Rattle.modem_driver.proofs.sessions.Kinds.{same_place}
 use Rattle.modem_driver.proofs.sessions.FirstOffers.{either, AreApart, GivesOne, FillsUp, placing_first, placed_last}
 
@@ -50,19 +50,25 @@ subscription_at ks k i e = record { kind = k; is_place = refl; is_at = e }
 at_subscription : (ks : List UrcKind) (k : UrcKind) (i : ℕ) → IsListenerOf ks (kind_place k) i → get_elem? ks i ≡ some k
 at_subscription ks k i e = e.is_at ∙ ap some (same_kind e.kind k e.is_place)
 
-pub listener_given : (ks : List UrcKind) (u : Urc) (now later : List (List Urc)) (free freer : List ℕ) → Contains ks u.kind → Announces ks u now later → Changes (Hears ks u.kind) FallsByOne free freer → GivesOne (IsListenerOf ks) (place_of u) u now later free freer
-listener_given ks u now later free freer has a c =
+pub listener_given : (ks : List UrcKind) (u : Urc) (now later : DriverView) → Contains ks u.kind → Announces ks u now.announced later.announced → Changes (Hears ks u.kind) FallsByOne now.free_lines later.free_lines → later.announced_back ≡ now.announced_back → GivesOne (IsListenerOf ks) (place_of u) u (listener_rings now) (listener_rings later)
+listener_given ks u now later has a c back =
     let s = stands ks u.kind has in
     record {
       here = λ i e. a.here i (at_subscription ks u.kind i e);
       others = λ i o. a.others i (λ h. o (subscription_at ks u.kind i h));
       free_others = λ i o. c.others i (λ h. o (subscription_at ks u.kind i h));
+      back_same = back;
       one = s.place;
       is_one = subscription_at ks u.kind s.place s.is_at;
     }
 
-pub listener_full : (ks : List UrcKind) (k : UrcKind) (free freer : List ℕ) → Changes (Hears ks k) RunsOut free freer → FillsUp (IsListenerOf ks) (kind_place k) free freer
-listener_full ks k free freer c = record { here = λ i e. c.here i (at_subscription ks k i e); others = λ i o. c.others i (λ h. o (subscription_at ks k i h)) }
+pub listener_full : (ks : List UrcKind) (k : UrcKind) (free freer back backer : List ℕ) → Changes (Hears ks k) RunsOut free freer → Changes (Hears ks k) RisesByOne back backer → FillsUp (IsListenerOf ks) (kind_place k) free freer back backer
+listener_full ks k free freer back backer c e = record {
+  here = λ i at. c.here i (at_subscription ks k i at);
+  others = λ i o. c.others i (λ h. o (subscription_at ks k i h));
+  counts = λ i at. e.here i (at_subscription ks k i at);
+  count_others = λ i o. e.others i (λ h. o (subscription_at ks k i h));
+}
 
 -- a kind that is listened to
 pub heard_kind : (ks : List UrcKind) (k : UrcKind) → IsHeard ks (kind_place k) → Contains ks k
@@ -78,40 +84,40 @@ not_heard ks k r both e h = is_false r e (both.1 (heard_kind ks k h))
 -- ## One after the other
 
 pub record AnnouncesSo (first now : DriverView) (held : List Bool) (waited waits : List Urc) (left : ℕ) (moved : Bool) : Type 0 where
-  pub fewer : OneFewer place_of (IsListenerOf first.desk.kinds) (IsHeard first.desk.kinds) first.announced now.announced now.free_lines held waited waits left moved
+  pub fewer : OneFewer place_of (IsListenerOf first.desk.kinds) (IsHeard first.desk.kinds) (listener_rings first) (listener_rings now) held waited waits left moved
   pub alone : AnnouncesAlone first now
 
 pub announces_first : (d : DriverView) (held : List Bool) (waited : List Urc) (count : ℕ) → ((n : ℕ) → slice_index_or held n false ≡ false) → count ≡ length waited → AnnouncesSo d d held waited waited (count - 0) false
 announces_first d held waited count none e = record {
-  fewer = subst (λ (n : ℕ). OneFewer place_of (IsListenerOf d.desk.kinds) (IsHeard d.desk.kinds) d.announced d.announced d.free_lines held waited waited n false) (sym e ∙ all) (placing_first place_of (IsListenerOf d.desk.kinds) (IsHeard d.desk.kinds) d.announced d.free_lines held waited none);
-  alone = record { desk = refl; taken = refl; told = refl; free = refl };
+  fewer = subst (λ (n : ℕ). OneFewer place_of (IsListenerOf d.desk.kinds) (IsHeard d.desk.kinds) (listener_rings d) (listener_rings d) held waited waited n false) (sym e ∙ all) (placing_first place_of (IsListenerOf d.desk.kinds) (IsHeard d.desk.kinds) (listener_rings d) held waited none);
+  alone = record { desk = refl; taken = refl; found_none = refl; callers = refl };
 }
   where
     all : count ≡ count - 0
     all = omega arith
 
 pub announces_more : (first now later : DriverView) (held more_held : List Bool) (waited waits rest : List Urc) (place end : ℕ) (moved earlier : Bool) → place < end
-    → OffersFirst place_of (IsListenerOf now.desk.kinds) (IsHeard now.desk.kinds) now.announced later.announced now.free_lines later.free_lines held more_held waits rest moved → AnnouncesAlone now later
+    → OffersFirst place_of (IsListenerOf now.desk.kinds) (IsHeard now.desk.kinds) (listener_rings now) (listener_rings later) held more_held waits rest moved → AnnouncesAlone now later
     → AnnouncesSo first now held waited waits (end - place) earlier → AnnouncesSo first later more_held waited rest (end - (place + 1)) (earlier || moved)
 unfolding OffersFirst
 announces_more first now later held more_held waited waits rest place end moved earlier lt offers alone so =
     let one : end - place ≡ (end - (place + 1)) + 1 = omega arith in
-    let before = subst (λ (n : ℕ). OneFewer place_of (IsListenerOf first.desk.kinds) (IsHeard first.desk.kinds) first.announced now.announced now.free_lines held waited waits n earlier) one so.fewer in
-    let here = subst (λ (k : DeskId). OneFewer place_of (IsListenerOf k.kinds) (IsHeard k.kinds) first.announced now.announced now.free_lines held waited waits (end - (place + 1) + 1) earlier) (sym so.alone.desk) before in
+    let before = subst (λ (n : ℕ). OneFewer place_of (IsListenerOf first.desk.kinds) (IsHeard first.desk.kinds) (listener_rings first) (listener_rings now) held waited waits n earlier) one so.fewer in
+    let here = subst (λ (k : DeskId). OneFewer place_of (IsListenerOf k.kinds) (IsHeard k.kinds) (listener_rings first) (listener_rings now) held waited waits (end - (place + 1) + 1) earlier) (sym so.alone.desk) before in
     record {
       fewer =
-          subst (λ (m : Bool). OneFewer place_of (IsListenerOf first.desk.kinds) (IsHeard first.desk.kinds) first.announced later.announced later.free_lines more_held waited rest (end - (place + 1)) m) (either moved earlier)
-          (subst (λ (k : DeskId). OneFewer place_of (IsListenerOf k.kinds) (IsHeard k.kinds) first.announced later.announced later.free_lines more_held waited rest (end - (place + 1)) (moved || earlier)) so.alone.desk (offers first.announced waited (end - (place + 1)) earlier here));
+          subst (λ (m : Bool). OneFewer place_of (IsListenerOf first.desk.kinds) (IsHeard first.desk.kinds) (listener_rings first) (listener_rings later) more_held waited rest (end - (place + 1)) m) (either moved earlier)
+          (subst (λ (k : DeskId). OneFewer place_of (IsListenerOf k.kinds) (IsHeard k.kinds) (listener_rings first) (listener_rings later) more_held waited rest (end - (place + 1)) (moved || earlier)) so.alone.desk (offers (listener_rings first) waited (end - (place + 1)) earlier here));
       alone = record {
         desk = alone.desk ∙ so.alone.desk;
         taken = alone.taken ∙ so.alone.taken;
-        told = alone.told ∙ so.alone.told;
-        free = alone.free ∙ so.alone.free;
+        found_none = alone.found_none ∙ so.alone.found_none;
+        callers = alone.callers ∙ so.alone.callers;
       };
     }
 
 pub announces_last : (first now : DriverView) (held : List Bool) (waited waits : List Urc) (left : ℕ) (moved : Bool) → left ≡ 0 → AnnouncesSo first now held waited waits left moved
-    → Placed place_of (IsListenerOf first.desk.kinds) (IsHeard first.desk.kinds) first.announced now.announced now.free_lines waited waits moved
+    → Placed place_of (IsListenerOf first.desk.kinds) (IsHeard first.desk.kinds) (listener_rings first) (listener_rings now) waited waits moved
 announces_last first now held waited waits left moved none so =
-    placed_last place_of (IsListenerOf first.desk.kinds) (IsHeard first.desk.kinds) first.announced now.announced now.free_lines held waited waits moved
-    (subst (λ (n : ℕ). OneFewer place_of (IsListenerOf first.desk.kinds) (IsHeard first.desk.kinds) first.announced now.announced now.free_lines held waited waits n moved) none so.fewer)
+    placed_last place_of (IsListenerOf first.desk.kinds) (IsHeard first.desk.kinds) (listener_rings first) (listener_rings now) held waited waits moved
+    (subst (λ (n : ℕ). OneFewer place_of (IsListenerOf first.desk.kinds) (IsHeard first.desk.kinds) (listener_rings first) (listener_rings now) held waited waits n moved) none so.fewer)

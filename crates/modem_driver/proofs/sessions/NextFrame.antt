@@ -24,11 +24,12 @@ use Rattle.modem_history.specs.Sessions.{Beginning, LineView, TakesWithRoom, dri
 use Rattle.modem_history.specs.Turns.{outcomes_told, lines_heard, may_act}
 use Rattle.modem_driver.specs.Cores.{Core}
 use Rattle.modem_driver.specs.CoreGoing.{StandsIn, GoesOut, CoreGoesOn, gone_on}
-use Rattle.modem_driver.specs.GoingOut.{next_out, out_by, next_to_send, data_of, with_out, after_out}
+use Rattle.modem_history.specs.EveryTurn.{acts_out, octets_out, goes_in}
+use Rattle.modem_history.specs.GoingOut.{next_out, out_by, next_to_send, data_of, with_out, after_out}
 use Rattle.modem_driver.specs.Holding.{HoldsFit, KeepsHeldOut}
 use Rattle.modem_driver.specs.Running.{CoreIsIdle}
 use Rattle.modem_driver.specs.SessionStates.{Kept, seen_by, end_of}
-use Rattle.modem_driver.specs.TurnSteps.{SendsOn, AddsAll, Leads, is_more, turn_state}
+use Rattle.modem_driver.specs.TurnSteps.{SendsOn, AddsAll, Leads, is_more, turn_state, view_of}
 use Rattle.modem_driver.specs.SendingSteps.{KeptSends}
 use Rattle.modem_driver.proofs.sessions.LongerHistories.{has_listener}
 use Rattle.modem_driver.proofs.sessions.CoreCalls.{FitsKept, is_run}
@@ -219,15 +220,19 @@ out_fits old c f out none short goes on holds writes b l d past fit =
       };
     }
 
+-- the frame that goes into the empty output
+goes_now : (b : Beginning) (l : LineView) (d : DriverView) (old : Kept) (o : Outgoing) (past : List Act) → old.unwritten ≡ [] → Some o ≡ next_out (driving b) past → Some o ≡ goes_in b (view_of (turn_state l d old)) past
+goes_now b l d old o past none next = next ∙ ap (λ (xs : List ℕ). if length xs == 0 then next_out (driving b) past else None) (sym none)
+
 pub send_goes : (old : Kept) (o : Outgoing) (out : List ℕ) → old.unwritten ≡ [] → length o.frame.info ≤ 1024 → GoesOut old.core (Some o) → CoreGoesOn old.core → KeepsHeldOut old.core → out ≢ [] → (length o.frame.info ≤ most_info 1024 o.frame.kind → out ≡ spelled o.frame)
     → KeptSends old (record old { core = gone_on old.core; unwritten = out }) o.fresh
-unfolding KeptSends Leads AddsAll
+unfolding KeptSends Leads AddsAll GoesOut CoreGoesOn
 send_goes old o out none short goes on holds some writes l d =
     let a = out_act o.fresh o.frame in
     record {
       acts = a ∷ [];
-      leads = λ b past once fit. out_fits old o.fresh o.frame out none short goes on holds writes b l d past fit;
-      adds = λ waiting b past once fit.
+      leads = λ b past fit. out_fits old o.fresh o.frame out none short goes on holds writes b l d past fit;
+      adds = λ waiting b past fit.
           let more : IsOut a past = is_out o.fresh o.frame past in
           record {
             outcomes = sym (append-nil old.unplaced) ∙ ap (λ (os : List Outcome). old.unplaced ++ os) (sym more.told_are);
@@ -239,6 +244,15 @@ send_goes old o out none short goes on holds some writes l d =
       idle = λ e. absurd (some e);
       none_left = λ e. absurd (some e);
       busy = λ m e. absurd (e none);
+      acts_are = λ b past fit. ap acts_out (goes_now b l d old o past none (goes (driving b) past (stands_in b l d old past fit)));
+      octets_are = λ b past fit.
+          let s = driving b in
+          let stands = stands_in b l d old past fit in
+          let next : Some o ≡ next_out s past = goes s past stands in
+          let goes_on : StandsIn s (gone_on old.core) (a ∷ past) = subst (StandsIn s (gone_on old.core)) (ap (λ (x : Option Outgoing). with_out x past) (sym next)) (on s past stands) in
+          let is : GivenOut past o.fresh o.frame = given_out s past o.fresh o.frame next stands.run.lawful stands.run.complete goes_on.run.lawful in
+          writes (plain_short o.frame is.plain short)
+          ∙ (ap octets_out (goes_now b l d old o past none next) ∙ ap (λ (xs : List ℕ). xs ++ octets_out (goes_in b (view_of (turn_state l d old)) past)) (sym none));
       stays = refl;
     }
 
@@ -247,14 +261,23 @@ pub send_busy : (old : Kept) → old.unwritten ≢ [] → KeptSends old old fals
 unfolding KeptSends Leads AddsAll
 send_busy old some l d = record {
   acts = [];
-  leads = λ b past once fit. fit;
-  adds = λ waiting b past once fit. record { outcomes = sym (append-nil old.unplaced); lines = sym (append-nil (map heard_as old.unannounced)); may = refl; few_got = omega arith };
+  leads = λ b past fit. fit;
+  adds = λ waiting b past fit. record { outcomes = sym (append-nil old.unplaced); lines = sym (append-nil (map heard_as old.unannounced)); may = refl; few_got = omega arith };
   moved_is = refl;
   idle = λ e. absurd (some e);
   none_left = λ e. absurd (some e);
   busy = λ m e. (refl, refl);
+  acts_are = λ b past fit. ap acts_out (sym (none_goes b old past some));
+  octets_are = λ b past fit. sym (append-nil old.unwritten) ∙ ap (λ (o : Option Outgoing). old.unwritten ++ octets_out o) (sym (none_goes b old past some));
   stays = refl;
 }
+  where
+    none_goes : (b : Beginning) (k : Kept) (past : List Act) → k.unwritten ≢ [] → (if length k.unwritten == 0 then next_out (driving b) past else None) ≡ None
+    none_goes b k past wait = by_length (length k.unwritten == 0) refl
+      where
+        by_length : (c : Bool) → (length k.unwritten == 0) ≡ c → (if c then next_out (driving b) past else None) ≡ None
+        by_length true e = absurd (wait (nil_from_length k.unwritten (eqb-true (length k.unwritten) 0 e)))
+        by_length false e = refl
 
 -- and where nothing is left to send
 pub send_none : (old : Kept) (core : Core) → core ≡ old.core → GoesOut old.core None → CoreIsIdle old.core → old.unwritten ≡ [] → KeptSends old (record old { core = core }) false
@@ -263,14 +286,19 @@ send_none old core same goes idle none l d =
     subst (λ (v : Core). SendsOn (turn_state l d old) (turn_state l d (record old { core = v })) false) (sym same)
     (record {
       acts = [];
-      leads = λ b past once fit. fit;
-      adds = λ waiting b past once fit. record { outcomes = sym (append-nil old.unplaced); lines = sym (append-nil (map heard_as old.unannounced)); may = refl; few_got = omega arith };
+      leads = λ b past fit. fit;
+      adds = λ waiting b past fit. record { outcomes = sym (append-nil old.unplaced); lines = sym (append-nil (map heard_as old.unannounced)); may = refl; few_got = omega arith };
       moved_is = refl;
       idle = λ e. (refl, (refl, idle));
       none_left = λ e b past fit. sym (goes (driving b) past (stands_in b l d old past fit));
       busy = λ m e. absurd (e none);
+      acts_are = λ b past fit. ap acts_out (nothing b past fit);
+      octets_are = λ b past fit. sym (append-nil old.unwritten) ∙ ap (λ (o : Option Outgoing). old.unwritten ++ octets_out o) (nothing b past fit);
       stays = refl;
     })
+  where
+    nothing : (b : Beginning) (past : List Act) → FitsKept b l d old past → None ≡ goes_in b (view_of (turn_state l d old)) past
+    nothing b past fit = goes (driving b) past (stands_in b l d old past fit) ∙ ap (λ (xs : List ℕ). if length xs == 0 then next_out (driving b) past else None) (sym none)
 
 -- ## Whether octets wait
 

@@ -1,21 +1,25 @@
 -- A request of the desk is put aside, and taken.
 use Rattle.std.proofs.Common.{ap, sym, ◌∙◌, subst, arith, inl, inr, ⊎_elim}
-use Rattle.std.proofs.lemmas.Bool.{and_from}
+use Rattle.std.proofs.lemmas.Bool.{and_from, and_parts}
 use Rattle.std.proofs.lemmas.List.{append-nil}
 use Rattle.std.proofs.lemmas.List.Folds.{list_all-append}
-use Rattle.std.specs.Prelude.{◌≡◌, ◌≢◌, ℕ, ◌+◌, ◌≤◌, ◌<◌, Bool, true, false, List, [], ◌∷◌, ◌++◌, length, map, refl, option_to_list, Option, None, Some, MatchOption, is_some, Result, Ok, Err, IfOk, OnErr}
+use Rattle.std.specs.Prelude.{◌≡◌, ◌≢◌, ℕ, zero, suc, ◌+◌, ◌≤◌, ◌<◌, Bool, true, false, List, [], ◌∷◌, ◌++◌, length, map, drop, refl, option_to_list, Option, None, Some, MatchOption, is_some, Result, Ok, Err, IfOk, OnErr}
 use Rattle.std.specs.List.{list_all}
 use Rattle.modem_desk.specs.declared.request.Request.{Request}
-use Rattle.modem_desk.specs.Ends.{DriverView, DeskId}
+use Rattle.modem_desk.specs.Ends.{DriverView, DeskId, RisesByOne}
+use Rattle.modem_desk.specs.Rule.{AreNumbered}
+use Rattle.modem_history.specs.Requests.{are_distinct, is_apart}
+use Rattle.modem_history.specs.EveryTurn.{asked_in_vain}
 use Rattle.modem_history.specs.Acts.{Act, in_hand}
 use Rattle.modem_history.specs.Wholes.{taken_requests}
 use Rattle.modem_history.specs.Sessions.{Beginning, LineView, taken_since, heard_as}
-use Rattle.modem_history.specs.Turns.{outcomes_told, lines_heard}
+use Rattle.modem_history.specs.Turns.{counted, request_given, outcomes_told, lines_heard}
 use Rattle.modem_history.proofs.law_proofs.SessionLaws.{since_more}
 use Rattle.modem_driver.specs.declared.session.error.SessionFault.{SessionFault}
 use Rattle.modem_driver.specs.SessionStates.{Kept, KeptGoes, seen_by, end_of}
 use Rattle.modem_driver.specs.TurnSteps.{TurnState, StandingFits, Leads, AddsAll, TakesOne, KeepsAside, turn_state}
 use Rattle.modem_driver.specs.TurnTakes.{Fetches, TakesAside, TakesIf}
+use Rattle.modem_driver.proofs.law_proofs.RequestNumbers.{taken_once}
 use Rattle.modem_driver.proofs.sessions.OutcomeCounts.{is_caller}
 use Rattle.modem_driver.proofs.sessions.StopProgress.{come_on, grows_none}
 use Rattle.modem_driver.proofs.sessions.LineOctets.{loss_with}
@@ -29,16 +33,20 @@ pub record Gives (d e : DriverView) (o : Option Request) : Type 0 where
   pub told : e.told ≡ d.told
   pub announced : e.announced ≡ d.announced
   pub places : (e.free ≡ d.free) × (e.free_lines ≡ d.free_lines)
+  pub backs : (e.told_back ≡ d.told_back) × (e.announced_back ≡ d.announced_back)
+  pub found : e.found_none ≡ counted d.found_none (asked_in_vain (Some o))
+  pub once : are_distinct e.taken ≡ true
   pub more : e.taken ≡ d.taken ++ option_to_list o
   pub callers : list_all (is_caller (length d.desk.rings)) (option_to_list o) ≡ true
 
 caller_of : (d : DriverView) (q : Request) → q.caller < length d.desk.rings → list_all (is_caller (length d.desk.rings)) (q ∷ []) ≡ true
 caller_of d q h = grind arith
 
-pub gives : (d e : DriverView) (o : Option Request) → e.desk ≡ d.desk → e.told ≡ d.told → e.announced ≡ d.announced → (e.free ≡ d.free) × (e.free_lines ≡ d.free_lines)
+pub gives : (d e : DriverView) (o : Option Request) → e.desk ≡ d.desk → e.told ≡ d.told → e.announced ≡ d.announced → (e.free ≡ d.free) × (e.free_lines ≡ d.free_lines) → (e.told_back ≡ d.told_back) × (e.announced_back ≡ d.announced_back)
+    → MatchOption o (RisesByOne d.found_none e.found_none) (λ _. e.found_none ≡ d.found_none) → AreNumbered e.taken
     → MatchOption o (e.taken ≡ d.taken) (λ q. (e.taken ≡ d.taken ++ q ∷ []) × (q.caller < length d.desk.rings)) → Gives d e o
-gives d e None desk told announced places h = record { desk = desk; told = told; announced = announced; places = places; more = h ∙ sym (append-nil d.taken); callers = refl }
-gives d e (Some q) desk told announced places h = record { desk = desk; told = told; announced = announced; places = places; more = h.0; callers = caller_of d q h.1 }
+gives d e None desk told announced places backs found once h = record { desk = desk; told = told; announced = announced; places = places; backs = backs; found = found; once = taken_once e.taken once; more = h ∙ sym (append-nil d.taken); callers = refl }
+gives d e (Some q) desk told announced places backs found once h = record { desk = desk; told = told; announced = announced; places = places; backs = backs; found = found; once = taken_once e.taken once; more = h.0; callers = caller_of d q h.1 }
 
 pub is_none : (o : Option Request) → is_some o ≡ false → o ≡ None
 is_none None h = refl
@@ -48,10 +56,16 @@ one_at_most : (o : Option Request) → length (option_to_list o) ≤ 1
 one_at_most None = omega arith
 one_at_most (Some q) = omega arith
 
+-- those behind some of them are distinct too
+pub distinct_behind : (n : ℕ) (qs : List Request) → are_distinct qs ≡ true → are_distinct (drop n qs) ≡ true
+distinct_behind zero qs h = h
+distinct_behind (suc n) [] h = h
+distinct_behind (suc n) (q ∷ qs) h = distinct_behind n qs (and_parts (list_all (is_apart q) qs) (are_distinct qs) h).1
+
 -- it waits aside: what was taken since the session began has it last
 asks_next : (l : LineView) (d e : DriverView) (old : Kept) (o : Option Request) → old.aside ≡ None → length old.core.hand + length old.unplaced < 128 → Gives d e o → Leads (turn_state l d old) (turn_state l e (record old { aside = o })) []
 unfolding Leads
-asks_next l d e old o none room g b past once f =
+asks_next l d e old o none room g b past f =
     let new : Kept = record old { aside = o } in
     let v = seen_by l (end_of d) old in
     let w = seen_by l (end_of e) new in
@@ -69,7 +83,7 @@ asks_next l d e old o none room g b past once f =
               g.more
               ∙ (ap (λ (qs : List Request). qs ++ option_to_list o) (s.requests.taken_are ∙ ap (λ (x : Option Request). b.desk.taken ++ taken_requests past ++ option_to_list x) none)
               ∙ ap (λ (qs : List Request). qs ++ option_to_list o) (append-nil (b.desk.taken ++ taken_requests past)));
-          once = once;
+          once = distinct_behind (length b.desk.taken) e.taken g.once;
           callers =
               ap (list_all (is_caller b.callers)) since
               ∙ (list_all-append (is_caller b.callers) (taken_since b v) (option_to_list o)
@@ -105,6 +119,9 @@ fetches l d e old o none room g = record {
   none = λ h. inl (ap (λ (x : Option Request). Some x) h);
   desk_stays = (g.desk, (g.told, g.announced));
   places_stay = g.places;
+  backs_stay = g.backs;
+  asks = λ asked. absurd (let x : Some o ≡ None = asked in cc);
+  found = g.found;
   stays = refl;
   line_stays = refl;
 }
@@ -112,7 +129,7 @@ fetches l d e old o none room g = record {
 -- the desk isn't asked
 leads_still : (s : TurnState) → Leads s s []
 unfolding Leads
-leads_still s b past once f = f
+leads_still s b past f = f
 
 pub fetches_none : (l : LineView) (d : DriverView) (k : Kept) → (k.aside ≡ None → 128 ≤ length k.core.hand + length k.unplaced) → Fetches (turn_state l d k) (turn_state l d k)
 fetches_none l d k full = record {
@@ -125,6 +142,9 @@ fetches_none l d k full = record {
   none = λ h. inr (full h);
   desk_stays = (refl, (refl, refl));
   places_stay = (refl, refl);
+  backs_stay = (refl, refl);
+  asks = λ _. full;
+  found = refl;
   stays = refl;
   line_stays = refl;
 }
@@ -144,7 +164,7 @@ takes_none l d e old mid h none =
       next = h.next;
       acts = [];
       leads = h.leads;
-      adds = λ waiting b past once f. record {
+      adds = λ waiting b past f. record {
         outcomes = ap (λ (k : Kept). k.unplaced) same ∙ sym (append-nil old.unplaced);
         lines = ap (λ (k : Kept). map heard_as k.unannounced) same ∙ sym (append-nil (map heard_as old.unannounced));
         may = refl;
@@ -159,6 +179,9 @@ takes_none l d e old mid h none =
       no_request = λ _. ⊎_elim (λ (n : h.next ≡ Some None). inl n) (λ (full : 128 ≤ length old.core.hand + length old.unplaced). inr (at_most full)) (h.none none);
       desk_stays = h.desk_stays;
       places_stay = h.places_stay;
+      backs_stay = h.backs_stay;
+      asks = λ b past f asked bare. at_most (h.asks asked bare) b past f;
+      found = h.found;
       stays = ap (turn_state l e) (h.stays ∙ (ap (λ (o : Option Request). record old { aside = o }) none
           ∙ ap (λ (k : Kept). record old { core = k.core; aside = None; unplaced = k.unplaced; unannounced = k.unannounced }) (sym same)));
     }
@@ -172,14 +195,18 @@ takes_none l d e old mid h none =
         let few = f.session.requests.few in
         omega arith
 
+none_aside : (o : Option Request) → option_to_list o ≡ [] → o ≡ None
+none_aside None e = refl
+none_aside (Some q) e = absurd (let long : length (q ∷ []) ≡ 0 = ap length e in omega arith)
+
 takes_some : (l : LineView) (d e : DriverView) (old mid new : Kept) → Fetches (turn_state l d old) (turn_state l e mid) → TakesAside mid new → TakesOne (turn_state l d old) (turn_state l e new) true
 unfolding Leads KeptGoes AddsAll
 takes_some l d e old mid new h t = record {
   next = h.next;
   acts = t.acts;
-  leads = λ b past once f. t.goes b l e past once (h.leads b past once f);
-  adds = λ waiting b past once f.
-      let a = t.adds waiting b l e past once (h.leads b past once f) in
+  leads = λ b past f. t.goes b l e past (h.leads b past f);
+  adds = λ waiting b past f.
+      let a = t.adds waiting b l e past (h.leads b past f) in
       record {
         outcomes = a.outcomes ∙ ap (λ (k : Kept). k.unplaced ++ outcomes_told t.acts) h.stays;
         lines = a.lines ∙ ap (λ (k : Kept). map heard_as k.unannounced ++ lines_heard t.acts) h.stays;
@@ -195,6 +222,9 @@ takes_some l d e old mid new h t = record {
   no_request = λ n. cc;
   desk_stays = h.desk_stays;
   places_stay = h.places_stay;
+  backs_stay = h.backs_stay;
+  asks = λ b past f asked bare. absurd (t.some (none_aside mid.aside (h.aside ∙ (ap (λ (o : Option Request). option_to_list o ++ request_given h.next) bare ∙ ap request_given asked))));
+  found = h.found;
   stays = ap (turn_state l e) (t.stays ∙ ap (λ (k : Kept). record k { core = new.core; aside = None; unplaced = new.unplaced; unannounced = new.unannounced }) h.stays);
 }
 
@@ -218,6 +248,7 @@ keep_two d e old mid new h same some l = subst (λ (k : Kept). KeepsAside (turn_
   asks_bare = (h l).asks_bare;
   one_aside = (some, (h l).aside);
   desk_stays = (h l).desk_stays;
+  backs_stay = (h l).backs_stay;
   stays = ap (turn_state l e) (h l).stays;
 })
 

@@ -1,8 +1,8 @@
 -- A backlog is looked at.
 use Rattle.std.proofs.Common.{ap, sym, ◌∙◌, inl, inr, subst, arith}
-use Rattle.std.proofs.lemmas.Bool.{and_from, and_parts, eqb-true, le-leb, leb-false}
+use Rattle.std.proofs.lemmas.Bool.{and_from, and_parts, eq-eqb, ne_eqb, eqb-true, le-leb, le-ltb, lt-leb, ltb-true, leb-true, leb-false}
 use Rattle.std.proofs.lemmas.List.{append-nil, length-append, nil_from_length}
-use Rattle.std.specs.Prelude.{◌≡◌, ℕ, ◌+◌, ◌<◌, ◌≤◌, ◌==◌, ◌&&◌, ◌||◌, ◌⊎◌, ◌++◌, not, nat_le, nat_lt, Bool, true, false, List, [], ◌∷◌, length, map, filter, refl, Option, None, Some, if◌then◌else◌}
+use Rattle.std.specs.Prelude.{◌≡◌, ℕ, ◌+◌, ◌*◌, ◌<◌, ◌≤◌, ◌==◌, ◌&&◌, ◌||◌, ◌⊎◌, ◌++◌, not, nat_le, nat_lt, Bool, true, false, List, [], ◌∷◌, length, map, filter, refl, Option, None, Some, if◌then◌else◌}
 use Rattle.std.specs.List.{list_all, list_any}
 use Rattle.mux_frame.specs.Frames.{Frame}
 use Rattle.mux_station.specs.declared.role.Role.{Role}
@@ -24,7 +24,12 @@ use Rattle.modem_history.proofs.calls.CalledActs.{Saids, calls_said}
 use Rattle.modem_driver.specs.Cores.{Core, GoesOn, Fits, Runs, RunsUnless, IsSettingOf}
 use Rattle.modem_driver.specs.Holding.{HoldsFit, Flows, FlowsOn, HasNoRoom, LacksRoom, NeverDue, MayAsk, acts_due, due_by, flow_due, flow_act}
 use Rattle.modem_driver.specs.Endings.{HasCome}
-use Rattle.modem_driver.specs.BacklogChecks.{ChecksOne}
+use Rattle.modem_driver.specs.BacklogChecks.{ChecksOne, SettlesOne}
+use Rattle.modem_history.specs.EveryTurn.{is_check}
+use Rattle.modem_history.specs.Holding.{is_held, last_held}
+use Rattle.mux_station.specs.Opening.{is_open}
+use Rattle.mux_station.specs.Messages.{msc}
+use Rattle.mux_station.proofs.user_calls.ProbeStopFlowOffer.{no_close_down}
 use Rattle.modem_driver.specs.TurnSteps.{is_more}
 use Rattle.modem_driver.specs.SessionStates.{Kept, KeptGoes, seen_by, end_of}
 use Rattle.modem_driver.proofs.cores.StationPasts.{queue_seen}
@@ -165,6 +170,100 @@ record Flown (b : Beginning) (l : LineView) (d : DriverView) (old new : Kept) (n
   fits : FitsKept b l d new (after past acts)
   may : list_all (may_act old.unannounced) acts ≡ true
   settles : new.core.station.queue ≡ [] → (acts ≡ []) × ((new ≡ old) × (due_by (driving b) past n (backlog_in n old.unannounced) ≡ None))
+  flows : SettlesOne b past acts n old.unannounced
+
+-- what was held or freed calls for nothing more
+flow_settled : (opened held go : Bool) (lines : ℕ) → flow_due opened held lines ≡ Some go → flow_due opened (opened && not go) lines ≡ None
+flow_settled false held go lines e = cc
+flow_settled true false go lines e = by_test (nat_le 256 lines) refl e
+  where
+    by_test : (c : Bool) → nat_le 256 lines ≡ c → (if c then Some false else None) ≡ Some go → flow_due true (not go) lines ≡ None
+    by_test true t h = subst (λ (x : Bool). flow_due true (not x) lines ≡ None) (same_go false go h) (let many = leb-true 256 lines t in ap (λ (c : Bool). if c then Some true else None) (le-ltb lines 128 (omega (arith, many))))
+    by_test false t h = cc
+flow_settled true true go lines e = by_test (nat_lt lines 128) refl e
+  where
+    by_test : (c : Bool) → nat_lt lines 128 ≡ c → (if c then Some true else None) ≡ Some go → flow_due true (not go) lines ≡ None
+    by_test true t h = subst (λ (x : Bool). flow_due true (not x) lines ≡ None) (same_go true go h) (let few = ltb-true lines 128 t in ap (λ (c : Bool). if c then Some false else None) (lt-leb 256 lines (omega (arith, few))))
+    by_test false t h = cc
+
+-- whether it is held by these acts
+held_now : (n : ℕ) (go : Bool) (past : List Act) → last_held Initiator n (after past (acts_due n (Some go))) ≡ not go
+held_now n true past = ap (λ (c : Bool). not c && last_held Initiator n past) (eq-eqb n n refl)
+held_now n false past = ap (λ (c : Bool). c || last_held Initiator n past) (eq-eqb n n refl)
+
+held_else : (n m : ℕ) (go : Bool) (past : List Act) → (n == m) ≡ false → last_held Initiator m (after past (acts_due n (Some go))) ≡ last_held Initiator m past
+held_else n m true past other = ap (λ (c : Bool). not c && last_held Initiator m past) other
+held_else n m false past other = ap (λ (c : Bool). c || last_held Initiator m past) other
+
+-- which connections are open stays
+still_open : (o zero : Bool) → (o && not (false || (not zero && false))) ≡ o
+still_open true true = refl
+still_open true false = refl
+still_open false zero = refl
+
+open_now : (n m : ℕ) (go : Bool) (past : List Act) → is_open Initiator m (wire (after past (acts_due n (Some go)))) ≡ is_open Initiator m (wire past)
+open_now n m true past =
+    ap (λ (b : Bool). is_open Initiator m (wire past) && not (b || (not (m == 0) && b))) (no_close_down Initiator msc ((4 * n + 3) ∷ ready ∷ []) refl)
+    ∙ still_open (is_open Initiator m (wire past)) (m == 0)
+open_now n m false past =
+    ap (λ (b : Bool). is_open Initiator m (wire past) && not (b || (not (m == 0) && b))) (no_close_down Initiator msc ((4 * n + 3) ∷ held_up ∷ []) refl)
+    ∙ still_open (is_open Initiator m (wire past)) (m == 0)
+
+lost_now : (n : ℕ) (go : Bool) (past : List Act) → is_lost (after past (acts_due n (Some go))) ≡ is_lost past
+lost_now n true past = refl
+lost_now n false past = refl
+
+-- a queue that grew has no more room
+full_now : (b : Beginning) (n : ℕ) (go : Bool) (past : List Act) → LacksMscRoom b past → LacksMscRoom b (after past (acts_due n (Some go)))
+full_now b n true past full d =
+    let q = queue (wire past) in
+    let one = octets_more q (msc_frame Initiator d ready) in
+    let more = octets_more q (msc_frame Initiator n ready) in
+    let two = octets_more (q ++ msc_frame Initiator n ready ∷ []) (msc_frame Initiator d ready) in
+    let over = full d in
+    omega (arith, one, more, two, over)
+full_now b n false past full d =
+    let q = queue (wire past) in
+    let one = octets_more q (msc_frame Initiator d ready) in
+    let more = octets_more q (msc_frame Initiator n held_up) in
+    let two = octets_more (q ++ msc_frame Initiator n held_up ∷ []) (msc_frame Initiator d ready) in
+    let over = full d in
+    omega (arith, one, more, two, over)
+
+settles_one : (b : Beginning) (n : ℕ) (go : Bool) (past : List Act) (us : List Urc) → due_by (driving b) past n (backlog_in n us) ≡ Some go → SettlesOne b past (acts_due n (Some go)) n us
+settles_one b n go past us e = record {
+  here = inl (
+      ap (λ (c : Bool). if c || (n == 0) then None else flow_due (is_open Initiator n (wire now)) (is_held Initiator n now) (backlog_in n us)) (lost_now n go past)
+      ∙ (ap (λ (o : Bool). if is_lost past || (n == 0) then None else flow_due o (o && last_held Initiator n now) (backlog_in n us)) (open_now n n go past)
+      ∙ (ap (λ (h : Bool). if is_lost past || (n == 0) then None else flow_due (is_open Initiator n (wire past)) (is_open Initiator n (wire past) && h) (backlog_in n us)) (held_now n go past)
+      ∙ by_live (is_lost past || (n == 0)) (is_open Initiator n (wire past)) (is_held Initiator n past) e)));
+  others = λ m lines other.
+      ap (λ (c : Bool). if c || (m == 0) then None else flow_due (is_open Initiator m (wire now)) (is_held Initiator m now) lines) (lost_now n go past)
+      ∙ (ap (λ (o : Bool). if is_lost past || (m == 0) then None else flow_due o (o && last_held Initiator m now) lines) (open_now n m go past)
+      ∙ ap (λ (h : Bool). if is_lost past || (m == 0) then None else flow_due (is_open Initiator m (wire past)) (is_open Initiator m (wire past) && h) lines) (held_else n m go past (ne_eqb n m (λ same. other (sym same)))));
+  full = full_now b n go past;
+}
+  where
+    now : List Act
+    now = after past (acts_due n (Some go))
+
+    by_live : (c o h : Bool) → (if c then None else flow_due o h (backlog_in n us)) ≡ Some go → (if c then None else flow_due o (o && not go) (backlog_in n us)) ≡ None
+    by_live true o h k = refl
+    by_live false o h k = flow_settled o h go (backlog_in n us) k
+
+settles_none : (b : Beginning) (n : ℕ) (past : List Act) (us : List Urc) → (due_by (driving b) past n (backlog_in n us) ≡ None) ⊎ LacksMscRoom b past → SettlesOne b past [] n us
+settles_none b n past us h = record { here = h; others = λ m lines other. refl; full = λ full. full }
+
+checks_due : (n : ℕ) (o : Option Bool) → list_all is_check (acts_due n o) ≡ true
+checks_due n None = refl
+checks_due n (Some true) = refl
+checks_due n (Some false) = refl
+
+same_way : (n : ℕ) (way go : Bool) (rest more : List Act) → flow_act n way ∷ rest ≡ flow_act n go ∷ more → way ≡ go
+same_way n true true rest more e = refl
+same_way n false false rest more e = refl
+same_way n true false rest more e = cc
+same_way n false true rest more e = cc
 
 told_due : (n : ℕ) (o : Option Bool) → outcomes_told (acts_due n o) ≡ []
 told_due n None = refl
@@ -191,6 +290,7 @@ flown old core n acts x are b l d past f None e on =
       fits = subst (λ (xs : List Act). FitsKept b l d new (after past xs)) (sym on.0) here;
       may = ap (list_all (may_act old.unannounced)) on.0;
       settles = λ empty. (on.0, (ap (λ (v : Core). record old { core = v }) on.1, e));
+      flows = subst (λ (xs : List Act). SettlesOne b past xs n old.unannounced) (sym on.0) (settles_none b n past old.unannounced (inl e));
     }
 flown old core n acts x are b l d past f (Some go) e on =
     let s = driving b in
@@ -221,8 +321,15 @@ flown old core n acts x are b l d past f (Some go) e on =
           (received_part b (seen_by l (end_of d) old) (seen_by l (end_of d) new) past (after past (a ∷ more)) f.session.received refl refl refl (gots_after more (a ∷ past) said ∙ no_frame n go past)));
       may = ap (list_all (may_act old.unannounced)) called ∙ and_from (may_act old.unannounced a) (list_all (may_act old.unannounced) more) (due_may old.unannounced n _ _ _ go e) (said_may old.unannounced more said);
       settles = λ empty. absurd (queued x are (sym are ∙ called) (waits ∙ empty));
+      flows = flows_by x are (sym are ∙ called);
     }
   where
+    flows_by : (y : Option Bool) → acts ≡ acts_due n y → acts_due n y ≡ flow_act n go ∷ calls (driving b) past (flow_act n go) → SettlesOne b past acts n old.unannounced
+    flows_by None same called = absurd (no_act n go _ called)
+    flows_by (Some way) same called =
+        let way_is : way ≡ go = same_way n way go _ _ called in
+        subst (λ (xs : List Act). SettlesOne b past xs n old.unannounced) (sym (same ∙ ap (λ (w : Bool). acts_due n (Some w)) way_is)) (settles_one b n go past old.unannounced e)
+
     queued : (y : Option Bool) → acts ≡ acts_due n y → acts_due n y ≡ flow_act n go ∷ calls (driving b) past (flow_act n go) → queue (wire (after past acts)) ≡ [] → ⊥
     queued None same called empty = no_act n go _ called
     queued (Some way) same called empty = not_empty n way past (sym (ap (λ (xs : List Act). queue (wire (after past xs))) same) ∙ empty)
@@ -249,13 +356,15 @@ pub checks_one : (old : Kept) (core : Core) (n : ℕ) (acts : List Act) (x : Opt
 unfolding KeptGoes Flows
 checks_one old core n acts x are flows = record {
   acts = acts;
-  goes = λ b l d past once f. (flown old core n acts x are b l d past f (due_by (driving b) past n (backlog_in n old.unannounced)) refl (flows (driving b) past (may_ask b l d old past f))).fits;
+  goes = λ b l d past f. (flown old core n acts x are b l d past f (due_by (driving b) past n (backlog_in n old.unannounced)) refl (flows (driving b) past (may_ask b l d old past f))).fits;
   none_told = ap outcomes_told are ∙ told_due n x;
   none_heard = ap lines_heard are ∙ heard_due n x;
   none_got = ap gots are ∙ got_due n x;
   moved_is = ap (λ (xs : List Act). not (length xs == 0)) are ∙ (more_is n x ∙ ap (list_any is_more) (sym are));
   may = λ b l d past f. (flown old core n acts x are b l d past f (due_by (driving b) past n (backlog_in n old.unannounced)) refl (flows (driving b) past (may_ask b l d old past f))).may;
   settles = λ b l d past f. (flown old core n acts x are b l d past f (due_by (driving b) past n (backlog_in n old.unannounced)) refl (flows (driving b) past (may_ask b l d old past f))).settles;
+  are_checks = ap (list_all is_check) are ∙ checks_due n x;
+  flows = λ b l d past f. (flown old core n acts x are b l d past f (due_by (driving b) past n (backlog_in n old.unannounced)) refl (flows (driving b) past (may_ask b l d old past f))).flows;
   looks = λ still. (
     no_acts acts still,
     λ b l d past f.
@@ -272,7 +381,7 @@ checks_none : (old : Kept) (n : ℕ)
 unfolding KeptGoes
 checks_none old n h looks = record {
   acts = [];
-  goes = λ b l d past once f. f;
+  goes = λ b l d past f. f;
   none_told = refl;
   none_heard = refl;
   none_got = refl;
@@ -280,6 +389,8 @@ checks_none old n h looks = record {
   may = λ b l d past f. refl;
   settles = λ b l d past f empty. (refl, (refl, h b l d past f empty));
   looks = λ still. (refl, looks);
+  are_checks = refl;
+  flows = λ b l d past f. settles_none b n past old.unannounced (looks b l d past f);
   stays = refl;
 }
 

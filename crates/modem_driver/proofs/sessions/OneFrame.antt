@@ -10,7 +10,7 @@ use Rattle.modem_history.specs.Sessions.{gots}
 use Rattle.modem_history.specs.Wholes.{is_said}
 use Rattle.modem_history.proofs.calls.CalledActs.{Saids}
 
-got_both : (xs ys : List Act) → gots (xs ++ ys) ≡ gots ys ++ gots xs
+pub got_both : (xs ys : List Act) → gots (xs ++ ys) ≡ gots ys ++ gots xs
 got_both [] ys = sym (append-nil (gots ys))
 got_both (Got f ∷ xs) ys = ap (λ (fs : List Frame). fs ++ f ∷ []) (got_both xs ys) ∙ append_assoc (gots ys) (gots xs) (f ∷ [])
 got_both (Took r ∷ xs) ys = got_both xs ys

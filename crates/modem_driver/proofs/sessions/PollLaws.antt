@@ -11,19 +11,20 @@ use Rattle.mux_station.specs.Sending.{queue}
 use Rattle.mux_station.specs.Written.{is_data_frame}
 use Rattle.modem_history.specs.Acts.{Act, Got, Sent, Given, after, wire}
 use Rattle.modem_history.specs.Calls.{is_loss, is_lost}
-use Rattle.modem_history.specs.Sessions.{Beginning, LineView, AreOnce, given_on, octets_of_frames}
+use Rattle.modem_history.specs.Sessions.{Beginning, LineView, given_on, octets_of_frames}
 use Rattle.modem_history.specs.Turns.{Exchange, IsTurn, IsFault, Offers, TurnAnswer, Write, calls_made, counted, octets_written}
 use Rattle.modem_desk.specs.declared.request.Request.{Request}
-use Rattle.modem_history.specs.Requests.{are_distinct, is_apart}
 use Rattle.modem_driver.specs.declared.session.ending.Course.{Course}
 use Rattle.modem_driver.specs.declared.session.ending.Course.TheVariants as course
+use Rattle.modem_driver.specs.declared.session.polling.Progress.{Progress}
+use Rattle.modem_driver.specs.declared.session.polling.Progress.TheVariants as progress
 use Rattle.modem_driver.specs.declared.session.ending.Ended.{Ended}
 use Rattle.modem_driver.specs.declared.session.ending.Ended.TheVariants.{Stopped}
 use Rattle.modem_driver.specs.declared.session.error.SessionFault.{SessionFault}
 use Rattle.modem_driver.specs.declared.session.error.SessionFault.TheVariants as fault
 use Rattle.modem_driver.specs.SessionStates.{Kept, SessionState, FitsAll, has_lost_line, session_view}
 use Rattle.modem_driver.specs.SessionTurns.{Faults, TakesTurn, fault_of}
-use Rattle.modem_driver.specs.Polls.{MovesOn, Polls, PollsFrom, PollsOn, Waits, end_given, ends, fails, given_by, goes_on, has_ended, is_stopped, moves_none, moves_once, rests, waits_none, waits_once, with_given}
+use Rattle.modem_driver.specs.Polls.{MovesOn, Polls, PollsFrom, PollsOn, Waits, end_given, end_in, ends, fails, given_by, goes_on, has_ended, is_stopped, moves_none, moves_once, rests, waits_none, waits_once}
 use Rattle.modem_driver.specs.PollLaws.{CallsTheLine, LostFails, LostGivesFailed, MovesThrough, NoLossIsKeptBack, NoLossIsStopped, RunsInHistories, RunsThrough, IsSession, all_through, ended_through, fails_through, rests_through, through_none, through_once}
 
 record Through {X : Type 0} (look : X → LineView) (b : Beginning) (old : SessionState X) (past : List Act) (n : ℕ) (new : SessionState X) : Type 0 where
@@ -31,28 +32,18 @@ record Through {X : Type 0} (look : X → LineView) (b : Beginning) (old : Sessi
   fits : FitsAll b look new now
   moves : MovesThrough look b old past n new now
 
--- of what was taken without a number twice, what was taken since is so too
-once_since : (n : ℕ) (qs : List Request) → are_distinct qs ≡ true → are_distinct (drop n qs) ≡ true
-once_since zero qs h = h
-once_since (suc n) [] h = h
-once_since (suc n) (q ∷ qs) h = once_since n qs (and_parts (list_all (is_apart q) qs) (are_distinct qs) h).1
-
 module _ {X : Type 0} (look : X → LineView) where
-  once_so : (b : Beginning) (s : SessionState X) → are_distinct s.driver.taken ≡ true → AreOnce b (session_view look s)
-  once_so b s h = once_since (length b.desk.taken) s.driver.taken h
-
   moves_through : (b : Beginning) (past : List Act) (old new : SessionState X) (n : ℕ) → FitsAll b look old past → MovesOn look old n new → Through look b old past n new
   unfolding TakesTurn
   moves_through b past old _ _ f moves_none = record { now = past; fits = f; moves = through_none f }
   moves_through b past old _ _ f (moves_once n mid new moves turn) =
       let before = moves_through b past old mid n f moves in
-      let once = once_so b new turn.once in
       let acts = turn.turn.acts in
-      let here = turn.turn.goes b before.now once before.fits in
+      let here = turn.turn.goes b before.now before.fits in
       record {
         now = after before.now acts;
         fits = here;
-        moves = through_once n mid new before.now acts turn.turn.exchange before.moves turn.going here (turn.turn.turn b before.now once before.fits);
+        moves = through_once n mid new before.now acts turn.turn.exchange before.moves turn.going here (turn.turn.turn b before.now before.fits);
       }
 
   pub runs_in_histories : RunsInHistories look
@@ -65,19 +56,17 @@ module _ {X : Type 0} (look : X → LineView) where
       record { now = t.now; through = ended_through n t.now few t.moves e }
   runs_in_histories b past old new _ f (rests n mid says few moves turn other) =
       let t = moves_through b past old mid n f moves in
-      let once = once_so b new turn.once in
       let acts = turn.turn.acts in
       record {
         now = after t.now acts;
-        through = rests_through n mid t.now acts turn.turn.exchange says few t.moves turn.going (turn.turn.goes b t.now once t.fits) (turn.turn.turn b t.now once t.fits) other;
+        through = rests_through n mid t.now acts turn.turn.exchange says few t.moves turn.going (turn.turn.goes b t.now t.fits) (turn.turn.turn b t.now t.fits) other;
       }
   runs_in_histories b past old new _ f (fails n mid why few moves turn) =
       let t = moves_through b past old mid n f moves in
-      let once = once_so b new turn.once in
       let acts = turn.fault.acts in
       record {
         now = after t.now acts;
-        through = fails_through n mid t.now acts turn.fault.exchange why few t.moves turn.going (turn.fault.goes b t.now once t.fits) (turn.fault.fault b t.now once t.fits);
+        through = fails_through n mid t.now acts turn.fault.exchange why few t.moves turn.going (turn.fault.goes b t.now t.fits) (turn.fault.fault b t.now t.fits);
       }
 
 -- ## What a turn says of a loss and of the line's calls
@@ -170,16 +159,16 @@ module _ {X : Type 0} (look : X → LineView) where
   none_moved b past old _ _ _ some (through_once n mid new before acts t moves going f turn) lost = sound_turn b mid new t before acts TurnAnswer.Moved f turn lost
 
   -- an end without a fault is one with a sound line
-  sound_run : (b : Beginning) (past : List Act) (old new : SessionState X) (now : List Act) → FitsAll b look new now → RunsThrough look b old past new now (Ok tt) → is_lost now ≡ true → ⊥
-  sound_run b past old new _ f (all_through now moves) lost = none_moved b past old new 64 now (lit≤ tt) moves lost
-  sound_run b past old new _ f (ended_through n now few moves e) lost = not_ended new.kept e (sym f.inside.fits.lost_is ∙ lost)
-  sound_run b past old new _ f (rests_through n mid before acts t says few moves going g turn other) lost = sound_turn b mid new t before acts says g turn lost
+  sound_run : (b : Beginning) (past : List Act) (old new : SessionState X) (now : List Act) → FitsAll b look new now → (more : Bool) → RunsThrough look b old past new now (Ok more) → is_lost now ≡ true → ⊥
+  sound_run b past old new _ f _ (all_through now moves) lost = none_moved b past old new 64 now (lit≤ tt) moves lost
+  sound_run b past old new _ f _ (ended_through n now few moves e) lost = not_ended new.kept e (sym f.inside.fits.lost_is ∙ lost)
+  sound_run b past old new _ f _ (rests_through n mid before acts t says few moves going g turn other) lost = sound_turn b mid new t before acts says g turn lost
 
   new_fits : (b : Beginning) (past : List Act) (old new : SessionState X) (n : ℕ) (now : List Act) → MovesThrough look b old past n new now → FitsAll b look new now
   new_fits b past old _ _ _ (through_none f) = f
   new_fits b past old _ _ _ (through_once n mid new before acts t moves going f turn) = f
 
-  run_fits : (b : Beginning) (past : List Act) (old new : SessionState X) (now : List Act) (ran : Result (Unit {0}) SessionFault) → RunsThrough look b old past new now ran → FitsAll b look new now
+  run_fits : (b : Beginning) (past : List Act) (old new : SessionState X) (now : List Act) (ran : Result Bool SessionFault) → RunsThrough look b old past new now ran → FitsAll b look new now
   run_fits b past old new _ _ (all_through now moves) = new_fits b past old new 64 now moves
   run_fits b past old new _ _ (ended_through n now few moves e) = new_fits b past old new n now moves
   run_fits b past old new _ _ (rests_through n mid before acts t says few moves going g turn other) = g
@@ -190,7 +179,7 @@ module _ {X : Type 0} (look : X → LineView) where
   live_fault b old new t before acts fault.Line h lost = let live = h.means.live in let x : false ≡ true = sym live ∙ lost in absurd (let y : false ≡ true = x in cc)
   live_fault b old new t before acts fault.Failed h lost = refl
 
-  lost_run : (b : Beginning) (past : List Act) (old new : SessionState X) (now : List Act) (ran : Result (Unit {0}) SessionFault) → FitsAll b look old past → RunsThrough look b old past new now ran → is_lost past ≡ true → ran ≡ Err fault.Failed
+  lost_run : (b : Beginning) (past : List Act) (old new : SessionState X) (now : List Act) (ran : Result Bool SessionFault) → FitsAll b look old past → RunsThrough look b old past new now ran → is_lost past ≡ true → ran ≡ Err fault.Failed
   lost_run b past old new _ _ f (all_through now moves) lost = absurd (none_moved b past old new 64 now (lit≤ tt) moves (lost_through b past old new 64 now moves lost))
   lost_run b past old new _ _ f (ended_through n now few moves e) lost =
       absurd (not_ended new.kept e (sym (new_fits b past old new n now moves).inside.fits.lost_is ∙ lost_through b past old new n now moves lost))
@@ -209,10 +198,10 @@ module _ {X : Type 0} (look : X → LineView) where
 
   pub no_loss_is_kept_back : NoLossIsKeptBack look
   unfolding NoLossIsKeptBack RunsInHistories
-  no_loss_is_kept_back old new s lost runs =
-      let h = runs_in_histories look s.b s.past old new (Ok tt) s.fits runs in
-      let f = run_fits s.b s.past old new h.now (Ok tt) h.through in
-      sound_run s.b s.past old new h.now f h.through (f.inside.fits.lost_is ∙ lost)
+  no_loss_is_kept_back old new more s lost runs =
+      let h = runs_in_histories look s.b s.past old new (Ok more) s.fits runs in
+      let f = run_fits s.b s.past old new h.now (Ok more) h.through in
+      sound_run s.b s.past old new h.now f more h.through (f.inside.fits.lost_is ∙ lost)
 
   -- where octets wait a turn calls the line
   writes : (b : Beginning) (old new : SessionState X) (t : Exchange) (before acts : List Act) (says : TurnAnswer) → FitsAll b look old before → FitsAll b look new (after before acts)
@@ -309,44 +298,41 @@ module _ {X : Type 0} (look : X → LineView) where
       absurd (some (sym (ap (λ (s : SessionState X). s.kept.unwritten) (so.none refl)) ∙ not_written new.kept e))
   some_moves old new (suc n) some e so = omega arith
 
-  ran_calls : (b : Beginning) (past : List Act) (old new : SessionState X) (now : List Act) → old.kept.unwritten ≢ [] → (look old.line).calls < 2 ^ 64 - 1 → RunsThrough look b old past new now (Ok tt)
+  ran_calls : (b : Beginning) (past : List Act) (old new : SessionState X) (now : List Act) → old.kept.unwritten ≢ [] → (look old.line).calls < 2 ^ 64 - 1 → (more : Bool) → RunsThrough look b old past new now (Ok more)
       → (look old.line).calls < (look new.line).calls
-  ran_calls b past old new _ some few (all_through now moves) = (called b past old new 64 now some few moves).some (lit≤ tt)
-  ran_calls b past old new _ some few (ended_through n now small moves e) =
+  ran_calls b past old new _ some few _ (all_through now moves) = (called b past old new 64 now some few moves).some (lit≤ tt)
+  ran_calls b past old new _ some few _ (ended_through n now small moves e) =
       let so = called b past old new n now some few moves in
       so.some (some_moves old new n some e so)
-  ran_calls b past old new _ some few (rests_through n mid before acts t says small moves going g turn other) =
+  ran_calls b past old new _ some few _ (rests_through n mid before acts t says small moves going g turn other) =
       (calls_on b old mid new n t before acts says some few (new_fits b past old mid n before moves) (called b past old mid n before some few moves) g turn).some (omega arith)
 
   pub calls_the_line : CallsTheLine look
   unfolding CallsTheLine RunsInHistories
-  calls_the_line old new s some few runs =
-      let h = runs_in_histories look s.b s.past old new (Ok tt) s.fits runs in
-      ran_calls s.b s.past old new h.now some few h.through
+  calls_the_line old new more s some few runs =
+      let h = runs_in_histories look s.b s.past old new (Ok more) s.fits runs in
+      ran_calls s.b s.past old new h.now some few more h.through
 
   -- Stopped is given where it has ended, with a sound line
   pub no_loss_is_stopped : NoLossIsStopped look
   unfolding NoLossIsStopped
   no_loss_is_stopped old new s lost polls = by polls.ran polls.given_is
     where
-      same_lost : (given : Option (Result Ended SessionFault)) (mid : SessionState X) → has_lost_line (with_given given mid) ≡ has_lost_line mid
-      same_lost None mid = refl
-      same_lost (Some end) mid = refl
-
       mid_lost : has_lost_line polls.mid ≡ true
-      mid_lost = sym (same_lost (Some (Ok Stopped)) polls.mid) ∙ (sym (ap has_lost_line polls.stays) ∙ lost)
+      mid_lost = sym (ap has_lost_line polls.stays) ∙ lost
 
-      by_end : (c : Bool) → has_ended polls.mid.kept ≡ c → Some (Ok Stopped) ≡ given_by polls.mid.kept (Ok tt) → ⊥
-      by_end true e g = not_ended polls.mid.kept e mid_lost
-      by_end false e g = let x : Some (Ok Stopped) ≡ None = g ∙ ap (λ (c : Bool). if c then Some (Ok Stopped) else None) e in cc
+      by_end : (more c : Bool) → has_ended polls.mid.kept ≡ c → progress.Ended (Ok Stopped) ≡ (if c then progress.Ended (Ok Stopped) else if more then progress.More else progress.Idle) → ⊥
+      by_end more true e g = not_ended polls.mid.kept e mid_lost
+      by_end true false e g = cc
+      by_end false false e g = cc
 
-      by : (ran : Result (Unit {0}) SessionFault) → Some (Ok Stopped) ≡ given_by polls.mid.kept ran → ⊥
-      by (Ok _) g = by_end (has_ended polls.mid.kept) refl g
-      by (Err why) g = let x : Some (Ok Stopped) ≡ Some (Err why) = g in cc
+      by : (ran : Result Bool SessionFault) → progress.Ended (Ok Stopped) ≡ given_by polls.mid.kept ran → ⊥
+      by (Ok more) g = by_end more (has_ended polls.mid.kept) refl g
+      by (Err why) g = let x : Some (Ok Stopped) ≡ Some (Err why) = ap end_in g in cc
 
   -- ## What a future of it gives
 
-  on_from : (old new : SessionState X) (given : Option (Result Ended SessionFault)) → end_given old.kept.course ≡ None → Polls look old new given → PollsOn look old new given
+  on_from : (old new : SessionState X) (given : Progress) → end_given old.kept.course ≡ None → Polls look old new given → PollsOn look old new given
   on_from old new given none p = by old.kept.course none p
     where
       by : (c : Course) → end_given c ≡ None → PollsFrom look c old new given → PollsOn look old new given
@@ -354,8 +340,8 @@ module _ {X : Type 0} (look : X → LineView) where
       by course.Stopped e p = p
       by (course.Ended end) e p = let x : Some end ≡ None = e in absurd (let y : Some end ≡ None = x in cc)
 
-  lost_polls : (old new : SessionState X) (given : Option (Result Ended SessionFault)) → IsSession look old → has_lost_line old ≡ true → end_given old.kept.course ≡ None → Polls look old new given
-      → given ≡ Some (Err fault.Failed)
+  lost_polls : (old new : SessionState X) (given : Progress) → IsSession look old → has_lost_line old ≡ true → end_given old.kept.course ≡ None → Polls look old new given
+      → given ≡ progress.Ended (Err fault.Failed)
   unfolding LostFails
   lost_polls old new given s lost none polls =
       let on = on_from old new given none polls in
@@ -366,12 +352,12 @@ module _ {X : Type 0} (look : X → LineView) where
   unfolding LostGivesFailed
   lost_gives_failed s given here lost none g = by g.mid g.waits g.polls
     where
-      same : (x y : Result Ended SessionFault) → Some x ≡ Some y → x ≡ y
-      same x y e = cc
+      same : (x y : Result Ended SessionFault) → progress.Ended x ≡ progress.Ended y → x ≡ y
+      same x y e = let some : Some x ≡ Some y = ap end_in e in cc
 
       no : {x : Result Ended SessionFault} → None ≡ Some x → ⊥
       no e = cc
 
-      by : (mid : SessionState X) → Waits look s mid → Polls look mid g.new (Some given) → given ≡ Err fault.Failed
-      by _ (waits_none _) p = same given (Err fault.Failed) (lost_polls s g.new (Some given) here lost none p)
-      by _ (waits_once _ next mid first rest) p = absurd (no (lost_polls s next None here lost none first))
+      by : (mid : SessionState X) → Waits look s mid → Polls look mid g.new (progress.Ended given) → given ≡ Err fault.Failed
+      by _ (waits_none _) p = same given (Err fault.Failed) (lost_polls s g.new (progress.Ended given) here lost none p)
+      by _ (waits_once _ next mid first polls no_end rest) p = absurd (no (sym no_end ∙ ap end_in (lost_polls s next first here lost none polls)))

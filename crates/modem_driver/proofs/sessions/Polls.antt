@@ -13,12 +13,14 @@ use Rattle.modem_history.specs.Turns.{TurnAnswer, TurnFault, says_moved}
 use Rattle.modem_history.proofs.law_proofs.SessionLaws.{runs_on}
 use Rattle.modem_driver.specs.declared.session.ending.Course.{Course}
 use Rattle.modem_driver.specs.declared.session.ending.Course.TheVariants as course
+use Rattle.modem_driver.specs.declared.session.polling.Progress.{Progress}
+use Rattle.modem_driver.specs.declared.session.polling.Progress.TheVariants as progress
 use Rattle.modem_driver.specs.declared.session.ending.Ended.{Ended}
 use Rattle.modem_driver.specs.declared.session.ending.Ended.TheVariants.{Stopped}
 use Rattle.modem_driver.specs.declared.session.error.SessionFault.{SessionFault}
 use Rattle.modem_driver.specs.declared.session.error.SessionFault.TheVariants as fault
 use Rattle.modem_driver.specs.Endings.{Begins, HasCome, HasEnded, IsEnd, has_stopped}
-use Rattle.modem_driver.specs.Polls.{Gives, Polls, PollsFrom, PollsOn, SaysEnd, SessionGoesOn, PollSays, end_given, has_ended, is_stopped, waits_none, waits_once, with_end}
+use Rattle.modem_driver.specs.Polls.{Gives, Polls, PollsFrom, PollsOn, SaysEnd, SessionGoesOn, PollSays, end_given, end_in, has_ended, is_stopped, waits_none, waits_once, with_end}
 use Rattle.modem_driver.specs.SessionStates.{SessionState, FitsAll, FitsInside, session_view}
 use Rattle.modem_driver.specs.SessionTurns.{Faults, HasTurned, LeavesLost, TakesTurn, standing_of}
 use Rattle.modem_driver.proofs.sessions.StopProgress.{begins_whole}
@@ -43,7 +45,7 @@ module _ {X : Type 0} (look : X → LineView) where
 
   pub goes_none : (s : SessionState X) → SessionGoesOn look s s
   unfolding SessionGoesOn
-  goes_none s = record { acts = []; more = []; takes_more = sym (append-nil s.driver.taken); goes = λ b past once f. f }
+  goes_none s = record { acts = []; more = []; takes_more = sym (append-nil s.driver.taken); goes = λ b past f. f }
 
   pub goes_then : (old mid new : SessionState X) → SessionGoesOn look old mid → SessionGoesOn look mid new → SessionGoesOn look old new
   unfolding SessionGoesOn
@@ -66,7 +68,7 @@ module _ {X : Type 0} (look : X → LineView) where
     acts = [];
     more = [];
     takes_more = sym (append-nil s.driver.taken);
-    goes = λ b past once f. record {
+    goes = λ b past f. record {
       session = f.session;
       inside = record {
         setting = f.inside.setting;
@@ -145,10 +147,10 @@ module _ {X : Type 0} (look : X → LineView) where
   failing_says s fault.Failed b past f = ended_says (with_end (Err fault.Failed) s) (Err fault.Failed) refl b past f
 
   -- a poll after an end, and one after none
-  pub polls_again : (s : SessionState X) (end : Result Ended SessionFault) → s.kept.course ≡ course.Ended end → Polls look s s (Some end)
-  polls_again s end e = subst (λ (c : Course). PollsFrom look c s s (Some end)) (sym e) (refl, refl)
+  pub polls_again : (s : SessionState X) (end : Result Ended SessionFault) → s.kept.course ≡ course.Ended end → Polls look s s (progress.Ended end)
+  polls_again s end e = subst (λ (c : Course). PollsFrom look c s s (progress.Ended end)) (sym e) (refl, refl)
 
-  pub polls_on : (old new : SessionState X) (given : Option (Result Ended SessionFault)) → end_given old.kept.course ≡ None → PollsOn look old new given → Polls look old new given
+  pub polls_on : (old new : SessionState X) (given : Progress) → end_given old.kept.course ≡ None → PollsOn look old new given → Polls look old new given
   polls_on old new given none p = by old.kept.course none
     where
       by : (c : Course) → end_given c ≡ None → PollsFrom look c old new given
@@ -156,14 +158,15 @@ module _ {X : Type 0} (look : X → LineView) where
       by course.Stopped e = p
       by (course.Ended end) e = let x : Some end ≡ None = e in absurd (let y : Some end ≡ None = x in cc)
 
-  pub gives_now : (old new : SessionState X) (end : Result Ended SessionFault) → Polls look old new (Some end) → SessionGoesOn look old new → SaysEnd look new end → Gives look old end
+  pub gives_now : (old new : SessionState X) (end : Result Ended SessionFault) → Polls look old new (progress.Ended end) → SessionGoesOn look old new → SaysEnd look new end → Gives look old end
   gives_now old new end p g h = record { mid = old; new = new; waits = waits_none old; polls = p; goes = g; says = h }
 
-  pub gives_some : (old new : SessionState X) (given : Option (Result Ended SessionFault)) → Polls look old new given → SessionGoesOn look old new → IfSome given (SaysEnd look new) → IfSome given (Gives look old)
-  gives_some old new None p g h = h
-  gives_some old new (Some end) p g h = gives_now old new end p g h
+  pub gives_some : (old new : SessionState X) (given : Progress) → Polls look old new given → SessionGoesOn look old new → IfSome (end_in given) (SaysEnd look new) → IfSome (end_in given) (Gives look old)
+  gives_some old new progress.More p g h = h
+  gives_some old new progress.Idle p g h = h
+  gives_some old new (progress.Ended end) p g h = gives_now old new end p g h
 
   -- what it gives from here on it gave before
-  pub gives_before : (old new : SessionState X) (end : Result Ended SessionFault) → Polls look old new None → SessionGoesOn look old new → Gives look new end → Gives look old end
-  gives_before old new end p g h =
-      record { mid = h.mid; new = h.new; waits = waits_once old new h.mid p h.waits; polls = h.polls; goes = goes_then old new h.new g h.goes; says = h.says }
+  pub gives_before : (old new : SessionState X) (given : Progress) (end : Result Ended SessionFault) → Polls look old new given → end_in given ≡ None → SessionGoesOn look old new → Gives look new end → Gives look old end
+  gives_before old new given end p none g h =
+      record { mid = h.mid; new = h.new; waits = waits_once old new h.mid given p none h.waits; polls = h.polls; goes = goes_then old new h.new g h.goes; says = h.says }

@@ -131,8 +131,9 @@ pub takes : (old : Kept) (core : Core) (room : ℕ) (q : Request) (w : WaitingLi
 unfolding KeptGoes
 takes old core room q w acts aside role handles held keeps = record {
   acts = acts_of q acts;
-  goes = λ b l d past once f. (takes_all old core room q w acts aside role handles held keeps b l d past f).fits;
-  adds = λ waiting b l d past once f. (takes_all old core room q w acts aside role handles held keeps b l d past f).adds waiting;
+  goes = λ b l d past f. (takes_all old core room q w acts aside role handles held keeps b l d past f).fits;
+  adds = λ waiting b l d past f. (takes_all old core room q w acts aside role handles held keeps b l d past f).adds waiting;
+  some = λ none. absurd (let x : Some q ≡ None = sym aside ∙ none in cc);
   moves = refl;
   stays = refl;
 }

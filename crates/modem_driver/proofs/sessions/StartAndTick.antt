@@ -72,7 +72,7 @@ tick_goes old core room w acts handles held keeps live =
     let new : Kept = record old { core = core; unplaced = w.outcomes; unannounced = w.lines; course = course_after old.course (is_answered (option_map asker_of (find is_stop old.core.hand)) acts) } in
     record {
       acts = acts;
-      goes = λ b l d past once f.
+      goes = λ b l d past f.
           let s = driving b in
           let may = may_come b l d old past Tick f refl in
           let on = handles s past may in

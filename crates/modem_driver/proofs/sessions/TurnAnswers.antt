@@ -16,7 +16,7 @@ use Rattle.modem_history.specs.Acts.{Act, wire}
 use Rattle.modem_history.specs.Calls.{is_lost}
 use Rattle.modem_history.specs.Sessions.{Beginning, LineView, driving, gots, sents, given_on, octets_of_frames}
 use Rattle.modem_history.proofs.connections.FrameOrder.{gives_in_order}
-use Rattle.modem_driver.specs.GoingOut.{next_out, out_by}
+use Rattle.modem_history.specs.GoingOut.{next_out, out_by}
 use Rattle.modem_driver.specs.TurnSteps.{TurnState, StandingFits, Places, Checks, SendsOn, Writes, Gets, ReadsOn, TakesOne, view_of, is_more}
 use Rattle.modem_driver.proofs.sessions.WholeTurns.{Went, placed, went_placed, went_step, went_wrote, went_read, went_took}
 use Rattle.modem_history.specs.Turns.{Exchange, AllAreGot, has_moved, amount}
@@ -123,25 +123,25 @@ module _ {s0 s1 s2 s3 s4 s5 s6 s7 : TurnState} {m1 m2 m3 m4 m5 m6 m7 : Bool} whe
       let t = placed r.places in
       let w1 = went_placed s0 s1 m1 r.places in
       let heard : s1.kept.unannounced ≡ s1.kept.unannounced = refl in
-      let w2 = went_step s0 s1 s2 t 0 0 [] r.checks.acts refl w1 r.checks.leads r.checks.adds (ap (λ (s : TurnState). s.line) r.checks.stays) (ap (λ (s : TurnState). s.driver.taken) r.checks.stays) (ap (λ (s : TurnState). s.kept.unfed) r.checks.stays) (λ end e. ap (λ (s : TurnState). s.kept.course) r.checks.stays ∙ e) in
-      went_step s0 s2 s3 t 0 0 r.checks.acts r.sends.acts refl w2 r.sends.leads (r.sends.adds t.still_heard) (ap (λ (s : TurnState). s.line) r.sends.stays) (ap (λ (s : TurnState). s.driver.taken) r.sends.stays) (ap (λ (s : TurnState). s.kept.unfed) r.sends.stays) (λ end e. ap (λ (s : TurnState). s.kept.course) r.sends.stays ∙ e)
+      let w2 = went_step s0 s1 s2 t 0 0 [] r.checks.acts refl w1 r.checks.leads r.checks.adds (ap (λ (s : TurnState). s.line) r.checks.stays) (ap (λ (s : TurnState). s.driver) r.checks.stays) (ap (λ (s : TurnState). s.kept.unfed) r.checks.stays) (λ end e. ap (λ (s : TurnState). s.kept.course) r.checks.stays ∙ e) in
+      went_step s0 s2 s3 t 0 0 r.checks.acts r.sends.acts refl w2 r.sends.leads (r.sends.adds t.still_heard) (ap (λ (s : TurnState). s.line) r.sends.stays) (ap (λ (s : TurnState). s.driver) r.sends.stays) (ap (λ (s : TurnState). s.kept.unfed) r.sends.stays) (λ end e. ap (λ (s : TurnState). s.kept.course) r.sends.stays ∙ e)
 
   -- and as far as the frame at hand was handled
   pub went_got : (r : Run s0 s1 s2 s3 s4 s5 s6 s7 m1 m2 m3 m4 m5 m6 m7) → Went s0 s5 (record (placed r.places) { write = r.writes.write }) 1 ((r.checks.acts ++ r.sends.acts) ++ r.gets.acts)
   went_got r =
       let t = record (placed r.places) { write = r.writes.write } in
       let w4 = went_wrote s0 s3 s4 (placed r.places) 0 (r.checks.acts ++ r.sends.acts) m4 refl refl refl (went_out r) r.writes in
-      went_step s0 s4 s5 t 0 1 (r.checks.acts ++ r.sends.acts) r.gets.acts refl w4 r.gets.leads (r.gets.adds (placed r.places).still_heard) (ap (λ (s : TurnState). s.line) r.gets.stays) (ap (λ (s : TurnState). s.driver.taken) r.gets.stays) (ap (λ (s : TurnState). s.kept.unfed) r.gets.stays) r.gets.ended
+      went_step s0 s4 s5 t 0 1 (r.checks.acts ++ r.sends.acts) r.gets.acts refl w4 r.gets.leads (r.gets.adds (placed r.places).still_heard) (ap (λ (s : TurnState). s.line) r.gets.stays) (ap (λ (s : TurnState). s.driver) r.gets.stays) (ap (λ (s : TurnState). s.kept.unfed) r.gets.stays) r.gets.ended
 
   -- what was unfed and aside stays but in its own step
-  unfed_at_five : Run s0 s1 s2 s3 s4 s5 s6 s7 m1 m2 m3 m4 m5 m6 m7 → s5.kept.unfed ≡ s0.kept.unfed
+  pub unfed_at_five : Run s0 s1 s2 s3 s4 s5 s6 s7 m1 m2 m3 m4 m5 m6 m7 → s5.kept.unfed ≡ s0.kept.unfed
   unfed_at_five r =
       ap (λ (s : TurnState). s.kept.unfed) r.gets.stays
       ∙ (ap (λ (s : TurnState). s.kept.unfed) r.writes.stays
       ∙ (ap (λ (s : TurnState). s.kept.unfed) r.sends.stays
       ∙ (ap (λ (s : TurnState). s.kept.unfed) r.checks.stays ∙ ap (λ (s : TurnState). s.kept.unfed) r.places.stays)))
 
-  aside_at_six : Run s0 s1 s2 s3 s4 s5 s6 s7 m1 m2 m3 m4 m5 m6 m7 → s6.kept.aside ≡ s0.kept.aside
+  pub aside_at_six : Run s0 s1 s2 s3 s4 s5 s6 s7 m1 m2 m3 m4 m5 m6 m7 → s6.kept.aside ≡ s0.kept.aside
   aside_at_six r =
       ap (λ (s : TurnState). s.kept.aside) r.reads.stays
       ∙ (ap (λ (s : TurnState). s.kept.aside) r.gets.stays
@@ -158,13 +158,13 @@ module _ {s0 s1 s2 s3 s4 s5 s6 s7 : TurnState} {m1 m2 m3 m4 m5 m6 m7 : Bool} whe
   -- ## What moved
 
   -- the line and the desk's end stay but in their own steps
-  line_at_three : Run s0 s1 s2 s3 s4 s5 s6 s7 m1 m2 m3 m4 m5 m6 m7 → s3.line ≡ s0.line
+  pub line_at_three : Run s0 s1 s2 s3 s4 s5 s6 s7 m1 m2 m3 m4 m5 m6 m7 → s3.line ≡ s0.line
   line_at_three r = ap (λ (s : TurnState). s.line) r.sends.stays ∙ (ap (λ (s : TurnState). s.line) r.checks.stays ∙ ap (λ (s : TurnState). s.line) r.places.stays)
 
-  line_at_seven : Run s0 s1 s2 s3 s4 s5 s6 s7 m1 m2 m3 m4 m5 m6 m7 → s7.line ≡ s6.line
+  pub line_at_seven : Run s0 s1 s2 s3 s4 s5 s6 s7 m1 m2 m3 m4 m5 m6 m7 → s7.line ≡ s6.line
   line_at_seven r = ap (λ (s : TurnState). s.line) r.takes.stays
 
-  driver_at_six : Run s0 s1 s2 s3 s4 s5 s6 s7 m1 m2 m3 m4 m5 m6 m7 → s6.driver ≡ s1.driver
+  pub driver_at_six : Run s0 s1 s2 s3 s4 s5 s6 s7 m1 m2 m3 m4 m5 m6 m7 → s6.driver ≡ s1.driver
   driver_at_six r =
       ap (λ (s : TurnState). s.driver) r.reads.stays
       ∙ (ap (λ (s : TurnState). s.driver) r.gets.stays

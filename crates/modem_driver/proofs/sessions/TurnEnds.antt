@@ -3,12 +3,13 @@ use Rattle.std.proofs.Common.{ap, sym, ◌∙◌, inl, inr, subst}
 use Rattle.std.specs.Prelude.{◌≡◌, ◌⊎◌, ◌||◌, Bool, true, false, List, [], ◌++◌, refl, None}
 use Rattle.modem_history.specs.Acts.{Act, after}
 use Rattle.modem_history.specs.Calls.{is_lost}
-use Rattle.modem_history.specs.Turns.{Exchange, TurnFault, GoesFault, PlacesAlone}
+use Rattle.modem_history.specs.Turns.{Exchange, TurnFault, PlacesAlone}
+use Rattle.modem_history.specs.EveryTurn.{GoesFault}
 use Rattle.modem_driver.specs.declared.session.error.SessionFault.{SessionFault}
 use Rattle.modem_driver.specs.SessionStates.{Kept, KeptLoses}
 use Rattle.modem_driver.specs.SessionTurns.{HasTurned, LosesOr, fault_of}
 use Rattle.modem_driver.specs.TurnSteps.{TurnState, StandingFits, Leads, Places, Checks, ChecksPart, SendsOn, Writes, Gets, ReadsOn, TakesOne, KeepsAside, view_of, inside}
-use Rattle.modem_driver.proofs.sessions.WholeTurns.{Went, one_at_most, has_turned, placed, went_placed, went_step, went_wrote, went_read, went_took, went_aside}
+use Rattle.modem_driver.proofs.sessions.WholeTurns.{Went, one_at_most, has_turned, placed, went_placed, went_step, went_wrote, went_read, went_took, went_aside, offers_what_waits}
 use Rattle.modem_driver.proofs.sessions.TurnFaults.{has_failed, places_alone, none_loses, wants_memory, loses_line}
 
 -- a fault of any kind by which a turn ended, and what is so whichever way it ends
@@ -30,9 +31,10 @@ lost_before s0 s t acts w live lost = record {
   acts = acts;
   exchange = t;
   goes = w.leads;
-  fault = λ b past once f.
-      let adds = w.adds b past once f in
-      let here : StandingFits b s (after past acts) = w.leads b past once f in
+  offers = λ b past f. offers_what_waits b s0 s t past f w.offers;
+  fault = λ b past f.
+      let adds = w.adds b past f in
+      let here : StandingFits b s (after past acts) = w.leads b past f in
       let still : is_lost (after past acts) ≡ false = none_loses t.still_heard acts past adds.may (f.inside.fits.lost_is ∙ live) in
       absurd (true_false (sym lost ∙ (sym here.inside.fits.lost_is ∙ still)));
 }
@@ -44,6 +46,8 @@ lost_turned s0 s1 s2 t xs w same k =
     subst (HasTurned s0) (sym same) (record {
       calls = h.calls;
       taken = h.taken;
+      told = h.told;
+      announced = h.announced;
       ended = λ end e. ap (λ (v : Kept). v.course) k.stays ∙ h.ended end e;
     })
 
@@ -53,17 +57,17 @@ lost_after SessionFault.NoMemory s0 s1 s2 t xs none w k sound live = subst (λ (
 lost_after SessionFault.Failed s0 s1 s2 t xs none w k sound live = subst (λ (s : TurnState). FaultBy s0 s TurnFault.Failed) (sym k.0) (record { fault = lost_before s0 s1 t xs w live k.1; turned = has_turned s0 s1 t 1 xs w })
 
 checked : {s0 s1 s2 : TurnState} {m1 m2 : Bool} → (p : Places s0 s1 m1) (k : Checks s1 s2 m2) → Went s0 s2 (placed p) 0 k.acts
-checked {s0} {s1} {s2} {m1} {m2} p k = went_step s0 s1 s2 (placed p) 0 0 [] k.acts refl (went_placed s0 s1 m1 p) k.leads k.adds (ap (λ (s : TurnState). s.line) k.stays) (ap (λ (s : TurnState). s.driver.taken) k.stays) (ap (λ (s : TurnState). s.kept.unfed) k.stays) (λ end e. ap (λ (s : TurnState). s.kept.course) k.stays ∙ e)
+checked {s0} {s1} {s2} {m1} {m2} p k = went_step s0 s1 s2 (placed p) 0 0 [] k.acts refl (went_placed s0 s1 m1 p) k.leads k.adds (ap (λ (s : TurnState). s.line) k.stays) (ap (λ (s : TurnState). s.driver) k.stays) (ap (λ (s : TurnState). s.kept.unfed) k.stays) (λ end e. ap (λ (s : TurnState). s.kept.course) k.stays ∙ e)
 
 sent : {s0 s1 s2 s3 : TurnState} {m1 m2 m3 : Bool} → (p : Places s0 s1 m1) (k : Checks s1 s2 m2) (n : SendsOn s2 s3 m3) → Went s0 s3 (placed p) 0 (k.acts ++ n.acts)
-sent {s0} {s1} {s2} {s3} {m1} {m2} {m3} p k n = went_step s0 s2 s3 (placed p) 0 0 k.acts n.acts refl (checked p k) n.leads (n.adds s1.kept.unannounced) (ap (λ (s : TurnState). s.line) n.stays) (ap (λ (s : TurnState). s.driver.taken) n.stays) (ap (λ (s : TurnState). s.kept.unfed) n.stays) (λ end e. ap (λ (s : TurnState). s.kept.course) n.stays ∙ e)
+sent {s0} {s1} {s2} {s3} {m1} {m2} {m3} p k n = went_step s0 s2 s3 (placed p) 0 0 k.acts n.acts refl (checked p k) n.leads (n.adds s1.kept.unannounced) (ap (λ (s : TurnState). s.line) n.stays) (ap (λ (s : TurnState). s.driver) n.stays) (ap (λ (s : TurnState). s.kept.unfed) n.stays) (λ end e. ap (λ (s : TurnState). s.kept.course) n.stays ∙ e)
 
 wrote : {s0 s1 s2 s3 s4 : TurnState} {m1 m2 m3 m4 : Bool} → (p : Places s0 s1 m1) (k : Checks s1 s2 m2) (n : SendsOn s2 s3 m3) (w : Writes s3 s4 m4) → Went s0 s4 (record (placed p) { write = w.write }) 0 (k.acts ++ n.acts)
 wrote {s0} {s1} {s2} {s3} {s4} {m1} {m2} {m3} {m4} p k n w = went_wrote s0 s3 s4 (placed p) 0 (k.acts ++ n.acts) m4 refl refl refl (sent p k n) w
 
 got : {s0 s1 s2 s3 s4 s5 : TurnState} {m1 m2 m3 m4 m5 : Bool} → (p : Places s0 s1 m1) (k : Checks s1 s2 m2) (n : SendsOn s2 s3 m3) (w : Writes s3 s4 m4) (g : Gets s4 s5 m5) → Went s0 s5 (record (placed p) { write = w.write }) 1 ((k.acts ++ n.acts) ++ g.acts)
 got {s0} {s1} {s2} {s3} {s4} {s5} {m1} {m2} {m3} {m4} {m5} p k n w g =
-    went_step s0 s4 s5 (record (placed p) { write = w.write }) 0 1 (k.acts ++ n.acts) g.acts refl (wrote p k n w) g.leads (g.adds s1.kept.unannounced) (ap (λ (s : TurnState). s.line) g.stays) (ap (λ (s : TurnState). s.driver.taken) g.stays) (ap (λ (s : TurnState). s.kept.unfed) g.stays) g.ended
+    went_step s0 s4 s5 (record (placed p) { write = w.write }) 0 1 (k.acts ++ n.acts) g.acts refl (wrote p k n w) g.leads (g.adds s1.kept.unannounced) (ap (λ (s : TurnState). s.line) g.stays) (ap (λ (s : TurnState). s.driver) g.stays) (ap (λ (s : TurnState). s.kept.unfed) g.stays) g.ended
 
 -- what was unfed and aside stays but in its own step
 unfed_before : {s0 s1 s2 s3 s4 s5 : TurnState} {m1 m2 m3 m4 m5 : Bool} → Places s0 s1 m1 → Checks s1 s2 m2 → SendsOn s2 s3 m3 → Writes s3 s4 m4 → Gets s4 s5 m5 → s5.kept.unfed ≡ s0.kept.unfed
@@ -106,7 +110,7 @@ lost_reading {s0} {s1} {s2} {s3} {s4} {s5} {s6} {m1} {m2} {m3} {m4} {m5} {m6} wh
 pub checks_in_vain : {s0 s1 : TurnState} {m1 : Bool} → (s : TurnState) (p : Places s0 s1 m1) → ChecksPart s1 s → s0.kept.faulty ≡ false → s0.kept.core.lost ≡ false → FaultBy s0 s TurnFault.NoMemory
 checks_in_vain {s0} {s1} {m1} s p k sound live =
     in_vain s0 s (placed p) k.acts
-    (one_at_most s0 s (placed p) k.acts (went_step s0 s1 s (placed p) 0 0 [] k.acts refl (went_placed s0 s1 m1 p) k.leads k.adds (ap (λ (s : TurnState). s.line) k.stays) (ap (λ (s : TurnState). s.driver.taken) k.stays) (ap (λ (s : TurnState). s.kept.unfed) k.stays) (λ end e. ap (λ (s : TurnState). s.kept.course) k.stays ∙ e))) (inl sound) live
+    (one_at_most s0 s (placed p) k.acts (went_step s0 s1 s (placed p) 0 0 [] k.acts refl (went_placed s0 s1 m1 p) k.leads k.adds (ap (λ (s : TurnState). s.line) k.stays) (ap (λ (s : TurnState). s.driver) k.stays) (ap (λ (s : TurnState). s.kept.unfed) k.stays) (λ end e. ap (λ (s : TurnState). s.kept.course) k.stays ∙ e))) (inl sound) live
 
 pub gets_in_vain : {s0 s1 s2 s3 s4 : TurnState} {m1 m2 m3 m4 : Bool} → (s : TurnState) (p : Places s0 s1 m1) (k : Checks s1 s2 m2) (n : SendsOn s2 s3 m3) (w : Writes s3 s4 m4) → s ≡ s4 → s0.kept.faulty ≡ false → s0.kept.core.lost ≡ false → FaultBy s0 s TurnFault.NoMemory
 gets_in_vain {s0} {s1} {s2} {s3} {s4} {m1} {m2} {m3} {m4} s p k n w same sound live =

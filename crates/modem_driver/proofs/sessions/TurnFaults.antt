@@ -3,7 +3,7 @@ use Rattle.std.proofs.Common.{ap, sym, ◌∙◌, inl, inr, subst, arith, ⊎_el
 use Rattle.std.proofs.lemmas.Bool.{and_from, and_parts}
 use Rattle.std.proofs.lemmas.List.{append_assoc}
 use Rattle.std.proofs.lemmas.List.Folds.{list_all-append}
-use Rattle.std.specs.Prelude.{◌≡◌, ◌⊎◌, length, Bool, true, false, List, [], ◌∷◌, ◌++◌, map, refl, None}
+use Rattle.std.specs.Prelude.{◌≡◌, ◌⊎◌, ℕ, length, Bool, true, false, List, [], ◌∷◌, ◌++◌, map, refl, None}
 use Rattle.std.specs.List.{list_all}
 use Rattle.modem_desk.specs.declared.request.Outcome.{Outcome}
 use Rattle.modem_desk.specs.declared.request.Request.{Request}
@@ -11,15 +11,16 @@ use Rattle.modem_desk.specs.declared.request.Urc.{Urc}
 use Rattle.modem_history.specs.Acts.{Act, Took, Got, Sent, Told, Heard, Tick, Lost, Held, Freed, Given, after, in_hand}
 use Rattle.modem_history.specs.Calls.{is_lost}
 use Rattle.modem_history.specs.Sessions.{heard_as}
-use Rattle.modem_history.specs.Turns.{Exchange, TurnFault, GoesFault, PlacesAlone, outcomes_told, lines_heard, may_act, may_fail}
+use Rattle.modem_history.specs.Turns.{Exchange, TurnFault, PlacesAlone, outcomes_told, lines_heard, may_act, may_fail}
+use Rattle.modem_history.specs.EveryTurn.{GoesFault}
 use Rattle.modem_history.proofs.calls.StatesAfterActs.{after_both}
-use Rattle.modem_driver.specs.SessionStates.{Kept, KeptGoes, KeptLoses}
+use Rattle.modem_driver.specs.SessionStates.{Kept, KeptGoes, KeptLoses, end_of}
 use Rattle.modem_driver.specs.TurnSteps.{TurnState, StandingFits, Leads, Places, view_of, inside}
 use Rattle.modem_driver.proofs.sessions.CollectedActs.{told_both}
 use Rattle.modem_driver.proofs.sessions.ListenedLines.{heard_both}
 use Rattle.modem_driver.proofs.sessions.LineLoss.{fail_all}
 use Rattle.modem_driver.proofs.sessions.OneFrame.{few_both}
-use Rattle.modem_driver.proofs.sessions.WholeTurns.{Went, placed, went_placed, once_still, taken_still}
+use Rattle.modem_driver.proofs.sessions.WholeTurns.{Went, placed, went_placed, taken_still, offers_what_waits, offers_on, same_desk}
 
 -- acts that a turn may have don't lose the line
 pub none_loses : (us : List Urc) (acts past : List Act) → list_all (may_act us) acts ≡ true → is_lost past ≡ false → is_lost (after past acts) ≡ false
@@ -48,8 +49,9 @@ wants_memory s0 s t acts w sound live = record {
   acts = acts;
   exchange = t;
   goes = w.leads;
-  fault = λ b past once f.
-      let adds = w.adds b past once f in
+  offers = λ b past f. offers_what_waits b s0 s t past f w.offers;
+  fault = λ b past f.
+      let adds = w.adds b past f in
       record {
         exchanges = record {
           came = w.came;
@@ -83,15 +85,14 @@ lost_there s0 s1 new t xs none w k live =
     record {
       acts = xs ++ k.acts;
       exchange = t;
-      goes = λ b past once f.
-          let mid = once_still b s0 s1 past still f in
-          subst (StandingFits b (record s1 { kept = new })) (sym (after_both xs k.acts past)) (k.goes b s1.line s1.driver (after past xs) once (w.leads b past mid f));
-      fault = λ b past once f.
-          let mid = once_still b s0 s1 past still f in
-          let at : StandingFits b s1 (after past xs) = w.leads b past mid f in
-          let first = w.adds b past mid f in
+      offers = λ b past f. offers_what_waits b s0 (record s1 { kept = new }) t past f (offers_on s0 s1 (record s1 { kept = new }) t w.offers (same_desk s1.driver s1.driver refl));
+      goes = λ b past f.
+          subst (StandingFits b (record s1 { kept = new })) (sym (after_both xs k.acts past)) (k.goes b s1.line s1.driver (after past xs) (w.leads b past f));
+      fault = λ b past f.
+          let at : StandingFits b s1 (after past xs) = w.leads b past f in
+          let first = w.adds b past f in
           let more = k.adds b s1.line s1.driver (after past xs) at in
-          let lost = k.loses b s1.line s1.driver (after past xs) once at in
+          let lost = k.loses b s1.line s1.driver (after past xs) at in
           let both = after_both xs k.acts past in
           record {
             exchanges = record {
@@ -143,7 +144,8 @@ places_alone s0 s1 moved p = record {
   no_acts = refl;
   stays =
       ap view_of p.stays
-      ∙ ap (λ (qs : List Request). record (view_of s0) { desk = record { taken = qs; told = s1.driver.told; announced = s1.driver.announced }; unplaced = s1.kept.unplaced; unannounced = s1.kept.unannounced }) p.taken_stays;
+      ∙ (ap (λ (qs : List Request). record (view_of s0) { desk = record (end_of s1.driver) { taken = qs }; unplaced = s1.kept.unplaced; unannounced = s1.kept.unannounced }) p.taken_stays
+      ∙ ap (λ (n : ℕ). record (view_of s0) { desk = record (end_of s1.driver) { taken = s0.driver.taken; found_none = n }; unplaced = s1.kept.unplaced; unannounced = s1.kept.unannounced }) p.found_stays);
 }
 
 -- the line was lost before
@@ -156,8 +158,9 @@ has_failed s0 s1 moved p lost =
       acts = [];
       exchange = placed p;
       goes = w.leads;
-      fault = λ b past once f.
-          let adds = w.adds b past once f in
+      offers = λ b past f. offers_what_waits b s0 s1 (placed p) past f w.offers;
+      fault = λ b past f.
+          let adds = w.adds b past f in
           record {
             exchanges = record {
               came = w.came;

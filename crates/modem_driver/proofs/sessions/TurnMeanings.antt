@@ -10,17 +10,19 @@ use Rattle.modem_desk.specs.declared.request.Urc.{Urc}
 use Rattle.modem_history.specs.Acts.{Act, after, in_hand}
 use Rattle.modem_history.specs.Calls.{is_lost}
 use Rattle.modem_history.specs.Kinds.{of_kind, is_same_kind, kind_place}
-use Rattle.modem_history.specs.Sessions.{Beginning, AreOnce, driving, caller_outcomes, backlog_in}
-use Rattle.modem_history.specs.Turns.{TurnAnswer, GoesTurn, IsAtRest, Means, says_moved, IsWriterFull, HoldsByBacklog, HoldsWhereRoom, Write, Offers, has_room_for, octets_written}
+use Rattle.modem_history.specs.Sessions.{Beginning, driving, caller_outcomes, backlog_in}
+use Rattle.modem_history.specs.Turns.{TurnAnswer, IsAtRest, Means, says_moved, IsWriterFull, HoldsByBacklog, HoldsWhereRoom, Write, Offers, has_room_for, octets_written}
+use Rattle.modem_history.specs.EveryTurn.{GoesTurn}
 use Rattle.modem_driver.specs.Cores.{Core}
-use Rattle.modem_driver.specs.GoingOut.{next_out}
+use Rattle.modem_history.specs.GoingOut.{next_out}
 use Rattle.modem_driver.specs.Running.{CoreIsIdle}
 use Rattle.modem_driver.specs.SessionStates.{Kept}
 use Rattle.modem_driver.specs.TurnSteps.{TurnState, StandingFits, Leads, view_of, inside}
 use Rattle.modem_driver.specs.SessionTurns.{Answers}
 use Rattle.modem_driver.proofs.outgoing.QuietHistories.{drained_quiet}
 use Rattle.modem_driver.proofs.sessions.CoreCalls.{is_run}
-use Rattle.modem_driver.proofs.sessions.WholeTurns.{placed, once_still, taken_still}
+use Rattle.modem_driver.proofs.sessions.WholeTurns.{placed}
+use Rattle.modem_driver.proofs.sessions.EveryStep.{takes_steps}
 use Rattle.modem_driver.proofs.sessions.TurnAnswers.{Run, Still, all_exchange, all_acts, went_out, went_got, went_all, has_moved_all, is_still, sound_five, not_lost, none_queued, all_given, all_sent, all_got}
 
 -- a core that is idle on a sound line has an empty control queue
@@ -97,11 +99,11 @@ module _ {s0 s1 s2 s3 s4 s5 s6 s7 : TurnState} {m1 m2 m3 m4 m5 m6 m7 : Bool} whe
   unfolding Leads
   fits_three b past r f =
       let w = went_out r in
-      w.leads b past (once_still b s0 s3 past (taken_still s0 s3 (placed r.places) 0 (r.checks.acts ++ r.sends.acts) refl w) f) f
+      w.leads b past f
 
-  fits_seven : (b : Beginning) (past : List Act) (r : Run s0 s1 s2 s3 s4 s5 s6 s7 m1 m2 m3 m4 m5 m6 m7) → AreOnce b (view_of s7) → StandingFits b s0 past → StandingFits b s7 (after past (all_acts r))
+  fits_seven : (b : Beginning) (past : List Act) (r : Run s0 s1 s2 s3 s4 s5 s6 s7 m1 m2 m3 m4 m5 m6 m7) → StandingFits b s0 past → StandingFits b s7 (after past (all_acts r))
   unfolding Leads
-  fits_seven b past r once f = (went_all r).leads b past once f
+  fits_seven b past r f = (went_all r).leads b past f
 
   past_is : (past : List Act) (r : Run s0 s1 s2 s3 s4 s5 s6 s7 m1 m2 m3 m4 m5 m6 m7) → Still r → after past (all_acts r) ≡ after past (r.checks.acts ++ r.sends.acts)
   past_is past r q = ap (after past) q.acts_are
@@ -165,19 +167,17 @@ module _ {s0 s1 s2 s3 s4 s5 s6 s7 : TurnState} {m1 m2 m3 m4 m5 m6 m7 : Bool} whe
       → HoldsByBacklog (view_of s2) (after past r.checks.acts)
   unfolding Leads
   held_two b past r f live empty =
-      let taken : s2.driver.taken ≡ s0.driver.taken = ap (λ (s : TurnState). s.driver.taken) r.checks.stays ∙ r.places.taken_stays in
-      let one : StandingFits b s1 past = r.places.leads b past (once_still b s0 s1 past r.places.taken_stays f) f in
-      r.checks.held b past (once_still b s0 s2 past taken f) one live empty
+      r.checks.held b past (r.places.leads b past f) live empty
 
-  pub at_rest : (b : Beginning) (past : List Act) (r : Run s0 s1 s2 s3 s4 s5 s6 s7 m1 m2 m3 m4 m5 m6 m7) → Still r → AreOnce b (view_of s7) → StandingFits b s0 past → s7.kept.unwritten ≡ []
+  pub at_rest : (b : Beginning) (past : List Act) (r : Run s0 s1 s2 s3 s4 s5 s6 s7 m1 m2 m3 m4 m5 m6 m7) → Still r → StandingFits b s0 past → s7.kept.unwritten ≡ []
       → IsAtRest b (view_of s7) (all_exchange r) (after past (all_acts r))
-  at_rest b past r q once f h =
+  at_rest b past r q f h =
       let k = rests r q h in
       let end = after past (all_acts r) in
       let same = past_is past r q in
       let at : StandingFits b s3 (after past (r.checks.acts ++ r.sends.acts)) = fits_three b past r f in
       let here : StandingFits b s3 end = subst (StandingFits b s3) (sym same) at in
-      let last : StandingFits b s7 end = fits_seven b past r once f in
+      let last : StandingFits b s7 end = fits_seven b past r f in
       let none : next_out (driving b) end ≡ None = r.sends.none_left k.written b end here in
       let live : is_lost end ≡ false = not_lost b s7 end (sound_seven r) last in
       let queued = none_queued b end live none in
@@ -206,17 +206,15 @@ module _ {s0 s1 s2 s3 s4 s5 s6 s7 : TurnState} {m1 m2 m3 m4 m5 m6 m7 : Bool} whe
   fits_four : (b : Beginning) (past : List Act) (r : Run s0 s1 s2 s3 s4 s5 s6 s7 m1 m2 m3 m4 m5 m6 m7) → Still r → StandingFits b s0 past → StandingFits b s4 (after past (all_acts r))
   unfolding Leads
   fits_four b past r q f =
-      let t = record (placed r.places) { write = r.writes.write } in
       let acts = (r.checks.acts ++ r.sends.acts) ++ r.gets.acts in
-      let w = went_got r in
-      let five : StandingFits b s5 (after past acts) = w.leads b past (once_still b s0 s5 past (taken_still s0 s5 t 1 acts refl w) f) f in
+      let five : StandingFits b s5 (after past acts) = (went_got r).leads b past f in
       let same : acts ≡ all_acts r = sym (ap (λ (xs : List Act). acts ++ xs) q.took_none ∙ append-nil acts) in
       subst (λ (s : TurnState). StandingFits b s (after past (all_acts r))) q.got_still (subst (λ (xs : List Act). StandingFits b s5 (after past xs)) same five)
 
   -- a frame at hand finds no room
-  room_none : (b : Beginning) (past : List Act) (r : Run s0 s1 s2 s3 s4 s5 s6 s7 m1 m2 m3 m4 m5 m6 m7) → Still r → AreOnce b (view_of s7) → StandingFits b s0 past
+  room_none : (b : Beginning) (past : List Act) (r : Run s0 s1 s2 s3 s4 s5 s6 s7 m1 m2 m3 m4 m5 m6 m7) → Still r → StandingFits b s0 past
       → (f : Frame) → s7.kept.deframer.next ≡ Some f → has_room_for b (after past (all_acts r)) f ≡ false
-  room_none b past r q once f g e = by_frame s4.kept.deframer.next refl
+  room_none b past r q f g e = by_frame s4.kept.deframer.next refl
     where
       at_six : s6.kept.deframer.next ≡ Some g
       at_six = sym (ap (λ (k : Kept). k.deframer.next) q.took_still) ∙ e
@@ -259,9 +257,8 @@ module _ {s0 s1 s2 s3 s4 s5 s6 s7 : TurnState} {m1 m2 m3 m4 m5 m6 m7 : Bool} whe
   held_before : (b : Beginning) (past : List Act) (r : Run s0 s1 s2 s3 s4 s5 s6 s7 m1 m2 m3 m4 m5 m6 m7) → Still r → StandingFits b s0 past → HoldsWhereRoom b (view_of s7) past
   unfolding Leads
   held_before b past r q f =
-      let taken : s2.driver.taken ≡ s0.driver.taken = ap (λ (s : TurnState). s.driver.taken) r.checks.stays ∙ r.places.taken_stays in
-      let one : StandingFits b s1 past = r.places.leads b past (once_still b s0 s1 past r.places.taken_stays f) f in
-      holds_yet b s2 s7 past same ((r.checks.looks q.checked).1 b past (once_still b s0 s2 past taken f) one (not_lost b s0 past r.sound_first f))
+      let one : StandingFits b s1 past = r.places.leads b past f in
+      holds_yet b s2 s7 past same ((r.checks.looks q.checked).1 b past one (not_lost b s0 past r.sound_first f))
     where
       same : s7.kept.unannounced ≡ s2.kept.unannounced
       same =
@@ -270,11 +267,11 @@ module _ {s0 s1 s2 s3 s4 s5 s6 s7 : TurnState} {m1 m2 m3 m4 m5 m6 m7 : Bool} whe
           ∙ (ap (λ (s : TurnState). s.kept.unannounced) q.got_still
           ∙ (ap (λ (k : Kept). k.unannounced) q.written ∙ ap (λ (s : TurnState). s.kept.unannounced) r.sends.stays)))
 
-  pub is_full : (b : Beginning) (past : List Act) (r : Run s0 s1 s2 s3 s4 s5 s6 s7 m1 m2 m3 m4 m5 m6 m7) → Still r → AreOnce b (view_of s7) → StandingFits b s0 past → s7.kept.unwritten ≢ []
+  pub is_full : (b : Beginning) (past : List Act) (r : Run s0 s1 s2 s3 s4 s5 s6 s7 m1 m2 m3 m4 m5 m6 m7) → Still r → StandingFits b s0 past → s7.kept.unwritten ≢ []
       → IsWriterFull b (view_of s7) (all_exchange r) past (after past (all_acts r))
-  is_full b past r q once f waits =
+  is_full b past r q f waits =
       let end = after past (all_acts r) in
-      let last : StandingFits b s7 end = fits_seven b past r once f in
+      let last : StandingFits b s7 end = fits_seven b past r f in
       let four = unwritten_four r in
       let offer = offered_none s3.line.sent s4.line.sent s4.kept.unwritten r.writes.write r.writes.offers r.writes.went (λ e. waits (four ∙ e)) (sym r.writes.moved_is ∙ q.wrote) in
       let five = ap (λ (k : Kept). k.unfed) q.took_still in
@@ -285,7 +282,7 @@ module _ {s0 s1 s2 s3 s4 s5 s6 s7 : TurnState} {m1 m2 m3 m4 m5 m6 m7 : Bool} whe
         took_none = offer.none;
         reads = λ e. record { room = 512; some = lit≤ tt; nothing = (r.reads.nothing_came q.read (sound_five r q) (unfed_still r q (sym five ∙ e))).0 };
         fed = λ none. all_fed r q none;
-        no_room = λ g e. room_none b past r q once f g e;
+        no_room = λ g e. room_none b past r q f g e;
         held = held_before b past r q f;
         no_request = no_request b end r q last;
       }
@@ -293,10 +290,10 @@ module _ {s0 s1 s2 s3 s4 s5 s6 s7 : TurnState} {m1 m2 m3 m4 m5 m6 m7 : Bool} whe
   -- ## The answer
 
   means : (b : Beginning) (past : List Act) (r : Run s0 s1 s2 s3 s4 s5 s6 s7 m1 m2 m3 m4 m5 m6 m7) (says : TurnAnswer) → Answers s7.kept (m1 || (m2 || (m3 || (m4 || (m5 || (m6 || m7)))))) says
-      → AreOnce b (view_of s7) → StandingFits b s0 past → Means b (view_of s7) (all_exchange r) past (after past (all_acts r)) says
-  means b past r TurnAnswer.Moved a once f = tt
-  means b past r TurnAnswer.WriterFull a once f = is_full b past r (is_still r a.0) once f a.1
-  means b past r (TurnAnswer.Waiting c) a once f =
+      → StandingFits b s0 past → Means b (view_of s7) (all_exchange r) past (after past (all_acts r)) says
+  means b past r TurnAnswer.Moved a f = tt
+  means b past r TurnAnswer.WriterFull a f = is_full b past r (is_still r a.0) f a.1
+  means b past r (TurnAnswer.Waiting c) a f =
       let q = is_still r a.0 in
       let rest = rests r q a.1.written in
       let same : s7.kept.unplaced ≡ s1.kept.unplaced = ap (λ (k : Kept). k.unplaced) rest.kept_still ∙ (ap (λ (s : TurnState). s.kept.unplaced) rest.sent_still ∙ ap (λ (s : TurnState). s.kept.unplaced) r.checks.stays) in
@@ -306,9 +303,9 @@ module _ {s0 s1 s2 s3 s4 s5 s6 s7 : TurnState} {m1 m2 m3 m4 m5 m6 m7 : Bool} whe
         waits = a.1.waits.first;
         handed_back = r.places.outcomes_back c ∙ (ap (λ (os : List Outcome). take 1 (caller_outcomes c os)) (sym same) ∙ a.1.waits.first);
         least = a.1.waits.least;
-        rest = at_rest b past r q once f a.1.written;
+        rest = at_rest b past r q f a.1.written;
       }
-  means b past r (TurnAnswer.Blocked k) a once f =
+  means b past r (TurnAnswer.Blocked k) a f =
       let q = is_still r a.0 in
       let rest = rests r q a.1.written in
       let same : s7.kept.unannounced ≡ s1.kept.unannounced = ap (λ (k : Kept). k.unannounced) rest.kept_still ∙ (ap (λ (s : TurnState). s.kept.unannounced) rest.sent_still ∙ ap (λ (s : TurnState). s.kept.unannounced) r.checks.stays) in
@@ -319,14 +316,14 @@ module _ {s0 s1 s2 s3 s4 s5 s6 s7 : TurnState} {m1 m2 m3 m4 m5 m6 m7 : Bool} whe
         waits = a.1.waits.first;
         is_of = a.1.waits.is_of;
         handed_back = r.places.lines_back k ∙ (ap (λ (us : List Urc). take 1 (of_kind k us)) (sym same) ∙ first_of_kind k a.1.waits.line s7.kept.unannounced a.1.waits.is_of a.1.waits.first);
-        rest = at_rest b past r q once f a.1.written;
+        rest = at_rest b past r q f a.1.written;
       }
-  means b past r TurnAnswer.Idle a once f = record {
+  means b past r TurnAnswer.Idle a f = record {
     written = a.1.written;
     placed = a.1.placed;
     announced = a.1.announced;
     none_aside = r.takes.none_aside;
-    rest = at_rest b past r (is_still r a.0) once f a.1.written;
+    rest = at_rest b past r (is_still r a.0) f a.1.written;
   }
 
   pub goes_turn : (r : Run s0 s1 s2 s3 s4 s5 s6 s7 m1 m2 m3 m4 m5 m6 m7) (says : TurnAnswer) → Answers s7.kept (m1 || (m2 || (m3 || (m4 || (m5 || (m6 || m7)))))) says
@@ -338,9 +335,10 @@ module _ {s0 s1 s2 s3 s4 s5 s6 s7 : TurnState} {m1 m2 m3 m4 m5 m6 m7 : Bool} whe
         acts = all_acts r;
         exchange = all_exchange r;
         goes = w.leads;
-        turn = λ b past once f.
-            let adds = w.adds b past once f in
-            let last : StandingFits b s7 (after past (all_acts r)) = w.leads b past once f in
+        steps = λ b past f. takes_steps r b past f;
+        turn = λ b past f.
+            let adds = w.adds b past f in
+            let last : StandingFits b s7 (after past (all_acts r)) = w.leads b past f in
             record {
               exchanges = record {
                 came = w.came;
@@ -361,6 +359,6 @@ module _ {s0 s1 s2 s3 s4 s5 s6 s7 : TurnState} {m1 m2 m3 m4 m5 m6 m7 : Bool} whe
               acts_may = adds.may;
               moved = sym (has_moved_all r) ∙ says_moved_is s7.kept (m1 || (m2 || (m3 || (m4 || (m5 || (m6 || m7)))))) says a;
               none_aside = r.takes.none_aside;
-              means = means b past r says a once f;
+              means = means b past r says a f;
             };
       }

@@ -2,7 +2,7 @@
 ghost use Rattle.std.specs.Prelude.{◌≡◌, ◌<◌};
 ghost use Rattle.modem_history.specs.Kinds.{kind_place};
 ghost use Rattle.modem_history.specs.Sessions.{LineView};
-ghost use Rattle.modem_driver.specs.Placing.{OffersFirst, Placed, TellsAlone, AnnouncesAlone, caller_of, place_of, IsRingOf, IsCaller, IsListenerOf, IsHeard};
+ghost use Rattle.modem_driver.specs.Placing.{OffersFirst, Placed, TellsAlone, AnnouncesAlone, caller_of, place_of, IsRingOf, IsCaller, IsListenerOf, IsHeard, caller_rings, listener_rings};
 ghost use Rattle.modem_driver.specs.TurnSteps.{turn_state, Places};
 
 use crate::session::kept::Kept;
@@ -37,7 +37,7 @@ impl Waiting {
     /// that is handed back, or isn't offered, goes behind the others. Whether it was told.
     fn offer_outcome(&mut self, driver: &mut DriverEnd, held_up: &mut [bool; CALLERS]) -> bool
         ensures offers { OffersFirst caller_of IsRingOf (IsCaller driver.old.desk)
-            driver.old.told driver.new.told driver.old.free driver.new.free held_up.old held_up.new
+            (caller_rings driver.old) (caller_rings driver.new) held_up.old held_up.new
             self.old.outcomes self.new.outcomes result }
         ensures alone { TellsAlone driver.old driver.new }
         ensures lines { self.new.lines ≡ self.old.lines }
@@ -61,8 +61,8 @@ impl Waiting {
     /// Each outcome is offered to its caller, in order. What is handed back stays, in its order, and
     /// once one of a caller was handed back no other of that caller is offered. Whether any was told.
     fn place_outcomes(&mut self, driver: &mut DriverEnd) -> bool
-        ensures placed { Placed caller_of IsRingOf (IsCaller driver.old.desk) driver.old.told driver.new.told
-            driver.new.free self.old.outcomes self.new.outcomes result }
+        ensures placed { Placed caller_of IsRingOf (IsCaller driver.old.desk) (caller_rings driver.old)
+            (caller_rings driver.new) self.old.outcomes self.new.outcomes result }
         ensures alone { TellsAlone driver.old driver.new }
         ensures lines { self.new.lines ≡ self.old.lines }
     {
@@ -79,9 +79,8 @@ impl Waiting {
     /// announced.
     fn offer_line(&mut self, driver: &mut DriverEnd, held_up: &mut [bool; KINDS]) -> bool
         ensures offers { OffersFirst place_of (IsListenerOf driver.old.desk.kinds)
-            (IsHeard driver.old.desk.kinds)
-            driver.old.announced driver.new.announced driver.old.free_lines driver.new.free_lines held_up.old
-            held_up.new self.old.lines self.new.lines result }
+            (IsHeard driver.old.desk.kinds) (listener_rings driver.old) (listener_rings driver.new)
+            held_up.old held_up.new self.old.lines self.new.lines result }
         ensures alone { AnnouncesAlone driver.old driver.new }
         ensures outcomes { self.new.outcomes ≡ self.old.outcomes }
     {
@@ -106,8 +105,7 @@ impl Waiting {
     /// announced.
     fn place_lines(&mut self, driver: &mut DriverEnd) -> bool
         ensures placed { Placed place_of (IsListenerOf driver.old.desk.kinds) (IsHeard driver.old.desk.kinds)
-            driver.old.announced driver.new.announced driver.new.free_lines
-            self.old.lines self.new.lines result }
+            (listener_rings driver.old) (listener_rings driver.new) self.old.lines self.new.lines result }
         ensures alone { AnnouncesAlone driver.old driver.new }
         ensures outcomes { self.new.outcomes ≡ self.old.outcomes }
     {

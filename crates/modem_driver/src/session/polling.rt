@@ -3,7 +3,7 @@ ghost use Rattle.std.specs.Prelude.{◌≡◌, ◌+◌, ◌≤◌, IfErr, IfSome
 ghost use Rattle.modem_driver.specs.SessionStates.{line_by, TakesMore};
 ghost use Rattle.modem_history.specs.Turns.{says_moved};
 ghost use Rattle.modem_driver.specs.SessionTurns.{turn_answer, LeavesLost};
-ghost use Rattle.modem_driver.specs.Polls.{has_ended, is_stopped, end_given, with_end, SessionGoesOn, RunsTurns, PollsOn, Polls, SaysEnd, Gives};
+ghost use Rattle.modem_driver.specs.Polls.{has_ended, is_stopped, end_given, end_in, with_end, SessionGoesOn, RunsTurns, PollsOn, Polls, SaysEnd, Gives};
 
 use crate::session::Session;
 use crate::session::ending::{Course, Ended};
@@ -17,6 +17,17 @@ use std::sync::Wait;
 
 /// The most turns of a poll.
 const TURNS: usize = 64;
+
+/// What a poll came to.
+#[derive(Clone, Copy, PartialEq, Eq, Debug)]
+pub enum Progress {
+    /// Its 64 turns all moved something: there may be more to do at once.
+    More,
+    /// A turn moved nothing: there is nothing to do until octets or requests come, or room.
+    Idle,
+    /// It has ended so, or a turn failed so; after `NoMemory`, which is no end, a poll goes on.
+    Ended(Result<Ended, SessionFault>),
+}
 
 impl Turn {
     /// Whether it is Moved.
@@ -57,9 +68,9 @@ impl<L: SerialLine, R: Wait + Drop> Session<L, R> {
         self.kept.has_ended()
     }
 
-    /// At most 64 turns, none behind one that doesn't answer Moved, and none once it has ended. The fault
-    /// by which the last one ended, if it did.
-    fn turns(&mut self) -> Result<(), SessionFault>
+    /// At most 64 turns, none behind one that doesn't answer Moved, and none once it has ended. Whether
+    /// all 64 were made and answered so; or the fault by which the last one ended.
+    fn turns(&mut self) -> Result<bool, SessionFault>
         ensures runs { RunsTurns (line_by L.received L.sent L.calls L.failures L.empty_reads L.stalled_writes) self.old self.new result }
         ensures goes { SessionGoesOn (line_by L.received L.sent L.calls L.failures L.empty_reads L.stalled_writes) self.old self.new }
         ensures bounded { L.calls self.new.line ≤ L.calls self.old.line + 128 }
@@ -68,18 +79,18 @@ impl<L: SerialLine, R: Wait + Drop> Session<L, R> {
     {
         for _ in 0..TURNS {
             if self.has_ended() {
-                return Ok(());
+                return Ok(false);
             }
             match self.turn() {
                 Ok(says) => {
                     if !says.is_moved() {
-                        return Ok(());
+                        return Ok(false);
                     }
                 }
                 Err(why) => return Err(why),
             }
         }
-        Ok(())
+        Ok(true)
     }
 
     /// The end that a poll gave, if one did.
@@ -103,41 +114,45 @@ impl<L: SerialLine, R: Wait + Drop> Session<L, R> {
     }
 
     /// What at most 64 turns lead to: Stopped where it has ended then, or the fault of the last one. It is
-    /// kept as the end, but for 1 NoMemory.
-    fn run(&mut self) -> Option<Result<Ended, SessionFault>>
+    /// kept as the end, but for 1 NoMemory. Where there is no end, whether there may be more to do.
+    fn run(&mut self) -> Progress
         ensures polls { PollsOn (line_by L.received L.sent L.calls L.failures L.empty_reads L.stalled_writes) self.old self.new result }
         ensures goes { SessionGoesOn (line_by L.received L.sent L.calls L.failures L.empty_reads L.stalled_writes) self.old self.new }
-        ensures says { IfSome result (SaysEnd (line_by L.received L.sent L.calls L.failures L.empty_reads L.stalled_writes) self.new) }
+        ensures says { IfSome (end_in result) (SaysEnd (line_by L.received L.sent L.calls L.failures L.empty_reads L.stalled_writes) self.new) }
         ensures bounded { L.calls self.new.line ≤ L.calls self.old.line + 128 }
         ensures takes { TakesMore self.old.driver self.new.driver }
     {
         match self.turns() {
-            Ok(()) => {
-                if !self.has_ended() {
-                    return None;
+            Ok(more) => {
+                if self.has_ended() {
+                    self.keep_end(Ok(Ended::Stopped));
+                    return Progress::Ended(Ok(Ended::Stopped));
                 }
-                self.keep_end(Ok(Ended::Stopped));
-                Some(Ok(Ended::Stopped))
+                if more {
+                    return Progress::More;
+                }
+                Progress::Idle
             }
             Err(why) => {
                 self.keep_end(Err(why));
-                Some(Err(why))
+                Progress::Ended(Err(why))
             }
         }
     }
 
-    /// What a poll gives, if anything: the end that one gave before, after which nothing is done; else that
-    /// to which at most 64 turns lead. A future of one's own that hands the session on calls it, since of a
-    /// session that is polled only the output is known.
-    pub fn advance(&mut self) -> Option<Result<Ended, SessionFault>>
+    /// One poll: the end that one gave before, after which nothing is done; else that to which at most 64
+    /// turns lead, up to the first that doesn't answer Moved; or, where that is no end, whether there may be
+    /// more to do at once. A loop or a future of one's own calls it, since of a session that is polled as a
+    /// future only the output is known.
+    pub fn advance(&mut self) -> Progress
         ensures polls { Polls (line_by L.received L.sent L.calls L.failures L.empty_reads L.stalled_writes) self.old self.new result }
         ensures goes { SessionGoesOn (line_by L.received L.sent L.calls L.failures L.empty_reads L.stalled_writes) self.old self.new }
-        ensures gives { IfSome result (Gives (line_by L.received L.sent L.calls L.failures L.empty_reads L.stalled_writes) self.old) }
+        ensures gives { IfSome (end_in result) (Gives (line_by L.received L.sent L.calls L.failures L.empty_reads L.stalled_writes) self.old) }
         ensures bounded { L.calls self.new.line ≤ L.calls self.old.line + 128 }
         ensures takes { TakesMore self.old.driver self.new.driver }
     {
         match self.end() {
-            Some(end) => Some(end),
+            Some(end) => Progress::Ended(end),
             None => self.run(),
         }
     }
@@ -158,8 +173,9 @@ impl<L: SerialLine + Drop, R: Wait + Drop> Future for Session<L, R> {
 
     fn poll(&mut self, cx: &mut Context<'_>) -> Poll<Result<Ended, SessionFault>> {
         match self.advance() {
-            Some(end) => Poll::Ready(end),
-            None => cx.yield_now(),
+            Progress::Ended(end) => Poll::Ready(end),
+            Progress::More => cx.yield_now(),
+            Progress::Idle => cx.yield_now(),
         }
     }
 }

@@ -1,6 +1,5 @@
 //! Turns of a session.
 ghost use Rattle.std.specs.Prelude.{◌≡◌, true, Err, IfOk, IfErr, OnErr};
-ghost use Rattle.modem_history.specs.Requests.{are_distinct};
 ghost use Rattle.modem_driver.specs.SessionStates.{has_lost_line, line_by, TakesMore};
 ghost use Rattle.modem_driver.specs.TurnSteps.{Places, Checks, ChecksPart, SendsOn, Writes, Gets, ReadsOn, TakesOne, KeepsAside};
 ghost use Rattle.modem_driver.specs.SessionTurns.{standing_of, turn_answer, fault_of, Answers, HasNoPlace, HasTurned, LeavesLost, LosesOr, TakesTurn, Faults};
@@ -162,15 +161,15 @@ impl<L: SerialLine, R: Wait + Drop> Session<L, R> {
         }
     }
 
-    /// No caller used a number twice.
-    fn once(&self)
-        ensures { are_distinct self.now.driver.taken ≡ true }
-    {
-        self.driver.numbers();
-    }
-
-    /// The steps of a turn.
-    fn make_turn(&mut self) -> Result<Turn, SessionFault>
+    /// Does each of these once, in this order: offers the outcomes and lines that wait to the desk;
+    /// looks at the backlog of each connection; where all octets are written, takes the next frame
+    /// into the output; writes; handles the frame at hand; where no octets wait to be fed, reads, and
+    /// feeds the deframer; takes a request, where those in hand and the outcomes that wait are fewer
+    /// than 128. Faults, which end the turn: 1 NoMemory, after which what was done stands and the next
+    /// turn goes on; 2 Line, where a call on the line failed in this turn, or in an earlier one since
+    /// which every turn answered NoMemory; 3 Failed in every turn after that, which still offers to the
+    /// desk what waits.
+    pub fn turn(&mut self) -> Result<Turn, SessionFault>
         ensures turns { IfOk result (λ says. TakesTurn (line_by L.received L.sent L.calls L.failures L.empty_reads L.stalled_writes)
             self.old self.new (turn_answer says)) }
         ensures faults { IfErr result (λ why. Faults (line_by L.received L.sent L.calls L.failures L.empty_reads L.stalled_writes)
@@ -209,31 +208,5 @@ impl<L: SerialLine, R: Wait + Drop> Session<L, R> {
         };
         let moved = placed | checked | sent | wrote | got | read | took;
         Ok(self.answer(moved))
-    }
-
-    /// Does each of these once, in this order: offers the outcomes and lines that wait to the desk;
-    /// looks at the backlog of each connection; where all octets are written, takes the next frame
-    /// into the output; writes; handles the frame at hand; where no octets wait to be fed, reads, and
-    /// feeds the deframer; takes a request, where those in hand and the outcomes that wait are fewer
-    /// than 128. Faults, which end the turn: 1 NoMemory, after which what was done stands and the next
-    /// turn goes on; 2 Line, where a call on the line failed in this turn, or in an earlier one since
-    /// which every turn answered NoMemory; 3 Failed in every turn after that, which still offers to the
-    /// desk what waits.
-    pub fn turn(&mut self) -> Result<Turn, SessionFault>
-        ensures turns { IfOk result (λ says. TakesTurn (line_by L.received L.sent L.calls L.failures L.empty_reads L.stalled_writes)
-            self.old self.new (turn_answer says)) }
-        ensures faults { IfErr result (λ why. Faults (line_by L.received L.sent L.calls L.failures L.empty_reads L.stalled_writes)
-            self.old self.new (fault_of why)) }
-        ensures turned { HasTurned (standing_of (line_by L.received L.sent L.calls L.failures L.empty_reads L.stalled_writes) self.old)
-            (standing_of (line_by L.received L.sent L.calls L.failures L.empty_reads L.stalled_writes) self.new) }
-        ensures lost { IfErr result (λ why. LeavesLost why self.new) }
-        ensures failed { has_lost_line self.old ≡ true → result ≡ Err fault.Failed }
-        ensures takes { TakesMore self.old.driver self.new.driver }
-        ensures once { are_distinct self.new.driver.taken ≡ true }
-        ensures full { IfOk result (λ says. HasNoPlace self.new.driver (turn_answer says)) }
-    {
-        let says = self.make_turn();
-        self.once();
-        says
     }
 }

@@ -187,14 +187,13 @@ runs_on old mid new first second third one other = record {
   acts = one.acts ++ other.acts;
   more = one.more ++ other.more;
   takes_more = other.takes_more ∙ (ap (λ (qs : List Request). qs ++ other.more) one.takes_more ∙ append_assoc old.desk.taken one.more other.more);
-  goes = λ b past once f.
-      let between = once_between b old mid new past one.more other.more f.session one.takes_more other.takes_more once in
-      let there = other.goes b (after past one.acts) once (one.goes b past between f) in
+  goes = λ b past f.
+      let there = other.goes b (after past one.acts) (one.goes b past f) in
       subst (FitsWith b new (third b)) (sym (after_both one.acts other.acts past)) there;
 }
 
 pub keeps_history : (b : Beginning) (old new : SessionView) (core later : Beginning → List Act → Type 0) → KeepsHistory b old new core later
-keeps_history b old new core later h g once = record { past = after h.past g.acts; fits = g.goes b h.past once h.fits }
+keeps_history b old new core later h g = record { past = after h.past g.acts; fits = g.goes b h.past h.fits }
 
 pub calls_run_on : CallsRunOn
 unfolding CallsRunOn

@@ -1,38 +1,47 @@
 -- What the turns of a poll lead to.
 use Rattle.std.proofs.Common.{◌≡◌, ◌∙◌, ◌+◌, ◌≤◌, ap, subst, sym, true, false}
-use Rattle.std.specs.Prelude.{refl, if◌then◌else◌, Option, None, Some, Ok, Err, Bool, Result}
-use Rattle.modem_driver.specs.declared.session.ending.Ended.{Ended}
+use Rattle.std.specs.Prelude.{refl, if◌then◌else◌, Ok, Err, Bool}
 use Rattle.modem_driver.specs.declared.session.ending.Ended.TheVariants.{Stopped}
-use Rattle.modem_driver.specs.declared.session.error.SessionFault.{SessionFault}
+use Rattle.modem_driver.specs.declared.session.polling.Progress.{Progress}
+use Rattle.modem_driver.specs.declared.session.polling.Progress.TheVariants as progress
 use Rattle.modem_driver.specs.SessionStates.{SessionState, TakesMore, line_by}
 use Rattle.modem_driver.specs.Polls.{SaysEnd, SessionGoesOn, has_ended, with_end}
 use Rattle.modem_driver.proofs.sessions.Polls.{ended_says, ends_failing, ends_stopped, failing_says, goes_then}
 use Rattle.modem_driver.proofs.session.Session.run.Goals as goal
 
-pub returns-then-not-has_ended-clause-polls : goal.returns-then-not-has_ended-clause-polls
-returns-then-not-has_ended-clause-polls g c =
-    let not_yet : has_ended c.turns.new.self.kept ≡ false = sym c.has_ended.ensures ∙ c.if-not-has_ended.true in
-    let given : Bool → Option (Result Ended SessionFault) = λ e. if e then Some (Ok Stopped) else None in
-    record { mid = c.turns.new.self; ran = Ok tt; runs = c.in-Ok.ensures.runs; given_is = sym (ap given not_yet); stays = refl }
+-- what is given where it has ended, and where it hasn't
+abbrev given_where : (more ended : Bool) → Progress
+given_where more ended = if ended then progress.Ended (Ok Stopped) else if more then progress.More else progress.Idle
 
-pub returns-else-not-has_ended-clause-polls : goal.returns-else-not-has_ended-clause-polls
-returns-else-not-has_ended-clause-polls g c =
-    let ended : has_ended c.turns.new.self.kept ≡ true = sym c.has_ended.ensures ∙ c.if-not-has_ended.false in
-    let given : Bool → Option (Result Ended SessionFault) = λ e. if e then Some (Ok Stopped) else None in
-    record { mid = c.turns.new.self; ran = Ok tt; runs = c.in-Ok.ensures.runs; given_is = sym (ap given ended); stays = c.keep_end.ensures }
+pub returns-then-has_ended-clause-polls : goal.returns-then-has_ended-clause-polls
+returns-then-has_ended-clause-polls g c =
+    let ended : has_ended c.turns.new.self.kept ≡ true = sym c.has_ended.ensures ∙ c.if-has_ended.true in
+    record { mid = c.turns.new.self; ran = Ok c.in-Ok.more; runs = c.in-Ok.ensures.runs; given_is = sym (ap (given_where c.in-Ok.more) ended); stays = c.keep_end.ensures }
 
-pub returns-else-not-has_ended-clause-goes : goal.returns-else-not-has_ended-clause-goes
-returns-else-not-has_ended-clause-goes g c =
+pub returns-then-has_ended-clause-goes : goal.returns-then-has_ended-clause-goes
+returns-then-has_ended-clause-goes g c =
     let look = line_by g.L.SerialLine.received g.L.SerialLine.sent g.L.SerialLine.calls g.L.SerialLine.failures g.L.SerialLine.empty_reads g.L.SerialLine.stalled_writes in
     let mid = c.turns.new.self in
-    let ended : has_ended mid.kept ≡ true = sym c.has_ended.ensures ∙ c.if-not-has_ended.false in
+    let ended : has_ended mid.kept ≡ true = sym c.has_ended.ensures ∙ c.if-has_ended.true in
     subst (SessionGoesOn look c.args.self.now) (sym c.keep_end.ensures) (goes_then look c.args.self.now mid (with_end (Ok Stopped) mid) c.in-Ok.ensures.goes (ends_stopped look mid ended))
 
-pub returns-else-not-has_ended-clause-says : goal.returns-else-not-has_ended-clause-says
-returns-else-not-has_ended-clause-says g c =
+pub returns-then-has_ended-clause-says : goal.returns-then-has_ended-clause-says
+returns-then-has_ended-clause-says g c =
     let look = line_by g.L.SerialLine.received g.L.SerialLine.sent g.L.SerialLine.calls g.L.SerialLine.failures g.L.SerialLine.empty_reads g.L.SerialLine.stalled_writes in
     let mid = c.turns.new.self in
     subst (λ (s : SessionState g.row.L.Denot). SaysEnd look s (Ok Stopped)) (sym c.keep_end.ensures) (ended_says look (with_end (Ok Stopped) mid) (Ok Stopped) refl)
+
+pub returns-then-more-clause-polls : goal.returns-then-more-clause-polls
+returns-then-more-clause-polls g c =
+    let not_yet : has_ended c.turns.new.self.kept ≡ false = sym c.has_ended.ensures ∙ c.if-has_ended.false in
+    let all : c.in-Ok.more ≡ true = c.if-more.true in
+    record { mid = c.turns.new.self; ran = Ok c.in-Ok.more; runs = c.in-Ok.ensures.runs; given_is = sym (ap (given_where c.in-Ok.more) not_yet ∙ ap (λ (m : Bool). given_where m false) all); stays = refl }
+
+pub returns-else-more-clause-polls : goal.returns-else-more-clause-polls
+returns-else-more-clause-polls g c =
+    let not_yet : has_ended c.turns.new.self.kept ≡ false = sym c.has_ended.ensures ∙ c.if-has_ended.false in
+    let few : c.in-Ok.more ≡ false = c.if-more.false in
+    record { mid = c.turns.new.self; ran = Ok c.in-Ok.more; runs = c.in-Ok.ensures.runs; given_is = sym (ap (given_where c.in-Ok.more) not_yet ∙ ap (λ (m : Bool). given_where m false) few); stays = refl }
 
 pub returns-in-Err : goal.returns-in-Err
 returns-in-Err g c =

@@ -26,7 +26,6 @@ loop-preserved g c =
         turn = subst (TakesTurn look c.loop.self c.turn.new.self) (moved_is says (sym c.is_moved.ensures ∙ c.if-not-is_moved.false)) c.in-Ok.ensures.turns;
         turned = turned;
         takes = c.in-Ok.ensures.takes;
-        once = c.turn.ensures.once;
       });
       takes = takes_then c.args.self.now.driver c.loop.self.driver c.turn.new.self.driver c.loop.invariant.takes c.in-Ok.ensures.takes;
       calls = omega (arith, one, before);
@@ -45,7 +44,6 @@ returns-then-not-is_moved-clause-runs g c =
       turn = c.in-Ok.ensures.turns;
       turned = c.in-Ok.ensures.turned;
       takes = c.in-Ok.ensures.takes;
-      once = c.turn.ensures.once;
     })
     (sym c.is_moved.ensures ∙ c.if-not-is_moved.true)
 
@@ -62,7 +60,6 @@ returns-in-Err-clause-runs g c =
       fault = c.in-Err.ensures.faults;
       turned = c.in-Err.ensures.turned;
       takes = c.in-Err.ensures.takes;
-      once = c.turn.ensures.once;
       lost = c.in-Err.ensures.lost;
     })
 

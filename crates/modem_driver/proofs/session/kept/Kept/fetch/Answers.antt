@@ -48,4 +48,4 @@ returns g c =
       course = k.course;
     } in
     subst (λ (v : Kept). (l : LineView) → Fetches (turn_state l d v) (turn_state l c.next.new.self (record old { aside = c.next.result }))) c.self.view_is
-    (λ l. fetches l d c.next.new.self old c.next.result none (omega arith) (gives d c.next.new.self c.next.result h.desk.0 h.desk.1 h.desk.2 (h.desk.3, h.desk.4) h.taken))
+    (λ l. fetches l d c.next.new.self old c.next.result none (omega arith) (gives d c.next.new.self c.next.result h.desk.0 h.desk.1 h.desk.2 (h.desk.3, h.desk.4) (h.desk.5, h.desk.6) h.found h.numbered h.taken))

@@ -3,7 +3,7 @@ use Rattle.std.proofs.Common.{sym, subst, List, ◌||◌}
 use Rattle.modem_desk.specs.declared.request.Outcome.{Outcome}
 use Rattle.modem_desk.specs.declared.request.Urc.{Urc}
 use Rattle.modem_history.specs.Sessions.{LineView}
-use Rattle.modem_driver.specs.Placing.{Placed, caller_of, place_of, IsRingOf, IsCaller, IsListenerOf, IsHeard}
+use Rattle.modem_driver.specs.Placing.{Placed, caller_of, place_of, IsRingOf, IsCaller, IsListenerOf, IsHeard, caller_rings, listener_rings}
 use Rattle.modem_driver.specs.SessionStates.{Kept}
 use Rattle.modem_driver.specs.TurnSteps.{Places, turn_state}
 use Rattle.modem_driver.proofs.sessions.DeskOffers.{places}
@@ -33,5 +33,5 @@ returns c =
     let left = c.place_lines-announced.new.self in
     subst (λ (v : Kept). (l : LineView) → Places (turn_state l d v) (turn_state l e (record old { unplaced = left.outcomes; unannounced = left.lines })) (told || announced)) c.self.view_is
     (places d m e old left.outcomes left.lines told announced
-    (subst (λ (os : List Outcome). Placed caller_of IsRingOf (IsCaller d.desk) d.told m.told m.free k.waiting.outcomes os told) (sym other.outcomes) one.placed) one.alone
-    (subst (λ (us : List Urc). Placed place_of (IsListenerOf m.desk.kinds) (IsHeard m.desk.kinds) m.announced e.announced e.free_lines us left.lines announced) one.lines other.placed) other.alone)
+    (subst (λ (os : List Outcome). Placed caller_of IsRingOf (IsCaller d.desk) (caller_rings d) (caller_rings m) k.waiting.outcomes os told) (sym other.outcomes) one.placed) one.alone
+    (subst (λ (us : List Urc). Placed place_of (IsListenerOf m.desk.kinds) (IsHeard m.desk.kinds) (listener_rings m) (listener_rings e) us left.lines announced) one.lines other.placed) other.alone)

@@ -2,6 +2,7 @@
 use Rattle.std.proofs.Common.{◌≡◌, ◌≢◌, ap, sym, ◌∙◌, subst, [], ◌++◌, ◌≤◌, true, false, length, ℕ, List, eqb-true}
 use Rattle.std.proofs.lemmas.Bool.{eqb-false}
 use Rattle.std.proofs.lemmas.List.{append-nil, nil_from_length}
+use Rattle.serial_line.specs.Counts.{counted_if_none}
 use Rattle.modem_driver.specs.SessionStates.{Kept, line_by}
 use Rattle.modem_driver.specs.SessionTurns.{KeptReads, Feeds}
 use Rattle.modem_driver.proofs.sessions.LineCalls.{reads_fed, reads_none, reads_some, reads_failing}
@@ -37,7 +38,7 @@ returns-in-Ok-eq0 g c =
     let nothing : c.read.new.self ≡ [] = nil_from_length c.read.new.self (sym e.count ∙ c.in-Ok-eq0.field-0-test) in
     let came : m.received ≡ l.received ++ [] = e.came ∙ ap (λ (xs : List ℕ). l.received ++ xs) nothing in
     subst (λ (v : Kept). KeptReads l m v (record old { unfed = c.read.new.self }) false) c.self.view_is
-    (subst (λ (xs : List ℕ). KeptReads l m old (record old { unfed = xs }) false) (sym nothing) (reads_none l m old none came e.none_went e.sound e.counted))
+    (subst (λ (xs : List ℕ). KeptReads l m old (record old { unfed = xs }) false) (sym nothing) (reads_none l m old none came e.none_went e.sound e.counted (e.empty ∙ ap (λ (n : ℕ). counted_if_none 512 n l.empty_reads) c.in-Ok-eq0.field-0-test) e.no_write))
 
 pub returns-in-Ok : goal.returns-in-Ok
 returns-in-Ok g c =
@@ -63,7 +64,7 @@ returns-in-Ok g c =
     let few = subst (λ (n : ℕ). n ≤ 512) e.count e.bound in
     subst (λ (v : Kept). KeptReads l m v c.feed-in-Ok.new.self true) c.self.view_is
     (subst (λ (v : Kept). KeptReads l m old v true) (sym f.stays)
-    (reads_some l m old c.read.new.self c.feed-in-Ok.new.self.deframer c.feed-in-Ok.result none some few e.came e.none_went e.sound e.counted f.takes f.bound f.frame_stays))
+    (reads_some l m old c.read.new.self c.feed-in-Ok.new.self.deframer c.feed-in-Ok.result none some few e.came e.none_went e.sound e.counted (e.empty ∙ ap (λ (n : ℕ). counted_if_none 512 n l.empty_reads) e.count) e.no_write f.takes f.bound f.few f.some f.frame_stays))
 
 pub returns-in-Err : goal.returns-in-Err
 returns-in-Err g c =
@@ -86,4 +87,4 @@ returns-in-Err g c =
     let none : k.input ≡ [] = nil_from_length k.input (eqb-true (length k.input) 0 (sym c.is_empty.ensures ∙ c.if-not-is_empty.false)) in
     let received : m.received ≡ l.received = e.came ∙ (ap (λ (xs : List ℕ). l.received ++ xs) e.none ∙ append-nil l.received) in
     subst (λ (v : Kept). KeptReads l m v (record old { unfed = c.read.new.self; faulty = true }) false) c.self.view_is
-    (subst (λ (xs : List ℕ). KeptReads l m old (record old { unfed = xs; faulty = true }) false) (none ∙ sym e.none) (reads_failing l m old none received e.none_went e.failure e.counted))
+    (subst (λ (xs : List ℕ). KeptReads l m old (record old { unfed = xs; faulty = true }) false) (none ∙ sym e.none) (reads_failing l m old none received e.none_went e.failure e.counted e.no_write))

@@ -2,6 +2,7 @@
 use Rattle.std.proofs.Common.{◌≡◌, ◌≢◌, ap, sym, ◌∙◌, subst, [], ◌++◌, ◌≤◌, take, true, false, nat_lt, length, ℕ, List, eqb-true}
 use Rattle.std.proofs.lemmas.Bool.{eqb-false}
 use Rattle.std.proofs.lemmas.List.{nil_from_length}
+use Rattle.serial_line.specs.Counts.{counted_if_none}
 use Rattle.modem_driver.specs.SessionStates.{Kept, line_by}
 use Rattle.modem_driver.specs.SessionTurns.{KeptWrites}
 use Rattle.modem_driver.proofs.sessions.LineCalls.{writes_none, writes_some, writes_failing}
@@ -36,8 +37,9 @@ returns-in-Ok g c =
     let some : k.output ≢ [] = λ none. eqb-false (length k.output) 0 (sym c.is_empty.ensures ∙ c.if-is_empty.false) (ap length none) in
     let few : n ≤ length k.output = subst (λ (xs : List ℕ). n ≤ length xs) c.as_slice.ensures e.bound in
     let went : m.sent ≡ l.sent ++ take n k.output = e.went ∙ ap (λ (xs : List ℕ). l.sent ++ take n xs) c.as_slice.ensures in
+    let stalled = e.stalled ∙ ap (λ (xs : List ℕ). counted_if_none (length xs) n l.stalled_writes) c.as_slice.ensures in
     subst (λ (v : Kept). KeptWrites l m v (record old { unwritten = c.pass.new.self }) (nat_lt 0 n)) c.self.view_is
-    (subst (λ (xs : List ℕ). KeptWrites l m old (record old { unwritten = xs }) (nat_lt 0 n)) (sym c.pass.ensures) (writes_some l m old n some few e.none_came went e.sound e.counted))
+    (subst (λ (xs : List ℕ). KeptWrites l m old (record old { unwritten = xs }) (nat_lt 0 n)) (sym c.pass.ensures) (writes_some l m old n some few e.none_came went e.sound e.counted stalled e.no_read))
 
 pub returns-in-Err : goal.returns-in-Err
 returns-in-Err g c =
@@ -58,4 +60,4 @@ returns-in-Err g c =
     let m = look c.try_write.new.self in
     let e = c.in-Err.ensures in
     let some : k.output ≢ [] = λ none. eqb-false (length k.output) 0 (sym c.is_empty.ensures ∙ c.if-is_empty.false) (ap length none) in
-    subst (λ (v : Kept). KeptWrites l m v (record old { faulty = true }) false) c.self.view_is (writes_failing l m old some e.none_came e.none_went e.failure e.counted)
+    subst (λ (v : Kept). KeptWrites l m v (record old { faulty = true }) false) c.self.view_is (writes_failing l m old some e.none_came e.none_went e.failure e.counted e.no_read)
