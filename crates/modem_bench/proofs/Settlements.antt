@@ -92,8 +92,8 @@ module _ {X : Type 0} (look : X → LineView) where
         none_told = begun.none_told;
         none_announced = begun.none_announced;
         callers = of_callers s0 s1 begun h;
-        history = λ once.
-            let fits = h.goes.goes begun.start [] once begun.fits in
+        history =
+            let fits = h.goes.goes begun.start [] begun.fits in
             record { past = after [] h.goes.acts; fits = fits.session; finishes = over.ends begun.start (after [] h.goes.acts) fits };
         desk = over.desk;
         taken = ap (λ (e : EndView). e.taken) (sym over.desk);

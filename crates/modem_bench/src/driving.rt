@@ -7,7 +7,7 @@ use crate::signals::{Fault, Signals};
 use futures::Future;
 use futures::executor::block_on;
 use futures::task::{Context, Poll};
-use modem_driver::{Ended, Session, SessionFault};
+use modem_driver::{Ended, Progress, Session, SessionFault};
 use serial_line::SerialLine;
 use std::alloc::AllocGlobal;
 use std::random::RandomSource;
@@ -60,9 +60,9 @@ impl<L: SerialLine + Drop, R: Wait + Drop> Driven<'_, L, R> {
     {
         count(&mut self.left, self.signals)?;
         match session.advance() {
-            Some(Ok(Ended::Stopped)) => Ok(true),
-            Some(Err(fault)) => Err(fault_of(fault)),
-            None => Ok(false),
+            Progress::Ended(Ok(Ended::Stopped)) => Ok(true),
+            Progress::Ended(Err(fault)) => Err(fault_of(fault)),
+            Progress::More | Progress::Idle => Ok(false),
         }
     }
 }

@@ -1,10 +1,10 @@
 -- An entry goes on by one call on the line, or is over with it.
-use Rattle.std.specs.Prelude.{◌≡◌, ℕ, ◌+◌, ◌-◌, ◌^◌, ◌≤◌, ◌<◌, ◌⊎◌, ◌||◌, Bool, true, false, List, [], ◌∷◌, ◌++◌, length, take, drop, refl, Option, None, Some, is_some, Result, Ok, Err, OnErr, OnOk, IfErr, nat_eq, codes, if◌then◌else◌}
+use Rattle.std.specs.Prelude.{◌≡◌, ℕ, zero, suc, ◌+◌, ◌-◌, ◌^◌, ◌≤◌, ◌<◌, ◌==◌, ◌⊎◌, ◌&&◌, ◌||◌, nat_lt, Bool, true, false, List, [], ◌∷◌, ◌++◌, length, take, drop, refl, Option, None, Some, is_some, Result, Ok, Err, OnErr, OnOk, IfErr, nat_eq, codes, if◌then◌else◌}
 use Rattle.std.proofs.Common.{inl, inr, ⊎_elim, ap, sym, ◌∙◌, subst, arith, append_assoc, append-nil, lit≤, true≢false}
 use Rattle.std.proofs.Math.Nat.{min-le_left, min-eq_left, min-eq_right}
 use Rattle.std.proofs.Math.Seq.{take-add}
-use Rattle.std.proofs.lemmas.Bool.{cases_lt}
-use Rattle.std.proofs.lemmas.List.{take-append-drop, take-take, length-take}
+use Rattle.std.proofs.lemmas.Bool.{cases_lt, lt-ltb, ne_eqb}
+use Rattle.std.proofs.lemmas.List.{take-append-drop, take-take, length-take, length-take-le, length-drop, length-append}
 use Rattle.std.proofs.lemmas.List.Folds.{list_any-append}
 use Rattle.std.proofs.lemmas.Slice.Eq.{bytes_eq-Decides}
 use Rattle.std.specs.List.{list_any, starts_with}
@@ -15,7 +15,7 @@ use Rattle.at_text.specs.Reading.{HasRead}
 use Rattle.at_text.specs.declared.finals.Final.{Final}
 use Rattle.at_text.specs.declared.finals.Final.TheVariants.{Good, Error, Cme}
 use Rattle.at_text.proofs.lines.KeptOctets.{has_read-push}
-use Rattle.serial_line.specs.Counts.{one_more}
+use Rattle.serial_line.specs.Counts.{one_more, counted_if_none}
 use Rattle.modem_history.specs.Sessions.{LineView}
 use Rattle.modem_history.specs.Entering.{EntryAnswer, Entered, Refused, NoAnswer, LineFailed, IsEntry, EndsWithFinal, EntryMeans, FailsBy, entry_text}
 use Rattle.modem_driver.specs.Entries.{Entry, IsUnderWay, EntryEnds, Comes, EntryGoesOn, Fails, SeesCode, answer_by, code_in, octet_in, entry_begun, entry_answer}
@@ -36,6 +36,46 @@ no_more made a b c was is = omega (arith, was, is, min-le_left (b + 1) (2 ^ 64 -
 bounded : (made turns a b c : ℕ) → b ≤ a + made → c ≡ one_more b → made + 1 ≤ turns → c ≤ a + turns
 bounded made turns a b c was is few = omega (arith, no_more made a b c was is, few)
 
+-- a call that could move octets moved one at least, or counts as one that moved none
+moved_or_none : (could n old : ℕ) → 1 ≤ could → (old + 1 ≤ n + counted_if_none could n old) ⊎ (counted_if_none could n old ≡ 2 ^ 64 - 1)
+moved_or_none zero n old few = absurd (omega (arith, few))
+moved_or_none (suc k) zero old few =
+    let rises : counted_if_none (suc k) 0 old ≡ one_more old = ap (λ (b : Bool). if b && (0 == 0) then one_more old else old) (lt-ltb 0 (suc k) (omega arith)) in
+    ⊎_elim
+    (λ (q : old + 1 < 2 ^ 64 - 1). inl (let same = rises ∙ min-eq_left (omega (arith, q)) in omega (arith, same)))
+    (λ (q : 2 ^ 64 - 1 ≤ old + 1). inr (rises ∙ min-eq_right q))
+    (cases_lt (old + 1) (2 ^ 64 - 1))
+moved_or_none (suc k) (suc n) old few =
+    let stays : counted_if_none (suc k) (suc n) old ≡ old = ap (λ (b : Bool). if nat_lt 0 (suc k) && b then one_more old else old) (ne_eqb (suc n) 0 (λ e. omega (arith, e))) ∙ and_no (nat_lt 0 (suc k)) in
+    inl (omega (arith, stays))
+  where
+    and_no : (b : Bool) → (if b && false then one_more old else old) ≡ old
+    and_no true = refl
+    and_no false = refl
+
+-- a count at its end stays there
+stays_at_end : (could n old : ℕ) → old ≡ 2 ^ 64 - 1 → counted_if_none could n old ≡ 2 ^ 64 - 1
+stays_at_end could n old end = by_counted (nat_lt 0 could && (n == 0))
+  where
+    by_counted : (b : Bool) → (if b then one_more old else old) ≡ 2 ^ 64 - 1
+    by_counted true = min-eq_right (omega (arith, end))
+    by_counted false = end
+
+-- so many calls could move octets, and one more
+wrote_with_room : (made e0 s0 e s t a n r : ℕ) → ((0 + 0 + (e0 + s0) + made ≤ a + r + (e + s)) ⊎ ((e ≡ 2 ^ 64 - 1) ⊎ (s ≡ 2 ^ 64 - 1))) → (s + 1 ≤ n + t) ⊎ (t ≡ 2 ^ 64 - 1) → (s ≡ 2 ^ 64 - 1 → t ≡ 2 ^ 64 - 1)
+    → (0 + 0 + (e0 + s0) + (made + 1) ≤ a + n + r + (e + t)) ⊎ ((e ≡ 2 ^ 64 - 1) ⊎ (t ≡ 2 ^ 64 - 1))
+wrote_with_room made e0 s0 e s t a n r (inr (inl full)) more stays = inr (inl full)
+wrote_with_room made e0 s0 e s t a n r (inr (inr full)) more stays = inr (inr (stays full))
+wrote_with_room made e0 s0 e s t a n r (inl h) (inr full) stays = inr (inr full)
+wrote_with_room made e0 s0 e s t a n r (inl h) (inl more) stays = inl (omega (arith, h, more))
+
+read_with_room : (made e0 s0 e s t a n r : ℕ) → ((0 + 0 + (e0 + s0) + made ≤ a + r + (e + s)) ⊎ ((e ≡ 2 ^ 64 - 1) ⊎ (s ≡ 2 ^ 64 - 1))) → (e + 1 ≤ n + t) ⊎ (t ≡ 2 ^ 64 - 1) → (e ≡ 2 ^ 64 - 1 → t ≡ 2 ^ 64 - 1)
+    → (0 + 0 + (e0 + s0) + (made + 1) ≤ a + (r + n) + (t + s)) ⊎ ((t ≡ 2 ^ 64 - 1) ⊎ (s ≡ 2 ^ 64 - 1))
+read_with_room made e0 s0 e s t a n r (inr (inl full)) more stays = inr (inl (stays full))
+read_with_room made e0 s0 e s t a n r (inr (inr full)) more stays = inr (inr full)
+read_with_room made e0 s0 e s t a n r (inl h) (inr full) stays = inr (inl full)
+read_with_room made e0 s0 e s t a n r (inl h) (inl more) stays = inl (omega (arith, h, more))
+
 -- ## The text goes out
 
 wrote_more : (first old new text : List ℕ) (written n : ℕ) → old ≡ first ++ take written text → new ≡ old ++ take n (drop written text) → new ≡ first ++ take (written + n) text
@@ -46,9 +86,16 @@ wrote_more first old new text written n was is =
 pub wrote : (old new : LineView) (was now : Entry) (n : ℕ) → was.written < 10 → n ≤ length (take (10 - was.written) (drop was.written entry_text))
     → new.sent ≡ old.sent ++ take n (take (10 - was.written) (drop was.written entry_text)) → new.received ≡ old.received
     → new.calls ≡ one_more old.calls → new.failures ≡ old.failures
+    → new.stalled_writes ≡ counted_if_none (length (take (10 - was.written) (drop was.written entry_text))) n old.stalled_writes → new.empty_reads ≡ old.empty_reads
     → now ≡ record { written = was.written + n; kept = was.kept } → EntryGoesOn old new was now None
 unfolding EntryGoesOn
-wrote old new was now n few short sent received calls failures is made first h =
+wrote old new was now n few short sent received calls failures stalled empty is made first h =
+    let rest = length (take (10 - was.written) (drop was.written entry_text)) in
+    let behind : length (drop was.written entry_text) ≡ 10 - was.written = length-drop was.written entry_text in
+    let whole : rest ≡ 10 - was.written = length-take-le (10 - was.written) (drop was.written entry_text) (omega (arith, behind)) in
+    let some : 1 ≤ rest = omega (arith, whole, few) in
+    let all_sent : length (take (was.written + n) entry_text) ≡ length (take was.written entry_text) + n = length-take-le (was.written + n) entry_text (omega (arith, few, short, whole)) ∙ sym (ap (λ (k : ℕ). k + n) (length-take-le was.written entry_text (omega (arith, few)))) in
+    let room = wrote_with_room made first.empty_reads first.stalled_writes old.empty_reads old.stalled_writes (counted_if_none rest n old.stalled_writes) (length (take was.written entry_text)) n (length h.read) h.with_room (moved_or_none rest n old.stalled_writes some) (stays_at_end rest n old.stalled_writes) in
     let fits : n ≤ 10 - was.written = omega (arith, short, length-take {A = ℕ}) in
     subst (λ (e : Entry). IsUnderWay (made + 1) first new e) (sym is) record {
       read = h.read;
@@ -61,6 +108,7 @@ wrote old new was now n few short sent received calls failures is made first h =
       none = h.none;
       in_turn = ⊎_elim (λ (q : h.read ≡ []). inl q) (λ (q : was.written ≡ 10). inl (absurd (omega (arith, few, q)))) h.in_turn;
       counted = counted made first.calls old.calls new.calls h.counted calls;
+      with_room = rw (all_sent, empty, stalled) room;
       bounded = no_more made first.calls old.calls new.calls h.bounded calls;
       sound = failures ∙ h.sound;
     }
@@ -69,10 +117,11 @@ pub wrote_as : (old new : LineView) (seen was now : Entry) (n : ℕ) → seen �
     → n ≤ length (take (10 - seen.written) (drop seen.written entry_text))
     → new.sent ≡ old.sent ++ take n (take (10 - seen.written) (drop seen.written entry_text)) → new.received ≡ old.received
     → new.calls ≡ one_more old.calls → new.failures ≡ old.failures
+    → new.stalled_writes ≡ counted_if_none (length (take (10 - seen.written) (drop seen.written entry_text))) n old.stalled_writes → new.empty_reads ≡ old.empty_reads
     → now ≡ record { written = seen.written + n; kept = seen.kept } → EntryGoesOn old new was now None
-wrote_as old new seen was now n same few short sent received calls failures is =
+wrote_as old new seen was now n same few short sent received calls failures stalled empty is =
     subst (λ (e : Entry). EntryGoesOn old new e now None) same
-    (wrote old new seen now n (subst (λ (e : Entry). e.written < 10) (sym same) few) short sent received calls failures is)
+    (wrote old new seen now n (subst (λ (e : Entry). e.written < 10) (sym same) few) short sent received calls failures stalled empty is)
 
 -- ## The line fails
 
@@ -106,9 +155,9 @@ pub sees_line : (kept : List ℕ) (octet : ℕ) (line : List ℕ) (code : Option
 sees_line kept octet line code past is = record { given = line ∷ []; one = inr (line, refl); past = past; code_is = is }
 
 pub none_came : (old new : LineView) (was : Entry) (o : Option ℕ) → o ≡ None → new.sent ≡ old.sent → new.received ≡ old.received ++ octet_in o
-    → new.calls ≡ one_more old.calls → new.failures ≡ old.failures → EntryGoesOn old new was was None
+    → new.calls ≡ one_more old.calls → new.failures ≡ old.failures → new.empty_reads ≡ counted_if_none 1 (length (octet_in o)) old.empty_reads → new.stalled_writes ≡ old.stalled_writes → EntryGoesOn old new was was None
 unfolding EntryGoesOn
-none_came old new was o is sent received calls failures made first h = record {
+none_came old new was o is sent received calls failures empty stalled made first h = record {
   read = h.read;
   sent_are = sent ∙ h.sent_are;
   few = h.few;
@@ -117,6 +166,10 @@ none_came old new was o is sent received calls failures made first h = record {
   none = h.none;
   in_turn = h.in_turn;
   counted = counted made first.calls old.calls new.calls h.counted calls;
+  with_room =
+      let none : new.empty_reads ≡ counted_if_none 1 0 old.empty_reads = empty ∙ ap (λ (x : Option ℕ). counted_if_none 1 (length (octet_in x)) old.empty_reads) is in
+      let same : length h.read + 0 ≡ length h.read = omega arith in
+      rw (none, stalled, ← same) (read_with_room made first.empty_reads first.stalled_writes old.empty_reads old.stalled_writes (counted_if_none 1 0 old.empty_reads) (length (take was.written entry_text)) 0 (length h.read) h.with_room (moved_or_none 1 0 old.empty_reads (lit≤ tt)) (stays_at_end 1 0 old.empty_reads));
   bounded = no_more made first.calls old.calls new.calls h.bounded calls;
   sound = failures ∙ h.sound;
 }
@@ -129,6 +182,8 @@ pub record OneCame (old new : LineView) (was now : Entry) (octet : ℕ) (given :
   pub came : new.received ≡ old.received ++ octet ∷ []
   pub calls : new.calls ≡ one_more old.calls
   pub failures : new.failures ≡ old.failures
+  pub empty : new.empty_reads ≡ counted_if_none 1 1 old.empty_reads
+  pub stalled : new.stalled_writes ≡ old.stalled_writes
   pub keeps : HasRead now.kept (was.kept ++ octet ∷ [])
   pub past : (octets : List ℕ) → HasRead was.kept octets → lines (octets ++ octet ∷ []) ≡ lines octets ++ given
 
@@ -145,6 +200,9 @@ on_from old new was now octet given k none made first h = record {
       ∙ ap (λ (b : Bool). b || list_any is_final given) h.none ∙ none;
   in_turn = inr (k.written ∙ k.whole);
   counted = counted made first.calls old.calls new.calls h.counted k.calls;
+  with_room =
+      rw (k.empty, k.stalled, k.written, length-append h.read (octet ∷ []))
+      (read_with_room made first.empty_reads first.stalled_writes old.empty_reads old.stalled_writes (counted_if_none 1 1 old.empty_reads) (length (take was.written entry_text)) 1 (length h.read) h.with_room (moved_or_none 1 1 old.empty_reads (lit≤ tt)) (stays_at_end 1 1 old.empty_reads));
   bounded = no_more made first.calls old.calls new.calls h.bounded k.calls;
   sound = k.failures ∙ h.sound;
 }
@@ -231,8 +289,9 @@ comes_from old new was now octet given (inr one) k =
 
 pub one_came : (old new : LineView) (seen was now : Entry) (o : Option ℕ) (octet : ℕ) (code : Option Final) → seen ≡ was → o ≡ Some octet → was.written ≡ 10
     → now.written ≡ seen.written → new.sent ≡ old.sent → new.received ≡ old.received ++ octet_in o → new.calls ≡ one_more old.calls → new.failures ≡ old.failures
+    → new.empty_reads ≡ counted_if_none 1 (length (octet_in o)) old.empty_reads → new.stalled_writes ≡ old.stalled_writes
     → HasRead now.kept (seen.kept ++ octet ∷ []) → SeesCode seen.kept octet code → EntryGoesOn old new was now code
-one_came old new seen was now o octet code same is whole written sent came calls failures keeps sees =
+one_came old new seen was now o octet code same is whole written sent came calls failures empty stalled keeps sees =
     subst (λ (e : Entry). EntryGoesOn old new e now code) same
     (subst (EntryGoesOn old new seen now) (sym sees.code_is) (comes_from old new seen now octet sees.given sees.one record {
       whole = ap (λ (e : Entry). e.written) same ∙ whole;
@@ -241,6 +300,8 @@ one_came old new seen was now o octet code same is whole written sent came calls
       came = came ∙ ap (λ (x : Option ℕ). old.received ++ octet_in x) is;
       calls = calls;
       failures = failures;
+      empty = empty ∙ ap (λ (x : Option ℕ). counted_if_none 1 (length (octet_in x)) old.empty_reads) is;
+      stalled = stalled;
       keeps = keeps;
       past = sees.past;
     }))
@@ -257,6 +318,7 @@ begun first = record {
   none = refl;
   in_turn = inl refl;
   counted = inl (omega (arith));
+  with_room = inl (omega (arith));
   bounded = omega (arith);
   sound = refl;
 }
@@ -271,7 +333,7 @@ none_answered made turns first now entry h all = subst (λ (n : ℕ). IsEntry n 
   in_turn = said_whole entry.written h.read h.in_turn;
   bounded = h.bounded;
   failed = h.sound;
-  means = record { all_made = h.counted; none = h.none };
+  means = record { all_made = h.counted; with_room = h.with_room; none = h.none };
 }
 
 pub goes_on : (made : ℕ) (first old new : LineView) (was now : Entry) (code : Option Final) → IsUnderWay made first old was

@@ -7,7 +7,7 @@ use Rattle.at_text.specs.Reading.{HasRead}
 use Rattle.at_text.specs.declared.finals.Final.{Final}
 use Rattle.at_text.specs.declared.finals.Final.TheVariants.{Good, Error, Cme}
 use Rattle.modem_history.specs.Sessions.{LineView}
-use Rattle.modem_history.specs.Entering.{EntryAnswer, Entered, Refused, NoAnswer, LineFailed, IsEntry, entry_text}
+use Rattle.modem_history.specs.Entering.{EntryAnswer, Entered, Refused, NoAnswer, LineFailed, IsEntry, calls_with_room, entry_text}
 use Rattle.modem_driver.specs.declared.entering.EntryError.{EntryError}
 use Rattle.modem_driver.specs.declared.entering.EntryError.TheVariants as error
 
@@ -57,6 +57,8 @@ pub record IsUnderWay (made : ℕ) (first now : LineView) (entry : Entry) : Type
   pub none : list_any is_final (lines read) ≡ false
   pub in_turn : (read ≡ []) ⊎ (entry.written ≡ 10)
   pub counted : (now.calls ≡ first.calls + made) ⊎ (now.calls ≡ 2 ^ 64 - 1)
+  pub with_room : (calls_with_room [] [] first + made ≤ calls_with_room (take entry.written entry_text) read now)
+      ⊎ ((now.empty_reads ≡ 2 ^ 64 - 1) ⊎ (now.stalled_writes ≡ 2 ^ 64 - 1))
   pub bounded : now.calls ≤ first.calls + made
   pub sound : now.failures ≡ first.failures
 

@@ -18,7 +18,7 @@ use Rattle.modem_history.specs.Information.{accepted, information_out, texts}
 use Rattle.modem_history.specs.Hearing.{listened_on, was_heard}
 use Rattle.modem_history.specs.Kinds.{of_kind}
 use Rattle.modem_history.specs.Sessions as session
-use Rattle.modem_history.specs.Sessions.{AreOnce, Beginning, Finishes, Leftovers, SessionFits, SessionView, driving, heard_as, heards, taken_since}
+use Rattle.modem_history.specs.Sessions.{Beginning, Finishes, Leftovers, SessionFits, SessionView, driving, heard_as, heards, taken_since}
 use Rattle.modem_history.specs.Wholes.{HasOwnAnswer, IsPrefixOf, commands_for, is_same}
 
 -- ## A run and its end
@@ -47,16 +47,16 @@ pub record HasEnd (run : Run) : Type 0 where
   pub fits : SessionFits run.start run.session past
   pub finishes : Finishes run.session past run.leftovers
 
--- The desk had done nothing when the session began on its driver's end. Each request that the session took is
--- of a caller of the desk; and where no caller used a number twice, it has a history. The desk was settled
--- with the driver's end that `finish` gave, and with all callers.
+-- The desk had done nothing when the session began on its driver's end. The session has a history, and each
+-- request that it took is of a caller of the desk. The desk was settled with the driver's end that `finish`
+-- gave, and with all callers.
 pub record IsSettled (run : Run) : Type 0 where
   pub none_taken : run.start.desk.taken ≡ []
   pub none_told : (c : ℕ) → slice_index_or run.start.desk.told c [] ≡ []
   pub none_announced : (i : ℕ) → slice_index_or run.start.desk.announced i [] ≡ []
   pub callers : list_all (λ (q : Request). nat_lt q.caller (length run.driver.desk.rings))
       (taken_since run.start run.session) ≡ true
-  pub history : AreOnce run.start run.session → HasEnd run
+  pub history : HasEnd run
   pub desk : run.leftovers.desk ≡ run.session.desk
   pub taken : run.driver.taken ≡ run.leftovers.desk.taken
   pub told : run.driver.told ≡ run.leftovers.desk.told

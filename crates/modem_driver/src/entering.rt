@@ -1,7 +1,7 @@
 //! Entering the multiplexer (27.007, 5.7).
-ghost use Rattle.std.specs.Prelude.{◌≡◌, ◌<◌, ◌≤◌, ◌+◌, ◌++◌, ◌∷◌, [], None, IfOk, IfErr, OnOk, OnErr};
+ghost use Rattle.std.specs.Prelude.{◌≡◌, ◌<◌, ◌≤◌, ◌+◌, ◌++◌, ◌∷◌, [], length, None, IfOk, IfErr, OnOk, OnErr};
 ghost use Rattle.at_text.specs.Reading.{HasRead};
-ghost use Rattle.serial_line.specs.Counts.{one_more};
+ghost use Rattle.serial_line.specs.Counts.{one_more, counted_if_none};
 ghost use Rattle.modem_history.specs.Entering.{IsEntry, Entered};
 ghost use Rattle.modem_driver.specs.SessionStates.{line_by};
 ghost use Rattle.modem_driver.specs.Entries.{
@@ -130,6 +130,9 @@ fn next_octet<L: SerialLine>(line: &mut L) -> Result<Option<u8>, LineFault>
     ensures counted { L.calls line.new ≡ one_more (L.calls line.old) }
     ensures sound { OnOk result (L.failures line.new ≡ L.failures line.old) }
     ensures failure { OnErr result (L.failures line.new ≡ L.failures line.old + 1) }
+    ensures empty { IfOk result (λ octet. L.empty_reads line.new
+        ≡ counted_if_none 1 (length (octet_in octet)) (L.empty_reads line.old)) }
+    ensures no_write { L.stalled_writes line.new ≡ L.stalled_writes line.old }
 {
     let mut octet = [0];
     if line.try_read(&mut octet)? == 0 {

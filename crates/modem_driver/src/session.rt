@@ -134,9 +134,10 @@ impl<L: SerialLine, R: Wait + Drop> Session<L, R> {
     }
 
     /// A tick: SABM and DISC that weren't answered are sent again, and at the fourth what waits is
-    /// given up. Refusals, which change nothing: 3 Failed where a turn has answered Line; 1 NoMemory.
+    /// given up. Line and desk's end stay as they are. Refusals, which change nothing: 3 Failed where a turn has answered Line; 1 NoMemory.
     pub fn tick(&mut self) -> Result<(), SessionFault>
         ensures ticks { OnOk result (Ticks (line_by L.received L.sent L.calls L.failures L.empty_reads L.stalled_writes) self.old self.new) }
+        ensures same { (self.new.line ≡ self.old.line) × (self.new.driver ≡ self.old.driver) }
         ensures ended { KeepsItsEnd self.old self.new }
         ensures err { OnErr result (self.new ≡ self.old) }
         ensures failed { (result ≡ Err fault.Failed) ↔ (has_lost_line self.old ≡ true) }

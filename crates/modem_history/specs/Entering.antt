@@ -1,5 +1,5 @@
 -- What entering the multiplexer means (27.007, 5.7; V.250, 5.2.1, 5.7.1).
-use Rattle.std.specs.Prelude.{◌≡◌, ◌≢◌, ℕ, ◌+◌, ◌-◌, ◌^◌, ◌≤◌, ◌⊎◌, false, true, List, [], ◌∷◌, ◌++◌, codes}
+use Rattle.std.specs.Prelude.{◌≡◌, ◌≢◌, ℕ, ◌+◌, ◌-◌, ◌^◌, ◌≤◌, ◌⊎◌, false, true, List, [], ◌∷◌, ◌++◌, length, codes}
 use Rattle.std.specs.List.{list_any}
 use Rattle.at_text.specs.Finals.{is_final}
 use Rattle.at_text.specs.Lines.{lines}
@@ -37,16 +37,23 @@ pub record IsRefused (sent read : List ℕ) : Type 0 where
   pub other : line ≢ codes "OK"
   pub ended : EndsWithFinal read line
 
--- so many calls were made, or the count of calls is at u64::MAX; and no final code came
-pub record HasNoAnswer (turns : ℕ) (read : List ℕ) (old new : LineView) : Type 0 where
+-- how many calls could move octets: those that moved one, at most, and those that moved none though they could
+abbrev pub calls_with_room : List ℕ → List ℕ → LineView → ℕ
+calls_with_room sent read l = length sent + length read + (l.empty_reads + l.stalled_writes)
+
+-- So many calls were made, or the count of calls is at u64::MAX. Each could move octets: it moved some, or counts
+-- as one that moved none though it could, unless such a count is at u64::MAX. And no final code came.
+pub record HasNoAnswer (turns : ℕ) (sent read : List ℕ) (old new : LineView) : Type 0 where
   pub all_made : (new.calls ≡ old.calls + turns) ⊎ (new.calls ≡ 2 ^ 64 - 1)
+  pub with_room : (calls_with_room [] [] old + turns ≤ calls_with_room sent read new)
+      ⊎ ((new.empty_reads ≡ 2 ^ 64 - 1) ⊎ (new.stalled_writes ≡ 2 ^ 64 - 1))
   pub none : list_any is_final (lines read) ≡ false
 
 -- what an answer says of what was sent and read, and of the calls
 abbrev pub EntryMeans : ℕ → List ℕ → List ℕ → LineView → LineView → EntryAnswer → Type 0
 EntryMeans turns sent read old new Entered = IsEntered sent read
 EntryMeans turns sent read old new Refused = IsRefused sent read
-EntryMeans turns sent read old new NoAnswer = HasNoAnswer turns read old new
+EntryMeans turns sent read old new NoAnswer = HasNoAnswer turns sent read old new
 EntryMeans turns sent read old new LineFailed = list_any is_final (lines read) ≡ false
 
 -- the line failed exactly where this answer says so

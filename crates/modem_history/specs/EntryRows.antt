@@ -66,7 +66,11 @@ refused_by_number = record {
 
 -- nothing came in a hundred turns
 abbrev pub unanswered_entry : EntryRow
-unanswered_entry = record { turns = 100; after = line_after entry_text [] 103 0; says = NoAnswer }
+unanswered_entry = record {
+  turns = 100;
+  after = record (line_after entry_text [] 103 0) { empty_reads = 99 };
+  says = NoAnswer;
+}
 
 -- there are no turns
 abbrev pub no_turns : EntryRow
@@ -135,6 +139,14 @@ sent_more = record { turns = 100; after = line_after (entry_text ++ codes "A") [
 abbrev pub sent_another : EntryRow
 sent_another = record { turns = 100; after = line_after (codes "AT+CMUX=1") [] 103 0; says = NoAnswer }
 
+-- the calls behind the text could move nothing: none counts as a read that gave none
+abbrev pub read_without_room : EntryRow
+read_without_room = record { turns = 100; after = line_after entry_text [] 103 0; says = NoAnswer }
+
+-- nothing was offered
+abbrev pub offered_nothing : EntryRow
+offered_nothing = record { turns = 100; after = line_after [] [] 103 0; says = NoAnswer }
+
 -- turns are left
 abbrev pub gave_up_too_soon : EntryRow
 gave_up_too_soon = record { turns = 100; after = line_after entry_text [] 102 0; says = NoAnswer }
@@ -166,5 +178,5 @@ fault_passed_over = record {
 abbrev pub wrong_entries : List EntryRow
 wrong_entries =
     entered_on_error ∷ refused_on_ok ∷ read_on ∷ entered_at_second ∷ entered_by_old_ok ∷ entered_half_sent ∷
-    read_before ∷ sent_more ∷ sent_another ∷ gave_up_too_soon ∷ gave_up_on_ok ∷ called_too_often ∷
+    read_before ∷ sent_more ∷ sent_another ∷ read_without_room ∷ offered_nothing ∷ gave_up_too_soon ∷ gave_up_on_ok ∷ called_too_often ∷
     failed_without_fault ∷ fault_passed_over ∷ []

@@ -26,6 +26,7 @@ use Rattle.modem_history.specs.Requests.{are_distinct}
 use Rattle.modem_history.specs.Sessions as session
 use Rattle.modem_history.specs.Sessions.{AreOnce, IsHistory, SessionFits, TakesWithRoom, driving, heard_as, heards, taken_since}
 use Rattle.modem_history.specs.SessionLaws.{untold}
+use Rattle.modem_history.proofs.law_proofs.SessionLaws.{since_are}
 use Rattle.modem_history.specs.Hearing.{HearsAll}
 use Rattle.modem_history.specs.Wholes.{TellsOwn, is_same, outcomes, taken_requests}
 use Rattle.modem_history.proofs.lists.Filters.{swapped}
@@ -37,33 +38,9 @@ use Rattle.modem_history.proofs.requests.RequestsAfterCalls.{distinct_front}
 use Rattle.modem_history.proofs.outcomes.SingleOutcomes.{of_its_caller, uses_once}
 use Rattle.modem_history.proofs.requests.UntoldRequests.{all_answer, hand_is}
 use Rattle.modem_driver.specs.Headline.{AnswersOwn, Announces, HasEnd, HasOnePlace, HearsEach, Holds, InSubmittedOrder, IsHeadline, IsSettled, NoneAfterClose, Run, outcomes_of}
-use Rattle.modem_driver.proofs.law_proofs.RequestNumbers.{all_once, none_beyond, numbered_once}
+use Rattle.modem_driver.proofs.law_proofs.RequestNumbers.{numbered_once}
 use Rattle.modem_driver.proofs.law_proofs.RequestPlaces.{counted_own, is_counted, one_place}
 use Rattle.modem_driver.proofs.law_proofs.SubmittedOrder.{Stretch, stretch_of}
-
--- ## No caller used a number twice
-
--- what the session took since it began is what the driver's end took
-since_are : (run : Run) → IsSettled run → taken_since run.start run.session ≡ run.driver.taken
-since_are run s = ap (λ (qs : List Request). drop (length qs) run.session.desk.taken) s.none_taken ∙ sym (s.taken ∙ ap (λ (d : session.EndView). d.taken) s.desk)
-
--- of each caller
-caller_once : (run : Run) → IsSettled run → (c : ℕ) (b : Bool) → nat_lt c (length run.driver.desk.rings) ≡ b → are_distinct (of_caller c run.driver.taken) ≡ true
-caller_once run s c false e =
-    ap are_distinct (none_beyond (length run.driver.desk.rings) c run.driver.taken e (ap (list_all (λ (q : Request). nat_lt q.caller (length run.driver.desk.rings))) (sym (since_are run s)) ∙ s.callers))
-caller_once run s c true e =
-    let place = s.whole.1 c (lt_of e) in
-    let caller = map_at place_of run.callers place.0 place.1 place.2 in
-    let book = s.books.callers place.0 caller.0 caller.1 in
-    let named : caller.0.place.number ≡ c = ap (λ (p : Place). p.number) caller.2 ∙ place.3 in
-    ap (λ (n : ℕ). are_distinct (of_caller n run.driver.taken)) (sym named)
-    ∙ (distinct_front (of_caller caller.0.place.number run.driver.taken) (of_caller caller.0.place.number run.settlement.left) (ap are_distinct book.order ∙ numbered_once caller.0.place.first caller.0.submitted book.numbered)).0
-  where
-    lt_of : {m n : ℕ} → nat_lt m n ≡ true → m < n
-    lt_of h = ltb-true _ _ h
-
-are_once : (run : Run) → IsSettled run → AreOnce run.start run.session
-are_once run s = ap are_distinct (since_are run s) ∙ all_once run.driver.taken (λ c. caller_once run s c (nat_lt c (length run.driver.desk.rings)) refl)
 
 -- ## What leaves
 
@@ -152,7 +129,7 @@ while_open run past l newer older f joins is_data =
 
 once_taken : (run : Run) (s : IsSettled run) (past : List Act) → SessionFits run.start run.session past → are_distinct (taken_requests past) ≡ true
 once_taken run s past f =
-    (distinct_front (taken_requests past) (aside_of run) (ap are_distinct (sym (driver_took run s past f) ∙ sym (since_are run s)) ∙ are_once run s)).0
+    (distinct_front (taken_requests past) (aside_of run) (sym (ap are_distinct (since_are run.start run.session past f)) ∙ f.requests.once)).0
 
 answers_own : (run : Run) (s : IsSettled run) (past : List Act) → SessionFits run.start run.session past → AnswersOwn run.start past
 unfolding TellsOwn
@@ -284,7 +261,7 @@ holds_each run s e i c at =
 pub headline : (run : Run) → IsHeadline run
 unfolding IsHeadline
 headline run s =
-    let e = s.history (are_once run s) in
+    let e = s.history in
     record {
       past = e.past;
       fits = e.fits;

@@ -1,7 +1,7 @@
 -- The rows of entries and of ends, computed.
 use Rattle.std.proofs.Common.{inl, inr, ap, sym, ◌∙◌, subst, arith, lit≤, length-append}
 use Rattle.std.proofs.lemmas.List.{append_cancel_left}
-use Rattle.std.specs.Prelude.{◌≡◌, ℕ, ◌+◌, ◌-◌, ◌^◌, ◌≤◌, ◌==◌, ◌⊎◌, true, false, List, [], ◌∷◌, ◌++◌, length, take, refl, codes}
+use Rattle.std.specs.Prelude.{◌≡◌, ℕ, ◌+◌, ◌-◌, ◌^◌, ◌<◌, ◌≤◌, ◌==◌, ◌⊎◌, true, false, List, [], ◌∷◌, ◌++◌, length, take, refl, codes}
 use Rattle.std.specs.List.{list_any}
 use Rattle.std.specs.Str.{bytes_eq}
 use Rattle.std.proofs.lemmas.Bool.{eq-eqb}
@@ -11,7 +11,7 @@ use Rattle.modem_history.specs.Wholes.{IsPrefixOf}
 use Rattle.modem_history.specs.SessionRows.{Each}
 use Rattle.modem_history.specs.Sessions.{LineView, EndView, at_place}
 use Rattle.modem_history.specs.Entering.{IsEntry, EndsWithFinal, entry_text}
-use Rattle.modem_history.specs.EntryRows.{EntryRow, IsRightEntry, IsWrongEntry, line_before, right_entries, wrong_entries, entered, entered_after_ring, refused_plainly, refused_by_number, unanswered_entry, no_turns, failed_midway, failed_reading, entered_on_error, refused_on_ok, read_on, entered_at_second, entered_by_old_ok, entered_half_sent, read_before, sent_more, sent_another, gave_up_too_soon, gave_up_on_ok, called_too_often, failed_without_fault, fault_passed_over}
+use Rattle.modem_history.specs.EntryRows.{EntryRow, IsRightEntry, IsWrongEntry, line_before, right_entries, wrong_entries, entered, entered_after_ring, refused_plainly, refused_by_number, unanswered_entry, no_turns, failed_midway, failed_reading, entered_on_error, refused_on_ok, read_on, entered_at_second, entered_by_old_ok, entered_half_sent, read_before, sent_more, sent_another, read_without_room, offered_nothing, gave_up_too_soon, gave_up_on_ok, called_too_often, failed_without_fault, fault_passed_over}
 use Rattle.modem_history.specs.FinishRows.{IsRightEnd, IsWrongEnd, right_ends, wrong_ends, both_handed_back, outcome_handed_back, line_handed_back, hand_left_out, aside_left_out, aside_first, told_in_hand, outcome_left_out, line_left_out, line_called, told_at_end}
 use Rattle.modem_history.proofs.rows.SessionTests.{octets_differ, outcomes_differ, requests_differ}
 
@@ -95,7 +95,7 @@ unanswered_right = record {
   in_turn = inr refl;
   bounded = lit≤ tt;
   failed = refl;
-  means = record { all_made = inl refl; none = refl };
+  means = record { all_made = inl refl; with_room = inl (lit≤ tt); none = refl };
 }
 
 no_turns_right : IsRightEntry no_turns
@@ -108,7 +108,7 @@ no_turns_right = record {
   in_turn = inl refl;
   bounded = lit≤ tt;
   failed = refl;
-  means = record { all_made = inl refl; none = refl };
+  means = record { all_made = inl refl; with_room = inl (lit≤ tt); none = refl };
 }
 
 failed_midway_right : IsRightEntry failed_midway
@@ -264,6 +264,31 @@ sent_another_wrong i =
 numbers_differ : (n m : ℕ) → (n == m) ≡ false → n ≡ m → ⊥
 numbers_differ n m h e = never_back (sym (eq-eqb n m e) ∙ h)
 
+-- the calls could move nothing
+no_room : (sent read : List ℕ) → length sent + length read < 100 → (0 + 0 + (0 + 0) + 100 ≤ length sent + length read + (0 + 0)) ⊎ ((0 ≡ 2 ^ 64 - 1) ⊎ (0 ≡ 2 ^ 64 - 1)) → ⊥
+no_room sent read small (inl h) = omega (arith, small, h)
+no_room sent read small (inr (inl h)) = numbers_differ 0 (2 ^ 64 - 1) refl h
+no_room sent read small (inr (inr h)) = numbers_differ 0 (2 ^ 64 - 1) refl h
+
+-- no more was sent than the text
+few_sent : (sent : List ℕ) → IsPrefixOf sent entry_text → length sent ≤ 10
+few_sent sent p =
+    let all : length (sent ++ p.rest) ≡ 10 = ap length p.joins in
+    let both = length-append sent p.rest in
+    omega (arith, all, both)
+
+read_without_room_wrong : IsWrongEntry read_without_room
+read_without_room_wrong i =
+    let read = ap length (read_is read_without_room [] refl i) in
+    let sent = few_sent i.sent i.beginning in
+    no_room i.sent i.read (omega (arith, read, sent)) i.means.with_room
+
+offered_nothing_wrong : IsWrongEntry offered_nothing
+offered_nothing_wrong i =
+    let read = ap length (read_is offered_nothing [] refl i) in
+    let sent = few_sent i.sent i.beginning in
+    no_room i.sent i.read (omega (arith, read, sent)) i.means.with_room
+
 gave_up_too_soon_wrong : IsWrongEntry gave_up_too_soon
 gave_up_too_soon_wrong i = neither (numbers_differ 102 103 refl) (numbers_differ 102 (2 ^ 64 - 1) refl) i.means.all_made
 
@@ -282,7 +307,7 @@ fault_passed_over_wrong : IsWrongEntry fault_passed_over
 fault_passed_over_wrong i = numbers_differ 1 0 refl i.failed
 
 pub all_wrong_entries : Each IsWrongEntry wrong_entries
-all_wrong_entries = (entered_on_error_wrong, (refused_on_ok_wrong, (read_on_wrong, (entered_at_second_wrong, (entered_by_old_ok_wrong, (entered_half_sent_wrong, (read_before_wrong, (sent_more_wrong, (sent_another_wrong, (gave_up_too_soon_wrong, (gave_up_on_ok_wrong, (called_too_often_wrong, (failed_without_fault_wrong, (fault_passed_over_wrong, tt))))))))))))))
+all_wrong_entries = (entered_on_error_wrong, (refused_on_ok_wrong, (read_on_wrong, (entered_at_second_wrong, (entered_by_old_ok_wrong, (entered_half_sent_wrong, (read_before_wrong, (sent_more_wrong, (sent_another_wrong, (read_without_room_wrong, (offered_nothing_wrong, (gave_up_too_soon_wrong, (gave_up_on_ok_wrong, (called_too_often_wrong, (failed_without_fault_wrong, (fault_passed_over_wrong, tt))))))))))))))))
 
 -- ## Ends
 

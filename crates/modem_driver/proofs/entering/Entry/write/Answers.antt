@@ -11,4 +11,4 @@ pub returns-clause-goes : goal.returns-clause-goes
 returns-clause-goes g c =
     wrote_as _ _ record { written = c.self.inside.written; kept = c.self.inside.reader } c.args.self.now _ c.in_ok-self-inside.field-0
     c.self.view_is c.requires c.in_ok-self-inside.ensures.bound c.in_ok-self-inside.ensures.went
-    c.in_ok-self-inside.ensures.none_came c.in_ok-self-inside.ensures.counted c.in_ok-self-inside.ensures.sound refl
+    c.in_ok-self-inside.ensures.none_came c.in_ok-self-inside.ensures.counted c.in_ok-self-inside.ensures.sound c.in_ok-self-inside.ensures.stalled c.in_ok-self-inside.ensures.no_read refl
