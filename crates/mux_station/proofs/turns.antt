@@ -1,4 +1,5 @@
 -- Which connection sends next, and what is given on.
+pub mod SenderMarks
 pub mod ReadyConnections
 pub mod FramesGivenOn
 pub mod NextData

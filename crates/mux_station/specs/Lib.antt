@@ -10,6 +10,7 @@ pub mod Sending
 pub mod ControlFrames
 pub mod ControlQueues
 pub mod Stations
+pub mod Marks
 pub mod Stages
 pub mod Keeping
 pub mod Fitting

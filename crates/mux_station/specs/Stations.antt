@@ -61,12 +61,16 @@ frame_refused_in v f = got_refused (setting_of v) (seen_in v) f
 abbrev pub without_room_in : Station → List Frame → Option StationError
 without_room_in v fs = without_room (setting_of v) (seen_in v) fs
 
+-- the stop of all is in force: 0 is Opened
+abbrev pub all_stopped_in : Station → Bool
+all_stopped_in v = is_opened (channel_at v 0).state && v.all_stopped
+
 -- d is stopped by its own stop or by that of all
 abbrev pub stopped_in : Station → ℕ → Bool
 stopped_in v d =
     not (d == 0)
     && ((is_opened (channel_at v d).state && (channel_at v d).is_stopped)
-    || (is_opened (channel_at v 0).state && v.all_stopped))
+    || all_stopped_in v)
 
 -- d turned to another state, everything of it afresh, and this frame was put into the control queue
 abbrev pub asked_in : Station → ℕ → State → Frame → Station

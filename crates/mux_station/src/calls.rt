@@ -1,5 +1,5 @@
 //! What the user of a station asks of it.
-ghost use Rattle.std.specs.Prelude.{◌≡◌, ◌++◌, ◌∷◌, [], Some, None, is_some, if◌then◌else◌, length, ◌&&◌, replicate, OnOk, OnErr};
+ghost use Rattle.std.specs.Prelude.{◌≡◌, ◌++◌, ◌∷◌, [], Some, None, is_some, if◌then◌else◌, length, ◌&&◌, OnOk, OnErr};
 ghost use Rattle.std.specs.Result.{result_err};
 ghost use Rattle.mux_station.specs.Acts.{Open, Close, Probe, Stop, Flow, Offer, Called};
 ghost use Rattle.mux_station.specs.States.{IsOpening, IsClosing, is_opened};
@@ -8,11 +8,11 @@ ghost use Rattle.mux_station.specs.Written.{written};
 ghost use Rattle.mux_station.specs.Sending.{refused_by_state, frames_asked};
 ghost use Rattle.mux_station.specs.ControlFrames.{control_frame};
 ghost use Rattle.mux_station.specs.Stages.{stage_state};
-ghost use Rattle.mux_station.specs.Stations.{seen_in, refused_in, channel_at, shut_channel, asked_in, probed_in, stopping_in, offer_refused, offered_in};
+ghost use Rattle.mux_station.specs.Stations.{seen_in, refused_in, channel_at, asked_in, probed_in, stopping_in, offer_refused, offered_in};
 ghost use Rattle.mux_station.specs.Fitting.{StationHandles};
 
-use crate::channel::{Channel, Stage};
-use crate::control_frame::{CLD, ControlFrame, FCOFF, FCON, HELD_UP, READY, TEST};
+use crate::channel::Stage;
+use crate::control_frame::{CLD, CONTROL, ControlFrame, FCOFF, FCON, HELD_UP, READY, TEST};
 use crate::error::StationError;
 use crate::repeats::Repeats;
 use crate::role::Role;
@@ -24,14 +24,14 @@ impl Station {
     pub(crate) fn stage(&self, dlci: Dlci) -> Stage
         ensures { stage_state result ≡ (channel_at self.now dlci.number).state }
     {
-        self.channels[usize::from(dlci.number())].stage()
+        self.channels.at(dlci).stage()
     }
 
     /// Whether the control channel is Opened.
     pub(crate) fn is_running(&self) -> bool
         ensures { result ≡ is_opened (channel_at self.now 0).state }
     {
-        self.channels[0].stage().is_opened()
+        self.channels.at(CONTROL).stage().is_opened()
     }
 
     /// Whether the frame fits into the control queue: NoRoom where it doesn't.
@@ -89,8 +89,7 @@ impl Station {
         }
         let sabm = ControlFrame::bare(self.role, Kind::Sabm, dlci);
         self.check_room(&sabm)?;
-        let channel = &mut self.channels[usize::from(dlci.number())];
-        channel.turn(Stage::Opening(Repeats::none()));
+        self.channels.turn(dlci, Stage::Opening(Repeats::none()));
         self.control.push(sabm);
         Ok(())
     }
@@ -107,8 +106,7 @@ impl Station {
         }
         let disc = ControlFrame::bare(self.role, Kind::Disc, dlci);
         self.check_room(&disc)?;
-        let channel = &mut self.channels[usize::from(dlci.number())];
-        channel.turn(Stage::Closing(Repeats::none()));
+        self.channels.turn(dlci, Stage::Closing(Repeats::none()));
         self.control.push(disc);
         Ok(())
     }
@@ -147,9 +145,9 @@ impl Station {
         }
         let cld = ControlFrame::message(self.role, CLD, &[]);
         self.check_room(&cld)?;
-        shut_all(&mut self.channels);
-        let control = &mut self.channels[0];
-        control.turn(Stage::Stopping(Repeats::none()));
+        self.channels.shut_all();
+        self.channels
+            .turn(CONTROL, Stage::Stopping(Repeats::none()));
         self.probe = None;
         self.control.push(cld);
         Ok(())
@@ -181,7 +179,7 @@ impl Station {
         ensures err { OnErr result (self.new ≡ self.old) }
         ensures all { length self.old.channels ≡ 62 }
     {
-        let channel = &mut self.channels[usize::from(dlci.number())];
+        let channel = self.channels.at(dlci);
         if dlci.number() == 0 {
             return Err(StationError::ControlChannel);
         }
@@ -191,7 +189,7 @@ impl Station {
         if !channel.has_room(octets.len()) {
             return Err(StationError::NoRoom);
         }
-        channel.append(octets);
+        self.channels.append(dlci, octets);
         Ok(())
     }
 
@@ -257,14 +255,5 @@ impl Station {
         ensures err { OnErr result (self.new ≡ self.old) }
     {
         self.take_offer(dlci, octets)
-    }
-}
-
-/// Makes every connection Shut.
-pub(crate) fn shut_all(channels: &mut Vec<Channel>)
-    ensures { channels.new.items ≡ replicate (length channels.old.items) shut_channel }
-{
-    for channel in channels.iter_mut() {
-        channel.turn(Stage::Shut);
     }
 }

@@ -4,6 +4,7 @@ ghost use Rattle.circular_buffer.specs.Buffer.{buffer};
 ghost use Rattle.mux_station.specs.States.{is_opened, is_shut};
 ghost use Rattle.mux_station.specs.Stages.{stage_state, as_shown};
 ghost use Rattle.mux_station.specs.Stations.{shut_channel};
+ghost use Rattle.mux_station.specs.Marks.{may_send};
 
 use crate::repeats::Repeats;
 use crate::role::ChannelState;
@@ -138,11 +139,11 @@ impl Channel {
         self.octets.len()
     }
 
-    /// Whether octets wait in the send ring.
-    pub fn has_octets(&self) -> bool
-        ensures { result ≡ not (length self.now.waiting == 0) }
+    /// Whether it is Opened and not stopped by itself, and octets wait in its send ring.
+    pub fn may_send(&self) -> bool
+        ensures { result ≡ may_send self.now }
     {
-        !self.octets.is_empty()
+        self.stage.is_opened() && !self.stopped && !self.octets.is_empty()
     }
 
     /// Takes the first octets out of the send ring, at most so many.

@@ -17,7 +17,6 @@ ghost use Rattle.mux_station.specs.AnswersSent.{frames_in, answers_sent};
 ghost use Rattle.mux_station.specs.Getting.{FrameTaken, message_calls, message_taken, FollowsTable, TurnsBy, row_frames, all_turned_in, turned_on, turned_by, stops_set, probe_answered, told_in, ended_in, queued_in};
 
 use crate::answers::Answers;
-use crate::calls::shut_all;
 use crate::channel::Stage;
 use crate::control_frame::{
     CLD, CLD_RESPONSE, CONTROL, ControlFrame, FCOFF, FCON, MSC, NSC_RESPONSE, TEST, TEST_RESPONSE,
@@ -82,9 +81,8 @@ impl Station {
     fn turn_all(&mut self, stage: Stage)
         ensures { self.new ≡ all_turned_in self.old (stage_state stage) }
     {
-        shut_all(&mut self.channels);
-        let control = &mut self.channels[0];
-        control.turn(stage);
+        self.channels.shut_all();
+        self.channels.turn(CONTROL, stage);
         self.all_stopped = false;
         self.probe = None;
     }
@@ -95,8 +93,7 @@ impl Station {
         if dlci.number() == 0 {
             self.turn_all(stage);
         } else {
-            let channel = &mut self.channels[usize::from(dlci.number())];
-            channel.turn(stage);
+            self.channels.turn(dlci, stage);
         }
     }
 
@@ -116,9 +113,11 @@ impl Station {
         ensures { self.new
             ≡ record self.old { channels = stops_set self.old (record { octet = 0xe3; value = value.now }) } }
     {
-        let channel = &mut self.channels[usize::from(msc_dlci(value))];
-        if channel.stage().is_opened() {
-            channel.set_stopped(msc_stops(value));
+        let dlci = Dlci {
+            number: msc_dlci(value),
+        };
+        if self.stage(dlci).is_opened() {
+            self.channels.set_stopped(dlci, msc_stops(value));
         }
     }
 

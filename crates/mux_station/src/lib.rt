@@ -4,6 +4,7 @@
 mod answers;
 mod calls;
 mod channel;
+mod channels;
 mod control_frame;
 mod control_queue;
 mod error;
@@ -21,6 +22,7 @@ mod station;
 mod tick;
 mod write_buffer;
 
+pub use channels::CONNECTIONS;
 pub use error::StationError;
 pub use noted::Noted;
 pub use outgoing::Outgoing;

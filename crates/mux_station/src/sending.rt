@@ -5,38 +5,29 @@ ghost use Rattle.std.specs.Io.BufRead.{Rests};
 ghost use Rattle.mux_frame.specs.Frames.{frame_of};
 ghost use Rattle.mux_station.specs.Acts.{Act as Happened};
 ghost use Rattle.mux_station.specs.Fitting.{StationFits};
-ghost use Rattle.mux_station.specs.Giving.{is_ready, first_ready, next_turn, next_sender, data_frame, data_given, next_given, station_after, SendsNext, Waits};
+ghost use Rattle.mux_station.specs.Giving.{first_ready, next_turn, next_sender, data_frame, data_given, next_given, station_after, SendsNext, Waits};
 ghost use Rattle.mux_station.specs.Sending.{queue};
 ghost use Rattle.mux_station.specs.Stations.{channel_at};
 ghost use Rattle.mux_station.specs.GivenFrames.{given_frame, outgoing_of, with_freshness, dlci_of};
 
 use crate::outgoing::{GivenFrame, Outgoing};
 use crate::role::Role;
-use crate::station::{CONNECTIONS, Station};
+use crate::station::Station;
 use mux_frame::{Dlci, FrameView, Kind};
 
 impl Station {
     ghost use Rattle.mux_station.specs.contracts.station.Station.{the_row};
 
-    fn is_ready(&self, dlci: Dlci) -> bool
-        ensures { result ≡ is_ready self.now dlci.number }
-    {
-        let channel = &self.channels[usize::from(dlci.number())];
-        channel.stage().is_opened() && !self.is_held_up(dlci) && channel.has_octets()
-    }
-
-    /// The least connection from this one on that has data to send now.
+    /// The least connection from this one on that has data to send now. The control channel has none.
     fn first_ready(&self, from: u8) -> Option<Dlci>
-        requires { from ≤ 62 }
+        requires not_zero { 1 ≤ from }
+        requires in_range { from ≤ 62 }
         ensures { option_map dlci_of result ≡ first_ready self.now from (62 - from) }
     {
-        for number in from..CONNECTIONS as u8 {
-            let dlci = Dlci { number };
-            if self.is_ready(dlci) {
-                return Some(dlci);
-            }
+        if self.is_all_held_up() {
+            return None;
         }
-        None
+        self.channels.first_sender(from)
     }
 
     /// The connection whose turn it is to send data.
@@ -56,8 +47,7 @@ impl Station {
     {
         let dlci = self.next_turn()?;
         let most = usize::from(self.n1);
-        let channel = &mut self.channels[usize::from(dlci.number())];
-        let info = channel.take_front(most);
+        let info = self.channels.take_front(dlci, most);
         self.last = dlci.number();
         Some(GivenFrame {
             dlci,
@@ -127,7 +117,7 @@ impl Station {
         ensures past { (past : List Happened) → StationFits self.now past
             → Waits self.now.role dlci.number past result }
     {
-        self.channels[usize::from(dlci.number())].waiting()
+        self.channels.at(dlci).waiting()
     }
 
     /// How many frames wait in the control queue.

@@ -1,13 +1,13 @@
 //! One end of the line.
-ghost use Rattle.std.specs.Prelude.{◌≡◌, ◌↔◌, ◌⊎◌, ◌<◌, [], List, replicate, IfOk, OnErr, IsErrOf};
+ghost use Rattle.std.specs.Prelude.{◌≡◌, ◌↔◌, ◌⊎◌, ◌<◌, [], List, IfOk, OnErr, IsErrOf};
 ghost use Rattle.mux_station.specs.Acts.{Act as Happened};
 ghost use Rattle.mux_station.specs.States.{state_of};
 ghost use Rattle.mux_station.specs.Stopping.{is_stopped};
 ghost use Rattle.mux_station.specs.Stages.{as_shown};
-ghost use Rattle.mux_station.specs.Stations.{new_station, shut_channel, channel_at, stopped_in};
+ghost use Rattle.mux_station.specs.Stations.{new_station, channel_at, stopped_in, all_stopped_in};
 ghost use Rattle.mux_station.specs.Fitting.{StationFits};
 
-use crate::channel::Channel;
+use crate::channels::Channels;
 use crate::control_frame::{CONTROL, ControlFrame};
 use crate::control_queue::ControlQueue;
 use crate::error::StationError;
@@ -15,11 +15,8 @@ use crate::outgoing::GivenFrame;
 use crate::repeats::Repeats;
 use crate::role::{ChannelState, Role};
 use mux_frame::{Dlci, Kind, ProbeData};
-use std::alloc::{AllocError, Global};
+use std::alloc::Global;
 use std::marker::Model;
-
-/// How many connections there are, 0 among them.
-pub(crate) const CONNECTIONS: usize = 62;
 
 /// What the control queue has room for beside N1, in octets of frames as written.
 const QUEUE: usize = 4096;
@@ -36,7 +33,7 @@ pub(crate) struct WaitingProbe {
 pub struct Station {
     pub(crate) role: Role,
     pub(crate) n1: u16,
-    pub(crate) channels: Vec<Channel>,
+    pub(crate) channels: Channels,
     pub(crate) all_stopped: bool,
     pub(crate) probe: Option<WaitingProbe>,
     pub(crate) control: ControlQueue,
@@ -56,14 +53,14 @@ impl Model for Station {
     ghost view = { λ s. record {
       role = s.role;
       n1 = s.n1;
-      channels = s.channels.items;
+      channels = s.channels;
       all_stopped = s.all_stopped;
       probe = option_map waiting_of s.probe;
       queue = s.control.frames;
       last = s.last;
     } };
 
-    ghost invariant = { λ s. IsKept s.n1 s.channels.items s.control s.last };
+    ghost invariant = { λ s. IsKept s.n1 s.channels s.control s.last };
 }
 
 impl Station {
@@ -79,7 +76,7 @@ impl Station {
         if n1 < 31 || n1 > 32767 {
             return Err(StationError::BadN1);
         }
-        let channels = shut_channels(alloc)?;
+        let channels = Channels::new(alloc)?;
         let control = ControlQueue::new(alloc, QUEUE + usize::from(n1))?;
         Ok(Station {
             role,
@@ -113,7 +110,7 @@ impl Station {
         ensures past { (past : List Happened) → StationFits self.now past
             → result ≡ as_shown (state_of self.now.role dlci.number past) }
     {
-        self.channels[usize::from(dlci.number())].stage().shown()
+        self.channels.at(dlci).stage().shown()
     }
 
     /// Whether a connection is stopped, by itself or with all.
@@ -126,25 +123,21 @@ impl Station {
         self.is_held_up(dlci)
     }
 
+    /// Whether the stop of all is in force.
+    pub(crate) fn is_all_held_up(&self) -> bool
+        ensures { result ≡ all_stopped_in self.now }
+    {
+        self.channels.at(CONTROL).stage().is_opened() && self.all_stopped
+    }
+
     pub(crate) fn is_held_up(&self, dlci: Dlci) -> bool
         ensures { result ≡ stopped_in self.now dlci.number }
     {
         if dlci.number() == 0 {
             return false;
         }
-        let own = &self.channels[usize::from(dlci.number())];
+        let own = self.channels.at(dlci);
         let stops = own.stage().is_opened() && own.is_stopped();
-        stops || (self.channels[0].stage().is_opened() && self.all_stopped)
+        stops || self.is_all_held_up()
     }
-}
-
-/// All connections, shut.
-fn shut_channels(alloc: Global) -> Result<Vec<Channel>, AllocError>
-    ensures { IfOk result (λ cs. cs.items ≡ replicate 62 shut_channel) }
-{
-    let mut channels = Vec::with_capacity(alloc, CONNECTIONS)?;
-    for _ in 0..CONNECTIONS {
-        channels.push(Channel::new(alloc)?)?;
-    }
-    Ok(channels)
 }

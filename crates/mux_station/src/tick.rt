@@ -11,9 +11,10 @@ ghost use Rattle.mux_station.specs.Noticing.{up_of};
 ghost use Rattle.mux_station.specs.Fitting.{StationHandles};
 
 use crate::channel::Stage;
+use crate::channels::CONNECTIONS;
 use crate::control_frame::ControlFrame;
 use crate::repeats::Repeats;
-use crate::station::{CONNECTIONS, Station, WaitingProbe};
+use crate::station::{Station, WaitingProbe};
 use arrayvec::ArrayVec;
 use mux_frame::{Dlci, Kind};
 
@@ -32,8 +33,7 @@ impl Station {
     fn turn(&mut self, dlci: Dlci, stage: Stage)
         ensures { self.new ≡ turned_in self.old dlci.number (stage_state stage) }
     {
-        let channel = &mut self.channels[usize::from(dlci.number())];
-        channel.turn(stage);
+        self.channels.turn(dlci, stage);
     }
 
     /// Queues a frame again and turns its connection, where the frame fits.
@@ -47,8 +47,7 @@ impl Station {
         if !self.control.has_room(frame.written_len()) {
             return false;
         }
-        let channel = &mut self.channels[usize::from(dlci.number())];
-        channel.turn(stage);
+        self.channels.turn(dlci, stage);
         self.control.push(frame);
         true
     }

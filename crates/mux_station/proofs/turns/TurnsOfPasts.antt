@@ -1,5 +1,5 @@
 -- Whose data is next at a station is whose it is by each past that it fits.
-use Rattle.std.specs.Prelude.{zero, suc, ◌≡◌, ℕ, ◌+◌, ◌-◌, ◌<◌, ◌≤◌, ◌==◌, ◌&&◌, not, nat_lt, Bool, true, false, List, [], ◌∷◌, ◌++◌, length, refl, if◌then◌else◌, Option, Some}
+use Rattle.std.specs.Prelude.{◌≡◌, ℕ, ◌+◌, ◌-◌, ◌<◌, ◌≤◌, ◌==◌, ◌&&◌, not, nat_lt, Bool, true, false, List, [], ◌∷◌, ◌++◌, length, refl, if◌then◌else◌, Option, Some}
 use Rattle.std.specs.List.{find, range_with_len}
 use Rattle.std.proofs.Common.{◌∙◌, ap, sym, arith, length-append}
 use Rattle.std.proofs.lemmas.Bool.Decides.{nat_tests}
@@ -10,8 +10,9 @@ use Rattle.mux_station.specs.States.{is_opened}
 use Rattle.mux_station.specs.Offering.{offered, data_out}
 use Rattle.mux_station.specs.Stations.{Station, channel_at, stopped_in}
 use Rattle.mux_station.specs.Fitting.{StationFits}
-use Rattle.mux_station.specs.Giving.{is_ready, first_ready, ready_from, else_first, next_turn, next_sender}
+use Rattle.mux_station.specs.Giving.{is_ready, ready_from, else_first, next_turn, next_sender}
 use Rattle.mux_station.specs.Senders.{has_data, turns_after, turn_of, where_none_waits, SeesTheTurn}
+use Rattle.mux_station.proofs.turns.ReadyConnections.{first_is_found}
 use Rattle.mux_station.proofs.states.StationPasts.{open_fits, stopped_fits}
 
 -- ## What is ready
@@ -36,12 +37,6 @@ ready_fits v past d h l =
     ∙ ap (λ (b : Bool). is_open v.role d past && (not b && nat_lt (length g) (length (offered v.role d past)))) (stopped_fits v past d h l))
 
 -- ## Turns
-
-first_is_found : (v : Station) (p : ℕ → Bool) (d count : ℕ) → ((e : ℕ) → d ≤ e → e < d + count → is_ready v e ≡ p e) → first_ready v d count ≡ find p (range_with_len d count)
-first_is_found v p d zero h = refl
-first_is_found v p d (suc count) h =
-    ap (λ (b : Bool). if b then Some d else first_ready v (d + 1) count) (h d (omega arith) (omega arith))
-    ∙ ap (λ (o : Option ℕ). if p d then Some d else o) (first_is_found v p (d + 1) count (λ e k x. h e (omega (arith, k)) (omega (arith, x))))
 
 either_found : (p : ℕ → Bool) (xs ys : List ℕ) → else_first (find p xs) (find p ys) ≡ find p (xs ++ ys)
 either_found p [] ys = refl

@@ -1,13 +1,16 @@
--- The connections are passed in rising order.
-use Rattle.std.proofs.Common.{◌∙◌, sym}
-use Rattle.mux_station.proofs.turns.ReadyConnections.{ready_here, ready_next, ready_none}
+-- None is ready under the stop of all, and else the first that may send.
+use Rattle.std.proofs.Common.{◌∙◌, ap, sym}
+use Rattle.mux_station.specs.Stations.{Station}
+use Rattle.mux_station.specs.Marks.{first_sender}
+use Rattle.mux_station.proofs.turns.ReadyConnections.{first_ready_alone, first_ready_never}
 use Rattle.mux_station.proofs.station.Station.first_ready.Goals as goal
 
-pub returns-then-is_ready : goal.returns-then-is_ready
-returns-then-is_ready c = sym (c.loop-number.invariant ∙ ready_here c.args.self.now c.loop-number.number c.loop-number-test.true (sym c.is_ready.ensures ∙ c.if-is_ready.true))
-
-pub loop-number-preserved : goal.loop-number-preserved
-loop-number-preserved c = c.loop-number.invariant ∙ ready_next c.args.self.now c.loop-number.number c.loop-number-test.true (sym c.is_ready.ensures ∙ c.if-is_ready.false)
+pub returns-then-is_all_held_up : goal.returns-then-is_all_held_up
+returns-then-is_all_held_up c =
+    sym (first_ready_never c.args.self.now c.args.from c.requires.not_zero (sym c.is_all_held_up.ensures ∙ c.if-is_all_held_up.true))
 
 pub returns : goal.returns
-returns c = sym (c.loop-number.invariant ∙ ready_none c.args.self.now c.loop-number.number c.loop-number-test.false)
+returns c =
+    c.first_sender.ensures
+    ∙ (ap (λ (v : Station). first_sender v.channels c.args.from) c.self.view_is
+    ∙ sym (first_ready_alone c.args.self.now c.args.from c.requires.not_zero (sym c.is_all_held_up.ensures ∙ c.if-is_all_held_up.false)))
