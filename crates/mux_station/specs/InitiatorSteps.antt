@@ -1,13 +1,13 @@
 -- Steps of an initiator, by its table and the control messages (27.010, 5.4).
-use Rattle.std.specs.Prelude.{ℕ, false, List, [], ◌∷◌, None, replicate}
+use Rattle.std.specs.Prelude.{ℕ, List, [], ◌∷◌, None, replicate}
 use Rattle.mux_frame.specs.Frames.{Frame}
 use Rattle.mux_frame.specs.declared.frame.Kind.{Kind}
 use Rattle.mux_frame.specs.declared.frame.Kind.TheVariants.{Sabm, Ua, Dm, Disc, Uih}
 use Rattle.mux_station.specs.declared.role.Role.TheVariants.{Initiator, Responder}
-use Rattle.mux_station.specs.declared.error.StationError.TheVariants.{NotOpen, AlreadyOpen, Busy, ControlChannel, TooLong}
-use Rattle.mux_station.specs.declared.noted.Noted.TheVariants.{Opened, Refused, Closed, Reset, ProbeBack, ProbeRefused, AllClosed, Nothing}
-use Rattle.mux_station.specs.Acts.{Open, Close, Probe, Stop, Flow}
-use Rattle.mux_station.specs.States.{IsShut, IsOpening, IsOpened, IsClosing, IsStopping}
+use Rattle.mux_station.specs.declared.error.StationError.TheVariants.{NotOpen, AlreadyOpen, Busy, TooLong}
+use Rattle.mux_station.specs.declared.noted.Noted.TheVariants.{Opened, Refused, Closed, ProbeBack, ProbeRefused, AllClosed, Nothing}
+use Rattle.mux_station.specs.Acts.{Open, Probe}
+use Rattle.mux_station.specs.States.{IsShut, IsOpening, IsOpened}
 use Rattle.mux_station.specs.Written.{written}
 use Rattle.mux_station.specs.StepRows.{Step, comes, asks, refuses, ticks, stands, waiting}
 

@@ -4,10 +4,10 @@ use Rattle.mux_frame.specs.Frames.{Frame}
 use Rattle.mux_frame.specs.declared.frame.Kind.{Kind}
 use Rattle.mux_frame.specs.declared.frame.Kind.TheVariants.{Sabm, Ua, Dm, Disc, Uih}
 use Rattle.mux_station.specs.declared.role.Role.TheVariants.{Initiator, Responder}
-use Rattle.mux_station.specs.declared.error.StationError.TheVariants.{NotOpen, AlreadyOpen, Busy, ControlChannel, TooLong}
-use Rattle.mux_station.specs.declared.noted.Noted.TheVariants.{Opened, Refused, Closed, Reset, ProbeBack, ProbeRefused, AllClosed, Nothing}
-use Rattle.mux_station.specs.Acts.{Open, Close, Probe, Stop, Flow}
-use Rattle.mux_station.specs.States.{IsShut, IsOpening, IsOpened, IsClosing, IsStopping}
+use Rattle.mux_station.specs.declared.error.StationError.TheVariants.{NotOpen, Busy, ControlChannel}
+use Rattle.mux_station.specs.declared.noted.Noted.TheVariants.{Opened, Closed, Reset, AllClosed, Nothing}
+use Rattle.mux_station.specs.Acts.{Close, Probe, Stop, Flow}
+use Rattle.mux_station.specs.States.{IsShut, IsOpened, IsClosing, IsStopping}
 use Rattle.mux_station.specs.Written.{written}
 use Rattle.mux_station.specs.StepRows.{Step, comes, asks, refuses, ticks, stands, waiting}
 

@@ -1,20 +1,14 @@
 -- An act is followed by what it calls for.
-use Rattle.std.specs.Prelude.{◌≡◌, ℕ, zero, suc, ◌+◌, ◌==◌, ◌&&◌, ◌||◌, not, Bool, true, false, IsTrue, List, [], ◌∷◌, ◌++◌, refl, if◌then◌else◌, Option, Some, None, is_none, drop}
+use Rattle.std.specs.Prelude.{◌≡◌, ℕ, ◌==◌, ◌&&◌, ◌||◌, not, Bool, true, false, IsTrue, List, [], ◌∷◌, ◌++◌, refl, if◌then◌else◌, is_none, drop}
 use Rattle.std.specs.List.{list_all, list_any}
 use Rattle.std.proofs.Common.{◌∙◌, ap, sym, subst, append_assoc, append-nil, eqb-true}
-use Rattle.std.proofs.lemmas.Bool.{and_from, and_parts}
-use Rattle.std.proofs.lemmas.List.Folds.{list_all-append}
+use Rattle.std.proofs.lemmas.Bool.{and_parts}
 use Rattle.mux_frame.specs.Frames.{Frame}
-use Rattle.mux_frame.specs.declared.frame.Kind.{Kind}
-use Rattle.mux_frame.specs.declared.frame.Kind.TheVariants.{Sabm, Ua, Dm, Disc, Uih}
 use Rattle.mux_station.specs.declared.role.Role.{Role}
-use Rattle.mux_station.specs.declared.role.Role.TheVariants.{Initiator, Responder}
-use Rattle.mux_station.specs.Written.{is_on, written, is_data_frame}
-use Rattle.mux_station.specs.Messages.{Message, is_command, nsc, cld, brings_command, message_in, response_of}
+use Rattle.mux_station.specs.Written.{is_data_frame}
 use Rattle.mux_station.specs.Acts.{Call, Open, Close, Probe, Stop, Flow, Offer, Act, Called, Got, Sent, Tick, Lost, Given}
 use Rattle.mux_station.specs.Opening.{since, opens_now, belongs, since_after}
-use Rattle.mux_station.specs.States.{State, IsShut, IsOpening, IsOpened, IsClosing, IsStopping, is_opened}
-use Rattle.mux_station.specs.Tables.{by_message, by_table, response_to, is_supported, ua_or_dm, msc_after_opening, is_opening, ticked, if_room, again, has_room, octets_of, msc_frame, message_frame, ready, held_up}
+use Rattle.mux_station.specs.Tables.{msc_frame, message_frame, ready, held_up}
 use Rattle.mux_station.proofs.law_proofs.ControlFrames.{control_passes, all_if, all_of_frame, all_of_tick}
 use Rattle.mux_station.specs.Offering.{offered, data_out, octets_offered, octets_sent, joined_octets}
 use Rattle.mux_station.specs.Sending.{StationSetting, StationView, station_view, refused, frames_asked, called_frames, frames_seeing, is_loss, owed_frames, StationGated, Sends, StationLawful, StationComplete, sent_after, after_act, is_sent, AnswersKeep, NoFrameAfterLoss, GivesBeginning}
