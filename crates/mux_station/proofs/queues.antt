@@ -1,3 +1,5 @@
 -- The control queue and the send rings, and room in them.
-pub mod ControlQueues
+pub mod FrameOctets
+pub mod QueueOctets
+pub mod SendRings
 pub mod QueueRoom

@@ -8,6 +8,7 @@ pub mod Tables
 pub mod Offering
 pub mod Sending
 pub mod ControlFrames
+pub mod ControlOctets
 pub mod ControlQueues
 pub mod Stations
 pub mod Marks

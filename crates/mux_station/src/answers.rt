@@ -5,10 +5,11 @@ ghost use Rattle.mux_station.specs.MessagesRead.{message_read};
 ghost use Rattle.mux_station.specs.Getting.{row_frames};
 ghost use Rattle.mux_station.specs.AnswersSent.{frames_in, answers_sent};
 
-use crate::control_frame::{CLD, ControlFrame, FCOFF, FCON, MSC, NSC, NSC_RESPONSE, READY, TEST};
+use crate::control_frame::ControlFrame;
 use crate::message::Message;
 use crate::role::Role;
 use crate::row::Row;
+use crate::written::{CLD, FCOFF, FCON, MSC, NSC, NSC_RESPONSE, READY, TEST};
 use mux_frame::Dlci;
 
 /// At most two frames, the second after the first.

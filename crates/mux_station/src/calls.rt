@@ -12,11 +12,13 @@ ghost use Rattle.mux_station.specs.Stations.{seen_in, refused_in, channel_at, as
 ghost use Rattle.mux_station.specs.Fitting.{StationHandles};
 
 use crate::channel::Stage;
-use crate::control_frame::{CLD, CONTROL, ControlFrame, FCOFF, FCON, HELD_UP, READY, TEST};
+use crate::channels::CONTROL;
+use crate::control_frame::ControlFrame;
 use crate::error::StationError;
 use crate::repeats::Repeats;
 use crate::role::Role;
 use crate::station::{Station, WaitingProbe};
+use crate::written::{CLD, FCOFF, FCON, HELD_UP, READY, TEST};
 use mux_frame::{Dlci, Kind, ProbeData};
 
 impl Station {

@@ -15,6 +15,9 @@ use std::marker::Model;
 /// How many connections there are, 0 among them.
 pub const CONNECTIONS: usize = 62;
 
+/// The control channel.
+pub const CONTROL: Dlci = Dlci { number: 0 };
+
 /// The connections 0 to 61, and a set of bits in which bit d is set where connection d may send: it
 /// is Opened and not stopped by itself, and octets wait in its send ring.
 #[derive(Drop)]

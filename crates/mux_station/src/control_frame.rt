@@ -1,118 +1,18 @@
-//! The frames that an end writes of its own (27.010, 5.2.1 and 5.4.6).
-ghost use Rattle.std.specs.Prelude.{◌≡◌, ◌≤◌, ◌<◌, [], length};
-ghost use Rattle.mux_frame.specs.Frames.{frame_of};
-ghost use Rattle.mux_station.specs.Written.{written, written_length};
-ghost use Rattle.mux_station.specs.Tables.{message_frame, msc_frame};
-ghost use Rattle.mux_station.specs.ControlFrames.{control_frame};
+//! Control frames.
+ghost use Rattle.std.specs.Prelude.{◌≤◌, length};
+ghost use Rattle.mux_frame.specs.Spelling.{most_info};
 
-use crate::role::Role;
 use arrayvec::ArrayVec;
-use mux_frame::{Dlci, FrameView, Kind};
+use mux_frame::{Dlci, Kind};
 
-/// Type octets of commands (27.010, 5.4.6.3).
-pub(crate) const TEST: u8 = 0x23;
-
-pub(crate) const FCOFF: u8 = 0x63;
-
-pub(crate) const FCON: u8 = 0xA3;
-
-pub(crate) const CLD: u8 = 0xC3;
-
-pub(crate) const MSC: u8 = 0xE3;
-
-pub(crate) const NSC: u8 = 0x13;
-
-/// Type octets of responses.
-pub(crate) const TEST_RESPONSE: u8 = 0x21;
-
-pub(crate) const CLD_RESPONSE: u8 = 0xC1;
-
-pub(crate) const MSC_RESPONSE: u8 = 0xE1;
-
-pub(crate) const NSC_RESPONSE: u8 = 0x11;
-
-/// Signals of an MSC (27.010, 5.4.6.3.7): DV, RTR, RTC and EA, and the same with FC.
-pub(crate) const READY: u8 = 0x8D;
-
-pub(crate) const HELD_UP: u8 = 0x8F;
-
-pub(crate) const CONTROL: Dlci = Dlci { number: 0 };
-
-/// A control frame, with its information in place: a message has a type, a length field and at most
-/// 127 octets of value.
+/// A control frame, with its information in place: in a UIH, a message of a type, a length field and
+/// at most 127 octets of value; in the other kinds none.
 #[derive(Drop)]
-pub(crate) struct ControlFrame {
+pub struct ControlFrame {
     pub dlci: Dlci,
     pub kind: Kind,
     pub cr: bool,
     pub pf: bool,
     pub info: ArrayVec<u8, 129>,
-}
-
-impl ControlFrame {
-    /// A frame as this end writes it.
-    pub fn written(role: Role, kind: Kind, dlci: Dlci, info: ArrayVec<u8, 129>) -> ControlFrame
-        ensures { control_frame result ≡ written role kind dlci.number info.items }
-    {
-        let answers = matches!(kind, Kind::Ua | Kind::Dm);
-        ControlFrame {
-            dlci,
-            kind,
-            cr: matches!(role, Role::Initiator) != answers,
-            pf: !matches!(kind, Kind::Uih),
-            info,
-        }
-    }
-
-    /// A frame with no information.
-    pub fn bare(role: Role, kind: Kind, dlci: Dlci) -> ControlFrame
-        ensures { control_frame result ≡ written role kind dlci.number [] }
-    {
-        ControlFrame::written(role, kind, dlci, ArrayVec::new())
-    }
-
-    /// A control message of this type and value.
-    pub fn message(role: Role, octet: u8, value: &[u8]) -> ControlFrame
-        requires { length value.now ≤ 127 }
-        ensures { control_frame result ≡ message_frame role octet value.now }
-    {
-        let mut info = ArrayVec::new();
-        info.push(octet);
-        info.push(2 * value.len() as u8 + 1);
-        info.try_extend_from_slice(value).unwrap();
-        ControlFrame::written(role, Kind::Uih, CONTROL, info)
-    }
-
-    /// A modem status command for a connection, with these signals.
-    pub fn msc(role: Role, dlci: Dlci, signals: u8) -> ControlFrame
-        ensures { control_frame result ≡ msc_frame role dlci.number signals }
-    {
-        ControlFrame::message(role, MSC, &[4 * dlci.number() + 3, signals])
-    }
-
-    /// How many octets it is as written, both flags counted.
-    pub fn written_len(&self) -> usize
-        ensures octets { result ≡ written_length (control_frame self.now) }
-        ensures few { result ≤ 136 }
-    {
-        let length = self.info.len();
-        if length <= 127 {
-            length + 6
-        } else {
-            length + 7
-        }
-    }
-
-    /// The frame, lent.
-    pub fn view(&self) -> FrameView<'_>
-        ensures { frame_of result ≡ control_frame self.now }
-    {
-        FrameView {
-            dlci: self.dlci,
-            kind: self.kind,
-            cr: self.cr,
-            pf: self.pf,
-            info: self.info.as_slice(),
-        }
-    }
+    pub ghost plain: { length info.items ≤ most_info 129 kind },
 }

@@ -7,34 +7,38 @@ ghost use Rattle.mux_station.specs.Written.{written_length};
 ghost use Rattle.mux_station.specs.Tables.{octets_of};
 ghost use Rattle.mux_station.specs.ControlFrames.{control_frame};
 
+use crate::channels::CONTROL;
 use crate::control_frame::ControlFrame;
+use crate::control_octets::{frame_at, place_of};
+use crate::role::Role;
+use crate::write_buffer::WriteBuffer;
 use circular_buffer::HeapCircularBuffer;
-use mux_frame::FrameView;
+use mux_frame::{FrameView, Kind};
 use std::alloc::{AllocError, Global};
 use std::marker::Model;
 
-/// The fewest octets of a written frame.
-const SHORTEST: usize = 6;
-
-/// Control frames, with room for so many octets of them as written. Its places are taken when it is
-/// made, one for each of the shortest frames that there is room for.
+/// Control frames, with room for so many octets of them as written. They wait as those octets: each
+/// spelled with both its flags, one after another.
 #[derive(Drop)]
 pub(crate) struct ControlQueue {
-    frames: HeapCircularBuffer<ControlFrame>,
-    octets: usize,
-    room: usize,
+    octets: HeapCircularBuffer<u8>,
+    /// How many frames they are.
+    count: usize,
+    /// Where a frame is spelled before it is put into the queue.
+    spelling: WriteBuffer,
+    /// The frame that was looked at last, which may be lent.
+    looked_at: ControlFrame,
 }
 
 impl Model for ControlQueue {
-    ghost use Rattle.std.specs.Prelude.{map};
-    ghost use Rattle.mux_station.specs.ControlQueues.{ControlQueue, IsBounded};
-    ghost use Rattle.mux_station.specs.ControlFrames.{control_frame};
+    ghost use Rattle.mux_station.specs.ControlQueues.{ControlQueue, IsKeptAsOctets};
+    ghost use Rattle.mux_station.specs.ControlOctets.{frames_in};
 
     ghost Value = { ControlQueue };
 
-    ghost view = { λ q. record { frames = map control_frame q.frames.items; room = q.room } };
+    ghost view = { λ q. record { frames = frames_in q.count q.octets.items; room = q.octets.capacity } };
 
-    ghost invariant = { λ q. IsBounded (map control_frame q.frames.items) q.octets q.room q.frames.capacity };
+    ghost invariant = { λ q. IsKeptAsOctets q.octets.items q.count q.spelling };
 }
 
 impl ControlQueue {
@@ -44,11 +48,13 @@ impl ControlQueue {
     pub fn new(alloc: Global, room: usize) -> Result<ControlQueue, AllocError>
         ensures { IfOk result (λ q. q ≡ record { frames = []; room = room }) }
     {
-        let frames = HeapCircularBuffer::with_capacity(alloc, room / SHORTEST)?;
+        let octets = HeapCircularBuffer::with_capacity(alloc, room)?;
+        let spelling = WriteBuffer::new(alloc)?;
         Ok(ControlQueue {
-            frames,
-            octets: 0,
-            room,
+            octets,
+            count: 0,
+            spelling,
+            looked_at: ControlFrame::bare(Role::Initiator, Kind::Dm, CONTROL),
         })
     }
 
@@ -57,7 +63,7 @@ impl ControlQueue {
         ensures fits { result ≡ nat_le (octets_of self.now.frames + more) self.now.room }
         ensures none { more ≡ 0 → result ≡ true }
     {
-        more <= self.room - self.octets
+        more <= self.octets.capacity() - self.octets.len()
     }
 
     /// Puts a frame at the end.
@@ -65,30 +71,37 @@ impl ControlQueue {
         requires { octets_of self.old.frames + written_length (control_frame frame) ≤ self.old.room }
         ensures { self.new ≡ record self.old { frames = self.old.frames ++ control_frame frame ∷ [] } }
     {
-        self.octets += frame.written_len();
-        self.frames.push_back(frame);
+        // Looked at so that the proof knows that the count fits.
+        let _ = self.octets.len();
+        self.spelling.put(frame.view());
+        let spelled = self.spelling.as_slice();
+        let length = spelled.len();
+        self.octets.fill_from_slice(spelled);
+        self.spelling.pass(length);
+        self.count += 1;
     }
 
     /// How many frames wait.
     pub fn len(&self) -> usize
         ensures { result ≡ length self.now.frames }
     {
-        self.frames.len()
+        self.count
     }
 
     pub fn is_empty(&self) -> bool
         ensures { result ≡ (length self.now.frames == 0) }
     {
-        self.frames.is_empty()
+        self.count == 0
     }
 
-    /// The frame at a place, lent.
-    pub fn get(&mut self, place: usize) -> Option<FrameView<'_>>
-        ensures frame { option_map frame_of result ≡ slice_get self.old.frames place }
+    /// The frame of an index, lent.
+    pub fn get(&mut self, index: usize) -> Option<FrameView<'_>>
+        ensures frame { option_map frame_of result ≡ slice_get self.old.frames index }
         ensures* after { sem 𝓛 (Rests the_row self.entry (λ new. new ≡ self.old)) }
     {
-        let frame = self.frames.get(place)?;
-        Some(frame.view())
+        let place = place_of(&self.octets, self.count, index)?;
+        self.looked_at = frame_at(&self.octets, place);
+        Some(self.looked_at.view())
     }
 
     /// Takes the frame at the front out.
@@ -96,8 +109,13 @@ impl ControlQueue {
         ensures frame { option_map control_frame result ≡ slice_get self.old.frames 0 }
         ensures after { self.new ≡ record self.old { frames = drop 1 self.old.frames } }
     {
-        let front = self.frames.pop_front()?;
-        self.octets -= front.written_len();
+        if self.count == 0 {
+            return None;
+        }
+        let front = frame_at(&self.octets, 0);
+        self.octets
+            .truncate_front(self.octets.len() - front.written_len());
+        self.count -= 1;
         Some(front)
     }
 }

@@ -18,9 +18,8 @@ ghost use Rattle.mux_station.specs.Getting.{FrameTaken, message_calls, message_t
 
 use crate::answers::Answers;
 use crate::channel::Stage;
-use crate::control_frame::{
-    CLD, CLD_RESPONSE, CONTROL, ControlFrame, FCOFF, FCON, MSC, NSC_RESPONSE, TEST, TEST_RESPONSE,
-};
+use crate::channels::CONTROL;
+use crate::control_frame::ControlFrame;
 use crate::error::StationError;
 use crate::message::Message;
 use crate::noted::Noted;
@@ -28,6 +27,7 @@ use crate::reading::{msc_dlci, msc_stops};
 use crate::role::Role;
 use crate::row::{Row, Turn, initiator_row, responder_row};
 use crate::station::Station;
+use crate::written::{CLD, CLD_RESPONSE, FCOFF, FCON, MSC, NSC_RESPONSE, TEST, TEST_RESPONSE};
 use mux_frame::{Dlci, FrameView, Kind};
 
 impl Station {

@@ -3,8 +3,8 @@ ghost use Rattle.std.specs.Prelude.{◌≡◌, ◌≤◌, option_map, IfSome};
 ghost use Rattle.mux_station.specs.Messages.{message_of, msc_dlci, msc_stops, is_good_msc};
 ghost use Rattle.mux_station.specs.MessagesRead.{message_read};
 
-use crate::control_frame::{MSC, MSC_RESPONSE};
 use crate::message::Message;
+use crate::written::{MSC, MSC_RESPONSE};
 
 /// The DLCI of which an MSC speaks, 0 where it has no value.
 pub(crate) fn msc_dlci(value: &[u8]) -> u8

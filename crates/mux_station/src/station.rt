@@ -7,8 +7,8 @@ ghost use Rattle.mux_station.specs.Stages.{as_shown};
 ghost use Rattle.mux_station.specs.Stations.{new_station, channel_at, stopped_in, all_stopped_in};
 ghost use Rattle.mux_station.specs.Fitting.{StationFits};
 
-use crate::channels::Channels;
-use crate::control_frame::{CONTROL, ControlFrame};
+use crate::channels::{CONTROL, Channels};
+use crate::control_frame::ControlFrame;
 use crate::control_queue::ControlQueue;
 use crate::error::StationError;
 use crate::outgoing::GivenFrame;

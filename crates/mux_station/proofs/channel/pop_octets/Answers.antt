@@ -1,6 +1,6 @@
 -- One octet more is taken.
 use Rattle.std.proofs.Common.{sym, ◌∙◌}
-use Rattle.mux_station.proofs.queues.ControlQueues.{octet_taken, octets_left, octet_there}
+use Rattle.mux_station.proofs.queues.SendRings.{octet_taken, octets_left, octet_there}
 use Rattle.mux_station.proofs.channel.pop_octets.Goals as goal
 use Rattle.mux_station.proofs.channel.pop_octets.Goals.{in-Some, in_default}
 
