@@ -1,5 +1,4 @@
--- The control queue and the send rings, and room in them.
+-- The control queue's octets and frames, and room in it.
 pub mod FrameOctets
-pub mod QueueOctets
-pub mod SendRings
 pub mod QueueRoom
+pub mod ControlQueues

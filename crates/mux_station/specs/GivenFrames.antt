@@ -2,17 +2,12 @@
 use Rattle.std.specs.Prelude.{ℕ, Bool}
 use Rattle.mux_frame.specs.declared.dlci.Dlci.{Dlci}
 use Rattle.mux_frame.specs.Frames.{Frame, frame_of}
-use Rattle.mux_station.specs.declared.outgoing.GivenFrame.{GivenFrame}
 use Rattle.mux_station.specs.declared.outgoing.Outgoing as lent
 
 -- a frame, and whether it is data, which is sent as it is given on
 pub record Outgoing : Type 0 where
   pub frame : Frame
   pub fresh : Bool
-
--- the frame that was given on
-abbrev pub given_frame : GivenFrame → Frame
-given_frame f = record { dlci = f.dlci.number; kind = f.kind; cr = f.cr; pf = f.pf; info = f.info.items }
 
 -- the frame that is lent, and whether it is data
 abbrev pub outgoing_of : lent.Outgoing → Outgoing

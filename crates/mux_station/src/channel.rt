@@ -147,27 +147,28 @@ impl Channel {
     }
 
     /// Takes the first octets out of the send ring, at most so many.
-    pub fn take_front(&mut self, most: usize) -> ArrayVec<u8, 1024>
-        ensures taken { result.items ≡ take most self.old.waiting }
+    pub fn take_front(&mut self, most: usize, taken: &mut ArrayVec<u8, 1024>)
+        ensures taken { taken.new.items ≡ take most self.old.waiting }
         ensures rest { self.new ≡ record self.old { waiting = drop most self.old.waiting } }
     {
         let count = most.min(self.octets.len());
-        pop_octets(&mut self.octets, count)
+        take_octets(&mut self.octets, count, taken);
     }
 }
 
 /// Takes so many octets off the front.
-fn pop_octets(octets: &mut HeapCircularBuffer<u8>, count: usize) -> ArrayVec<u8, 1024>
+fn take_octets(octets: &mut HeapCircularBuffer<u8>, count: usize, taken: &mut ArrayVec<u8, 1024>)
     requires there { count ≤ length octets.old.items }
     requires short { count ≤ 1024 }
-    ensures taken { result.items ≡ take count octets.old.items }
+    ensures taken { taken.new.items ≡ take count octets.old.items }
     ensures rest { octets.new ≡ buffer (drop count octets.old.items) octets.old.capacity }
 {
-    let mut taken = ArrayVec::new();
-    for _ in 0..count {
-        if let Some(octet) = octets.pop_front() {
-            taken.push(octet);
-        }
-    }
+    let (front, back) = octets.as_slices();
+    let from_front = count.min(front.len());
+    taken.clear();
+    taken.try_extend_from_slice(&front[..from_front]).unwrap();
     taken
+        .try_extend_from_slice(&back[..count - from_front])
+        .unwrap();
+    octets.truncate_front(octets.len() - count);
 }

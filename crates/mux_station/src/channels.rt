@@ -1,6 +1,8 @@
 //! All connections, and which of them may send.
 ghost use Rattle.std.specs.Prelude.{◌≡◌, ℕ, ◌+◌, ◌<◌, ◌≤◌, ◌==◌, ◌++◌, [], false, Bool, List, length, take, drop, option_map, replicate, slice_index_or, slice_set, IfOk};
+ghost use Rattle.std.specs.Borrow.{sem};
 ghost use Rattle.std.specs.Int.{bit_at};
+ghost use Rattle.std.specs.Io.BufRead.{Rests};
 ghost use Rattle.mux_station.specs.Stages.{stage_state};
 ghost use Rattle.mux_station.specs.Stations.{shut_channel};
 ghost use Rattle.mux_station.specs.GivenFrames.{dlci_of};
@@ -24,6 +26,8 @@ pub const CONTROL: Dlci = Dlci { number: 0 };
 pub(crate) struct Channels {
     each: Vec<Channel>,
     senders: u64,
+    /// The octets that were taken last, which may be lent.
+    taken: ArrayVec<u8, 1024>,
 }
 
 impl Model for Channels {
@@ -39,12 +43,18 @@ impl Model for Channels {
 }
 
 impl Channels {
+    ghost use Rattle.mux_station.specs.contracts.channels.Channels.{the_row};
+
     /// All connections, shut.
     pub fn new(alloc: Global) -> Result<Channels, AllocError>
         ensures { IfOk result (λ cs. cs ≡ replicate 62 shut_channel) }
     {
         let each = shut_channels(alloc)?;
-        Ok(Channels { each, senders: 0 })
+        Ok(Channels {
+            each,
+            senders: 0,
+            taken: ArrayVec::new(),
+        })
     }
 
     /// One connection.
@@ -96,19 +106,22 @@ impl Channels {
         self.senders = marked(self.senders, dlci, sends);
     }
 
-    /// Takes the first octets out of a connection's send ring, at most so many.
-    pub fn take_front(&mut self, dlci: Dlci, most: usize) -> ArrayVec<u8, 1024>
-        ensures taken { result.items
+    /// Takes the first octets out of a connection's send ring, at most so many, and lends them.
+    pub fn take_front(&mut self, dlci: Dlci, most: usize) -> &[u8]
+        ensures taken { result.now
             ≡ take most (slice_index_or self.old dlci.number shut_channel).waiting }
-        ensures rest { self.new ≡ slice_set self.old dlci.number
+        ensures short { length result.now ≤ 1024 }
+        ensures* rest { sem 𝓛
+            (Rests the_row self.entry
+            (λ new. new ≡ slice_set self.old dlci.number
             (record (slice_index_or self.old dlci.number shut_channel)
-            { waiting = drop most (slice_index_or self.old dlci.number shut_channel).waiting }) }
+            { waiting = drop most (slice_index_or self.old dlci.number shut_channel).waiting }))) }
     {
         let channel = &mut self.each[usize::from(dlci.number())];
-        let taken = channel.take_front(most);
+        channel.take_front(most, &mut self.taken);
         let has_more = channel.may_send();
         self.senders = marked(self.senders, dlci, has_more);
-        taken
+        self.taken.as_slice()
     }
 
     /// The least connection from this one on that may send.

@@ -1,5 +1,5 @@
 //! The frames that wait in the control queue.
-ghost use Rattle.std.specs.Prelude.{◌≡◌, ◌+◌, ◌≤◌, ◌++◌, ◌∷◌, ◌==◌, true, [], drop, length, nat_le, slice_get, option_map, IfOk};
+ghost use Rattle.std.specs.Prelude.{◌≡◌, ◌+◌, ◌≤◌, ◌++◌, ◌∷◌, ◌==◌, true, [], drop, length, nat_le, slice_get, option_map, IfOk, IfSome};
 ghost use Rattle.std.specs.Borrow.{sem};
 ghost use Rattle.std.specs.Io.BufRead.{Rests};
 ghost use Rattle.mux_frame.specs.Frames.{frame_of};
@@ -104,18 +104,21 @@ impl ControlQueue {
         Some(self.looked_at.view())
     }
 
-    /// Takes the frame at the front out.
-    pub fn pop(&mut self) -> Option<ControlFrame>
-        ensures frame { option_map control_frame result ≡ slice_get self.old.frames 0 }
-        ensures after { self.new ≡ record self.old { frames = drop 1 self.old.frames } }
+    /// Takes the frame at the front out, and lends it.
+    pub fn take(&mut self) -> Option<FrameView<'_>>
+        ensures frame { option_map frame_of result ≡ slice_get self.old.frames 0 }
+        ensures short { IfSome result (λ f. length f.info.now ≤ 1024) }
+        ensures* after { sem 𝓛
+            (Rests the_row self.entry
+            (λ new. new ≡ record self.old { frames = drop 1 self.old.frames })) }
     {
         if self.count == 0 {
             return None;
         }
-        let front = frame_at(&self.octets, 0);
-        self.octets
-            .truncate_front(self.octets.len() - front.written_len());
+        self.looked_at = frame_at(&self.octets, 0);
+        let length = self.looked_at.written_len();
+        self.octets.truncate_front(self.octets.len() - length);
         self.count -= 1;
-        Some(front)
+        Some(self.looked_at.view())
     }
 }

@@ -1,5 +1,5 @@
 //! What a station gives on to the line.
-ghost use Rattle.std.specs.Prelude.{◌≡◌, ◌-◌, ◌≤◌, ◌==◌, List, drop, length, option_map, slice_get, IfSome};
+ghost use Rattle.std.specs.Prelude.{◌≡◌, ◌-◌, ◌≤◌, ◌==◌, List, true, false, drop, length, option_map, slice_get, IfSome};
 ghost use Rattle.std.specs.Borrow.{sem};
 ghost use Rattle.std.specs.Io.BufRead.{Rests};
 ghost use Rattle.mux_frame.specs.Frames.{frame_of};
@@ -8,9 +8,9 @@ ghost use Rattle.mux_station.specs.Fitting.{StationFits};
 ghost use Rattle.mux_station.specs.Giving.{first_ready, next_turn, next_sender, data_frame, data_given, next_given, station_after, SendsNext, Waits};
 ghost use Rattle.mux_station.specs.Sending.{queue};
 ghost use Rattle.mux_station.specs.Stations.{channel_at};
-ghost use Rattle.mux_station.specs.GivenFrames.{given_frame, outgoing_of, with_freshness, dlci_of};
+ghost use Rattle.mux_station.specs.GivenFrames.{outgoing_of, with_freshness, dlci_of};
 
-use crate::outgoing::{GivenFrame, Outgoing};
+use crate::outgoing::Outgoing;
 use crate::role::Role;
 use crate::station::Station;
 use mux_frame::{Dlci, FrameView, Kind};
@@ -40,47 +40,51 @@ impl Station {
         }
     }
 
-    fn take_data(&mut self) -> Option<GivenFrame>
-        ensures frame { option_map given_frame result
-            ≡ option_map (data_frame self.old) (next_turn self.old) }
-        ensures after { self.new ≡ data_given self.old (next_turn self.old) }
+    /// Data of the connection whose turn it is, lent.
+    fn next_data(&mut self) -> Option<Outgoing<'_>>
+        ensures frame { option_map outgoing_of result
+            ≡ option_map (with_freshness true) (option_map (data_frame self.old) (next_turn self.old)) }
+        ensures short { IfSome result (λ o. length o.frame.info.now ≤ 1024) }
+        ensures* after { sem 𝓛
+            (Rests the_row self.entry (λ new. new ≡ data_given self.old (next_turn self.old))) }
     {
         let dlci = self.next_turn()?;
+        let cr = matches!(self.role, Role::Initiator);
         let most = usize::from(self.n1);
-        let info = self.channels.take_front(dlci, most);
         self.last = dlci.number();
-        Some(GivenFrame {
-            dlci,
-            kind: Kind::Uih,
-            cr: matches!(self.role, Role::Initiator),
-            pf: false,
-            info,
+        let info = self.channels.take_front(dlci, most);
+        Some(Outgoing {
+            frame: FrameView {
+                dlci,
+                kind: Kind::Uih,
+                cr,
+                pf: false,
+                info,
+            },
+            fresh: true,
         })
     }
 
-    fn take_control(&mut self) -> Option<GivenFrame>
-        ensures frame { option_map given_frame result ≡ slice_get self.old.queue 0 }
-        ensures after { self.new ≡ record self.old { queue = drop 1 self.old.queue } }
+    /// The first frame of the control queue, lent.
+    fn next_control(&mut self) -> Option<Outgoing<'_>>
+        ensures frame { option_map outgoing_of result
+            ≡ option_map (with_freshness false) (slice_get self.old.queue 0) }
+        ensures short { IfSome result (λ o. length o.frame.info.now ≤ 1024) }
+        ensures* after { sem 𝓛
+            (Rests the_row self.entry
+            (λ new. new ≡ record self.old { queue = drop 1 self.old.queue })) }
     {
-        let frame = self.control.pop()?;
-        Some(GivenFrame::of_control(&frame))
-    }
-
-    #[tactic(auto, using(crate::proofs::turns::ReadyConnections::next_data, crate::proofs::turns::ReadyConnections::after_data, crate::proofs::turns::ReadyConnections::next_control, crate::proofs::turns::ReadyConnections::after_control))]
-    fn take_next(&mut self) -> Option<GivenFrame>
-        ensures frame { option_map given_frame result ≡ next_given self.old self.old.queue }
-        ensures after { self.new ≡ station_after self.old self.old.queue }
-    {
-        if self.control.is_empty() {
-            self.take_data()
-        } else {
-            self.take_control()
-        }
+        let frame = self.control.take()?;
+        Some(Outgoing {
+            frame,
+            fresh: false,
+        })
     }
 
     /// The next frame for the line, lent, which is then no longer kept: the first of the control
     /// queue; where that is empty, data of the connection whose turn it is. `laws::givings` says what that
     /// comes to in each past that the station fits. Its information is at most 1024 octets.
+    #[tactic(auto, using(crate::proofs::turns::ReadyConnections::next_data, crate::proofs::turns::ReadyConnections::after_data, crate::proofs::turns::ReadyConnections::next_control, crate::proofs::turns::ReadyConnections::after_control))]
     pub fn next_frame(&mut self) -> Option<Outgoing<'_>>
         ensures frame { option_map outgoing_of result
             ≡ option_map (with_freshness (length self.old.queue == 0)) (next_given self.old self.old.queue) }
@@ -88,13 +92,11 @@ impl Station {
         ensures* after { sem 𝓛
             (Rests the_row self.entry (λ new. new ≡ station_after self.old self.old.queue)) }
     {
-        let fresh = self.control.is_empty();
-        let frame = self.take_next()?;
-        self.given = frame;
-        Some(Outgoing {
-            frame: self.given.view(),
-            fresh,
-        })
+        if self.control.is_empty() {
+            self.next_data()
+        } else {
+            self.next_control()
+        }
     }
 
     /// The connection whose data `next_frame` gives; nothing where it gives a control frame, or none.

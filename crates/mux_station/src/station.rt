@@ -8,13 +8,11 @@ ghost use Rattle.mux_station.specs.Stations.{new_station, channel_at, stopped_in
 ghost use Rattle.mux_station.specs.Fitting.{StationFits};
 
 use crate::channels::{CONTROL, Channels};
-use crate::control_frame::ControlFrame;
 use crate::control_queue::ControlQueue;
 use crate::error::StationError;
-use crate::outgoing::GivenFrame;
 use crate::repeats::Repeats;
 use crate::role::{ChannelState, Role};
-use mux_frame::{Dlci, Kind, ProbeData};
+use mux_frame::{Dlci, ProbeData};
 use std::alloc::Global;
 use std::marker::Model;
 
@@ -39,8 +37,6 @@ pub struct Station {
     pub(crate) control: ControlQueue,
     /// The connection that last sent data.
     pub(crate) last: u8,
-    /// The frame that was given on last, which may be lent.
-    pub(crate) given: GivenFrame,
 }
 
 impl Model for Station {
@@ -86,7 +82,6 @@ impl Station {
             probe: None,
             control,
             last: 0,
-            given: GivenFrame::of_control(&ControlFrame::bare(role, Kind::Dm, CONTROL)),
         })
     }
 

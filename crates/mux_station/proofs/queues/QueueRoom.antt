@@ -10,9 +10,6 @@ pub octets_both : (fs gs : List Frame) → octets_of (fs ++ gs) ≡ octets_of fs
 octets_both [] gs = omega arith
 octets_both (f ∷ fs) gs = let rest : octets_of (fs ++ gs) ≡ octets_of fs + octets_of gs = octets_both fs gs in omega (arith, rest)
 
-pub octets_more : (fs : List Frame) (f : Frame) → octets_of (fs ++ f ∷ []) ≡ octets_of fs + written_length f
-octets_more fs f = let both : octets_of (fs ++ f ∷ []) ≡ octets_of fs + (written_length f + 0) = octets_both fs (f ∷ []) in omega (arith, both)
-
 room_parts : (n1 q : ℕ) (fs gs : List Frame) → have_room n1 q (fs ++ gs) ≡ (have_room n1 q fs && have_room n1 (q + octets_of fs) gs)
 room_parts n1 q [] gs = let none : q ≡ q + 0 = omega arith in ap (λ (n : ℕ). have_room n1 n gs) none
 room_parts n1 q (f ∷ fs) gs =

@@ -14,7 +14,7 @@ use Rattle.mux_station.specs.Stations.{Channel, Station, shut_channel, channel_a
 use Rattle.mux_station.specs.Ticking.{Up, UpChannel, gives_up, given_up, given_up_in, probe_up, noticed, turned_in, asked_if, ticked_by, ticked_one, ticked_all, ticked_probe, ticked_in}
 use Rattle.mux_station.specs.Sending.{StationSetting, Waiting}
 use Rattle.mux_station.specs.Noticing.{up_of}
-use Rattle.mux_station.proofs.queues.QueueRoom.{octets_more}
+use Rattle.mux_station.proofs.queues.ControlQueues.{octets_more}
 
 -- what the turn of d leaves, and what it queues
 record Changed (w : Station) (d : ℕ) (new : Station) (here : List Frame) : Type 0 where

@@ -19,7 +19,7 @@ use Rattle.mux_station.specs.Offering.{last_sender}
 use Rattle.mux_station.specs.Stations.{Channel, Station, shut_channel, channel_at, setting_of, asked_in}
 use Rattle.mux_station.specs.Fitting.{ChannelFits, StationFits, StationHandles}
 use Rattle.mux_station.specs.Ticking.{turned_in, asked_if, ticked_by, ticked_one, ticked_all, ticked_probe, ticked_in}
-use Rattle.mux_station.proofs.queues.QueueRoom.{octets_more}
+use Rattle.mux_station.proofs.queues.ControlQueues.{octets_more}
 use Rattle.mux_station.proofs.ticks.ConnectionTurns.{setting_all}
 use Rattle.mux_station.proofs.states.StatesAfterActs.{state_next, shut_now, untouched}
 use Rattle.mux_station.proofs.user_calls.CallFrames.{own_sent, state_sent, fits_sent, AllStopped, all_untouched, all_sent, probe_sent, probe_none, probe_needs}

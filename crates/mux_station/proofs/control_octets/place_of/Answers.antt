@@ -1,6 +1,6 @@
 -- Each frame begins behind the one before it.
 use Rattle.std.proofs.Common.{arith}
-use Rattle.mux_station.proofs.queues.QueueOctets.{has_front, begins_first, begins_next}
+use Rattle.mux_station.proofs.queues.ControlQueues.{has_front, begins_first, begins_next}
 use Rattle.mux_station.proofs.control_octets.place_of.Goals as goal
 
 pub loop-init : goal.loop-init

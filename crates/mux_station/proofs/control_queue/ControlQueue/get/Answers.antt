@@ -2,7 +2,7 @@
 use Rattle.std.specs.Prelude.{Some, option_map, refl}
 use Rattle.std.proofs.Common.{◌∙◌, ap}
 use Rattle.mux_frame.specs.Frames.{frame_of}
-use Rattle.mux_station.proofs.queues.QueueOctets.{seen_at, has_front, it_is, none_is}
+use Rattle.mux_station.proofs.queues.ControlQueues.{seen_at, has_front, it_is, none_is}
 use Rattle.mux_station.proofs.control_queue.ControlQueue.get.Goals as goal
 
 pub returns-in_err-place : goal.returns-in_err-place

@@ -1,7 +1,7 @@
 -- The octets that are kept are those of the frames.
 use Rattle.std.specs.Prelude.{ℕ, ◌≡◌, ◌+◌, ◌-◌, length, nat_le}
 use Rattle.std.proofs.Common.{◌∙◌, ap, arith}
-use Rattle.mux_station.proofs.queues.QueueOctets.{seen_octets, seen_room, room_left}
+use Rattle.mux_station.proofs.queues.ControlQueues.{seen_octets, seen_room, room_left}
 use Rattle.mux_station.proofs.control_queue.ControlQueue.has_room.Goals as goal
 
 pub returns-clause-fits : goal.returns-clause-fits

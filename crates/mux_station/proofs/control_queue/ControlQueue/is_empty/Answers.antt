@@ -1,6 +1,6 @@
 use Rattle.std.specs.Prelude.{ℕ, ◌==◌}
 use Rattle.std.proofs.Common.{ap}
-use Rattle.mux_station.proofs.queues.QueueOctets.{seen_many}
+use Rattle.mux_station.proofs.queues.ControlQueues.{seen_many}
 use Rattle.mux_station.proofs.control_queue.ControlQueue.is_empty.Goals as goal
 
 pub returns : goal.returns

@@ -1,4 +1,4 @@
-use Rattle.mux_station.proofs.queues.QueueOctets.{seen_many}
+use Rattle.mux_station.proofs.queues.ControlQueues.{seen_many}
 use Rattle.mux_station.proofs.control_queue.ControlQueue.len.Goals as goal
 
 pub returns : goal.returns

@@ -1,5 +1,5 @@
 -- No octets are no frames.
-use Rattle.mux_station.proofs.queues.QueueOctets.{none_kept, none_seen}
+use Rattle.mux_station.proofs.queues.ControlQueues.{none_kept, none_seen}
 use Rattle.mux_station.proofs.control_queue.ControlQueue.new.Goals as goal
 
 pub invariant_of-result : goal.invariant_of-result

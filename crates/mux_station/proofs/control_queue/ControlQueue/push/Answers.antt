@@ -6,7 +6,7 @@ use Rattle.mux_frame.specs.Frames.{Frame}
 use Rattle.mux_frame.specs.Spelling.{most_info, spelled}
 use Rattle.mux_station.specs.ControlFrames.{control_frame}
 use Rattle.mux_station.specs.ControlOctets.{IsControlFrame}
-use Rattle.mux_station.proofs.queues.QueueOctets.{seen_put, seen_octets, seen_room, put_read, put_spelled, count_small, all_passed, plain_fits}
+use Rattle.mux_station.proofs.queues.ControlQueues.{seen_put, seen_octets, seen_room, put_read, put_spelled, count_small, all_passed, plain_fits}
 use Rattle.mux_station.proofs.control_queue.ControlQueue.push.Goals as goal
 
 pub overflow_add-self : goal.overflow_add-self

@@ -19,6 +19,7 @@ use Rattle.mux_station.specs.Tables.{octets_of}
 use Rattle.circular_buffer.specs.Buffer.{Buffer, buffer, keep_last}
 use Rattle.mux_station.specs.ControlQueues.{ControlQueue, IsKeptAsOctets}
 use Rattle.mux_station.specs.ControlOctets.{lead_len, info_len, front_len, front_frame, frames_in, IsControlFrame, AreSpelled, HasFront, BeginsAt}
+use Rattle.mux_station.proofs.queues.QueueRoom.{octets_both}
 use Rattle.mux_station.proofs.queues.FrameOctets.{Fronted, fronted, dropped}
 
 abbrev pub no_frame : Frame
@@ -29,6 +30,9 @@ pub frames_many : (n : ℕ) (octets : List ℕ) → length (frames_in n octets) 
 unfolding frames_in
 frames_many zero octets = refl
 frames_many (suc n) octets = let rest : length (frames_in n (drop (front_len octets) octets)) ≡ n = frames_many n (drop (front_len octets) octets) in ap suc rest
+
+pub octets_more : (fs : List Frame) (f : Frame) → octets_of (fs ++ f ∷ []) ≡ octets_of fs + written_length f
+octets_more fs f = let both : octets_of (fs ++ f ∷ []) ≡ octets_of fs + (written_length f + 0) = octets_both fs (f ∷ []) in omega (arith, both)
 
 -- what is spelled is read
 one_read : (f : Frame) (octets later : List ℕ) (n : ℕ) → octets ≡ spelled f ++ later → frames_in (suc n) octets ≡ f ∷ frames_in n later
