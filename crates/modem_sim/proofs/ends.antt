@@ -3,3 +3,4 @@ pub mod EndAfterFrame
 pub mod OfferedPieces
 pub mod ScriptSteps
 pub mod QueueRoom
+pub mod HandedOctets

@@ -3,6 +3,8 @@ pub mod WrittenFrames
 pub mod SimPasts
 pub mod TurnParts
 pub mod WholeTurns
+pub mod TurnHistories
 pub mod IdleTurns
+pub mod LoadedFrames
 pub mod TurnMeanings
 pub mod PollSteps

@@ -1,5 +1,5 @@
 -- What happens at a simulated modem's end of the line. A past is written with its newest act first.
-use Rattle.std.specs.Prelude.{ℕ, Bool, List, [], ◌∷◌}
+use Rattle.std.specs.Prelude.{ℕ, Bool, true, false, List, [], ◌∷◌}
 use Rattle.mux_station.specs.Acts as station
 use Rattle.mux_station.specs.declared.role.Role.TheVariants.{Responder}
 use Rattle.mux_station.specs.Opening as opening
@@ -35,6 +35,23 @@ abbrev pub wire : List Act → List station.Act
 wire [] = []
 wire (Wire a ∷ past) = a ∷ wire past
 wire (Did step ∷ past) = wire past
+
+-- acts by which steps are done: they are done, and the station is asked for something and sends what that calls
+-- for
+abbrev pub is_step_act : Act → Bool
+is_step_act (Did step) = true
+is_step_act (Wire (station.Called (station.Offer d octets))) = false
+is_step_act (Wire (station.Called call)) = true
+is_step_act (Wire (station.Sent f)) = true
+is_step_act _ = false
+
+-- octets are handed to the station
+abbrev pub is_handing : Act → Bool
+is_handing (Wire (station.Called (station.Offer d octets))) = true
+is_handing _ = false
+
+abbrev pub any_act : Act → Bool
+any_act a = true
 
 abbrev pub is_open_at_modem : ℕ → List Act → Bool
 is_open_at_modem d past = opening.is_open Responder d (wire past)

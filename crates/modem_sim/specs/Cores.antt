@@ -78,21 +78,16 @@ pub record IsLater (past now : List Act) : Type 0 where
   pub newer : List Act
   pub joins : newer ++ past ≡ now
 
--- it fits what the past went on to
-pub record GoesFrom (e : End) (w : Wired) (past : List Act) (c : Core) : Type 0 where
+-- it fits what the past went on to by acts of a kind
+pub record GoesFrom (may : Act → Bool) (e : End) (w : Wired) (past : List Act) (c : Core) : Type 0 where
   pub now : List Act
   pub later : IsLater past now
+  pub only : list_all may later.newer ≡ true
   pub fits : Fits e w c now
 
--- Whatever past it fits, it goes on to one that it fits: by itself, with a frame that came, and with frames
--- that it gave on.
-abbrev pub Goes : Core → Core → Type 0
-Goes old new = (e : End) (w : Wired) (past : List Act) → Fits e w old past → GoesFrom e w past new
-
-abbrev pub EndGoesOn : Core → Core → Frame → Type 0
-EndGoesOn old new f =
-    (e : End) (w : Wired) (past : List Act) → Fits e w old past
-    → GoesFrom e (record w { came = w.came ++ f ∷ [] }) past new
+-- whatever past it fits, it goes on by acts of a kind to one that it fits
+abbrev pub Goes : (Act → Bool) → Core → Core → Type 0
+Goes may old new = (e : End) (w : Wired) (past : List Act) → Fits e w old past → GoesFrom may e w past new
 
 -- ## A frame that comes
 
@@ -103,6 +98,12 @@ wire_after (f ∷ fs) past = wire_after fs (Wire (station.Sent f) ∷ past)
 
 abbrev pub after_wire_act : End → List Act → station.Act → List Act
 after_wire_act e past a = wire_after (sending.called_frames (setting e) (wire past) a) (Wire a ∷ past)
+
+-- whatever past it fits, it fits that with the frame behind it and all that this calls for
+abbrev pub EndGoesOn : Core → Core → Frame → Type 0
+EndGoesOn old new f =
+    (e : End) (w : Wired) (past : List Act) → Fits e w old past
+    → Fits e (record w { came = w.came ++ f ∷ [] }) new (after_wire_act e past (station.Got f))
 
 abbrev pub octets_in : Core → Frame → List ℕ
 octets_in c f =
@@ -174,11 +175,23 @@ IsHandedOn c d = is_opened (stations.channel_at c.station d).state ≡ true → 
 abbrev pub gone_on : Core → Core
 gone_on c = record c { station = station_after c.station c.station.queue }
 
+-- a frame is given on: the first that waits in the control queue; where none waits, one that is sent now
+pub data IsGivenOn (past : List Act) (f : Frame) : (now : List Act) → Type 0 where
+  from_queue :
+      (later : List Frame) → sending.queue (wire past) ≡ f ∷ later → IsGivenOn past f (Wire station.Given ∷ past)
+  sent_now : sending.queue (wire past) ≡ [] → IsGivenOn past f (Wire (station.Sent f) ∷ past)
+
+-- it fits the past with a frame that it gives on
+pub record GivesFrom (e : End) (w : Wired) (past : List Act) (f : Frame) (c : Core) : Type 0 where
+  pub now : List Act
+  pub given : IsGivenOn past f now
+  pub fits : Fits e (record w { gone = w.gone ++ f ∷ [] }) c now
+
 -- whatever past it fits, it goes on with the frame that it gives on
 abbrev pub GivesOut : Core → Type 0
 GivesOut c =
     (f : Frame) → next_given c.station c.station.queue ≡ Some f → (e : End) (w : Wired) (past : List Act)
-    → Fits e w c past → GoesFrom e (record w { gone = w.gone ++ f ∷ [] }) past (gone_on c)
+    → Fits e w c past → GivesFrom e w past f (gone_on c)
 
 -- ## Steps
 

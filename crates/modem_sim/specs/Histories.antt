@@ -1,5 +1,5 @@
 -- The laws of a simulated modem's history, and what it is for its octets and its modem to fit one.
-use Rattle.std.specs.Prelude.{◌≡◌, ℕ, ◌<◌, nat_eq, true, false, List, [], ◌∷◌, ◌++◌, length, take, map, filter, Some, None}
+use Rattle.std.specs.Prelude.{◌≡◌, ◌≢◌, ℕ, ◌<◌, nat_eq, true, false, List, [], ◌∷◌, ◌++◌, length, take, map, filter, Some, None}
 use Rattle.std.specs.List.{starts_with, flat_map}
 use Rattle.mux_frame.specs.Frames.{Frame}
 use Rattle.mux_frame.specs.Reading.{Reads}
@@ -19,9 +19,10 @@ use Rattle.modem_sim.specs.Pieces.{pieces_octets, asked_for}
 use Rattle.modem_sim.specs.Outboxes.{outbox, hold_on, replies_since}
 use Rattle.modem_sim.specs.Doing.{IsDue, call_owed, acts, done}
 
--- the octets that the station is handed are the next ones of what is said
+-- the octets that the station is handed, of which there are some, are the next ones of what is said
 pub record IsStationOffer (e : End) (past : List Act) (d : ℕ) (octets : List ℕ) : Type 0 where
   pub free : call_owed past ≡ None
+  pub some : octets ≢ []
   pub next :
       starts_with nat_eq (pieces_octets (outbox e d past).said) (offered Responder d (wire past) ++ octets)
       ≡ true
@@ -36,6 +37,11 @@ pub record MayDo (e : End) (past : List Act) (step : StepAct) : Type 0 where
   pub free : call_owed past ≡ None
   pub due : IsDue e past step
 
+-- a frame of the control queue is given on where one waits there
+pub record MayGive (past : List Act) : Type 0 where
+  pub free : call_owed past ≡ None
+  pub waits : sending.queue (wire past) ≢ []
+
 -- the act may follow: what the station is asked for is what a step asked that was just done, and there is no
 -- time and no loss
 abbrev pub Allows : End → List Act → Act → Type 0
@@ -44,7 +50,7 @@ Allows e past (Wire (station.Called (station.Offer d octets))) = IsStationOffer 
 Allows e past (Wire (station.Called call)) = IsAsked e past call
 Allows e past (Wire (station.Got f)) = call_owed past ≡ None
 Allows e past (Wire (station.Sent f)) = call_owed past ≡ None
-Allows e past (Wire station.Given) = call_owed past ≡ None
+Allows e past (Wire station.Given) = MayGive past
 Allows e past (Wire station.Tick) = ⊥
 Allows e past (Wire station.Lost) = ⊥
 

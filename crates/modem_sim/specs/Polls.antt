@@ -4,54 +4,54 @@ use Rattle.modem_sim.specs.declared.error.SimError.{SimError}
 use Rattle.modem_sim.specs.declared.error.SimError.TheVariants as why
 use Rattle.modem_sim.specs.declared.sim.SimTurn.{SimTurn}
 use Rattle.modem_sim.specs.declared.sim.SimTurn.TheVariants.{Moved, Idle, Ended}
-use Rattle.modem_sim.specs.Sims.{SimState, SimGoes, end_given, failed_by, has_ended, has_failed}
+use Rattle.modem_sim.specs.Sims.{Sight, SimState, SimGoes, end_given, failed_by, has_ended, has_failed}
 use Rattle.modem_sim.specs.Turns.{GoesTurn, WantsMemory}
 
 -- ## Its turns
 
 -- A turn comes to this: Failed just where the line had failed, and then nothing changes; Line where a call of
 -- the line fails in it, and so it is from then on; else want of memory, or what was done.
-pub record Turned {X : Type 0} (received sent : X → List ℕ) (calls failures : X → ℕ) (old new : SimState X)
-    (says : Result SimTurn SimError) : Type 0 where
-  pub goes : SimGoes received sent old new
-  pub turn : IfOk says (GoesTurn received sent calls old new)
+pub record Turned {X : Type 0} (see : Sight X) (old new : SimState X) (says : Result SimTurn SimError) :
+    Type 0 where
+  pub goes : SimGoes see.received see.sent old new
+  pub turn : IfOk says (GoesTurn see old new)
   pub failed : IsErrOf says why.Failed ↔ (has_failed old ≡ true)
   pub fails : has_failed new ≡ failed_by (has_failed old) says
   pub still : has_failed old ≡ true → new ≡ old
   pub over : has_failed old ≡ false → has_ended old ≡ true → (says ≡ Ok Ended) × (new ≡ old)
-  pub memory : IsErrOf says why.NoMemory → WantsMemory received sent new
+  pub memory : IsErrOf says why.NoMemory → WantsMemory see.received see.sent new
   pub others : OnErr says (IsErrOf says why.Line ⊎ (IsErrOf says why.NoMemory ⊎ IsErrOf says why.Failed))
-  pub sound : says ≢ Err why.Line → failures new.line ≡ failures old.line
-  pub failure : says ≡ Err why.Line → failures new.line ≡ failures old.line + 1
+  pub sound : says ≢ Err why.Line → see.failures new.line ≡ see.failures old.line
+  pub failure : says ≡ Err why.Line → see.failures new.line ≡ see.failures old.line + 1
   pub ended : IfOk says (λ turn. turn ≡ Ended → has_ended new ≡ true)
   pub goes_on : IfOk says (λ turn. has_ended new ≡ true → turn ≡ Ended)
   pub end : end_given new ≡ end_given old
 
 -- so many turns, each of which answers Moved
-pub data MovesOn {X : Type 0} (received sent : X → List ℕ) (calls failures : X → ℕ) (old : SimState X) :
+pub data MovesOn {X : Type 0} (see : Sight X) (old : SimState X) :
     ℕ → SimState X → Type 0 where
-  moves_none : MovesOn received sent calls failures old 0 old
+  moves_none : MovesOn see old 0 old
   moves_once :
-      (n : ℕ) (mid new : SimState X) → MovesOn received sent calls failures old n mid
-      → Turned received sent calls failures mid new (Ok Moved)
-      → MovesOn received sent calls failures old (n + 1) new
+      (n : ℕ) (mid new : SimState X) → MovesOn see old n mid
+      → Turned see mid new (Ok Moved)
+      → MovesOn see old (n + 1) new
 
 -- The turns of a poll are 64 that answer Moved, or fewer and one that answers otherwise: after Idle, and
 -- after 64, there is nothing yet; after Ended, and after a refusal, it is that.
-pub data Runs {X : Type 0} (received sent : X → List ℕ) (calls failures : X → ℕ) (old new : SimState X) :
+pub data Runs {X : Type 0} (see : Sight X) (old new : SimState X) :
     Option (Result SimTurn SimError) → Type 0 where
-  goes_on : MovesOn received sent calls failures old 64 new → Runs received sent calls failures old new None
+  goes_on : MovesOn see old 64 new → Runs see old new None
   rests :
-      (n : ℕ) (mid : SimState X) → n < 64 → MovesOn received sent calls failures old n mid
-      → Turned received sent calls failures mid new (Ok Idle) → Runs received sent calls failures old new None
+      (n : ℕ) (mid : SimState X) → n < 64 → MovesOn see old n mid
+      → Turned see mid new (Ok Idle) → Runs see old new None
   ends :
-      (n : ℕ) (mid : SimState X) → n < 64 → MovesOn received sent calls failures old n mid
-      → Turned received sent calls failures mid new (Ok Ended)
-      → Runs received sent calls failures old new (Some (Ok Ended))
+      (n : ℕ) (mid : SimState X) → n < 64 → MovesOn see old n mid
+      → Turned see mid new (Ok Ended)
+      → Runs see old new (Some (Ok Ended))
   fails :
-      (n : ℕ) (mid : SimState X) (why : SimError) → n < 64 → MovesOn received sent calls failures old n mid
-      → Turned received sent calls failures mid new (Err why)
-      → Runs received sent calls failures old new (Some (Err why))
+      (n : ℕ) (mid : SimState X) (why : SimError) → n < 64 → MovesOn see old n mid
+      → Turned see mid new (Err why)
+      → Runs see old new (Some (Err why))
 
 -- ## What it gives
 
@@ -66,34 +66,34 @@ with_given None s = s
 with_given (Some given) s = record s { kept = record s.kept { end = kept_end s.kept.end given } }
 
 -- it makes its turns, gives what they lead to, and keeps that
-pub record PollsOn {X : Type 0} (received sent : X → List ℕ) (calls failures : X → ℕ) (old new : SimState X)
+pub record PollsOn {X : Type 0} (see : Sight X) (old new : SimState X)
     (given : Option (Result SimTurn SimError)) : Type 0 where
   pub mid : SimState X
-  pub runs : Runs received sent calls failures old mid given
+  pub runs : Runs see old mid given
   pub stays : new ≡ with_given given mid
 
 -- a poll after an end gives that end, and does nothing
 abbrev pub PollsFrom :
-    {X : Type 0} → (received sent : X → List ℕ) → (calls failures : X → ℕ) → Option (Result SimTurn SimError)
+    {X : Type 0} → Sight X → Option (Result SimTurn SimError)
     → (old new : SimState X) → Option (Result SimTurn SimError) → Type 0
-PollsFrom received sent calls failures (Some end) old new given = (given ≡ Some end) × (new ≡ old)
-PollsFrom received sent calls failures None old new given = PollsOn received sent calls failures old new given
+PollsFrom see (Some end) old new given = (given ≡ Some end) × (new ≡ old)
+PollsFrom see None old new given = PollsOn see old new given
 
 unfoldable pub Polls :
-    {X : Type 0} → (received sent : X → List ℕ) → (calls failures : X → ℕ) → (old new : SimState X)
+    {X : Type 0} → Sight X → (old new : SimState X)
     → Option (Result SimTurn SimError) → Type 0
-Polls received sent calls failures old new given =
-    PollsFrom received sent calls failures (end_given old) old new given
+Polls see old new given =
+    PollsFrom see (end_given old) old new given
 
 -- ## One poll after the other
 
 -- polls that gave nothing
-pub data Waits {X : Type 0} (received sent : X → List ℕ) (calls failures : X → ℕ) :
+pub data Waits {X : Type 0} (see : Sight X) :
     (old new : SimState X) → Type 0 where
-  waits_none : (s : SimState X) → Waits received sent calls failures s s
+  waits_none : (s : SimState X) → Waits see s s
   waits_once :
-      (old mid new : SimState X) → Polls received sent calls failures old mid None
-      → Waits received sent calls failures mid new → Waits received sent calls failures old new
+      (old mid new : SimState X) → Polls see old mid None
+      → Waits see mid new → Waits see old new
 
 -- no call of the line failed, in these polls and before them
 pub record StaysSound {X : Type 0} (failures : X → ℕ) (old new : SimState X) : Type 0 where
@@ -128,10 +128,10 @@ Says failures old new (Err why.Failed) = HadFailed failures old new
 Says failures old new _ = ⊥
 
 -- After polls that gave nothing one gave this, which says so where none had given an end before.
-pub record Gives {X : Type 0} (received sent : X → List ℕ) (calls failures : X → ℕ) (s : SimState X)
+pub record Gives {X : Type 0} (see : Sight X) (s : SimState X)
     (given : Result SimTurn SimError) : Type 0 where
   pub mid : SimState X
   pub new : SimState X
-  pub waits : Waits received sent calls failures s mid
-  pub polls : Polls received sent calls failures mid new (Some given)
-  pub says : end_given s ≡ None → Says failures s new given
+  pub waits : Waits see s mid
+  pub polls : Polls see mid new (Some given)
+  pub says : end_given s ≡ None → Says see.failures s new given

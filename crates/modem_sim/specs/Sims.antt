@@ -1,6 +1,6 @@
 -- A simulated modem at its line.
 use Rattle.std.specs.Prelude.{◌≡◌, ℕ, ◌==◌, ◌&&◌, Bool, true, List, [], ◌++◌, Option, None, Result, Err, length, replicate}
-use Rattle.std.specs.List.{flat_map}
+use Rattle.std.specs.List.{flat_map, list_all}
 use Rattle.mux_frame.specs.Deframing.{Deframing, Deframes}
 use Rattle.mux_frame.specs.Spelling as spelling
 use Rattle.modem_sim.specs.declared.error.SimError.{SimError}
@@ -38,17 +38,19 @@ pub record KeptFits (e : End) (came went : List ℕ) (k : Kept) (past : List Act
   pub deframes : Deframes taken wired.came k.deframer
   pub went_is : went ++ k.out ≡ flat_map spelling.spelled wired.gone
 
--- it fits what the past went on to
-pub record KeptFrom (e : End) (came went : List ℕ) (past : List Act) (k : Kept) : Type 0 where
+-- it fits what the past went on to by acts of a kind
+pub record KeptFrom (may : Act → Bool) (e : End) (came went : List ℕ) (past : List Act) (k : Kept) :
+    Type 0 where
   pub now : List Act
   pub later : IsLater past now
+  pub only : list_all may later.newer ≡ true
   pub fits : KeptFits e came went k now
 
--- whatever past it fits, it goes on to one that it fits, with the line as it was
-abbrev pub KeptGoes : Kept → Kept → Type 0
-KeptGoes old new =
+-- whatever past it fits, it goes on by acts of a kind to one that it fits, with the line as it was
+abbrev pub KeptGoes : (Act → Bool) → Kept → Kept → Type 0
+KeptGoes may old new =
     (e : End) (came went : List ℕ) (past : List Act) → KeptFits e came went old past
-    → KeptFrom e came went past new
+    → KeptFrom may e came went past new
 
 -- it has closed down, and all is written
 abbrev pub is_ended : Kept → Bool
@@ -71,6 +73,26 @@ pub record Receives (before after : List ℕ) (old new : Kept) : Type 0 where
   pub fresh : List ℕ
   pub came : after ≡ before ++ fresh
   pub kept : new ≡ record old { unfed = old.unfed ++ fresh }
+
+-- how a line is seen: the octets that it gave and took, and its counts
+pub record Sight (X : Type 0) : Type 0 where
+  pub received : X → List ℕ
+  pub sent : X → List ℕ
+  pub calls : X → ℕ
+  pub failures : X → ℕ
+  pub empty_reads : X → ℕ
+  pub stalled_writes : X → ℕ
+
+abbrev pub sight :
+    {X : Type 0} → (received sent : X → List ℕ) → (calls failures empty_reads stalled_writes : X → ℕ) → Sight X
+sight received sent calls failures empty_reads stalled_writes = record {
+  received = received;
+  sent = sent;
+  calls = calls;
+  failures = failures;
+  empty_reads = empty_reads;
+  stalled_writes = stalled_writes;
+}
 
 -- a line and what is kept beside it
 pub record SimState (X : Type 0) : Type 0 where

@@ -1,23 +1,15 @@
 -- What the parts of a turn of a simulated modem did, or why they did nothing.
-use Rattle.std.specs.Prelude.{◌≡◌, ◌≢◌, ℕ, ◌<◌, nat_lt, Bool, true, false, List, [], ◌++◌, length, drop, Option, Some, None}
+use Rattle.std.specs.Prelude.{◌≡◌, ◌≢◌, ℕ, ◌<◌, ◌==◌, nat_lt, Bool, true, false, List, [], ◌∷◌, ◌++◌, length, Option, Some, None}
 use Rattle.mux_frame.specs.Frames.{Frame}
+use Rattle.mux_frame.specs.Spelling as spelling
+use Rattle.mux_station.specs.Acts as station
 use Rattle.mux_station.specs.Giving.{next_given}
 use Rattle.mux_station.specs.Sending.{got_refused}
 use Rattle.mux_station.specs.Stations.{seen_in, setting_of}
-use Rattle.modem_sim.specs.Acts.{Act, End}
-use Rattle.modem_sim.specs.Cores.{HasNoneToDo, HasReleased, IsHandedOn, SaysNext, all_unhanded}
-use Rattle.modem_sim.specs.Sims.{Kept, KeptFits, KeptFrom, LineAt, SimState, FitsSim, SimFrom}
-use Rattle.modem_sim.specs.Turns.{Exchanges, Exchange, ReadHasRoom, Offers, Read, Write, calls_made, count_after, has_moved, is_nil, octets_read, octets_written}
-
--- whatever past it fits, it goes on by acts to one that it fits
-pub record KeptDone (e : End) (came went : List ℕ) (past : List Act) (k : Kept) : Type 0 where
-  pub from : KeptFrom e came went past k
-  pub some : is_nil from.later.newer ≡ false
-
-abbrev pub KeptDoes : Kept → Kept → Type 0
-KeptDoes old new =
-    (e : End) (came went : List ℕ) (past : List Act) → KeptFits e came went old past
-    → KeptDone e came went past new
+use Rattle.modem_sim.specs.Acts.{Act, Wire, End, is_handing}
+use Rattle.modem_sim.specs.Cores.{Core, Fits, GoesFrom, HasNoneToDo, HasReleased, IsGivenOn, IsHandedOn, IsLater, SaysNext, Wired, after_wire_act, all_unhanded, box_at}
+use Rattle.modem_sim.specs.Sims.{Kept, KeptFits, LineAt, Sight, SimState, FitsSim}
+use Rattle.modem_sim.specs.Turns.{DoesEach, Exchanges, Exchange, HandsOn, Leaves, NoneIsThere, ReadHasRoom, Offers, Read, Write, calls_made, count_after, empty_after, has_moved, left_of, octets_read, octets_written, stalled_after}
 
 -- whatever past it fits, it still does
 abbrev pub KeptStays : Kept → Kept → Type 0
@@ -25,20 +17,91 @@ KeptStays old new =
     (e : End) (came went : List ℕ) (past : List Act) → KeptFits e came went old past
     → KeptFits e came went new past
 
+-- of what is said on each open connection all is handed to the station, or some octets wait there
+abbrev pub AllHanded : Core → Type 0
+AllHanded c = (d : ℕ) → d < 62 → IsHandedOn c d
+
+-- octets of a connection are handed to the station, of which there are some
+pub record OffersFrom (e : End) (w : Wired) (past : List Act) (d : ℕ) (c : Core) : Type 0 where
+  pub octets : List ℕ
+  pub some : octets ≢ []
+  pub fits : Fits e w c (Wire (station.Called (station.Offer d octets)) ∷ past)
+
+-- octets of a connection are handed to the station, or none
+pub data MayOffer (e : End) (w : Wired) (past : List Act) (d : ℕ) (c : Core) : Type 0 where
+  offers_none : Fits e w c past → MayOffer e w past d c
+  offers_some : OffersFrom e w past d c → MayOffer e w past d c
+
+abbrev pub Offering : Core → Core → ℕ → Type 0
+Offering old new d = (e : End) (w : Wired) (past : List Act) → Fits e w old past → OffersFrom e w past d new
+
+-- whatever past it fits, it goes on so, and hands on all of that connection
+pub record HandsOne (e : End) (w : Wired) (past : List Act) (d : ℕ) (c : Core) : Type 0 where
+  pub from : MayOffer e w past d c
+  pub all : IsHandedOn c d
+
+abbrev pub HandsAt : Core → Core → ℕ → Type 0
+HandsAt old new d = (e : End) (w : Wired) (past : List Act) → Fits e w old past → HandsOne e w past d new
+
+-- the boxes of other connections stay
+abbrev pub OthersStay : Core → Core → ℕ → Type 0
+OthersStay old new d = (n : ℕ) → (d == n) ≡ false → box_at new n ≡ box_at old n
+
+-- whatever past it fits, it goes on by handing octets to the station to one that it fits, and hands on all
+pub record HandsFrom (e : End) (w : Wired) (past : List Act) (c : Core) : Type 0 where
+  pub from : GoesFrom is_handing e w past c
+  pub all : AllHanded c
+
+abbrev pub HandsAll : Core → Core → Type 0
+HandsAll old new = (e : End) (w : Wired) (past : List Act) → Fits e w old past → HandsFrom e w past new
+
+-- it goes on to a past in which all is handed to the station, and a frame is given on whose octets are put
+-- into the output
+pub record PutsFrom (e : End) (came went : List ℕ) (past : List Act) (k : Kept) : Type 0 where
+  pub between : List Act
+  pub hands : HandsOn e past between
+  pub now : List Act
+  pub frame : Frame
+  pub given : IsGivenOn between frame now
+  pub out : k.out ≡ spelling.spelled frame
+  pub fits : KeptFits e came went k now
+
+-- or to one in which all is handed to the station, and no frame is there
+pub record NoneFrom (e : End) (came went : List ℕ) (past : List Act) (k : Kept) : Type 0 where
+  pub now : List Act
+  pub hands : HandsOn e past now
+  pub none : NoneIsThere now
+  pub out : k.out ≡ []
+  pub fits : KeptFits e came went k now
+
+-- where all is written the next frame is put into the output, if there is one
+pub data Loads (old new : Kept) : Type 0 where
+  some_wait : old.out ≢ [] → new ≡ old → Loads old new
+  puts :
+      old.out ≡ []
+      → ((e : End) (came went : List ℕ) (past : List Act) → KeptFits e came went old past
+      → PutsFrom e came went past new)
+      → Loads old new
+  puts_none :
+      old.out ≡ []
+      → ((e : End) (came went : List ℕ) (past : List Act) → KeptFits e came went old past
+      → NoneFrom e came went past new)
+      → Loads old new
+
 -- no frame is to go out
 pub record HasNoneToLoad (k : Kept) : Type 0 where
-  pub handed : (d : ℕ) → d < 62 → IsHandedOn k.core d
+  pub handed : AllHanded k.core
   pub none_next : next_given k.core.station k.core.station.queue ≡ None
-
--- a frame stands ready to be written, or of what is said less waits for the station
-pub data Loads (old new : Kept) : Type 0 where
-  ready : length old.out < length new.out → Loads old new
-  handed : new.out ≡ old.out → all_unhanded new.core.boxes < all_unhanded old.core.boxes → Loads old new
 
 -- nothing was to be loaded
 pub record LoadsNone (old new : Kept) : Type 0 where
   pub same : new ≡ old
   pub none : old.out ≡ [] → HasNoneToLoad old
+
+-- a frame stands ready to be written, or of what is said less waits for the station
+pub data HasLoaded (old new : Kept) : Type 0 where
+  ready : length old.out < length new.out → HasLoaded old new
+  handed : new.out ≡ old.out → all_unhanded new.core.boxes < all_unhanded old.core.boxes → HasLoaded old new
 
 -- a frame at hand finds no room at the station
 abbrev pub HasNoneToTake : Kept → Type 0
@@ -46,9 +109,25 @@ HasNoneToTake k =
     (f : Frame) → k.deframer.next ≡ Some f
     → got_refused (setting_of k.core.station) (seen_in k.core.station) f ≢ None
 
+-- the frame at hand is taken, with all that it calls for
+pub record TakesFrame (old new : Kept) : Type 0 where
+  pub frame : Frame
+  pub hand : old.deframer.next ≡ Some frame
+  pub room : got_refused (setting_of old.core.station) (seen_in old.core.station) frame ≡ None
+  pub goes :
+      (e : End) (came went : List ℕ) (past : List Act) → KeptFits e came went old past
+      → KeptFits e came went new (after_wire_act e past (station.Got frame))
+
 pub record TakesNone (old new : Kept) : Type 0 where
   pub same : new ≡ old
   pub none : HasNoneToTake old
+
+-- the deframer took the first of the octets that wait for it, one at least unless a frame is at hand
+pub record Feeds (old new : Kept) : Type 0 where
+  pub stays : KeptStays old new
+  pub fed : List ℕ
+  pub feeds : old.unfed ≡ fed ++ new.unfed
+  pub some : new.deframer.next ≡ None → old.unfed ≢ [] → fed ≢ []
 
 -- the deframer took nothing: all was fed, or a frame is at hand
 pub record FeedsNone (old new : Kept) : Type 0 where
@@ -58,23 +137,28 @@ pub record FeedsNone (old new : Kept) : Type 0 where
   pub none : old.deframer.next ≡ None → old.unfed ≡ []
 
 -- octets were offered to the line where some waited, and it took so many
-pub record Writes (sent_before sent : List ℕ) (calls_before calls : ℕ) (old new : Kept) (count : ℕ) :
-    Type 0 where
+pub record Writes (sent_before sent : List ℕ) (calls_before calls stalled_before stalled : ℕ) (old new : Kept)
+    (count : ℕ) : Type 0 where
   pub write : Option Write
   pub offers : Offers write old.out
   pub went : sent ≡ sent_before ++ octets_written write
   pub calls_are : calls ≡ count_after (calls_made write) calls_before
+  pub stalled_are : stalled ≡ stalled_after write stalled_before
+  pub parts : octets_written write ++ left_of write old.out ≡ old.out
   pub count_is : count ≡ length (octets_written write)
-  pub kept : new ≡ record old { out = drop count old.out }
+  pub kept : new ≡ record old { out = left_of write old.out }
   pub none : old.out ≢ [] → count ≡ 0 → write ≡ Some (record { offered = old.out; count = 0 })
 
 -- the line was read where nothing read waited, and these octets came
-pub record ReadsOnce (received_before received : List ℕ) (calls_before calls : ℕ) (old new : Kept)
-    (came : Bool) : Type 0 where
+pub record ReadsOnce (received_before received : List ℕ) (calls_before calls empty_before empty : ℕ)
+    (old new : Kept) (came : Bool) : Type 0 where
   pub read : Option Read
   pub room : ReadHasRoom read
+  pub reads : old.unfed ≡ [] → read ≢ None
+  pub reads_fed : read ≢ None → old.unfed ≡ []
   pub came_are : received ≡ received_before ++ octets_read read
   pub calls_are : calls ≡ count_after (calls_made read) calls_before
+  pub empty_are : empty ≡ empty_after read empty_before
   pub says : came ≡ nat_lt 0 (length (octets_read read))
   pub kept : new ≡ record old { unfed = old.unfed ++ octets_read read }
   pub none : old.unfed ≡ [] → came ≡ false → read ≡ Some (record { room = 512; octets = [] })
@@ -90,34 +174,30 @@ pub data LeavesUndone (k : Kept) : Type 0 where
 abbrev pub at_line : {X : Type 0} → X → Kept → SimState X
 at_line line k = record { line = line; kept = k }
 
--- it goes on to a past that it fits, and something was done
-pub record MovedFrom {X : Type 0} (received sent : X → List ℕ) (at : LineAt) (e : End) (past : List Act)
-    (old new : SimState X) : Type 0 where
-  pub from : SimFrom received sent at e past new
-  pub moved : has_moved received sent old new from.later.newer ≡ true
+-- it goes on to a past that it fits, by all that a turn does
+pub record WentOn {X : Type 0} (see : Sight X) (at : LineAt) (e : End) (past : List Act) (old new : SimState X)
+    (t : Exchange) (moved : Bool) : Type 0 where
+  pub now : List Act
+  pub later : IsLater past now
+  pub fits : FitsSim see.received see.sent at e new now
+  pub does : DoesEach e old.kept new.kept t past now
+  pub moves : has_moved see old new later.newer ≡ moved
 
 -- nothing was done, and nothing could be
-pub record StoodStill {X : Type 0} (received sent : X → List ℕ) (old new : SimState X) (t : Exchange) :
-    Type 0 where
-  pub stays : KeptStays old.kept new.kept
-  pub same_received : received new.line ≡ received old.line
-  pub same_sent : sent new.line ≡ sent old.line
-  pub same_core : new.kept.core ≡ old.kept.core
-  pub same_out : new.kept.out ≡ old.kept.out
-  pub same_unfed : new.kept.unfed ≡ old.kept.unfed
-  pub steps : HasNoneToDo new.kept.core
-  pub take : HasNoneToTake new.kept
-  pub full : new.kept.out ≢ [] → t.write ≡ Some (record { offered = new.kept.out; count = 0 })
-  pub rest : new.kept.out ≡ [] → HasNoneToLoad new.kept
-  pub reads : new.kept.unfed ≡ [] → t.read ≡ Some (record { room = 512; octets = [] })
-  pub waits : new.kept.deframer.next ≡ None → new.kept.unfed ≡ []
+pub record StoodStill (k : Kept) (t : Exchange) : Type 0 where
+  pub steps : HasNoneToDo k.core
+  pub take : HasNoneToTake k
+  pub full : k.out ≢ [] → t.write ≡ Some (record { offered = k.out; count = 0 })
+  pub rest : k.out ≡ [] → HasNoneToLoad k
+  pub reads : k.unfed ≡ [] → t.read ≡ Some (record { room = 512; octets = [] })
+  pub waits : k.deframer.next ≡ None → k.unfed ≡ []
 
 -- each part was done once, and so much came of it
-pub record GoesOnce {X : Type 0} (received sent : X → List ℕ) (calls : X → ℕ) (old new : SimState X)
-    (moved : Bool) : Type 0 where
+pub record GoesOnce {X : Type 0} (see : Sight X) (old new : SimState X) (moved : Bool) : Type 0 where
   pub exchange : Exchange
-  pub exchanges : Exchanges received sent calls old new exchange
-  pub does :
-      moved ≡ true → (at : LineAt) (e : End) (past : List Act) → FitsSim received sent at e old past
-      → MovedFrom received sent at e past old new
-  pub still : moved ≡ false → StoodStill received sent old new exchange
+  pub exchanges : Exchanges see old new exchange
+  pub leaves : Leaves old.kept new.kept exchange
+  pub goes :
+      (at : LineAt) (e : End) (past : List Act) → FitsSim see.received see.sent at e old past
+      → WentOn see at e past old new exchange moved
+  pub still : moved ≡ false → StoodStill new.kept exchange

@@ -1,17 +1,18 @@
 -- Worked turns of a simulated modem with N1 31: what Idle and Moved say, and what they don't.
 use Rattle.std.specs.Prelude.{◌≡◌, ℕ, true, false, List, [], ◌∷◌, Some, None, Result, Ok, Err}
 use Rattle.mux_frame.specs.Frames.{Frame}
+use Rattle.mux_station.specs.Acts as station
 use Rattle.modem_sim.specs.declared.error.SimError.{SimError}
 use Rattle.modem_sim.specs.declared.error.SimError.TheVariants as why
 use Rattle.modem_sim.specs.declared.sim.SimTurn.{SimTurn}
 use Rattle.modem_sim.specs.declared.sim.SimTurn.TheVariants.{Ended, Idle, Moved}
-use Rattle.modem_sim.specs.Acts.{Act, after}
+use Rattle.modem_sim.specs.Acts.{Act, Wire, after}
 use Rattle.modem_sim.specs.Polls.{Says, Turned, kept_end}
 use Rattle.modem_sim.specs.Boxes.{is_released}
 use Rattle.modem_sim.specs.Cores.{box_at}
-use Rattle.modem_sim.specs.Sims.{Kept, SimState, has_failed}
+use Rattle.modem_sim.specs.Sims.{Kept, Sight, SimState, has_failed, sight}
 use Rattle.modem_sim.specs.Turns.{Exchange, IsAtRest, IsHeldUp, IsIdle, IsLeft, has_moved}
-use Rattle.modem_sim.specs.HistoryRows.{announcing, one, plain, ready_one, silent}
+use Rattle.modem_sim.specs.HistoryRows.{announcing, gives, offers, one, plain, ready_one, silent}
 
 -- the line was read and gave nothing; it was offered an octet, of which it took none, or one
 abbrev pub only_read : Exchange
@@ -53,18 +54,28 @@ WrongIdle =
     × ((came went : List ℕ) → ¬ IsAtRest plain came went only_read (after [] silent))
     × ((came went : List ℕ) → ¬ IsAtRest (announcing 0 one) came went only_read (after [] ready_one))
 
--- a turn that leaves all as it was hasn't moved; one after which an act followed, or octets came, has
+-- a line without octets, whose counts aren't looked at
+abbrev pub unseen : Sight ℕ
+unseen = sight (λ l. []) (λ l. []) (λ l. 0) (λ l. 0) (λ l. 0) (λ l. 0)
+
+-- a line that is seen to have given octets, and no more
+abbrev pub gave : Sight (List ℕ)
+gave = sight (λ l. l) (λ l. []) (λ l. 0) (λ l. 0) (λ l. 0) (λ l. 0)
+
+-- A turn in which octets came has moved, and one in which a frame was got; one that leaves all as it was hasn't,
+-- also where a mark followed that a frame was given on, or an offer.
 abbrev pub MovedRows : Type 0
 MovedRows =
     ((k : Kept)
-    → has_moved (λ (l : List ℕ). l) (λ l. []) (record { line = []; kept = k })
-    (record { line = 7 ∷ []; kept = k }) [] ≡ true)
-    × ((s : SimState ℕ) (a : Act) → has_moved (λ (l : ℕ). []) (λ l. []) s s (a ∷ []) ≡ true)
-    × ((s : SimState ℕ) → has_moved (λ (l : ℕ). []) (λ l. []) s s [] ≡ false)
+    → has_moved gave (record { line = []; kept = k }) (record { line = 7 ∷ []; kept = k }) [] ≡ true)
+    × ((s : SimState ℕ) (f : Frame) → has_moved unseen s s (Wire (station.Got f) ∷ []) ≡ true)
+    × ((s : SimState ℕ) → has_moved unseen s s [] ≡ false)
+    × ((s : SimState ℕ) → has_moved unseen s s (gives ∷ []) ≡ false)
+    × ((s : SimState ℕ) (octets : List ℕ) → has_moved unseen s s (offers 1 octets ∷ []) ≡ false)
 
--- of a line without octets, whose counts aren't looked at
+-- of a line that is seen so
 abbrev pub ComesTo : (old new : SimState ℕ) → Result SimTurn SimError → Type 0
-ComesTo old new says = Turned (λ (l : ℕ). []) (λ l. []) (λ l. 0) (λ l. 0) old new says
+ComesTo old new says = Turned unseen old new says
 
 -- A turn doesn't answer Failed where the line hadn't failed; and it has failed neither after a turn that did
 -- something nor after want of memory; and where it had, a turn answers nothing else.

@@ -1,19 +1,27 @@
--- What a turn of a simulated modem asks of its line, and what its answers mean: Moved, Idle and Ended.
-use Rattle.std.specs.Prelude.{◌≡◌, ◌≢◌, ℕ, zero, suc, ◌+◌, ◌≤◌, ◌||◌, not, nat_lt, Bool, true, false, List, [], ◌∷◌, ◌++◌, length, take, Option, Some, None, is_none, option_to_list}
+-- What a turn of a simulated modem asks of its line, what it does, and what its answers mean: Moved, Idle and
+-- Ended.
+use Rattle.std.specs.Prelude.{◌≡◌, ◌≢◌, ℕ, zero, suc, ◌+◌, ◌<◌, ◌≤◌, ◌==◌, ◌||◌, nat_lt, Bool, true, false, List, [], ◌∷◌, ◌++◌, length, take, drop, Option, Some, None, is_none, option_to_list}
+use Rattle.std.specs.List.{list_all, list_any}
 use Rattle.mux_frame.specs.Frames.{Frame}
-use Rattle.serial_line.specs.Counts.{one_more}
+use Rattle.mux_frame.specs.Spelling as spelling
+use Rattle.serial_line.specs.Counts.{one_more, counted_if_none}
+use Rattle.mux_station.specs.declared.role.Role.TheVariants.{Responder}
+use Rattle.mux_station.specs.Stopping.{is_stopped}
+use Rattle.mux_station.specs.Offering.{offered, data_out}
 use Rattle.mux_station.specs.Acts as station
 use Rattle.mux_station.specs.Sending as sending
 use Rattle.modem_history.specs.Wholes.{IsPrefixOf}
 use Rattle.modem_sim.specs.declared.script.StepAct.{StepAct}
 use Rattle.modem_sim.specs.declared.sim.SimTurn.{SimTurn}
 use Rattle.modem_sim.specs.declared.sim.SimTurn.TheVariants.{Moved, Idle, Ended}
-use Rattle.modem_sim.specs.Acts.{Act, End, setting, wire, is_open_at_modem}
+use Rattle.modem_sim.specs.Acts.{Act, Wire, End, setting, wire, is_open_at_modem, is_step_act, is_handing}
+use Rattle.modem_sim.specs.Pieces.{pieces_octets}
+use Rattle.modem_sim.specs.Outboxes.{outbox}
 use Rattle.modem_sim.specs.Boxes.{is_released}
 use Rattle.modem_sim.specs.Doing.{IsDue, call_of}
 use Rattle.modem_sim.specs.Histories.{IsThrough, AllIsOut}
-use Rattle.modem_sim.specs.Cores.{IsLater, all_unhanded, box_at}
-use Rattle.modem_sim.specs.Sims.{Kept, LineAt, SimState, FitsSim, is_ended}
+use Rattle.modem_sim.specs.Cores.{IsLater, IsGivenOn, after_wire_act, all_unhanded, box_at}
+use Rattle.modem_sim.specs.Sims.{Kept, LineAt, Sight, SimState, FitsSim, is_ended}
 
 -- ## A turn's calls on the line
 
@@ -68,44 +76,43 @@ abbrev pub count_after : ℕ → ℕ → ℕ
 count_after zero count = count
 count_after (suc calls) count = one_more (count_after calls count)
 
+-- a line's count of writes that took none and could take some, and of reads that gave none and could give some
+abbrev pub stalled_after : Option Write → ℕ → ℕ
+stalled_after None count = count
+stalled_after (Some w) count = counted_if_none (length w.offered) w.count count
+
+abbrev pub empty_after : Option Read → ℕ → ℕ
+empty_after None count = count
+empty_after (Some r) count = counted_if_none r.room (length r.octets) count
+
 -- so a turn exchanged with its line
-pub record Exchanges {X : Type 0} (received sent : X → List ℕ) (calls : X → ℕ) (old new : SimState X)
-    (t : Exchange) : Type 0 where
-  pub came : received new.line ≡ received old.line ++ octets_read t.read
+pub record Exchanges {X : Type 0} (see : Sight X) (old new : SimState X) (t : Exchange) : Type 0 where
+  pub came : see.received new.line ≡ see.received old.line ++ octets_read t.read
   pub room : ReadHasRoom t.read
-  pub went : sent new.line ≡ sent old.line ++ octets_written t.write
+  pub went : see.sent new.line ≡ see.sent old.line ++ octets_written t.write
   pub offers : Offers t.write old.kept.out
-  pub calls_are : calls new.line ≡ count_after (calls_made t.write + calls_made t.read) (calls old.line)
+  pub calls_are :
+      see.calls new.line ≡ count_after (calls_made t.write + calls_made t.read) (see.calls old.line)
+  pub stalled_are : see.stalled_writes new.line ≡ stalled_after t.write (see.stalled_writes old.line)
+  pub empty_are : see.empty_reads new.line ≡ empty_after t.read (see.empty_reads old.line)
 
--- ## Moved
+-- of these octets the line didn't take the last
+abbrev pub left_of : Option Write → List ℕ → List ℕ
+left_of None out = out
+left_of (Some w) out = drop w.count out
 
-abbrev pub is_nil : {A : Type 0} → List A → Bool
-is_nil [] = true
-is_nil (x ∷ xs) = false
+-- The line was read just where all octets that had come were fed. Octets that it didn't take wait for the next
+-- turn. Of those that have come the first were fed, one at least where there was one, unless a frame is at
+-- hand.
+pub record Leaves (old new : Kept) (t : Exchange) : Type 0 where
+  pub reads : old.unfed ≡ [] → t.read ≢ None
+  pub reads_fed : t.read ≢ None → old.unfed ≡ []
+  pub waits : left_of t.write old.out ≢ [] → new.out ≡ left_of t.write old.out
+  pub fed : List ℕ
+  pub feeds : old.unfed ++ octets_read t.read ≡ fed ++ new.unfed
+  pub some_fed : new.deframer.next ≡ None → old.unfed ++ octets_read t.read ≢ [] → fed ≢ []
 
-abbrev pub is_fewer : {A : Type 0} → List A → List A → Bool
-is_fewer xs ys = nat_lt (length xs) (length ys)
-
--- Something was done: an act followed; octets came, or went; of those that came fewer wait for the deframer;
--- steps were done or passed over; more octets stand ready to be written; or of what is said less waits for
--- the station.
-abbrev pub has_moved : {X : Type 0} → (received sent : X → List ℕ) → SimState X → SimState X → List Act → Bool
-has_moved received sent old new acts =
-    not (is_nil acts)
-    || (is_fewer (received old.line) (received new.line)
-    || (is_fewer (sent old.line) (sent new.line)
-    || (is_fewer new.kept.unfed old.kept.unfed
-    || (is_fewer new.kept.core.steps old.kept.core.steps
-    || (is_fewer old.kept.out new.kept.out
-    || nat_lt (all_unhanded new.kept.core.boxes) (all_unhanded old.kept.core.boxes))))))
-
--- ## Idle
-
--- the line was read in this turn with room for at least one octet, and gave none
-pub record ReadsNothing (t : Exchange) : Type 0 where
-  pub room : ℕ
-  pub some : 1 ≤ room
-  pub nothing : t.read ≡ Some (record { room = room; octets = [] })
+-- ## What it does, one after the other
 
 -- the station refuses what a step asks of it
 pub record StepIsRefused (e : End) (past : List Act) (act : StepAct) : Type 0 where
@@ -117,19 +124,103 @@ pub record StepIsRefused (e : End) (past : List Act) (act : StepAct) : Type 0 wh
 abbrev pub NoneCanBeDone : End → List Act → Type 0
 NoneCanBeDone e past = (act : StepAct) → IsDue e past act → StepIsRefused e past act
 
+-- the steps that are due are done, until none can be
+pub record DoesSteps (e : End) (past now : List Act) : Type 0 where
+  pub later : IsLater past now
+  pub only : list_all is_step_act later.newer ≡ true
+  pub none_left : NoneCanBeDone e now
+
+-- octets are handed to the station: on each open connection all that is said, or some wait there already
+pub record HandsOn (e : End) (past now : List Act) : Type 0 where
+  pub later : IsLater past now
+  pub only : list_all is_handing later.newer ≡ true
+  pub all : (d : ℕ) → d < 62 → is_open_at_modem d now ≡ true
+      → data_out Responder d (wire now) ≡ offered Responder d (wire now)
+      → pieces_octets (outbox e d now).said ≡ offered Responder d (wire now)
+
+-- no frame is there to be given on: none in the control queue, and no octets wait on an open connection but 0
+-- that isn't stopped
+pub record NoneIsThere (past : List Act) : Type 0 where
+  pub queue : sending.queue (wire past) ≡ []
+  pub sent : (d : ℕ) → d < 62 → (d == 0) ≡ false → is_open_at_modem d past ≡ true → is_stopped Responder d (wire past) ≡ false
+      → data_out Responder d (wire past) ≡ offered Responder d (wire past)
+
+-- Where the line left no octets, the next frame is put into the output, if there is one.
+pub data PutsNext (e : End) (left out : List ℕ) (past now : List Act) : Type 0 where
+  some_are_left : left ≢ [] → out ≡ left → now ≡ past → PutsNext e left out past now
+  is_put :
+      (between : List Act) (f : Frame) → left ≡ [] → HandsOn e past between → IsGivenOn between f now
+      → out ≡ spelling.spelled f → PutsNext e left out past now
+  none_is_there :
+      left ≡ [] → HandsOn e past now → NoneIsThere now → out ≡ [] → PutsNext e left out past now
+
 -- the frames that this one calls for fit into the control queue
 abbrev pub has_room_for : End → List Act → Frame → Bool
 has_room_for e past f =
     is_none (sending.got_refused (setting e) (sending.station_view (setting e) (wire past)) f)
 
+-- the frame at hand is taken, where what it calls for finds room
+pub data TakesAtHand (e : End) (hand : Option Frame) (past now : List Act) : Type 0 where
+  none_at_hand : hand ≡ None → now ≡ past → TakesAtHand e hand past now
+  has_no_room :
+      (f : Frame) → hand ≡ Some f → has_room_for e past f ≡ false → now ≡ past → TakesAtHand e hand past now
+  is_taken :
+      (f : Frame) → hand ≡ Some f → has_room_for e past f ≡ true
+      → now ≡ after_wire_act e past (station.Got f) → TakesAtHand e hand past now
+
+-- a turn that had not ended before did all of this once: the steps that are due, the next frame where the line
+-- left no octets, the frame at hand
+pub record DoesEach (e : End) (old new : Kept) (t : Exchange) (past now : List Act) : Type 0 where
+  pub stepped : List Act
+  pub loaded : List Act
+  pub steps : DoesSteps e past stepped
+  pub loads : PutsNext e (left_of t.write old.out) new.out stepped loaded
+  pub takes : TakesAtHand e old.deframer.next loaded now
+
+-- ## Moved
+
+abbrev pub is_fewer : {A : Type 0} → List A → List A → Bool
+is_fewer xs ys = nat_lt (length xs) (length ys)
+
+-- Octets came, or went; of those that came fewer wait for the deframer; steps were done or passed over; more
+-- octets stand ready to be written; or of what is said less waits for the station, or for a hold that is over
+-- to be let go.
+abbrev pub has_changed : {X : Type 0} → Sight X → (old new : SimState X) → Bool
+has_changed see old new =
+    is_fewer (see.received old.line) (see.received new.line)
+    || (is_fewer (see.sent old.line) (see.sent new.line)
+    || (is_fewer new.kept.unfed old.kept.unfed
+    || (is_fewer new.kept.core.steps old.kept.core.steps
+    || (is_fewer old.kept.out new.kept.out
+    || nat_lt (all_unhanded new.kept.core.boxes) (all_unhanded old.kept.core.boxes)))))
+
+-- a frame came, with the lines that end in it
+abbrev pub is_got : Act → Bool
+is_got (Wire (station.Got f)) = true
+is_got _ = false
+
+-- something was done: a frame was got, or that changed
+abbrev pub has_moved : {X : Type 0} → Sight X → (old new : SimState X) → List Act → Bool
+has_moved see old new acts = list_any is_got acts || has_changed see old new
+
+-- ## Idle
+
+-- the line was read in this turn with room for at least one octet, and gave none
+pub record ReadsNothing (t : Exchange) : Type 0 where
+  pub room : ℕ
+  pub some : 1 ≤ room
+  pub nothing : t.read ≡ Some (record { room = room; octets = [] })
+
 -- Octets wait, the line was offered some in this turn and took none; and meanwhile nothing came, or octets
--- that came before wait; a frame at hand finds no room for what it calls for; and no step could be done.
+-- that came before wait behind a frame at hand; that finds no room for what it calls for; and no step could be
+-- done.
 pub record IsHeldUp (e : End) (k : Kept) (t : Exchange) (past : List Act) : Type 0 where
   pub waits : k.out ≢ []
   pub offered : List ℕ
   pub some : offered ≢ []
   pub took_none : t.write ≡ Some (record { offered = offered; count = 0 })
   pub reads : k.unfed ≡ [] → ReadsNothing t
+  pub fed : k.deframer.next ≡ None → k.unfed ≡ []
   pub no_room : (f : Frame) → k.deframer.next ≡ Some f → has_room_for e past f ≡ false
   pub steps : NoneCanBeDone e past
 
@@ -141,6 +232,13 @@ pub record IsAtRest (e : End) (came went : List ℕ) (t : Exchange) (past : List
   pub through : IsThrough e.n1 came went past
   pub all_out : AllIsOut e past
   pub steps : NoneCanBeDone e past
+
+-- By the line's counts: the read gave nothing, unless octets that came wait behind a frame at hand; and the
+-- write took nothing, where octets wait.
+pub record IsIdleAtLine {X : Type 0} (see : Sight X) (old new : SimState X) : Type 0 where
+  pub fed : new.kept.deframer.next ≡ None → new.kept.unfed ≡ []
+  pub empty : new.kept.unfed ≡ [] → see.empty_reads new.line ≡ one_more (see.empty_reads old.line)
+  pub stalled : new.kept.out ≢ [] → see.stalled_writes new.line ≡ one_more (see.stalled_writes old.line)
 
 pub data IsIdle (e : End) (came went : List ℕ) (k : Kept) (t : Exchange) (past : List Act) : Type 0 where
   line_is_full : IsHeldUp e k t past → IsIdle e came went k t past
@@ -165,28 +263,29 @@ WantsMemory received sent s =
 -- ## A turn
 
 -- what an answer says: that something was done; that nothing was, and why; that it is over
-pub data Means {X : Type 0} (received sent : X → List ℕ) (e : End) (came went : List ℕ) (old new : SimState X)
+pub data Means {X : Type 0} (see : Sight X) (e : End) (came went : List ℕ) (old new : SimState X)
     (t : Exchange) (acts past : List Act) : SimTurn → Type 0 where
-  has_done :
-      has_moved received sent old new acts ≡ true → Means received sent e came went old new t acts past Moved
+  has_done : has_moved see old new acts ≡ true → Means see e came went old new t acts past Moved
   stood_still :
-      has_moved received sent old new acts ≡ false → IsIdle e came went new.kept t past
-      → Means received sent e came went old new t acts past Idle
-  is_over : is_ended new.kept ≡ true → Means received sent e came went old new t acts past Ended
+      has_moved see old new acts ≡ false → IsIdle e came went new.kept t past
+      → Means see e came went old new t acts past Idle
+  is_over : is_ended new.kept ≡ true → Means see e came went old new t acts past Ended
 
--- it goes on to a past that it fits, of which the answer says the truth
-pub record TurnFrom {X : Type 0} (received sent : X → List ℕ) (at : LineAt) (e : End) (past : List Act)
+-- it goes on to a past that it fits, by all that a turn does, and of that the answer says the truth
+pub record TurnFrom {X : Type 0} (see : Sight X) (at : LineAt) (e : End) (past : List Act)
     (old new : SimState X) (t : Exchange) (says : SimTurn) : Type 0 where
   pub now : List Act
   pub later : IsLater past now
-  pub fits : FitsSim received sent at e new now
-  pub means : Means received sent e fits.came fits.went old new t later.newer now says
+  pub fits : FitsSim see.received see.sent at e new now
+  pub does : is_ended old.kept ≡ false → DoesEach e old.kept new.kept t past now
+  pub means : Means see e fits.came fits.went old new t later.newer now says
 
 -- a turn that ends in this answer, whatever past it fitted before
-pub record GoesTurn {X : Type 0} (received sent : X → List ℕ) (calls : X → ℕ) (old new : SimState X)
-    (says : SimTurn) : Type 0 where
+pub record GoesTurn {X : Type 0} (see : Sight X) (old new : SimState X) (says : SimTurn) : Type 0 where
   pub exchange : Exchange
-  pub exchanges : Exchanges received sent calls old new exchange
+  pub exchanges : Exchanges see old new exchange
+  pub leaves : is_ended old.kept ≡ false → Leaves old.kept new.kept exchange
+  pub idle : says ≡ Idle → IsIdleAtLine see old new
   pub turn :
-      (at : LineAt) (e : End) (past : List Act) → FitsSim received sent at e old past
-      → TurnFrom received sent at e past old new exchange says
+      (at : LineAt) (e : End) (past : List Act) → FitsSim see.received see.sent at e old past
+      → TurnFrom see at e past old new exchange says

@@ -2,6 +2,7 @@
 ghost use Rattle.std.specs.Prelude.{◌≡◌, ◌<◌, true, false, length, None, IfOk, OnOk, OnErr};
 ghost use Rattle.std.specs.List.{list_any};
 ghost use Rattle.at_text.specs.Lines.{is_line_end};
+ghost use Rattle.modem_sim.specs.Acts.{is_step_act};
 ghost use Rattle.modem_sim.specs.Doing.{acts, call_of, is_line};
 ghost use Rattle.modem_sim.specs.Cores.{AtStation, Goes, HasNoneToDo, Refuses, SaysNext, are_open_in, boxes_done, closes_by};
 
@@ -50,8 +51,9 @@ impl StepAct {
 impl SimCore {
     /// Does the next step if it is due, or passes it over; says whether it did. It isn't done yet where the station has no
     /// room for what it asks, or memory is refused: that changes nothing.
+    #[tactic(auto, using(crate::proofs::ends::OfferedPieces::goes_none, crate::proofs::ends::ScriptSteps::passes_goes))]
     fn do_next(&mut self) -> Result<bool, AllocError>
-        ensures goes { Goes self.old self.new }
+        ensures goes { Goes is_step_act self.old self.new }
         ensures same { IfOk result (λ done. done ≡ false → self.new ≡ self.old) }
         ensures fewer { IfOk result (λ done. done ≡ true → length self.new.steps < length self.old.steps) }
         ensures none { IfOk result (λ done. done ≡ false → HasNoneToDo self.old) }
@@ -81,7 +83,7 @@ impl SimCore {
     /// Does the steps that are due, in their order; says whether there were any. What a want of memory leaves is done later.
     #[tactic(auto, using(crate::proofs::ends::OfferedPieces::goes_none, crate::proofs::ends::OfferedPieces::goes_then))]
     pub(crate) fn do_steps(&mut self) -> Result<bool, AllocError>
-        ensures goes { Goes self.old self.new }
+        ensures goes { Goes is_step_act self.old self.new }
         ensures same { IfOk result (λ done. done ≡ false → self.new ≡ self.old) }
         ensures fewer { IfOk result (λ done. done ≡ true → length self.new.steps < length self.old.steps) }
         ensures none { OnOk result (HasNoneToDo self.new) }

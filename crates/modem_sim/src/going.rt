@@ -1,6 +1,6 @@
 //! A turn of what a simulated modem keeps, at its line.
 ghost use Rattle.std.specs.Prelude.{◌≡◌, ◌≢◌, ◌⊎◌, ◌+◌, ◌≤◌, Err, IfOk, OnErr, IsErrOf};
-ghost use Rattle.modem_sim.specs.Sims.{SimGoes, failed_by};
+ghost use Rattle.modem_sim.specs.Sims.{SimGoes, failed_by, sight};
 ghost use Rattle.modem_sim.specs.Stills.{GoesOnce, LeavesUndone, at_line};
 
 use crate::error::SimError;
@@ -13,8 +13,9 @@ impl Kept {
         ensures goes { SimGoes L.received L.sent (at_line line.old self.old) (at_line line.new self.new) }
         ensures turn { IfOk result
             (λ moved.
-            GoesOnce L.received L.sent L.calls (at_line line.old self.old) (at_line line.new self.new)
-            moved) }
+            GoesOnce
+            (sight L.received L.sent L.calls L.failures L.empty_reads L.stalled_writes)
+            (at_line line.old self.old) (at_line line.new self.new) moved) }
         ensures fails { self.new.failed ≡ failed_by self.old.failed result }
         ensures end { self.new.end ≡ self.old.end }
         ensures others { OnErr result (IsErrOf result SimError.Line ⊎ IsErrOf result SimError.NoMemory) }

@@ -8,6 +8,8 @@ ghost use Rattle.mux_station.specs.States.{is_opened};
 ghost use Rattle.mux_station.specs.Stations.{channel_at};
 ghost use Rattle.modem_sim.specs.Boxes.{is_released, released};
 ghost use Rattle.modem_sim.specs.Cores.{GivesOut, Goes, HasReleased, IsHandedOn, all_unhanded, boxed, box_at, gone_on};
+ghost use Rattle.modem_sim.specs.Acts.{is_handing};
+ghost use Rattle.modem_sim.specs.Stills.{HandsAll, HandsAt, Offering, OthersStay};
 
 use crate::sim_core::{CONNECTIONS, SimCore};
 use mux_frame::Dlci;
@@ -31,6 +33,7 @@ impl SimCore {
         ensures all { length self.old.boxes ≡ 62 }
         ensures fewer { IfOk result
             (λ moved. moved ≡ true → all_unhanded self.new.boxes < all_unhanded self.old.boxes) }
+        ensures others { OthersStay self.old self.new dlci.number }
         ensures steps { self.new.steps ≡ self.old.steps }
         ensures over { OnErr result (is_released (box_at self.old dlci.number).hold ≡ true) }
         ensures n1 { self.new.station.n1 ≡ self.old.station.n1 }
@@ -42,8 +45,10 @@ impl SimCore {
     /// Hands an open connection's octets to the station, as many as there is room for; says whether any were.
     fn hand_on(&mut self, dlci: Dlci) -> bool
         requires { is_opened (channel_at self.old.station dlci.number).state ≡ true }
-        ensures goes { result ≡ true → Goes self.old self.new }
+        ensures offers { result ≡ true → Offering self.old self.new dlci.number }
         ensures same { result ≡ false → self.new ≡ self.old }
+        ensures others { OthersStay self.old self.new dlci.number }
+        ensures hold { (box_at self.new dlci.number).hold ≡ (box_at self.old dlci.number).hold }
         ensures none { result ≡ false → (dlci.number == 0) ≡ false
             → (channel_at self.old.station dlci.number).waiting ≡ []
             → (box_at self.old dlci.number).unsent ≡ [] }
@@ -62,9 +67,11 @@ impl SimCore {
         true
     }
 
-    #[tactic(auto, using(crate::proofs::ends::OfferedPieces::goes_none, crate::proofs::ends::OfferedPieces::handed_on))]
+    #[tactic(auto, using(crate::proofs::ends::OfferedPieces::goes_none, crate::proofs::ends::HandedOctets::handed_on))]
     fn offer_on(&mut self, dlci: Dlci) -> Result<bool, AllocError>
-        ensures goes { Goes self.old self.new }
+        ensures goes { Goes is_handing self.old self.new }
+        ensures hands { OnOk result (HandsAt self.old self.new dlci.number) }
+        ensures others { OthersStay self.old self.new dlci.number }
         ensures same { IfOk result (λ moved. moved ≡ false → self.new ≡ self.old) }
         ensures none { IfOk result (λ moved. moved ≡ false → IsHandedOn self.old dlci.number) }
         ensures fewer { IfOk result
@@ -83,9 +90,10 @@ impl SimCore {
 
     /// Hands all connections' octets to the station, as many as there is room for; says whether any were. What a want of
     /// memory leaves is handed later.
-    #[tactic(auto, using(crate::proofs::ends::OfferedPieces::hands_none, crate::proofs::ends::OfferedPieces::hands_more, crate::proofs::ends::OfferedPieces::goes_then))]
+    #[tactic(auto, using(crate::proofs::ends::HandedOctets::hands_none, crate::proofs::ends::HandedOctets::hands_more, crate::proofs::ends::HandedOctets::hands_all, crate::proofs::ends::OfferedPieces::goes_then))]
     pub(crate) fn offer_all(&mut self) -> Result<bool, AllocError>
-        ensures goes { Goes self.old self.new }
+        ensures goes { Goes is_handing self.old self.new }
+        ensures hands { OnOk result (HandsAll self.old self.new) }
         ensures same { IfOk result (λ moved. moved ≡ false → self.new ≡ self.old) }
         ensures none { IfOk result (λ moved. moved ≡ false → (d : ℕ) → d < 62 → IsHandedOn self.old d) }
         ensures fewer { IfOk result

@@ -2,8 +2,8 @@
 ghost use Rattle.std.specs.Prelude.{◌≡◌, ◌≢◌, ◌↔◌, ◌⊎◌, ◌+◌, ◌<◌, ◌≤◌, [], ◌++◌, length, take, drop, true, false, None, IfOk, OnOk, OnErr, IsErrOf};
 ghost use Rattle.modem_sim.specs.Cores.{HasNoneToDo, HasReleased, SaysNext};
 ghost use Rattle.modem_sim.specs.Sims.{BeginsAt, KeptFits, KeptGoes, Receives, is_ended};
-ghost use Rattle.modem_sim.specs.Stills.{FeedsNone, KeptDoes, Loads, LoadsNone, ReadsOnce, TakesNone, Writes};
-ghost use Rattle.modem_sim.specs.Acts.{end_of};
+ghost use Rattle.modem_sim.specs.Stills.{Feeds, FeedsNone, HasLoaded, Loads, LoadsNone, ReadsOnce, TakesFrame, TakesNone, Writes};
+ghost use Rattle.modem_sim.specs.Acts.{any_act, end_of, is_step_act};
 
 use crate::error::SimError;
 use crate::modem::Modem;
@@ -130,7 +130,7 @@ impl Kept {
 
     /// Does the steps that are due; says whether there were any.
     pub(crate) fn do_steps(&mut self) -> Result<bool, AllocError>
-        ensures goes { KeptGoes self.old self.new }
+        ensures goes { KeptGoes is_step_act self.old self.new }
         ensures rest { self.new ≡ record self.old { core = self.new.core } }
         ensures same { IfOk result (λ done. done ≡ false → self.new ≡ self.old) }
         ensures fewer { IfOk result
@@ -142,10 +142,11 @@ impl Kept {
     }
 
     /// Takes the frame at hand, if there is one and the station has room for what it calls for; says whether it did.
+    #[tactic(auto, using(crate::proofs::sims::SimPasts::kept_none))]
     pub(crate) fn take_frame(&mut self) -> Result<bool, SimError>
-        ensures goes { KeptGoes self.old self.new }
+        ensures goes { KeptGoes any_act self.old self.new }
         ensures rest { self.new ≡ record self.old { core = self.new.core; deframer = self.new.deframer } }
-        ensures does { IfOk result (λ took. took ≡ true → KeptDoes self.old self.new) }
+        ensures takes { IfOk result (λ took. took ≡ true → TakesFrame self.old self.new) }
         ensures none { IfOk result (λ took. took ≡ false → TakesNone self.old self.new) }
         ensures steps { OnOk result (self.new.core.steps ≡ self.old.core.steps) }
         ensures no_memory { OnErr result (IsErrOf result SimError.NoMemory) }
@@ -163,10 +164,12 @@ impl Kept {
 
     /// Takes the next frame into the output, where all is written; says whether it did, or handed octets to the station. What a
     /// want of memory leaves is handed later.
+    #[tactic(auto, using(crate::proofs::sims::SimPasts::kept_none))]
     pub(crate) fn load(&mut self) -> Result<bool, AllocError>
-        ensures goes { KeptGoes self.old self.new }
+        ensures goes { KeptGoes any_act self.old self.new }
         ensures rest { self.new ≡ record self.old { core = self.new.core; out = self.new.out } }
-        ensures loads { IfOk result (λ moved. moved ≡ true → Loads self.old self.new) }
+        ensures loads { OnOk result (Loads self.old self.new) }
+        ensures moved { IfOk result (λ moved. moved ≡ true → HasLoaded self.old self.new) }
         ensures none { IfOk result (λ moved. moved ≡ false → LoadsNone self.old self.new) }
         ensures steps { OnOk result (self.new.core.steps ≡ self.old.core.steps) }
         ensures released { OnErr result (HasReleased self.new.core) }
@@ -183,8 +186,10 @@ impl Kept {
     }
 
     /// Gives octets that were read to the deframer, as many as it has room for; says whether there were any.
+    #[tactic(auto, using(crate::proofs::sims::SimPasts::kept_none))]
     pub(crate) fn feed(&mut self) -> bool
-        ensures goes { KeptGoes self.old self.new }
+        ensures goes { KeptGoes any_act self.old self.new }
+        ensures feeds { Feeds self.old self.new }
         ensures rest { self.new ≡ record self.old { unfed = self.new.unfed; deframer = self.new.deframer } }
         ensures fewer { result ≡ true → length self.new.unfed < length self.old.unfed }
         ensures none { result ≡ false → FeedsNone self.old self.new }
@@ -212,8 +217,9 @@ impl Kept {
         ensures none_went { OnErr result (L.sent line.new ≡ L.sent line.old) }
         ensures err { OnErr result (self.new ≡ record self.old { failed = true }) }
         ensures writes { IfOk result
-            (λ n. Writes (L.sent line.old) (L.sent line.new) (L.calls line.old) (L.calls line.new) self.old
-            self.new n) }
+            (λ n. Writes (L.sent line.old) (L.sent line.new) (L.calls line.old) (L.calls line.new)
+            (L.stalled_writes line.old) (L.stalled_writes line.new) self.old self.new n) }
+        ensures none_empty { L.empty_reads line.new ≡ L.empty_reads line.old }
         ensures none_came { L.received line.new ≡ L.received line.old }
         ensures bounded { L.calls line.new ≤ L.calls line.old + 1 }
         ensures sound { OnOk result (L.failures line.new ≡ L.failures line.old) }
@@ -244,7 +250,8 @@ impl Kept {
         ensures reads { IfOk result
             (λ came.
             ReadsOnce (L.received line.old) (L.received line.new) (L.calls line.old) (L.calls line.new)
-            self.old self.new came) }
+            (L.empty_reads line.old) (L.empty_reads line.new) self.old self.new came) }
+        ensures none_stalled { L.stalled_writes line.new ≡ L.stalled_writes line.old }
         ensures bounded { L.calls line.new ≤ L.calls line.old + 1 }
         ensures sound { OnOk result (L.failures line.new ≡ L.failures line.old) }
         ensures failure { OnErr result (L.failures line.new ≡ L.failures line.old + 1) }

@@ -1,6 +1,6 @@
 //! A simulated modem as a future.
 ghost use Rattle.std.specs.Prelude.{◌≡◌, ◌+◌, ◌≤◌};
-ghost use Rattle.modem_sim.specs.Sims.{SimGoes, end_given};
+ghost use Rattle.modem_sim.specs.Sims.{SimGoes, end_given, sight};
 ghost use Rattle.modem_sim.specs.Polls.{Polls, Runs, with_given};
 
 use crate::error::SimError;
@@ -15,7 +15,7 @@ const TURNS: usize = 64;
 impl<L: SerialLine> Sim<L> {
     /// At most 64 turns, and none behind one that doesn't answer Moved. Nothing where there is more to come.
     fn turns(&mut self) -> Option<Result<SimTurn, SimError>>
-        ensures runs { Runs L.received L.sent L.calls L.failures self.old self.new result }
+        ensures runs { Runs (sight L.received L.sent L.calls L.failures L.empty_reads L.stalled_writes) self.old self.new result }
         ensures goes { SimGoes L.received L.sent self.old self.new }
         ensures bounded { L.calls self.new.line ≤ L.calls self.old.line + 128 }
     {
@@ -51,7 +51,7 @@ impl<L: SerialLine> Sim<L> {
     /// turns lead, which is kept as the end, but for 1 NoMemory. A future of one's own that hands the simulated modem on calls it,
     /// since of one that is polled only the output is known.
     pub fn advance(&mut self) -> Option<Result<SimTurn, SimError>>
-        ensures polls { Polls L.received L.sent L.calls L.failures self.old self.new result }
+        ensures polls { Polls (sight L.received L.sent L.calls L.failures L.empty_reads L.stalled_writes) self.old self.new result }
         ensures goes { SimGoes L.received L.sent self.old self.new }
         ensures bounded { L.calls self.new.line ≤ L.calls self.old.line + 128 }
     {
@@ -68,10 +68,11 @@ impl<L: SerialLine> Sim<L> {
 /// turn; else it yields. A poll after an end makes no turn and gives the same end; after 1 NoMemory, which is no end, a poll goes on.
 impl<L: SerialLine + Drop> Future for Sim<L> {
     ghost use Rattle.modem_sim.specs.Polls.{Gives};
+    ghost use Rattle.modem_sim.specs.Sims.{sight};
 
     type Output = Result<SimTurn, SimError>;
 
-    ghost gives = { λ s given. Gives L.received L.sent L.calls L.failures s given };
+    ghost gives = { λ s given. Gives (sight L.received L.sent L.calls L.failures L.empty_reads L.stalled_writes) s given };
 
     fn poll(&mut self, cx: &mut Context<'_>) -> Poll<Result<SimTurn, SimError>> {
         match self.advance() {

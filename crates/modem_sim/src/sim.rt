@@ -2,7 +2,7 @@
 ghost use Rattle.std.specs.Prelude.{◌≡◌, ◌≢◌, ◌↔◌, ◌⊎◌, ◌+◌, ◌<◌, ◌≤◌, [], true, false, None, Ok, Err, IfOk, IfErr, IsErr, OnOk, OnErr, IsErrOf};
 ghost use Rattle.std.specs.Borrow.{Lends, sem};
 ghost use Rattle.modem_sim.specs.Acts.{end_of};
-ghost use Rattle.modem_sim.specs.Sims.{FitsSim, SimGoes, end_given, failed_by, has_ended, has_failed, modem_of};
+ghost use Rattle.modem_sim.specs.Sims.{FitsSim, SimGoes, end_given, failed_by, has_ended, has_failed, modem_of, sight};
 ghost use Rattle.modem_sim.specs.Turns.{GoesTurn, WantsMemory};
 
 use crate::error::SimError;
@@ -90,7 +90,9 @@ impl<L: SerialLine> Sim<L> {
     /// and the next turn goes on; 3 Line, where the line fails; 4 Failed, in every turn after that, which does nothing.
     pub fn turn(&mut self) -> Result<SimTurn, SimError>
         ensures goes { SimGoes L.received L.sent self.old self.new }
-        ensures turn { IfOk result (λ says. GoesTurn L.received L.sent L.calls self.old self.new says) }
+        ensures turn { IfOk result (λ says. GoesTurn
+            (sight L.received L.sent L.calls L.failures L.empty_reads L.stalled_writes)
+            self.old self.new says) }
         ensures failed { IsErrOf result SimError.Failed ↔ (has_failed self.old ≡ true) }
         ensures fails { has_failed self.new ≡ failed_by (has_failed self.old) result }
         ensures still { has_failed self.old ≡ true → self.new ≡ self.old }

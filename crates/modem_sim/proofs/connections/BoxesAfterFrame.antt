@@ -246,7 +246,7 @@ back_at past a h true false is holds really = cc
 back_at past a h false true is holds really = held_before past a h holds
 back_at past a h false false is holds really = cc
 
-was_open : (a b : Bool) → (a && b) ≡ true → a ≡ true
+pub was_open : (a b : Bool) → (a && b) ≡ true → a ≡ true
 was_open true b is = refl
 was_open false b is = cc
 
@@ -324,12 +324,12 @@ still_box e d past a o true there is none says = cc
 still_box e d past a o false true is none says = says
 still_box e d past a o false false is none says = cc
 
-still_offered : (d : ℕ) (a : station.Act) (rest : List station.Act) (opens there : Bool) → (opens || there) ≡ true → opens ≡ false → joined_octets (octets_offered d) (since_after opens there a rest) ≡ joined_octets (octets_offered d) rest ++ octets_offered d a
+pub still_offered : (d : ℕ) (a : station.Act) (rest : List station.Act) (opens there : Bool) → (opens || there) ≡ true → opens ≡ false → joined_octets (octets_offered d) (since_after opens there a rest) ≡ joined_octets (octets_offered d) rest ++ octets_offered d a
 still_offered d a rest true there is none = cc
 still_offered d a rest false true is none = refl
 still_offered d a rest false false is none = cc
 
-still_there : (opens there : Bool) → (opens || there) ≡ true → opens ≡ false → there ≡ true
+pub still_there : (opens there : Bool) → (opens || there) ≡ true → opens ≡ false → there ≡ true
 still_there true there is none = cc
 still_there false there is none = is
 

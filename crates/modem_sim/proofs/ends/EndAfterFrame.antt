@@ -79,6 +79,17 @@ later-sent_after (f ∷ fs) past =
     let more = later-sent_after fs (Wire (station.Sent f) ∷ past) in
     record { newer = more.newer ++ Wire (station.Sent f) ∷ []; joins = append_assoc more.newer (Wire (station.Sent f) ∷ []) past ∙ more.joins }
 
+pub only_sent : (may : Act → Bool) → ((f : Frame) → may (Wire (station.Sent f)) ≡ true) → (fs : List Frame) (past : List Act) → list_all may (later-sent_after fs past).newer ≡ true
+unfolding later-sent_after
+only_sent may each [] past = refl
+only_sent may each (f ∷ fs) past = all_behind may (later-sent_after fs (Wire (station.Sent f) ∷ past)).newer (Wire (station.Sent f)) (only_sent may each fs (Wire (station.Sent f) ∷ past)) (each f)
+  where
+    all_behind : (may : Act → Bool) (xs : List Act) (x : Act) → list_all may xs ≡ true → may x ≡ true → list_all may (xs ++ x ∷ []) ≡ true
+    all_behind may [] x all is = ap (λ (b : Bool). b && true) is
+    all_behind may (y ∷ xs) x all is =
+        let both = both_true (may y) (list_all may xs) all in
+        ap (λ (b : Bool). b && list_all may (xs ++ x ∷ [])) both.0 ∙ all_behind may xs x both.1 is
+
 abbrev is_control : Frame → Bool
 is_control f = not (is_data_frame f)
 
@@ -251,44 +262,39 @@ takes_goes_on old new f small all kept takes e w past fits =
     let lines = lines_are e w old past f small kept fits in
     let count : length (lines_in old f) ≡ length (texts_with past f) = ap length lines in
     let station_fits = subst By fits.setting_is (takes.at_station.fits (wire past) fits.station_is) in
-    let begun = later-sent_after fs (Wire (station.Got f) ∷ past) in
     record {
-      now = after_wire_act e past (station.Got f);
-      later = record { newer = begun.newer ++ Wire (station.Got f) ∷ []; joins = append_assoc begun.newer (Wire (station.Got f) ∷ []) past ∙ begun.joins };
-      fits = record {
-        setting_is = takes.at_station.setting ∙ fits.setting_is;
-        echo_is = takes.echo_is ∙ fits.echo_is;
-        station_is = subst There whole station_fits;
-        lawful = subst LawfulAt whole (keeps.lawful refl fits.lawful fits.complete);
-        complete = subst CompleteAt whole (keeps.complete refl fits.lawful fits.complete);
-        allowed = allowed-sent_after e fs (station.Got f) past (fits.free, fits.allowed);
-        free = owed-sent_after fs (station.Got f) past;
-        modem_is = ap (λ hs. after_lines e.modem (texts_of hs)) heard_is
-            ∙ modem_goes_on e past f
-            ∙ ap (λ ls. after_lines (modem_after e past) ls) (sym lines)
-            ∙ ap (λ m. after_lines m (lines_in old f)) fits.modem_is
-            ∙ sym takes.modem_is;
-        boxes_are = λ d d_small.
-            let turned = heard_at old new f (wire past) d inside (opens_are e w old past f fits) takes in
-            let OpenWith : Box → Type 0 = λ b. FitsOpen e d (Wire (station.Got f) ∷ past) b in
-            let heard_so = ap (λ n. box_heard f.dlci n (box_turned (opens_now Responder d (wire past) (station.Got f)) (f.dlci == d) (brought old f) (box_at old d))) count in
-            box-sent_after e fs (Wire (station.Got f) ∷ past) d (box_at new d)
-            (subst OpenWith (sym (turned ∙ heard_so)) (box_goes_on e past f (brought old f) d (box_at old d) (is_brought e w old past f small kept fits) (fits.boxes_are d d_small)));
-        come_is = ap (λ hs. counted (length hs)) heard_is
-            ∙ ap counted (count_goes_on past f)
-            ∙ capped (length (heard past)) (length (texts_with past f)) (nat_le (2 ^ 64 - 1) (length (heard past))) refl
-            ∙ ap (λ n. counted (n + length (texts_with past f))) fits.come_is
-            ∙ ap (λ n. counted (old.come + n)) (sym count)
-            ∙ sym takes.come_is;
-        left_is = ap (λ ds. drop (length ds) (that_act e.steps)) (done-sent_after fs (Wire (station.Got f) ∷ past)) ∙ fits.left_is ∙ ap that_act (sym takes.steps_are);
-        closed_is = closed-sent_after fs (Wire (station.Got f) ∷ past)
-            ∙ ap (λ (b : Bool). (is_open_at_modem 0 past && brings_command cld f) || b) fits.closed_is
-            ∙ ap (λ (b : Bool). b || old.closed) (sym (closes_are e w old past f fits))
-            ∙ either_way (closes_in old f) old.closed
-            ∙ sym takes.closed_is;
-        came_are = got-sent_after fs (Wire (station.Got f) ∷ past) ∙ ap (λ fs. fs ++ f ∷ []) fits.came_are;
-        gone_are = sent_queued e old.station new.station past (station.Got f) w.gone fits.station_is station_fits refl refl fits.gone_are;
-      };
+      setting_is = takes.at_station.setting ∙ fits.setting_is;
+      echo_is = takes.echo_is ∙ fits.echo_is;
+      station_is = subst There whole station_fits;
+      lawful = subst LawfulAt whole (keeps.lawful refl fits.lawful fits.complete);
+      complete = subst CompleteAt whole (keeps.complete refl fits.lawful fits.complete);
+      allowed = allowed-sent_after e fs (station.Got f) past (fits.free, fits.allowed);
+      free = owed-sent_after fs (station.Got f) past;
+      modem_is = ap (λ hs. after_lines e.modem (texts_of hs)) heard_is
+          ∙ modem_goes_on e past f
+          ∙ ap (λ ls. after_lines (modem_after e past) ls) (sym lines)
+          ∙ ap (λ m. after_lines m (lines_in old f)) fits.modem_is
+          ∙ sym takes.modem_is;
+      boxes_are = λ d d_small.
+          let turned = heard_at old new f (wire past) d inside (opens_are e w old past f fits) takes in
+          let OpenWith : Box → Type 0 = λ b. FitsOpen e d (Wire (station.Got f) ∷ past) b in
+          let heard_so = ap (λ n. box_heard f.dlci n (box_turned (opens_now Responder d (wire past) (station.Got f)) (f.dlci == d) (brought old f) (box_at old d))) count in
+          box-sent_after e fs (Wire (station.Got f) ∷ past) d (box_at new d)
+          (subst OpenWith (sym (turned ∙ heard_so)) (box_goes_on e past f (brought old f) d (box_at old d) (is_brought e w old past f small kept fits) (fits.boxes_are d d_small)));
+      come_is = ap (λ hs. counted (length hs)) heard_is
+          ∙ ap counted (count_goes_on past f)
+          ∙ capped (length (heard past)) (length (texts_with past f)) (nat_le (2 ^ 64 - 1) (length (heard past))) refl
+          ∙ ap (λ n. counted (n + length (texts_with past f))) fits.come_is
+          ∙ ap (λ n. counted (old.come + n)) (sym count)
+          ∙ sym takes.come_is;
+      left_is = ap (λ ds. drop (length ds) (that_act e.steps)) (done-sent_after fs (Wire (station.Got f) ∷ past)) ∙ fits.left_is ∙ ap that_act (sym takes.steps_are);
+      closed_is = closed-sent_after fs (Wire (station.Got f) ∷ past)
+          ∙ ap (λ (b : Bool). (is_open_at_modem 0 past && brings_command cld f) || b) fits.closed_is
+          ∙ ap (λ (b : Bool). b || old.closed) (sym (closes_are e w old past f fits))
+          ∙ either_way (closes_in old f) old.closed
+          ∙ sym takes.closed_is;
+      came_are = got-sent_after fs (Wire (station.Got f) ∷ past) ∙ ap (λ fs. fs ++ f ∷ []) fits.came_are;
+      gone_are = sent_queued e old.station new.station past (station.Got f) w.gone fits.station_is station_fits refl refl fits.gone_are;
     }
 
 -- it is noted that all are closed where the frame is a CLD

@@ -1,9 +1,10 @@
 -- What an end says of its own accord, and what it hands to its station.
-use Rattle.std.specs.Prelude.{◌≡◌, ℕ, zero, suc, ◌+◌, ◌<◌, nat_eq, ◌==◌, ◌&&◌, ◌||◌, not, Result, Ok, Err, IfOk, OnOk, Bool, true, false, List, [], ◌∷◌, ◌++◌, length, take, drop, Option, None, Some, option_map, slice_index_or, slice_set, refl, if◌then◌else◌}
-use Rattle.std.specs.List.{starts_with}
+use Rattle.std.specs.Prelude.{◌≡◌, ◌≢◌, ℕ, zero, suc, ◌+◌, ◌<◌, nat_eq, ◌==◌, ◌&&◌, ◌||◌, not, Result, Ok, Err, IfOk, OnOk, Bool, true, false, List, [], ◌∷◌, ◌++◌, length, take, drop, Option, None, Some, is_none, option_map, slice_index_or, slice_set, refl, if◌then◌else◌}
+use Rattle.std.specs.List.{list_all, list_any, starts_with}
 use Rattle.std.proofs.Common.{arith, sym, ap, ◌∙◌, subst, append_assoc, append-nil, length-append, length-take, length-drop, min, ◌≤◌}
 use Rattle.std.proofs.lemmas.Bool.Decides.{nat_tests}
 use Rattle.std.proofs.lemmas.List.{append_cancel_right}
+use Rattle.at_cmds.proofs.command_texts.CommandLines.{both_true}
 use Rattle.mux_station.specs.declared.role.Role.TheVariants.{Responder}
 use Rattle.mux_frame.specs.Frames.{Frame}
 use Rattle.mux_station.specs.Acts as station
@@ -16,7 +17,7 @@ use Rattle.mux_station.specs.Offering.{offered}
 use Rattle.mux_station.specs.States.{is_opened}
 use Rattle.mux_station.proofs.law_proofs.OwedFrames.{answers_keep}
 use Rattle.modem_sim.specs.declared.script.StepAct.TheVariants.{Announce, Flow, Hold, Disconnect, CloseDown}
-use Rattle.modem_sim.specs.Acts.{Act, Wire, Did, End, setting, wire}
+use Rattle.modem_sim.specs.Acts.{Act, Wire, Did, End, is_handing, setting, wire}
 use Rattle.modem_sim.specs.Heard.{heard, texts_of, modem_after}
 use Rattle.modem_sim.specs.Laws.{after_lines}
 use Rattle.modem_sim.specs.Pieces.{Announced, pieces_octets}
@@ -24,9 +25,10 @@ use Rattle.modem_sim.specs.Outboxes.{Outbox, empty_box, outbox, said_after, drop
 use Rattle.modem_sim.specs.Boxes.{Box, Waited, BoxFits, FitsOpen, fresh_box, lasting, is_released, released}
 use Rattle.modem_sim.specs.Doing.{left, is_closed_down, closes_down}
 use Rattle.modem_sim.specs.Histories.{EachAllowed, Allows, got, sent}
-use Rattle.modem_sim.specs.Cores.{Core, Wired, IsLater, GoesFrom, Goes, GivesOut, IsHandedOn, Fits, all_unhanded, after_wire_act, boxed, box_at, counted, that_act, unhanded}
+use Rattle.modem_sim.specs.Cores.{Core, Wired, IsLater, GoesFrom, GivesFrom, Goes, GivesOut, IsGivenOn, Fits, all_unhanded, after_wire_act, wire_after, boxed, box_at, counted, from_queue, sent_now, that_act, unhanded}
+use Rattle.modem_sim.specs.Stills.{Offering}
 use Rattle.modem_sim.proofs.connections.BoxesAfterFrame.{box_still, called_still, given_still, sent_still}
-use Rattle.modem_sim.proofs.ends.EndAfterFrame.{later-sent_after, sent_queued, wire-sent_after, heard-sent_after, owed-sent_after, allowed-sent_after, box-sent_after, done-sent_after, closed-sent_after, got-sent_after, box_here, opened_is}
+use Rattle.modem_sim.proofs.ends.EndAfterFrame.{sent_queued, wire-sent_after, heard-sent_after, owed-sent_after, allowed-sent_after, box-sent_after, done-sent_after, closed-sent_after, got-sent_after, box_here, opened_is}
 
 -- ## What is held back
 
@@ -171,31 +173,45 @@ boxes_fit e w old new past same boxes fits =
     } in
     subst At (sym same) whole
 
-pub stays : (e : End) (w : Wired) (past : List Act) (c : Core) → Fits e w c past → GoesFrom e w past c
-stays e w past c fits = record { now = past; later = record { newer = []; joins = refl }; fits = fits }
+pub stays : (may : Act → Bool) (e : End) (w : Wired) (past : List Act) (c : Core) → Fits e w c past → GoesFrom may e w past c
+stays may e w past c fits = record { now = past; later = record { newer = []; joins = refl }; only = refl; fits = fits }
 
-pub goes_none : (c : Core) → Goes c c
-goes_none c e w past fits = stays e w past c fits
+pub goes_none : (may : Act → Bool) (c : Core) → Goes may c c
+goes_none may c e w past fits = stays may e w past c fits
 
-pub later_then : (a b c : List Act) → IsLater a b → IsLater b c → IsLater a c
+unfoldable pub later_then : (a b c : List Act) → IsLater a b → IsLater b c → IsLater a c
 later_then a b c p q = record { newer = q.newer ++ p.newer; joins = append_assoc q.newer p.newer a ∙ ap (λ x. q.newer ++ x) p.joins ∙ q.joins }
 
+pub both_all : {A : Type 0} (may : A → Bool) (xs ys : List A) → list_all may xs ≡ true → list_all may ys ≡ true → list_all may (xs ++ ys) ≡ true
+both_all may [] ys all all_too = all_too
+both_all may (x ∷ xs) ys all all_too =
+    let both = both_true (may x) (list_all may xs) all in
+    ap (λ (b : Bool). b && list_all may (xs ++ ys)) both.0 ∙ both_all may xs ys both.1 all_too
+
 -- one after the other
-pub goes_then : (a b c : Core) → Goes a b → Goes b c → Goes a c
-goes_then a b c p q e w past fits =
+pub from_then : (may : Act → Bool) (e : End) (w : Wired) (past : List Act) (b c : Core) (first : GoesFrom may e w past b) → GoesFrom may e w first.now c → GoesFrom may e w past c
+unfolding later_then
+from_then may e w past b c first second = record {
+  now = second.now;
+  later = later_then past first.now second.now first.later second.later;
+  only = both_all may second.later.newer first.later.newer second.only first.only;
+  fits = second.fits;
+}
+
+pub goes_then : (may : Act → Bool) (a b c : Core) → Goes may a b → Goes may b c → Goes may a c
+goes_then may a b c p q e w past fits =
     let first = p e w past fits in
-    let second = q e w first.now first.fits in
-    record { now = second.now; later = later_then past first.now second.now first.later second.later; fits = second.fits }
+    from_then may e w past b c first (q e w first.now first.fits)
 
 -- the box of a connection turns to another that fits
-pub box_goes : (old new : Core) (d : ℕ) (b : Box) → length old.boxes ≡ 62 → d < 62 → new ≡ record old { boxes = slice_set old.boxes d b } → ((e : End) (past : List Act) → FitsOpen e d past (box_at old d) → FitsOpen e d past b) → Goes old new
-box_goes old new d b all small same turns e w past fits =
+pub box_stays : (old new : Core) (d : ℕ) (b : Box) → length old.boxes ≡ 62 → d < 62 → new ≡ record old { boxes = slice_set old.boxes d b } → ((e : End) (past : List Act) → FitsOpen e d past (box_at old d) → FitsOpen e d past b) → (e : End) (w : Wired) (past : List Act) → Fits e w old past → Fits e w new past
+box_stays old new d b all small same turns e w past fits =
     let boxes : new.boxes ≡ slice_set old.boxes d b = ap (λ (c : Core). c.boxes) same in
     let inside : d < length old.boxes = omega arith in
     let each : (n : ℕ) → n < 62 → FitsOpen e n past (box_at new n) = λ n n_small.
     let At : Box → Type 0 = λ x. FitsOpen e n past x in
     subst At (sym (ap (λ bs. slice_index_or bs n fresh_box) boxes)) (turned e w past fits n n_small (d == n) refl inside) in
-    stays e w past new (boxes_fit e w old new past (same ∙ ap (λ bs. record old { boxes = bs }) (sym boxes)) each fits)
+    boxes_fit e w old new past (same ∙ ap (λ bs. record old { boxes = bs }) (sym boxes)) each fits
   where
     turned : (e : End) (w : Wired) (past : List Act) → Fits e w old past → (n : ℕ) → n < 62 → (here : Bool) → (d == n) ≡ here → d < length old.boxes → FitsOpen e n past (slice_index_or (slice_set old.boxes d b) n fresh_box)
     turned e w past fits n n_small true is inside =
@@ -247,7 +263,7 @@ pub record Calls (old new : Core) (call : station.Call) (boxes : List Box) (clos
   pub at_station : fitting.StationHandles old.station new.station (station.Called call)
   pub rest_is : new ≡ record old { station = new.station; boxes = boxes; closed = closes || old.closed }
 
-pub called_goes : (e : End) (w : Wired) (old new : Core) (past : List Act) (call : station.Call) (boxes : List Box) → Calls old new call boxes (closes_down past (station.Called call)) → Allows e past (Wire (station.Called call)) → ((d : ℕ) → d < 62 → FitsOpen e d (Wire (station.Called call) ∷ past) (slice_index_or boxes d fresh_box)) → Stands e w old past → GoesFrom e w past new
+pub called_goes : (e : End) (w : Wired) (old new : Core) (past : List Act) (call : station.Call) (boxes : List Box) → Calls old new call boxes (closes_down past (station.Called call)) → Allows e past (Wire (station.Called call)) → ((d : ℕ) → d < 62 → FitsOpen e d (Wire (station.Called call) ∷ past) (slice_index_or boxes d fresh_box)) → Stands e w old past → Fits e w new (after_wire_act e past (station.Called call))
 called_goes e w old new past call boxes calls allowed fit stood =
     let a : station.Act = station.Called call in
     let fs = sending.called_frames (setting e) (wire past) a in
@@ -258,31 +274,26 @@ called_goes e w old new past call boxes calls allowed fit stood =
     let By : sending.StationSetting → Type 0 = λ s. fitting.StationFits new.station (sending.after_act s (wire past) a) in
     let whole = sym (wire-sent_after fs (Wire a ∷ past)) in
     let station_fits = subst By stood.setting_is (calls.at_station.fits (wire past) stood.station_is) in
-    let begun = later-sent_after fs (Wire a ∷ past) in
     let heard_is = heard-sent_after fs (Wire a ∷ past) in
     record {
-      now = after_wire_act e past a;
-      later = record { newer = begun.newer ++ Wire a ∷ []; joins = append_assoc begun.newer (Wire a ∷ []) past ∙ begun.joins };
-      fits = record {
-        setting_is = calls.at_station.setting ∙ stood.setting_is;
-        echo_is = ap (λ (c : Core). c.echo) calls.rest_is ∙ stood.echo_is;
-        station_is = subst There whole station_fits;
-        lawful = subst LawfulAt whole (keeps.lawful refl stood.lawful stood.complete);
-        complete = subst CompleteAt whole (keeps.complete refl stood.lawful stood.complete);
-        allowed = allowed-sent_after e fs a past (allowed, stood.allowed);
-        free = owed-sent_after fs a past;
-        modem_is = ap (λ hs. after_lines e.modem (texts_of hs)) heard_is ∙ stood.modem_is ∙ sym (ap (λ (c : Core). c.modem) calls.rest_is);
-        boxes_are = λ d small.
-            let At : Box → Type 0 = λ b. FitsOpen e d (after_wire_act e past a) b in
-            subst At (sym (ap (λ (c : Core). box_at c d) calls.rest_is)) (box-sent_after e fs (Wire a ∷ past) d (slice_index_or boxes d fresh_box) (fit d small));
-        come_is = ap (λ hs. counted (length hs)) heard_is ∙ stood.come_is ∙ sym (ap (λ (c : Core). c.come) calls.rest_is);
-        left_is = ap (λ ds. drop (length ds) (that_act e.steps)) (done-sent_after fs (Wire a ∷ past)) ∙ stood.left_is ∙ ap that_act (sym (ap (λ (c : Core). c.steps) calls.rest_is));
-        closed_is = closed-sent_after fs (Wire a ∷ past)
-            ∙ ap (λ (b : Bool). closes_down past a || b) stood.closed_is
-            ∙ sym (ap (λ (c : Core). c.closed) calls.rest_is);
-        came_are = got-sent_after fs (Wire a ∷ past) ∙ stood.came_are;
-        gone_are = sent_queued e old.station new.station past a w.gone stood.station_is station_fits refl refl stood.gone_are;
-      };
+      setting_is = calls.at_station.setting ∙ stood.setting_is;
+      echo_is = ap (λ (c : Core). c.echo) calls.rest_is ∙ stood.echo_is;
+      station_is = subst There whole station_fits;
+      lawful = subst LawfulAt whole (keeps.lawful refl stood.lawful stood.complete);
+      complete = subst CompleteAt whole (keeps.complete refl stood.lawful stood.complete);
+      allowed = allowed-sent_after e fs a past (allowed, stood.allowed);
+      free = owed-sent_after fs a past;
+      modem_is = ap (λ hs. after_lines e.modem (texts_of hs)) heard_is ∙ stood.modem_is ∙ sym (ap (λ (c : Core). c.modem) calls.rest_is);
+      boxes_are = λ d small.
+          let At : Box → Type 0 = λ b. FitsOpen e d (after_wire_act e past a) b in
+          subst At (sym (ap (λ (c : Core). box_at c d) calls.rest_is)) (box-sent_after e fs (Wire a ∷ past) d (slice_index_or boxes d fresh_box) (fit d small));
+      come_is = ap (λ hs. counted (length hs)) heard_is ∙ stood.come_is ∙ sym (ap (λ (c : Core). c.come) calls.rest_is);
+      left_is = ap (λ ds. drop (length ds) (that_act e.steps)) (done-sent_after fs (Wire a ∷ past)) ∙ stood.left_is ∙ ap that_act (sym (ap (λ (c : Core). c.steps) calls.rest_is));
+      closed_is = closed-sent_after fs (Wire a ∷ past)
+          ∙ ap (λ (b : Bool). closes_down past a || b) stood.closed_is
+          ∙ sym (ap (λ (c : Core). c.closed) calls.rest_is);
+      came_are = got-sent_after fs (Wire a ∷ past) ∙ stood.came_are;
+      gone_are = sent_queued e old.station new.station past a w.gone stood.station_is station_fits refl refl stood.gone_are;
     }
 
 -- ## Octets for the station
@@ -300,79 +311,56 @@ offered_box e past d n octets rest b own true is same parts fits =
 offered_box e past d n octets rest b own false is same parts fits =
     box_still e past (station.Called (station.Offer d octets)) n own own.unsent (called_still n past (station.Offer d octets)) (ap (λ (h : Bool). (if h then octets else []) ++ own.unsent) (sym is)) fits
 
-pub hands_goes : (old new : Core) (d most : ℕ) (b : Box) (octets : List ℕ) → length old.boxes ≡ 62 → d < 62 → is_opened (stations.channel_at old.station d).state ≡ true → b ≡ box_at old d → octets ≡ take most b.unsent → fitting.StationHandles old.station new.station (station.Called (station.Offer d octets)) → new ≡ record old { station = new.station; boxes = slice_set old.boxes d (record b { unsent = drop (length octets) b.unsent }) } → Goes old new
-hands_goes old new d most b octets all small opened here taken handles same e w past fits =
+-- nothing is sent for it
+abbrev none_asked : List Frame
+none_asked = []
+
+none_sent : (lost taken : Bool) → (if lost then [] else if taken then [] else []) ≡ none_asked
+none_sent true taken = refl
+none_sent false true = refl
+none_sent false false = refl
+
+none_called : (e : End) (past : List Act) (d : ℕ) (octets : List ℕ) → after_wire_act e past (station.Called (station.Offer d octets)) ≡ Wire (station.Called (station.Offer d octets)) ∷ past
+none_called e past d octets =
+    let a : station.Act = station.Called (station.Offer d octets) in
+    ap (λ fs. wire_after fs (Wire a ∷ past))
+    (none_sent (list_any sending.is_loss (wire past)) (is_none (sending.refused (setting e) (sending.station_view (setting e) (wire past)) (station.Offer d octets))))
+
+pub hands_goes : (old new : Core) (d most : ℕ) (b : Box) (octets : List ℕ) → length old.boxes ≡ 62 → d < 62 → is_opened (stations.channel_at old.station d).state ≡ true → b ≡ box_at old d → octets ≡ take most b.unsent → fitting.StationHandles old.station new.station (station.Called (station.Offer d octets)) → new ≡ record old { station = new.station; boxes = slice_set old.boxes d (record b { unsent = drop (length octets) b.unsent }) } → octets ≢ [] → Offering old new d
+hands_goes old new d most b octets all small opened here taken handles same some e w past fits =
     let rest = drop (length octets) b.unsent in
     let inside : d < length old.boxes = omega arith in
     let parts : b.unsent ≡ octets ++ rest =
     halves most b.unsent ∙ ap (λ x. x ++ drop (length x) b.unsent) (sym taken) in
     let At : Box → Type 0 = λ x. BoxFits e d past x in
     let fit = subst At (sym here) (fits.boxes_are d small (sym (opened_is e w old past d small fits) ∙ opened)) in
-    called_goes e w old new past (station.Offer d octets) (slice_set old.boxes d (record b { unsent = rest }))
+    let There : List Act → Type 0 = λ now. Fits e w new now in
+    record {
+      octets = octets;
+      some = some;
+      fits = subst There (none_called e past d octets)
+          (called_goes e w old new past (station.Offer d octets) (slice_set old.boxes d (record b { unsent = rest }))
     (record { at_station = handles; rest_is = same })
-    (record { free = fits.free; next = said_begins e d past b octets rest (is_released b.hold) refl parts fit })
+    (record { free = fits.free; some = some; next = said_begins e d past b octets rest (is_released b.hold) refl parts fit })
     (λ n n_small.
     let There : Box → Type 0 = λ x. FitsOpen e n (Wire (station.Called (station.Offer d octets)) ∷ past) x in
     subst There (sym (box_here old.boxes n d (record b { unsent = rest }) (d == n) refl inside))
     (offered_box e past d n octets rest b (box_at old n) (d == n) refl (λ on. sym (ap (box_at old) (one_connection on)) ∙ sym here) parts (fits.boxes_are n n_small)))
-    (stands e w old past fits)
+    (stands e w old past fits));
+    }
   where
     one_connection : {m n : ℕ} → (m == n) ≡ true → m ≡ n
     one_connection {m} {n} is = grind (arith, nat_tests)
 
-pub release_goes : (old new : Core) (d : ℕ) → length old.boxes ≡ 62 → d < 62 → new ≡ boxed old d (released (box_at old d)) → Goes old new
-release_goes old new d all small same = box_goes old new d (released (box_at old d)) all small same (λ e past fits. released_fits e d past (box_at old d) fits)
+pub release_stays : (old new : Core) (d : ℕ) → length old.boxes ≡ 62 → d < 62 → new ≡ boxed old d (released (box_at old d)) → (e : End) (w : Wired) (past : List Act) → Fits e w old past → Fits e w new past
+release_stays old new d all small same = box_stays old new d (released (box_at old d)) all small same (λ e past fits. released_fits e d past (box_at old d) fits)
 
--- where nothing is handed on nothing changes
-pub goes_either : (mid new : Core) (r : Bool) → (r ≡ true → Goes mid new) → (r ≡ false → new ≡ mid) → Goes mid new
-goes_either mid new true goes same = goes refl
-goes_either mid new false goes same = let At : Core → Type 0 = λ c. Goes mid c in subst At (sym (same refl)) (goes_none mid)
+pub release_goes : (old new : Core) (d : ℕ) → length old.boxes ≡ 62 → d < 62 → new ≡ boxed old d (released (box_at old d)) → Goes is_handing old new
+release_goes old new d all small same e w past fits = stays is_handing e w past new (release_stays old new d all small same e w past fits)
 
 pub neither : (a b : Bool) → (a || b) ≡ false → (a ≡ false) × (b ≡ false)
 neither true b is = cc
 neither false b is = (refl, is)
-
-pub handed_on : (old mid : Core) (d : ℕ) (r : Bool) → r ≡ is_released (box_at old d).hold → mid ≡ old → r ≡ false → ((d == 0) ≡ false → (stations.channel_at mid.station d).waiting ≡ [] → (box_at mid d).unsent ≡ []) → IsHandedOn old d
-handed_on old mid d r is same none unsent opened =
-    let At : Core → Type 0 = λ c. (d == 0) ≡ false → (stations.channel_at c.station d).waiting ≡ [] → (box_at c d).unsent ≡ [] in
-    record { unsent = subst At same unsent; released = sym is ∙ none }
-
--- what an end handed on, on one connection after the other
-pub record Hands (old new : Core) (moved : Bool) (n : ℕ) : Type 0 where
-  pub goes : Goes old new
-  pub same : moved ≡ false → new ≡ old
-  pub none : moved ≡ false → (d : ℕ) → d < n → IsHandedOn old d
-  pub fewer : moved ≡ true → all_unhanded new.boxes < all_unhanded old.boxes
-  pub steps : new.steps ≡ old.steps
-  pub n1 : new.station.n1 ≡ old.station.n1
-
-pub hands_none : (c : Core) → Hands c c false 0
-hands_none c = record { goes = goes_none c; same = λ is. refl; none = λ is d small. absurd (omega arith); fewer = λ is. cc; steps = refl; n1 = refl }
-
--- fewer octets are left by the one or by the other, and by neither more
-fewer_by : (old mid new : Core) (moved offered : Bool) → (moved ≡ false → mid ≡ old) → (moved ≡ true → all_unhanded mid.boxes < all_unhanded old.boxes) → (offered ≡ false → new ≡ mid) → (offered ≡ true → all_unhanded new.boxes < all_unhanded mid.boxes) → (moved || offered) ≡ true → all_unhanded new.boxes < all_unhanded old.boxes
-fewer_by old mid new true true same less same_too less_too is = let first = less refl in let second = less_too refl in omega (arith, first, second)
-fewer_by old mid new true false same less same_too less_too is = let first = less refl in let second = ap (λ (c : Core). all_unhanded c.boxes) (same_too refl) in omega (arith, first, second)
-fewer_by old mid new false true same less same_too less_too is = let first = ap (λ (c : Core). all_unhanded c.boxes) (same refl) in let second = less_too refl in omega (arith, first, second)
-fewer_by old mid new false false same less same_too less_too is = cc
-
-pub hands_more : (old mid new : Core) (moved offered : Bool) (n : ℕ) → Hands old mid moved n → Goes mid new → (offered ≡ false → new ≡ mid) → (offered ≡ false → IsHandedOn mid n) → (offered ≡ true → all_unhanded new.boxes < all_unhanded mid.boxes) → new.steps ≡ mid.steps → new.station.n1 ≡ mid.station.n1 → Hands old new (moved || offered) (n + 1)
-hands_more old mid new moved offered n before goes same none fewer steps n1 = record {
-  fewer = fewer_by old mid new moved offered before.same before.fewer same fewer;
-  steps = steps ∙ before.steps;
-  n1 = n1 ∙ before.n1;
-  goes = goes_then old mid new before.goes goes;
-  same = λ is. let both = neither moved offered is in same both.1 ∙ before.same both.0;
-  none = λ is d small.
-      let both = neither moved offered is in
-      let At : Core → Type 0 = λ c. IsHandedOn c n in
-      let At_n : ℕ → Type 0 = λ m. IsHandedOn old m in
-      at_place (d == n) refl (λ less. before.none both.0 d less) (λ equal. subst At_n (sym equal) (subst At (before.same both.0) (none both.1))) small;
-}
-  where
-    at_place : {P : Type 0} {d n : ℕ} (here : Bool) → (d == n) ≡ here → (d < n → P) → (d ≡ n → P) → d < n + 1 → P
-    at_place {d = d} {n = n} true is less equal small = equal (grind (arith, nat_tests))
-    at_place {d = d} {n = n} false is less equal small = less (grind (arith, nat_tests))
 
 -- ## How much is left to hand on
 
@@ -414,14 +402,20 @@ fewer_handed boxes d most count b octets inside here taken count_is some =
 
 -- ## What goes out
 
-given_data : (e : End) (w : Wired) (c : Core) (past : List Act) (f : Frame) (o : Option ℕ) → c.station.queue ≡ [] → Fits e w c past → fitting.StationFits (data_given c.station o) (data_sent c.station o (wire past)) → sending.StationLawful (setting e) (data_sent c.station o (wire past)) → sending.StationComplete (setting e) (data_sent c.station o (wire past)) → option_map (data_frame c.station) o ≡ Some f → GoesFrom e (record w { gone = w.gone ++ f ∷ [] }) past (record c { station = data_given c.station o })
+queue_of_past : (e : End) (w : Wired) (c : Core) (past : List Act) → c.station.queue ≡ [] → Fits e w c past → sending.queue (wire past) ≡ []
+queue_of_past e w c past none fits = fits.station_is.queue_is ∙ none
+
+some_queued : (f : Frame) (fs : List Frame) → f ∷ fs ≡ [] → ⊥
+some_queued f fs same = cc
+
+given_data : (e : End) (w : Wired) (c : Core) (past : List Act) (f : Frame) (o : Option ℕ) → c.station.queue ≡ [] → Fits e w c past → fitting.StationFits (data_given c.station o) (data_sent c.station o (wire past)) → sending.StationLawful (setting e) (data_sent c.station o (wire past)) → sending.StationComplete (setting e) (data_sent c.station o (wire past)) → option_map (data_frame c.station) o ≡ Some f → GivesFrom e w past f (record c { station = data_given c.station o })
 given_data e w c past f None none fits there lawful complete is = cc
 given_data e w c past f (Some d) none fits there lawful complete is =
     let g = data_frame c.station d in
     let same : g ≡ f = some_same g f is in
     record {
       now = Wire (station.Sent g) ∷ past;
-      later = record { newer = Wire (station.Sent g) ∷ []; joins = refl };
+      given = subst (λ x. IsGivenOn past x (Wire (station.Sent g) ∷ past)) same (sent_now (queue_of_past e w c past none fits));
       fits = record {
         setting_is = fits.setting_is;
         echo_is = fits.echo_is;
@@ -446,20 +440,20 @@ given_data e w c past f (Some d) none fits there lawful complete is =
     some_same : (g f : Frame) → Some g ≡ Some f → g ≡ f
     some_same g f is = cc
 
-given_by : (e : End) (w : Wired) (c : Core) (past : List Act) (f : Frame) (q : List Frame) → c.station.queue ≡ q → Fits e w c past → fitting.StationFits (station_after c.station q) (after_given c.station q (wire past)) → sending.StationLawful (setting e) (after_given c.station q (wire past)) → sending.StationComplete (setting e) (after_given c.station q (wire past)) → next_given c.station q ≡ Some f → GoesFrom e (record w { gone = w.gone ++ f ∷ [] }) past (record c { station = station_after c.station q })
+given_by : (e : End) (w : Wired) (c : Core) (past : List Act) (f : Frame) (q : List Frame) → c.station.queue ≡ q → Fits e w c past → fitting.StationFits (station_after c.station q) (after_given c.station q (wire past)) → sending.StationLawful (setting e) (after_given c.station q (wire past)) → sending.StationComplete (setting e) (after_given c.station q (wire past)) → next_given c.station q ≡ Some f → GivesFrom e w past f (record c { station = station_after c.station q })
 given_by e w c past f [] queue fits there lawful complete is = given_data e w c past f (next_turn c.station) queue fits there lawful complete is
 given_by e w c past f (g ∷ q) queue fits there lawful complete is =
     let same : g ≡ f = some_same g f is in
     record {
       now = Wire station.Given ∷ past;
-      later = record { newer = Wire station.Given ∷ []; joins = refl };
+      given = from_queue q (fits.station_is.queue_is ∙ queue ∙ ap (λ x. x ∷ q) same);
       fits = record {
         setting_is = fits.setting_is;
         echo_is = fits.echo_is;
         station_is = there;
         lawful = lawful;
         complete = complete;
-        allowed = (fits.free, fits.allowed);
+        allowed = (record { free = fits.free; waits = λ none. some_queued g q (sym queue ∙ sym fits.station_is.queue_is ∙ none) }, fits.allowed);
         free = refl;
         modem_is = fits.modem_is;
         boxes_are = λ n small. box_still e past station.Given n (box_at c n) (box_at c n).unsent (given_still n past) refl (fits.boxes_are n small);

@@ -19,18 +19,18 @@ use Rattle.mux_station.proofs.user_calls.ProbeStopFlowOffer.{sees_the_past}
 use Rattle.modem_sim.specs.declared.script.Step.{Step}
 use Rattle.modem_sim.specs.declared.script.StepAct.{StepAct}
 use Rattle.modem_sim.specs.declared.script.StepAct.TheVariants.{Announce, Flow, Hold, Disconnect, CloseDown}
-use Rattle.modem_sim.specs.Acts.{Act, Wire, Did, End, wire, is_open_at_modem}
+use Rattle.modem_sim.specs.Acts.{Act, Wire, Did, End, is_step_act, setting, wire, is_open_at_modem}
 use Rattle.modem_sim.specs.Heard.{heard}
 use Rattle.modem_sim.specs.Pieces.{Announced, framed, pieces_octets}
 use Rattle.modem_sim.specs.Outboxes.{Outbox, outbox, hold_on, is_holding}
 use Rattle.modem_sim.specs.Boxes.{Box, BoxFits, FitsOpen, fresh_box, is_released, released, box_announced, box_holding}
 use Rattle.modem_sim.specs.Doing.{acts, call_of, done, left, named_by, closes_down}
 use Rattle.modem_sim.specs.Histories.{Allows, MayDo, IsAsked}
-use Rattle.modem_sim.specs.Cores.{AtStation, HasNoneToDo, asks_nothing, asks, Refuses, Core, Wired, GoesFrom, Goes, Fits, are_open_in, boxes_done, closes_by, counted, that_act}
+use Rattle.modem_sim.specs.Cores.{AtStation, HasNoneToDo, asks_nothing, asks, Refuses, Core, Wired, GoesFrom, Goes, Fits, after_wire_act, are_open_in, boxes_done, closes_by, counted, that_act}
 use Rattle.modem_sim.proofs.law_proofs.Histories.{spelled-append}
 use Rattle.modem_sim.proofs.connections.BoxesAfterFrame.{box_still, called_still}
-use Rattle.modem_sim.proofs.ends.EndAfterFrame.{box_here, opened_is}
-use Rattle.modem_sim.proofs.ends.OfferedPieces.{Stands, called_goes, released_fits, said_is, same_held, stays}
+use Rattle.modem_sim.proofs.ends.EndAfterFrame.{box_here, later-sent_after, only_sent, opened_is}
+use Rattle.modem_sim.proofs.ends.OfferedPieces.{Stands, both_all, called_goes, released_fits, said_is, same_held, stays}
 
 -- ## Boxes
 
@@ -38,7 +38,7 @@ not_over_at : (b : Box) (over : Bool) → is_released b.hold ≡ over → is_rel
 not_over_at b true is = refl
 not_over_at b false is = is
 
-not_over : (b : Box) → is_released (released b).hold ≡ false
+pub not_over : (b : Box) → is_released (released b).hold ≡ false
 not_over b = not_over_at b (is_released b.hold) refl
 
 -- an outbox with a line more, if it is this connection's
@@ -239,7 +239,16 @@ one_less e past act step later is =
     ∙ sym (drop-drop 1 (length (done past)) steps)
     ∙ ap (drop 1) is
 
-pub does_goes : (old new : Core) (step : Step) (later : List Step) → length old.boxes ≡ 62 → old.steps ≡ step ∷ later → acts step.act ≡ true → nat_le step.after old.come ≡ true → are_open_in old.station step.act ≡ true → AtStation old.station new.station step.act → new ≡ record old { station = new.station; boxes = boxes_done step.act old.boxes; closed = closes_by step.act || old.closed; steps = later } → Goes old new
+-- acts by which a step is done
+asked_only : (act : StepAct) (call : station.Call) → call_of act ≡ Some call → list_all is_step_act (Wire (station.Called call) ∷ Did act ∷ []) ≡ true
+asked_only act (station.Offer d octets) is = absurd (no_offer act d octets is)
+asked_only act (station.Open d) is = refl
+asked_only act (station.Close d) is = refl
+asked_only act (station.Probe octets) is = refl
+asked_only act station.Stop is = refl
+asked_only act (station.Flow d go) is = refl
+
+pub does_goes : (old new : Core) (step : Step) (later : List Step) → length old.boxes ≡ 62 → old.steps ≡ step ∷ later → acts step.act ≡ true → nat_le step.after old.come ≡ true → are_open_in old.station step.act ≡ true → AtStation old.station new.station step.act → new ≡ record old { station = new.station; boxes = boxes_done step.act old.boxes; closed = closes_by step.act || old.closed; steps = later } → Goes is_step_act old new
 does_goes old new step later all steps acting come open_are at_station same e w past fits =
     let act = step.act in
     let first = fits.left_is ∙ ap that_act steps ∙ first_acts step later acting in
@@ -272,7 +281,7 @@ does_goes old new step later all steps acting come open_are at_station same e w 
     } in
     by_station e w past fits may stood at_station
   where
-    by_station : (e : End) (w : Wired) (past : List Act) → Fits e w old past → MayDo e past step.act → Stands e w (record old { boxes = boxes_done step.act old.boxes; steps = later }) (Did step.act ∷ past) → AtStation old.station new.station step.act → GoesFrom e w past new
+    by_station : (e : End) (w : Wired) (past : List Act) → Fits e w old past → MayDo e past step.act → Stands e w (record old { boxes = boxes_done step.act old.boxes; steps = later }) (Did step.act ∷ past) → AtStation old.station new.station step.act → GoesFrom is_step_act e w past new
     by_station e w past fits may stood (asks_nothing none still) =
         let whole : Fits e w (record old { boxes = boxes_done step.act old.boxes; steps = later }) (Did step.act ∷ past) = record {
           setting_is = stood.setting_is;
@@ -294,8 +303,8 @@ does_goes old new step later all steps acting come open_are at_station same e w 
         ap (λ (s : stations.Station). record old { station = s; boxes = boxes_done step.act old.boxes; steps = later }) (sym still)
         ∙ ap (λ (b : Bool). record old { station = new.station; boxes = boxes_done step.act old.boxes; steps = later; closed = b || old.closed }) (sym (none_closes step.act none))
         ∙ sym same in
-        let At : Core → Type 0 = λ c. GoesFrom e w past c in
-        subst At there (record { now = Did step.act ∷ past; later = record { newer = Did step.act ∷ []; joins = refl }; fits = whole })
+        let At : Core → Type 0 = λ c. GoesFrom is_step_act e w past c in
+        subst At there (record { now = Did step.act ∷ past; later = record { newer = Did step.act ∷ []; joins = refl }; only = refl; fits = whole })
     by_station e w past fits may stood (asks call is taken handles) =
         let mid : Core = record old { boxes = boxes_done step.act old.boxes; steps = later } in
         let closing = calls_close step.act call (Did step.act ∷ past) is in
@@ -310,14 +319,22 @@ does_goes old new step later all steps acting come open_are at_station same e w 
         (λ d small. box_still e (Did step.act ∷ past) (station.Called call) d (slice_index_or (boxes_done step.act old.boxes) d fresh_box) (slice_index_or (boxes_done step.act old.boxes) d fresh_box).unsent
         (called_still d (Did step.act ∷ past) call) (none_offered step.act call d is) (stood.boxes_are d small))
         stood in
-        record { now = went.now; later = record { newer = went.later.newer ++ Did step.act ∷ []; joins = append_assoc went.later.newer (Did step.act ∷ []) past ∙ went.later.joins }; fits = went.fits }
+        let fs = sending.called_frames (setting e) (wire past) (station.Called call) in
+        let begun = later-sent_after fs (Wire (station.Called call) ∷ Did step.act ∷ past) in
+        let first : List Act = Wire (station.Called call) ∷ Did step.act ∷ [] in
+        record {
+          now = after_wire_act e (Did step.act ∷ past) (station.Called call);
+          later = record { newer = begun.newer ++ first; joins = append_assoc begun.newer first past ∙ begun.joins };
+          only = both_all is_step_act begun.newer first (only_sent is_step_act (λ f. refl) fs (Wire (station.Called call) ∷ Did step.act ∷ past)) (asked_only step.act call is);
+          fits = went;
+        }
 
 -- a step that is passed over
-pub passes_goes : (old new : Core) (step : Step) (later : List Step) → old.steps ≡ step ∷ later → acts step.act ≡ false → new ≡ record old { steps = later } → Goes old new
+pub passes_goes : (old new : Core) (step : Step) (later : List Step) → old.steps ≡ step ∷ later → acts step.act ≡ false → new ≡ record old { steps = later } → Goes is_step_act old new
 passes_goes old new step later steps passing same e w past fits =
-    let At : Core → Type 0 = λ c. GoesFrom e w past c in
+    let At : Core → Type 0 = λ c. GoesFrom is_step_act e w past c in
     subst At (sym same)
-    (stays e w past (record old { steps = later }) (record {
+    (stays is_step_act e w past (record old { steps = later }) (record {
       setting_is = fits.setting_is;
       echo_is = fits.echo_is;
       station_is = fits.station_is;

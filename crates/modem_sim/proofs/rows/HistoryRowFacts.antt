@@ -2,7 +2,7 @@
 use Rattle.std.specs.Prelude.{◌≡◌, ℕ, nat_le, nat_eq, codes, Bool, true, false, IsTrue, List, [], ◌∷◌, ◌++◌, length, None, refl, not}
 use Rattle.std.specs.List.{list_any, list_all, starts_with}
 use Rattle.std.specs.Fmt.{digits}
-use Rattle.std.proofs.Common.{sym, subst}
+use Rattle.std.proofs.Common.{◌∙◌, sym, subst}
 use Rattle.at_cmds.specs.Params.{parameters, unquoted}
 use Rattle.at_cmds.specs.Forms.{numeral_in}
 use Rattle.at_cmds.specs.Values.{command_in}
@@ -15,7 +15,7 @@ use Rattle.mux_station.specs.Written.{written, is_data_frame}
 use Rattle.mux_station.specs.Opening.{is_open}
 use Rattle.mux_station.specs.Stopping.{is_stopped}
 use Rattle.mux_station.specs.Offering.{offered, data_out}
-use Rattle.mux_station.specs.Sending.{StationSetting, StationLawful as LawfulThere, StationComplete as CompleteThere, Sends, StationGated, after_act, is_sent, is_loss}
+use Rattle.mux_station.specs.Sending.{StationSetting, queue, StationLawful as LawfulThere, StationComplete as CompleteThere, Sends, StationGated, after_act, is_sent, is_loss}
 use Rattle.mux_station.proofs.law_proofs.OwedFrames.{answers_keep}
 use Rattle.modem_sim.specs.declared.script.StepAct.TheVariants.{Announce, Flow, Hold, Disconnect, CloseDown}
 use Rattle.modem_sim.specs.Reading.{command_of}
@@ -27,7 +27,7 @@ use Rattle.modem_sim.specs.Heard.{heard}
 use Rattle.modem_sim.specs.Acts.{is_open_at_modem as is_open_on}
 use Rattle.modem_sim.specs.declared.script.StepAct.{StepAct}
 use Rattle.modem_sim.specs.Doing.{call_owed, left, named_by}
-use Rattle.modem_sim.specs.Histories.{EachAllowed, IsStationOffer, MayDo}
+use Rattle.modem_sim.specs.Histories.{EachAllowed, IsStationOffer, MayDo, MayGive}
 use Rattle.modem_sim.specs.HistoryRows.{one, two, step_at, plain, simulated, cr, ready_one, ready_two, csq, repeated, two_connections, holding, held_back, asking, asked_of_station, IsGood, GoodRows}
 
 -- a station's past that is lawful and complete
@@ -83,14 +83,24 @@ ready_one_there echo steps = given_on (given_on (got Sabm 1 [] (given_on (got Sa
 ready_two_there : (echo : Bool) (steps : List Step) → GoodThere end (wire (after [] ready_two))
 ready_two_there echo steps = given_on (given_on (got Sabm 2 [] (ready_one_there echo steps)))
 
+-- one waits in the control queue
+pub gave : {past : List Act} {f : Frame} {fs : List Frame} → call_owed past ≡ None → queue (wire past) ≡ f ∷ fs → MayGive past
+gave {f = f} {fs = fs} free waits = record { free = free; waits = λ none. some f fs (sym waits ∙ none) }
+  where
+    some : (f : Frame) (fs : List Frame) → f ∷ fs ≡ [] → ⊥
+    some f fs same = cc
+
 pub ready_one_allowed : (e : End) → EachAllowed e (after [] ready_one)
-ready_one_allowed e = (refl, (refl, (refl, (refl, (refl, (refl, (refl, (refl, tt))))))))
+ready_one_allowed e = (gave refl refl, (gave refl refl, (refl, (refl, (refl, (gave refl refl, (refl, (refl, tt))))))))
 
 ready_two_allowed : (e : End) → EachAllowed e (after [] ready_two)
-ready_two_allowed e = (refl, (refl, (refl, (refl, (refl, ready_one_allowed e)))))
+ready_two_allowed e = (gave refl refl, (gave refl refl, (refl, (refl, (refl, ready_one_allowed e)))))
 
-pub next_offer : {e : End} {past : List Act} {d : ℕ} {octets : List ℕ} → call_owed past ≡ None → starts_with nat_eq (pieces_octets (outbox e d past).said) (offered Responder d (wire past) ++ octets) ≡ true → IsStationOffer e past d octets
-next_offer free next = record { free = free; next = next }
+pub next_offer : {e : End} {past : List Act} {d x : ℕ} {octets : List ℕ} → call_owed past ≡ None → starts_with nat_eq (pieces_octets (outbox e d past).said) (offered Responder d (wire past) ++ x ∷ octets) ≡ true → IsStationOffer e past d (x ∷ octets)
+next_offer {x = x} {octets = octets} free next = record { free = free; some = some x octets; next = next }
+  where
+    some : (x : ℕ) (xs : List ℕ) → x ∷ xs ≡ [] → ⊥
+    some x xs same = cc
 
 csq_there : GoodThere end (wire (after [] csq))
 csq_there =
@@ -193,7 +203,7 @@ asked_good =
     (given_on (called station.Stop
     (given_on (called (station.Close 1)
     (given_on (called (station.Flow 1 false) (ready_one_there false []))))))) (
-      refl,
+      gave refl refl,
       (
         refl,
         (
@@ -201,7 +211,7 @@ asked_good =
           (
             due (step_at 0 CloseDown) [] refl refl refl refl refl,
             (
-              refl,
+              gave refl refl,
               (
                 refl,
                 (
@@ -209,7 +219,7 @@ asked_good =
                   (
                     due (step_at 0 (Disconnect one)) (step_at 0 CloseDown ∷ []) refl refl refl refl refl,
                     (
-                      refl,
+                      gave refl refl,
                       (
                         refl,
                         (

@@ -14,9 +14,9 @@ use Rattle.modem_sim.specs.Cores.{all_unhanded, box_at}
 use Rattle.modem_sim.specs.Boxes.{is_released}
 use Rattle.modem_sim.specs.Polls.{Says}
 use Rattle.mux_frame.specs.Frames.{Frame}
-use Rattle.modem_sim.specs.Turns.{IsAtRest, IsHeldUp, IsIdle, IsLeft, NoneCanBeDone, Write, at_rest, frame_at_hand, has_moved, hold_is_over, is_fewer, line_is_full, step_is_due}
+use Rattle.modem_sim.specs.Turns.{IsAtRest, IsHeldUp, IsIdle, IsLeft, NoneCanBeDone, Write, at_rest, frame_at_hand, has_changed, hold_is_over, is_fewer, line_is_full, step_is_due}
 use Rattle.modem_sim.specs.HistoryRows.{announcing, one, plain, ready_one, silent, step_at}
-use Rattle.modem_sim.specs.TurnRows.{ComesTo, EndRows, IsStill, MovedRows, OneWaits, RightIdle, WantRows, WrongFailures, WrongGivings, WrongIdle, nothing_asked, offered_one, only_read}
+use Rattle.modem_sim.specs.TurnRows.{ComesTo, EndRows, IsStill, MovedRows, OneWaits, RightIdle, WantRows, WrongFailures, WrongGivings, WrongIdle, nothing_asked, offered_one, only_read, unseen}
 use Rattle.modem_sim.proofs.rows.RefusedRowFacts.{said_nothing}
 
 none_left : (next : Step) (later : List Step) → [] ≡ next ∷ later → ⊥
@@ -46,6 +46,7 @@ held_up k waits = record {
   some = some_octet 7 [];
   took_none = refl;
   reads = λ fed. record { room = 512; some = omega arith; nothing = refl };
+  fed = λ _. waits.fed;
   no_room = λ f hand. absurd (none_some f (sym waits.hand ∙ hand));
   steps = no_steps;
 }
@@ -84,7 +85,7 @@ neither : (a b : Bool) → a ≡ false → b ≡ false → (a || b) ≡ false
 neither true b is is_too = cc
 neither false b is is_too = is_too
 
-stays : (s : SimState ℕ) → has_moved (λ (l : ℕ). []) (λ l. []) s s [] ≡ false
+stays : (s : SimState ℕ) → has_changed unseen s s ≡ false
 stays s =
     neither (is_fewer s.kept.unfed s.kept.unfed) _ (same_length (length s.kept.unfed))
     (neither (is_fewer s.kept.core.steps s.kept.core.steps) _ (same_length (length s.kept.core.steps))
@@ -92,7 +93,7 @@ stays s =
     (same_length (all_unhanded s.kept.core.boxes))))
 
 pub moved_rows : MovedRows
-moved_rows = (λ k. refl, λ s a. refl, stays)
+moved_rows = (λ k. refl, λ s f. refl, stays, stays, λ s octets. stays s)
 
 not_both : (b : Bool) → b ≡ true → b ≡ false → ⊥
 not_both true is other = cc

@@ -34,12 +34,13 @@ use Rattle.modem_sim.specs.Pieces.{pieces_octets}
 use Rattle.modem_sim.specs.Outboxes.{outbox}
 use Rattle.modem_sim.specs.Doing.{call_of, named_by}
 use Rattle.modem_sim.specs.Histories.{got}
-use Rattle.modem_sim.specs.Cores.{Core, Fits, HasNoneToDo, IsHandedOn, Waits, Wired, are_open_in, counted, for_lines, for_openings, for_room, none_left, that_act, waits}
+use Rattle.modem_sim.specs.Cores.{Core, Fits, HasNoneToDo, IsHandedOn, Waits, box_at, Wired, are_open_in, counted, for_lines, for_openings, for_room, none_left, that_act, waits}
 use Rattle.modem_sim.specs.Sims.{Kept, KeptFits, SimState}
 use Rattle.modem_sim.specs.Turns.{Exchange, IsAtRest, IsIdle, IsLeft, StepIsRefused, NoneCanBeDone, WantsMemory, at_rest, frame_at_hand, has_room_for, hold_is_over, line_is_full, step_is_due}
 use Rattle.modem_sim.specs.Stills.{HasNoneToTake, LeavesUndone, StoodStill, leaves_frame, leaves_octets, leaves_step}
 use Rattle.modem_sim.proofs.ends.EndAfterFrame.{opened_is}
 use Rattle.modem_sim.proofs.ends.ScriptSteps.{all_small, calls_small, first_acts, they_are_open}
+use Rattle.modem_sim.proofs.ends.HandedOctets.{ring_is, role_is, same_ring}
 use Rattle.modem_sim.proofs.ends.OfferedPieces.{said_is}
 use Rattle.modem_sim.proofs.ends.QueueRoom.{empty_fits}
 use Rattle.modem_sim.proofs.connections.ControlChannel.{none_given, says_none}
@@ -107,6 +108,13 @@ no_room e came went k past none fits f hand =
     (subst By fits.core_fits.setting_is
     (λ taken. none f hand (sees_the_frame k.core.station (wire past) f fits.core_fits.station_is next.spells.dlci ∙ taken)))
 
+-- a frame that the station takes finds room
+pub some_room : (e : End) (came went : List ℕ) (k : Kept) (past : List Act) → KeptFits e came went k past → (f : Frame) → k.deframer.next ≡ Some f → sending.got_refused (stations.setting_of k.core.station) (stations.seen_in k.core.station) f ≡ None → has_room_for e past f ≡ true
+some_room e came went k past fits f hand room =
+    let next = hand_fits k f hand fits.deframes.at_hand in
+    let By : sending.StationSetting → Type 0 = λ s. sending.got_refused s (sending.station_view s (wire past)) f ≡ None in
+    ap is_none (subst By fits.core_fits.setting_is (sym (sees_the_frame k.core.station (wire past) f fits.core_fits.station_is next.spells.dlci) ∙ room))
+
 at_most : (n1 : ℕ) (k : Kind) → spelling.most_info n1 k ≤ n1
 at_most n1 Sabm = omega arith
 at_most n1 Ua = omega arith
@@ -117,9 +125,6 @@ at_most n1 Uih = omega arith
 without_refusal : (b : Bool) → b ≡ true → (if b then None else Some NoRoom) ≡ None
 without_refusal true is = refl
 without_refusal false is = cc
-
-role_is : (e : End) (w : Wired) (c : Core) (past : List Act) → Fits e w c past → c.station.role ≡ Responder
-role_is e w c past fits = ap (λ (s : sending.StationSetting). s.role) fits.setting_is
 
 -- where no control frame waits none is at hand
 none_at_hand : (e : End) (came went : List ℕ) (k : Kept) (past : List Act) → k.core.station.queue ≡ [] → HasNoneToTake k → KeptFits e came went k past → (o : Option Frame) → k.deframer.next ≡ o → k.deframer.next ≡ None
@@ -172,7 +177,7 @@ wants_memory received sent_by s left at e past fits = is_left e fits.came fits.w
 
 -- ## What goes out
 
-none_queued : (v : stations.Station) (q : List Frame) → next_given v q ≡ None → q ≡ []
+pub none_queued : (v : stations.Station) (q : List Frame) → next_given v q ≡ None → q ≡ []
 none_queued v [] is = refl
 none_queued v (f ∷ q) is = cc
 
@@ -210,30 +215,34 @@ none_waiting true false xs there goes none = by_test (length xs == 0) refl none
 none_waiting true true xs there goes none = cc
 none_waiting false b xs there goes none = cc
 
+-- where no frame is there no octets wait on a connection that isn't stopped
+pub sent_all : (e : End) (w : Wired) (c : Core) (past : List Act) → next_given c.station c.station.queue ≡ None → Fits e w c past → (d : ℕ) → d < 62 → (d == 0) ≡ false → is_open_at_modem d past ≡ true → is_stopped Responder d (wire past) ≡ false → data_out Responder d (wire past) ≡ offered Responder d (wire past)
+sent_all e w c past none fits d small other there goes =
+    let v = c.station in
+    let opened : is_opened (stations.channel_at v d).state ≡ true = opened_is e w c past d small fits ∙ there in
+    let low : 1 ≤ d = grind (arith, nat_tests) in
+    let not_stopped : stations.stopped_in v d ≡ false = stopped_fits v (wire past) d fits.station_is small ∙ ap (λ (r : Role). is_stopped r d (wire past)) (role_is e w c past fits) ∙ goes in
+    let empty = none_waiting (is_opened (stations.channel_at v d).state) (stations.stopped_in v d) (stations.channel_at v d).waiting opened not_stopped (none_next v v.queue none d low small) in
+    sym (append-nil (data_out Responder d (wire past))) ∙ ap (λ xs. data_out Responder d (wire past) ++ xs) (sym empty) ∙ sym (ring_is e w c past d small opened fits)
+
 all_out_on : (e : End) (w : Wired) (c : Core) (past : List Act) → ((d : ℕ) → d < 62 → IsHandedOn c d) → next_given c.station c.station.queue ≡ None → Fits e w c past → (d : ℕ) → (here : Bool) → (d == 0) ≡ here → d < 62 → is_open_at_modem d past ≡ true → is_stopped Responder d (wire past) ≡ false → data_out Responder d (wire past) ≡ pieces_octets (outbox e d past).said
 all_out_on e w c past handed none fits d true is small there goes =
     let zero_is : 0 ≡ d = grind (arith, nat_tests) in
     let At : ℕ → Type 0 = λ n. data_out Responder n (wire past) ≡ pieces_octets (outbox e n past).said in
     subst At zero_is (none_given (wire past) ∙ ap pieces_octets (sym (says_none e past fits.allowed).said))
 all_out_on e w c past handed none fits d false is small there goes =
-    let v = c.station in
-    let opened : is_opened (stations.channel_at v d).state ≡ true = opened_is e w c past d small fits ∙ there in
-    let low : 1 ≤ d = grind (arith, nat_tests) in
-    let role = role_is e w c past fits in
-    let not_stopped : stations.stopped_in v d ≡ false = stopped_fits v (wire past) d fits.station_is small ∙ ap (λ (r : Role). is_stopped r d (wire past)) role ∙ goes in
-    let empty = none_waiting (is_opened (stations.channel_at v d).state) (stations.stopped_in v d) (stations.channel_at v d).waiting opened not_stopped (none_next v v.queue none d low small) in
+    let opened = opened_is e w c past d small fits ∙ there in
     let on = handed d small opened in
-    let fit = fits.boxes_are d small there in
-    let ring = (fits.station_is.channels_are d small).ring_is opened in
-    let all : offered Responder d (wire past) ≡ data_out Responder d (wire past) =
-    ap (λ (r : Role). offered r d (wire past)) (sym role) ∙ ring ∙ ap (λ xs. data_out v.role d (wire past) ++ xs) empty ∙ append-nil (data_out v.role d (wire past)) ∙ ap (λ (r : Role). data_out r d (wire past)) role in
-    sym (said_is e d past _ on.released fit ∙ ap (λ xs. offered Responder d (wire past) ++ xs) (on.unsent is empty) ∙ append-nil (offered Responder d (wire past)) ∙ all)
+    let out = sent_all e w c past none fits d small is there goes in
+    let ring = ring_is e w c past d small opened fits in
+    let empty = same_ring (data_out Responder d (wire past)) (stations.channel_at c.station d).waiting (offered Responder d (wire past)) ring (sym out) in
+    sym (said_is e d past (box_at c d) on.released (fits.boxes_are d small there)
+    ∙ ap (λ xs. offered Responder d (wire past) ++ xs) (on.unsent is empty) ∙ append-nil (offered Responder d (wire past)) ∙ sym out)
 
 -- ## Idle
 
-rests : {X : Type 0} (received sent_by : X → List ℕ) (e : End) (came went : List ℕ) (old new : SimState X) (t : Exchange) (past : List Act) → new.kept.out ≡ [] → StoodStill received sent_by old new t → KeptFits e came went new.kept past → IsAtRest e came went t past
-rests received sent_by e came went old new t past written still fits =
-    let k = new.kept in
+rests : (e : End) (came went : List ℕ) (k : Kept) (t : Exchange) (past : List Act) → k.out ≡ [] → StoodStill k t → KeptFits e came went k past → IsAtRest e came went t past
+rests e came went k t past written still fits =
     let core = fits.core_fits in
     let load = still.rest written in
     let queue = none_queued k.core.station k.core.station.queue load.none_next in
@@ -265,19 +274,20 @@ rests received sent_by e came went old new t past written still fits =
 some_there_too : (x : ℕ) (xs : List ℕ) → x ∷ xs ≢ []
 some_there_too x xs same = cc
 
-pub idle : {X : Type 0} (received sent_by : X → List ℕ) (e : End) (came went : List ℕ) (old new : SimState X) (t : Exchange) (past : List Act) → StoodStill received sent_by old new t → KeptFits e came went new.kept past → IsIdle e came went new.kept t past
-idle received sent_by e came went old new t past still fits = by_out new.kept.out refl
+pub idle : (e : End) (came went : List ℕ) (k : Kept) (t : Exchange) (past : List Act) → StoodStill k t → KeptFits e came went k past → IsIdle e came went k t past
+idle e came went k t past still fits = by_out k.out refl
   where
-    by_out : (out : List ℕ) → new.kept.out ≡ out → IsIdle e came went new.kept t past
-    by_out [] is = at_rest (rests received sent_by e came went old new t past is still fits)
+    by_out : (out : List ℕ) → k.out ≡ out → IsIdle e came went k t past
+    by_out [] is = at_rest (rests e came went k t past is still fits)
     by_out (x ∷ xs) is =
-        let some : new.kept.out ≢ [] = λ none. some_there_too x xs (sym is ∙ none) in
+        let some : k.out ≢ [] = λ none. some_there_too x xs (sym is ∙ none) in
         line_is_full (record {
           waits = some;
-          offered = new.kept.out;
+          offered = k.out;
           some = some;
           took_none = still.full some;
           reads = λ fed. record { room = 512; some = omega arith; nothing = still.reads fed };
-          no_room = no_room e came went new.kept past still.take fits;
-          steps = none_can_be_done e fits.wired new.kept.core past still.steps fits.core_fits;
+          fed = still.waits;
+          no_room = no_room e came went k past still.take fits;
+          steps = none_can_be_done e fits.wired k.core past still.steps fits.core_fits;
         })

@@ -5,15 +5,17 @@ use Rattle.modem_sim.specs.declared.error.SimError.{SimError}
 use Rattle.modem_sim.specs.declared.error.SimError.TheVariants as why
 use Rattle.modem_sim.specs.declared.sim.SimTurn.{SimTurn}
 use Rattle.modem_sim.specs.declared.sim.SimTurn.TheVariants.{Moved, Idle, Ended}
-use Rattle.modem_sim.specs.Sims.{Kept, KeptGoes, SimState, SimGoes, end_given, has_failed}
+use Rattle.modem_sim.specs.Acts.{any_act}
+use Rattle.modem_sim.specs.Sims.{Kept, KeptGoes, Sight, SimState, SimGoes, end_given, has_failed}
 use Rattle.modem_sim.specs.Polls.{Gives, MovesOn, Polls, PollsFrom, PollsOn, Runs, Says, StaysSound, Turned, ends, fails, goes_on, moves_none, moves_once, rests, waits_none, waits_once, with_given}
 use Rattle.modem_sim.proofs.sims.SimPasts.{sim_kept, sim_then}
 
 -- an end that is kept says nothing of the past
-kept_ending : (k : Kept) (end : Option (Result SimTurn SimError)) → KeptGoes k (record k { end = end })
+kept_ending : (k : Kept) (end : Option (Result SimTurn SimError)) → KeptGoes any_act k (record k { end = end })
 kept_ending k end e came went past fits = record {
   now = past;
   later = record { newer = []; joins = refl };
+  only = refl;
   fits = record {
     wired = fits.wired;
     core_fits = fits.core_fits;
@@ -30,7 +32,7 @@ goes_given received sent old mid new None goes stays = subst (SimGoes received s
 goes_given received sent old mid new (Some given) goes stays =
     let ended : SimState _ = with_given (Some given) mid in
     subst (SimGoes received sent old) (sym stays)
-    (sim_then received sent old mid ended goes (sim_kept received sent mid ended.kept (kept_ending mid.kept ended.kept.end)))
+    (sim_then received sent old mid ended goes (sim_kept received sent mid any_act ended.kept (kept_ending mid.kept ended.kept.end)))
 
 -- ## What is given
 
@@ -57,14 +59,14 @@ record KeepsSound {X : Type 0} (failures : X → ℕ) (old new : SimState X) : T
   failed : has_failed new ≡ has_failed old
   same : failures new.line ≡ failures old.line
 
-module _ {X : Type 0} (received sent : X → List ℕ) (calls failures : X → ℕ) where
-  sound_then : (a b c : SimState X) → KeepsSound failures a b → KeepsSound failures b c → KeepsSound failures a c
+module _ {X : Type 0} (see : Sight X) where
+  sound_then : (a b c : SimState X) → KeepsSound see.failures a b → KeepsSound see.failures b c → KeepsSound see.failures a c
   sound_then a b c p q = record { failed = q.failed ∙ p.failed; same = q.same ∙ p.same }
 
-  turn_sound : (old new : SimState X) (turn : SimTurn) → Turned received sent calls failures old new (Ok turn) → KeepsSound failures old new
+  turn_sound : (old new : SimState X) (turn : SimTurn) → Turned see old new (Ok turn) → KeepsSound see.failures old new
   turn_sound old new turn t = record { failed = t.fails; same = t.sound (λ is. cc) }
 
-  turned_so : (old new : SimState X) (why : SimError) → Turned received sent calls failures old new (Err why) → Says failures old new (Err why)
+  turned_so : (old new : SimState X) (why : SimError) → Turned see old new (Err why) → Says see.failures old new (Err why)
   turned_so old new why.NoMemory t =
       let sound = never_failed (has_failed old) (Err why.NoMemory) not_by_memory t.failed.1 in
       record { before = sound; now = t.fails ∙ sound; none_failed = t.sound (λ is. cc) }
@@ -73,16 +75,16 @@ module _ {X : Type 0} (received sent : X → List ℕ) (calls failures : X → �
       record { before = never_failed (has_failed old) (Err why.Line) not_by_line t.failed.1; now = t.fails; one_failed = t.failure refl }
   turned_so old new why.Failed t = record { before = t.failed.0 refl; now = t.fails ∙ t.failed.0 refl; none_failed = t.sound (λ is. cc) }
 
-  ended_so : (old new : SimState X) → Turned received sent calls failures old new (Ok Ended) → Says failures old new (Ok Ended)
+  ended_so : (old new : SimState X) → Turned see old new (Ok Ended) → Says see.failures old new (Ok Ended)
   ended_so old new t =
       let sound = never_failed (has_failed old) (Ok Ended) (not_by_answer Ended) t.failed.1 in
       record { ended = t.ended refl; sound = record { before = sound; now = t.fails ∙ sound; none_failed = t.sound (λ is. cc) } }
 
-  stays_behind : (old mid new : SimState X) → KeepsSound failures old mid → StaysSound failures mid new → StaysSound failures old new
+  stays_behind : (old mid new : SimState X) → KeepsSound see.failures old mid → StaysSound see.failures mid new → StaysSound see.failures old new
   stays_behind old mid new keeps so = record { before = sym keeps.failed ∙ so.before; now = so.now; none_failed = so.none_failed ∙ keeps.same }
 
   -- what it says of what came behind turns in which no call failed it says of them too
-  says_behind : (old mid new : SimState X) (given : Result SimTurn SimError) → KeepsSound failures old mid → Says failures mid new given → Says failures old new given
+  says_behind : (old mid new : SimState X) (given : Result SimTurn SimError) → KeepsSound see.failures old mid → Says see.failures mid new given → Says see.failures old new given
   says_behind old mid new (Ok Moved) keeps so = so
   says_behind old mid new (Ok Idle) keeps so = so
   says_behind old mid new (Ok Ended) keeps so = record { ended = so.ended; sound = stays_behind old mid new keeps so.sound }
@@ -93,29 +95,29 @@ module _ {X : Type 0} (received sent : X → List ℕ) (calls failures : X → �
   says_behind old mid new (Err why.Failed) keeps so =
       record { before = sym keeps.failed ∙ so.before; now = so.now; none_failed = so.none_failed ∙ keeps.same }
 
-  moved_sound : (old new : SimState X) (n : ℕ) → MovesOn received sent calls failures old n new → KeepsSound failures old new
+  moved_sound : (old new : SimState X) (n : ℕ) → MovesOn see old n new → KeepsSound see.failures old new
   moved_sound old _ _ moves_none = record { failed = refl; same = refl }
   moved_sound old _ _ (moves_once n mid new moves turn) = sound_then old mid new (moved_sound old mid n moves) (turn_sound mid new Moved turn)
 
-  run_sound : (old new : SimState X) → Runs received sent calls failures old new None → KeepsSound failures old new
+  run_sound : (old new : SimState X) → Runs see old new None → KeepsSound see.failures old new
   run_sound old new (goes_on moves) = moved_sound old new 64 moves
   run_sound old new (rests n mid few moves turn) = sound_then old mid new (moved_sound old mid n moves) (turn_sound mid new Idle turn)
 
-  moved_end : (old new : SimState X) (n : ℕ) → MovesOn received sent calls failures old n new → end_given new ≡ end_given old
+  moved_end : (old new : SimState X) (n : ℕ) → MovesOn see old n new → end_given new ≡ end_given old
   moved_end old _ _ moves_none = refl
   moved_end old _ _ (moves_once n mid new moves turn) = turn.end ∙ moved_end old mid n moves
 
-  run_end : (old new : SimState X) (given : Option (Result SimTurn SimError)) → Runs received sent calls failures old new given → end_given new ≡ end_given old
+  run_end : (old new : SimState X) (given : Option (Result SimTurn SimError)) → Runs see old new given → end_given new ≡ end_given old
   run_end old new _ (goes_on moves) = moved_end old new 64 moves
   run_end old new _ (rests n mid few moves turn) = turn.end ∙ moved_end old mid n moves
   run_end old new _ (ends n mid few moves turn) = turn.end ∙ moved_end old mid n moves
   run_end old new _ (fails n mid why few moves turn) = turn.end ∙ moved_end old mid n moves
 
-  run_so : (old new : SimState X) (given : Result SimTurn SimError) → Runs received sent calls failures old new (Some given) → Says failures old new given
+  run_so : (old new : SimState X) (given : Result SimTurn SimError) → Runs see old new (Some given) → Says see.failures old new given
   run_so old new _ (ends n mid few moves turn) = says_behind old mid new (Ok Ended) (moved_sound old mid n moves) (ended_so mid new turn)
   run_so old new _ (fails n mid why few moves turn) = says_behind old mid new (Err why) (moved_sound old mid n moves) (turned_so mid new why turn)
 
-  so_kept : (old s : SimState X) (given end : Result SimTurn SimError) → Says failures old s end → Says failures old (with_given (Some given) s) end
+  so_kept : (old s : SimState X) (given end : Result SimTurn SimError) → Says see.failures old s end → Says see.failures old (with_given (Some given) s) end
   so_kept old s given (Ok Moved) so = so
   so_kept old s given (Ok Idle) so = so
   so_kept old s given (Ok Ended) so =
@@ -125,27 +127,27 @@ module _ {X : Type 0} (received sent : X → List ℕ) (calls failures : X → �
   so_kept old s given (Err why.Line) so = record { before = so.before; now = so.now; one_failed = so.one_failed }
   so_kept old s given (Err why.Failed) so = record { before = so.before; now = so.now; none_failed = so.none_failed }
 
-  polled : (old new : SimState X) (given : Option (Result SimTurn SimError)) → end_given old ≡ None → Polls received sent calls failures old new given → PollsOn received sent calls failures old new given
+  polled : (old new : SimState X) (given : Option (Result SimTurn SimError)) → end_given old ≡ None → Polls see old new given → PollsOn see old new given
   unfolding Polls
-  polled old new given none polls = subst (λ end. PollsFrom received sent calls failures end old new given) none polls
+  polled old new given none polls = subst (λ end. PollsFrom see end old new given) none polls
 
-  poll_end : (old new : SimState X) → end_given old ≡ None → Polls received sent calls failures old new None → end_given new ≡ None
+  poll_end : (old new : SimState X) → end_given old ≡ None → Polls see old new None → end_given new ≡ None
   poll_end old new none polls =
       let on = polled old new None none polls in
       ap end_given on.stays ∙ run_end old on.mid None on.runs ∙ none
 
-  poll_sound : (old new : SimState X) → end_given old ≡ None → Polls received sent calls failures old new None → KeepsSound failures old new
+  poll_sound : (old new : SimState X) → end_given old ≡ None → Polls see old new None → KeepsSound see.failures old new
   poll_sound old new none polls =
       let on = polled old new None none polls in
-      subst (λ s. KeepsSound failures old s) (sym on.stays) (run_sound old on.mid on.runs)
+      subst (λ s. KeepsSound see.failures old s) (sym on.stays) (run_sound old on.mid on.runs)
 
-  poll_so : (old new : SimState X) (given : Result SimTurn SimError) → end_given old ≡ None → Polls received sent calls failures old new (Some given) → Says failures old new given
+  poll_so : (old new : SimState X) (given : Result SimTurn SimError) → end_given old ≡ None → Polls see old new (Some given) → Says see.failures old new given
   poll_so old new given none polls =
       let on = polled old new (Some given) none polls in
-      subst (λ s. Says failures old s given) (sym on.stays) (so_kept old on.mid given given (run_so old on.mid given on.runs))
+      subst (λ s. Says see.failures old s given) (sym on.stays) (so_kept old on.mid given given (run_so old on.mid given on.runs))
 
   -- what it gives from here on it gave before
-  pub gives_before : (old new : SimState X) (given : Result SimTurn SimError) → Polls received sent calls failures old new None → Gives received sent calls failures new given → Gives received sent calls failures old given
+  pub gives_before : (old new : SimState X) (given : Result SimTurn SimError) → Polls see old new None → Gives see new given → Gives see old given
   gives_before old new given once gives = record {
     mid = gives.mid;
     new = gives.new;
@@ -154,21 +156,21 @@ module _ {X : Type 0} (received sent : X → List ℕ) (calls failures : X → �
     says = λ none. says_behind old new gives.new given (poll_sound old new none once) (gives.says (poll_end old new none once));
   }
 
-  pub gives_now : (old new : SimState X) (given : Result SimTurn SimError) → Polls received sent calls failures old new (Some given) → Gives received sent calls failures old given
+  pub gives_now : (old new : SimState X) (given : Result SimTurn SimError) → Polls see old new (Some given) → Gives see old given
   gives_now old new given polls = record { mid = old; new = new; waits = waits_none old; polls = polls; says = λ none. poll_so old new given none polls }
 
 -- ## A poll
 
 -- where no end is kept
-pub polls_on : {X : Type 0} (received sent : X → List ℕ) (calls failures : X → ℕ) (old mid new : SimState X) (given : Option (Result SimTurn SimError)) → None ≡ old.kept.end → Runs received sent calls failures old mid given → new ≡ with_given given mid → Polls received sent calls failures old new given
+pub polls_on : {X : Type 0} (see : Sight X) (old mid new : SimState X) (given : Option (Result SimTurn SimError)) → None ≡ old.kept.end → Runs see old mid given → new ≡ with_given given mid → Polls see old new given
 unfolding Polls
-polls_on received sent calls failures old mid new given none runs stays =
-    let From : Option (Result SimTurn SimError) → Type 0 = λ end. PollsFrom received sent calls failures end old new given in
+polls_on see old mid new given none runs stays =
+    let From : Option (Result SimTurn SimError) → Type 0 = λ end. PollsFrom see end old new given in
     subst From none (record { mid = mid; runs = runs; stays = stays })
 
 -- where one is
-pub polls_again : {X : Type 0} (received sent : X → List ℕ) (calls failures : X → ℕ) (s : SimState X) (end : Result SimTurn SimError) → Some end ≡ s.kept.end → Polls received sent calls failures s s (Some end)
+pub polls_again : {X : Type 0} (see : Sight X) (s : SimState X) (end : Result SimTurn SimError) → Some end ≡ s.kept.end → Polls see s s (Some end)
 unfolding Polls
-polls_again received sent calls failures s end some =
-    let From : Option (Result SimTurn SimError) → Type 0 = λ o. PollsFrom received sent calls failures o s s (Some end) in
+polls_again see s end some =
+    let From : Option (Result SimTurn SimError) → Type 0 = λ o. PollsFrom see o s s (Some end) in
     subst From some (refl, refl)

@@ -1,6 +1,6 @@
 -- A simulated modem at its line goes on.
-use Rattle.std.specs.Prelude.{◌≡◌, ℕ, ◌≤◌, ◌==◌, ◌&&◌, Bool, true, false, List, [], ◌∷◌, ◌++◌, Option, Some, None, option_map, Result, Ok, Err, IfOk, OnOk, OnErr, take, drop, length, refl}
-use Rattle.std.specs.List.{flat_map}
+use Rattle.std.specs.Prelude.{◌≡◌, ℕ, ◌≤◌, ◌==◌, ◌&&◌, Bool, true, false, List, [], ◌∷◌, ◌++◌, Option, Some, None, is_none, option_map, Result, Ok, Err, IfOk, OnOk, OnErr, take, drop, length, refl}
+use Rattle.std.specs.List.{flat_map, list_all}
 use Rattle.std.proofs.Common.{arith, sym, ap, ◌∙◌, subst, append_assoc, append-nil, length-append, take-append-drop}
 use Rattle.std.proofs.lemmas.Grind.{flat_map-append}
 use Rattle.mux_frame.specs.Frames.{Frame}
@@ -11,34 +11,42 @@ use Rattle.mux_frame.proofs.readings.ComputedReadings.{total_reading}
 use Rattle.at_cmds.proofs.command_texts.CommandLines.{both_true}
 use Rattle.std.proofs.lemmas.Bool.Decides.{nat_tests}
 use Rattle.modem_sim.specs.Histories.{got, sent}
+use Rattle.mux_station.specs.Acts as station
+use Rattle.mux_station.specs.Sending as sending
+use Rattle.mux_station.specs.Sending.{got_refused}
 use Rattle.mux_station.specs.Stations as stations
 use Rattle.mux_station.specs.Giving.{data_frame, data_given, station_after, next_given, next_turn}
 use Rattle.mux_station.specs.GivenFrames.{Outgoing, with_freshness}
-use Rattle.modem_sim.specs.Acts.{Act, End}
-use Rattle.modem_sim.specs.Cores.{Core, Goes, EndGoesOn, GivesOut, gone_on}
+use Rattle.modem_sim.specs.Acts.{Act, Wire, End, any_act, setting, wire}
+use Rattle.modem_sim.specs.Cores.{Core, Goes, EndGoesOn, GivesOut, IsGivenOn, IsLater, after_wire_act, gone_on}
 use Rattle.modem_sim.specs.Sims.{Kept, KeptFits, KeptGoes, Receives, SimState, SimGoes, Simulates, IsOver, is_ended}
-use Rattle.modem_sim.specs.Turns.{is_nil}
-use Rattle.modem_sim.specs.Stills.{KeptDoes, KeptStays}
+use Rattle.modem_sim.specs.Stills.{KeptStays, TakesFrame}
+use Rattle.modem_sim.proofs.ends.EndAfterFrame.{later-sent_after}
 use Rattle.modem_sim.proofs.ends.OfferedPieces.{later_then}
 use Rattle.mux_station.proofs.law_proofs.PlainFrames.{plain_short}
 use Rattle.modem_sim.proofs.sims.WrittenFrames.{goes_out_plain}
 
-pub kept_none : (k : Kept) → KeptGoes k k
-kept_none k e came went past fits = record { now = past; later = record { newer = []; joins = refl }; fits = fits }
+pub all_any : (acts : List Act) → list_all any_act acts ≡ true
+all_any [] = refl
+all_any (a ∷ acts) = all_any acts
 
-pub kept_then : (a b c : Kept) → KeptGoes a b → KeptGoes b c → KeptGoes a c
-kept_then a b c p q e came went past fits =
-    let first = p e came went past fits in
-    let second = q e came went first.now first.fits in
-    record { now = second.now; later = later_then past first.now second.now first.later second.later; fits = second.fits }
+pub kept_none : (may : Act → Bool) (k : Kept) → KeptGoes may k k
+kept_none may k e came went past fits = record { now = past; later = record { newer = []; joins = refl }; only = refl; fits = fits }
+
+-- by acts of any kind
+pub kept_any : (may : Act → Bool) (a b : Kept) → KeptGoes may a b → KeptGoes any_act a b
+kept_any may a b goes e came went past fits =
+    let from = goes e came went past fits in
+    record { now = from.now; later = from.later; only = all_any from.later.newer; fits = from.fits }
 
 -- where its end goes on by itself
-pub kept_core : (old : Kept) (core : Core) → Goes old.core core → KeptGoes old (record old { core = core })
-kept_core old core goes e came went past fits =
+pub kept_core : (may : Act → Bool) (old : Kept) (core : Core) → Goes may old.core core → KeptGoes may old (record old { core = core })
+kept_core may old core goes e came went past fits =
     let went_on = goes e fits.wired past fits.core_fits in
     record {
       now = went_on.now;
       later = went_on.later;
+      only = went_on.only;
       fits = record {
         wired = fits.wired;
         core_fits = went_on.fits;
@@ -50,46 +58,55 @@ kept_core old core goes e came went past fits =
       };
     }
 
--- a past with a frame more is another one
-not_same : (newer past now : List Act) (xs : List Frame) (f : Frame) → newer ++ past ≡ now → got past ≡ xs → got now ≡ xs ++ f ∷ [] → is_nil newer ≡ false
-not_same [] past now xs f joins before after =
-    let same : xs ≡ xs ++ f ∷ [] = sym before ∙ ap got joins ∙ after in
-    let long = ap length same ∙ length-append xs (f ∷ []) in
-    absurd (omega (arith, long))
-not_same (a ∷ newer) past now xs f joins before after = refl
-
 -- where it takes the frame at hand
-pub kept_did : (old : Kept) (core : Core) (d : Deframing) (f : Frame) → old.deframer.next ≡ Some f → EndGoesOn old.core core f → HandsOver old.deframer d → d.n1 ≡ old.deframer.n1 → KeptDoes old (record old { core = core; deframer = d })
-kept_did old core d f hand goes hands same e came went past fits =
-    let went_on = goes e fits.wired past fits.core_fits in
+pub took_fits : (old : Kept) (core : Core) (d : Deframing) (f : Frame) → old.deframer.next ≡ Some f → EndGoesOn old.core core f → HandsOver old.deframer d → d.n1 ≡ old.deframer.n1 → (e : End) (came went : List ℕ) (past : List Act) → KeptFits e came went old past → KeptFits e came went (record old { core = core; deframer = d }) (after_wire_act e past (station.Got f))
+took_fits old core d f hand goes hands same e came went past fits = record {
+  wired = record fits.wired { came = fits.wired.came ++ f ∷ [] };
+  core_fits = goes e fits.wired past fits.core_fits;
+  n1_is = same ∙ fits.n1_is;
+  taken = fits.taken;
+  came_is = fits.came_is;
+  deframes = hands fits.taken fits.wired.came f hand fits.deframes;
+  went_is = fits.went_is;
+}
+
+pub none_so : {A : Type 0} (o : Option A) → is_none o ≡ true → o ≡ None
+none_so None is = refl
+none_so (Some x) is = cc
+
+pub takes_frame : (old : Kept) (core : Core) (d : Deframing) (f : Frame) → old.deframer.next ≡ Some f → EndGoesOn old.core core f → HandsOver old.deframer d → d.n1 ≡ old.deframer.n1 → got_refused (stations.setting_of old.core.station) (stations.seen_in old.core.station) f ≡ None → TakesFrame old (record old { core = core; deframer = d })
+takes_frame old core d f hand goes hands same room = record { frame = f; hand = hand; room = room; goes = took_fits old core d f hand goes hands same }
+
+unfoldable pub later_act : (e : End) (past : List Act) (a : station.Act) → IsLater past (after_wire_act e past a)
+later_act e past a =
+    let begun = later-sent_after (sending.called_frames (setting e) (wire past) a) (Wire a ∷ past) in
+    record { newer = begun.newer ++ Wire a ∷ []; joins = append_assoc begun.newer (Wire a ∷ []) past ∙ begun.joins }
+
+pub kept_took : (old : Kept) (core : Core) (d : Deframing) (f : Frame) → old.deframer.next ≡ Some f → EndGoesOn old.core core f → HandsOver old.deframer d → d.n1 ≡ old.deframer.n1 → KeptGoes any_act old (record old { core = core; deframer = d })
+kept_took old core d f hand goes hands same e came went past fits =
+    let later = later_act e past (station.Got f) in
     record {
-      from = record {
-        now = went_on.now;
-        later = went_on.later;
-        fits = record {
-          wired = record fits.wired { came = fits.wired.came ++ f ∷ [] };
-          core_fits = went_on.fits;
-          n1_is = same ∙ fits.n1_is;
-          taken = fits.taken;
-          came_is = fits.came_is;
-          deframes = hands fits.taken fits.wired.came f hand fits.deframes;
-          went_is = fits.went_is;
-        };
-      };
-      some = not_same went_on.later.newer past went_on.now fits.wired.came f went_on.later.joins fits.core_fits.came_are went_on.fits.came_are;
+      now = after_wire_act e past (station.Got f);
+      later = later;
+      only = all_any later.newer;
+      fits = took_fits old core d f hand goes hands same e came went past fits;
     }
 
-pub kept_took : (old : Kept) (core : Core) (d : Deframing) (f : Frame) → old.deframer.next ≡ Some f → EndGoesOn old.core core f → HandsOver old.deframer d → d.n1 ≡ old.deframer.n1 → KeptGoes old (record old { core = core; deframer = d })
-kept_took old core d f hand goes hands same e came went past fits = (kept_did old core d f hand goes hands same e came went past fits).from
-
 -- where its end gives a frame on, whose octets are to be written
-pub kept_gave : (old : Kept) (f : Frame) (out : List ℕ) → old.out ≡ [] → next_given old.core.station old.core.station.queue ≡ Some f → length f.info ≤ 1024 → (length f.info ≤ spelling.most_info 1024 f.kind → out ≡ spelling.spelled f) → GivesOut old.core → KeptGoes old (record old { core = gone_on old.core; out = out })
-kept_gave old f out none next short writes gives e came went past fits =
+pub record Gave (e : End) (came went : List ℕ) (past : List Act) (f : Frame) (k : Kept) : Type 0 where
+  pub now : List Act
+  pub given : IsGivenOn past f now
+  pub written : k.out ≡ spelling.spelled f
+  pub fits : KeptFits e came went k now
+
+pub gave_fits : (old : Kept) (f : Frame) (out : List ℕ) → old.out ≡ [] → next_given old.core.station old.core.station.queue ≡ Some f → length f.info ≤ 1024 → (length f.info ≤ spelling.most_info 1024 f.kind → out ≡ spelling.spelled f) → GivesOut old.core → (e : End) (came went : List ℕ) (past : List Act) → KeptFits e came went old past → Gave e came went past f (record old { core = gone_on old.core; out = out })
+gave_fits old f out none next short writes gives e came went past fits =
     let went_on = gives f next e fits.wired past fits.core_fits in
     let written = writes (plain_short f (goes_out_plain e fits.wired old.core past f fits.core_fits next) short) in
     record {
       now = went_on.now;
-      later = went_on.later;
+      given = went_on.given;
+      written = written;
       fits = record {
         wired = record fits.wired { gone = fits.wired.gone ++ f ∷ [] };
         core_fits = went_on.fits;
@@ -116,10 +133,11 @@ fed_fits old d n takes same e came went past fits = record {
   went_is = fits.went_is;
 }
 
-pub kept_fed : (old : Kept) (d : Deframing) (n : ℕ) → TakesIn old.deframer (take n old.unfed) d → d.n1 ≡ old.deframer.n1 → KeptGoes old (record old { unfed = drop n old.unfed; deframer = d })
+pub kept_fed : (old : Kept) (d : Deframing) (n : ℕ) → TakesIn old.deframer (take n old.unfed) d → d.n1 ≡ old.deframer.n1 → KeptGoes any_act old (record old { unfed = drop n old.unfed; deframer = d })
 kept_fed old d n takes same e came went past fits = record {
   now = past;
   later = record { newer = []; joins = refl };
+  only = refl;
   fits = fed_fits old d n takes same e came went past fits;
 }
 
@@ -159,8 +177,8 @@ sim_then received sent a b c p q at e past fits =
     record { now = second.now; later = later_then past first.now second.now first.later second.later; fits = second.fits }
 
 -- the line as it was
-pub sim_kept : {X : Type 0} (received sent : X → List ℕ) (s : SimState X) (k : Kept) → KeptGoes s.kept k → SimGoes received sent s (record s { kept = k })
-sim_kept received sent s k goes at e past fits =
+pub sim_kept : {X : Type 0} (received sent : X → List ℕ) (s : SimState X) (may : Act → Bool) (k : Kept) → KeptGoes may s.kept k → SimGoes received sent s (record s { kept = k })
+sim_kept received sent s may k goes at e past fits =
     let went_on = goes e fits.came fits.went past fits.kept_fits in
     record {
       now = went_on.now;
@@ -169,10 +187,11 @@ sim_kept received sent s k goes at e past fits =
     }
 
 -- a flag that says nothing of the past
-pub kept_failed : (k : Kept) → KeptGoes k (record k { failed = true })
+pub kept_failed : (k : Kept) → KeptGoes any_act k (record k { failed = true })
 kept_failed k e came went past fits = record {
   now = past;
   later = record { newer = []; joins = refl };
+  only = refl;
   fits = record {
     wired = fits.wired;
     core_fits = fits.core_fits;
@@ -228,7 +247,7 @@ sim_failed received sent s line k came went is =
     let At : Kept → Type 0 = λ x. SimGoes received sent s (record { line = line; kept = x }) in
     let there : SimState _ = record s { line = line } in
     subst At (sym is)
-    (sim_then received sent s there (record { line = line; kept = record s.kept { failed = true } }) (sim_line received sent s line came went) (sim_kept received sent there (record s.kept { failed = true }) (kept_failed s.kept)))
+    (sim_then received sent s there (record { line = line; kept = record s.kept { failed = true } }) (sim_line received sent s line came went) (sim_kept received sent there any_act (record s.kept { failed = true }) (kept_failed s.kept)))
 
 pub sim_wrote_by : {X E : Type 0} (received sent : X → List ℕ) (s : SimState X) (line : X) (k : Kept) (r : Result ℕ E) → IfOk r (λ n. sent line ≡ sent s.line ++ take n s.kept.out) → IfOk r (λ n. k ≡ record s.kept { out = drop n s.kept.out }) → OnErr r (sent line ≡ sent s.line) → OnErr r (k ≡ record s.kept { failed = true }) → received line ≡ received s.line → SimGoes received sent s (record { line = line; kept = k })
 sim_wrote_by received sent s line k (Ok n) went is none_went failed came = sim_wrote received sent s line k n came went is
@@ -275,17 +294,17 @@ gone_none c none = ap (λ (v : stations.Station). record c { station = v }) (giv
 pub fetched_nothing : (old mid core : Core) (fresh : Bool) → mid ≡ old → None ≡ option_map (with_freshness fresh) (next_given mid.station mid.station.queue) → core ≡ gone_on mid → core ≡ old
 fetched_nothing old mid core fresh same none is = is ∙ gone_none mid (none_mapped (with_freshness fresh) (next_given mid.station mid.station.queue) none) ∙ same
 
-pub fetched_none : (old : Kept) (mid core : Core) (fresh : Bool) → Goes old.core mid → None ≡ option_map (with_freshness fresh) (next_given mid.station mid.station.queue) → core ≡ gone_on mid → KeptGoes old (record old { core = core })
-fetched_none old mid core fresh goes none is =
-    let At : Core → Type 0 = λ c. KeptGoes old (record old { core = c }) in
-    subst At (sym (is ∙ gone_none mid (none_mapped (with_freshness fresh) (next_given mid.station mid.station.queue) none))) (kept_core old mid goes)
+-- the station as it was, where none is there
+pub fetched_none : (old mid core : Core) (may : Act → Bool) (fresh : Bool) → Goes may old mid → None ≡ option_map (with_freshness fresh) (next_given mid.station mid.station.queue) → core ≡ gone_on mid → Goes may old core
+fetched_none old mid core may fresh goes none is =
+    subst (Goes may old) (sym (is ∙ gone_none mid (none_mapped (with_freshness fresh) (next_given mid.station mid.station.queue) none))) goes
 
-pub fetched_some : (old : Kept) (mid core : Core) (fresh : Bool) (g : Outgoing) (out : List ℕ) → old.out ≡ [] → Goes old.core mid → Some g ≡ option_map (with_freshness fresh) (next_given mid.station mid.station.queue) → length g.frame.info ≤ 1024 → (length g.frame.info ≤ spelling.most_info 1024 g.frame.kind → out ≡ spelling.spelled g.frame) → GivesOut mid → core ≡ gone_on mid → KeptGoes old (record old { core = core; out = out })
-fetched_some old mid core fresh g out none goes some short writes gives is =
-    let At : Core → Type 0 = λ c. KeptGoes old (record old { core = c; out = out }) in
+-- the frame that is there is given on
+pub fetched_some : (old : Kept) (mid core : Core) (fresh : Bool) (g : Outgoing) (out : List ℕ) → old.out ≡ [] → Some g ≡ option_map (with_freshness fresh) (next_given mid.station mid.station.queue) → length g.frame.info ≤ 1024 → (length g.frame.info ≤ spelling.most_info 1024 g.frame.kind → out ≡ spelling.spelled g.frame) → GivesOut mid → core ≡ gone_on mid → (e : End) (came went : List ℕ) (past : List Act) → KeptFits e came went (record old { core = mid }) past → Gave e came went past g.frame (record old { core = core; out = out })
+fetched_some old mid core fresh g out none some short writes gives is e came went past fits =
+    let At : Core → Type 0 = λ c. Gave e came went past g.frame (record old { core = c; out = out }) in
     subst At (sym is)
-    (kept_then old (record old { core = mid }) (record old { core = gone_on mid; out = out }) (kept_core old mid goes)
-    (kept_gave (record old { core = mid }) g.frame out none (some_mapped fresh g (next_given mid.station mid.station.queue) some) short writes gives))
+    (gave_fits (record old { core = mid }) g.frame out none (some_mapped fresh g (next_given mid.station mid.station.queue) some) short writes gives e came went past fits)
 
 -- ## What that comes to
 

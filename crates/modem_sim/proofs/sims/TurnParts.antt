@@ -1,16 +1,16 @@
 -- What the parts of a turn do, or why they do nothing.
-use Rattle.std.specs.Prelude.{◌≡◌, ◌≢◌, ℕ, ◌<◌, ◌≤◌, nat_lt, ◌==◌, Bool, true, false, List, [], ◌∷◌, ◌++◌, length, take, drop, Option, Some, None, option_map, refl}
-use Rattle.std.proofs.Common.{arith, sym, ap, ◌∙◌, append-nil, length-take}
+use Rattle.std.specs.Prelude.{◌≡◌, ◌≢◌, ℕ, zero, suc, ◌<◌, ◌≤◌, nat_lt, ◌==◌, Bool, true, false, List, [], ◌∷◌, ◌++◌, length, take, drop, Option, Some, None, option_map, refl}
+use Rattle.std.proofs.Common.{arith, sym, ap, ◌∙◌, append-nil, length-take, take-append-drop}
 use Rattle.std.proofs.lemmas.Bool.Decides.{nat_tests}
 use Rattle.std.proofs.lemmas.List.{nil_from_length}
-use Rattle.serial_line.specs.Counts.{one_more}
+use Rattle.serial_line.specs.Counts.{one_more, counted_if_none}
 use Rattle.mux_frame.specs.Frames.{Frame}
 use Rattle.mux_frame.specs.Deframing.{Deframing, TakesIn}
 use Rattle.modem_sim.specs.Sims.{Kept}
 use Rattle.mux_station.specs.Giving.{next_given}
 use Rattle.mux_station.specs.GivenFrames.{with_freshness}
 use Rattle.modem_sim.specs.Cores.{Core, IsHandedOn, gone_on}
-use Rattle.modem_sim.specs.Stills.{FeedsNone, LoadsNone, ReadsOnce, Writes}
+use Rattle.modem_sim.specs.Stills.{Feeds, FeedsNone, LoadsNone, ReadsOnce, Writes}
 use Rattle.modem_sim.proofs.sims.SimPasts.{fed_fits, fetched_nothing, none_mapped}
 
 pub none_of : {A : Type 0} (xs : List A) → (length xs == 0) ≡ true → xs ≡ []
@@ -51,11 +51,36 @@ feeds_none old d n takes same some stays none waiting =
     by_next (Some f) is = stays f is ∙ sym is
     by_next None is = let there : 0 < length old.unfed = grind (arith, nat_tests) in let fed = some is there in let zero = is_zero n none in absurd (omega (arith, fed, zero))
 
--- ## Loading
-
 some_length : (xs : List ℕ) → xs ≢ [] → 0 < length xs
 some_length [] some = absurd (some refl)
 some_length (x ∷ xs) some = omega arith
+
+pub feeds_empty : (k : Kept) → (length k.unfed == 0) ≡ true → Feeds k k
+feeds_empty k empty = record {
+  stays = λ e came went past fits. fits;
+  fed = [];
+  feeds = refl;
+  some = λ none some. absurd (some (none_of k.unfed empty));
+}
+
+first_taken : (n : ℕ) (xs : List ℕ) → 0 < n → xs ≢ [] → take n xs ≢ []
+first_taken zero xs some there = absurd (omega (arith, some))
+first_taken (suc n) [] some there = absurd (there refl)
+first_taken (suc n) (x ∷ xs) some there = λ none. cc
+
+pub feeds_some : (old : Kept) (d : Deframing) (n : ℕ) → TakesIn old.deframer (take n old.unfed) d → d.n1 ≡ old.deframer.n1 → (old.deframer.next ≡ None → 0 < length old.unfed → 0 < n) → ((f : Frame) → old.deframer.next ≡ Some f → d.next ≡ Some f) → Feeds old (record old { unfed = drop n old.unfed; deframer = d })
+feeds_some old d n takes same some stays = record {
+  stays = fed_fits old d n takes same;
+  fed = take n old.unfed;
+  feeds = sym (take-append-drop n old.unfed);
+  some = λ none there. first_taken n old.unfed (some (none_before old.deframer.next refl none) (some_length old.unfed there)) there;
+}
+  where
+    none_before : (o : Option Frame) → old.deframer.next ≡ o → d.next ≡ None → old.deframer.next ≡ None
+    none_before None is none = is
+    none_before (Some f) is none = let kept = stays f is in cc
+
+-- ## Loading
 
 pub more_ready : (before now : List ℕ) → before ≡ [] → now ≢ [] → length before < length now
 more_ready before now none some = let zero = ap length none in let long = some_length now some in omega (arith, zero, long)
@@ -71,45 +96,55 @@ loads_nothing old mid core fresh same none is handed = record {
 
 -- ## The line
 
-pub writes_nothing : (k : Kept) (sent : List ℕ) (calls : ℕ) → (length k.out == 0) ≡ true → Writes sent sent calls calls k k 0
-writes_nothing k sent calls empty = record {
+pub writes_nothing : (k : Kept) (sent : List ℕ) (calls stalled : ℕ) → (length k.out == 0) ≡ true → Writes sent sent calls calls stalled stalled k k 0
+writes_nothing k sent calls stalled empty = record {
   write = None;
   offers = none_of k.out empty;
   went = sym (append-nil sent);
   calls_are = refl;
+  stalled_are = refl;
+  parts = refl;
   count_is = refl;
   kept = refl;
   none = λ some zero. absurd (some (none_of k.out empty));
 }
 
-pub writes_some : (old new : Kept) (before sent : List ℕ) (calls_before calls n : ℕ) → (length old.out == 0) ≡ false → n ≤ length old.out → sent ≡ before ++ take n old.out → calls ≡ one_more calls_before → new ≡ record old { out = drop n old.out } → Writes before sent calls_before calls old new n
-writes_some old new before sent calls_before calls n some bound went counted is = record {
+pub writes_some : (old new : Kept) (before sent : List ℕ) (calls_before calls stalled_before stalled n : ℕ) → (length old.out == 0) ≡ false → n ≤ length old.out → sent ≡ before ++ take n old.out → calls ≡ one_more calls_before → stalled ≡ counted_if_none (length old.out) n stalled_before → new ≡ record old { out = drop n old.out } → Writes before sent calls_before calls stalled_before stalled old new n
+writes_some old new before sent calls_before calls stalled_before stalled n some bound went counted stalls is = record {
   write = Some (record { offered = old.out; count = n });
   offers = record { some = some_of old.out some; bound = bound; first = record { rest = []; joins = append-nil old.out } };
   went = went;
   calls_are = counted;
+  stalled_are = stalls;
+  parts = take-append-drop n old.out;
   count_is = let long = length-take n old.out in omega (arith, long, bound);
   kept = is;
   none = λ there zero. ap (λ m. Some (record { offered = old.out; count = m })) zero;
 }
 
-pub reads_nothing : (k : Kept) (received : List ℕ) (calls : ℕ) → (length k.unfed == 0) ≡ false → ReadsOnce received received calls calls k k false
-reads_nothing k received calls some = record {
+pub reads_nothing : (k : Kept) (received : List ℕ) (calls empty : ℕ) → (length k.unfed == 0) ≡ false → ReadsOnce received received calls calls empty empty k k false
+reads_nothing k received calls empties some = record {
   read = None;
   room = tt;
+  reads = λ empty. absurd (some_of k.unfed some empty);
+  reads_fed = λ there. absurd (there refl);
   came_are = sym (append-nil received);
   calls_are = refl;
+  empty_are = refl;
   says = refl;
   kept = ap (λ xs. record k { unfed = xs }) (sym (append-nil k.unfed));
   none = λ empty none. absurd (some_of k.unfed some empty);
 }
 
-pub reads_some : (old new : Kept) (before received octets : List ℕ) (calls_before calls n : ℕ) → (length old.unfed == 0) ≡ true → n ≤ 512 → n ≡ length octets → received ≡ before ++ octets → calls ≡ one_more calls_before → new ≡ record old { unfed = octets } → ReadsOnce before received calls_before calls old new (nat_lt 0 n)
-reads_some old new before received octets calls_before calls n empty bound count came counted is = record {
+pub reads_some : (old new : Kept) (before received octets : List ℕ) (calls_before calls empty_before empty_now n : ℕ) → (length old.unfed == 0) ≡ true → n ≤ 512 → n ≡ length octets → received ≡ before ++ octets → calls ≡ one_more calls_before → empty_now ≡ counted_if_none 512 n empty_before → new ≡ record old { unfed = octets } → ReadsOnce before received calls_before calls empty_before empty_now old new (nat_lt 0 n)
+reads_some old new before received octets calls_before calls empty_before empty_now n empty bound count came counted empties is = record {
   read = Some (record { room = 512; octets = octets });
   room = record { some = omega arith; bound = omega (arith, bound, count) };
+  reads = λ _ none. cc;
+  reads_fed = λ _. none_of old.unfed empty;
   came_are = came;
   calls_are = counted;
+  empty_are = empties ∙ ap (λ m. counted_if_none 512 m empty_before) count;
   says = ap (nat_lt 0) count;
   kept = is ∙ ap (λ xs. record old { unfed = xs ++ octets }) (sym (none_of old.unfed empty));
   none = λ _ none. let zero = is_zero n none in ap (λ xs. Some (record { room = 512; octets = xs })) (nil_from_length octets (sym count ∙ zero));

@@ -1,4 +1,5 @@
 use Rattle.std.proofs.Common.{subst}
+use Rattle.modem_sim.specs.Acts.{is_step_act}
 use Rattle.modem_sim.specs.Sims.{Kept, KeptGoes}
 use Rattle.modem_sim.proofs.sims.SimPasts.{kept_core}
 use Rattle.modem_sim.proofs.kept.Kept.do_steps.Goals as goal
@@ -13,5 +14,5 @@ returns-clause-goes c =
       failed = c.self.inside.failed;
       end = c.self.inside.end;
     } in
-    let Goes_to : Kept → Type 0 = λ k. KeptGoes k (record old { core = c.do_steps.new.self }) in
-    subst Goes_to c.self.view_is (kept_core old c.do_steps.new.self c.do_steps.ensures.goes)
+    let Goes_to : Kept → Type 0 = λ k. KeptGoes is_step_act k (record old { core = c.do_steps.new.self }) in
+    subst Goes_to c.self.view_is (kept_core is_step_act old c.do_steps.new.self c.do_steps.ensures.goes)

@@ -1,18 +1,21 @@
+use Rattle.modem_sim.specs.Acts.{any_act, is_step_act}
+use Rattle.modem_sim.specs.Sims.{Sight, sight}
 use Rattle.modem_sim.specs.Stills.{at_line, leaves_frame, leaves_octets, leaves_step}
 use Rattle.modem_sim.proofs.sims.SimPasts.{sim_kept, sim_read_by, sim_then, sim_wrote_by}
-use Rattle.modem_sim.proofs.sims.WholeTurns.{Went, goes_once}
+use Rattle.modem_sim.proofs.sims.TurnHistories.{goes_once}
+use Rattle.modem_sim.proofs.sims.WholeTurns.{Went}
 use Rattle.modem_sim.proofs.kept.Kept.go_on.Goals as goal
 
 pub returns-in_err-done-clause-goes : goal.returns-in_err-done-clause-goes
 returns-in_err-done-clause-goes g c =
-    sim_kept g.L.SerialLine.received g.L.SerialLine.sent (at_line c.args.line.now c.args.self.now) c.do_steps.new.self c.do_steps.ensures.goes
+    sim_kept g.L.SerialLine.received g.L.SerialLine.sent (at_line c.args.line.now c.args.self.now) is_step_act c.do_steps.new.self c.do_steps.ensures.goes
 
 pub returns-in_err-wrote-clause-goes : goal.returns-in_err-wrote-clause-goes
 returns-in_err-wrote-clause-goes g c =
     let received = g.L.SerialLine.received in
     let sent = g.L.SerialLine.sent in
     sim_then received sent (at_line c.args.line.now c.args.self.now) (at_line c.args.line.now c.do_steps.new.self) (at_line c.write.new.line c.write.new.self)
-    (sim_kept received sent (at_line c.args.line.now c.args.self.now) c.do_steps.new.self c.do_steps.ensures.goes)
+    (sim_kept received sent (at_line c.args.line.now c.args.self.now) is_step_act c.do_steps.new.self c.do_steps.ensures.goes)
     (sim_wrote_by received sent (at_line c.args.line.now c.do_steps.new.self) c.write.new.line c.write.new.self c.write.result
     c.write.ensures.went c.write.ensures.kept c.write.ensures.none_went c.write.ensures.err c.write.ensures.none_came)
 
@@ -22,10 +25,10 @@ returns-in_err-loaded-clause-goes g c =
     let sent = g.L.SerialLine.sent in
     sim_then received sent (at_line c.args.line.now c.args.self.now) (at_line c.write.new.line c.write.new.self) (at_line c.write.new.line c.load.new.self)
     (sim_then received sent (at_line c.args.line.now c.args.self.now) (at_line c.args.line.now c.do_steps.new.self) (at_line c.write.new.line c.write.new.self)
-    (sim_kept received sent (at_line c.args.line.now c.args.self.now) c.do_steps.new.self c.do_steps.ensures.goes)
+    (sim_kept received sent (at_line c.args.line.now c.args.self.now) is_step_act c.do_steps.new.self c.do_steps.ensures.goes)
     (sim_wrote_by received sent (at_line c.args.line.now c.do_steps.new.self) c.write.new.line c.write.new.self c.write.result
     c.write.ensures.went c.write.ensures.kept c.write.ensures.none_went c.write.ensures.err c.write.ensures.none_came))
-    (sim_kept received sent (at_line c.write.new.line c.write.new.self) c.load.new.self c.load.ensures.goes)
+    (sim_kept received sent (at_line c.write.new.line c.write.new.self) any_act c.load.new.self c.load.ensures.goes)
 
 pub returns-in_err-took-clause-goes : goal.returns-in_err-took-clause-goes
 returns-in_err-took-clause-goes g c =
@@ -34,11 +37,11 @@ returns-in_err-took-clause-goes g c =
     sim_then received sent (at_line c.args.line.now c.args.self.now) (at_line c.write.new.line c.load.new.self) (at_line c.write.new.line c.take_frame.new.self)
     (sim_then received sent (at_line c.args.line.now c.args.self.now) (at_line c.write.new.line c.write.new.self) (at_line c.write.new.line c.load.new.self)
     (sim_then received sent (at_line c.args.line.now c.args.self.now) (at_line c.args.line.now c.do_steps.new.self) (at_line c.write.new.line c.write.new.self)
-    (sim_kept received sent (at_line c.args.line.now c.args.self.now) c.do_steps.new.self c.do_steps.ensures.goes)
+    (sim_kept received sent (at_line c.args.line.now c.args.self.now) is_step_act c.do_steps.new.self c.do_steps.ensures.goes)
     (sim_wrote_by received sent (at_line c.args.line.now c.do_steps.new.self) c.write.new.line c.write.new.self c.write.result
     c.write.ensures.went c.write.ensures.kept c.write.ensures.none_went c.write.ensures.err c.write.ensures.none_came))
-    (sim_kept received sent (at_line c.write.new.line c.write.new.self) c.load.new.self c.load.ensures.goes))
-    (sim_kept received sent (at_line c.write.new.line c.load.new.self) c.take_frame.new.self c.take_frame.ensures.goes)
+    (sim_kept received sent (at_line c.write.new.line c.write.new.self) any_act c.load.new.self c.load.ensures.goes))
+    (sim_kept received sent (at_line c.write.new.line c.load.new.self) any_act c.take_frame.new.self c.take_frame.ensures.goes)
 
 pub returns-in_err-came-clause-goes : goal.returns-in_err-came-clause-goes
 returns-in_err-came-clause-goes g c =
@@ -48,11 +51,11 @@ returns-in_err-came-clause-goes g c =
     (sim_then received sent (at_line c.args.line.now c.args.self.now) (at_line c.write.new.line c.load.new.self) (at_line c.write.new.line c.take_frame.new.self)
     (sim_then received sent (at_line c.args.line.now c.args.self.now) (at_line c.write.new.line c.write.new.self) (at_line c.write.new.line c.load.new.self)
     (sim_then received sent (at_line c.args.line.now c.args.self.now) (at_line c.args.line.now c.do_steps.new.self) (at_line c.write.new.line c.write.new.self)
-    (sim_kept received sent (at_line c.args.line.now c.args.self.now) c.do_steps.new.self c.do_steps.ensures.goes)
+    (sim_kept received sent (at_line c.args.line.now c.args.self.now) is_step_act c.do_steps.new.self c.do_steps.ensures.goes)
     (sim_wrote_by received sent (at_line c.args.line.now c.do_steps.new.self) c.write.new.line c.write.new.self c.write.result
     c.write.ensures.went c.write.ensures.kept c.write.ensures.none_went c.write.ensures.err c.write.ensures.none_came))
-    (sim_kept received sent (at_line c.write.new.line c.write.new.self) c.load.new.self c.load.ensures.goes))
-    (sim_kept received sent (at_line c.write.new.line c.load.new.self) c.take_frame.new.self c.take_frame.ensures.goes))
+    (sim_kept received sent (at_line c.write.new.line c.write.new.self) any_act c.load.new.self c.load.ensures.goes))
+    (sim_kept received sent (at_line c.write.new.line c.load.new.self) any_act c.take_frame.new.self c.take_frame.ensures.goes))
     (sim_read_by received sent (at_line c.write.new.line c.take_frame.new.self) c.receive.new.line c.receive.new.self c.receive.result
     c.receive.ensures.came c.receive.ensures.none_came c.receive.ensures.err c.receive.ensures.none_went)
 
@@ -65,21 +68,20 @@ returns-clause-goes g c =
     (sim_then received sent (at_line c.args.line.now c.args.self.now) (at_line c.write.new.line c.load.new.self) (at_line c.write.new.line c.take_frame.new.self)
     (sim_then received sent (at_line c.args.line.now c.args.self.now) (at_line c.write.new.line c.write.new.self) (at_line c.write.new.line c.load.new.self)
     (sim_then received sent (at_line c.args.line.now c.args.self.now) (at_line c.args.line.now c.do_steps.new.self) (at_line c.write.new.line c.write.new.self)
-    (sim_kept received sent (at_line c.args.line.now c.args.self.now) c.do_steps.new.self c.do_steps.ensures.goes)
+    (sim_kept received sent (at_line c.args.line.now c.args.self.now) is_step_act c.do_steps.new.self c.do_steps.ensures.goes)
     (sim_wrote_by received sent (at_line c.args.line.now c.do_steps.new.self) c.write.new.line c.write.new.self c.write.result
     c.write.ensures.went c.write.ensures.kept c.write.ensures.none_went c.write.ensures.err c.write.ensures.none_came))
-    (sim_kept received sent (at_line c.write.new.line c.write.new.self) c.load.new.self c.load.ensures.goes))
-    (sim_kept received sent (at_line c.write.new.line c.load.new.self) c.take_frame.new.self c.take_frame.ensures.goes))
+    (sim_kept received sent (at_line c.write.new.line c.write.new.self) any_act c.load.new.self c.load.ensures.goes))
+    (sim_kept received sent (at_line c.write.new.line c.load.new.self) any_act c.take_frame.new.self c.take_frame.ensures.goes))
     (sim_read_by received sent (at_line c.write.new.line c.take_frame.new.self) c.receive.new.line c.receive.new.self c.receive.result
     c.receive.ensures.came c.receive.ensures.none_came c.receive.ensures.err c.receive.ensures.none_went))
-    (sim_kept received sent (at_line c.receive.new.line c.receive.new.self) c.feed-fed.new.self c.feed-fed.ensures.goes)
+    (sim_kept received sent (at_line c.receive.new.line c.receive.new.self) any_act c.feed-fed.new.self c.feed-fed.ensures.goes)
 
 pub returns-clause-turn : goal.returns-clause-turn
 returns-clause-turn g c =
-    let received = g.L.SerialLine.received in
-    let sent = g.L.SerialLine.sent in
-    let calls = g.L.SerialLine.calls in
-    let went : Went received sent calls c.args.line.now c.write.new.line c.receive.new.line
+    let line = g.L.SerialLine in
+    let see : Sight g.row.L.Denot = sight line.received line.sent line.calls line.failures line.empty_reads line.stalled_writes in
+    let went : Went see c.args.line.now c.write.new.line c.receive.new.line
     c.args.self.now c.do_steps.new.self c.write.new.self c.load.new.self c.take_frame.new.self c.receive.new.self c.feed-fed.new.self
     c.in_ok-done.done c.in_ok-wrote.field-0 c.in_ok-loaded.loaded c.in_ok-took.took c.in_ok-came.came c.feed-fed.result =
     record {
@@ -88,28 +90,27 @@ returns-clause-turn g c =
       steps_fewer = c.in_ok-done.ensures.fewer;
       steps_rest = c.do_steps.ensures.rest;
       steps_none = c.in_ok-done.ensures.none;
-      write_went = c.in_ok-wrote.ensures.went;
       write_none_came = c.write.ensures.none_came;
+      write_none_empty = c.write.ensures.none_empty;
       writes = c.in_ok-wrote.ensures.writes;
-      load_goes = c.load.ensures.goes;
       load_rest = c.load.ensures.rest;
       loads = c.in_ok-loaded.ensures.loads;
+      has_loaded = c.in_ok-loaded.ensures.moved;
       load_none = c.in_ok-loaded.ensures.none;
       load_steps = c.in_ok-loaded.ensures.steps;
-      take_goes = c.take_frame.ensures.goes;
       take_rest = c.take_frame.ensures.rest;
-      take_does = c.in_ok-took.ensures.does;
+      takes = c.in_ok-took.ensures.takes;
       take_none = c.in_ok-took.ensures.none;
       take_steps = c.in_ok-took.ensures.steps;
-      read_came = c.in_ok-came.ensures.came;
       read_none_went = c.receive.ensures.none_went;
+      read_none_stalled = c.receive.ensures.none_stalled;
       reads = c.in_ok-came.ensures.reads;
-      feed_goes = c.feed-fed.ensures.goes;
+      feeds = c.feed-fed.ensures.feeds;
       feed_rest = c.feed-fed.ensures.rest;
       feed_fewer = c.feed-fed.ensures.fewer;
       feed_none = c.feed-fed.ensures.none;
     } in
-    goes_once received sent calls c.args.line.now c.write.new.line c.receive.new.line
+    goes_once see c.args.line.now c.write.new.line c.receive.new.line
     c.args.self.now c.do_steps.new.self c.write.new.self c.load.new.self c.take_frame.new.self c.receive.new.self c.feed-fed.new.self
     c.in_ok-done.done c.in_ok-wrote.field-0 c.in_ok-loaded.loaded c.in_ok-took.took c.in_ok-came.came c.feed-fed.result went
 

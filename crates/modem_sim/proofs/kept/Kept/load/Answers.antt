@@ -1,8 +1,10 @@
 use Rattle.std.proofs.Common.{◌∙◌, ◌==◌, length, sym, subst}
 use Rattle.mux_station.specs.GivenFrames.{outgoing_of}
 use Rattle.modem_sim.specs.Sims.{Kept, KeptGoes}
-use Rattle.modem_sim.specs.Stills.{Loads, LoadsNone, ready}
-use Rattle.modem_sim.proofs.sims.SimPasts.{kept_core, fetched_none, fetched_some, gone_n1}
+use Rattle.modem_sim.specs.Acts.{any_act, is_handing}
+use Rattle.modem_sim.specs.Stills.{HasLoaded, Loads, LoadsNone, ready}
+use Rattle.modem_sim.proofs.sims.LoadedFrames.{loaded_goes, loads_frame, loads_no_frame}
+use Rattle.modem_sim.proofs.sims.SimPasts.{kept_any, kept_core, fetched_none, gone_n1}
 use Rattle.modem_sim.proofs.sims.TurnParts.{loads_nothing, more_ready, none_of}
 use Rattle.modem_sim.proofs.kept.Kept.load.Goals as goal
 
@@ -16,8 +18,9 @@ returns-in_err-offered-clause-goes c =
       failed = c.self.inside.failed;
       end = c.self.inside.end;
     } in
-    let Goes_to : Kept → Type 0 = λ k. KeptGoes k (record old { core = c.offer_all.new.self }) in
-    subst Goes_to c.self.view_is (kept_core old c.offer_all.new.self c.offer_all.ensures.goes)
+    let new : Kept = record old { core = c.offer_all.new.self } in
+    let Goes_to : Kept → Type 0 = λ k. KeptGoes any_act k new in
+    subst Goes_to c.self.view_is (kept_any is_handing old new (kept_core is_handing old c.offer_all.new.self c.offer_all.ensures.goes))
 
 pub returns-in_default-clause-goes : goal.returns-in_default-clause-goes
 returns-in_default-clause-goes c =
@@ -29,10 +32,27 @@ returns-in_default-clause-goes c =
       failed = c.self.inside.failed;
       end = c.self.inside.end;
     } in
-    let Goes_to : Kept → Type 0 = λ k. KeptGoes k (record old { core = c.outgoing.follows.lender-at-none }) in
+    let new : Kept = record old { core = c.outgoing.follows.lender-at-none } in
+    let Goes_to : Kept → Type 0 = λ k. KeptGoes any_act k new in
     subst Goes_to c.self.view_is
-    (fetched_none old c.offer_all.new.self c.outgoing.follows.lender-at-none (length c.offer_all.new.self.station.queue == 0) c.offer_all.ensures.goes
-    c.in_default.ensures.frame c.outgoing.follows.holds-at-none)
+    (kept_any is_handing old new (kept_core is_handing old c.outgoing.follows.lender-at-none
+    (fetched_none old.core c.offer_all.new.self c.outgoing.follows.lender-at-none is_handing (length c.offer_all.new.self.station.queue == 0) c.offer_all.ensures.goes
+    c.in_default.ensures.frame c.outgoing.follows.holds-at-none)))
+
+pub returns-in_default-clause-loads : goal.returns-in_default-clause-loads
+returns-in_default-clause-loads c =
+    let old : Kept = record {
+      core = c.self.inside.core;
+      unfed = c.self.inside.unfed;
+      deframer = c.self.inside.deframer;
+      out = c.self.inside.out;
+      failed = c.self.inside.failed;
+      end = c.self.inside.end;
+    } in
+    let From : Kept → Type 0 = λ k. Loads k (record old { core = c.outgoing.follows.lender-at-none }) in
+    subst From c.self.view_is
+    (loads_no_frame old c.offer_all.new.self c.outgoing.follows.lender-at-none (length c.offer_all.new.self.station.queue == 0)
+    (none_of c.self.inside.out (sym c.is_empty.ensures ∙ c.if-not-is_empty.false)) c.in_ok-offered.ensures.hands c.in_default.ensures.frame c.outgoing.follows.holds-at-none)
 
 pub returns-in_default-clause-none : goal.returns-in_default-clause-none
 returns-in_default-clause-none c = λ none.
@@ -60,14 +80,15 @@ returns-clause-goes c =
       end = c.self.inside.end;
     } in
     let new : Kept = record old { core = c.outgoing.follows.lender-at-none; out = c.put.new.self } in
-    let Goes_to : Kept → Type 0 = λ k. KeptGoes k new in
+    let Goes_to : Kept → Type 0 = λ k. KeptGoes any_act k new in
     subst Goes_to c.self.view_is
-    (fetched_some old c.offer_all.new.self c.outgoing.follows.lender-at-none (length c.offer_all.new.self.station.queue == 0) (outgoing_of c.in-Some.outgoing) c.put.new.self
-    (none_of c.self.inside.out (sym c.is_empty.ensures ∙ c.if-not-is_empty.false)) c.offer_all.ensures.goes
-    c.in-Some.ensures.frame c.in-Some.ensures.short c.put.ensures.octets c.in-Some.ensures.past c.outgoing.follows.holds-at-none)
+    (loaded_goes old new
+    (loads_frame old c.offer_all.new.self c.outgoing.follows.lender-at-none (length c.offer_all.new.self.station.queue == 0) (outgoing_of c.in-Some.outgoing) c.put.new.self
+    (none_of c.self.inside.out (sym c.is_empty.ensures ∙ c.if-not-is_empty.false)) c.in_ok-offered.ensures.hands
+    c.in-Some.ensures.frame c.in-Some.ensures.short c.put.ensures.octets c.in-Some.ensures.past c.outgoing.follows.holds-at-none))
 
 pub returns-clause-loads : goal.returns-clause-loads
-returns-clause-loads c = λ _.
+returns-clause-loads c =
     let old : Kept = record {
       core = c.self.inside.core;
       unfed = c.self.inside.unfed;
@@ -78,6 +99,23 @@ returns-clause-loads c = λ _.
     } in
     let new : Kept = record old { core = c.outgoing.follows.lender-at-none; out = c.put.new.self } in
     let From : Kept → Type 0 = λ k. Loads k new in
+    subst From c.self.view_is
+    (loads_frame old c.offer_all.new.self c.outgoing.follows.lender-at-none (length c.offer_all.new.self.station.queue == 0) (outgoing_of c.in-Some.outgoing) c.put.new.self
+    (none_of c.self.inside.out (sym c.is_empty.ensures ∙ c.if-not-is_empty.false)) c.in_ok-offered.ensures.hands
+    c.in-Some.ensures.frame c.in-Some.ensures.short c.put.ensures.octets c.in-Some.ensures.past c.outgoing.follows.holds-at-none)
+
+pub returns-clause-moved : goal.returns-clause-moved
+returns-clause-moved c = λ _.
+    let old : Kept = record {
+      core = c.self.inside.core;
+      unfed = c.self.inside.unfed;
+      deframer = c.self.inside.deframer;
+      out = c.self.inside.out;
+      failed = c.self.inside.failed;
+      end = c.self.inside.end;
+    } in
+    let new : Kept = record old { core = c.outgoing.follows.lender-at-none; out = c.put.new.self } in
+    let From : Kept → Type 0 = λ k. HasLoaded k new in
     subst From c.self.view_is (ready (more_ready c.self.inside.out c.put.new.self (none_of c.self.inside.out (sym c.is_empty.ensures ∙ c.if-not-is_empty.false)) c.put.ensures.some))
 
 pub invariant_of-self-in_default : goal.invariant_of-self-in_default

@@ -1,9 +1,10 @@
-use Rattle.std.proofs.Common.{Bool, List, ◌∷◌, ◌≡◌, ◌+◌, ◌||◌, drop, sym, ap, ◌∙◌, subst, arith}
+use Rattle.std.proofs.Common.{refl, Bool, List, ◌∷◌, ◌≡◌, ◌+◌, ◌||◌, drop, sym, ap, ◌∙◌, subst, arith}
 use Rattle.std.proofs.lemmas.Bool.Decides.{nat_tests}
 use Rattle.modem_sim.proofs.ends.EndAfterFrame.{either_way}
+use Rattle.modem_sim.specs.Acts.{is_step_act}
 use Rattle.modem_sim.specs.declared.script.Step.{Step}
 use Rattle.modem_sim.specs.Cores.{Core, Goes, HasNoneToDo, SaysNext, Waits, boxes_done, for_lines, for_openings, for_room, waits}
-use Rattle.modem_sim.proofs.ends.ScriptSteps.{does_goes, refused_any, step_at}
+use Rattle.modem_sim.proofs.ends.ScriptSteps.{does_goes, passes_goes, refused_any, step_at}
 use Rattle.modem_sim.proofs.sim_core.SimCore.do_next.Goals as goal
 use Rattle.modem_sim.proofs.sim_core.SimCore.do_next.Goals.{then-step-self-via-then-step-self, then-step-self-via-else-step-self+then-not-are_open}
 
@@ -31,7 +32,7 @@ returns-clause-goes c =
     } in
     let Steps : List Step → Type 0 = λ xs. drop c.self.inside.next xs ≡ step ∷ drop (c.self.inside.next + 1) xs in
     let first = subst Steps c.deref.ensures.value (step_at c.deref.result.now c.self.inside.next step c.in-Some.ensures.lookup.3.0 c.in-Some.ensures.lookup.1) in
-    let Goes_to : Core → Type 0 = λ o. Goes o new in
+    let Goes_to : Core → Type 0 = λ o. Goes is_step_act o new in
     subst Goes_to c.self.view_is
     (does_goes old new step later c.self.invariant.0 first
     (sym c.if-not-acts.ensures) (let late = c.if-step-self.false in grind (arith, nat_tests)) (sym c.if-not-are_open.ensures)
@@ -39,6 +40,24 @@ returns-clause-goes c =
     (ap (λ bs. record new { boxes = bs }) (c.in_ok-carry_out.ensures.boxes c.if-not-branch.false)
     ∙ ap (λ (b : Bool). record new { boxes = boxes_done step.act c.self.inside.channels.items; closed = b })
     (either_way c.self.inside.closed c.closes_by-closes.result ∙ ap (λ (b : Bool). b || c.self.inside.closed) c.closes_by-closes.ensures)))
+
+pub returns-then-not-acts-clause-goes : goal.returns-then-not-acts-clause-goes
+returns-then-not-acts-clause-goes c =
+    let old : Core = record {
+      station = c.self.inside.station;
+      modem = c.self.inside.modem;
+      echo = c.self.inside.echo;
+      boxes = c.self.inside.channels.items;
+      come = c.self.inside.come;
+      steps = drop c.self.inside.next c.self.inside.steps.items;
+      closed = c.self.inside.closed;
+    } in
+    let step = c.in-Some.step.now in
+    let later = drop (c.self.inside.next + 1) c.self.inside.steps.items in
+    let Steps : List Step → Type 0 = λ xs. drop c.self.inside.next xs ≡ step ∷ drop (c.self.inside.next + 1) xs in
+    let first = subst Steps c.deref.ensures.value (step_at c.deref.result.now c.self.inside.next step c.in-Some.ensures.lookup.3.0 c.in-Some.ensures.lookup.1) in
+    let Goes_to : Core → Type 0 = λ o. Goes is_step_act o (record old { steps = later }) in
+    subst Goes_to c.self.view_is (passes_goes old (record old { steps = later }) step later first (sym c.acts.ensures ∙ c.if-not-acts.true) refl)
 
 pub returns-then-step-self-clause-none : goal.returns-then-step-self-clause-none
 returns-then-step-self-clause-none c = λ _.

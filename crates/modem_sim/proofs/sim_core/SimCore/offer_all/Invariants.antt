@@ -1,5 +1,5 @@
 -- The connections so far have handed on what they could.
-use Rattle.modem_sim.proofs.ends.OfferedPieces.{Hands}
+use Rattle.modem_sim.proofs.ends.HandedOctets.{Hands}
 use Rattle.modem_sim.proofs.sim_core.SimCore.offer_all.Given as goal
 
 abbrev pub invariant-loop-number : goal.invariant-loop-number
