@@ -7,4 +7,5 @@ pub mod TurnHistories
 pub mod IdleTurns
 pub mod LoadedFrames
 pub mod TurnMeanings
+pub mod PollHistories
 pub mod PollSteps

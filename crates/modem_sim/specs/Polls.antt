@@ -4,8 +4,10 @@ use Rattle.modem_sim.specs.declared.error.SimError.{SimError}
 use Rattle.modem_sim.specs.declared.error.SimError.TheVariants as why
 use Rattle.modem_sim.specs.declared.sim.SimTurn.{SimTurn}
 use Rattle.modem_sim.specs.declared.sim.SimTurn.TheVariants.{Moved, Idle, Ended}
-use Rattle.modem_sim.specs.Sims.{Sight, SimState, SimGoes, end_given, failed_by, has_ended, has_failed}
-use Rattle.modem_sim.specs.Turns.{GoesTurn, WantsMemory}
+use Rattle.modem_sim.specs.Sims.{FitsSim, LineAt, Sight, SimState, SimGoes, end_given, failed_by, has_ended, has_failed}
+use Rattle.modem_sim.specs.Turns.{GoesTurn, TurnFrom, WantsMemory}
+use Rattle.modem_sim.specs.Acts.{Act, End}
+use Rattle.modem_sim.specs.Cores.{IsLater}
 
 -- ## Its turns
 
@@ -53,6 +55,61 @@ pub data Runs {X : Type 0} (see : Sight X) (old new : SimState X) :
       → Turned see mid new (Err why)
       → Runs see old new (Some (Err why))
 
+-- ## Its turns in a history
+
+-- a turn that goes on from a past to this one, of which its answer says the truth
+pub record TurnsTo {X : Type 0} (see : Sight X) (at : LineAt) (e : End) (past now : List Act)
+    (old new : SimState X) (says : SimTurn) : Type 0 where
+  pub turned : Turned see old new (Ok says)
+  pub from : TurnFrom see at e past old new turned.turn.exchange says
+  pub now_is : from.now ≡ now
+
+-- a turn that was refused and goes on to this past
+pub record RefusedTo {X : Type 0} (see : Sight X) (at : LineAt) (e : End) (past now : List Act)
+    (old new : SimState X) (why : SimError) : Type 0 where
+  pub turned : Turned see old new (Err why)
+  pub later : IsLater past now
+  pub fits : FitsSim see.received see.sent at e new now
+
+-- so many turns that answer Moved, through a history: the next one goes on from the past so far
+pub data MovesThrough {X : Type 0} (see : Sight X) (at : LineAt) (e : End) (old : SimState X)
+    (past : List Act) : ℕ → SimState X → List Act → Type 0 where
+  moves_through_none : MovesThrough see at e old past 0 old past
+  moves_through :
+      (n : ℕ) (mid new : SimState X) (between now : List Act) → MovesThrough see at e old past n mid between
+      → TurnsTo see at e between now mid new Moved → MovesThrough see at e old past (n + 1) new now
+
+-- the turns of a poll through a history
+pub data RunsThrough {X : Type 0} (see : Sight X) (at : LineAt) (e : End) (old : SimState X)
+    (past : List Act) (new : SimState X) (now : List Act) : Option (Result SimTurn SimError) → Type 0 where
+  goes_on_through :
+      MovesThrough see at e old past 64 new now → RunsThrough see at e old past new now None
+  rests_through :
+      (n : ℕ) (mid : SimState X) (between : List Act) → n < 64 → MovesThrough see at e old past n mid between
+      → TurnsTo see at e between now mid new Idle → RunsThrough see at e old past new now None
+  ends_through :
+      (n : ℕ) (mid : SimState X) (between : List Act) → n < 64 → MovesThrough see at e old past n mid between
+      → TurnsTo see at e between now mid new Ended → RunsThrough see at e old past new now (Some (Ok Ended))
+  fails_through :
+      (n : ℕ) (mid : SimState X) (between : List Act) (why : SimError) → n < 64
+      → MovesThrough see at e old past n mid between → RefusedTo see at e between now mid new why
+      → RunsThrough see at e old past new now (Some (Err why))
+
+-- they go on to a past that it fits
+pub record RunsFrom {X : Type 0} (see : Sight X) (at : LineAt) (e : End) (old : SimState X) (past : List Act)
+    (new : SimState X) (given : Option (Result SimTurn SimError)) : Type 0 where
+  pub now : List Act
+  pub later : IsLater past now
+  pub fits : FitsSim see.received see.sent at e new now
+  pub runs : RunsThrough see at e old past new now given
+
+-- whatever past it fitted before
+abbrev pub RunsInHistories :
+    {X : Type 0} → Sight X → (old new : SimState X) → Option (Result SimTurn SimError) → Type 0
+RunsInHistories see old new given =
+    (at : LineAt) (e : End) (past : List Act) → FitsSim see.received see.sent at e old past
+    → RunsFrom see at e old past new given
+
 -- ## What it gives
 
 -- what is given is kept as its end, but for want of memory
@@ -70,6 +127,7 @@ pub record PollsOn {X : Type 0} (see : Sight X) (old new : SimState X)
     (given : Option (Result SimTurn SimError)) : Type 0 where
   pub mid : SimState X
   pub runs : Runs see old mid given
+  pub through : RunsInHistories see old mid given
   pub stays : new ≡ with_given given mid
 
 -- a poll after an end gives that end, and does nothing
@@ -127,11 +185,14 @@ Says failures old new (Err why.Line) = FailsOnce failures old new
 Says failures old new (Err why.Failed) = HadFailed failures old new
 Says failures old new _ = ⊥
 
--- After polls that gave nothing one gave this, which says so where none had given an end before.
+-- After polls that gave nothing one gave this, which says so where none had given an end before. Whatever past
+-- it fitted before, it goes on to one that it fits before that poll, and from there to one after it.
 pub record Gives {X : Type 0} (see : Sight X) (s : SimState X)
     (given : Result SimTurn SimError) : Type 0 where
   pub mid : SimState X
   pub new : SimState X
   pub waits : Waits see s mid
+  pub waited : SimGoes see.received see.sent s mid
   pub polls : Polls see mid new (Some given)
+  pub polled : SimGoes see.received see.sent mid new
   pub says : end_given s ≡ None → Says see.failures s new given

@@ -7,8 +7,9 @@ use Rattle.modem_sim.specs.declared.sim.SimTurn.{SimTurn}
 use Rattle.modem_sim.specs.declared.sim.SimTurn.TheVariants.{Moved, Idle, Ended}
 use Rattle.modem_sim.specs.Acts.{any_act}
 use Rattle.modem_sim.specs.Sims.{Kept, KeptGoes, Sight, SimState, SimGoes, end_given, has_failed}
-use Rattle.modem_sim.specs.Polls.{Gives, MovesOn, Polls, PollsFrom, PollsOn, Runs, Says, StaysSound, Turned, ends, fails, goes_on, moves_none, moves_once, rests, waits_none, waits_once, with_given}
-use Rattle.modem_sim.proofs.sims.SimPasts.{sim_kept, sim_then}
+use Rattle.modem_sim.specs.Polls.{Gives, MovesOn, Polls, PollsFrom, PollsOn, Runs, RunsInHistories, Says, StaysSound, Turned, ends, fails, goes_on, moves_none, moves_once, rests, waits_none, waits_once, with_given}
+use Rattle.modem_sim.proofs.sims.SimPasts.{sim_kept, sim_none, sim_then}
+use Rattle.modem_sim.proofs.sims.PollHistories.{runs_in_histories}
 
 -- an end that is kept says nothing of the past
 kept_ending : (k : Kept) (end : Option (Result SimTurn SimError)) → KeptGoes any_act k (record k { end = end })
@@ -146,18 +147,31 @@ module _ {X : Type 0} (see : Sight X) where
       let on = polled old new (Some given) none polls in
       subst (λ s. Says see.failures old s given) (sym on.stays) (so_kept old on.mid given given (run_so old on.mid given on.runs))
 
+  run_goes : (old new : SimState X) (given : Option (Result SimTurn SimError)) → RunsInHistories see old new given → SimGoes see.received see.sent old new
+  run_goes old new given runs at e past fits = let from = runs at e past fits in record { now = from.now; later = from.later; fits = from.fits }
+
+  poll_goes : (old new : SimState X) (given : Option (Result SimTurn SimError)) → Polls see old new given → SimGoes see.received see.sent old new
+  unfolding Polls
+  poll_goes old new given polls = by_end (end_given old) polls
+    where
+      by_end : (end : Option (Result SimTurn SimError)) → PollsFrom see end old new given → SimGoes see.received see.sent old new
+      by_end (Some end) polls = subst (SimGoes see.received see.sent old) (sym polls.1) (sim_none see.received see.sent old)
+      by_end None polls = goes_given see.received see.sent old polls.mid new given (run_goes old polls.mid given polls.through) polls.stays
+
   -- what it gives from here on it gave before
   pub gives_before : (old new : SimState X) (given : Result SimTurn SimError) → Polls see old new None → Gives see new given → Gives see old given
   gives_before old new given once gives = record {
     mid = gives.mid;
     new = gives.new;
     waits = waits_once old new gives.mid once gives.waits;
+    waited = sim_then see.received see.sent old new gives.mid (poll_goes old new None once) gives.waited;
     polls = gives.polls;
+    polled = gives.polled;
     says = λ none. says_behind old new gives.new given (poll_sound old new none once) (gives.says (poll_end old new none once));
   }
 
   pub gives_now : (old new : SimState X) (given : Result SimTurn SimError) → Polls see old new (Some given) → Gives see old given
-  gives_now old new given polls = record { mid = old; new = new; waits = waits_none old; polls = polls; says = λ none. poll_so old new given none polls }
+  gives_now old new given polls = record { mid = old; new = new; waits = waits_none old; waited = sim_none see.received see.sent old; polls = polls; polled = poll_goes old new (Some given) polls; says = λ none. poll_so old new given none polls }
 
 -- ## A poll
 
@@ -166,7 +180,7 @@ pub polls_on : {X : Type 0} (see : Sight X) (old mid new : SimState X) (given : 
 unfolding Polls
 polls_on see old mid new given none runs stays =
     let From : Option (Result SimTurn SimError) → Type 0 = λ end. PollsFrom see end old new given in
-    subst From none (record { mid = mid; runs = runs; stays = stays })
+    subst From none (record { mid = mid; runs = runs; through = runs_in_histories see old mid given runs; stays = stays })
 
 -- where one is
 pub polls_again : {X : Type 0} (see : Sight X) (s : SimState X) (end : Result SimTurn SimError) → Some end ≡ s.kept.end → Polls see s s (Some end)
