@@ -3,3 +3,4 @@ pub mod AnswerRowFacts
 pub mod HistoryRowFacts
 pub mod RefusedRowFacts
 pub mod TurnRowFacts
+pub mod WrongTurnFacts

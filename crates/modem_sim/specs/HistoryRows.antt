@@ -207,6 +207,14 @@ answered_while_stopped =
     ∷ Wire (station.Sent (message_frame Responder (response_of msc) (7 ∷ held_up ∷ []))) ∷ gives
     ∷ asks 1 (codes "AT") ∷ writes 1 (framed (codes "OK"))
 
+-- a mark that a frame was given on, where none waits
+abbrev pub marked_alone : List Act
+marked_alone = ready_one ++ gives ∷ []
+
+-- no octets are handed to the station
+abbrev pub offered_nothing : List Act
+offered_nothing = ready_one ++ offers 1 [] ∷ []
+
 -- an opening that is refused
 abbrev pub refused_opening : List Act
 refused_opening = open_zero ++ comes Sabm 1 [] ∷ sends Dm 1 [] ∷ []
@@ -252,8 +260,9 @@ WrongSteps =
     × IsRefused (announcing 0 two) done_while_shut × IsRefused (announcing 0 one) announced_otherwise
     × IsRefused plain closed_unasked × IsRefused asking done_without_asking
 
--- of one that opens wrongly, has a time of its own, or says nothing
+-- of one that opens wrongly, has a time of its own, marks what isn't there, offers nothing, or says nothing
 abbrev pub WrongOtherwise : Type 0
 WrongOtherwise =
-    IsRefused plain ticked × IsRefused plain refused_opening
+    IsRefused plain ticked × IsRefused plain refused_opening × IsRefused plain marked_alone
+    × IsRefused plain offered_nothing
     × ¬ AllIsOut plain (after [] silent) × ¬ SimComplete plain (after [] without_msc)

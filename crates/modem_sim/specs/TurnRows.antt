@@ -1,7 +1,10 @@
 -- Worked turns of a simulated modem with N1 31: what Idle and Moved say, and what they don't.
-use Rattle.std.specs.Prelude.{◌≡◌, ℕ, true, false, List, [], ◌∷◌, Some, None, Result, Ok, Err}
+use Rattle.std.specs.Prelude.{◌≡◌, ◌≢◌, ℕ, true, false, List, [], ◌∷◌, Some, None, Result, Ok, Err}
 use Rattle.mux_frame.specs.Frames.{Frame}
+use Rattle.mux_frame.specs.declared.frame.Kind.TheVariants.{Sabm, Ua}
+use Rattle.mux_station.specs.declared.role.Role.TheVariants.{Initiator}
 use Rattle.mux_station.specs.Acts as station
+use Rattle.mux_station.specs.Written.{written}
 use Rattle.modem_sim.specs.declared.error.SimError.{SimError}
 use Rattle.modem_sim.specs.declared.error.SimError.TheVariants as why
 use Rattle.modem_sim.specs.declared.sim.SimTurn.{SimTurn}
@@ -10,9 +13,9 @@ use Rattle.modem_sim.specs.Acts.{Act, Wire, after}
 use Rattle.modem_sim.specs.Polls.{Says, Turned, kept_end}
 use Rattle.modem_sim.specs.Boxes.{is_released}
 use Rattle.modem_sim.specs.Cores.{box_at}
-use Rattle.modem_sim.specs.Sims.{Kept, Sight, SimState, has_failed, sight}
-use Rattle.modem_sim.specs.Turns.{Exchange, IsAtRest, IsHeldUp, IsIdle, IsLeft, has_moved}
-use Rattle.modem_sim.specs.HistoryRows.{announcing, gives, offers, one, plain, ready_one, silent}
+use Rattle.modem_sim.specs.Sims.{Kept, Sight, SimState, has_failed, is_ended, sight}
+use Rattle.modem_sim.specs.Turns.{DoesSteps, Exchange, GoesTurn, HandsOn, IsAtRest, IsHeldUp, IsIdle, IsIdleAtLine, IsLeft, Means, NoneIsThere, Offers, ReadHasRoom, TakesAtHand, has_moved}
+use Rattle.modem_sim.specs.HistoryRows.{announcing, comes, gives, offers, one, plain, ready_one, sends, silent}
 
 -- the line was read and gave nothing; it was offered an octet, of which it took none, or one
 abbrev pub only_read : Exchange
@@ -110,3 +113,35 @@ WrongGivings =
     × ((old new : SimState ℕ) → ¬ Says (λ l. l) old new (Ok Idle))
     × ((old new : SimState ℕ) → ¬ Says (λ l. l) old new (Ok Moved))
     × ((old new : SimState ℕ) → ¬ Says (λ l. l) old new (Err why.BadN1))
+
+-- of a turn with nothing to be fed: what it answers, its line was called; and so where octets wait for the line
+abbrev pub CallsNothing : Type 0
+CallsNothing =
+    ((old new : SimState ℕ) (says : SimTurn) → is_ended old.kept ≡ false → old.kept.unfed ≡ []
+    → ¬ GoesTurn unseen old new says)
+    × ((old new : SimState ℕ) (says : SimTurn) → old.kept.out ≢ [] → ¬ GoesTurn unseen old new says)
+
+-- It isn't idle by a line whose reads that gave nothing aren't more than before, nor, where octets wait, by one
+-- whose writes that took none aren't.
+abbrev pub WrongCounts : Type 0
+WrongCounts =
+    ((old new : SimState ℕ) → new.kept.unfed ≡ [] → ¬ IsIdleAtLine unseen old new)
+    × ((old new : SimState ℕ) → new.kept.out ≢ [] → ¬ IsIdleAtLine unseen old new)
+
+-- an offer has octets, and a read has room
+abbrev pub WrongCalls : Type 0
+WrongCalls =
+    ((out : List ℕ) → ¬ Offers (Some (record { offered = []; count = 0 })) out)
+    × (¬ ReadHasRoom (Some (record { room = 0; octets = [] })))
+
+-- A turn doesn't answer Moved where nothing changed; it doesn't leave a step that is due, a frame at hand for
+-- which there is room, nor an answer that it could hand to the station; and it doesn't say that all is there
+-- while a frame waits in the control queue.
+abbrev pub WrongTurns : Type 0
+WrongTurns =
+    ((s : SimState ℕ) (came went : List ℕ) (t : Exchange) (past : List Act)
+    → ¬ Means unseen plain came went s s t [] past Moved)
+    × ((past : List Act) → ¬ DoesSteps (announcing 0 one) past (after [] ready_one))
+    × (¬ TakesAtHand plain (Some (written Initiator Sabm 0 [])) [] [])
+    × ((past : List Act) → ¬ HandsOn plain past (after [] silent))
+    × (¬ NoneIsThere (after [] (comes Sabm 0 [] ∷ sends Ua 0 [] ∷ [])))

@@ -19,7 +19,7 @@ use Rattle.modem_sim.specs.Pieces.{pieces_octets}
 use Rattle.modem_sim.specs.Outboxes.{outbox}
 use Rattle.modem_sim.specs.Boxes.{is_released}
 use Rattle.modem_sim.specs.Doing.{IsDue, call_of}
-use Rattle.modem_sim.specs.Histories.{IsThrough, AllIsOut}
+use Rattle.modem_sim.specs.Histories.{IsThrough, AllIsOut, DoesInOrder}
 use Rattle.modem_sim.specs.Cores.{IsLater, IsGivenOn, after_wire_act, all_unhanded, box_at}
 use Rattle.modem_sim.specs.Sims.{Kept, LineAt, Sight, SimState, FitsSim, is_ended}
 
@@ -124,11 +124,13 @@ pub record StepIsRefused (e : End) (past : List Act) (act : StepAct) : Type 0 wh
 abbrev pub NoneCanBeDone : End → List Act → Type 0
 NoneCanBeDone e past = (act : StepAct) → IsDue e past act → StepIsRefused e past act
 
--- the steps that are due are done, until none can be
+-- The steps that are due are done, until none can be. The steps done so far are the first of the script's, each
+-- once and in order.
 pub record DoesSteps (e : End) (past now : List Act) : Type 0 where
   pub later : IsLater past now
   pub only : list_all is_step_act later.newer ≡ true
   pub none_left : NoneCanBeDone e now
+  pub in_order : DoesInOrder e now
 
 -- octets are handed to the station: on each open connection all that is said, or some wait there already
 pub record HandsOn (e : End) (past now : List Act) : Type 0 where

@@ -10,7 +10,7 @@ ghost use Rattle.modem_sim.specs.Acts.{Act, End};
 ghost use Rattle.modem_sim.specs.Histories.{SimLawful, LeavesInPieces, SaysReplies, DoesInOrder};
 ghost use Rattle.modem_sim.specs.Replied.{AnswersInLines, SendsReplies};
 ghost use Rattle.modem_sim.specs.Sims.{IsOver, Kept, KeptFits, Simulates, is_ended};
-ghost use Rattle.modem_sim.specs.TurnRows.{EndRows, MovedRows, RightIdle, WantRows, WrongFailures, WrongGivings, WrongIdle};
+ghost use Rattle.modem_sim.specs.TurnRows.{CallsNothing, EndRows, MovedRows, RightIdle, WantRows, WrongCalls, WrongCounts, WrongFailures, WrongGivings, WrongIdle, WrongTurns};
 ghost use Rattle.modem_sim.specs.HistoryRows.{GoodRows, WrongAnswers, WrongSteps, WrongOtherwise};
 
 /// The command that the step takes a line for is the only one whose text it is, and there is none where it is
@@ -84,6 +84,17 @@ pub fn worked_turns()
     ensures ends { EndRows }
     ensures wants { WantRows }
     ensures givings { WrongGivings }
+{}
+
+/// What is no turn: one that doesn't call its line though octets wait for it or all that came was fed; one that says Moved and changed
+/// nothing, or Idle though the line's counts say otherwise; an offer without octets, and a read without room; a turn that leaves a step that
+/// is due, a frame at hand, an answer, or a frame that is to go out.
+#[tactic(auto, using(crate::proofs::rows::WrongTurnFacts::calls_nothing, crate::proofs::rows::WrongTurnFacts::wrong_counts, crate::proofs::rows::WrongTurnFacts::wrong_calls, crate::proofs::rows::WrongTurnFacts::wrong_turns))]
+pub fn refused_turns()
+    ensures silent { CallsNothing }
+    ensures counts { WrongCounts }
+    ensures calls { WrongCalls }
+    ensures turns { WrongTurns }
 {}
 
 /// Whatever past a simulated modem fits, that past keeps the laws of its histories and nothing is owed in it; the frames that came are

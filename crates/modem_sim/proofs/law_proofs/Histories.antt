@@ -115,7 +115,7 @@ one_more xs n next later is =
     rw add-one (take-suc xs n next inside ∙ ap (λ x. take n xs ++ x ∷ []) here)
 
 -- the steps of a script are done in order
-does_in_order : (e : End) (past : List Act) → EachAllowed e past → DoesInOrder e past
+pub does_in_order : (e : End) (past : List Act) → EachAllowed e past → DoesInOrder e past
 does_in_order e [] may = refl
 does_in_order e (Wire a ∷ past) may = does_in_order e past may.1
 does_in_order e (Did step ∷ past) may =

@@ -10,7 +10,7 @@ use Rattle.mux_frame.specs.Frames.{Frame}
 use Rattle.mux_station.specs.Written.{kind_place}
 use Rattle.mux_station.specs.Sending.{StationLawful as LawfulThere, StationComplete as CompleteThere, Sends}
 use Rattle.modem_sim.specs.Reading.{command_of}
-use Rattle.modem_sim.specs.HistoryRows.{plain, simulated, announcing, holding, asking, one, two, IsRefused, WrongAnswers, WrongSteps, WrongOtherwise, answered_twice, answered_unasked, modem_for_each, answered_early, repeated_unasked, not_repeated, unframed, answered_elsewhere, answered_held, answered_after_reopening, answered_while_stopped, done_early, done_twice, done_while_shut, announced_otherwise, closed_unasked, done_without_asking, ticked, refused_opening, silent, without_msc}
+use Rattle.modem_sim.specs.HistoryRows.{plain, simulated, announcing, holding, asking, one, two, IsRefused, WrongAnswers, WrongSteps, WrongOtherwise, answered_twice, answered_unasked, modem_for_each, answered_early, repeated_unasked, not_repeated, unframed, answered_elsewhere, answered_held, answered_after_reopening, answered_while_stopped, done_early, done_twice, done_while_shut, announced_otherwise, closed_unasked, done_without_asking, marked_alone, offered_nothing, ticked, refused_opening, silent, without_msc}
 use Rattle.modem_sim.specs.declared.script.Step.{Step}
 use Rattle.modem_sim.specs.Acts.{after}
 use Rattle.modem_sim.specs.Histories.{SimComplete, AllIsOut}
@@ -137,5 +137,11 @@ msc_missing : ¬ SimComplete plain (after [] without_msc)
 unfolding CompleteThere
 msc_missing complete = apart 1 0 (ap length complete.at_station) refl
 
+mark_refused : IsRefused plain marked_alone
+mark_refused lawful = lawful.acts.0.waits refl
+
+offer_refused : IsRefused plain offered_nothing
+offer_refused lawful = lawful.acts.0.some refl
+
 pub wrong_otherwise : WrongOtherwise
-wrong_otherwise = (tick_refused, opening_refused, said_nothing, msc_missing)
+wrong_otherwise = (tick_refused, opening_refused, mark_refused, offer_refused, said_nothing, msc_missing)

@@ -36,7 +36,7 @@ rests k = at_rest (record {
 some_octet : (x : ℕ) (xs : List ℕ) → x ∷ xs ≡ [] → ⊥
 some_octet x xs same = cc
 
-none_some : {A : Type 0} (x : A) → None ≡ Some x → ⊥
+pub none_some : {A : Type 0} (x : A) → None ≡ Some x → ⊥
 none_some x same = cc
 
 held_up : (k : Kept) → OneWaits k → IsHeldUp plain k (offered_one 0) []
@@ -69,7 +69,7 @@ took_one k full = let same : 1 ≡ 0 = ap count_of full.took_none in absurd (ome
 unanswered : (came went : List ℕ) → ¬ IsAtRest plain came went only_read (after [] silent)
 unanswered came went rest = said_nothing rest.all_out
 
-due_now : IsDue (announcing 0 one) (after [] ready_one) (Announce one (codes "RING"))
+pub due_now : IsDue (announcing 0 one) (after [] ready_one) (Announce one (codes "RING"))
 due_now = record { next = step_at 0 (Announce one (codes "RING")); later = []; is_first = refl; is_its = refl; come = refl; open_are = refl }
 
 not_done : (came went : List ℕ) → ¬ IsAtRest (announcing 0 one) came went only_read (after [] ready_one)
@@ -85,7 +85,7 @@ neither : (a b : Bool) → a ≡ false → b ≡ false → (a || b) ≡ false
 neither true b is is_too = cc
 neither false b is is_too = is_too
 
-stays : (s : SimState ℕ) → has_changed unseen s s ≡ false
+pub stays : (s : SimState ℕ) → has_changed unseen s s ≡ false
 stays s =
     neither (is_fewer s.kept.unfed s.kept.unfed) _ (same_length (length s.kept.unfed))
     (neither (is_fewer s.kept.core.steps s.kept.core.steps) _ (same_length (length s.kept.core.steps))

@@ -12,6 +12,7 @@ use Rattle.modem_sim.specs.Cores.{Core, IsGivenOn, IsLater, after_wire_act, from
 use Rattle.modem_sim.specs.Sims.{FitsSim, Kept, KeptFits, LineAt, Sight, SimState}
 use Rattle.modem_sim.specs.Turns.{DoesEach, PutsNext, Read, TakesAtHand, Write, has_no_room, has_room_for, is_got, is_put, is_taken, left_of, none_at_hand, none_is_there, octets_read, octets_written, some_are_left}
 use Rattle.modem_sim.specs.Stills.{GoesOnce, Loads, TakesFrame, TakesNone, WentOn, at_line, puts, puts_none, some_wait}
+use Rattle.modem_sim.proofs.law_proofs.Histories.{does_in_order}
 use Rattle.modem_sim.proofs.ends.EndAfterFrame.{later-sent_after}
 use Rattle.modem_sim.proofs.ends.OfferedPieces.{later_then}
 use Rattle.modem_sim.proofs.sims.IdleTurns.{no_room, none_can_be_done, some_room}
@@ -211,7 +212,7 @@ module _ {X : Type 0} (see : Sight X) (l0 l2 l5 : X) (k0 k1 k2 k3 k4 k5 k6 : Kep
         does = record {
           stepped = stepped.now;
           loaded = load.now;
-          steps = record { later = stepped.later; only = stepped.only; none_left = none_can_be_done e stepped.fits.wired k1.core stepped.now w.steps_none stepped.fits.core_fits };
+          steps = record { later = stepped.later; only = stepped.only; none_left = none_can_be_done e stepped.fits.wired k1.core stepped.now w.steps_none stepped.fits.core_fits; in_order = does_in_order e stepped.now stepped.fits.core_fits.allowed };
           loads = subst Out (sym (out_at_end see l0 l2 l5 k0 k1 k2 k3 k4 k5 k6 done count loads took came fed w))
               (subst Left (left_at see l0 l2 l5 k0 k1 k2 k3 k4 k5 k6 done count loads took came fed w) load.loads);
           takes = subst Hand hand take.takes;
