@@ -3,6 +3,8 @@ pub mod Reading
 pub mod Steps
 pub mod Meanings
 pub mod Laws
+pub mod SettingLaws
+pub mod PinLaws
 pub mod Rows
 pub mod Acts
 pub mod Pieces

@@ -1,6 +1,6 @@
 -- What a turn of a simulated modem asks of its line, what it does, and what its answers mean: Moved, Idle and
 -- Ended.
-use Rattle.std.specs.Prelude.{◌≡◌, ◌≢◌, ℕ, zero, suc, ◌+◌, ◌<◌, ◌≤◌, ◌==◌, ◌||◌, nat_lt, Bool, true, false, List, [], ◌∷◌, ◌++◌, length, take, drop, Option, Some, None, is_none, option_to_list}
+use Rattle.std.specs.Prelude.{◌≡◌, ◌≢◌, ℕ, zero, suc, ◌+◌, ◌<◌, ◌≤◌, ◌==◌, ◌||◌, nat_lt, Bool, true, false, List, [], ◌++◌, length, take, drop, Option, Some, None, is_none, option_to_list}
 use Rattle.std.specs.List.{list_all, list_any}
 use Rattle.mux_frame.specs.Frames.{Frame}
 use Rattle.mux_frame.specs.Spelling as spelling

@@ -1,10 +1,12 @@
 //! Laws of the modem's step and of a simulated modem's histories, as contracts of functions that do nothing.
-ghost use Rattle.std.specs.Prelude.{◌≡◌, ℕ, true, List, Ok};
+ghost use Rattle.std.specs.Prelude.{◌≡◌, ℕ, true, List, None, Ok, Some};
 ghost use Rattle.at_cmds.specs.Commands.{IsTextOf, Reads};
 ghost use Rattle.modem_sim.specs.declared.contexts.PdpContext.{PdpContext};
 ghost use Rattle.modem_sim.specs.declared.modem.ModemStart.{ModemStart};
 ghost use Rattle.modem_sim.specs.Reading.{command_of};
 ghost use Rattle.modem_sim.specs.Laws.{IsStart, AnswersWellAlways, SetsOne, AreInOrder, reached};
+ghost use Rattle.modem_sim.specs.SettingLaws.{KeepsAttached, KeepsContext, KeepsErrors, KeepsOper, KeepsReports};
+ghost use Rattle.modem_sim.specs.PinLaws.{FollowsNetworkAlways, IsReadyAlways, KeepsPin};
 ghost use Rattle.modem_sim.specs.Rows.{PinEntered, ThreeWrongPins, ErrorInWords, NetworkLeft};
 ghost use Rattle.modem_sim.specs.Acts.{Act, End};
 ghost use Rattle.modem_sim.specs.Histories.{SimLawful, LeavesInPieces, SaysReplies, DoesInOrder};
@@ -32,6 +34,26 @@ pub fn answers()
 pub fn contexts()
     ensures sets { (new : PdpContext) (contexts : List PdpContext) (n : ℕ) → SetsOne new contexts n }
     ensures rise { (start : ModemStart) (lines : List (List ℕ)) → AreInOrder (reached start lines).contexts }
+{}
+
+/// Whatever lines a modem was given: what a line set that it accepted is told later, after whatever lines that don't set the same: reports of
+/// registration, how errors are told, attachment, a context by its number, the operator.
+pub fn settings()
+    ensures reports { (start : ModemStart) → IsStart start → KeepsReports start }
+    ensures errors { (start : ModemStart) → IsStart start → KeepsErrors start }
+    ensures attached { (start : ModemStart) → IsStart start → KeepsAttached start }
+    ensures contexts { (start : ModemStart) → IsStart start → KeepsContext start }
+    ensures oper { (start : ModemStart) → IsStart start → KeepsOper start }
+{}
+
+/// Three wrong PINs lock a modem, whatever comes then; the right one before that makes it ready, and nothing else does. Before it is ready
+/// nothing of its network, its contexts and its attachment changes. It is registered where it is ready and not deregistered, may attach
+/// there, and is attached nowhere else.
+pub fn pins()
+    ensures pin { (start : ModemStart) (pin : List ℕ) → IsStart start → start.pin ≡ Some pin
+        → KeepsPin start pin }
+    ensures ready { (start : ModemStart) → IsStart start → start.pin ≡ None → IsReadyAlways start }
+    ensures network { (start : ModemStart) → IsStart start → FollowsNetworkAlways start }
 {}
 
 /// Worked examples, computed by the step.

@@ -1,5 +1,5 @@
 -- Octets are handed to the station, on one connection after the other, and all that can be.
-use Rattle.std.specs.Prelude.{◌≡◌, ◌≢◌, ℕ, ◌+◌, ◌<◌, ◌==◌, ◌&&◌, ◌||◌, Bool, true, false, List, [], ◌∷◌, ◌++◌, length, refl, if◌then◌else◌}
+use Rattle.std.specs.Prelude.{◌≡◌, ◌≢◌, ℕ, ◌+◌, ◌<◌, ◌==◌, ◌||◌, Bool, true, false, List, [], ◌∷◌, ◌++◌, length, refl, if◌then◌else◌}
 use Rattle.std.proofs.Common.{arith, sym, ap, ◌∙◌, subst, append_assoc, append-nil, length-append}
 use Rattle.std.proofs.lemmas.Bool.Decides.{nat_tests}
 use Rattle.std.proofs.lemmas.List.{append_cancel_left, nil_from_length}
@@ -13,8 +13,8 @@ use Rattle.mux_station.specs.Offering.{data_out, joined_octets, octets_offered, 
 use Rattle.mux_station.specs.States.{is_opened}
 use Rattle.modem_sim.specs.Acts.{Act, Wire, End, is_handing, is_open_at_modem, wire}
 use Rattle.modem_sim.specs.Boxes.{Box, is_released, released}
-use Rattle.modem_sim.specs.Cores.{Core, Fits, Goes, GoesFrom, IsHanded, IsHandedOn, Wired, all_unhanded, box_at, boxed}
-use Rattle.modem_sim.specs.Stills.{AllHanded, HandsAll, HandsAt, HandsFrom, HandsOne, MayOffer, Offering, OffersFrom, OthersStay, offers_none, offers_some}
+use Rattle.modem_sim.specs.Cores.{Core, Fits, Goes, GoesFrom, IsHandedOn, Wired, all_unhanded, box_at, boxed}
+use Rattle.modem_sim.specs.Stills.{HandsAll, HandsAt, HandsOne, MayOffer, Offering, OffersFrom, OthersStay, offers_none, offers_some}
 use Rattle.modem_sim.proofs.connections.BoxesAfterFrame.{still_offered, still_there, was_open}
 use Rattle.modem_sim.proofs.ends.EndAfterFrame.{box_here, opened_is}
 use Rattle.modem_sim.proofs.ends.OfferedPieces.{from_then, goes_none, goes_then, neither, stays}
@@ -233,7 +233,6 @@ hands_more old mid new moved offered n low before goes hands others same none fe
     at_place : {P : Type 0} {d n : ℕ} (here : Bool) → (d == n) ≡ here → (d < n → P) → (d ≡ n → P) → d < n + 1 → P
     at_place {d = d} {n = n} true is less equal small = equal (grind (arith, nat_tests))
     at_place {d = d} {n = n} false is less equal small = less (grind (arith, nat_tests))
-
 
 -- where it went over all connections all is handed on
 pub hands_all : (old new : Core) (moved : Bool) (n : ℕ) → n ≡ 62 → Hands old new moved n → HandsAll old new

@@ -340,13 +340,13 @@ hands_goes old new d most b octets all small opened here taken handles same some
       some = some;
       fits = subst There (none_called e past d octets)
           (called_goes e w old new past (station.Offer d octets) (slice_set old.boxes d (record b { unsent = rest }))
-    (record { at_station = handles; rest_is = same })
-    (record { free = fits.free; some = some; next = said_begins e d past b octets rest (is_released b.hold) refl parts fit })
-    (λ n n_small.
-    let There : Box → Type 0 = λ x. FitsOpen e n (Wire (station.Called (station.Offer d octets)) ∷ past) x in
-    subst There (sym (box_here old.boxes n d (record b { unsent = rest }) (d == n) refl inside))
-    (offered_box e past d n octets rest b (box_at old n) (d == n) refl (λ on. sym (ap (box_at old) (one_connection on)) ∙ sym here) parts (fits.boxes_are n n_small)))
-    (stands e w old past fits));
+          (record { at_station = handles; rest_is = same })
+          (record { free = fits.free; some = some; next = said_begins e d past b octets rest (is_released b.hold) refl parts fit })
+          (λ n n_small.
+          let There : Box → Type 0 = λ x. FitsOpen e n (Wire (station.Called (station.Offer d octets)) ∷ past) x in
+          subst There (sym (box_here old.boxes n d (record b { unsent = rest }) (d == n) refl inside))
+          (offered_box e past d n octets rest b (box_at old n) (d == n) refl (λ on. sym (ap (box_at old) (one_connection on)) ∙ sym here) parts (fits.boxes_are n n_small)))
+          (stands e w old past fits));
     }
   where
     one_connection : {m n : ℕ} → (m == n) ≡ true → m ≡ n

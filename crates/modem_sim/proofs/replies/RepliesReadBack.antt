@@ -269,13 +269,13 @@ at_head Cgatt is = cc
 at_head Cmee is = cc
 at_head Cmux is = cc
 
-command_is_no_attention : (line : List ℕ) (c : Command) (at : Bool) → IsTextOf line c → is_attention line ≡ at → is_attention line ≡ false
+pub command_is_no_attention : (line : List ℕ) (c : Command) (at : Bool) → IsTextOf line c → is_attention line ≡ at → is_attention line ≡ false
 command_is_no_attention line c false is here = here
 command_is_no_attention line c true is here =
     let n = length (head (name_of c)) in
     absurd (at_head (name_of c) (ap (take n) (sym (same_octets (lowered line) (codes "at") here)) ∙ take-map to_ascii_lowercase n line ∙ is.begins))
 
-command_is : (line : List ℕ) (c : Command) → IsTextOf line c → command_of line ≡ Some c
+pub command_is : (line : List ℕ) (c : Command) → IsTextOf line c → command_of line ≡ Some c
 command_is line c is = read_command line (Some c) (record { is = is; only = λ d other. of_one line d c other is })
 
 -- what the modem answers to a command is read back as what its state says

@@ -1,5 +1,5 @@
 -- What is no turn of a simulated modem, computed.
-use Rattle.std.specs.Prelude.{◌≡◌, ◌≢◌, ℕ, ◌+◌, ◌<◌, ◌==◌, codes, Bool, true, false, List, [], ◌∷◌, ◌++◌, length, Option, Some, None, refl}
+use Rattle.std.specs.Prelude.{◌≡◌, ◌≢◌, ℕ, ◌+◌, ◌==◌, codes, true, false, List, [], ◌∷◌, length, Option, Some, None, refl}
 use Rattle.std.specs.Fmt.{digits}
 use Rattle.std.proofs.Common.{arith, sym, ap, ◌∙◌, lit<}
 use Rattle.std.proofs.lemmas.Bool.Decides.{nat_tests}
@@ -18,7 +18,7 @@ use Rattle.modem_sim.specs.Reading.{command_of}
 use Rattle.modem_sim.specs.Acts.{Act, after}
 use Rattle.modem_sim.specs.Cores.{after_wire_act}
 use Rattle.modem_sim.specs.Sims.{SimState, is_ended}
-use Rattle.modem_sim.specs.Turns.{DoesSteps, Exchange, GoesTurn, HandsOn, IsIdleAtLine, Means, NoneIsThere, Offers, Read, TakesAtHand, Write, calls_made, count_after, has_done, has_no_room, has_room_for, is_taken, none_at_hand}
+use Rattle.modem_sim.specs.Turns.{DoesSteps, Exchange, GoesTurn, HandsOn, Means, NoneIsThere, Offers, Read, TakesAtHand, Write, calls_made, count_after, has_done, has_no_room, has_room_for, is_taken, none_at_hand}
 use Rattle.modem_sim.specs.HistoryRows.{announcing, comes, one, plain, ready_one, sends, silent}
 use Rattle.modem_sim.specs.TurnRows.{CallsNothing, WrongCalls, WrongCounts, WrongTurns, unseen}
 use Rattle.modem_sim.proofs.rows.TurnRowFacts.{due_now, none_some, stays}

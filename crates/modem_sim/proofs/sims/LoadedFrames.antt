@@ -1,25 +1,22 @@
 -- Where all is written the next frame is put into the output.
-use Rattle.std.specs.Prelude.{◌≡◌, ℕ, ◌<◌, ◌≤◌, ◌==◌, Bool, true, false, List, [], ◌∷◌, ◌++◌, length, Option, Some, None, option_map, refl}
+use Rattle.std.specs.Prelude.{◌≡◌, ℕ, ◌<◌, ◌≤◌, ◌==◌, Bool, true, false, List, [], ◌∷◌, ◌++◌, length, Some, None, option_map, refl}
 use Rattle.std.proofs.Common.{arith, sym, ap, ◌∙◌, subst, append-nil}
 use Rattle.std.proofs.lemmas.Bool.Decides.{nat_tests}
 use Rattle.mux_frame.specs.Frames.{Frame}
 use Rattle.mux_frame.specs.Spelling as spelling
-use Rattle.mux_station.specs.declared.role.Role.{Role}
 use Rattle.mux_station.specs.declared.role.Role.TheVariants.{Responder}
 use Rattle.mux_station.specs.Stations as stations
-use Rattle.mux_station.specs.Stopping.{is_stopped}
-use Rattle.mux_station.specs.States.{is_opened}
 use Rattle.mux_station.specs.Offering.{offered, data_out}
 use Rattle.mux_station.specs.Giving.{next_given}
 use Rattle.mux_station.specs.GivenFrames.{Outgoing, with_freshness}
 use Rattle.mux_station.specs.Acts as station
-use Rattle.modem_sim.specs.Acts.{Act, Wire, End, any_act, is_handing, is_open_at_modem, wire}
+use Rattle.modem_sim.specs.Acts.{Act, Wire, End, any_act, is_open_at_modem, wire}
 use Rattle.modem_sim.specs.Pieces.{pieces_octets}
 use Rattle.modem_sim.specs.Outboxes.{outbox}
 use Rattle.modem_sim.specs.Cores.{Core, Fits, GivesOut, IsGivenOn, IsLater, Wired, box_at, from_queue, gone_on, sent_now}
 use Rattle.modem_sim.specs.Sims.{Kept, KeptFits, KeptGoes}
 use Rattle.modem_sim.specs.Turns.{HandsOn, NoneIsThere}
-use Rattle.modem_sim.specs.Stills.{AllHanded, HandsAll, HandsFrom, Loads, NoneFrom, PutsFrom, puts, puts_none, some_wait}
+use Rattle.modem_sim.specs.Stills.{AllHanded, HandsAll, HandsFrom, Loads, puts, puts_none, some_wait}
 use Rattle.modem_sim.proofs.connections.ControlChannel.{none_given, says_none}
 use Rattle.modem_sim.proofs.ends.EndAfterFrame.{opened_is}
 use Rattle.modem_sim.proofs.ends.HandedOctets.{ring_is, same_ring}

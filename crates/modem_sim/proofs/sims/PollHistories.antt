@@ -1,12 +1,12 @@
 -- The turns of a poll, through each history of the state before them.
-use Rattle.std.specs.Prelude.{◌≡◌, ℕ, ◌+◌, ◌<◌, List, [], Option, Some, None, Result, Ok, Err, refl}
+use Rattle.std.specs.Prelude.{ℕ, List, [], Option, Result, Ok, refl}
 use Rattle.modem_sim.specs.declared.error.SimError.{SimError}
 use Rattle.modem_sim.specs.declared.sim.SimTurn.{SimTurn}
 use Rattle.modem_sim.specs.declared.sim.SimTurn.TheVariants.{Moved, Idle, Ended}
 use Rattle.modem_sim.specs.Acts.{Act, End}
 use Rattle.modem_sim.specs.Cores.{IsLater}
 use Rattle.modem_sim.specs.Sims.{FitsSim, LineAt, Sight, SimState}
-use Rattle.modem_sim.specs.Polls.{MovesOn, MovesThrough, RefusedTo, Runs, RunsFrom, RunsInHistories, Turned, TurnsTo, ends, ends_through, fails, fails_through, goes_on, goes_on_through, moves_none, moves_once, moves_through, moves_through_none, rests, rests_through}
+use Rattle.modem_sim.specs.Polls.{MovesOn, MovesThrough, Runs, RunsInHistories, Turned, TurnsTo, ends, ends_through, fails, fails_through, goes_on, goes_on_through, moves_none, moves_once, moves_through, moves_through_none, rests, rests_through}
 use Rattle.modem_sim.proofs.ends.OfferedPieces.{later_then}
 
 -- so many turns went on to a past

@@ -1,16 +1,15 @@
 -- The histories of a turn: whatever past it fitted before, it goes on by all that a turn does.
-use Rattle.std.specs.Prelude.{◌≡◌, ◌≢◌, ℕ, ◌<◌, nat_lt, ◌||◌, Bool, true, false, List, [], ◌∷◌, ◌++◌, Option, Some, None, is_none, refl}
-use Rattle.std.specs.List.{flat_map, list_all, list_any}
-use Rattle.std.proofs.Common.{sym, ap, ◌∙◌, subst, append_assoc, append-nil}
+use Rattle.std.specs.Prelude.{◌≡◌, ℕ, nat_lt, ◌||◌, Bool, true, false, List, [], ◌∷◌, ◌++◌, Option, Some, None, refl}
+use Rattle.std.specs.List.{list_all, list_any}
+use Rattle.std.proofs.Common.{sym, ap, ◌∙◌, subst, append_assoc}
 use Rattle.at_cmds.proofs.command_texts.CommandLines.{both_true}
 use Rattle.mux_frame.specs.Frames.{Frame}
-use Rattle.mux_frame.specs.Spelling as spelling
 use Rattle.mux_station.specs.Acts as station
 use Rattle.mux_station.specs.Sending as sending
 use Rattle.modem_sim.specs.Acts.{Act, Wire, Did, End, is_handing, is_step_act, setting, wire}
-use Rattle.modem_sim.specs.Cores.{Core, IsGivenOn, IsLater, after_wire_act, from_queue, sent_now, wire_after}
-use Rattle.modem_sim.specs.Sims.{FitsSim, Kept, KeptFits, LineAt, Sight, SimState}
-use Rattle.modem_sim.specs.Turns.{DoesEach, PutsNext, Read, TakesAtHand, Write, has_no_room, has_room_for, is_got, is_put, is_taken, left_of, none_at_hand, none_is_there, octets_read, octets_written, some_are_left}
+use Rattle.modem_sim.specs.Cores.{IsGivenOn, IsLater, after_wire_act, from_queue, sent_now}
+use Rattle.modem_sim.specs.Sims.{FitsSim, Kept, KeptFits, LineAt, Sight}
+use Rattle.modem_sim.specs.Turns.{PutsNext, TakesAtHand, Write, has_no_room, is_got, is_put, is_taken, left_of, none_at_hand, none_is_there, octets_read, octets_written, some_are_left}
 use Rattle.modem_sim.specs.Stills.{GoesOnce, Loads, TakesFrame, TakesNone, WentOn, at_line, puts, puts_none, some_wait}
 use Rattle.modem_sim.proofs.law_proofs.Histories.{does_in_order}
 use Rattle.modem_sim.proofs.ends.EndAfterFrame.{later-sent_after}

@@ -1,14 +1,13 @@
 -- The answers of a turn mean what they say.
-use Rattle.std.specs.Prelude.{◌≡◌, ◌≢◌, ℕ, nat_lt, ◌==◌, ◌&&◌, Bool, true, false, List, [], ◌∷◌, length, Some, None, refl, if◌then◌else◌}
-use Rattle.std.proofs.Common.{arith, sym, ap, ◌∙◌, subst, append-nil}
+use Rattle.std.specs.Prelude.{◌≡◌, ◌≢◌, ℕ, nat_lt, ◌==◌, ◌&&◌, Bool, true, false, List, [], ◌∷◌, length, None, refl, if◌then◌else◌}
+use Rattle.std.proofs.Common.{arith, sym, ap, ◌∙◌, append-nil}
 use Rattle.std.proofs.lemmas.Bool.Decides.{nat_tests}
 use Rattle.std.proofs.lemmas.List.{nil_from_length}
 use Rattle.at_cmds.proofs.command_texts.CommandLines.{both_true}
 use Rattle.serial_line.specs.Counts.{one_more, counted_if_none}
-use Rattle.modem_sim.specs.declared.sim.SimTurn.{SimTurn}
 use Rattle.modem_sim.specs.declared.sim.SimTurn.TheVariants.{Moved, Idle, Ended}
 use Rattle.modem_sim.specs.Sims.{Kept, Sight, SimState, is_ended}
-use Rattle.modem_sim.specs.Turns.{Exchange, Exchanges, GoesTurn, IsIdleAtLine, Leaves, empty_after, has_done, is_over, stalled_after, stood_still}
+use Rattle.modem_sim.specs.Turns.{Exchange, Exchanges, GoesTurn, IsIdleAtLine, empty_after, has_done, is_over, stalled_after, stood_still}
 use Rattle.modem_sim.specs.Stills.{GoesOnce, StoodStill}
 use Rattle.modem_sim.proofs.sims.IdleTurns.{idle}
 

@@ -1,15 +1,15 @@
 -- What a turn did at its line and to what is kept, and that it says so.
-use Rattle.std.specs.Prelude.{◌≡◌, ◌≢◌, ℕ, ◌+◌, ◌<◌, nat_lt, ◌||◌, Bool, true, false, List, [], ◌∷◌, ◌++◌, length, take, drop, Option, Some, None, refl}
+use Rattle.std.specs.Prelude.{◌≡◌, ◌≢◌, ℕ, ◌+◌, ◌<◌, nat_lt, ◌||◌, Bool, true, false, List, [], ◌++◌, length, Option, Some, None, refl}
 use Rattle.std.specs.List.{list_any}
-use Rattle.std.proofs.Common.{arith, sym, ap, ◌∙◌, subst, append_assoc, append-nil, length-append}
+use Rattle.std.proofs.Common.{arith, sym, ap, ◌∙◌, subst, append-nil, length-append}
 use Rattle.std.proofs.lemmas.Bool.Decides.{nat_tests}
 use Rattle.std.proofs.lemmas.List.{nil_from_length}
 use Rattle.mux_station.specs.Giving.{next_given}
 use Rattle.mux_station.specs.Sending.{got_refused}
 use Rattle.mux_station.specs.Stations.{seen_in, setting_of}
-use Rattle.modem_sim.specs.Acts.{Act, End, is_step_act}
+use Rattle.modem_sim.specs.Acts.{Act, is_step_act}
 use Rattle.modem_sim.specs.Cores.{Core, HasNoneToDo, IsHandedOn, all_unhanded}
-use Rattle.modem_sim.specs.Sims.{Kept, KeptFits, KeptGoes, Sight, SimState}
+use Rattle.modem_sim.specs.Sims.{Kept, KeptGoes, Sight, SimState}
 use Rattle.modem_sim.specs.Turns.{Exchanges, Leaves, Offers, Read, Write, calls_made, count_after, empty_after, has_changed, has_moved, is_fewer, is_got, left_of, octets_read, octets_written}
 use Rattle.modem_sim.specs.Stills.{Feeds, FeedsNone, HasLoaded, HasNoneToLoad, Loads, LoadsNone, ReadsOnce, StoodStill, TakesFrame, TakesNone, Writes, at_line, handed, puts, puts_none, ready, some_wait}
 

@@ -1,7 +1,7 @@
-use Rattle.std.proofs.Common.{◌≡◌, ◌∙◌, ap, sym}
+use Rattle.std.proofs.Common.{◌≡◌, ◌∙◌, sym}
 use Rattle.modem_sim.specs.Acts.{is_handing}
-use Rattle.modem_sim.specs.Boxes.{Box, is_released, released}
-use Rattle.modem_sim.specs.Cores.{Core, box_at, boxed}
+use Rattle.modem_sim.specs.Boxes.{released}
+use Rattle.modem_sim.specs.Cores.{box_at, boxed}
 use Rattle.modem_sim.proofs.ends.HandedOctets.{goes_either, hands_at, hands_shut, release_opened, released_there}
 use Rattle.modem_sim.proofs.ends.OfferedPieces.{goes_then, release_goes, release_stays}
 use Rattle.modem_sim.proofs.sim_core.SimCore.offer_on.Goals as goal
@@ -28,4 +28,3 @@ returns-clause-hands c =
     (release_stays old mid d c.in_ok-released.ensures.all c.args.dlci.in_range same)
     (released_there old mid d c.in_ok-released.ensures.all c.args.dlci.in_range same)
     c.hand_on-handed.ensures.hold c.hand_on-handed.ensures.offers c.hand_on-handed.ensures.same c.hand_on-handed.ensures.none
-
