@@ -11,3 +11,4 @@ pub mod EntryRowFacts
 pub mod FaultRowFacts
 pub mod BacklogRowFacts
 pub mod BadExchangeFacts
+pub mod EveryTurnRowFacts

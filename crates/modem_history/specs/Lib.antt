@@ -27,6 +27,7 @@ pub mod BadSessions
 pub mod GoodTurns
 pub mod BadTurns
 pub mod BadExchanges
+pub mod EveryTurnRows
 pub mod BacklogRows
 pub mod EntryRows
 pub mod FinishRows
