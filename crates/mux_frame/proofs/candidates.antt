@@ -1,3 +1,4 @@
--- Candidates for a frame: header and verdict.
+-- Candidates for a frame: header and verdict, and what more octets change.
 pub mod Headers
+pub mod LaterOctets
 pub mod Verdicts

@@ -1,3 +1,5 @@
 -- A deframer's octets and its past.
 pub mod DeframerOctets
 pub mod DeframerPasts
+pub mod FrontFrames
+pub mod WrappedOctets

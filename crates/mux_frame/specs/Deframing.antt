@@ -1,5 +1,5 @@
 -- What a deframer has, and what it has taken and handed out (27.010, 5.2.3, 5.2.5 and 5.2.6.1).
-use Rattle.std.specs.Prelude.{◌≡◌, ◌≢◌, ℕ, ◌+◌, ◌≤◌, ◌==◌, List, [], ◌∷◌, ◌++◌, drop, Option, None, Some, if◌then◌else◌}
+use Rattle.std.specs.Prelude.{◌≡◌, ◌≢◌, ℕ, ◌+◌, ◌≤◌, ◌==◌, List, [], ◌∷◌, ◌++◌, drop, max, Option, None, Some, if◌then◌else◌}
 use Rattle.mux_frame.specs.Frames.{Frame}
 use Rattle.mux_frame.specs.Spelling.{flag, Spells}
 use Rattle.mux_frame.specs.Reading.{Reads}
@@ -11,6 +11,10 @@ pub record Deframing : Type 0 where
   pub n1 : ℕ
   pub undecided : List ℕ
   pub next : Option Frame
+
+-- how many octets a deframer has room for: the longest candidate, and at least 4096
+abbrev pub ring_room : ℕ → ℕ
+ring_room n1 = max (n1 + 7) 4096
 
 -- what the undecided octets say: nothing yet, no frame at their beginning, or a frame
 abbrev pub decision_on : ℕ → List ℕ → Verdict
@@ -27,9 +31,9 @@ frame_in u (fits h) = Some (frame_at h (drop 1 u))
 unfoldable pub next_in : ℕ → List ℕ → Option Frame
 next_in n1 u = frame_in u (decision_on n1 u)
 
--- what a deframer keeps: room for the longest candidate, N1 in its bounds, and no octets that begin no frame
+-- what a deframer keeps: its room, N1 in its bounds, and no octets that begin no frame
 pub record IsSettled (n1 : ℕ) (undecided : List ℕ) (capacity : ℕ) : Type 0 where
-  pub room : capacity ≡ n1 + 7
+  pub room : capacity ≡ ring_room n1
   pub low : 31 ≤ n1
   pub high : n1 ≤ 32767
   pub decided : decision_on n1 undecided ≢ refused

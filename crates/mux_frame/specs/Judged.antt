@@ -51,9 +51,10 @@ abbrev pub IsAtHand : ℕ → List ℕ → Option ℕ → Type 0
 IsAtHand n1 undecided None = next_in n1 undecided ≡ None
 IsAtHand n1 undecided (Some place) = IsAtPlace n1 undecided place
 
--- a deframer keeps that place
-pub record IsReady (n1 : ℕ) (undecided : List ℕ) (capacity : ℕ) (check_place : Option ℕ) : Type 0 where
+-- a deframer keeps that place, and memory to put a frame into one piece
+pub record IsReady (n1 : ℕ) (undecided : List ℕ) (capacity piece : ℕ) (check_place : Option ℕ) : Type 0 where
   pub settled : IsSettled n1 undecided capacity
+  pub memory : n1 + 7 ≤ piece
   pub at_hand : IsAtHand n1 undecided check_place
 
 -- from the front of octets goes what begins no frame; then this is the check place of the frame at hand, if

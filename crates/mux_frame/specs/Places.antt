@@ -1,5 +1,5 @@
 -- Where flags stand, for the clauses of private functions.
-use Rattle.std.specs.Prelude.{◌≡◌, ℕ, ◌+◌, ◌<◌, ◌≤◌, ◌==◌, List, [], ◌∷◌, length, drop, Option, None, Some, if◌then◌else◌}
+use Rattle.std.specs.Prelude.{◌≡◌, ℕ, ◌+◌, ◌<◌, ◌==◌, List, [], ◌∷◌, length, drop, Option, None, Some, if◌then◌else◌}
 use Rattle.mux_frame.specs.Spelling.{flag}
 use Rattle.mux_frame.specs.Reading.{after_flag}
 
@@ -26,9 +26,3 @@ pub record Held : Type 0 where
 
 abbrev pub held : List ℕ → ℕ → Held
 held xs n = record { items = xs; capacity = n }
-
--- octets that fit into a block, of which some have passed; those left are no more than there may be
-pub record IsHeld (octets : List ℕ) (block passed capacity : ℕ) : Type 0 where
-  pub within : passed ≤ length octets
-  pub left : length octets ≤ passed + capacity
-  pub fits : capacity ≤ block

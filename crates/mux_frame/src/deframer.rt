@@ -2,24 +2,37 @@
 ghost use Rattle.std.specs.Prelude.{◌≡◌, ◌≢◌, ◌↔◌, ◌⊎◌, ◌+◌, ◌-◌, ◌<◌, ◌≤◌, ◌++◌, [], ◌∷◌, List, ℕ, None, Some, length, min, option_map, take, IfOk, IfSome, IsErrOf, IsSome, OnErr, OnOk};
 ghost use Rattle.std.specs.Borrow.{sem};
 ghost use Rattle.std.specs.Io.BufRead.{Rests};
-ghost use Rattle.mux_frame.specs.Deframing.{Deframes, HandsOver, TakesIn};
+ghost use Rattle.mux_frame.specs.Deframing.{Deframes, HandsOver, TakesIn, ring_room};
 ghost use Rattle.mux_frame.specs.Frames.{Frame, frame_of};
 ghost use Rattle.mux_frame.specs.Spelling.{most_info};
 
 use crate::error::FrameError;
 use crate::frame::FrameView;
 use crate::judge::front_frame;
+use crate::piece::Piece;
 use crate::settling::{settle, take_in};
 use crate::undecided::Undecided;
 use std::alloc::Global;
 use std::marker::Model;
 
-/// Reads octets as frames, however they are cut. It keeps the octets that are not decided yet, at most
-/// N1 + 7: two flags, address, control, two length octets, information and check octet. So many are
-/// always decided.
+/// The least room of the ring, in octets: so a short frame seldom wraps round its end.
+const LEAST_ROOM: usize = 4096;
+
+/// How many octets the ring has room for: at least N1 + 7, which are two flags, address, control,
+/// two length octets, information and check octet. So a full ring is always decided.
+fn room_for(n1: u16) -> usize
+    ensures { result ≡ ring_room n1 }
+{
+    (usize::from(n1) + 7).max(LEAST_ROOM)
+}
+
+/// Reads octets as frames, however they are cut. It keeps the octets that are not decided yet in a
+/// ring. A frame lies there until `advance`; where it wraps round the ring's end, `peek` puts it into
+/// one piece.
 #[derive(Drop)]
 pub struct Deframer {
     octets: Undecided,
+    joined: Piece,
     n1: u16,
     /// Where there is a frame at hand, the place of its check octet, counted from its address octet.
     check_place: Option<usize>,
@@ -37,7 +50,7 @@ impl Model for Deframer {
       next = next_in d.n1 d.octets.items;
     } };
 
-    ghost invariant = { λ d. IsReady d.n1 d.octets.items d.octets.capacity d.check_place };
+    ghost invariant = { λ d. IsReady d.n1 d.octets.items d.octets.capacity d.joined d.check_place };
 }
 
 impl Deframer {
@@ -54,9 +67,11 @@ impl Deframer {
         if n1 < 31 || n1 > 32767 {
             return Err(FrameError::BadN1);
         }
-        let octets = Undecided::with_capacity(alloc, usize::from(n1) + 7)?;
+        let octets = Undecided::with_capacity(alloc, room_for(n1))?;
+        let joined = Piece::with_capacity(alloc, usize::from(n1) + 7)?;
         Ok(Deframer {
             octets,
+            joined,
             n1,
             check_place: None,
         })
@@ -65,7 +80,7 @@ impl Deframer {
     /// Takes octets in from the front of these, as many as there is room for, and says how many.
     pub fn feed(&mut self, octets: &[u8]) -> usize
         ensures count { result ≡
-            min (length octets.now) (self.old.n1 + 7 - length self.old.undecided) }
+            min (length octets.now) (ring_room self.old.n1 - length self.old.undecided) }
         ensures some { self.old.next ≡ None → 0 < length octets.now → 0 < result }
         ensures n1 { self.new.n1 ≡ self.old.n1 }
         ensures stays { (f : Frame) → self.old.next ≡ Some f → self.new.next ≡ Some f }
@@ -86,7 +101,10 @@ impl Deframer {
         let Some(place) = self.check_place else {
             return None;
         };
-        Some(front_frame(self.n1, self.octets.as_slice(), place))
+        let n1 = self.n1;
+        let (front, back) = self.octets.as_slices();
+        let whole = self.joined.join(front, back, place + 3);
+        Some(front_frame(n1, whole, place))
     }
 
     /// Goes on behind the frame at hand. The condition is that there is one: that the last call was
@@ -112,7 +130,10 @@ impl Deframer {
         ensures err { OnErr result (out.new.items ≡ out.old.items) }
         ensures no_memory { OnErr result (result ≡ Err FrameError.NoMemory) }
     {
-        out.extend_from_slice(self.octets.as_slice())?;
+        let (front, back) = self.octets.as_slices();
+        out.reserve(front.len() + back.len())?;
+        out.extend_from_slice(front).unwrap();
+        out.extend_from_slice(back).unwrap();
         Ok(())
     }
 }

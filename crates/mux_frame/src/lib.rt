@@ -10,6 +10,7 @@ mod frame;
 mod info;
 mod judge;
 pub mod laws;
+mod piece;
 mod probe;
 mod settling;
 mod undecided;

@@ -89,7 +89,7 @@ most_info_le n1 Dm = omega arith
 most_info_le n1 Disc = omega arith
 most_info_le n1 Uih = omega arith
 
-spelling_short : (n1 : ℕ) (b : List ℕ) (f : Frame) → Spells n1 b f → length b ≤ n1 + 5
+pub spelling_short : (n1 : ℕ) (b : List ℕ) (f : Frame) → Spells n1 b f → length b ≤ n1 + 5
 spelling_short n1 b f s =
     let e = simp length-append at (ap length s.octets) in
     let i = indicator_short s.indicator (length f.info) s.indicates in

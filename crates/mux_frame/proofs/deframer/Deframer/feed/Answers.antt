@@ -1,4 +1,5 @@
 use Rattle.std.proofs.Common.{◌≡◌, ◌≢◌, ◌∙◌, ◌+◌, ◌≤◌, ◌++◌, None, Some, ap, arith, length, sym, subst, take}
+use Rattle.std.proofs.Math.Nat.{le-max_left}
 use Rattle.mux_frame.specs.Deframing.{Deframes, decision_on, next_in}
 use Rattle.mux_frame.specs.Judging.{refused}
 use Rattle.mux_frame.specs.Laws.{AreOctets}
@@ -19,7 +20,8 @@ returns-clause-some c = λ none some.
     let r = c.min-count.ensures in
     let s = c.room.ensures in
     let k = c.self.invariant.settled.room in
-    omega (arith, l, r, s, k)
+    let m = le-max_left (c.self.inside.n1 + 7) 4096 in
+    omega (arith, l, r, s, k, m)
 
 pub returns-clause-stays : goal.returns-clause-stays
 returns-clause-stays c = λ f some.
