@@ -6,22 +6,18 @@ use circular_buffer::HeapCircularBuffer;
 use std::alloc::{AllocError, Global};
 use std::marker::Model;
 
-/// Octets in a ring. The first ones in it have passed, and give way where the ring is full.
+/// Octets in a ring.
 #[derive(Drop)]
 pub(crate) struct Undecided {
     octets: HeapCircularBuffer<u8>,
-    passed: usize,
 }
 
 impl Model for Undecided {
-    ghost use Rattle.std.specs.Prelude.{◌≤◌, drop, length};
     ghost use Rattle.mux_frame.specs.Places.{Held, held};
 
     ghost Value = { Held };
 
-    ghost view = { λ u. held (drop u.passed u.octets.items) u.octets.capacity };
-
-    ghost invariant = { λ u. u.passed ≤ length u.octets.items };
+    ghost view = { λ u. held u.octets.items u.octets.capacity };
 }
 
 impl Undecided {
@@ -30,21 +26,21 @@ impl Undecided {
         ensures { IfOk result (λ u. u ≡ held [] capacity) }
     {
         let octets = HeapCircularBuffer::with_capacity(alloc, capacity)?;
-        Ok(Undecided { octets, passed: 0 })
+        Ok(Undecided { octets })
     }
 
     /// Whether there are none.
     pub(crate) fn is_empty(&self) -> bool
         ensures { result ≡ (length self.now.items == 0) }
     {
-        self.octets.len() == self.passed
+        self.octets.is_empty()
     }
 
     /// How many more there is room for.
     pub(crate) fn room(&self) -> usize
         ensures { result ≡ self.now.capacity - length self.now.items }
     {
-        self.octets.capacity() - (self.octets.len() - self.passed)
+        self.octets.capacity() - self.octets.len()
     }
 
     /// Appends octets.
@@ -52,11 +48,6 @@ impl Undecided {
         requires { length octets.now ≤ self.old.capacity - length self.old.items }
         ensures { self.new ≡ held (self.old.items ++ octets.now) self.old.capacity }
     {
-        if octets.len() > self.octets.capacity() - self.octets.len() {
-            let kept = self.octets.len() - self.passed;
-            self.octets.truncate_front(kept);
-            self.passed = 0;
-        }
         self.octets.fill_from_slice(octets);
     }
 
@@ -65,12 +56,7 @@ impl Undecided {
     pub(crate) fn as_slices(&self) -> (&[u8], &[u8])
         ensures { result.0.now ++ result.1.now ≡ self.now.items }
     {
-        let (front, back) = self.octets.as_slices();
-        if self.passed < front.len() {
-            (&front[self.passed..], back)
-        } else {
-            (&back[self.passed - front.len()..], &[])
-        }
+        self.octets.as_slices()
     }
 
     #[inline(always)]
@@ -79,7 +65,7 @@ impl Undecided {
         requires { count ≤ length self.old.items }
         ensures { self.new ≡ held (drop count self.old.items) self.old.capacity }
     {
-        let _most = self.octets.len();
-        self.passed += count;
+        let kept = self.octets.len() - count;
+        self.octets.truncate_front(kept);
     }
 }
