@@ -2,4 +2,5 @@
 pub mod DeframerOctets
 pub mod DeframerPasts
 pub mod FrontFrames
+pub mod SearchedOctets
 pub mod WrappedOctets

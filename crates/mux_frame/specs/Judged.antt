@@ -1,9 +1,9 @@
 -- Verdicts as the code has them.
+use Rattle.circular_buffer.specs.Buffer.{Buffer}
 use Rattle.std.specs.Prelude.{◌≡◌, ◌≢◌, ℕ, ◌+◌, ◌≤◌, Bool, List, ◌∷◌, Option, None, Some, drop, length, if◌then◌else◌}
 use Rattle.mux_frame.specs.Deframing.{IsFront, IsSettled, SameReading, decision_on, next_in}
 use Rattle.mux_frame.specs.Judging.{Header, Verdict, unfinished, refused, fits, frame_at}
 use Rattle.mux_frame.specs.Laws.{AreOctets}
-use Rattle.mux_frame.specs.Places.{Held}
 use Rattle.mux_frame.specs.Spelling.{flag}
 use Rattle.mux_frame.specs.declared.judge.Header.{Header as HeaderValue}
 use Rattle.mux_frame.specs.declared.judge.Verdict.{Verdict as VerdictValue}
@@ -51,6 +51,13 @@ abbrev pub IsAtHand : ℕ → List ℕ → Option ℕ → Type 0
 IsAtHand n1 undecided None = next_in n1 undecided ≡ None
 IsAtHand n1 undecided (Some place) = IsAtPlace n1 undecided place
 
+-- what stands before this place begins no frame; from there on nothing is refused, and this is the check
+-- place of the frame at hand, if there is one
+pub record IsSearched (n1 : ℕ) (octets : List ℕ) (place : ℕ) (check_place : Option ℕ) : Type 0 where
+  pub passed : IsPassed n1 octets place
+  pub decided : decision_on n1 (drop place octets) ≢ refused
+  pub at_hand : IsAtHand n1 (drop place octets) check_place
+
 -- a deframer keeps that place, and memory to put a frame into one piece
 pub record IsReady (n1 : ℕ) (undecided : List ℕ) (capacity piece : ℕ) (check_place : Option ℕ) : Type 0 where
   pub settled : IsSettled n1 undecided capacity
@@ -59,7 +66,7 @@ pub record IsReady (n1 : ℕ) (undecided : List ℕ) (capacity piece : ℕ) (che
 
 -- from the front of octets goes what begins no frame; then this is the check place of the frame at hand, if
 -- there is one
-pub record Settles (n1 : ℕ) (old new : Held) (check_place : Option ℕ) : Type 0 where
+pub record Settles (n1 : ℕ) (old new : Buffer ℕ) (check_place : Option ℕ) : Type 0 where
   pub decided : decision_on n1 new.items ≢ refused
   pub reads : SameReading n1 old.items new.items
   pub kept : decision_on n1 old.items ≢ refused → new ≡ old

@@ -18,11 +18,3 @@ FirstFlag s (Some place) = IsFirstFlag s place
 abbrev pub from_flag : List ℕ → List ℕ
 from_flag [] = []
 from_flag (x ∷ xs) = if x == flag then x ∷ xs else from_flag xs
-
--- octets, and how many there may be
-pub record Held : Type 0 where
-  pub items : List ℕ
-  pub capacity : ℕ
-
-abbrev pub held : List ℕ → ℕ → Held
-held xs n = record { items = xs; capacity = n }

@@ -11,7 +11,7 @@ use crate::frame::FrameView;
 use crate::judge::front_frame;
 use crate::piece::Piece;
 use crate::settling::{settle, take_in};
-use crate::undecided::Undecided;
+use circular_buffer::HeapCircularBuffer;
 use std::alloc::Global;
 use std::marker::Model;
 
@@ -31,7 +31,7 @@ fn room_for(n1: u16) -> usize
 /// one piece.
 #[derive(Drop)]
 pub struct Deframer {
-    octets: Undecided,
+    octets: HeapCircularBuffer<u8>,
     joined: Piece,
     n1: u16,
     /// Where there is a frame at hand, the place of its check octet, counted from its address octet.
@@ -67,7 +67,7 @@ impl Deframer {
         if n1 < 31 || n1 > 32767 {
             return Err(FrameError::BadN1);
         }
-        let octets = Undecided::with_capacity(alloc, room_for(n1))?;
+        let octets = HeapCircularBuffer::with_capacity(alloc, room_for(n1))?;
         let joined = Piece::with_capacity(alloc, usize::from(n1) + 7)?;
         Ok(Deframer {
             octets,
@@ -86,9 +86,9 @@ impl Deframer {
         ensures stays { (f : Frame) → self.old.next ≡ Some f → self.new.next ≡ Some f }
         ensures past { TakesIn self.old (take result octets.now) self.new }
     {
-        let count = octets.len().min(self.octets.room());
-        take_in(&mut self.octets, &octets[..count]);
-        self.check_place = settle(&mut self.octets, self.n1);
+        let room = self.octets.capacity() - self.octets.len();
+        let count = octets.len().min(room);
+        self.check_place = take_in(&mut self.octets, &octets[..count], self.n1);
         count
     }
 
@@ -116,8 +116,7 @@ impl Deframer {
         ensures past { HandsOver self.old self.new }
     {
         if let Some(place) = self.check_place {
-            self.octets.remove_front(place + 2);
-            self.check_place = settle(&mut self.octets, self.n1);
+            self.check_place = settle(&mut self.octets, place + 2, self.n1);
         }
     }
 

@@ -13,7 +13,6 @@ pub mod laws;
 mod piece;
 mod probe;
 mod settling;
-mod undecided;
 mod write;
 
 pub use check::check_octet;

@@ -1,14 +1,14 @@
 //! The octets of a deframer are taken in, and what begins no frame is dropped.
-ghost use Rattle.std.specs.Prelude.{◌≡◌, ◌≢◌, ◌+◌, ◌-◌, ◌≤◌, ◌++◌, [], ℕ, drop, length, slice_get, IfSome};
-ghost use Rattle.mux_frame.specs.Deframing.{SameReading, decision_on};
-ghost use Rattle.mux_frame.specs.Judged.{IsAtHand, IsCandidate, IsPassed, Settles, verdict_seen};
-ghost use Rattle.mux_frame.specs.Judging.{refused, verdict_on};
+ghost use Rattle.std.specs.Prelude.{◌≡◌, ◌+◌, ◌≤◌, ◌++◌, drop, length, slice_get, IfSome};
+ghost use Rattle.circular_buffer.specs.Buffer.{buffer};
+ghost use Rattle.mux_frame.specs.Deframing.{decision_on};
+ghost use Rattle.mux_frame.specs.Judged.{IsCandidate, IsPassed, IsSearched, Settles, verdict_seen};
 ghost use Rattle.mux_frame.specs.Laws.{AreOctets};
 ghost use Rattle.mux_frame.specs.Places.{from_flag};
 
 use crate::judge::Verdict;
-use crate::undecided::Undecided;
 use crate::write::FLAG;
+use circular_buffer::HeapCircularBuffer;
 use memchr::memchr;
 
 #[inline(always)]
@@ -25,18 +25,13 @@ fn flag_in(octets: &[u8]) -> usize
 }
 
 #[inline(always)]
-/// Appends octets; where there are none yet, from the first flag on.
-pub(crate) fn take_in(octets: &mut Undecided, more: &[u8])
-    requires { length more.now ≤ octets.old.capacity - length octets.old.items }
-    ensures reads { (n1 : ℕ) → SameReading n1 (octets.old.items ++ more.now) octets.new.items }
-    ensures kept { octets.old.items ≢ [] → octets.new.items ≡ octets.old.items ++ more.now }
-    ensures octets { AreOctets (octets.old.items ++ more.now) → AreOctets octets.new.items }
-    ensures capacity { octets.new.capacity ≡ octets.old.capacity }
+/// Takes this many octets off the front.
+fn remove_front(octets: &mut HeapCircularBuffer<u8>, count: usize)
+    requires { count ≤ length octets.old.items }
+    ensures { octets.new ≡ buffer (drop count octets.old.items) octets.old.capacity }
 {
-    let start = if octets.is_empty() { flag_in(more) } else { 0 };
-    if start < more.len() {
-        octets.append(&more[start..]);
-    }
+    let kept = octets.len() - count;
+    octets.truncate_front(kept);
 }
 
 #[inline(always)]
@@ -132,15 +127,33 @@ fn flag_in_both(front: &[u8], back: &[u8]) -> usize
     place + flag_in(back)
 }
 
-/// How many octets in the two slices of a ring begin no frame, of which so many are known: where a
-/// candidate fails, only its flag, and then what stands before the next flag. Where a frame is whole
-/// behind them, it gives the place of its check octet, counted from its address octet.
-fn searched(front: &[u8], back: &[u8], passed: usize, n1: u16) -> (usize, Option<usize>)
+/// How many octets begin no frame: where a candidate fails, only its flag, and then what stands
+/// before the next flag. Where a frame is whole behind them, it gives the place of its check octet,
+/// counted from its address octet.
+fn searched(octets: &[u8], n1: u16) -> (usize, Option<usize>)
+    requires { AreOctets octets.now }
+    ensures { IsSearched n1 octets.now result.0 result.1 }
+{
+    let mut start = 0;
+    loop {
+        let (_, left) = octets.split_at(start);
+        match slice_verdict(left, n1) {
+            Verdict::Fits(header) => return (start, Some(header.check_place())),
+            Verdict::Unfinished => return (start, None),
+            Verdict::Refused => {
+                let (_, text) = octets.split_at(start + 1);
+                start += 1 + flag_in(text);
+            }
+        }
+    }
+}
+
+#[inline(never)]
+/// The same in the two slices of a ring, where so many octets are known to begin no frame.
+fn searched_on(front: &[u8], back: &[u8], passed: usize, n1: u16) -> (usize, Option<usize>)
     requires octets { AreOctets (front.now ++ back.now) }
     requires passed { IsPassed n1 (front.now ++ back.now) passed }
-    ensures passed { IsPassed n1 (front.now ++ back.now) result.0 }
-    ensures decided { decision_on n1 (drop result.0 (front.now ++ back.now)) ≢ refused }
-    ensures at_hand { IsAtHand n1 (drop result.0 (front.now ++ back.now)) result.1 }
+    ensures { IsSearched n1 (front.now ++ back.now) result.0 result.1 }
 {
     let mut start = passed;
     loop {
@@ -156,13 +169,30 @@ fn searched(front: &[u8], back: &[u8], passed: usize, n1: u16) -> (usize, Option
     }
 }
 
-#[inline(always)]
-/// The octets behind a flag at the front, or behind a second flag: then the first one is most often
-/// the closing flag of another frame.
-fn candidate(octets: &[u8]) -> Option<(bool, &[u8])>
-    ensures { IfSome result (λ c. IsCandidate octets.now c.0 c.1.now) }
+/// The same in the two slices of a ring: in the first one, and where that doesn't tell, in both.
+fn searched_both(front: &[u8], back: &[u8], n1: u16) -> (usize, Option<usize>)
+    requires { AreOctets (front.now ++ back.now) }
+    ensures { IsSearched n1 (front.now ++ back.now) result.0 result.1 }
 {
-    match octets.split_first() {
+    let (start, check_place) = searched(front, n1);
+    if check_place.is_some() || back.is_empty() {
+        return (start, check_place);
+    }
+    searched_on(front, back, start, n1)
+}
+
+#[inline(always)]
+/// The octets from a place on that stand behind a flag, or behind two: then the first one is most
+/// often the closing flag of another frame. It gives them where a header may be whole.
+fn candidate(octets: &[u8], place: usize) -> Option<(bool, &[u8])>
+    requires { place ≤ length octets.now }
+    ensures { IfSome result (λ c. IsCandidate (drop place octets.now) c.0 c.1.now) }
+{
+    let (_, left) = octets.split_at(place);
+    if left.len() < 6 {
+        return None;
+    }
+    match left.split_first() {
         Some((&FLAG, text)) => match text.split_first() {
             Some((&FLAG, text)) => Some((true, text)),
             _ => Some((false, text)),
@@ -172,63 +202,49 @@ fn candidate(octets: &[u8]) -> Option<(bool, &[u8])>
 }
 
 #[inline(always)]
-/// The verdict on the octets after a flag, where it takes few steps: on none, and where a whole
-/// header stands in the first slice and that slice tells.
-fn short_verdict(n1: u16, text: &[u8], back: &[u8]) -> Option<Verdict>
-    ensures { IfSome result (λ v. verdict_seen v ≡ verdict_on n1 (text.now ++ back.now)) }
+/// Takes so many octets off the front, and then what begins no frame. Where a frame is whole at the
+/// front then, it gives the place of its check octet, counted from its address octet.
+pub(crate) fn settle(octets: &mut HeapCircularBuffer<u8>, passed: usize, n1: u16) -> Option<usize>
+    requires octets { AreOctets octets.old.items }
+    requires passed { passed ≤ length octets.old.items }
+    ensures { Settles n1 (buffer (drop passed octets.old.items) octets.old.capacity) octets.new result }
 {
-    if text.len() < 4 {
-        if text.is_empty() && back.is_empty() {
-            return Some(Verdict::Unfinished);
-        }
-        return None;
+    let (front, _) = octets.as_slices();
+    if passed <= front.len()
+        && let Some((is_second, text)) = candidate(front, passed)
+        && let Verdict::Fits(header) = Verdict::on(n1, text)
+    {
+        remove_front(octets, passed + usize::from(is_second));
+        return Some(header.check_place());
     }
-    match Verdict::on(n1, text) {
-        Verdict::Unfinished => {
-            if back.is_empty() {
-                return Some(Verdict::Unfinished);
-            }
-            None
-        }
-        verdict => Some(verdict),
-    }
-}
-
-#[inline(always)]
-/// Drops what begins no frame. Where a frame is whole at the front then, it gives the place of its
-/// check octet, counted from its address octet.
-pub(crate) fn settle(octets: &mut Undecided, n1: u16) -> Option<usize>
-    requires { AreOctets octets.old.items }
-    ensures { Settles n1 octets.old octets.new result }
-{
-    let (front, back) = octets.as_slices();
-    let Some((is_second, text)) = candidate(front) else {
-        return settle_searching(octets, 0, n1);
-    };
-    let start = usize::from(is_second);
-    match short_verdict(n1, text, back) {
-        Some(Verdict::Fits(header)) => {
-            octets.remove_front(start);
-            Some(header.check_place())
-        }
-        Some(Verdict::Unfinished) => {
-            octets.remove_front(start);
-            None
-        }
-        Some(Verdict::Refused) => settle_searching(octets, start + 1, n1),
-        None => settle_searching(octets, start, n1),
-    }
+    settle_searching(octets, passed, n1)
 }
 
 #[inline(never)]
-/// The same where so many octets are known to begin no frame.
-fn settle_searching(octets: &mut Undecided, passed: usize, n1: u16) -> Option<usize>
+/// The same, whatever stands there.
+fn settle_searching(octets: &mut HeapCircularBuffer<u8>, passed: usize, n1: u16) -> Option<usize>
     requires octets { AreOctets octets.old.items }
-    requires passed { IsPassed n1 octets.old.items passed }
-    ensures { Settles n1 octets.old octets.new result }
+    requires passed { passed ≤ length octets.old.items }
+    ensures { Settles n1 (buffer (drop passed octets.old.items) octets.old.capacity) octets.new result }
 {
+    remove_front(octets, passed);
     let (front, back) = octets.as_slices();
-    let (count, check_place) = searched(front, back, passed, n1);
-    octets.remove_front(count);
+    let (count, check_place) = searched_both(front, back, n1);
+    remove_front(octets, count);
     check_place
+}
+
+/// Appends octets, and settles. Where there are none yet, what begins no frame isn't taken in.
+pub(crate) fn take_in(octets: &mut HeapCircularBuffer<u8>, more: &[u8], n1: u16) -> Option<usize>
+    requires octets { AreOctets (octets.old.items ++ more.now) }
+    requires room { length octets.old.items + length more.now ≤ octets.old.capacity }
+    ensures { Settles n1 (buffer (octets.old.items ++ more.now) octets.old.capacity) octets.new result }
+{
+    if octets.is_empty() {
+        let (start, check_place) = searched(more, n1);
+        octets.fill_from_slice(&more[start..]);
+        return check_place;
+    }
+    octets.fill_from_slice(more);
+    settle(octets, 0, n1)
 }

@@ -1,13 +1,14 @@
 -- The octets of a deframer.
-use Rattle.std.proofs.Common.{◌≡◌, ◌≢◌, ℕ, zero, suc, ◌+◌, ◌≤◌, ◌==◌, Bool, true, false, List, [], ◌∷◌, ◌++◌, Option, None, Some, length, drop, take, ◌-◌, refl, if◌then◌else◌, sym, ap, subst, ◌∙◌, arith, append_assoc}
+use Rattle.std.proofs.Common.{◌≡◌, ◌≢◌, ℕ, zero, suc, ◌+◌, ◌≤◌, ◌==◌, Bool, true, false, List, [], ◌∷◌, ◌++◌, Option, None, Some, length, drop, refl, if◌then◌else◌, sym, ap, subst, ◌∙◌, arith, append_assoc}
 use Rattle.std.specs.Prelude.{unwrap_or, slice_get}
 use mir.Val.{bool_byte}
 use Rattle.std.proofs.lemmas.Bool.{eqb-true}
-use Rattle.std.proofs.lemmas.List.{drop_all, drop-append-le, append-nil, drop-drop, length-drop, take_rest}
+use Rattle.std.proofs.lemmas.List.{drop_all, drop-append-le, append-nil, drop-drop, length-drop}
 use Rattle.memchr.specs.Find.{IsFirstByte, is_byte}
 use Rattle.mux_frame.specs.Spelling.{flag}
 use Rattle.mux_frame.specs.Reading.{after_flag}
-use Rattle.mux_frame.specs.Places.{Held, from_flag, held}
+use Rattle.circular_buffer.specs.Buffer.{Buffer, buffer}
+use Rattle.mux_frame.specs.Places.{from_flag}
 use Rattle.mux_frame.specs.Judging.{Header, Verdict, unfinished, refused, fits, by_header, verdict_on, IsRefused, Means}
 use Rattle.mux_frame.specs.Deframing.{decision_on, next_in, SameReading}
 use Rattle.mux_frame.specs.Judged.{IsAtHand, IsCandidate, IsPassed, Settles}
@@ -202,38 +203,39 @@ empty_next n1 [] e = refl
 empty_next n1 (x ∷ u) e = let z = eqb-true (length (x ∷ u)) 0 (sym e) in absurd (omega (arith, z))
 
 -- what is passed is dropped
-pub settles : (n1 start : ℕ) (old new : Held) (o : Option ℕ)
+pub settles : (n1 start : ℕ) (old new : Buffer ℕ) (o : Option ℕ)
     → AreOctets old.items
     → IsPassed n1 old.items start
-    → new ≡ held (drop start old.items) old.capacity
+    → new ≡ buffer (drop start old.items) old.capacity
     → decision_on n1 (drop start old.items) ≢ refused
     → IsAtHand n1 (drop start old.items) o
     → Settles n1 old new o
 settles n1 start old new o a p e d h = subst (λ v. Settles n1 old v o) (sym e) record {
   decided = d;
   reads = p.reads;
-  kept = λ k. ap (λ xs. held xs old.capacity) (p.kept k);
+  kept = λ k. ap (λ xs. buffer xs old.capacity) (p.kept k);
   octets = octets-drop start old.items a;
   shorter = let l = length-drop start old.items in omega (arith, l);
   capacity = refl;
   at_hand = h;
 }
 
--- of no octets, nothing goes
-pub settles_none : (n1 : ℕ) (u : Held) → AreOctets u.items → true ≡ (length u.items == 0) → Settles n1 u u None
-settles_none n1 u a e = settles n1 0 u u None a (passed_none n1 u.items) refl (empty_stays n1 u.items e) (empty_next n1 u.items e)
-
--- where there is nothing yet, it is enough to take octets in from their first flag on
-pub taken_first : (n1 start k : ℕ) (u xs : List ℕ) → true ≡ (length u == 0) → start ≡ k → drop k xs ≡ from_flag xs → SameReading n1 (u ++ xs) (u ++ drop start xs)
-taken_first n1 start k [] xs e i h = rw (i, h) (flag_reads n1 xs)
-taken_first n1 start k (x ∷ u) xs e i h = let z = eqb-true (length (x ∷ u)) 0 (sym e) in absurd (omega (arith, z))
-
-pub taken_all : (n1 start : ℕ) (u xs : List ℕ) → start ≡ 0 → SameReading n1 (u ++ xs) (u ++ drop start xs)
-taken_all n1 start u xs e = rw e (same_reading_none n1 (u ++ xs))
-
--- they are appended, or there are none
-pub appended : (n1 start : ℕ) (u xs v : List ℕ) → SameReading n1 (u ++ xs) (u ++ drop start xs) → v ≡ u ++ take (length xs - start) (drop start xs) → SameReading n1 (u ++ xs) v
-appended n1 start u xs v s e = subst (SameReading n1 (u ++ xs)) (ap (λ z. u ++ z) (sym (take_rest xs start)) ∙ sym e) s
-
-pub none_appended : (n1 start : ℕ) (u xs : List ℕ) → SameReading n1 (u ++ xs) (u ++ drop start xs) → length xs ≤ start → SameReading n1 (u ++ xs) u
-none_appended n1 start u xs s l = subst (SameReading n1 (u ++ xs)) (ap (λ z. u ++ z) (drop_all start xs l) ∙ append-nil u) s
+-- what stands before a place that is passed is dropped before
+pub settles_then : (n1 start : ℕ) (old new : Buffer ℕ) (o : Option ℕ)
+    → IsPassed n1 old.items start
+    → Settles n1 (buffer (drop start old.items) old.capacity) new o
+    → Settles n1 old new o
+settles_then n1 start old new o p s =
+    let l = length-drop start old.items in
+    let m = s.shorter in
+    record {
+      decided = s.decided;
+      reads = same_reading_then n1 old.items (drop start old.items) new.items p.reads s.reads;
+      kept = λ k.
+          let e = p.kept k in
+          s.kept (subst (λ z. decision_on n1 z ≢ refused) (sym e) k) ∙ ap (λ xs. buffer xs old.capacity) e;
+      octets = s.octets;
+      shorter = omega (arith, l, m);
+      capacity = s.capacity;
+      at_hand = s.at_hand;
+    }

@@ -1,0 +1,30 @@
+use Rattle.std.proofs.Common.{◌≡◌, ◌++◌, drop, arith}
+use Rattle.mux_frame.specs.Deframing.{decision_on}
+use Rattle.mux_frame.specs.Judged.{header_seen}
+use Rattle.mux_frame.specs.Judging.{unfinished, refused, fits}
+use Rattle.mux_frame.proofs.deframers.DeframerOctets.{passed_more, refused_some}
+use Rattle.mux_frame.proofs.deframers.SearchedOctets.{searched_fits, searched_unfinished}
+use Rattle.mux_frame.proofs.settling.searched_on.Goals as goal
+
+pub returns-in-Fits : goal.returns-in-Fits
+returns-in-Fits c =
+    let e : fits (header_seen c.in-Fits.header) ≡ decision_on c.args.n1 (drop c.loop-header.start (c.args.front.now ++ c.args.back.now)) = rw c.slices_from.ensures at c.in-Fits.ensures in
+    searched_fits c.args.n1 c.loop-header.start c.check_place.result (c.args.front.now ++ c.args.back.now) (header_seen c.in-Fits.header) c.requires.octets c.loop-header.invariant e c.check_place.ensures.value
+
+pub returns-in-Unfinished : goal.returns-in-Unfinished
+returns-in-Unfinished c =
+    let e : unfinished ≡ decision_on c.args.n1 (drop c.loop-header.start (c.args.front.now ++ c.args.back.now)) = rw c.slices_from.ensures at c.in-Unfinished.ensures in
+    searched_unfinished c.args.n1 c.loop-header.start (c.args.front.now ++ c.args.back.now) c.loop-header.invariant e
+
+pub loop-header-smaller : goal.loop-header-smaller
+loop-header-smaller c =
+    let e : refused ≡ decision_on c.args.n1 (drop c.loop-header.start (c.args.front.now ++ c.args.back.now)) = rw c.slices_from.ensures at c.in-Refused.ensures in
+    let k = refused_some c.args.n1 c.loop-header.start (c.args.front.now ++ c.args.back.now) e in
+    omega (arith, k)
+
+pub loop-header-preserved : goal.loop-header-preserved
+loop-header-preserved c =
+    let e : refused ≡ decision_on c.args.n1 (drop c.loop-header.start (c.args.front.now ++ c.args.back.now)) = rw c.slices_from.ensures at c.in-Refused.ensures in
+    passed_more c.args.n1 c.loop-header.start c.flag_in_both.result (c.args.front.now ++ c.args.back.now) c.requires.octets c.loop-header.invariant e
+    (rw c.slices_from-in-Refused.ensures at c.flag_in_both.ensures.within)
+    (rw c.slices_from-in-Refused.ensures at c.flag_in_both.ensures.rest)
