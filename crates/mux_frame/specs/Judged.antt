@@ -2,7 +2,7 @@
 use Rattle.circular_buffer.specs.Buffer.{Buffer}
 use Rattle.std.specs.Prelude.{◌≡◌, ◌≢◌, ℕ, ◌+◌, ◌≤◌, Bool, List, ◌∷◌, Option, None, Some, drop, length, if◌then◌else◌}
 use Rattle.mux_frame.specs.Deframing.{IsFront, IsSettled, SameReading, decision_on, next_in}
-use Rattle.mux_frame.specs.Judging.{Header, Verdict, unfinished, refused, fits, frame_at}
+use Rattle.mux_frame.specs.Judging.{Header, Verdict, unfinished, refused, fits, frame_at, verdict_on}
 use Rattle.mux_frame.specs.Laws.{AreOctets}
 use Rattle.mux_frame.specs.Spelling.{flag}
 use Rattle.mux_frame.specs.declared.judge.Header.{Header as HeaderValue}
@@ -30,6 +30,12 @@ verdict_seen (Fits h) = fits (header_seen h)
 -- the octets are this text behind a flag, or behind two
 abbrev pub IsCandidate : List ℕ → Bool → List ℕ → Type 0
 IsCandidate octets is_second text = octets ≡ (if is_second then flag ∷ flag ∷ text else flag ∷ text)
+
+-- the octets after a flag begin with a whole frame, whose check octet stands at this place
+pub record IsWholeTo (n1 : ℕ) (text : List ℕ) (place : ℕ) : Type 0 where
+  pub header : Header
+  pub fits_so : fits header ≡ verdict_on n1 text
+  pub place_is : place ≡ header.size + header.info_len
 
 -- what stands before this place begins no frame, and nothing is lost ahead of what can begin one
 pub record IsPassed (n1 : ℕ) (octets : List ℕ) (place : ℕ) : Type 0 where

@@ -2,7 +2,7 @@
 ghost use Rattle.std.specs.Prelude.{◌≡◌, ◌+◌, ◌≤◌, ◌++◌, drop, length, slice_get, IfSome};
 ghost use Rattle.circular_buffer.specs.Buffer.{buffer};
 ghost use Rattle.mux_frame.specs.Deframing.{decision_on};
-ghost use Rattle.mux_frame.specs.Judged.{IsCandidate, IsPassed, IsSearched, Settles, verdict_seen};
+ghost use Rattle.mux_frame.specs.Judged.{IsCandidate, IsPassed, IsSearched, IsWholeTo, Settles, verdict_seen};
 ghost use Rattle.mux_frame.specs.Laws.{AreOctets};
 ghost use Rattle.mux_frame.specs.Places.{from_flag};
 
@@ -202,6 +202,17 @@ fn candidate(octets: &[u8], place: usize) -> Option<(bool, &[u8])>
 }
 
 #[inline(always)]
+/// Where a whole frame begins the octets after a flag, the place of its check octet.
+fn whole_place(n1: u16, text: &[u8]) -> Option<usize>
+    ensures { IfSome result (IsWholeTo n1 text.now) }
+{
+    match Verdict::on(n1, text) {
+        Verdict::Fits(header) => Some(header.check_place()),
+        _ => None,
+    }
+}
+
+#[inline(always)]
 /// Takes so many octets off the front, and then what begins no frame. Where a frame is whole at the
 /// front then, it gives the place of its check octet, counted from its address octet.
 pub(crate) fn settle(octets: &mut HeapCircularBuffer<u8>, passed: usize, n1: u16) -> Option<usize>
@@ -212,10 +223,10 @@ pub(crate) fn settle(octets: &mut HeapCircularBuffer<u8>, passed: usize, n1: u16
     let (front, _) = octets.as_slices();
     if passed <= front.len()
         && let Some((is_second, text)) = candidate(front, passed)
-        && let Verdict::Fits(header) = Verdict::on(n1, text)
+        && let Some(place) = whole_place(n1, text)
     {
         remove_front(octets, passed + usize::from(is_second));
-        return Some(header.check_place());
+        return Some(place);
     }
     settle_searching(octets, passed, n1)
 }

@@ -6,9 +6,9 @@ use Rattle.circular_buffer.specs.Buffer.{Buffer, buffer}
 use Rattle.std.proofs.lemmas.Bool.{eqb-true}
 use Rattle.std.proofs.lemmas.List.{append-nil, drop-append-le, drop-drop}
 use Rattle.mux_frame.specs.Reading.{Reads}
-use Rattle.mux_frame.specs.Judging.{Header, unfinished, refused, fits, verdict_on}
+use Rattle.mux_frame.specs.Judging.{Header, unfinished, refused, fits}
 use Rattle.mux_frame.specs.Deframing.{decision_on, SameReading}
-use Rattle.mux_frame.specs.Judged.{IsAtPlace, IsCandidate, IsPassed, IsSearched, Settles}
+use Rattle.mux_frame.specs.Judged.{IsAtPlace, IsCandidate, IsPassed, IsSearched, IsWholeTo, Settles}
 use Rattle.mux_frame.specs.Laws.{AreOctets}
 use Rattle.mux_frame.proofs.candidates.LaterOctets.{decision_later, verdict_later}
 use Rattle.mux_frame.proofs.deframers.DeframerOctets.{candidate_decision, candidate_passed, fits_stays, octets-drop, settles, unfinished_stays}
@@ -76,25 +76,25 @@ some_found n1 start s t None a e q = cc
 some_found n1 start s t (Some place) a e q = searched_later n1 start place s t a q
 
 -- A frame is whole at the front, behind one flag or two.
-pub settles_front : (n1 passed start place : ℕ) (front back text : List ℕ) (b : Bool) (h : Header) (old new : Buffer ℕ)
+pub settles_front : (n1 passed start place : ℕ) (front back text : List ℕ) (b : Bool) (old new : Buffer ℕ)
     → AreOctets old.items
     → front ++ back ≡ old.items
     → passed ≤ length front
     → IsCandidate (drop passed front) b text
-    → fits h ≡ verdict_on n1 text
+    → IsWholeTo n1 text place
     → start ≡ bool_byte b
-    → place ≡ h.size + h.info_len
     → new ≡ buffer (drop (passed + start) old.items) old.capacity
     → Settles n1 (buffer (drop passed old.items) old.capacity) new (Some place)
-settles_front n1 passed start place front back text b h old new o e l k v s p n =
+settles_front n1 passed start place front back text b old new o e l k v s n =
+    let h = v.header in
     let d : List ℕ = drop passed old.items in
     let od : AreOctets d = octets-drop passed old.items o in
     let j : drop passed front ++ back ≡ d = sym (drop-append-le passed front back l) ∙ ap (drop passed) e in
     let c : IsCandidate d b (text ++ back) = candidate_later b (drop passed front) back text d k j in
-    let w = verdict_later n1 text back (fits h) v (fits_finished h) in
+    let w = verdict_later n1 text back (fits h) v.fits_so (fits_finished h) in
     let x = candidate_decision n1 start d (text ++ back) b (fits h) s c w in
     settles n1 start (buffer d old.capacity) new (Some place) od
     (candidate_passed n1 start d (text ++ back) b s c od)
     (n ∙ ap (λ z. buffer z old.capacity) (sym (drop-drop start passed old.items)))
     (fits_stays n1 (drop start d) h x)
-    (at_place n1 place (drop start d) h (octets-drop start d od) x p)
+    (at_place n1 place (drop start d) h (octets-drop start d od) x v.place_is)
