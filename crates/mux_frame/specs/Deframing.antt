@@ -12,9 +12,9 @@ pub record Deframing : Type 0 where
   pub undecided : List ℕ
   pub next : Option Frame
 
--- how many octets a deframer has room for: the longest candidate, and at least 4096
+-- how many octets a deframer has room for: the longest candidate and its flags, and at least 8192
 abbrev pub ring_room : ℕ → ℕ
-ring_room n1 = max (n1 + 7) 4096
+ring_room n1 = max (n1 + 7) 8192
 
 -- what the undecided octets say: nothing yet, no frame at their beginning, or a frame
 abbrev pub decision_on : ℕ → List ℕ → Verdict

@@ -16,7 +16,7 @@ use std::alloc::Global;
 use std::marker::Model;
 
 /// The least room of the ring, in octets: so a short frame seldom wraps round its end.
-const LEAST_ROOM: usize = 4096;
+const LEAST_ROOM: usize = 8192;
 
 /// How many octets the ring has room for: at least N1 + 7, which are two flags, address, control,
 /// two length octets, information and check octet. So a full ring is always decided.

@@ -20,6 +20,7 @@ impl Model for Piece {
     ghost view = { λ p. vec_capacity p.octets };
 }
 
+#[inline(never)]
 /// Puts the octets of two slices there, and nothing else.
 fn put(octets: &mut Vec<u8>, front: &[u8], back: &[u8])
     requires { length (front.now ++ back.now) ≤ vec_capacity octets.old }

@@ -84,20 +84,14 @@ fn wrapped_verdict(front: &[u8], back: &[u8], n1: u16) -> Verdict
     }
 }
 
-#[inline(always)]
-/// The same verdict on the two slices of a ring: most often the first one tells.
+/// The same verdict on the two slices of a ring, of which there may be one alone.
 fn decided(front: &[u8], back: &[u8], n1: u16) -> Verdict
     ensures { verdict_seen result ≡ decision_on n1 (front.now ++ back.now) }
 {
-    match slice_verdict(front, n1) {
-        Verdict::Unfinished => {
-            if back.is_empty() {
-                return Verdict::Unfinished;
-            }
-            wrapped_verdict(front, back, n1)
-        }
-        verdict => verdict,
+    if back.is_empty() {
+        return slice_verdict(front, n1);
     }
+    wrapped_verdict(front, back, n1)
 }
 
 #[inline(always)]

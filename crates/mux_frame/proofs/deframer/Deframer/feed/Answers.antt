@@ -19,7 +19,7 @@ returns-clause-some c = λ none some.
     let s = c.capacity.ensures.capacity in
     let t = c.len.ensures.len in
     let k = c.self.invariant.settled.room in
-    let m = le-max_left (c.self.inside.n1 + 7) 4096 in
+    let m = le-max_left (c.self.inside.n1 + 7) 8192 in
     omega (arith, l, r, s, t, k, m)
 
 pub returns-clause-stays : goal.returns-clause-stays
