@@ -8,10 +8,8 @@
 #include <string.h>
 #include <time.h>
 
+#include "mux_frame_c.h"
 #include "plain.h"
-
-/* crates/mux_frame_c/src/lib.rt; a slice is a pointer and a length. */
-uint8_t mux_frame_c_count(uint16_t n1, const uint8_t *octets, size_t length, struct counts *counts);
 
 enum { FLAG = 0xF9, REPEATS = 9, SLICES = 8 };
 #define LEAST 0.004 /* seconds of processor time that a slice takes at least */
@@ -59,13 +57,13 @@ static struct counts each_flag(const struct buffer *b)
 
 static struct counts deframe(const struct buffer *b)
 {
-	struct counts read = { 0, 0 };
+	struct mux_frame_c_counts read = { 0, 0 };
 
-	if (mux_frame_c_count(b->n1, b->octets, b->length, &read) != 0) {
+	if (mux_frame_c_count(b->n1, b->octets, b->length, &read) != MUX_FRAME_C_OK) {
 		fputs("no memory\n", stderr);
 		exit(1);
 	}
-	return read;
+	return (struct counts){ read.frames, read.information };
 }
 
 static struct counts plain(const struct buffer *b)
@@ -257,7 +255,7 @@ static void measure(const struct buffer *b)
 	fflush(stdout);
 }
 
-enum { RING_OF_4096 = 4089 }; /* the ring has N1 + 7 octets */
+enum { LONG = 4089 }; /* an N1 with which candidates are up to 4096 octets long */
 
 static void print_head(void)
 {
@@ -278,15 +276,15 @@ static void measure_frames(void)
 {
 	enum damage { NONE, ANY, CHECK };
 	static const struct { const char *name; uint16_t n1; int info; enum damage damage; } rows[] = {
-		{ "frames of 0", RING_OF_4096, 0, NONE },
-		{ "frames of 31", RING_OF_4096, 31, NONE },
-		{ "frames of 127", RING_OF_4096, 127, NONE },
+		{ "frames of 0", LONG, 0, NONE },
+		{ "frames of 31", LONG, 31, NONE },
+		{ "frames of 127", LONG, 127, NONE },
 		{ "frames of 0, N1 31", 31, 0, NONE },
 		{ "frames of 31, N1 31", 31, 31, NONE },
 		{ "frames of 127, N1 127", 127, 127, NONE },
-		{ "frames of 31, damaged", RING_OF_4096, 31, ANY },
+		{ "frames of 31, damaged", LONG, 31, ANY },
 		{ "frames of 31, damaged, N1 31", 31, 31, ANY },
-		{ "frames of 31, bad check octets", RING_OF_4096, 31, CHECK },
+		{ "frames of 31, bad check octets", LONG, 31, CHECK },
 		{ "frames of 31, bad check octets, N1 31", 31, 31, CHECK },
 		{ "frames of 127, bad check octets, N1 127", 127, 127, CHECK },
 	};
@@ -306,7 +304,7 @@ static void measure_frames(void)
 static void measure_random(void)
 {
 	static const struct { const char *name; uint16_t n1; bool flags; } rows[] = {
-		{ "random", RING_OF_4096, true },
+		{ "random", LONG, true },
 		{ "random, N1 31", 31, true },
 		{ "random without flags, N1 31", 31, false },
 	};
@@ -332,7 +330,7 @@ static void measure_hostile(void)
 	};
 
 	for (size_t k = 0; k < sizeof rows / sizeof *rows; k++) {
-		struct buffer b = { rows[k].name, RING_OF_4096, octets, OCTETS / 64 };
+		struct buffer b = { rows[k].name, LONG, octets, OCTETS / 64 };
 
 		fill_with(&b, rows[k].text, rows[k].length);
 		measure(&b);
