@@ -5,6 +5,7 @@ use Rattle.mux_frame.specs.Deframing.{IsFront, IsSettled, SameReading, decision_
 use Rattle.mux_frame.specs.Judging.{Header, Verdict, unfinished, refused, fits, frame_at, verdict_on}
 use Rattle.mux_frame.specs.Laws.{AreOctets}
 use Rattle.mux_frame.specs.Spelling.{flag}
+use Rattle.mux_frame.specs.declared.settling.Standing.{Standing}
 use Rattle.mux_frame.specs.declared.judge.Header.{Header as HeaderValue}
 use Rattle.mux_frame.specs.declared.judge.Verdict.{Verdict as VerdictValue}
 use Rattle.mux_frame.specs.declared.judge.Verdict.TheVariants.{Unfinished, Refused, Fits}
@@ -36,6 +37,12 @@ pub record IsWholeTo (n1 : ℕ) (text : List ℕ) (place : ℕ) : Type 0 where
   pub header : Header
   pub fits_so : fits header ≡ verdict_on n1 text
   pub place_is : place ≡ header.size + header.info_len
+
+-- the candidate of the octets after a flag is this
+abbrev pub StandsSo : ℕ → List ℕ → Standing → Type 0
+StandsSo n1 text (Standing.Whole place) = IsWholeTo n1 text place
+StandsSo n1 text Standing.Unfinished = unfinished ≡ verdict_on n1 text
+StandsSo n1 text Standing.Refused = refused ≡ verdict_on n1 text
 
 -- what stands before this place begins no frame, and nothing is lost ahead of what can begin one
 pub record IsPassed (n1 : ℕ) (octets : List ℕ) (place : ℕ) : Type 0 where

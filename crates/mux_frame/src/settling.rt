@@ -2,7 +2,7 @@
 ghost use Rattle.std.specs.Prelude.{◌≡◌, ◌+◌, ◌≤◌, ◌++◌, drop, length, slice_get, IfSome};
 ghost use Rattle.circular_buffer.specs.Buffer.{buffer};
 ghost use Rattle.mux_frame.specs.Deframing.{decision_on};
-ghost use Rattle.mux_frame.specs.Judged.{IsCandidate, IsPassed, IsSearched, IsWholeTo, Settles, verdict_seen};
+ghost use Rattle.mux_frame.specs.Judged.{IsCandidate, IsPassed, IsSearched, Settles, StandsSo, verdict_seen};
 ghost use Rattle.mux_frame.specs.Laws.{AreOctets};
 ghost use Rattle.mux_frame.specs.Places.{from_flag};
 
@@ -195,14 +195,25 @@ fn candidate(octets: &[u8], place: usize) -> Option<(bool, &[u8])>
     }
 }
 
+/// What a candidate is.
+enum Standing {
+    /// A frame whose check octet stands at this place, counted from its address octet.
+    Whole(usize),
+    /// It can become a frame.
+    Unfinished,
+    /// It begins no frame.
+    Refused,
+}
+
 #[inline(always)]
-/// Where a whole frame begins the octets after a flag, the place of its check octet.
-fn whole_place(n1: u16, text: &[u8]) -> Option<usize>
-    ensures { IfSome result (IsWholeTo n1 text.now) }
+/// What the candidate of these octets after a flag is.
+fn judged(n1: u16, text: &[u8]) -> Standing
+    ensures { StandsSo n1 text.now result }
 {
     match Verdict::on(n1, text) {
-        Verdict::Fits(header) => Some(header.check_place()),
-        _ => None,
+        Verdict::Fits(header) => Standing::Whole(header.check_place()),
+        Verdict::Unfinished => Standing::Unfinished,
+        Verdict::Refused => Standing::Refused,
     }
 }
 
@@ -215,14 +226,21 @@ pub(crate) fn settle(octets: &mut HeapCircularBuffer<u8>, passed: usize, n1: u16
     ensures { Settles n1 (buffer (drop passed octets.old.items) octets.old.capacity) octets.new result }
 {
     let (front, _) = octets.as_slices();
-    if passed <= front.len()
-        && let Some((is_second, text)) = candidate(front, passed)
-        && let Some(place) = whole_place(n1, text)
-    {
-        remove_front(octets, passed + usize::from(is_second));
-        return Some(place);
+    if front.len() < passed {
+        return settle_searching(octets, passed, n1);
     }
-    settle_searching(octets, passed, n1)
+    let Some((is_second, text)) = candidate(front, passed) else {
+        return settle_searching(octets, passed, n1);
+    };
+    let start = passed + usize::from(is_second);
+    match judged(n1, text) {
+        Standing::Whole(place) => {
+            remove_front(octets, start);
+            Some(place)
+        }
+        Standing::Unfinished => settle_searching(octets, start, n1),
+        Standing::Refused => settle_searching(octets, start + 1, n1),
+    }
 }
 
 #[inline(never)]

@@ -1,17 +1,17 @@
 -- Octets that were searched.
-use Rattle.std.proofs.Common.{◌≡◌, ◌≢◌, ℕ, ◌+◌, ◌≤◌, ◌==◌, Bool, true, List, [], ◌∷◌, ◌++◌, Option, None, Some, length, drop, sym, ap, subst, ◌∙◌, arith, append_assoc, length-append}
+use Rattle.std.proofs.Common.{◌≡◌, ◌≢◌, ℕ, ◌+◌, ◌≤◌, ◌==◌, Bool, true, List, [], ◌∷◌, ◌++◌, Option, None, Some, length, drop, sym, ap, subst, ◌∙◌, arith, append_assoc, length-append, refl}
 use Rattle.std.specs.Prelude.{is_some}
 use mir.Val.{bool_byte}
 use Rattle.circular_buffer.specs.Buffer.{Buffer, buffer}
 use Rattle.std.proofs.lemmas.Bool.{eqb-true}
-use Rattle.std.proofs.lemmas.List.{append-nil, drop-append-le, drop-drop}
+use Rattle.std.proofs.lemmas.List.{append-nil, drop-append-le, drop-drop, length-drop}
 use Rattle.mux_frame.specs.Reading.{Reads}
-use Rattle.mux_frame.specs.Judging.{Header, unfinished, refused, fits}
+use Rattle.mux_frame.specs.Judging.{Header, Verdict, unfinished, refused, fits, verdict_on}
 use Rattle.mux_frame.specs.Deframing.{decision_on, SameReading}
 use Rattle.mux_frame.specs.Judged.{IsAtPlace, IsCandidate, IsPassed, IsSearched, IsWholeTo, Settles}
 use Rattle.mux_frame.specs.Laws.{AreOctets}
 use Rattle.mux_frame.proofs.candidates.LaterOctets.{decision_later, verdict_later}
-use Rattle.mux_frame.proofs.deframers.DeframerOctets.{candidate_decision, candidate_passed, fits_stays, octets-drop, settles, unfinished_stays}
+use Rattle.mux_frame.proofs.deframers.DeframerOctets.{candidate_decision, candidate_passed, fits_stays, octets-drop, passed_one, settles, settles_then, unfinished_stays}
 use Rattle.mux_frame.proofs.deframers.DeframerPasts.{at_place, next_of}
 use Rattle.mux_frame.proofs.deframers.WrappedOctets.{candidate_later}
 
@@ -75,26 +75,56 @@ pub some_found : (n1 start : ℕ) (s t : List ℕ) (o : Option ℕ) → AreOctet
 some_found n1 start s t None a e q = cc
 some_found n1 start s t (Some place) a e q = searched_later n1 start place s t a q
 
--- A frame is whole at the front, behind one flag or two.
-pub settles_front : (n1 passed start place : ℕ) (front back text : List ℕ) (b : Bool) (old new : Buffer ℕ)
-    → AreOctets old.items
-    → front ++ back ≡ old.items
-    → passed ≤ length front
-    → IsCandidate (drop passed front) b text
-    → IsWholeTo n1 text place
-    → start ≡ bool_byte b
-    → new ≡ buffer (drop (passed + start) old.items) old.capacity
-    → Settles n1 (buffer (drop passed old.items) old.capacity) new (Some place)
-settles_front n1 passed start place front back text b old new o e l k v s n =
-    let h = v.header in
-    let d : List ℕ = drop passed old.items in
-    let od : AreOctets d = octets-drop passed old.items o in
-    let j : drop passed front ++ back ≡ d = sym (drop-append-le passed front back l) ∙ ap (drop passed) e in
-    let c : IsCandidate d b (text ++ back) = candidate_later b (drop passed front) back text d k j in
-    let w = verdict_later n1 text back (fits h) v.fits_so (fits_finished h) in
-    let x = candidate_decision n1 start d (text ++ back) b (fits h) s c w in
-    settles n1 start (buffer d old.capacity) new (Some place) od
-    (candidate_passed n1 start d (text ++ back) b s c od)
-    (n ∙ ap (λ z. buffer z old.capacity) (sym (drop-drop start passed old.items)))
-    (fits_stays n1 (drop start d) h x)
-    (at_place n1 place (drop start d) h (octets-drop start d od) x v.place_is)
+-- A candidate at the front of the first slice, behind one flag or two.
+module _ (n1 passed start : ℕ) (front back text : List ℕ) (b : Bool) (old : Buffer ℕ) (o : AreOctets old.items) (both : front ++ back ≡ old.items) (l : passed ≤ length front) (k : IsCandidate (drop passed front) b text) (s : start ≡ passed + bool_byte b) where
+  -- what is left where so many octets go
+  abbrev left : List ℕ
+  left = drop passed old.items
+
+  left_octets : AreOctets left
+  left_octets = octets-drop passed old.items o
+
+  its_candidate : IsCandidate left b (text ++ back)
+  its_candidate = candidate_later b (drop passed front) back text left k (sym (drop-append-le passed front back l) ∙ ap (drop passed) both)
+
+  behind : drop (bool_byte b) left ≡ drop start old.items
+  behind = drop-drop (bool_byte b) passed old.items ∙ ap (λ i. drop i old.items) (sym s)
+
+  flag_passed : IsPassed n1 left (bool_byte b)
+  flag_passed = candidate_passed n1 (bool_byte b) left (text ++ back) b refl its_candidate left_octets
+
+  -- a verdict on it is the decision
+  decision_is : (v : Verdict) → v ≡ verdict_on n1 text → v ≢ unfinished → v ≡ decision_on n1 (drop (bool_byte b) left)
+  decision_is v e f = candidate_decision n1 (bool_byte b) left (text ++ back) b v refl its_candidate (verdict_later n1 text back v e f)
+
+  -- it is whole
+  pub settles_fits : (place : ℕ) (new : Buffer ℕ) → IsWholeTo n1 text place → new ≡ buffer (drop start old.items) old.capacity → Settles n1 (buffer left old.capacity) new (Some place)
+  settles_fits place new w n =
+      let h = w.header in
+      let x = decision_is (fits h) w.fits_so (fits_finished h) in
+      settles n1 (bool_byte b) (buffer left old.capacity) new (Some place) left_octets flag_passed
+      (n ∙ ap (λ z. buffer z old.capacity) (sym behind))
+      (fits_stays n1 (drop (bool_byte b) left) h x)
+      (at_place n1 place (drop (bool_byte b) left) h (octets-drop (bool_byte b) left left_octets) x w.place_is)
+
+  -- it doesn't tell yet, and only a flag before it goes
+  pub settles_open : (new : Buffer ℕ) (r : Option ℕ) → Settles n1 (buffer (drop start old.items) old.capacity) new r → Settles n1 (buffer left old.capacity) new r
+  settles_open new r t = settles_then n1 (bool_byte b) (buffer left old.capacity) new r flag_passed (subst (λ z. Settles n1 (buffer z old.capacity) new r) (sym behind) t)
+
+  flags_passed : refused ≡ verdict_on n1 text → IsPassed n1 left (bool_byte b + 1)
+  flags_passed v = passed_one n1 (bool_byte b) left left_octets flag_passed (decision_is refused v refused_finished)
+
+  behind_one : drop (bool_byte b + 1) left ≡ drop (start + 1) old.items
+  behind_one =
+      let n : passed + (bool_byte b + 1) ≡ start + 1 = omega (arith, s) in
+      drop-drop (bool_byte b + 1) passed old.items ∙ ap (λ i. drop i old.items) n
+
+  -- it fails, and its flag goes too
+  pub settles_refused : (new : Buffer ℕ) (r : Option ℕ) → refused ≡ verdict_on n1 text → Settles n1 (buffer (drop (start + 1) old.items) old.capacity) new r → Settles n1 (buffer left old.capacity) new r
+  settles_refused new r v t = settles_then n1 (bool_byte b + 1) (buffer left old.capacity) new r (flags_passed v) (subst (λ z. Settles n1 (buffer z old.capacity) new r) (sym behind_one) t)
+
+  pub flag_within : refused ≡ verdict_on n1 text → start + 1 ≤ length old.items
+  flag_within v =
+      let w = (flags_passed v).within in
+      let d = length-drop passed old.items in
+      omega (arith, w, d, s)

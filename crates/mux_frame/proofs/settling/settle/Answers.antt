@@ -1,7 +1,30 @@
-use Rattle.mux_frame.proofs.deframers.SearchedOctets.{settles_front}
+use Rattle.std.proofs.Common.{◌+◌, ap, arith}
+use Rattle.mux_frame.proofs.deframers.SearchedOctets.{flag_within, settles_fits, settles_open, settles_refused}
 use Rattle.mux_frame.proofs.settling.settle.Goals as goal
 
-pub returns : goal.returns
-returns c =
-    settles_front c.args.n1 c.args.passed c.from.result c.in-Some-whole_place.place c.as_slices.result.0.now c.as_slices.result.1.now c.in-Some.text.now c.in-Some.is_second c.args.octets.now c.remove_front.new.octets
-    c.requires.octets c.as_slices.ensures c.if-passed-front.true c.in-Some.ensures c.in-Some-whole_place.ensures c.from.ensures c.remove_front.ensures
+pub settle_searching-requires-in-Refused-clause-passed : goal.settle_searching-requires-in-Refused-clause-passed
+settle_searching-requires-in-Refused-clause-passed c =
+    let l = c.if-front-passed.false in
+    flag_within c.args.n1 c.args.passed (c.args.passed + c.from.result) c.as_slices.result.0.now c.as_slices.result.1.now c.in-Some.text.now c.in-Some.is_second c.args.octets.now
+    c.requires.octets c.as_slices.ensures (omega (arith, l)) c.in-Some.ensures (ap (λ i. c.args.passed + i) c.from.ensures) c.in-Refused.ensures
+
+pub returns-in-Whole : goal.returns-in-Whole
+returns-in-Whole c =
+    let l = c.if-front-passed.false in
+    settles_fits c.args.n1 c.args.passed (c.args.passed + c.from.result) c.as_slices.result.0.now c.as_slices.result.1.now c.in-Some.text.now c.in-Some.is_second c.args.octets.now
+    c.requires.octets c.as_slices.ensures (omega (arith, l)) c.in-Some.ensures (ap (λ i. c.args.passed + i) c.from.ensures)
+    c.in-Whole.place c.remove_front.new.octets c.in-Whole.ensures c.remove_front.ensures
+
+pub returns-in-Unfinished : goal.returns-in-Unfinished
+returns-in-Unfinished c =
+    let l = c.if-front-passed.false in
+    settles_open c.args.n1 c.args.passed (c.args.passed + c.from.result) c.as_slices.result.0.now c.as_slices.result.1.now c.in-Some.text.now c.in-Some.is_second c.args.octets.now
+    c.requires.octets c.as_slices.ensures (omega (arith, l)) c.in-Some.ensures (ap (λ i. c.args.passed + i) c.from.ensures)
+    c.settle_searching-in-Unfinished.new.octets c.settle_searching-in-Unfinished.result c.settle_searching-in-Unfinished.ensures
+
+pub returns-in-Refused : goal.returns-in-Refused
+returns-in-Refused c =
+    let l = c.if-front-passed.false in
+    settles_refused c.args.n1 c.args.passed (c.args.passed + c.from.result) c.as_slices.result.0.now c.as_slices.result.1.now c.in-Some.text.now c.in-Some.is_second c.args.octets.now
+    c.requires.octets c.as_slices.ensures (omega (arith, l)) c.in-Some.ensures (ap (λ i. c.args.passed + i) c.from.ensures)
+    c.settle_searching-in-Refused.new.octets c.settle_searching-in-Refused.result c.in-Refused.ensures c.settle_searching-in-Refused.ensures
