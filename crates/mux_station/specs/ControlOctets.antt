@@ -31,9 +31,9 @@ front_frame octets = record {
 }
 
 -- so many frames from the front on
-unfoldable pub frames_in : ℕ → List ℕ → List Frame
-frames_in zero octets = []
-frames_in (suc n) octets = front_frame octets ∷ frames_in n (drop (front_len octets) octets)
+unfoldable pub read_frames : ℕ → List ℕ → List Frame
+read_frames zero octets = []
+read_frames (suc n) octets = front_frame octets ∷ read_frames n (drop (front_len octets) octets)
 
 -- ## The frames that are kept
 
@@ -44,8 +44,8 @@ pub record IsControlFrame (f : Frame) : Type 0 where
 
 -- the octets are those of so many control frames as they are written, and of nothing else
 pub record AreSpelled (octets : List ℕ) (count : ℕ) : Type 0 where
-  pub spelled_one_by_one : octets ≡ flat_map spelled (frames_in count octets)
-  pub each : All IsControlFrame (frames_in count octets)
+  pub spelled_one_by_one : octets ≡ flat_map spelled (read_frames count octets)
+  pub each : All IsControlFrame (read_frames count octets)
 
 -- a control frame stands at the front, whole
 pub record HasFront (octets : List ℕ) : Type 0 where
@@ -55,4 +55,4 @@ pub record HasFront (octets : List ℕ) : Type 0 where
 -- of so many frames that the octets spell, the one of this index begins at this place
 pub record BeginsAt (octets : List ℕ) (count index place : ℕ) : Type 0 where
   pub within : index < count
-  pub later : drop place octets ≡ flat_map spelled (drop index (frames_in count octets))
+  pub later : drop place octets ≡ flat_map spelled (drop index (read_frames count octets))

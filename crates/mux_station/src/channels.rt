@@ -82,6 +82,7 @@ impl Channels {
         self.senders = 0;
     }
 
+    /// Stops a connection by itself, or lets it go on.
     pub fn set_stopped(&mut self, dlci: Dlci, stopped: bool)
         ensures { self.new ≡ slice_set self.old dlci.number
             (record (slice_index_or self.old dlci.number shut_channel) { is_stopped = stopped }) }

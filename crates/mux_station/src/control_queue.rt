@@ -32,11 +32,11 @@ pub(crate) struct ControlQueue {
 
 impl Model for ControlQueue {
     ghost use Rattle.mux_station.specs.ControlQueues.{ControlQueue, IsKeptAsOctets};
-    ghost use Rattle.mux_station.specs.ControlOctets.{frames_in};
+    ghost use Rattle.mux_station.specs.ControlOctets.{read_frames};
 
     ghost Value = { ControlQueue };
 
-    ghost view = { λ q. record { frames = frames_in q.count q.octets.items; room = q.octets.capacity } };
+    ghost view = { λ q. record { frames = read_frames q.count q.octets.items; room = q.octets.capacity } };
 
     ghost invariant = { λ q. IsKeptAsOctets q.octets.items q.count q.spelling };
 }

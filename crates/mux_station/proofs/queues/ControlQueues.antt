@@ -10,15 +10,14 @@ use Rattle.std.proofs.lemmas.Grind.{flat_map-append}
 use Rattle.std.proofs.lemmas.Option.{slice_get-get_or, slice_get_past}
 use Rattle.std.proofs.lemmas.Bool.Decides.{nat_tests}
 use Rattle.mux_frame.specs.Frames.{Frame}
-use Rattle.mux_frame.specs.Spelling.{spelled}
-use Rattle.mux_frame.specs.Spelling.{most_info}
+use Rattle.mux_frame.specs.Spelling.{most_info, spelled}
 use Rattle.mux_frame.specs.declared.frame.Kind.{Kind}
 use Rattle.mux_frame.specs.declared.frame.Kind.TheVariants.{Sabm, Ua, Dm, Disc, Uih}
 use Rattle.mux_station.specs.Written.{written_length}
 use Rattle.mux_station.specs.Tables.{octets_of}
 use Rattle.circular_buffer.specs.Buffer.{Buffer, buffer, keep_last}
 use Rattle.mux_station.specs.ControlQueues.{ControlQueue, IsKeptAsOctets}
-use Rattle.mux_station.specs.ControlOctets.{lead_len, info_len, front_len, front_frame, frames_in, IsControlFrame, AreSpelled, HasFront, BeginsAt}
+use Rattle.mux_station.specs.ControlOctets.{lead_len, info_len, front_len, front_frame, read_frames, IsControlFrame, AreSpelled, HasFront, BeginsAt}
 use Rattle.mux_station.proofs.queues.QueueRoom.{octets_both}
 use Rattle.mux_station.proofs.queues.FrameOctets.{Fronted, fronted, dropped}
 
@@ -26,23 +25,23 @@ abbrev pub no_frame : Frame
 no_frame = record { dlci = 0; kind = Uih; cr = false; pf = false; info = [] }
 
 -- so many are read
-pub frames_many : (n : ℕ) (octets : List ℕ) → length (frames_in n octets) ≡ n
-unfolding frames_in
+pub frames_many : (n : ℕ) (octets : List ℕ) → length (read_frames n octets) ≡ n
+unfolding read_frames
 frames_many zero octets = refl
-frames_many (suc n) octets = let rest : length (frames_in n (drop (front_len octets) octets)) ≡ n = frames_many n (drop (front_len octets) octets) in ap suc rest
+frames_many (suc n) octets = let rest : length (read_frames n (drop (front_len octets) octets)) ≡ n = frames_many n (drop (front_len octets) octets) in ap suc rest
 
 pub octets_more : (fs : List Frame) (f : Frame) → octets_of (fs ++ f ∷ []) ≡ octets_of fs + written_length f
 octets_more fs f = let both : octets_of (fs ++ f ∷ []) ≡ octets_of fs + (written_length f + 0) = octets_both fs (f ∷ []) in omega (arith, both)
 
 -- what is spelled is read
-one_read : (f : Frame) (octets later : List ℕ) (n : ℕ) → octets ≡ spelled f ++ later → frames_in (suc n) octets ≡ f ∷ frames_in n later
-unfolding frames_in
+one_read : (f : Frame) (octets later : List ℕ) (n : ℕ) → octets ≡ spelled f ++ later → read_frames (suc n) octets ≡ f ∷ read_frames n later
+unfolding read_frames
 one_read f octets later n e =
     let g = subst (λ (xs : List ℕ). Fronted f xs later) (sym e) (fronted f later) in
-    ap (λ (x : Frame). x ∷ frames_in n (drop (front_len octets) octets)) g.is_frame ∙ ap (λ (xs : List ℕ). f ∷ frames_in n xs) g.leaves
+    ap (λ (x : Frame). x ∷ read_frames n (drop (front_len octets) octets)) g.is_frame ∙ ap (λ (xs : List ℕ). f ∷ read_frames n xs) g.leaves
 
-pub frames_read : (fs : List Frame) (later : List ℕ) → frames_in (length fs) (flat_map spelled fs ++ later) ≡ fs
-unfolding frames_in
+pub frames_read : (fs : List Frame) (later : List ℕ) → read_frames (length fs) (flat_map spelled fs ++ later) ≡ fs
+unfolding read_frames
 frames_read [] later = refl
 frames_read (f ∷ fs) later =
     one_read f (flat_map spelled (f ∷ fs) ++ later) (flat_map spelled fs ++ later) (length fs)
@@ -50,10 +49,10 @@ frames_read (f ∷ fs) later =
     ∙ ap (λ (gs : List Frame). f ∷ gs) (frames_read fs later)
 
 -- these octets are these frames
-all_read : (fs : List Frame) (octets : List ℕ) (n : ℕ) → octets ≡ flat_map spelled fs → length fs ≡ n → frames_in n octets ≡ fs
+all_read : (fs : List Frame) (octets : List ℕ) (n : ℕ) → octets ≡ flat_map spelled fs → length fs ≡ n → read_frames n octets ≡ fs
 all_read fs octets n e l =
-    ap (λ (m : ℕ). frames_in m octets) (sym l)
-    ∙ (ap (frames_in (length fs)) (e ∙ sym (append-nil (flat_map spelled fs))) ∙ frames_read fs [])
+    ap (λ (m : ℕ). read_frames m octets) (sym l)
+    ∙ (ap (read_frames (length fs)) (e ∙ sym (append-nil (flat_map spelled fs))) ∙ frames_read fs [])
 
 pub are_spelled : (fs : List Frame) (octets : List ℕ) (n : ℕ) → octets ≡ flat_map spelled fs → length fs ≡ n → All IsControlFrame fs → AreSpelled octets n
 are_spelled fs octets n e l each =
@@ -85,11 +84,11 @@ one_each (f ∷ fs) =
     one_at n false = omega arith
 
 -- the octets that are kept are as many as those of the frames
-pub octets_counted : (octets : List ℕ) (count : ℕ) → AreSpelled octets count → length octets ≡ octets_of (frames_in count octets)
-octets_counted octets count s = ap length s.spelled_one_by_one ∙ all_long (frames_in count octets)
+pub octets_counted : (octets : List ℕ) (count : ℕ) → AreSpelled octets count → length octets ≡ octets_of (read_frames count octets)
+octets_counted octets count s = ap length s.spelled_one_by_one ∙ all_long (read_frames count octets)
 
 pub count_small : (octets : List ℕ) (count : ℕ) → AreSpelled octets count → count ≤ length octets
-count_small octets count s = omega (arith, octets_counted octets count s, one_each (frames_in count octets), frames_many count octets)
+count_small octets count s = omega (arith, octets_counted octets count s, one_each (read_frames count octets), frames_many count octets)
 
 -- ## The queue as it is seen
 
@@ -109,11 +108,11 @@ none_kept octets spelling capacity e h = record {
   none_half = h;
 }
 
-pub none_seen : (octets : Buffer ℕ) (capacity : ℕ) → octets ≡ buffer [] capacity → queue_with (frames_in 0 octets.items) octets.capacity ≡ queue_with [] capacity
-unfolding frames_in
+pub none_seen : (octets : Buffer ℕ) (capacity : ℕ) → octets ≡ buffer [] capacity → queue_with (read_frames 0 octets.items) octets.capacity ≡ queue_with [] capacity
+unfolding read_frames
 none_seen octets capacity e = queue_same _ _ _ _ refl (ap (λ (b : Buffer ℕ). b.capacity) e)
 
-module _ (q : ControlQueue) (octets : List ℕ) (count room : ℕ) (e : queue_with (frames_in count octets) room ≡ q) where
+module _ (q : ControlQueue) (octets : List ℕ) (count room : ℕ) (e : queue_with (read_frames count octets) room ≡ q) where
   pub seen_many : count ≡ length q.frames
   seen_many = sym (frames_many count octets) ∙ ap (λ (w : ControlQueue). length w.frames) e
 
@@ -123,15 +122,15 @@ module _ (q : ControlQueue) (octets : List ℕ) (count room : ℕ) (e : queue_wi
   pub seen_room : room ≡ q.room
   seen_room = ap (λ (w : ControlQueue). w.room) e
 
-  pub seen_at : (index : ℕ) → slice_get (frames_in count octets) index ≡ slice_get q.frames index
+  pub seen_at : (index : ℕ) → slice_get (read_frames count octets) index ≡ slice_get q.frames index
   seen_at index = ap (λ (w : ControlQueue). slice_get w.frames index) e
 
-  pub seen_put : (f : Frame) (new : Buffer ℕ) (n : ℕ) → frames_in n new.items ≡ frames_in count octets ++ f ∷ [] → new.capacity ≡ room → queue_with (frames_in n new.items) new.capacity ≡ record q { frames = q.frames ++ f ∷ [] }
+  pub seen_put : (f : Frame) (new : Buffer ℕ) (n : ℕ) → read_frames n new.items ≡ read_frames count octets ++ f ∷ [] → new.capacity ≡ room → queue_with (read_frames n new.items) new.capacity ≡ record q { frames = q.frames ++ f ∷ [] }
   seen_put f new n put same =
       queue_same _ _ _ _ put same
       ∙ ap (λ (w : ControlQueue). let v : ControlQueue = record w { frames = w.frames ++ f ∷ [] } in v) e
 
-  pub seen_taken : (new : Buffer ℕ) (n : ℕ) → frames_in n new.items ≡ drop 1 (frames_in count octets) → new.capacity ≡ room → queue_with (frames_in n new.items) new.capacity ≡ record q { frames = drop 1 q.frames }
+  pub seen_taken : (new : Buffer ℕ) (n : ℕ) → read_frames n new.items ≡ drop 1 (read_frames count octets) → new.capacity ≡ room → queue_with (read_frames n new.items) new.capacity ≡ record q { frames = drop 1 q.frames }
   seen_taken new n taken same =
       queue_same _ _ _ _ taken same
       ∙ ap (λ (w : ControlQueue). let v : ControlQueue = record w { frames = drop 1 w.frames } in v) e
@@ -146,7 +145,7 @@ room_left more room octets l = grind (arith, nat_tests)
 
 module _ (octets : List ℕ) (count : ℕ) (s : AreSpelled octets count) where
   abbrev frames : List Frame
-  frames = frames_in count octets
+  frames = read_frames count octets
 
   abbrev frame : ℕ → Frame
   frame index = slice_index_or frames index no_frame
@@ -203,7 +202,7 @@ module _ (octets : List ℕ) (count : ℕ) (s : AreSpelled octets count) where
     put_many : length (frames ++ f ∷ []) ≡ count + 1
     put_many = length-append frames (f ∷ []) ∙ ap (λ (m : ℕ). m + 1) (frames_many count octets)
 
-    pub put_read : frames_in (count + 1) new.items ≡ frames ++ f ∷ []
+    pub put_read : read_frames (count + 1) new.items ≡ frames ++ f ∷ []
     put_read = all_read (frames ++ f ∷ []) new.items (count + 1) put_octets put_many
 
     pub put_spelled : AreSpelled new.items (count + 1)
@@ -230,7 +229,7 @@ module _ (octets : List ℕ) (count : ℕ) (s : AreSpelled octets count) where
       many : length (drop 1 frames) ≡ count - 1
       many = length-drop 1 frames ∙ ap (λ (n : ℕ). n - 1) (frames_many count octets)
 
-      pub taken_read : frames_in (count - 1) new.items ≡ drop 1 frames
+      pub taken_read : read_frames (count - 1) new.items ≡ drop 1 frames
       taken_read = all_read (drop 1 frames) new.items (count - 1) left many
 
       pub taken_spelled : AreSpelled new.items (count - 1)
