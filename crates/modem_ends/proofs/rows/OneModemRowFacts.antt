@@ -44,7 +44,7 @@ use Rattle.modem_sim.specs.Pieces.{framed}
 use Rattle.modem_sim.specs.Reading.{command_of}
 use Rattle.modem_sim.specs.Rows.{unlocked}
 use Rattle.modem_sim.specs.Steps.{step}
-use Rattle.modem_sim.proofs.rows.HistoryRowFacts.{GoodThere, called, due, end, given_on, got, leaves, next_offer, offer, ready_one_allowed, ready_one_there}
+use Rattle.modem_sim.proofs.rows.HistoryRowFacts.{GoodThere, called, due, end, gave, given_on, got, leaves, next_offer, offer, ready_one_allowed, ready_one_there}
 use Rattle.modem_ends.specs.OneModem.{EndAct, IsOneLine, driver_past, driver_wire, modem_past, modem_wire}
 use Rattle.modem_ends.specs.OneModemRows.{RightAnswer, RightLine, WrongAnswers, WrongLines, after, ask_mux, error_three, ringing, set_mode, two_commands}
 
@@ -166,7 +166,7 @@ there =
 allowed : EachAllowed ringing (modem_past (after [] two_commands))
 unfolding command_of command_in numeral_in unquoted parameters digits
 allowed =
-    (refl, (next_offer refl refl, (refl, (refl, (next_offer refl refl, (due (step_at 1 (Announce sim.one (codes "RING"))) [] refl refl refl refl refl, (refl, (next_offer refl refl, (refl, (refl, (refl, (refl, (refl, ready_one_allowed ringing)))))))))))))
+    (refl, (next_offer refl refl, (refl, (refl, (next_offer refl refl, (due (step_at 1 (Announce sim.one (codes "RING"))) [] refl refl refl refl refl, (refl, (next_offer refl refl, (refl, (refl, (gave refl refl, (refl, (refl, ready_one_allowed ringing)))))))))))))
 
 -- ## The premise
 
