@@ -240,6 +240,11 @@ pub data HasNoneToDo (c : Core) : Type 0 where
       (step : Step) (later : List Step) → c.steps ≡ step ∷ later → acts step.act ≡ true → Waits c step
       → HasNoneToDo c
 
+-- some steps were done or passed over
+pub record HasPassed (old new : Core) : Type 0 where
+  pub passed : List Step
+  pub joins : old.steps ≡ passed ++ new.steps
+
 -- ## What takes memory
 
 -- the next step may be done, and says or holds back something: it asks nothing of the station
@@ -259,13 +264,13 @@ pub record HasReleased (c : Core) : Type 0 where
   pub opened : is_opened (stations.channel_at c.station dlci).state ≡ true
   pub released : is_released (box_at c dlci).hold ≡ true
 
--- ## How much there is to hand on
+-- ## Holds that are over
 
--- what is said on a connection and not handed to the station, and one more where a hold is over that isn't
--- let go yet
-abbrev pub unhanded : Box → ℕ
-unhanded b = length b.unsent + length b.held + (if is_released b.hold then 1 else 0)
+-- a hold is over, and isn't let go yet
+abbrev pub over : Box → ℕ
+over b = if is_released b.hold then 1 else 0
 
-abbrev pub all_unhanded : List Box → ℕ
-all_unhanded [] = 0
-all_unhanded (b ∷ boxes) = unhanded b + all_unhanded boxes
+-- so many are
+abbrev pub holds_over : List Box → ℕ
+holds_over [] = 0
+holds_over (b ∷ boxes) = over b + holds_over boxes

@@ -1,5 +1,6 @@
 -- What the parts of a turn of a simulated modem did, or why they did nothing.
-use Rattle.std.specs.Prelude.{◌≡◌, ◌≢◌, ℕ, ◌<◌, ◌==◌, nat_lt, Bool, false, List, [], ◌∷◌, ◌++◌, length, Option, Some, None}
+use Rattle.std.specs.Prelude.{◌≡◌, ◌≢◌, ℕ, ◌<◌, ◌≤◌, ◌==◌, nat_lt, Bool, true, false, List, [], ◌∷◌, ◌++◌, length, Option, Some, None}
+use Rattle.std.specs.List.{list_any}
 use Rattle.mux_frame.specs.Frames.{Frame}
 use Rattle.mux_frame.specs.Spelling as spelling
 use Rattle.mux_station.specs.Acts as station
@@ -7,7 +8,7 @@ use Rattle.mux_station.specs.Giving.{next_given}
 use Rattle.mux_station.specs.Sending.{got_refused}
 use Rattle.mux_station.specs.Stations.{seen_in, setting_of}
 use Rattle.modem_sim.specs.Acts.{Act, Wire, End, is_handing}
-use Rattle.modem_sim.specs.Cores.{Core, Fits, GoesFrom, HasNoneToDo, HasReleased, IsGivenOn, IsHandedOn, IsLater, SaysNext, Wired, after_wire_act, all_unhanded, box_at}
+use Rattle.modem_sim.specs.Cores.{Core, Fits, GoesFrom, HasNoneToDo, HasReleased, IsGivenOn, IsHandedOn, IsLater, SaysNext, Wired, after_wire_act, box_at, holds_over}
 use Rattle.modem_sim.specs.Sims.{Kept, KeptFits, LineAt, Sight, SimState, FitsSim}
 use Rattle.modem_sim.specs.Turns.{DoesEach, Exchanges, Exchange, HandsOn, Leaves, NoneIsThere, ReadHasRoom, Offers, Read, Write, calls_made, count_after, empty_after, has_moved, left_of, octets_read, octets_written, stalled_after}
 
@@ -28,38 +29,49 @@ pub record OffersFrom (e : End) (w : Wired) (past : List Act) (d : ℕ) (c : Cor
   pub fits : Fits e w c (Wire (station.Called (station.Offer d octets)) ∷ past)
 
 -- octets of a connection are handed to the station, or none
-pub data MayOffer (e : End) (w : Wired) (past : List Act) (d : ℕ) (c : Core) : Type 0 where
-  offers_none : Fits e w c past → MayOffer e w past d c
-  offers_some : OffersFrom e w past d c → MayOffer e w past d c
+pub data MayOffer (e : End) (w : Wired) (past : List Act) (d : ℕ) (c : Core) : (some : Bool) → Type 0 where
+  offers_none : Fits e w c past → MayOffer e w past d c false
+  offers_some : OffersFrom e w past d c → MayOffer e w past d c true
 
 abbrev pub Offering : Core → Core → ℕ → Type 0
 Offering old new d = (e : End) (w : Wired) (past : List Act) → Fits e w old past → OffersFrom e w past d new
 
--- whatever past it fits, it goes on so, and hands on all of that connection
-pub record HandsOne (e : End) (w : Wired) (past : List Act) (d : ℕ) (c : Core) : Type 0 where
-  pub from : MayOffer e w past d c
+-- it goes on so, and hands on all of that connection
+pub record HandsOne (e : End) (w : Wired) (past : List Act) (d : ℕ) (c : Core) (some : Bool) : Type 0 where
+  pub from : MayOffer e w past d c some
   pub all : IsHandedOn c d
 
-abbrev pub HandsAt : Core → Core → ℕ → Type 0
-HandsAt old new d = (e : End) (w : Wired) (past : List Act) → Fits e w old past → HandsOne e w past d new
+-- whatever past it fits; and it says whether it handed on octets, or let go a hold that was over
+pub record OffersOn (old new : Core) (d : ℕ) (moved : Bool) : Type 0 where
+  pub some : Bool
+  pub hands : (e : End) (w : Wired) (past : List Act) → Fits e w old past → HandsOne e w past d new some
+  pub lets_go : moved ≡ true → some ≡ false → holds_over new.boxes < holds_over old.boxes
+  pub none : moved ≡ false → some ≡ false
+  pub no_more : holds_over new.boxes ≤ holds_over old.boxes
 
 -- the boxes of other connections stay
 abbrev pub OthersStay : Core → Core → ℕ → Type 0
 OthersStay old new d = (n : ℕ) → (d == n) ≡ false → box_at new n ≡ box_at old n
 
--- whatever past it fits, it goes on by handing octets to the station to one that it fits, and hands on all
-pub record HandsFrom (e : End) (w : Wired) (past : List Act) (c : Core) : Type 0 where
+-- it goes on by handing octets to the station, if any, and hands on all
+pub record HandsFrom (e : End) (w : Wired) (past : List Act) (c : Core) (some : Bool) : Type 0 where
   pub from : GoesFrom is_handing e w past c
+  pub brings : list_any is_handing from.later.newer ≡ some
   pub all : AllHanded c
 
-abbrev pub HandsAll : Core → Core → Type 0
-HandsAll old new = (e : End) (w : Wired) (past : List Act) → Fits e w old past → HandsFrom e w past new
+-- whatever past it fits; and it says whether it handed on octets, or let go a hold that was over
+pub record OffersAll (old new : Core) (moved : Bool) : Type 0 where
+  pub some : Bool
+  pub hands : (e : End) (w : Wired) (past : List Act) → Fits e w old past → HandsFrom e w past new some
+  pub lets_go : moved ≡ true → some ≡ false → holds_over new.boxes < holds_over old.boxes
+  pub none : moved ≡ false → some ≡ false
 
 -- it goes on to a past in which all is handed to the station, and a frame is given on whose octets are put
 -- into the output
-pub record PutsFrom (e : End) (came went : List ℕ) (past : List Act) (k : Kept) : Type 0 where
+pub record PutsFrom (e : End) (came went : List ℕ) (past : List Act) (k : Kept) (some : Bool) : Type 0 where
   pub between : List Act
   pub hands : HandsOn e past between
+  pub brings : list_any is_handing hands.later.newer ≡ some
   pub now : List Act
   pub frame : Frame
   pub given : IsGivenOn between frame now
@@ -67,26 +79,27 @@ pub record PutsFrom (e : End) (came went : List ℕ) (past : List Act) (k : Kept
   pub fits : KeptFits e came went k now
 
 -- or to one in which all is handed to the station, and no frame is there
-pub record NoneFrom (e : End) (came went : List ℕ) (past : List Act) (k : Kept) : Type 0 where
+pub record NoneFrom (e : End) (came went : List ℕ) (past : List Act) (k : Kept) (some : Bool) : Type 0 where
   pub now : List Act
   pub hands : HandsOn e past now
+  pub brings : list_any is_handing hands.later.newer ≡ some
   pub none : NoneIsThere now
   pub out : k.out ≡ []
   pub fits : KeptFits e came went k now
 
 -- where all is written the next frame is put into the output, if there is one
-pub data Loads (old new : Kept) : Type 0 where
-  some_wait : old.out ≢ [] → new ≡ old → Loads old new
+pub data Loads (old new : Kept) : (some : Bool) → Type 0 where
+  some_wait : old.out ≢ [] → new ≡ old → Loads old new false
   puts :
-      old.out ≡ []
+      (some : Bool) → old.out ≡ []
       → ((e : End) (came went : List ℕ) (past : List Act) → KeptFits e came went old past
-      → PutsFrom e came went past new)
-      → Loads old new
+      → PutsFrom e came went past new some)
+      → Loads old new some
   puts_none :
-      old.out ≡ []
+      (some : Bool) → old.out ≡ []
       → ((e : End) (came went : List ℕ) (past : List Act) → KeptFits e came went old past
-      → NoneFrom e came went past new)
-      → Loads old new
+      → NoneFrom e came went past new some)
+      → Loads old new some
 
 -- no frame is to go out
 pub record HasNoneToLoad (k : Kept) : Type 0 where
@@ -98,10 +111,17 @@ pub record LoadsNone (old new : Kept) : Type 0 where
   pub same : new ≡ old
   pub none : old.out ≡ [] → HasNoneToLoad old
 
--- a frame stands ready to be written, or of what is said less waits for the station
+-- a frame stands ready to be written, or a hold that was over was let go
 pub data HasLoaded (old new : Kept) : Type 0 where
   ready : length old.out < length new.out → HasLoaded old new
-  handed : new.out ≡ old.out → all_unhanded new.core.boxes < all_unhanded old.core.boxes → HasLoaded old new
+  let_go : new.out ≡ old.out → holds_over new.core.boxes < holds_over old.core.boxes → HasLoaded old new
+
+-- it says whether octets were handed to the station, or one of these was done
+pub record LoadsBy (old new : Kept) (moved : Bool) : Type 0 where
+  pub some : Bool
+  pub loads : Loads old new some
+  pub has_loaded : moved ≡ true → some ≡ false → HasLoaded old new
+  pub none : moved ≡ false → some ≡ false
 
 -- a frame at hand finds no room at the station
 abbrev pub HasNoneToTake : Kept → Type 0

@@ -65,16 +65,16 @@ unseen = sight (λ l. []) (λ l. []) (λ l. 0) (λ l. 0) (λ l. 0) (λ l. 0)
 abbrev pub gave : Sight (List ℕ)
 gave = sight (λ l. l) (λ l. []) (λ l. 0) (λ l. 0) (λ l. 0) (λ l. 0)
 
--- A turn in which octets came has moved, and one in which a frame was got; one that leaves all as it was hasn't,
--- also where a mark followed that a frame was given on, or an offer.
+-- A turn in which octets came has moved, one in which a frame was got, and one in which octets were handed to the
+-- station; one that leaves all as it was hasn't, also where a mark followed that a frame was given on.
 abbrev pub MovedRows : Type 0
 MovedRows =
     ((k : Kept)
     → has_moved gave (record { line = []; kept = k }) (record { line = 7 ∷ []; kept = k }) [] ≡ true)
     × ((s : SimState ℕ) (f : Frame) → has_moved unseen s s (Wire (station.Got f) ∷ []) ≡ true)
+    × ((s : SimState ℕ) (octets : List ℕ) → has_moved unseen s s (offers 1 octets ∷ []) ≡ true)
     × ((s : SimState ℕ) → has_moved unseen s s [] ≡ false)
     × ((s : SimState ℕ) → has_moved unseen s s (gives ∷ []) ≡ false)
-    × ((s : SimState ℕ) (octets : List ℕ) → has_moved unseen s s (offers 1 octets ∷ []) ≡ false)
 
 -- of a line that is seen so
 abbrev pub ComesTo : (old new : SimState ℕ) → Result SimTurn SimError → Type 0

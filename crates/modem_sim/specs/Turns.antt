@@ -20,7 +20,7 @@ use Rattle.modem_sim.specs.Outboxes.{outbox}
 use Rattle.modem_sim.specs.Boxes.{is_released}
 use Rattle.modem_sim.specs.Doing.{IsDue, call_of}
 use Rattle.modem_sim.specs.Histories.{IsThrough, AllIsOut, DoesInOrder}
-use Rattle.modem_sim.specs.Cores.{IsLater, IsGivenOn, after_wire_act, all_unhanded, box_at}
+use Rattle.modem_sim.specs.Cores.{HasPassed, IsLater, IsGivenOn, after_wire_act, box_at, holds_over}
 use Rattle.modem_sim.specs.Sims.{Kept, LineAt, Sight, SimState, FitsSim, is_ended}
 
 -- ## A turn's calls on the line
@@ -101,10 +101,11 @@ abbrev pub left_of : Option Write → List ℕ → List ℕ
 left_of None out = out
 left_of (Some w) out = drop w.count out
 
--- The line was read just where all octets that had come were fed. Octets that it didn't take wait for the next
+-- Steps were done or passed over in their order. The line was read just where all octets that had come were fed. Octets that it didn't take wait for the next
 -- turn. Of those that have come the first were fed, one at least where there was one, unless a frame is at
 -- hand.
 pub record Leaves (old new : Kept) (t : Exchange) : Type 0 where
+  pub passed : HasPassed old.core new.core
   pub reads : old.unfed ≡ [] → t.read ≢ None
   pub reads_fed : t.read ≢ None → old.unfed ≡ []
   pub waits : left_of t.write old.out ≢ [] → new.out ≡ left_of t.write old.out
@@ -185,8 +186,7 @@ abbrev pub is_fewer : {A : Type 0} → List A → List A → Bool
 is_fewer xs ys = nat_lt (length xs) (length ys)
 
 -- Octets came, or went; of those that came fewer wait for the deframer; steps were done or passed over; more
--- octets stand ready to be written; or of what is said less waits for the station, or for a hold that is over
--- to be let go.
+-- octets stand ready to be written; or a hold that was over was let go.
 abbrev pub has_changed : {X : Type 0} → Sight X → (old new : SimState X) → Bool
 has_changed see old new =
     is_fewer (see.received old.line) (see.received new.line)
@@ -194,16 +194,17 @@ has_changed see old new =
     || (is_fewer new.kept.unfed old.kept.unfed
     || (is_fewer new.kept.core.steps old.kept.core.steps
     || (is_fewer old.kept.out new.kept.out
-    || nat_lt (all_unhanded new.kept.core.boxes) (all_unhanded old.kept.core.boxes)))))
+    || nat_lt (holds_over new.kept.core.boxes) (holds_over old.kept.core.boxes)))))
 
--- a frame came, with the lines that end in it
-abbrev pub is_got : Act → Bool
-is_got (Wire (station.Got f)) = true
-is_got _ = false
+-- a frame was got, with the lines that end in it, or octets were handed to the station
+abbrev pub is_work : Act → Bool
+is_work (Wire (station.Got f)) = true
+is_work (Wire (station.Called (station.Offer d octets))) = true
+is_work _ = false
 
--- something was done: a frame was got, or that changed
+-- something was done: such an act followed, or that changed
 abbrev pub has_moved : {X : Type 0} → Sight X → (old new : SimState X) → List Act → Bool
-has_moved see old new acts = list_any is_got acts || has_changed see old new
+has_moved see old new acts = list_any is_work acts || has_changed see old new
 
 -- ## Idle
 

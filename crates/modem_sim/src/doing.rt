@@ -4,7 +4,7 @@ ghost use Rattle.std.specs.List.{list_any};
 ghost use Rattle.at_text.specs.Lines.{is_line_end};
 ghost use Rattle.modem_sim.specs.Acts.{is_step_act};
 ghost use Rattle.modem_sim.specs.Doing.{acts, call_of, is_line};
-ghost use Rattle.modem_sim.specs.Cores.{AtStation, Goes, HasNoneToDo, Refuses, SaysNext, are_open_in, boxes_done, closes_by};
+ghost use Rattle.modem_sim.specs.Cores.{AtStation, Goes, HasNoneToDo, HasPassed, Refuses, SaysNext, are_open_in, boxes_done, closes_by};
 
 use crate::channel::Channel;
 use crate::script::StepAct;
@@ -51,11 +51,12 @@ impl StepAct {
 impl SimCore {
     /// Does the next step if it is due, or passes it over; says whether it did. It isn't done yet where the station has no
     /// room for what it asks, or memory is refused: that changes nothing.
-    #[tactic(auto, using(crate::proofs::ends::OfferedPieces::goes_none, crate::proofs::ends::ScriptSteps::passes_goes))]
+    #[tactic(auto, using(crate::proofs::ends::OfferedPieces::goes_none, crate::proofs::ends::ScriptSteps::passes_goes, crate::proofs::ends::ScriptSteps::passed_none))]
     fn do_next(&mut self) -> Result<bool, AllocError>
         ensures goes { Goes is_step_act self.old self.new }
         ensures same { IfOk result (λ done. done ≡ false → self.new ≡ self.old) }
         ensures fewer { IfOk result (λ done. done ≡ true → length self.new.steps < length self.old.steps) }
+        ensures passed { HasPassed self.old self.new }
         ensures none { IfOk result (λ done. done ≡ false → HasNoneToDo self.old) }
         ensures err { OnErr result (self.new ≡ self.old) }
         ensures says { OnErr result (SaysNext self.old) }
@@ -81,11 +82,12 @@ impl SimCore {
     }
 
     /// Does the steps that are due, in their order; says whether there were any. What a want of memory leaves is done later.
-    #[tactic(auto, using(crate::proofs::ends::OfferedPieces::goes_none, crate::proofs::ends::OfferedPieces::goes_then))]
+    #[tactic(auto, using(crate::proofs::ends::OfferedPieces::goes_none, crate::proofs::ends::OfferedPieces::goes_then, crate::proofs::ends::ScriptSteps::passed_none))]
     pub(crate) fn do_steps(&mut self) -> Result<bool, AllocError>
         ensures goes { Goes is_step_act self.old self.new }
         ensures same { IfOk result (λ done. done ≡ false → self.new ≡ self.old) }
         ensures fewer { IfOk result (λ done. done ≡ true → length self.new.steps < length self.old.steps) }
+        ensures passed { HasPassed self.old self.new }
         ensures none { OnOk result (HasNoneToDo self.new) }
         ensures says { OnErr result (SaysNext self.new) }
         ensures n1 { self.new.station.n1 ≡ self.old.station.n1 }

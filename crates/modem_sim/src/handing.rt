@@ -7,9 +7,9 @@ ghost use Rattle.mux_station.specs.Giving.{next_given};
 ghost use Rattle.mux_station.specs.States.{is_opened};
 ghost use Rattle.mux_station.specs.Stations.{channel_at};
 ghost use Rattle.modem_sim.specs.Boxes.{is_released, released};
-ghost use Rattle.modem_sim.specs.Cores.{GivesOut, Goes, HasReleased, IsHandedOn, all_unhanded, boxed, box_at, gone_on};
+ghost use Rattle.modem_sim.specs.Cores.{GivesOut, Goes, HasReleased, IsHandedOn, boxed, box_at, gone_on, holds_over};
 ghost use Rattle.modem_sim.specs.Acts.{is_handing};
-ghost use Rattle.modem_sim.specs.Stills.{HandsAll, HandsAt, Offering, OthersStay};
+ghost use Rattle.modem_sim.specs.Stills.{OffersAll, OffersOn, Offering, OthersStay};
 
 use crate::sim_core::{CONNECTIONS, SimCore};
 use mux_frame::Dlci;
@@ -32,7 +32,7 @@ impl SimCore {
         ensures err { OnErr result (self.new ≡ self.old) }
         ensures all { length self.old.boxes ≡ 62 }
         ensures fewer { IfOk result
-            (λ moved. moved ≡ true → all_unhanded self.new.boxes < all_unhanded self.old.boxes) }
+            (λ moved. moved ≡ true → holds_over self.new.boxes < holds_over self.old.boxes) }
         ensures others { OthersStay self.old self.new dlci.number }
         ensures steps { self.new.steps ≡ self.old.steps }
         ensures over { OnErr result (is_released (box_at self.old dlci.number).hold ≡ true) }
@@ -52,7 +52,7 @@ impl SimCore {
         ensures none { result ≡ false → (dlci.number == 0) ≡ false
             → (channel_at self.old.station dlci.number).waiting ≡ []
             → (box_at self.old dlci.number).unsent ≡ [] }
-        ensures fewer { result ≡ true → all_unhanded self.new.boxes < all_unhanded self.old.boxes }
+        ensures count { holds_over self.new.boxes ≡ holds_over self.old.boxes }
         ensures steps { self.new.steps ≡ self.old.steps }
         ensures n1 { self.new.station.n1 ≡ self.old.station.n1 }
     {
@@ -70,12 +70,10 @@ impl SimCore {
     #[tactic(auto, using(crate::proofs::ends::OfferedPieces::goes_none, crate::proofs::ends::HandedOctets::handed_on))]
     fn offer_on(&mut self, dlci: Dlci) -> Result<bool, AllocError>
         ensures goes { Goes is_handing self.old self.new }
-        ensures hands { OnOk result (HandsAt self.old self.new dlci.number) }
+        ensures hands { IfOk result (λ moved. OffersOn self.old self.new dlci.number moved) }
         ensures others { OthersStay self.old self.new dlci.number }
         ensures same { IfOk result (λ moved. moved ≡ false → self.new ≡ self.old) }
         ensures none { IfOk result (λ moved. moved ≡ false → IsHandedOn self.old dlci.number) }
-        ensures fewer { IfOk result
-            (λ moved. moved ≡ true → all_unhanded self.new.boxes < all_unhanded self.old.boxes) }
         ensures steps { self.new.steps ≡ self.old.steps }
         ensures released { OnErr result (HasReleased self.new) }
         ensures n1 { self.new.station.n1 ≡ self.old.station.n1 }
@@ -93,11 +91,9 @@ impl SimCore {
     #[tactic(auto, using(crate::proofs::ends::HandedOctets::hands_none, crate::proofs::ends::HandedOctets::hands_more, crate::proofs::ends::HandedOctets::hands_all, crate::proofs::ends::OfferedPieces::goes_then))]
     pub(crate) fn offer_all(&mut self) -> Result<bool, AllocError>
         ensures goes { Goes is_handing self.old self.new }
-        ensures hands { OnOk result (HandsAll self.old self.new) }
+        ensures hands { IfOk result (λ moved. OffersAll self.old self.new moved) }
         ensures same { IfOk result (λ moved. moved ≡ false → self.new ≡ self.old) }
         ensures none { IfOk result (λ moved. moved ≡ false → (d : ℕ) → d < 62 → IsHandedOn self.old d) }
-        ensures fewer { IfOk result
-            (λ moved. moved ≡ true → all_unhanded self.new.boxes < all_unhanded self.old.boxes) }
         ensures steps { OnOk result (self.new.steps ≡ self.old.steps) }
         ensures released { OnErr result (HasReleased self.new) }
         ensures n1 { self.new.station.n1 ≡ self.old.station.n1 }

@@ -1,8 +1,8 @@
 //! What a simulated modem keeps beside its line.
 ghost use Rattle.std.specs.Prelude.{◌≡◌, ◌≢◌, ◌↔◌, ◌⊎◌, ◌+◌, ◌<◌, ◌≤◌, [], ◌++◌, length, take, drop, true, false, None, IfOk, OnOk, OnErr, IsErrOf};
-ghost use Rattle.modem_sim.specs.Cores.{HasNoneToDo, HasReleased, SaysNext};
+ghost use Rattle.modem_sim.specs.Cores.{HasNoneToDo, HasPassed, HasReleased, SaysNext};
 ghost use Rattle.modem_sim.specs.Sims.{BeginsAt, KeptFits, KeptGoes, Receives, is_ended};
-ghost use Rattle.modem_sim.specs.Stills.{Feeds, FeedsNone, HasLoaded, Loads, LoadsNone, ReadsOnce, TakesFrame, TakesNone, Writes};
+ghost use Rattle.modem_sim.specs.Stills.{Feeds, FeedsNone, LoadsBy, LoadsNone, ReadsOnce, TakesFrame, TakesNone, Writes};
 ghost use Rattle.modem_sim.specs.Acts.{any_act, end_of, is_step_act};
 
 use crate::error::SimError;
@@ -135,6 +135,7 @@ impl Kept {
         ensures same { IfOk result (λ done. done ≡ false → self.new ≡ self.old) }
         ensures fewer { IfOk result
             (λ done. done ≡ true → length self.new.core.steps < length self.old.core.steps) }
+        ensures passed { HasPassed self.old.core self.new.core }
         ensures none { OnOk result (HasNoneToDo self.new.core) }
         ensures says { OnErr result (SaysNext self.new.core) }
     {
@@ -168,8 +169,7 @@ impl Kept {
     pub(crate) fn load(&mut self) -> Result<bool, AllocError>
         ensures goes { KeptGoes any_act self.old self.new }
         ensures rest { self.new ≡ record self.old { core = self.new.core; out = self.new.out } }
-        ensures loads { OnOk result (Loads self.old self.new) }
-        ensures moved { IfOk result (λ moved. moved ≡ true → HasLoaded self.old self.new) }
+        ensures loads { IfOk result (λ moved. LoadsBy self.old self.new moved) }
         ensures none { IfOk result (λ moved. moved ≡ false → LoadsNone self.old self.new) }
         ensures steps { OnOk result (self.new.core.steps ≡ self.old.core.steps) }
         ensures released { OnErr result (HasReleased self.new.core) }

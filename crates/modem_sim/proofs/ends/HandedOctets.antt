@@ -1,5 +1,6 @@
 -- Octets are handed to the station, on one connection after the other, and all that can be.
-use Rattle.std.specs.Prelude.{◌≡◌, ◌≢◌, ℕ, ◌+◌, ◌<◌, ◌==◌, ◌||◌, Bool, true, false, List, [], ◌∷◌, ◌++◌, length, refl, if◌then◌else◌}
+use Rattle.std.specs.Prelude.{◌≡◌, ◌≢◌, ℕ, ◌+◌, ◌<◌, ◌≤◌, ◌==◌, ◌||◌, Bool, true, false, List, [], ◌∷◌, ◌++◌, length, refl, if◌then◌else◌}
+use Rattle.std.specs.List.{list_any}
 use Rattle.std.proofs.Common.{arith, sym, ap, ◌∙◌, subst, append_assoc, append-nil, length-append}
 use Rattle.std.proofs.lemmas.Bool.Decides.{nat_tests}
 use Rattle.std.proofs.lemmas.List.{append_cancel_left, nil_from_length}
@@ -13,11 +14,11 @@ use Rattle.mux_station.specs.Offering.{data_out, joined_octets, octets_offered, 
 use Rattle.mux_station.specs.States.{is_opened}
 use Rattle.modem_sim.specs.Acts.{Act, Wire, End, is_handing, is_open_at_modem, wire}
 use Rattle.modem_sim.specs.Boxes.{Box, is_released, released}
-use Rattle.modem_sim.specs.Cores.{Core, Fits, Goes, GoesFrom, IsHandedOn, Wired, all_unhanded, box_at, boxed}
-use Rattle.modem_sim.specs.Stills.{HandsAll, HandsAt, HandsOne, MayOffer, Offering, OffersFrom, OthersStay, offers_none, offers_some}
+use Rattle.modem_sim.specs.Cores.{Core, Fits, Goes, GoesFrom, IsHandedOn, Wired, holds_over, box_at, boxed}
+use Rattle.modem_sim.specs.Stills.{HandsOne, MayOffer, OffersAll, OffersFrom, OffersOn, Offering, OthersStay, offers_none, offers_some}
 use Rattle.modem_sim.proofs.connections.BoxesAfterFrame.{still_offered, still_there, was_open}
 use Rattle.modem_sim.proofs.ends.EndAfterFrame.{box_here, opened_is}
-use Rattle.modem_sim.proofs.ends.OfferedPieces.{from_then, goes_none, goes_then, neither, stays}
+use Rattle.modem_sim.proofs.ends.OfferedPieces.{from_then, later_then, goes_none, goes_then, neither, stays}
 use Rattle.modem_sim.proofs.ends.ScriptSteps.{not_over}
 
 -- ## A connection after an offer
@@ -78,10 +79,10 @@ keeps_on e w old new past now n small before fits was offers leaves box handed o
       released = ap (λ (b : Box). is_released b.hold) box ∙ first.released;
     }
 
-keeps_handed : (e : End) (w : Wired) (old new : Core) (past : List Act) (d n : ℕ) → n < 62 → (d == n) ≡ false → Fits e w old past → MayOffer e w past d new → box_at new n ≡ box_at old n → IsHandedOn old n → IsHandedOn new n
-keeps_handed e w old new past d n small other before (offers_none fits) box handed =
+keeps_handed : (e : End) (w : Wired) (old new : Core) (past : List Act) (d n : ℕ) → n < 62 → (d == n) ≡ false → (some : Bool) → Fits e w old past → MayOffer e w past d new some → box_at new n ≡ box_at old n → IsHandedOn old n → IsHandedOn new n
+keeps_handed e w old new past d n small other _ before (offers_none fits) box handed =
     keeps_on e w old new past past n small before fits (λ is. is) (λ is. refl) (λ is. refl) box handed
-keeps_handed e w old new past d n small other before (offers_some offers) box handed =
+keeps_handed e w old new past d n small other _ before (offers_some offers) box handed =
     let c : station.Call = station.Offer d offers.octets in
     keeps_on e w old new past (Wire (station.Called c) ∷ past) n small before offers.fits
     (λ is. (stays_open n past c is).was)
@@ -147,31 +148,76 @@ released_there old new d all small same =
     ∙ ap (λ (b : Box). is_released b.hold) (box_here old.boxes d d (released (box_at old d)) true here inside)
     ∙ not_over (box_at old d)
 
--- where a hold that is over was let go before
-pub hands_at : (old mid new : Core) (d : ℕ) (r : Bool) → d < 62 → is_opened (stations.channel_at mid.station d).state ≡ true → ((e : End) (w : Wired) (past : List Act) → Fits e w old past → Fits e w mid past) → is_released (box_at mid d).hold ≡ false → (box_at new d).hold ≡ (box_at mid d).hold → (r ≡ true → Offering mid new d) → (r ≡ false → new ≡ mid) → (r ≡ false → (d == 0) ≡ false → (stations.channel_at mid.station d).waiting ≡ [] → (box_at mid d).unsent ≡ []) → HandsAt old new d
-hands_at old mid new d true small opened stays_so over hold offers same none e w past fits =
-    let before = stays_so e w past fits in
-    let given = offers refl e w past before in
-    record { from = offers_some given; all = handed_some e w mid new past d small opened (ap is_released hold ∙ over) before given }
-hands_at old mid new d false small opened stays_so over hold offers same none e w past fits =
-    let At : Core → Type 0 = λ c. HandsOne e w past d c in
-    subst At (sym (same refl)) (record { from = offers_none (stays_so e w past fits); all = handed_none mid d over (none refl) })
+pub hands_one : (mid new : Core) (d : ℕ) (r : Bool) → d < 62 → is_opened (stations.channel_at mid.station d).state ≡ true → is_released (box_at mid d).hold ≡ false → (box_at new d).hold ≡ (box_at mid d).hold → (r ≡ true → Offering mid new d) → (r ≡ false → new ≡ mid) → (r ≡ false → (d == 0) ≡ false → (stations.channel_at mid.station d).waiting ≡ [] → (box_at mid d).unsent ≡ []) → (e : End) (w : Wired) (past : List Act) → Fits e w mid past → HandsOne e w past d new r
+hands_one mid new d true small opened ends hold offers same none e w past fits =
+    let given = offers refl e w past fits in
+    record { from = offers_some given; all = handed_some e w mid new past d small opened (ap is_released hold ∙ ends) fits given }
+hands_one mid new d false small opened ends hold offers same none e w past fits =
+    let At : Core → Type 0 = λ c. HandsOne e w past d c false in
+    subst At (sym (same refl)) (record { from = offers_none fits; all = handed_none mid d ends (none refl) })
 
-pub hands_shut : (c : Core) (d : ℕ) → is_opened (stations.channel_at c.station d).state ≡ false → HandsAt c c d
-hands_shut c d shut e w past fits = record { from = offers_none fits; all = λ opened. absurd (not_both (is_opened (stations.channel_at c.station d).state) opened shut) }
+-- where a hold that is over was let go before
+pub offers_on : (old mid new : Core) (d : ℕ) (released_it r : Bool) → (released_it ≡ true → holds_over mid.boxes < holds_over old.boxes) → (released_it ≡ false → mid ≡ old) → holds_over new.boxes ≡ holds_over mid.boxes → ((e : End) (w : Wired) (past : List Act) → Fits e w old past → Fits e w mid past) → ((e : End) (w : Wired) (past : List Act) → Fits e w mid past → HandsOne e w past d new r) → OffersOn old new d (released_it || r)
+offers_on old mid new d released_it r fewer same count stays_so hands = record {
+  some = r;
+  hands = λ e w past fits. hands e w past (stays_so e w past fits);
+  lets_go = λ moved none. let less = fewer (by_release released_it r moved none) in omega (arith, less, count);
+  none = λ still. (neither released_it r still).1;
+  no_more = by_flag released_it refl;
+}
+  where
+    by_release : (a b : Bool) → (a || b) ≡ true → b ≡ false → a ≡ true
+    by_release true b is none = refl
+    by_release false true is none = cc
+    by_release false false is none = cc
+
+    by_flag : (b : Bool) → released_it ≡ b → holds_over new.boxes ≤ holds_over old.boxes
+    by_flag true is = let less = fewer is in omega (arith, less, count)
+    by_flag false is = let equal = ap (λ (c : Core). holds_over c.boxes) (same is) in omega (arith, equal, count)
+
+pub offers_shut : (c : Core) (d : ℕ) → is_opened (stations.channel_at c.station d).state ≡ false → OffersOn c c d false
+offers_shut c d shut = record {
+  some = false;
+  hands = λ e w past fits. record { from = offers_none fits; all = λ opened. absurd (not_both (is_opened (stations.channel_at c.station d).state) opened shut) };
+  lets_go = λ moved. cc;
+  none = λ still. refl;
+  no_more = omega arith;
+}
   where
     not_both : (b : Bool) → b ≡ true → b ≡ false → ⊥
     not_both true is other = cc
     not_both false is other = cc
 
-one_goes : (e : End) (w : Wired) (past : List Act) (d : ℕ) (c : Core) → MayOffer e w past d c → GoesFrom is_handing e w past c
-one_goes e w past d c (offers_none fits) = stays is_handing e w past c fits
-one_goes e w past d c (offers_some given) = record {
-  now = Wire (station.Called (station.Offer d given.octets)) ∷ past;
-  later = record { newer = Wire (station.Called (station.Offer d given.octets)) ∷ []; joins = refl };
-  only = refl;
-  fits = given.fits;
+-- octets were handed to the station, or none
+record OneGoes (e : End) (w : Wired) (past : List Act) (c : Core) (some : Bool) : Type 0 where
+  from : GoesFrom is_handing e w past c
+  brings : list_any is_handing from.later.newer ≡ some
+
+one_goes : (e : End) (w : Wired) (past : List Act) (d : ℕ) (c : Core) (some : Bool) → MayOffer e w past d c some → OneGoes e w past c some
+unfolding stays
+one_goes e w past d c _ (offers_none fits) = record { from = stays is_handing e w past c fits; brings = refl }
+one_goes e w past d c _ (offers_some given) = record {
+  from = record {
+    now = Wire (station.Called (station.Offer d given.octets)) ∷ past;
+    later = record { newer = Wire (station.Called (station.Offer d given.octets)) ∷ []; joins = refl };
+    only = refl;
+    fits = given.fits;
+  };
+  brings = refl;
 }
+
+any_both : (xs ys : List Act) → list_any is_handing (xs ++ ys) ≡ (list_any is_handing xs || list_any is_handing ys)
+any_both [] ys = refl
+any_both (x ∷ xs) ys = ap (λ (b : Bool). is_handing x || b) (any_both xs ys) ∙ either (is_handing x) (list_any is_handing xs) (list_any is_handing ys)
+  where
+    either : (a b c : Bool) → (a || (b || c)) ≡ ((a || b) || c)
+    either true b c = refl
+    either false b c = refl
+
+then_brings : (e : End) (w : Wired) (past : List Act) (b c : Core) (first : GoesFrom is_handing e w past b) (second : GoesFrom is_handing e w first.now c) (p q : Bool) → list_any is_handing first.later.newer ≡ p → list_any is_handing second.later.newer ≡ q → list_any is_handing (from_then is_handing e w past b c first second).later.newer ≡ (q || p)
+unfolding from_then later_then
+then_brings e w past b c first second p q is is_too =
+    any_both second.later.newer first.later.newer ∙ ap (λ (x : Bool). x || list_any is_handing first.later.newer) is_too ∙ ap (λ (x : Bool). q || x) is
 
 pub handed_on : (old mid : Core) (d : ℕ) (r : Bool) → r ≡ is_released (box_at old d).hold → mid ≡ old → r ≡ false → ((d == 0) ≡ false → (stations.channel_at mid.station d).waiting ≡ [] → (box_at mid d).unsent ≡ []) → IsHandedOn old d
 handed_on old mid d r is same none unsent opened =
@@ -179,46 +225,52 @@ handed_on old mid d r is same none unsent opened =
     record { unsent = subst At same unsent; released = sym is ∙ none }
 
 -- it goes on by handing octets to the station, and hands on all of the first n connections
-pub record HandsBelow (e : End) (w : Wired) (past : List Act) (c : Core) (n : ℕ) : Type 0 where
+pub record HandsBelow (e : End) (w : Wired) (past : List Act) (c : Core) (n : ℕ) (some : Bool) : Type 0 where
   pub from : GoesFrom is_handing e w past c
+  pub brings : list_any is_handing from.later.newer ≡ some
   pub all : (d : ℕ) → d < n → IsHandedOn c d
 
 -- what an end handed on, on one connection after the other
 pub record Hands (old new : Core) (moved : Bool) (n : ℕ) : Type 0 where
   pub goes : Goes is_handing old new
-  pub hands : (e : End) (w : Wired) (past : List Act) → Fits e w old past → HandsBelow e w past new n
+  pub some : Bool
+  pub hands : (e : End) (w : Wired) (past : List Act) → Fits e w old past → HandsBelow e w past new n some
+  pub lets_go : moved ≡ true → some ≡ false → holds_over new.boxes < holds_over old.boxes
+  pub handed_none : moved ≡ false → some ≡ false
   pub same : moved ≡ false → new ≡ old
   pub none : moved ≡ false → (d : ℕ) → d < n → IsHandedOn old d
-  pub fewer : moved ≡ true → all_unhanded new.boxes < all_unhanded old.boxes
   pub steps : new.steps ≡ old.steps
   pub n1 : new.station.n1 ≡ old.station.n1
 
 pub hands_none : (c : Core) → Hands c c false 0
-hands_none c = record { goes = goes_none is_handing c; hands = λ e w past fits. record { from = stays is_handing e w past c fits; all = λ d small. absurd (omega arith) }; same = λ is. refl; none = λ is d small. absurd (omega arith); fewer = λ is. cc; steps = refl; n1 = refl }
+unfolding stays
+hands_none c = record { goes = goes_none is_handing c; some = false; hands = none_below; lets_go = λ moved. cc; handed_none = λ still. refl; same = λ is. refl; none = λ is d small. absurd (omega arith); steps = refl; n1 = refl }
+  where
+    none_below : (e : End) (w : Wired) (past : List Act) → Fits e w c past → HandsBelow e w past c 0 false
+    none_below e w past fits = record { from = stays is_handing e w past c fits; brings = refl; all = λ d small. absurd (omega arith) }
 
--- fewer octets are left by the one or by the other, and by neither more
-fewer_by : (old mid new : Core) (moved offered : Bool) → (moved ≡ false → mid ≡ old) → (moved ≡ true → all_unhanded mid.boxes < all_unhanded old.boxes) → (offered ≡ false → new ≡ mid) → (offered ≡ true → all_unhanded new.boxes < all_unhanded mid.boxes) → (moved || offered) ≡ true → all_unhanded new.boxes < all_unhanded old.boxes
-fewer_by old mid new true true same less same_too less_too is = let first = less refl in let second = less_too refl in omega (arith, first, second)
-fewer_by old mid new true false same less same_too less_too is = let first = less refl in let second = ap (λ (c : Core). all_unhanded c.boxes) (same_too refl) in omega (arith, first, second)
-fewer_by old mid new false true same less same_too less_too is = let first = ap (λ (c : Core). all_unhanded c.boxes) (same refl) in let second = less_too refl in omega (arith, first, second)
-fewer_by old mid new false false same less same_too less_too is = cc
-
-pub hands_more : (old mid new : Core) (moved offered : Bool) (n : ℕ) → n < 62 → Hands old mid moved n → Goes is_handing mid new → HandsAt mid new n → OthersStay mid new n → (offered ≡ false → new ≡ mid) → (offered ≡ false → IsHandedOn mid n) → (offered ≡ true → all_unhanded new.boxes < all_unhanded mid.boxes) → new.steps ≡ mid.steps → new.station.n1 ≡ mid.station.n1 → Hands old new (moved || offered) (n + 1)
-hands_more old mid new moved offered n low before goes hands others same none fewer steps n1 = record {
-  fewer = fewer_by old mid new moved offered before.same before.fewer same fewer;
+pub hands_more : (old mid new : Core) (moved offered : Bool) (n : ℕ) → n < 62 → Hands old mid moved n → Goes is_handing mid new → OffersOn mid new n offered → OthersStay mid new n → (offered ≡ false → new ≡ mid) → (offered ≡ false → IsHandedOn mid n) → new.steps ≡ mid.steps → new.station.n1 ≡ mid.station.n1 → Hands old new (moved || offered) (n + 1)
+hands_more old mid new moved offered n low before goes one others same none steps n1 = record {
+  some = one.some || before.some;
+  lets_go = λ really nothing. let both = neither one.some before.some nothing in fewer_by moved refl really both.0 both.1;
+  handed_none = λ still.
+      let both = neither moved offered still in
+      ap (λ (b : Bool). b || before.some) (one.none both.1) ∙ before.handed_none both.0;
   steps = steps ∙ before.steps;
   n1 = n1 ∙ before.n1;
   goes = goes_then is_handing old mid new before.goes goes;
   hands = λ e w past fits.
       let first = before.hands e w past fits in
-      let second = hands e w first.from.now first.from.fits in
+      let second = one.hands e w first.from.now first.from.fits in
+      let went = one_goes e w first.from.now n new one.some second.from in
       record {
-        from = from_then is_handing e w past mid new first.from (one_goes e w first.from.now n new second.from);
+        from = from_then is_handing e w past mid new first.from went.from;
+        brings = then_brings e w past mid new first.from went.from before.some one.some first.brings went.brings;
         all = λ d small.
             at_place (d == n) refl
             (λ less.
             let other : (n == d) ≡ false = grind (arith, nat_tests) in
-            keeps_handed e w mid new first.from.now n d (omega (arith, less, low)) other first.from.fits second.from (others d other) (first.all d less))
+            keeps_handed e w mid new first.from.now n d (omega (arith, less, low)) other one.some first.from.fits second.from (others d other) (first.all d less))
             (λ equal. let At : ℕ → Type 0 = λ m. IsHandedOn new m in subst At (sym equal) second.all)
             small;
       };
@@ -230,12 +282,27 @@ hands_more old mid new moved offered n low before goes hands others same none fe
       at_place (d == n) refl (λ less. before.none both.0 d less) (λ equal. subst At_n (sym equal) (subst At (before.same both.0) (none both.1))) small;
 }
   where
+    fewer_by : (b : Bool) → moved ≡ b → (moved || offered) ≡ true → one.some ≡ false → before.some ≡ false → holds_over new.boxes < holds_over old.boxes
+    fewer_by true is really none_one none_before =
+        let less = before.lets_go is none_before in
+        let no_more = one.no_more in
+        omega (arith, less, no_more)
+    fewer_by false is really none_one none_before =
+        let less = one.lets_go (sym (ap (λ (b : Bool). b || offered) is) ∙ really) none_one in
+        let equal = ap (λ (c : Core). holds_over c.boxes) (before.same is) in
+        omega (arith, less, equal)
+
     at_place : {P : Type 0} {d n : ℕ} (here : Bool) → (d == n) ≡ here → (d < n → P) → (d ≡ n → P) → d < n + 1 → P
     at_place {d = d} {n = n} true is less equal small = equal (grind (arith, nat_tests))
     at_place {d = d} {n = n} false is less equal small = less (grind (arith, nat_tests))
 
 -- where it went over all connections all is handed on
-pub hands_all : (old new : Core) (moved : Bool) (n : ℕ) → n ≡ 62 → Hands old new moved n → HandsAll old new
-hands_all old new moved n all hands e w past fits =
-    let done = hands.hands e w past fits in
-    record { from = done.from; all = λ d small. done.all d (omega (arith, small, all)) }
+pub hands_all : (old new : Core) (moved : Bool) (n : ℕ) → n ≡ 62 → Hands old new moved n → OffersAll old new moved
+hands_all old new moved n all hands = record {
+  some = hands.some;
+  hands = λ e w past fits.
+      let done = hands.hands e w past fits in
+      record { from = done.from; brings = done.brings; all = λ d small. done.all d (omega (arith, small, all)) };
+  lets_go = hands.lets_go;
+  none = hands.handed_none;
+}

@@ -1,7 +1,7 @@
 -- What an end says of its own accord, and what it hands to its station.
 use Rattle.std.specs.Prelude.{◌≡◌, ◌≢◌, ℕ, zero, suc, ◌+◌, ◌<◌, nat_eq, ◌==◌, ◌&&◌, ◌||◌, not, Result, Ok, Err, IfOk, OnOk, Bool, true, false, List, [], ◌∷◌, ◌++◌, length, take, drop, Option, None, Some, is_none, option_map, slice_index_or, slice_set, refl, if◌then◌else◌}
 use Rattle.std.specs.List.{list_all, list_any, starts_with}
-use Rattle.std.proofs.Common.{arith, sym, ap, ◌∙◌, subst, append_assoc, append-nil, length-append, length-take, length-drop, min, ◌≤◌}
+use Rattle.std.proofs.Common.{arith, sym, ap, ◌∙◌, subst, append_assoc, append-nil}
 use Rattle.std.proofs.lemmas.Bool.Decides.{nat_tests}
 use Rattle.std.proofs.lemmas.List.{append_cancel_right}
 use Rattle.at_cmds.proofs.command_texts.CommandLines.{both_true}
@@ -25,7 +25,7 @@ use Rattle.modem_sim.specs.Outboxes.{Outbox, empty_box, outbox, said_after, drop
 use Rattle.modem_sim.specs.Boxes.{Box, Waited, BoxFits, FitsOpen, fresh_box, lasting, is_released, released}
 use Rattle.modem_sim.specs.Doing.{left, is_closed_down, closes_down}
 use Rattle.modem_sim.specs.Histories.{EachAllowed, Allows, got, sent}
-use Rattle.modem_sim.specs.Cores.{Core, Wired, IsLater, GoesFrom, GivesFrom, Goes, GivesOut, IsGivenOn, Fits, all_unhanded, after_wire_act, wire_after, boxed, box_at, counted, from_queue, sent_now, that_act, unhanded}
+use Rattle.modem_sim.specs.Cores.{Core, Wired, IsLater, GoesFrom, GivesFrom, Goes, GivesOut, IsGivenOn, Fits, holds_over, after_wire_act, wire_after, boxed, box_at, counted, from_queue, sent_now, that_act, over}
 use Rattle.modem_sim.specs.Stills.{Offering}
 use Rattle.modem_sim.proofs.connections.BoxesAfterFrame.{box_still, called_still, given_still, sent_still}
 use Rattle.modem_sim.proofs.ends.EndAfterFrame.{sent_queued, wire-sent_after, heard-sent_after, owed-sent_after, allowed-sent_after, box-sent_after, done-sent_after, closed-sent_after, got-sent_after, box_here, opened_is}
@@ -173,7 +173,7 @@ boxes_fit e w old new past same boxes fits =
     } in
     subst At (sym same) whole
 
-pub stays : (may : Act → Bool) (e : End) (w : Wired) (past : List Act) (c : Core) → Fits e w c past → GoesFrom may e w past c
+unfoldable pub stays : (may : Act → Bool) (e : End) (w : Wired) (past : List Act) (c : Core) → Fits e w c past → GoesFrom may e w past c
 stays may e w past c fits = record { now = past; later = record { newer = []; joins = refl }; only = refl; fits = fits }
 
 pub goes_none : (may : Act → Bool) (c : Core) → Goes may c c
@@ -189,7 +189,7 @@ both_all may (x ∷ xs) ys all all_too =
     ap (λ (b : Bool). b && list_all may (xs ++ ys)) both.0 ∙ both_all may xs ys both.1 all_too
 
 -- one after the other
-pub from_then : (may : Act → Bool) (e : End) (w : Wired) (past : List Act) (b c : Core) (first : GoesFrom may e w past b) → GoesFrom may e w first.now c → GoesFrom may e w past c
+unfoldable pub from_then : (may : Act → Bool) (e : End) (w : Wired) (past : List Act) (b c : Core) (first : GoesFrom may e w past b) → GoesFrom may e w first.now c → GoesFrom may e w past c
 unfolding later_then
 from_then may e w past b c first second = record {
   now = second.now;
@@ -364,41 +364,36 @@ neither false b is = (refl, is)
 
 -- ## How much is left to hand on
 
-set_unhanded : (boxes : List Box) (d : ℕ) (b : Box) → d < length boxes → all_unhanded (slice_set boxes d b) + unhanded (slice_index_or boxes d fresh_box) ≡ all_unhanded boxes + unhanded b
-set_unhanded [] d b inside = absurd (omega (arith, inside))
-set_unhanded (x ∷ boxes) zero b inside = omega arith
-set_unhanded (x ∷ boxes) (suc d) b inside = let rest = set_unhanded boxes d b (omega (arith, inside)) in omega (arith, rest)
+set_over : (boxes : List Box) (d : ℕ) (b : Box) → d < length boxes → holds_over (slice_set boxes d b) + over (slice_index_or boxes d fresh_box) ≡ holds_over boxes + over b
+set_over [] d b inside = absurd (omega (arith, inside))
+set_over (x ∷ boxes) zero b inside = omega arith
+set_over (x ∷ boxes) (suc d) b inside = let rest = set_over boxes d b (omega (arith, inside)) in omega (arith, rest)
 
 abbrev the_count : Bool → ℕ
 the_count o = if o then 1 else 0
 
 -- letting go of a hold that is over leaves one less
-released_less : (b : Box) (over : Bool) → is_released b.hold ≡ over → over ≡ true → unhanded (if over then record b { unsent = b.unsent ++ b.held; held = []; hold = None } else b) < unhanded b
+released_less : (b : Box) (ends : Bool) → is_released b.hold ≡ ends → ends ≡ true → over (if ends then record b { unsent = b.unsent ++ b.held; held = []; hold = None } else b) < over b
 released_less b true is really =
     let one : (if is_released b.hold then 1 else 0) ≡ 1 = ap (λ (o : Bool). the_count o) is in
-    let long = length-append b.unsent b.held in
-    omega (arith, one, long)
+    omega (arith, one)
 released_less b false is really = cc
 
-pub fewer_released : {E : Type 0} (boxes : List Box) (d : ℕ) (b now : Box) (r : Result Bool E) → d < length boxes → b ≡ slice_index_or boxes d fresh_box → IfOk r (λ moved. moved ≡ is_released b.hold) → OnOk r (now ≡ released b) → IfOk r (λ moved. moved ≡ true → all_unhanded (slice_set boxes d now) < all_unhanded boxes)
-fewer_released boxes d b now (Ok moved) inside here over is = λ really.
-    let less : unhanded (released b) < unhanded b = released_less b (is_released b.hold) refl (sym over ∙ really) in
-    let set = set_unhanded boxes d now inside in
-    let same = ap unhanded here in
-    let same_now = ap unhanded is in
+pub fewer_released : {E : Type 0} (boxes : List Box) (d : ℕ) (b now : Box) (r : Result Bool E) → d < length boxes → b ≡ slice_index_or boxes d fresh_box → IfOk r (λ moved. moved ≡ is_released b.hold) → OnOk r (now ≡ released b) → IfOk r (λ moved. moved ≡ true → holds_over (slice_set boxes d now) < holds_over boxes)
+fewer_released boxes d b now (Ok moved) inside here ends is = λ really.
+    let less : over (released b) < over b = released_less b (is_released b.hold) refl (sym ends ∙ really) in
+    let set = set_over boxes d now inside in
+    let same = ap over here in
+    let same_now = ap over is in
     omega (arith, less, set, same, same_now)
-fewer_released boxes d b now (Err why) inside here over is = tt
+fewer_released boxes d b now (Err why) inside here ends is = tt
 
--- and so does handing on octets, of which there are some
-pub fewer_handed : (boxes : List Box) (d most count : ℕ) (b : Box) (octets : List ℕ) → d < length boxes → b ≡ slice_index_or boxes d fresh_box → octets ≡ take most b.unsent → count ≡ length octets → (count ≡ 0 → ⊥) → all_unhanded (slice_set boxes d (record b { unsent = drop count b.unsent })) < all_unhanded boxes
-fewer_handed boxes d most count b octets inside here taken count_is some =
-    let set = set_unhanded boxes d (record b { unsent = drop count b.unsent }) inside in
-    let same = ap unhanded here in
-    let short = ap length taken ∙ length-take most b.unsent in
-    let rest = length-drop count b.unsent in
-    let few : min most (length b.unsent) ≤ length b.unsent = omega arith in
-    let there : 1 ≤ count = omega (arith, some) in
-    omega (arith, set, same, short, rest, few, there, count_is)
+-- handing on octets leaves as many
+pub same_over : (boxes : List Box) (d : ℕ) (b : Box) (unsent : List ℕ) → d < length boxes → b ≡ slice_index_or boxes d fresh_box → holds_over (slice_set boxes d (record b { unsent = unsent })) ≡ holds_over boxes
+same_over boxes d b unsent inside here =
+    let set = set_over boxes d (record b { unsent = unsent }) inside in
+    let same = ap over here in
+    omega (arith, set, same)
 
 -- ## What goes out
 

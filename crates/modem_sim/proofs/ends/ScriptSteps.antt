@@ -26,7 +26,7 @@ use Rattle.modem_sim.specs.Outboxes.{Outbox, outbox, hold_on, is_holding}
 use Rattle.modem_sim.specs.Boxes.{Box, BoxFits, FitsOpen, fresh_box, is_released, released, box_announced, box_holding}
 use Rattle.modem_sim.specs.Doing.{acts, call_of, done, left, named_by, closes_down}
 use Rattle.modem_sim.specs.Histories.{Allows, MayDo, IsAsked}
-use Rattle.modem_sim.specs.Cores.{AtStation, HasNoneToDo, asks_nothing, asks, Refuses, Core, Wired, GoesFrom, Goes, Fits, after_wire_act, are_open_in, boxes_done, closes_by, counted, that_act}
+use Rattle.modem_sim.specs.Cores.{AtStation, HasNoneToDo, HasPassed, asks_nothing, asks, Refuses, Core, Wired, GoesFrom, Goes, Fits, after_wire_act, are_open_in, boxes_done, closes_by, counted, that_act}
 use Rattle.modem_sim.proofs.law_proofs.Histories.{spelled-append}
 use Rattle.modem_sim.proofs.connections.BoxesAfterFrame.{box_still, called_still}
 use Rattle.modem_sim.proofs.ends.EndAfterFrame.{box_here, later-sent_after, only_sent, opened_is}
@@ -350,6 +350,15 @@ passes_goes old new step later steps passing same e w past fits =
       came_are = fits.came_are;
       gone_are = fits.gone_are;
     }))
+
+pub passed_none : (c : Core) → HasPassed c c
+passed_none c = record { passed = []; joins = refl }
+
+pub passed_one : (old new : Core) (step : Step) → old.steps ≡ step ∷ new.steps → HasPassed old new
+passed_one old new step is = record { passed = step ∷ []; joins = is }
+
+pub passed_then : (a b c : Core) → HasPassed a b → HasPassed b c → HasPassed a c
+passed_then a b c p q = record { passed = p.passed ++ q.passed; joins = p.joins ∙ ap (λ xs. p.passed ++ xs) q.joins ∙ sym (append_assoc p.passed q.passed c.steps) }
 
 -- a call that the station took
 pub asked_for : (old new : stations.Station) (act : StepAct) (call : station.Call) (r : Result Unit StationError) → call_of act ≡ Some call → result_err r ≡ sending.refused (stations.setting_of old) (stations.seen_in old) call → OnOk r (fitting.StationHandles old new (station.Called call)) → is_ok r ≡ true → AtStation old new act

@@ -10,7 +10,7 @@ use Rattle.modem_sim.specs.declared.sim.SimTurn.{SimTurn}
 use Rattle.modem_sim.specs.Acts.{after}
 use Rattle.modem_sim.specs.Doing.{IsDue}
 use Rattle.modem_sim.specs.Sims.{Kept, SimState, has_failed}
-use Rattle.modem_sim.specs.Cores.{all_unhanded, box_at}
+use Rattle.modem_sim.specs.Cores.{holds_over, box_at}
 use Rattle.modem_sim.specs.Boxes.{is_released}
 use Rattle.modem_sim.specs.Polls.{Says}
 use Rattle.mux_frame.specs.Frames.{Frame}
@@ -90,10 +90,10 @@ stays s =
     neither (is_fewer s.kept.unfed s.kept.unfed) _ (same_length (length s.kept.unfed))
     (neither (is_fewer s.kept.core.steps s.kept.core.steps) _ (same_length (length s.kept.core.steps))
     (neither (is_fewer s.kept.out s.kept.out) _ (same_length (length s.kept.out))
-    (same_length (all_unhanded s.kept.core.boxes))))
+    (same_length (holds_over s.kept.core.boxes))))
 
 pub moved_rows : MovedRows
-moved_rows = (λ k. refl, λ s f. refl, stays, stays, λ s octets. stays s)
+moved_rows = (λ k. refl, λ s f. refl, λ s octets. refl, stays, stays)
 
 not_both : (b : Bool) → b ≡ true → b ≡ false → ⊥
 not_both true is other = cc

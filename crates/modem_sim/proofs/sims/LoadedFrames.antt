@@ -1,5 +1,6 @@
 -- Where all is written the next frame is put into the output.
-use Rattle.std.specs.Prelude.{◌≡◌, ℕ, ◌<◌, ◌≤◌, ◌==◌, Bool, true, false, List, [], ◌∷◌, ◌++◌, length, Some, None, option_map, refl}
+use Rattle.std.specs.Prelude.{◌≡◌, ◌≢◌, ℕ, ◌<◌, ◌≤◌, ◌==◌, Bool, true, false, List, [], ◌∷◌, ◌++◌, length, Some, None, option_map, refl}
+use Rattle.std.specs.List.{list_any}
 use Rattle.std.proofs.Common.{arith, sym, ap, ◌∙◌, subst, append-nil}
 use Rattle.std.proofs.lemmas.Bool.Decides.{nat_tests}
 use Rattle.mux_frame.specs.Frames.{Frame}
@@ -10,13 +11,13 @@ use Rattle.mux_station.specs.Offering.{offered, data_out}
 use Rattle.mux_station.specs.Giving.{next_given}
 use Rattle.mux_station.specs.GivenFrames.{Outgoing, with_freshness}
 use Rattle.mux_station.specs.Acts as station
-use Rattle.modem_sim.specs.Acts.{Act, Wire, End, any_act, is_open_at_modem, wire}
+use Rattle.modem_sim.specs.Acts.{Act, Wire, End, any_act, is_handing, is_open_at_modem, wire}
 use Rattle.modem_sim.specs.Pieces.{pieces_octets}
 use Rattle.modem_sim.specs.Outboxes.{outbox}
 use Rattle.modem_sim.specs.Cores.{Core, Fits, GivesOut, IsGivenOn, IsLater, Wired, box_at, from_queue, gone_on, sent_now}
 use Rattle.modem_sim.specs.Sims.{Kept, KeptFits, KeptGoes}
 use Rattle.modem_sim.specs.Turns.{HandsOn, NoneIsThere}
-use Rattle.modem_sim.specs.Stills.{AllHanded, HandsAll, HandsFrom, Loads, puts, puts_none, some_wait}
+use Rattle.modem_sim.specs.Stills.{AllHanded, HandsFrom, Loads, LoadsBy, OffersAll, let_go, puts, puts_none, some_wait}
 use Rattle.modem_sim.proofs.connections.ControlChannel.{none_given, says_none}
 use Rattle.modem_sim.proofs.ends.EndAfterFrame.{opened_is}
 use Rattle.modem_sim.proofs.ends.HandedOctets.{ring_is, same_ring}
@@ -38,8 +39,8 @@ all_said e w c past d false is small all fits there left =
     said_is e d past (box_at c d) on.released (fits.boxes_are d small there)
     ∙ ap (λ xs. offered Responder d (wire past) ++ xs) (on.unsent is none) ∙ append-nil (offered Responder d (wire past))
 
-hands_on : (e : End) (w : Wired) (past : List Act) (c : Core) (h : HandsFrom e w past c) → HandsOn e past h.from.now
-hands_on e w past c h = record {
+hands_on : (e : End) (w : Wired) (past : List Act) (c : Core) (some : Bool) (h : HandsFrom e w past c some) → HandsOn e past h.from.now
+hands_on e w past c some h = record {
   later = h.from.later;
   only = h.from.only;
   all = λ d small there left. all_said e w c h.from.now d (d == 0) refl small h.all h.from.fits there left;
@@ -62,39 +63,62 @@ at_core e came went old past now core fits there = record {
   went_is = fits.went_is;
 }
 
-pub loads_frame : (old : Kept) (mid core : Core) (fresh : Bool) (g : Outgoing) (out : List ℕ) → old.out ≡ [] → HandsAll old.core mid → Some g ≡ option_map (with_freshness fresh) (next_given mid.station mid.station.queue) → length g.frame.info ≤ 1024 → (length g.frame.info ≤ spelling.most_info 1024 g.frame.kind → out ≡ spelling.spelled g.frame) → GivesOut mid → core ≡ gone_on mid → Loads old (record old { core = core; out = out })
-loads_frame old mid core fresh g out none hands some short writes gives is = puts none (λ e came went past fits.
-    let h = hands e fits.wired past fits.core_fits in
-    let gave = fetched_some old mid core fresh g out none some short writes gives is e came went h.from.now (at_core e came went old past h.from.now mid fits h.from.fits) in
-    record { between = h.from.now; hands = hands_on e fits.wired past mid h; now = gave.now; frame = g.frame; given = gave.given; out = gave.written; fits = gave.fits })
+hands_brings : (e : End) (w : Wired) (past : List Act) (c : Core) (some : Bool) (h : HandsFrom e w past c some) → list_any is_handing (hands_on e w past c some h).later.newer ≡ some
+unfolding hands_on
+hands_brings e w past c some h = h.brings
 
-pub loads_no_frame : (old : Kept) (mid core : Core) (fresh : Bool) → old.out ≡ [] → HandsAll old.core mid → None ≡ option_map (with_freshness fresh) (next_given mid.station mid.station.queue) → core ≡ gone_on mid → Loads old (record old { core = core })
-loads_no_frame old mid core fresh none hands no_frame is =
-    let At : Core → Type 0 = λ c. Loads old (record old { core = c }) in
-    subst At (sym (fetched_nothing mid mid core fresh refl no_frame is))
-    (puts_none none (λ e came went past fits.
-    let h = hands e fits.wired past fits.core_fits in
+pub loads_frame : (old : Kept) (mid core : Core) (offered_any fresh : Bool) (g : Outgoing) (out : List ℕ) → old.out ≡ [] → (offers : OffersAll old.core mid offered_any) → Some g ≡ option_map (with_freshness fresh) (next_given mid.station mid.station.queue) → length g.frame.info ≤ 1024 → (length g.frame.info ≤ spelling.most_info 1024 g.frame.kind → out ≡ spelling.spelled g.frame) → GivesOut mid → core ≡ gone_on mid → Loads old (record old { core = core; out = out }) offers.some
+loads_frame old mid core offered_any fresh g out none offers some short writes gives is = puts offers.some none (λ e came went past fits.
+    let h = offers.hands e fits.wired past fits.core_fits in
+    let gave = fetched_some old mid core fresh g out none some short writes gives is e came went h.from.now (at_core e came went old past h.from.now mid fits h.from.fits) in
     record {
-      now = h.from.now;
-      hands = hands_on e fits.wired past mid h;
-      none = none_is_there e fits.wired mid h.from.now (none_mapped (with_freshness fresh) (next_given mid.station mid.station.queue) no_frame) h.from.fits;
-      out = none;
-      fits = at_core e came went old past h.from.now mid fits h.from.fits;
-    }))
+      between = h.from.now;
+      hands = hands_on e fits.wired past mid offers.some h;
+      brings = hands_brings e fits.wired past mid offers.some h;
+      now = gave.now;
+      frame = g.frame;
+      given = gave.given;
+      out = gave.written;
+      fits = gave.fits;
+    })
+
+pub loads_no_frame : (old : Kept) (mid core : Core) (offered_any fresh : Bool) → old.out ≡ [] → (offers : OffersAll old.core mid offered_any) → None ≡ option_map (with_freshness fresh) (next_given mid.station mid.station.queue) → core ≡ gone_on mid → LoadsBy old (record old { core = core }) offered_any
+loads_no_frame old mid core offered_any fresh none offers no_frame is =
+    let At : Core → Type 0 = λ c. LoadsBy old (record old { core = c }) offered_any in
+    subst At (sym (fetched_nothing mid mid core fresh refl no_frame is))
+    (record {
+      some = offers.some;
+      loads = puts_none offers.some none (λ e came went past fits.
+          let h = offers.hands e fits.wired past fits.core_fits in
+          record {
+            now = h.from.now;
+            hands = hands_on e fits.wired past mid offers.some h;
+            brings = hands_brings e fits.wired past mid offers.some h;
+            none = none_is_there e fits.wired mid h.from.now (none_mapped (with_freshness fresh) (next_given mid.station mid.station.queue) no_frame) h.from.fits;
+            out = none;
+            fits = at_core e came went old past h.from.now mid fits h.from.fits;
+          });
+      has_loaded = λ moved nothing. let_go refl (offers.lets_go moved nothing);
+      none = offers.none;
+    })
+
+-- octets wait for the line
+pub loads_nothing_yet : (k : Kept) → k.out ≢ [] → LoadsBy k k false
+loads_nothing_yet k some = record { some = false; loads = some_wait some refl; has_loaded = λ moved. cc; none = λ still. refl }
 
 -- which goes on
 given_later : (past now : List Act) (f : Frame) → IsGivenOn past f now → IsLater past now
 given_later past now f (from_queue later is) = record { newer = Wire station.Given ∷ []; joins = refl }
 given_later past now f (sent_now is) = record { newer = Wire (station.Sent f) ∷ []; joins = refl }
 
-pub loaded_goes : (old new : Kept) → Loads old new → KeptGoes any_act old new
-loaded_goes old new (some_wait some same) e came went past fits =
+pub loaded_goes : (old new : Kept) (some : Bool) → Loads old new some → KeptGoes any_act old new
+loaded_goes old new _ (some_wait some same) e came went past fits =
     let At : Kept → Type 0 = λ k. KeptFits e came went k past in
     record { now = past; later = record { newer = []; joins = refl }; only = refl; fits = subst At (sym same) fits }
-loaded_goes old new (puts none goes) e came went past fits =
+loaded_goes old new _ (puts some none goes) e came went past fits =
     let went_on = goes e came went past fits in
     let later = later_then past went_on.between went_on.now went_on.hands.later (given_later went_on.between went_on.now went_on.frame went_on.given) in
     record { now = went_on.now; later = later; only = all_any later.newer; fits = went_on.fits }
-loaded_goes old new (puts_none none goes) e came went past fits =
+loaded_goes old new _ (puts_none some none goes) e came went past fits =
     let went_on = goes e came went past fits in
     record { now = went_on.now; later = went_on.hands.later; only = all_any went_on.hands.later.newer; fits = went_on.fits }

@@ -9,7 +9,7 @@ use Rattle.mux_station.specs.Sending as sending
 use Rattle.modem_sim.specs.Acts.{Act, Wire, Did, End, is_handing, is_step_act, setting, wire}
 use Rattle.modem_sim.specs.Cores.{IsGivenOn, IsLater, after_wire_act, from_queue, sent_now}
 use Rattle.modem_sim.specs.Sims.{FitsSim, Kept, KeptFits, LineAt, Sight}
-use Rattle.modem_sim.specs.Turns.{PutsNext, TakesAtHand, Write, has_no_room, is_got, is_put, is_taken, left_of, none_at_hand, none_is_there, octets_read, octets_written, some_are_left}
+use Rattle.modem_sim.specs.Turns.{PutsNext, TakesAtHand, Write, has_no_room, is_work, is_put, is_taken, left_of, none_at_hand, none_is_there, octets_read, octets_written, some_are_left}
 use Rattle.modem_sim.specs.Stills.{GoesOnce, Loads, TakesFrame, TakesNone, WentOn, at_line, puts, puts_none, some_wait}
 use Rattle.modem_sim.proofs.law_proofs.Histories.{does_in_order}
 use Rattle.modem_sim.proofs.ends.EndAfterFrame.{later-sent_after}
@@ -18,63 +18,80 @@ use Rattle.modem_sim.proofs.sims.IdleTurns.{no_room, none_can_be_done, some_room
 use Rattle.modem_sim.proofs.sims.SimPasts.{later_act}
 use Rattle.modem_sim.proofs.sims.WholeTurns.{Went, came_at_end, deals_so, leaves_so, left_at, moves_so, out_at_end, sent_at_end, still_so}
 
--- ## Frames that came
+-- ## Work
 
-any_of_both : (xs ys : List Act) → list_any is_got (xs ++ ys) ≡ (list_any is_got xs || list_any is_got ys)
+any_of_both : (xs ys : List Act) → list_any is_work (xs ++ ys) ≡ (list_any is_work xs || list_any is_work ys)
 any_of_both [] ys = refl
-any_of_both (x ∷ xs) ys = ap (λ (b : Bool). is_got x || b) (any_of_both xs ys) ∙ either (is_got x) (list_any is_got xs) (list_any is_got ys)
+any_of_both (x ∷ xs) ys = ap (λ (b : Bool). is_work x || b) (any_of_both xs ys) ∙ either (is_work x) (list_any is_work xs) (list_any is_work ys)
   where
     either : (a b c : Bool) → (a || (b || c)) ≡ ((a || b) || c)
     either true b c = refl
     either false b c = refl
 
-none_by : (may : Act → Bool) → ((a : Act) → may a ≡ true → is_got a ≡ false) → (xs : List Act) → list_all may xs ≡ true → list_any is_got xs ≡ false
+none_by : (may : Act → Bool) → ((a : Act) → may a ≡ true → is_work a ≡ false) → (xs : List Act) → list_all may xs ≡ true → list_any is_work xs ≡ false
 none_by may each [] all = refl
 none_by may each (x ∷ xs) all =
     let both = both_true (may x) (list_all may xs) all in
-    ap (λ (b : Bool). b || list_any is_got xs) (each x both.0) ∙ none_by may each xs both.1
+    ap (λ (b : Bool). b || list_any is_work xs) (each x both.0) ∙ none_by may each xs both.1
 
-no_step_got : (a : Act) → is_step_act a ≡ true → is_got a ≡ false
-no_step_got (Did step) is = refl
-no_step_got (Wire (station.Called call)) is = refl
-no_step_got (Wire (station.Sent f)) is = refl
-no_step_got (Wire (station.Got f)) is = cc
-no_step_got (Wire station.Given) is = refl
-no_step_got (Wire station.Tick) is = refl
-no_step_got (Wire station.Lost) is = refl
+no_step_work : (a : Act) → is_step_act a ≡ true → is_work a ≡ false
+no_step_work (Did step) is = refl
+no_step_work (Wire (station.Called (station.Offer d octets))) is = cc
+no_step_work (Wire (station.Called (station.Open d))) is = refl
+no_step_work (Wire (station.Called (station.Close d))) is = refl
+no_step_work (Wire (station.Called (station.Probe octets))) is = refl
+no_step_work (Wire (station.Called station.Stop)) is = refl
+no_step_work (Wire (station.Called (station.Flow d go))) is = refl
+no_step_work (Wire (station.Sent f)) is = refl
+no_step_work (Wire (station.Got f)) is = cc
+no_step_work (Wire station.Given) is = refl
+no_step_work (Wire station.Tick) is = refl
+no_step_work (Wire station.Lost) is = refl
 
-no_handing_got : (a : Act) → is_handing a ≡ true → is_got a ≡ false
-no_handing_got (Did step) is = refl
-no_handing_got (Wire (station.Called call)) is = refl
-no_handing_got (Wire (station.Sent f)) is = refl
-no_handing_got (Wire (station.Got f)) is = cc
-no_handing_got (Wire station.Given) is = refl
-no_handing_got (Wire station.Tick) is = refl
-no_handing_got (Wire station.Lost) is = refl
+-- what is handed to the station is work
+same_work : (xs : List Act) → list_all is_handing xs ≡ true → list_any is_work xs ≡ list_any is_handing xs
+same_work [] all = refl
+same_work (x ∷ xs) all =
+    let both = both_true (is_handing x) (list_all is_handing xs) all in
+    ap (λ (b : Bool). b || list_any is_work xs) (by_act x both.0) ∙ ap (λ (b : Bool). is_handing x || b) (same_work xs both.1)
+  where
+    by_act : (a : Act) → is_handing a ≡ true → is_work a ≡ is_handing a
+    by_act (Did step) is = cc
+    by_act (Wire (station.Called (station.Offer d octets))) is = refl
+    by_act (Wire (station.Called (station.Open d))) is = cc
+    by_act (Wire (station.Called (station.Close d))) is = cc
+    by_act (Wire (station.Called (station.Probe octets))) is = cc
+    by_act (Wire (station.Called station.Stop)) is = cc
+    by_act (Wire (station.Called (station.Flow d go))) is = cc
+    by_act (Wire (station.Sent f)) is = cc
+    by_act (Wire (station.Got f)) is = cc
+    by_act (Wire station.Given) is = cc
+    by_act (Wire station.Tick) is = cc
+    by_act (Wire station.Lost) is = cc
 
--- the past went on, and a frame came or none did
+or_none : (x : Bool) → (x || false) ≡ x
+or_none true = refl
+or_none false = refl
+
+-- the past went on, and such acts were among what came, or none was
 record GoesBy (past now : List Act) (got : Bool) : Type 0 where
   later : IsLater past now
-  brings : list_any is_got later.newer ≡ got
+  brings : list_any is_work later.newer ≡ got
 
-goes_by_both : (a b c : List Act) (got : Bool) → GoesBy a b false → GoesBy b c got → GoesBy a c got
+goes_by_both : (a b c : List Act) (first second : Bool) → GoesBy a b first → GoesBy b c second → GoesBy a c (second || first)
 unfolding later_then
-goes_by_both a b c got p q = record {
+goes_by_both a b c first second p q = record {
   later = later_then a b c p.later q.later;
-  brings = any_of_both q.later.newer p.later.newer ∙ ap (λ (x : Bool). x || list_any is_got p.later.newer) q.brings ∙ ap (λ (x : Bool). got || x) p.brings ∙ or_none got;
+  brings = any_of_both q.later.newer p.later.newer ∙ ap (λ (x : Bool). x || list_any is_work p.later.newer) q.brings ∙ ap (λ (x : Bool). second || x) p.brings;
 }
-  where
-    or_none : (x : Bool) → (x || false) ≡ x
-    or_none true = refl
-    or_none false = refl
 
 given_by : (past now : List Act) (f : Frame) → IsGivenOn past f now → GoesBy past now false
 given_by past now f (from_queue later is) = record { later = record { newer = Wire station.Given ∷ []; joins = refl }; brings = refl }
 given_by past now f (sent_now is) = record { later = record { newer = Wire (station.Sent f) ∷ []; joins = refl }; brings = refl }
 
-any_behind : (xs : List Act) (f : Frame) → list_any is_got (xs ++ Wire (station.Got f) ∷ []) ≡ true
+any_behind : (xs : List Act) (f : Frame) → list_any is_work (xs ++ Wire (station.Got f) ∷ []) ≡ true
 any_behind [] f = refl
-any_behind (x ∷ xs) f = ap (λ (b : Bool). is_got x || b) (any_behind xs f) ∙ or_some (is_got x)
+any_behind (x ∷ xs) f = ap (λ (b : Bool). is_work x || b) (any_behind xs f) ∙ or_some (is_work x)
   where
     or_some : (b : Bool) → (b || true) ≡ true
     or_some true = refl
@@ -90,14 +107,14 @@ got_by e past f = record {
 -- ## The parts
 
 -- the next frame where all is written
-record Loaded (e : End) (came went : List ℕ) (left : List ℕ) (k : Kept) (past : List Act) : Type 0 where
+record Loaded (e : End) (came went : List ℕ) (left : List ℕ) (k : Kept) (past : List Act) (some : Bool) : Type 0 where
   now : List Act
-  goes : GoesBy past now false
+  goes : GoesBy past now some
   loads : PutsNext e left k.out past now
   fits : KeptFits e came went k now
 
-loaded : (e : End) (came went : List ℕ) (old new : Kept) (past : List Act) → Loads old new → KeptFits e came went old past → Loaded e came went old.out new past
-loaded e came went old new past (some_wait some same) fits =
+loaded : (e : End) (came went : List ℕ) (old new : Kept) (past : List Act) (some : Bool) → Loads old new some → KeptFits e came went old past → Loaded e came went old.out new past some
+loaded e came went old new past _ (some_wait some same) fits =
     let At : Kept → Type 0 = λ k. KeptFits e came went k past in
     record {
       now = past;
@@ -105,20 +122,20 @@ loaded e came went old new past (some_wait some same) fits =
       loads = some_are_left some (ap (λ (k : Kept). k.out) same) refl;
       fits = subst At (sym same) fits;
     }
-loaded e came went old new past (puts none goes) fits =
+loaded e came went old new past _ (puts some none goes) fits =
     let on = goes e came went past fits in
-    let handing : GoesBy past on.between false = record { later = on.hands.later; brings = none_by is_handing no_handing_got on.hands.later.newer on.hands.only } in
+    let handing : GoesBy past on.between some = record { later = on.hands.later; brings = same_work on.hands.later.newer on.hands.only ∙ on.brings } in
     record {
       now = on.now;
-      goes = goes_by_both past on.between on.now false handing (given_by on.between on.now on.frame on.given);
+      goes = goes_by_both past on.between on.now some false handing (given_by on.between on.now on.frame on.given);
       loads = is_put on.between on.frame none on.hands on.given on.out;
       fits = on.fits;
     }
-loaded e came went old new past (puts_none none goes) fits =
+loaded e came went old new past _ (puts_none some none goes) fits =
     let on = goes e came went past fits in
     record {
       now = on.now;
-      goes = record { later = on.hands.later; brings = none_by is_handing no_handing_got on.hands.later.newer on.hands.only };
+      goes = record { later = on.hands.later; brings = same_work on.hands.later.newer on.hands.only ∙ on.brings };
       loads = none_is_there none on.hands on.none on.out;
       fits = on.fits;
     }
@@ -189,11 +206,11 @@ module _ {X : Type 0} (see : Sight X) (l0 l2 l5 : X) (k0 k1 k2 k3 k4 k5 k6 : Kep
       let stepped = w.steps_go e fits.came fits.went past fits.kept_fits in
       let wrote = wrote_fits e fits.came fits.went stepped.now k1 k2 w.writes.write w.writes.parts w.writes.kept stepped.fits in
       let gone = fits.went ++ octets_written w.writes.write in
-      let load = loaded e fits.came gone k2 k3 stepped.now w.loads wrote in
+      let load = loaded e fits.came gone k2 k3 stepped.now w.loads.some w.loads.loads wrote in
       let take = took_it e fits.came gone k3 k4 load.now took w.takes w.take_none load.fits in
       let read = read_fits e fits.came gone take.now k4 k5 (octets_read w.reads.read) w.reads.kept take.fits in
-      let first : GoesBy past stepped.now false = record { later = stepped.later; brings = none_by is_step_act no_step_got stepped.later.newer stepped.only } in
-      let all = goes_by_both past load.now take.now took (goes_by_both past stepped.now load.now false first load.goes) take.goes in
+      let first : GoesBy past stepped.now false = record { later = stepped.later; brings = none_by is_step_act no_step_work stepped.later.newer stepped.only } in
+      let all = goes_by_both past load.now take.now (w.loads.some || false) took (goes_by_both past stepped.now load.now false w.loads.some first load.goes) take.goes in
       let Left : List ℕ → Type 0 = λ xs. PutsNext e xs k3.out stepped.now load.now in
       let Out : List ℕ → Type 0 = λ xs. PutsNext e (left_of w.writes.write k0.out) xs stepped.now load.now in
       let Hand : Option Frame → Type 0 = λ o. TakesAtHand e o load.now take.now in
@@ -216,7 +233,7 @@ module _ {X : Type 0} (see : Sight X) (l0 l2 l5 : X) (k0 k1 k2 k3 k4 k5 k6 : Kep
               (subst Left (left_at see l0 l2 l5 k0 k1 k2 k3 k4 k5 k6 done count loads took came fed w) load.loads);
           takes = subst Hand hand take.takes;
         };
-        moves = moves_so see l0 l2 l5 k0 k1 k2 k3 k4 k5 k6 done count loads took came fed w all.later.newer all.brings;
+        moves = moves_so see l0 l2 l5 k0 k1 k2 k3 k4 k5 k6 done count loads took came fed w all.later.newer (all.brings ∙ ap (λ (b : Bool). took || b) (or_none w.loads.some));
       }
 
   pub goes_once : GoesOnce see (at_line l0 k0) (at_line l5 k6) (((((done || nat_lt 0 count) || loads) || took) || came) || fed)

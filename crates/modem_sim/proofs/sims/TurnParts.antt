@@ -16,7 +16,7 @@ use Rattle.modem_sim.proofs.sims.SimPasts.{fed_fits, fetched_nothing, none_mappe
 pub none_of : {A : Type 0} (xs : List A) → (length xs == 0) ≡ true → xs ≡ []
 none_of xs is = let zero : length xs ≡ 0 = grind (arith, nat_tests) in nil_from_length xs zero
 
-some_of : {A : Type 0} (xs : List A) → (length xs == 0) ≡ false → xs ≢ []
+pub some_of : {A : Type 0} (xs : List A) → (length xs == 0) ≡ false → xs ≢ []
 some_of [] is = cc
 some_of (x ∷ xs) is = λ none. cc
 

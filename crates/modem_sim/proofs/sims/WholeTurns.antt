@@ -8,10 +8,10 @@ use Rattle.mux_station.specs.Giving.{next_given}
 use Rattle.mux_station.specs.Sending.{got_refused}
 use Rattle.mux_station.specs.Stations.{seen_in, setting_of}
 use Rattle.modem_sim.specs.Acts.{Act, is_step_act}
-use Rattle.modem_sim.specs.Cores.{Core, HasNoneToDo, IsHandedOn, all_unhanded}
+use Rattle.modem_sim.specs.Cores.{Core, HasNoneToDo, HasPassed, IsHandedOn, holds_over}
 use Rattle.modem_sim.specs.Sims.{Kept, KeptGoes, Sight, SimState}
-use Rattle.modem_sim.specs.Turns.{Exchanges, Leaves, Offers, Read, Write, calls_made, count_after, empty_after, has_changed, has_moved, is_fewer, is_got, left_of, octets_read, octets_written}
-use Rattle.modem_sim.specs.Stills.{Feeds, FeedsNone, HasLoaded, HasNoneToLoad, Loads, LoadsNone, ReadsOnce, StoodStill, TakesFrame, TakesNone, Writes, at_line, handed, puts, puts_none, ready, some_wait}
+use Rattle.modem_sim.specs.Turns.{Exchanges, Leaves, Offers, Read, Write, calls_made, count_after, empty_after, has_changed, has_moved, is_fewer, is_work, left_of, octets_read, octets_written}
+use Rattle.modem_sim.specs.Stills.{Feeds, FeedsNone, HasLoaded, HasNoneToLoad, Loads, LoadsBy, LoadsNone, ReadsOnce, StoodStill, TakesFrame, TakesNone, Writes, at_line, let_go, puts, puts_none, ready, some_wait}
 
 -- ## What moved
 
@@ -77,12 +77,12 @@ pub record Went {X : Type 0} (see : Sight X) (l0 l2 l5 : X) (k0 k1 k2 k3 k4 k5 k
   pub steps_fewer : done ≡ true → length k1.core.steps < length k0.core.steps
   pub steps_rest : k1 ≡ record k0 { core = k1.core }
   pub steps_none : HasNoneToDo k1.core
+  pub steps_passed : HasPassed k0.core k1.core
   pub write_none_came : see.received l2 ≡ see.received l0
   pub write_none_empty : see.empty_reads l2 ≡ see.empty_reads l0
   pub writes : Writes (see.sent l0) (see.sent l2) (see.calls l0) (see.calls l2) (see.stalled_writes l0) (see.stalled_writes l2) k1 k2 count
   pub load_rest : k3 ≡ record k2 { core = k3.core; out = k3.out }
-  pub loads : Loads k2 k3
-  pub has_loaded : loaded ≡ true → HasLoaded k2 k3
+  pub loads : LoadsBy k2 k3 loaded
   pub load_none : loaded ≡ false → LoadsNone k2 k3
   pub load_steps : k3.core.steps ≡ k2.core.steps
   pub take_rest : k4 ≡ record k3 { core = k4.core; deframer = k4.deframer }
@@ -153,8 +153,8 @@ module _ {X : Type 0} (see : Sight X) (l0 l2 l5 : X) (k0 k1 k2 k3 k4 k5 k6 : Kep
       or_right (is_fewer (see.received l0) (see.received l5)) _ (or_right (is_fewer (see.sent l0) (see.sent l5)) _
       (or_right (is_fewer k6.unfed k0.unfed) _ (or_right (is_fewer k6.core.steps k0.core.steps) _ (or_left (is_fewer k0.out k6.out) _ (less _ _ more)))))
 
-  by_handing : all_unhanded k6.core.boxes < all_unhanded k0.core.boxes → has_changed see s0 s6 ≡ true
-  by_handing more =
+  by_letting_go : holds_over k6.core.boxes < holds_over k0.core.boxes → has_changed see s0 s6 ≡ true
+  by_letting_go more =
       or_right (is_fewer (see.received l0) (see.received l5)) _ (or_right (is_fewer (see.sent l0) (see.sent l5)) _
       (or_right (is_fewer k6.unfed k0.unfed) _ (or_right (is_fewer k6.core.steps k0.core.steps) _ (or_right (is_fewer k0.out k6.out) _ (less _ _ more)))))
 
@@ -180,15 +180,15 @@ module _ {X : Type 0} (see : Sight X) (l0 l2 l5 : X) (k0 k1 k2 k3 k4 k5 k6 : Kep
       let first = ap (λ (k : Kept). length k.out) (same_1 not_wrote ∙ same_0 not_done) in
       let last = ap length out_at_end in
       by_out (omega (arith, more, first, last))
-  by_loading not_done not_wrote not_took (handed same fewer) =
-      let first = ap (λ (k : Kept). all_unhanded k.core.boxes) (same_1 not_wrote ∙ same_0 not_done) in
-      let last = ap (λ (c : Core). all_unhanded c.boxes) (core_at_end ∙ ap (λ (k : Kept). k.core) (w.take_none not_took).same) in
-      by_handing (omega (arith, fewer, first, last))
+  by_loading not_done not_wrote not_took (let_go same fewer) =
+      let first = ap (λ (k : Kept). holds_over k.core.boxes) (same_1 not_wrote ∙ same_0 not_done) in
+      let last = ap (λ (c : Core). holds_over c.boxes) (core_at_end ∙ ap (λ (k : Kept). k.core) (w.take_none not_took).same) in
+      by_letting_go (omega (arith, fewer, first, last))
 
   abbrev moved : Bool
   moved = (((((done || nat_lt 0 count) || loaded) || took) || came) || fed)
 
-  changed_so : (got : Bool) → got ≡ took → moved ≡ true → (got || has_changed see s0 s6) ≡ true
+  changed_so : (got : Bool) → got ≡ (took || w.loads.some) → moved ≡ true → (got || has_changed see s0 s6) ≡ true
   changed_so got same is =
       first_of done (nat_lt 0 count) loaded took came fed is
       (λ really. let fewer = w.steps_fewer really in let last = ap length steps_at_end in or_right got _ (by_steps (omega (arith, fewer, last))))
@@ -197,17 +197,21 @@ module _ {X : Type 0} (see : Sight X) (l0 l2 l5 : X) (k0 k1 k2 k3 k4 k5 k6 : Kep
       let long = ap length sent_at_end ∙ length-append (see.sent l0) (octets_written w.writes.write) in
       let is_count = w.writes.count_is in
       or_right got _ (by_octets_gone (omega (arith, some, long, is_count))))
-      (λ really. or_left got _ (same ∙ really))
+      (λ really. or_left got _ (same ∙ ap (λ (b : Bool). b || w.loads.some) really))
       (λ really.
       let some = is_some (length (octets_read w.reads.read)) (sym w.reads.says ∙ really) in
       let long = ap length came_at_end ∙ length-append (see.received l0) (octets_read w.reads.read) in
       or_right got _ (by_octets_come (omega (arith, some, long))))
-      (λ not_done not_wrote not_took really. or_right got _ (by_loading not_done not_wrote not_took (w.has_loaded really)))
+      (λ not_done not_wrote not_took really. by_offers not_done not_wrote not_took really w.loads.some refl)
       (λ not_came really.
       let fewer = w.feed_fewer really in
       let first = ap (λ (k : Kept). length k.unfed) (same_4 not_came) in
       let before = ap length unfed_before in
       or_right got _ (by_feeding (omega (arith, fewer, first, before))))
+    where
+      by_offers : done ≡ false → nat_lt 0 count ≡ false → took ≡ false → loaded ≡ true → (b : Bool) → w.loads.some ≡ b → (got || has_changed see s0 s6) ≡ true
+      by_offers not_done not_wrote not_took really true some = or_left got _ (same ∙ or_right took w.loads.some some)
+      by_offers not_done not_wrote not_took really false none = or_right got _ (by_loading not_done not_wrote not_took (w.loads.has_loaded really none))
 
   -- ## Where nothing was done
 
@@ -255,17 +259,17 @@ module _ {X : Type 0} (see : Sight X) (l0 l2 l5 : X) (k0 k1 k2 k3 k4 k5 k6 : Kep
       (neither (is_fewer k6.unfed k0.unfed) _ (not_less _ _ (ap length same.unfed_is))
       (neither (is_fewer k6.core.steps k0.core.steps) _ (not_less _ _ (ap (λ (c : Core). length c.steps) same.core_is))
       (neither (is_fewer k0.out k6.out) _ (not_less _ _ (ap length (sym same.out_is)))
-      (not_less _ _ (ap (λ (c : Core). all_unhanded c.boxes) same.core_is))))))
+      (not_less _ _ (ap (λ (c : Core). holds_over c.boxes) same.core_is))))))
 
   -- it has moved just where a part of it did something
-  pub moves_so : (acts : List Act) → list_any is_got acts ≡ took → has_moved see s0 s6 acts ≡ moved
+  pub moves_so : (acts : List Act) → list_any is_work acts ≡ (took || w.loads.some) → has_moved see s0 s6 acts ≡ moved
   moves_so acts same = by_moved moved refl
     where
       by_moved : (b : Bool) → moved ≡ b → has_moved see s0 s6 acts ≡ moved
-      by_moved true is = changed_so (list_any is_got acts) same is ∙ sym is
+      by_moved true is = changed_so (list_any is_work acts) same is ∙ sym is
       by_moved false is =
           let all_false = none_of done (nat_lt 0 count) loaded took came fed is in
-          neither (list_any is_got acts) _ (same ∙ all_false.not_took) (none_changed (all_same all_false)) ∙ sym is
+          neither (list_any is_work acts) _ (same ∙ neither took w.loads.some all_false.not_took (w.loads.none all_false.not_loaded)) (none_changed (all_same all_false)) ∙ sym is
 
   pub still_so : moved ≡ false → StoodStill k6 (record { write = w.writes.write; read = w.reads.read })
   still_so is =
@@ -320,17 +324,21 @@ module _ {X : Type 0} (see : Sight X) (l0 l2 l5 : X) (k0 k1 k2 k3 k4 k5 k6 : Kep
   all_came : k5.unfed ≡ k0.unfed ++ octets_read w.reads.read
   all_came = ap (λ (k : Kept). k.unfed) w.reads.kept ∙ ap (λ xs. xs ++ octets_read w.reads.read) unfed_before
 
+  passed_so : HasPassed k0.core k6.core
+  passed_so = record { passed = w.steps_passed.passed; joins = w.steps_passed.joins ∙ ap (λ xs. w.steps_passed.passed ++ xs) (sym steps_at_end) }
+
   pub leaves_so : Leaves k0 k6 (record { write = w.writes.write; read = w.reads.read })
   leaves_so = record {
     reads = λ none. w.reads.reads (unfed_before ∙ none);
     reads_fed = λ some. sym unfed_before ∙ w.reads.reads_fed some;
-    waits = λ some. out_at_end ∙ by_load some w.loads ∙ left_at;
+    passed = passed_so;
+    waits = λ some. out_at_end ∙ by_load some w.loads.some w.loads.loads ∙ left_at;
     fed = w.feeds.fed;
     feeds = sym all_came ∙ w.feeds.feeds;
     some_fed = λ none some. w.feeds.some none (λ empty. some (sym all_came ∙ empty));
   }
     where
-      by_load : left_of w.writes.write k0.out ≢ [] → Loads k2 k3 → k3.out ≡ k2.out
-      by_load some (some_wait there same) = ap (λ (k : Kept). k.out) same
-      by_load some (puts none goes) = absurd (some (sym left_at ∙ none))
-      by_load some (puts_none none goes) = absurd (some (sym left_at ∙ none))
+      by_load : left_of w.writes.write k0.out ≢ [] → (b : Bool) → Loads k2 k3 b → k3.out ≡ k2.out
+      by_load some _ (some_wait there same) = ap (λ (k : Kept). k.out) same
+      by_load some _ (puts any none goes) = absurd (some (sym left_at ∙ none))
+      by_load some _ (puts_none any none goes) = absurd (some (sym left_at ∙ none))

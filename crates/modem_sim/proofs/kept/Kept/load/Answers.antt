@@ -1,11 +1,11 @@
-use Rattle.std.proofs.Common.{◌∙◌, ◌==◌, length, sym, subst}
+use Rattle.std.proofs.Common.{◌∙◌, ◌==◌, true, false, length, sym, subst}
 use Rattle.mux_station.specs.GivenFrames.{outgoing_of}
 use Rattle.modem_sim.specs.Sims.{Kept, KeptGoes}
 use Rattle.modem_sim.specs.Acts.{any_act, is_handing}
-use Rattle.modem_sim.specs.Stills.{HasLoaded, Loads, LoadsNone, ready}
-use Rattle.modem_sim.proofs.sims.LoadedFrames.{loaded_goes, loads_frame, loads_no_frame}
+use Rattle.modem_sim.specs.Stills.{Loads, LoadsBy, LoadsNone, ready}
+use Rattle.modem_sim.proofs.sims.LoadedFrames.{loaded_goes, loads_frame, loads_no_frame, loads_nothing_yet}
 use Rattle.modem_sim.proofs.sims.SimPasts.{kept_any, kept_core, fetched_none, gone_n1}
-use Rattle.modem_sim.proofs.sims.TurnParts.{loads_nothing, more_ready, none_of}
+use Rattle.modem_sim.proofs.sims.TurnParts.{loads_nothing, more_ready, none_of, some_of}
 use Rattle.modem_sim.proofs.kept.Kept.load.Goals as goal
 
 pub returns-in_err-offered-clause-goes : goal.returns-in_err-offered-clause-goes
@@ -39,6 +39,19 @@ returns-in_default-clause-goes c =
     (fetched_none old.core c.offer_all.new.self c.outgoing.follows.lender-at-none is_handing (length c.offer_all.new.self.station.queue == 0) c.offer_all.ensures.goes
     c.in_default.ensures.frame c.outgoing.follows.holds-at-none)))
 
+pub returns-then-not-is_empty-clause-loads : goal.returns-then-not-is_empty-clause-loads
+returns-then-not-is_empty-clause-loads c =
+    let old : Kept = record {
+      core = c.self.inside.core;
+      unfed = c.self.inside.unfed;
+      deframer = c.self.inside.deframer;
+      out = c.self.inside.out;
+      failed = c.self.inside.failed;
+      end = c.self.inside.end;
+    } in
+    let From : Kept → Type 0 = λ k. LoadsBy k k false in
+    subst From c.self.view_is (loads_nothing_yet old (some_of c.self.inside.out (sym c.is_empty.ensures ∙ c.if-not-is_empty.true)))
+
 pub returns-in_default-clause-loads : goal.returns-in_default-clause-loads
 returns-in_default-clause-loads c =
     let old : Kept = record {
@@ -49,9 +62,9 @@ returns-in_default-clause-loads c =
       failed = c.self.inside.failed;
       end = c.self.inside.end;
     } in
-    let From : Kept → Type 0 = λ k. Loads k (record old { core = c.outgoing.follows.lender-at-none }) in
+    let From : Kept → Type 0 = λ k. LoadsBy k (record old { core = c.outgoing.follows.lender-at-none }) c.in_ok-offered.offered in
     subst From c.self.view_is
-    (loads_no_frame old c.offer_all.new.self c.outgoing.follows.lender-at-none (length c.offer_all.new.self.station.queue == 0)
+    (loads_no_frame old c.offer_all.new.self c.outgoing.follows.lender-at-none c.in_ok-offered.offered (length c.offer_all.new.self.station.queue == 0)
     (none_of c.self.inside.out (sym c.is_empty.ensures ∙ c.if-not-is_empty.false)) c.in_ok-offered.ensures.hands c.in_default.ensures.frame c.outgoing.follows.holds-at-none)
 
 pub returns-in_default-clause-none : goal.returns-in_default-clause-none
@@ -80,12 +93,13 @@ returns-clause-goes c =
       end = c.self.inside.end;
     } in
     let new : Kept = record old { core = c.outgoing.follows.lender-at-none; out = c.put.new.self } in
+    let none = none_of c.self.inside.out (sym c.is_empty.ensures ∙ c.if-not-is_empty.false) in
+    let offers = c.in_ok-offered.ensures.hands in
+    let loads : Loads old new offers.some =
+    loads_frame old c.offer_all.new.self c.outgoing.follows.lender-at-none c.in_ok-offered.offered (length c.offer_all.new.self.station.queue == 0) (outgoing_of c.in-Some.outgoing) c.put.new.self
+    none offers c.in-Some.ensures.frame c.in-Some.ensures.short c.put.ensures.octets c.in-Some.ensures.past c.outgoing.follows.holds-at-none in
     let Goes_to : Kept → Type 0 = λ k. KeptGoes any_act k new in
-    subst Goes_to c.self.view_is
-    (loaded_goes old new
-    (loads_frame old c.offer_all.new.self c.outgoing.follows.lender-at-none (length c.offer_all.new.self.station.queue == 0) (outgoing_of c.in-Some.outgoing) c.put.new.self
-    (none_of c.self.inside.out (sym c.is_empty.ensures ∙ c.if-not-is_empty.false)) c.in_ok-offered.ensures.hands
-    c.in-Some.ensures.frame c.in-Some.ensures.short c.put.ensures.octets c.in-Some.ensures.past c.outgoing.follows.holds-at-none))
+    subst Goes_to c.self.view_is (loaded_goes old new offers.some loads)
 
 pub returns-clause-loads : goal.returns-clause-loads
 returns-clause-loads c =
@@ -98,25 +112,13 @@ returns-clause-loads c =
       end = c.self.inside.end;
     } in
     let new : Kept = record old { core = c.outgoing.follows.lender-at-none; out = c.put.new.self } in
-    let From : Kept → Type 0 = λ k. Loads k new in
-    subst From c.self.view_is
-    (loads_frame old c.offer_all.new.self c.outgoing.follows.lender-at-none (length c.offer_all.new.self.station.queue == 0) (outgoing_of c.in-Some.outgoing) c.put.new.self
-    (none_of c.self.inside.out (sym c.is_empty.ensures ∙ c.if-not-is_empty.false)) c.in_ok-offered.ensures.hands
-    c.in-Some.ensures.frame c.in-Some.ensures.short c.put.ensures.octets c.in-Some.ensures.past c.outgoing.follows.holds-at-none)
-
-pub returns-clause-moved : goal.returns-clause-moved
-returns-clause-moved c = λ _.
-    let old : Kept = record {
-      core = c.self.inside.core;
-      unfed = c.self.inside.unfed;
-      deframer = c.self.inside.deframer;
-      out = c.self.inside.out;
-      failed = c.self.inside.failed;
-      end = c.self.inside.end;
-    } in
-    let new : Kept = record old { core = c.outgoing.follows.lender-at-none; out = c.put.new.self } in
-    let From : Kept → Type 0 = λ k. HasLoaded k new in
-    subst From c.self.view_is (ready (more_ready c.self.inside.out c.put.new.self (none_of c.self.inside.out (sym c.is_empty.ensures ∙ c.if-not-is_empty.false)) c.put.ensures.some))
+    let none = none_of c.self.inside.out (sym c.is_empty.ensures ∙ c.if-not-is_empty.false) in
+    let offers = c.in_ok-offered.ensures.hands in
+    let loads : Loads old new offers.some =
+    loads_frame old c.offer_all.new.self c.outgoing.follows.lender-at-none c.in_ok-offered.offered (length c.offer_all.new.self.station.queue == 0) (outgoing_of c.in-Some.outgoing) c.put.new.self
+    none offers c.in-Some.ensures.frame c.in-Some.ensures.short c.put.ensures.octets c.in-Some.ensures.past c.outgoing.follows.holds-at-none in
+    let From : Kept → Type 0 = λ k. LoadsBy k new true in
+    subst From c.self.view_is (record { some = offers.some; loads = loads; has_loaded = λ _ _. ready (more_ready c.self.inside.out c.put.new.self none c.put.ensures.some); none = λ still. cc })
 
 pub invariant_of-self-in_default : goal.invariant_of-self-in_default
 invariant_of-self-in_default c =

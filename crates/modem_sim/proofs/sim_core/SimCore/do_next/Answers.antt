@@ -3,8 +3,8 @@ use Rattle.std.proofs.lemmas.Bool.Decides.{nat_tests}
 use Rattle.modem_sim.proofs.ends.EndAfterFrame.{either_way}
 use Rattle.modem_sim.specs.Acts.{is_step_act}
 use Rattle.modem_sim.specs.declared.script.Step.{Step}
-use Rattle.modem_sim.specs.Cores.{Core, Goes, HasNoneToDo, SaysNext, Waits, boxes_done, for_lines, for_openings, for_room, waits}
-use Rattle.modem_sim.proofs.ends.ScriptSteps.{does_goes, passes_goes, refused_any, step_at}
+use Rattle.modem_sim.specs.Cores.{Core, Goes, HasNoneToDo, HasPassed, SaysNext, Waits, boxes_done, for_lines, for_openings, for_room, waits}
+use Rattle.modem_sim.proofs.ends.ScriptSteps.{does_goes, passed_one, passes_goes, refused_any, step_at}
 use Rattle.modem_sim.proofs.sim_core.SimCore.do_next.Goals as goal
 use Rattle.modem_sim.proofs.sim_core.SimCore.do_next.Goals.{then-step-self-via-then-step-self, then-step-self-via-else-step-self+then-not-are_open}
 
@@ -126,3 +126,48 @@ returns-in_err-carry_out-clause-says c =
     } in
     let There : Core → Type 0 = λ o. SaysNext o in
     refused_any c.from_residual.result (subst There c.self.view_is says)
+
+pub returns-then-not-acts-clause-passed : goal.returns-then-not-acts-clause-passed
+returns-then-not-acts-clause-passed c =
+    let old : Core = record {
+      station = c.self.inside.station;
+      modem = c.self.inside.modem;
+      echo = c.self.inside.echo;
+      boxes = c.self.inside.channels.items;
+      come = c.self.inside.come;
+      steps = drop c.self.inside.next c.self.inside.steps.items;
+      closed = c.self.inside.closed;
+    } in
+    let step = c.in-Some.step.now in
+    let later = drop (c.self.inside.next + 1) c.self.inside.steps.items in
+    let Steps : List Step → Type 0 = λ xs. drop c.self.inside.next xs ≡ step ∷ drop (c.self.inside.next + 1) xs in
+    let first = subst Steps c.deref.ensures.value (step_at c.deref.result.now c.self.inside.next step c.in-Some.ensures.lookup.3.0 c.in-Some.ensures.lookup.1) in
+    let Passed : Core → Type 0 = λ o. HasPassed o (record old { steps = later }) in
+    subst Passed c.self.view_is (passed_one old (record old { steps = later }) step first)
+
+pub returns-clause-passed : goal.returns-clause-passed
+returns-clause-passed c =
+    let old : Core = record {
+      station = c.self.inside.station;
+      modem = c.self.inside.modem;
+      echo = c.self.inside.echo;
+      boxes = c.self.inside.channels.items;
+      come = c.self.inside.come;
+      steps = drop c.self.inside.next c.self.inside.steps.items;
+      closed = c.self.inside.closed;
+    } in
+    let step = c.in-Some.step.now in
+    let later = drop (c.self.inside.next + 1) c.self.inside.steps.items in
+    let new : Core = record {
+      station = c.carry_out.new.station;
+      modem = c.self.inside.modem;
+      echo = c.self.inside.echo;
+      boxes = c.carry_out.new.channels.items;
+      come = c.self.inside.come;
+      steps = later;
+      closed = c.self.inside.closed || c.closes_by-closes.result;
+    } in
+    let Steps : List Step → Type 0 = λ xs. drop c.self.inside.next xs ≡ step ∷ drop (c.self.inside.next + 1) xs in
+    let first = subst Steps c.deref.ensures.value (step_at c.deref.result.now c.self.inside.next step c.in-Some.ensures.lookup.3.0 c.in-Some.ensures.lookup.1) in
+    let Passed : Core → Type 0 = λ o. HasPassed o new in
+    subst Passed c.self.view_is (passed_one old new step first)

@@ -10,7 +10,7 @@ returns-in_err-offered-clause-goes c = goes_then is_handing c.args.self.now c.lo
 pub loop-number-preserved : goal.loop-number-preserved
 loop-number-preserved c =
     hands_more c.args.self.now c.loop-number.self c.offer_on.new.self c.loop-number.moved c.in_ok-offered.offered c.loop-number.number (let last = c.loop-number-test.true in omega (arith, last)) c.loop-number.invariant
-    c.offer_on.ensures.goes c.in_ok-offered.ensures.hands c.offer_on.ensures.others c.in_ok-offered.ensures.same c.in_ok-offered.ensures.none c.in_ok-offered.ensures.fewer c.in_ok-offered.ensures.steps c.in_ok-offered.ensures.n1
+    c.offer_on.ensures.goes c.in_ok-offered.ensures.hands c.offer_on.ensures.others c.in_ok-offered.ensures.same c.in_ok-offered.ensures.none c.in_ok-offered.ensures.steps c.in_ok-offered.ensures.n1
 
 pub loop-number-init : goal.loop-number-init
 loop-number-init c = hands_none c.args.self.now

@@ -1,6 +1,6 @@
 use Rattle.std.proofs.Common.{◌≡◌, ◌<◌, ◌∙◌, ap, subst, true, ℕ, Bool, IfOk, arith, length, slice_index_or, slice_set, sym}
 use Rattle.modem_sim.specs.Boxes.{fresh_box}
-use Rattle.modem_sim.specs.Cores.{Core, all_unhanded}
+use Rattle.modem_sim.specs.Cores.{Core, holds_over}
 use Rattle.modem_sim.proofs.ends.EndAfterFrame.{any_default}
 use Rattle.modem_sim.proofs.ends.OfferedPieces.{fewer_released}
 use Rattle.modem_sim.proofs.sim_core.SimCore.release.Goals as goal
@@ -12,8 +12,8 @@ returns-clause-fewer c =
     let boxes = c.self.inside.channels.items in
     let place : c.from.result ≡ d = omega arith in
     let inside : d < length boxes = let all = c.self.invariant.0 in let small = c.args.dlci.in_range in omega arith in
-    let Fewer : Core → Type 0 = λ o. IfOk c.release.result (λ (moved : Bool). moved ≡ true → all_unhanded (slice_set boxes c.from.result c.release.new.self) < all_unhanded o.boxes) in
-    let At : ℕ → Type 0 = λ i. IfOk c.release.result (λ (moved : Bool). moved ≡ true → all_unhanded (slice_set boxes i c.release.new.self) < all_unhanded boxes) in
+    let Fewer : Core → Type 0 = λ o. IfOk c.release.result (λ (moved : Bool). moved ≡ true → holds_over (slice_set boxes c.from.result c.release.new.self) < holds_over o.boxes) in
+    let At : ℕ → Type 0 = λ i. IfOk c.release.result (λ (moved : Bool). moved ≡ true → holds_over (slice_set boxes i c.release.new.self) < holds_over boxes) in
     subst Fewer c.self.view_is
     (subst At (sym place)
     (fewer_released boxes d b c.release.new.self c.release.result inside
