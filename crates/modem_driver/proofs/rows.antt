@@ -2,3 +2,4 @@
 pub mod HeadlineRowFacts
 pub mod EndingRowFacts
 pub mod PollRowFacts
+pub mod LivePollRowFacts

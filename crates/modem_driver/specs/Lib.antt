@@ -36,3 +36,4 @@ pub mod Placing
 pub mod BacklogChecks
 pub mod PollLaws
 pub mod PollRows
+pub mod LivePollRows

@@ -11,6 +11,7 @@ ghost use Rattle.modem_driver.specs.declared.event.Event.{Event};
 ghost use Rattle.modem_history.specs.Acts.{Act};
 ghost use Rattle.modem_history.specs.Sessions.{LineView};
 ghost use Rattle.modem_driver.specs.PollRows.{AreNoPolls, IsLostSession};
+ghost use Rattle.modem_driver.specs.LivePollRows.{AreNoLivePolls, AsksPerTurn, IsNewSession, NoTickInAPoll, NoTickIsAPoll, ReadsTheLine};
 ghost use Rattle.modem_driver.specs.PollLaws.{RunsInHistories, LostFails, NoLossIsKeptBack, NoLossIsStopped, CallsTheLine, LostGivesFailed};
 
 /// The requests taken, frames got, ticks and losses of a replay are those that its events bring, in their order, and no
@@ -66,9 +67,11 @@ pub fn endings()
 
 /// The turns of a poll, over a line that shows itself: whatever history the session had, each session on the way fits that
 /// history and what came since, and each turn is one in it. So where the line is lost nothing but Failed comes of them, no
-/// loss of the line is kept back or given as Stopped, and where octets wait the line is called: a body that makes no turn, or
-/// ticks instead, makes no poll.
-#[tactic(auto, using(crate::proofs::sessions::PollLaws::runs_in_histories, crate::proofs::sessions::PollLaws::lost_fails, crate::proofs::sessions::PollLaws::no_loss_is_kept_back, crate::proofs::sessions::PollLaws::no_loss_is_stopped, crate::proofs::sessions::PollLaws::calls_the_line, crate::proofs::sessions::PollLaws::lost_gives_failed, crate::proofs::rows::PollRowFacts::is_lost_session, crate::proofs::rows::PollRowFacts::no_polls))]
+/// loss of the line is kept back or given as Stopped, and where octets wait, or all that came were fed, the line is called: a
+/// body that makes no turn, or ticks instead, makes no poll. No history has a tick more behind a poll, and the desk is asked
+/// in vain at most 64 times. So of a session that has just begun six bodies make no poll: no turn, a tick, a loss kept back or
+/// given as Stopped, 65 turns, and a turn behind one that found nothing to do.
+#[tactic(auto, using(crate::proofs::sessions::PollLaws::runs_in_histories, crate::proofs::sessions::PollLaws::lost_fails, crate::proofs::sessions::PollLaws::no_loss_is_kept_back, crate::proofs::sessions::PollLaws::no_loss_is_stopped, crate::proofs::sessions::PollLaws::calls_the_line, crate::proofs::sessions::PollLaws::lost_gives_failed, crate::proofs::rows::PollRowFacts::is_lost_session, crate::proofs::rows::PollRowFacts::no_polls, crate::proofs::rows::LivePollRowFacts::reads_the_line, crate::proofs::rows::LivePollRowFacts::no_tick_is_a_poll, crate::proofs::rows::LivePollRowFacts::no_tick_in_a_poll, crate::proofs::rows::LivePollRowFacts::asks_per_turn, crate::proofs::rows::LivePollRowFacts::is_new_session, crate::proofs::rows::LivePollRowFacts::no_live_polls))]
 pub fn polls()
     ensures histories { RunsInHistories (λ (l : LineView). l) }
     ensures lost { LostFails (λ (l : LineView). l) }
@@ -78,4 +81,10 @@ pub fn polls()
     ensures gives { LostGivesFailed (λ (l : LineView). l) }
     ensures lost_session { IsLostSession }
     ensures no_polls { AreNoPolls }
+    ensures read { ReadsTheLine (λ (l : LineView). l) }
+    ensures no_tick { NoTickIsAPoll (λ (l : LineView). l) }
+    ensures no_tick_more { NoTickInAPoll (λ (l : LineView). l) }
+    ensures asked { AsksPerTurn (λ (l : LineView). l) }
+    ensures new_session { IsNewSession }
+    ensures no_live_polls { AreNoLivePolls }
 {}
