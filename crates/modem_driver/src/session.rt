@@ -124,7 +124,7 @@ impl<L: SerialLine, R: Wait + Drop> Session<L, R> {
     }
 
     /// The line, lent. The session fits afterwards what it fitted before where what was done through
-    /// the loan left the octets received and sent and both counts as they were.
+    /// the loan left the octets received and sent and all counts as they were.
     pub fn line_mut(&mut self) -> &mut L
         ensures value { result.now ≡ self.old.line }
         ensures* lent { sem 𝓛 (Lends (the_row L.row R.row L.SerialLine) L.row self.entry result

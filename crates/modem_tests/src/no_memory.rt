@@ -5,6 +5,7 @@ mod desk;
 mod driver;
 mod frames;
 mod lines;
+mod sims;
 mod station;
 mod texts;
 mod typed;

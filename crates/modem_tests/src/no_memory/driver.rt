@@ -3,7 +3,7 @@ use crate::driver::command;
 use crate::no_memory::{begin, end};
 use crate::station::dlci;
 use at_text::UrcKind;
-use modem_desk::Desk;
+use modem_desk::{Caller, Desk};
 use modem_driver::*;
 use mux_frame::{FrameView, Kind};
 use mux_station::ChannelState;
@@ -106,22 +106,64 @@ fn ready<A: Drop, E: Drop>(rt: &impl Abort, made: Result<A, E>) -> A {
     }
 }
 
-fn new_session<R: Wait + Abort + Drop + Copy>(rt: R, alloc: Global) -> Session<CutLine, R> {
+// What a session is begun with.
+type Begun<R> = (Session<CutLine, R>, Vec<Caller>);
+
+fn new_session<R: Wait + Abort + Drop + Copy>(rt: R, alloc: Global) -> Begun<R> {
     let line = ready(&rt, CutLine::new(alloc, b"", &[], &[], 64));
-    let (driver, _, _) = ready(&rt, Desk::open(alloc, 1, &[]));
-    ready(&rt, Session::new(rt, alloc, line, driver, 31))
+    let (driver, callers, _) = ready(&rt, Desk::open(alloc, 1, &[UrcKind::Ring]));
+    (
+        ready(&rt, Session::new(rt, alloc, line, driver, 31)),
+        callers,
+    )
+}
+
+// The octets come, and the session turns until it gets them.
+fn octets_come<R: Wait + Abort + Drop + Copy>(
+    rt: &R,
+    session: &mut Session<CutLine, R>,
+    octets: &[u8],
+) {
+    assert!(rt; session.line_mut().put(octets) == octets.len());
+    for _ in 0..3 {
+        assert!(rt; session.turn().is_ok());
+    }
+}
+
+// 0 and 1 are opened, a command is in hand, and a RING has come.
+fn keep_busy<R: Wait + Abort + Drop + Copy>(
+    rt: &R,
+    alloc: Global,
+    session: &mut Session<CutLine, R>,
+    caller: &mut Caller,
+) -> Result<(), Fail> {
+    for number in 0..2 {
+        assert!(rt; caller.submit(rt, Ask::OpenChannel(dlci(number)?)).is_ok());
+    }
+    octets_come(rt, session, b"");
+    octets_come(rt, session, b"\xF9\x03\x73\x01\xD7\xF9");
+    octets_come(rt, session, b"\xF9\x07\x73\x01\x15\xF9");
+    assert!(rt; caller.submit(rt, command(alloc, b"AT+CSQ")?).is_ok());
+    octets_come(rt, session, b"\xF9\x05\xEF\x11\r\nRING\r\n\x4A\xF9");
+    Ok(())
 }
 
 // A session's line is lent, and the session ends, between marks.
-fn ends_a_session<R: Wait + Abort + Print + Drop + Copy>(rt: R, alloc: Global) {
-    let mut session = new_session(rt, alloc);
+fn ends_a_session<R: Wait + Abort + Print + Drop + Copy>(
+    rt: R,
+    alloc: Global,
+) -> Result<(), Fail> {
+    let (mut session, mut callers) = new_session(rt, alloc);
+    assert!(&rt; callers.len() == 1);
+    keep_busy(&rt, alloc, &mut session, &mut callers[0])?;
     begin(&rt, "Session::line_mut");
     let put = session.line_mut().put(b"\xF9");
     end(&rt);
     begin(&rt, "Session::finish");
     let finished = session.finish();
     end(&rt);
-    assert!(&rt; put == 1 && finished.in_hand.is_empty());
+    assert!(&rt; put == 1 && finished.in_hand.len() == 1 && finished.unannounced.len() == 1);
+    Ok(())
 }
 
 #[test]
@@ -131,8 +173,7 @@ fn calls_that_take_no_memory(rt: HostRuntime) -> Result<(), Fail> {
     command_leaves(&rt, alloc, &mut core)?;
     drop(core);
     enters(&rt, alloc)?;
-    ends_a_session(rt, alloc);
-    Ok(())
+    ends_a_session(rt, alloc)
 }
 
 // A line comes in a frame of its own, between marks: so many acts come of it.

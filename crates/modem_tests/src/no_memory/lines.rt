@@ -38,6 +38,21 @@ fn thread_lines<R: Print>(rt: &R, near: &mut ThreadLine, far: &mut ThreadLine) {
     end(rt);
 }
 
+// Octets are read and used.
+fn buffer_reads<R: Abort + Print>(rt: &R, line: &mut CutLine, buffer: &mut ReadBuffer) {
+    begin(
+        rt,
+        "ReadBuffer::read, ReadBuffer::is_empty, ReadBuffer::as_slice, ReadBuffer::pass",
+    );
+    if buffer.is_empty() {
+        let _ = buffer.read(line);
+    }
+    let came = buffer.as_slice().len();
+    buffer.pass(came);
+    end(rt);
+    assert!(rt; came == 6);
+}
+
 const CUTS: [Cut; 3] = [Cut::Upto(3), Cut::Fault, Cut::Upto(1)];
 
 fn in_memory<R: Abort + Print>(rt: &R, alloc: Global) -> Result<(), Fail> {
@@ -46,6 +61,9 @@ fn in_memory<R: Abort + Print>(rt: &R, alloc: Global) -> Result<(), Fail> {
     };
     let mut far = CutLine::new(alloc, b"", &[], &[], 4096)?;
     cut_lines(rt, &mut near, &mut far);
+    let mut line = CutLine::new(alloc, b"abcdef", &[], &[], 64)?;
+    let mut buffer = ReadBuffer::new(alloc)?;
+    buffer_reads(rt, &mut line, &mut buffer);
     Ok(())
 }
 

@@ -120,10 +120,38 @@ fn controls<R: Abort + Print>(rt: &R, station: &mut Station) -> Result<(), Fail>
     Ok(())
 }
 
+// A frame is put in place to be written.
+fn is_written<R: Abort + Print>(
+    rt: &R,
+    buffer: &mut WriteBuffer,
+    dlci: Dlci,
+) {
+    begin(
+        rt,
+        "WriteBuffer::put, WriteBuffer::is_empty, WriteBuffer::as_slice, WriteBuffer::pass",
+    );
+    if buffer.is_empty() {
+        buffer.put(FrameView {
+            dlci,
+            kind: Kind::Uih,
+            cr: true,
+            pf: false,
+            info: b"AT\r",
+        });
+    }
+    let length = buffer.as_slice().len();
+    buffer.pass(length);
+    end(rt);
+    assert!(rt; length == 9);
+}
+
 #[test]
 fn calls_that_take_no_memory(rt: HostRuntime) -> Result<(), Fail> {
     let mut station = Station::new(rt.alloc(), Role::Initiator, 31)?;
     frames_come(&rt, &mut station)?;
     data_waits(&rt, &mut station)?;
-    controls(&rt, &mut station)
+    controls(&rt, &mut station)?;
+    let mut buffer = WriteBuffer::new(rt.alloc())?;
+    is_written(&rt, &mut buffer, dlci(1)?);
+    Ok(())
 }
