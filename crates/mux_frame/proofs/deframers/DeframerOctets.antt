@@ -10,7 +10,7 @@ use Rattle.mux_frame.specs.Reading.{after_flag}
 use Rattle.circular_buffer.specs.Buffer.{Buffer, buffer}
 use Rattle.mux_frame.specs.Places.{from_flag}
 use Rattle.mux_frame.specs.Judging.{Header, Verdict, unfinished, refused, fits, by_header, verdict_on, IsRefused, Means}
-use Rattle.mux_frame.specs.Deframing.{decision_on, next_in, SameReading}
+use Rattle.mux_frame.specs.Deframing.{decision_on, SameReading}
 use Rattle.mux_frame.specs.Judged.{IsAtHand, IsCandidate, IsPassed, Settles}
 use Rattle.mux_frame.specs.Laws.{AreOctets}
 use Rattle.mux_frame.proofs.candidates.Verdicts.{verdict_means}
@@ -178,29 +178,10 @@ no_fitting h e = cc
 pub fits_stays : (n1 : ℕ) (u : List ℕ) (h : Header) → fits h ≡ decision_on n1 u → decision_on n1 u ≢ refused
 fits_stays n1 u h e k = no_fitting h (e ∙ k)
 
-no_verdict : (n1 : ℕ) → unfinished ≡ verdict_on n1 []
-unfolding verdict_on by_header
-no_verdict n1 = refl
-
--- nothing behind a flag is unfinished
-pub empty_unfinished : (n1 : ℕ) (t : List ℕ) → true ≡ (length t == 0) → unfinished ≡ verdict_on n1 t
-empty_unfinished n1 [] e = no_verdict n1
-empty_unfinished n1 (x ∷ t) e = let z = eqb-true (length (x ∷ t)) 0 (sym e) in absurd (omega (arith, z))
-
 -- the first flag in one slice
 pub flag_in_slice : (xs : List ℕ) (r : Option ℕ) (n : ℕ) → IsFirstByte (is_byte flag) xs r → n ≡ unwrap_or r (length xs) → drop n xs ≡ from_flag xs
 flag_in_slice xs None n h e = ap (λ i. drop i xs) e ∙ drop_all (length xs) xs (omega arith) ∙ sym (from_flag-none xs (found_none xs h))
 flag_in_slice xs (Some k) n h e = ap (λ i. drop i xs) e ∙ (flag_in_front xs [] xs k (append-nil xs) h)
-
-empty_stays : (n1 : ℕ) (u : List ℕ) → true ≡ (length u == 0) → decision_on n1 u ≢ refused
-empty_stays n1 [] e k = no_refused k
-empty_stays n1 (x ∷ u) e k = let z = eqb-true (length (x ∷ u)) 0 (sym e) in omega (arith, z)
-
--- where there are no octets, no frame is at hand
-pub empty_next : (n1 : ℕ) (u : List ℕ) → true ≡ (length u == 0) → next_in n1 u ≡ None
-unfolding next_in
-empty_next n1 [] e = refl
-empty_next n1 (x ∷ u) e = let z = eqb-true (length (x ∷ u)) 0 (sym e) in absurd (omega (arith, z))
 
 -- what is passed is dropped
 pub settles : (n1 start : ℕ) (old new : Buffer ℕ) (o : Option ℕ)

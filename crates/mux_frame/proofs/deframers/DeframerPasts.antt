@@ -123,12 +123,6 @@ unfolding next_in
 undecided_short n1 [] o d e = omega arith
 undecided_short n1 (x ∷ t) o d e = undecided-at n1 x t (x == flag) (λ i. o (suc i)) d e
 
--- where a frame is at hand, there are octets
-pub next_some : (n1 : ℕ) (u : List ℕ) (f : Frame) → next_in n1 u ≡ Some f → u ≢ []
-unfolding next_in
-next_some n1 [] f e k = none_some f e
-next_some n1 (x ∷ t) f e k = cc
-
 -- Whole frames at the front.
 
 front-at : (n1 x : ℕ) (t : List ℕ) (h : Header) (b : Bool) → (x == flag) ≡ b → AreOctets t → fits h ≡ (if b then verdict_on n1 t else refused) → IsFront n1 (x ∷ t) h

@@ -6,11 +6,9 @@ use Rattle.std.proofs.lemmas.List.{append-nil, drop_all, drop-append-le, length-
 use Rattle.std.proofs.Math.Seq.{drop-append-add}
 use Rattle.mux_frame.specs.Spelling.{flag}
 use Rattle.mux_frame.specs.Places.{from_flag}
-use Rattle.mux_frame.specs.Judging.{Header, Verdict, unfinished, refused, fits, by_header, by_end, by_rest, verdict_on}
+use Rattle.mux_frame.specs.Judging.{Header, Verdict, fits, by_header, by_end, by_rest, verdict_on}
 use Rattle.mux_frame.specs.Deframing.{decision_on}
-use Rattle.mux_frame.specs.Judged.{IsCandidate, verdict_seen}
-use Rattle.mux_frame.specs.declared.judge.Verdict.{Verdict as VerdictValue}
-use Rattle.mux_frame.specs.declared.judge.Verdict.TheVariants.{Unfinished, Refused, Fits}
+use Rattle.mux_frame.specs.Judged.{IsCandidate}
 use Rattle.mux_frame.proofs.deframers.DeframerOctets.{decision_behind}
 
 -- Flags.
@@ -50,20 +48,10 @@ flag_in_second n m xs ys s e d =
 
 -- Decisions and verdicts.
 
--- only one value is seen as unfinished
-pub seen_finished : (v : VerdictValue) → (v ≡ Unfinished → ⊥) → verdict_seen v ≢ unfinished
-seen_finished Unfinished h e = h refl
-seen_finished Refused h e = cc
-seen_finished (Fits x) h e = cc
-
 -- where there is no second slice, the first one tells
 pub decision_alone : (n1 : ℕ) (xs ys : List ℕ) (v : Verdict) → v ≡ decision_on n1 xs → true ≡ (length ys == 0) → v ≡ decision_on n1 (xs ++ ys)
 decision_alone n1 xs [] v e h = e ∙ ap (decision_on n1) (sym (append-nil xs))
 decision_alone n1 xs (y ∷ ys) v e h = let z = eqb-true (length (y ∷ ys)) 0 (sym h) in absurd (omega (arith, z))
-
-pub verdict_alone : (n1 : ℕ) (xs ys : List ℕ) (v : Verdict) → v ≡ verdict_on n1 xs → true ≡ (length ys == 0) → v ≡ verdict_on n1 (xs ++ ys)
-verdict_alone n1 xs [] v e h = e ∙ ap (verdict_on n1) (sym (append-nil xs))
-verdict_alone n1 xs (y ∷ ys) v e h = let z = eqb-true (length (y ∷ ys)) 0 (sym h) in absurd (omega (arith, z))
 
 -- a candidate in the first slice goes on in the second
 pub candidate_later : (b : Bool) (xs ys text s : List ℕ) → IsCandidate xs b text → xs ++ ys ≡ s → IsCandidate s b (text ++ ys)
@@ -77,15 +65,6 @@ some_octet x y e = cc
 
 nothing_there : (x : ℕ) → Some x ≡ None → ⊥
 nothing_there x e = cc
-
-other-at : (n1 y : ℕ) (t : List ℕ) (b : Bool) → (y == flag) ≡ b → (y ≡ flag → ⊥) → refused ≡ (if b then verdict_on n1 t else refused)
-other-at n1 y t true e h = absurd (h (eqb-true y flag e))
-other-at n1 y t false e h = refl
-
--- with another octet than a flag at the front, no frame begins
-pub decision_other : (n1 x : ℕ) (u : List ℕ) → Some x ≡ slice_get u 0 → (x ≡ flag → ⊥) → refused ≡ decision_on n1 u
-decision_other n1 x [] e h = absurd (nothing_there x e)
-decision_other n1 x (y ∷ t) e h = other-at n1 y t (y == flag) refl (λ k. h (some_octet x y e ∙ k))
 
 -- the decision, where the first four octets behind a flag tell
 pub decision_ends : (n1 f : ℕ) (u : List ℕ) (x y l m : Option ℕ) (v : Verdict) → Some f ≡ slice_get u 0 → f ≡ flag → x ≡ slice_get u 1 → y ≡ slice_get u 2 → l ≡ slice_get u 3 → m ≡ slice_get u 4 → v ≡ by_header n1 x y l m → by_rest (drop 1 u) v ≡ v → v ≡ decision_on n1 u
