@@ -11,6 +11,9 @@ use crate::write::FLAG;
 use circular_buffer::HeapCircularBuffer;
 use memchr::memchr;
 
+/// Two flags, address, control and two length octets.
+const LONGEST_HEAD: usize = 6;
+
 #[inline(always)]
 /// The place of the first flag in one slice, or its length where there is none. It most often
 /// stands at the front.
@@ -183,7 +186,7 @@ fn candidate(octets: &[u8], place: usize) -> Option<(bool, &[u8])>
     ensures { IfSome result (λ c. IsCandidate (drop place octets.now) c.0 c.1.now) }
 {
     let (_, left) = octets.split_at(place);
-    if left.len() < 6 {
+    if left.len() < LONGEST_HEAD {
         return None;
     }
     match left.split_first() {
