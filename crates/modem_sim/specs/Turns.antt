@@ -101,9 +101,9 @@ abbrev pub left_of : Option Write → List ℕ → List ℕ
 left_of None out = out
 left_of (Some w) out = drop w.count out
 
--- Steps were done or passed over in their order. The line was read just where all octets that had come were fed. Octets that it didn't take wait for the next
--- turn. Of those that have come the first were fed, one at least where there was one, unless a frame is at
--- hand.
+-- Steps were done or passed over in their order. The line was read just where all octets that had come were fed.
+-- Octets that it didn't take wait for the next turn. Of those that have come the first were fed, one at least
+-- where there was one, unless a frame is at hand.
 pub record Leaves (old new : Kept) (t : Exchange) : Type 0 where
   pub passed : HasPassed old.core new.core
   pub reads : old.unfed ≡ [] → t.read ≢ None
@@ -145,7 +145,8 @@ pub record HandsOn (e : End) (past now : List Act) : Type 0 where
 -- that isn't stopped
 pub record NoneIsThere (past : List Act) : Type 0 where
   pub queue : sending.queue (wire past) ≡ []
-  pub sent : (d : ℕ) → d < 62 → (d == 0) ≡ false → is_open_at_modem d past ≡ true → is_stopped Responder d (wire past) ≡ false
+  pub sent : (d : ℕ) → d < 62 → (d == 0) ≡ false → is_open_at_modem d past ≡ true
+      → is_stopped Responder d (wire past) ≡ false
       → data_out Responder d (wire past) ≡ offered Responder d (wire past)
 
 -- Where the line left no octets, the next frame is put into the output, if there is one.
@@ -171,8 +172,8 @@ pub data TakesAtHand (e : End) (hand : Option Frame) (past now : List Act) : Typ
       (f : Frame) → hand ≡ Some f → has_room_for e past f ≡ true
       → now ≡ after_wire_act e past (station.Got f) → TakesAtHand e hand past now
 
--- a turn that had not ended before did all of this once: the steps that are due, the next frame where the line
--- left no octets, the frame at hand
+-- The turn of one that hadn't ended did each of these once, in this order: the steps that are due; the next frame,
+-- where the line left no octets; the frame at hand.
 pub record DoesEach (e : End) (old new : Kept) (t : Exchange) (past now : List Act) : Type 0 where
   pub stepped : List Act
   pub loaded : List Act

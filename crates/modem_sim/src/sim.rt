@@ -16,7 +16,8 @@ use std::marker::Model;
 /// What a turn came to.
 #[derive(Clone, Copy, Debug, PartialEq, Eq)]
 pub enum SimTurn {
-    /// Something was done.
+    /// Octets came, went or were fed, a frame was got, octets were handed on, a step was done or passed over, a hold was let
+    /// go, or a frame was put into the output.
     Moved,
     /// There was nothing to do.
     Idle,
