@@ -51,7 +51,12 @@ pub record TakeTheirSteps : Type 0 where
 
 -- ## Steps that are left out
 
--- whatever it exchanged with its line and its desk, it is no turn, or leaves a step out
+-- by some exchange with its line and its desk it ends in its answer
+pub record SeemsATurn (row : TurnRow) : Type 0 where
+  pub exchange : Exchange
+  pub turn : IsTurn beginning row.old row.new exchange (after [] row.before) row.acts row.says
+
+-- and yet, whatever it exchanged, it leaves a step out
 abbrev pub SkipsAStep : TurnRow → Type 0
 SkipsAStep row =
     (t : Exchange) → IsTurn beginning row.old row.new t (after [] row.before) row.acts row.says
@@ -97,10 +102,14 @@ rings_wait left unwritten =
       unannounced = replicate 256 ring;
     }
 
+-- the first RING that waits was handed back
+abbrev pub ring_back : SessionView → SessionView
+ring_back v = record v { desk = record v.desk { announced_back = 1 ∷ 0 ∷ [] } }
+
 abbrev pub looks_at_no_backlog : TurnRow
 looks_at_no_backlog = record {
   old = rings_wait (take 9 msc_one) last_flag;
-  new = at_calls 42 (counting 1 0 1 none_back (rings_wait msc_one []));
+  new = at_calls 42 (ring_back (counting 1 0 1 none_back (rings_wait msc_one [])));
   before = rings_came;
   acts = [];
   says = Moved;

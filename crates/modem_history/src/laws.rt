@@ -13,7 +13,7 @@ ghost use Rattle.modem_history.specs.SessionRows.{Each, HasNone, IsRight, IsWron
 ghost use Rattle.modem_history.specs.GoodTurns.{AreRightTurns};
 ghost use Rattle.modem_history.specs.BadTurns.{wrong_turns};
 ghost use Rattle.modem_history.specs.BadExchanges.{IsWrongExchange, wrong_exchanges};
-ghost use Rattle.modem_history.specs.EveryTurnRows.{SkipsAStep, TakeTheirSteps, skipping_turns};
+ghost use Rattle.modem_history.specs.EveryTurnRows.{SeemsATurn, SkipsAStep, TakeTheirSteps, skipping_turns};
 ghost use Rattle.modem_history.specs.BacklogRows.{CountsByConnection, IsHeldOrFull, IsHeldRight, IsHeldWrong, IsNeither, MayHoldAndFree, held_or_full, neither_held_nor_full, rightly_held, wrongly_held};
 ghost use Rattle.modem_history.specs.FaultRows.{AreRightFaults, IsRightTick, IsWrongFault, IsWrongTick, right_ticks, wrong_faults, wrong_ticks};
 ghost use Rattle.modem_history.specs.EntryRows.{IsRightEntry, IsWrongEntry, right_entries, wrong_entries};
@@ -138,7 +138,7 @@ pub fn sessions()
 /// those that don't fit what happened, don't mean what they say, don't go with what line and desk answered, or leave
 /// out a step: nothing offered to the line, no room to read into, no request asked for, no look at a backlog, half a
 /// frame, an outcome that isn't offered.
-#[tactic(auto, using(crate::proofs::rows::SessionRowFacts::all_right, crate::proofs::rows::SessionRowFacts::all_wrong, crate::proofs::law_proofs::SessionLaws::kept_has_none, crate::proofs::rows::GoodTurnFacts::are_right, crate::proofs::rows::BadTurnFacts::all_wrong_turns, crate::proofs::rows::BadExchangeFacts::all_wrong_exchanges, crate::proofs::rows::EveryTurnRowFacts::take_their_steps, crate::proofs::rows::EveryTurnRowFacts::all_skip, crate::proofs::rows::EntryRowFacts::all_right_entries, crate::proofs::rows::EntryRowFacts::all_wrong_entries, crate::proofs::rows::EntryRowFacts::all_right_ends, crate::proofs::rows::EntryRowFacts::all_wrong_ends, crate::proofs::rows::FaultRowFacts::are_right_faults, crate::proofs::rows::FaultRowFacts::all_wrong_faults, crate::proofs::rows::FaultRowFacts::all_right_ticks, crate::proofs::rows::FaultRowFacts::all_wrong_ticks))]
+#[tactic(auto, using(crate::proofs::rows::SessionRowFacts::all_right, crate::proofs::rows::SessionRowFacts::all_wrong, crate::proofs::law_proofs::SessionLaws::kept_has_none, crate::proofs::rows::GoodTurnFacts::are_right, crate::proofs::rows::BadTurnFacts::all_wrong_turns, crate::proofs::rows::BadExchangeFacts::all_wrong_exchanges, crate::proofs::rows::EveryTurnRowFacts::take_their_steps, crate::proofs::rows::EveryTurnRowFacts::all_seem, crate::proofs::rows::EveryTurnRowFacts::all_skip, crate::proofs::rows::EntryRowFacts::all_right_entries, crate::proofs::rows::EntryRowFacts::all_wrong_entries, crate::proofs::rows::EntryRowFacts::all_right_ends, crate::proofs::rows::EntryRowFacts::all_wrong_ends, crate::proofs::rows::FaultRowFacts::are_right_faults, crate::proofs::rows::FaultRowFacts::all_wrong_faults, crate::proofs::rows::FaultRowFacts::all_right_ticks, crate::proofs::rows::FaultRowFacts::all_wrong_ticks))]
 pub fn session_examples()
     ensures fit { Each IsRight right_sessions }
     ensures unfit { Each IsWrong wrong_sessions }
@@ -147,6 +147,7 @@ pub fn session_examples()
     ensures wrong_turns { Each IsWrongTurn wrong_turns }
     ensures wrong_exchanges { Each IsWrongExchange wrong_exchanges }
     ensures steps { TakeTheirSteps }
+    ensures seeming { Each SeemsATurn skipping_turns }
     ensures skipped { Each SkipsAStep skipping_turns }
     ensures faults { AreRightFaults }
     ensures wrong_faults { Each IsWrongFault wrong_faults }

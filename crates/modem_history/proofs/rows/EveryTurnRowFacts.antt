@@ -2,7 +2,7 @@
 use Rattle.std.proofs.Common.{append-nil, ap, sym, ◌∙◌, subst, arith, eqb-true, inl, inr, lit<, lit≤}
 use Rattle.std.proofs.lemmas.List.{append_cancel_left, length-drop, get_or_past}
 use Rattle.std.proofs.lemmas.Bool.{and_parts}
-use Rattle.std.specs.Prelude.{◌≡◌, ◌⊎◌, ℕ, zero, suc, ◌-◌, ◌<◌, ◌≤◌, ◌==◌, Bool, true, false, List, [], ◌∷◌, ◌++◌, length, take, drop, map, filter, refl, Option, Some, None, if◌then◌else◌}
+use Rattle.std.specs.Prelude.{◌≡◌, ◌⊎◌, ℕ, zero, suc, ◌-◌, ◌<◌, ◌≤◌, ◌==◌, Bool, true, false, List, [], ◌∷◌, ◌++◌, length, take, drop, map, filter, replicate, refl, Option, Some, None, if◌then◌else◌}
 use Rattle.std.specs.List.{list_all}
 use Rattle.mux_frame.specs.CheckOctet.{check_octet_of}
 use Rattle.mux_frame.specs.Spelling.{body_of}
@@ -12,14 +12,15 @@ use Rattle.modem_desk.specs.declared.request.Outcome.{Outcome}
 use Rattle.modem_desk.specs.declared.request.Request.{Request}
 use Rattle.modem_desk.specs.declared.request.Urc.{Urc}
 use Rattle.modem_history.specs.Acts.{Act, Heard, Given, after}
+use Rattle.modem_history.specs.Kinds.{of_kind}
 use Rattle.modem_history.specs.Sessions.{SessionView, heard_as, at_place, caller_outcomes, backlog_in}
-use Rattle.modem_history.specs.Turns.{Exchange, Read, Write, HoldsWhereRoom, counted, octets_read, request_given}
+use Rattle.modem_history.specs.Turns.{Exchange, Read, Write, HoldsWhereRoom, counted, octets_read, request_given, HandsBack, IsOffer, IsTurn}
 use Rattle.modem_history.specs.EveryTurn.{OffersWhatWaits, GivesSome, ReadsOn, ReadsWhereFed, acts_out, asked_in_vain, count_at, count_taken, counted_none, empty_after, gets, goes_in, is_check, octets_offered, octets_out, stalled_after}
-use Rattle.modem_history.specs.SessionRows.{TurnRow, Each, beginning, sabm_zero, first_request, opened_zero, outcome_of}
+use Rattle.modem_history.specs.SessionRows.{TurnRow, Each, beginning, sabm_zero, first_request, opened_zero, outcome_of, last_flag, lf_octet, ring, ua_zero}
 use Rattle.modem_history.specs.GoodTurns.{exchanged, offers, outcome_back, reads_none, writes_on, takes_request, gets_frame, places_outcome, gives_on_in_vain, waits_for_zero}
-use Rattle.modem_history.specs.EveryTurnRows.{StepsBy, SkipsAStep, TakeTheirSteps, raising, none_back, offers_nothing, reads_without_room, asks_for_none, looks_at_no_backlog, puts_half, leaves_an_outcome, skipping_turns}
+use Rattle.modem_history.specs.EveryTurnRows.{SeemsATurn, StepsBy, SkipsAStep, TakeTheirSteps, raising, none_back, offers_nothing, reads_without_room, asks_for_none, looks_at_no_backlog, puts_half, leaves_an_outcome, skipping_turns}
 use Rattle.modem_history.proofs.rows.SessionTests.{octets_differ, other_callers}
-use Rattle.modem_history.proofs.rows.TurnTests.{none_held}
+use Rattle.modem_history.proofs.rows.TurnTests.{none_held, of_kinds, one_back, turn_by}
 
 -- ## Steps that are taken
 
@@ -337,3 +338,61 @@ leaves_an_outcome_skips t turn steps =
 
 pub all_skip : Each SkipsAStep skipping_turns
 all_skip = (offers_nothing_skips, (reads_without_room_skips, (asks_for_none_skips, (looks_at_no_backlog_skips, (puts_half_skips, (leaves_an_outcome_skips, tt))))))
+
+-- ## They seem turns
+
+none_handed_back : (t : Exchange) → t.still_told ≡ [] → t.told_back ≡ [] → t.still_heard ≡ [] → t.heard_back ≡ [] → HandsBack t
+none_handed_back t e1 e2 e3 e4 = record {
+  outcomes = λ c. rw e1 (rw e2 refl);
+  lines = λ k. rw e3 (rw e4 refl);
+}
+
+abbrev reads_octets : List ℕ → Exchange → Exchange
+reads_octets octets t = record t { read = Some (record { room = 64; octets = octets }) }
+
+seems : (row : TurnRow) (t : Exchange) → IsTurn beginning row.old row.new t (after [] row.before) row.acts row.says → SeemsATurn row
+seems row t turn = record { exchange = t; turn = turn }
+
+all_offered : (w : Write) (unwritten : List ℕ) → 1 ≤ length w.offered → w.count ≤ length w.offered → w.offered ≡ take w.count w.offered ++ unwritten → IsOffer w unwritten
+all_offered w unwritten some_there few e = record { some = some_there; bound = few; first = record { rest = []; joins = append-nil w.offered ∙ e } }
+
+offers_nothing_seems : SeemsATurn offers_nothing
+offers_nothing_seems =
+    let row = offers_nothing in
+    let t = reads_octets ua_zero (exchanged (offers (drop 2 sabm_zero) 0) None) in
+    seems row t (turn_by row.old row.new t (after [] row.before) row.acts row.says refl refl refl refl (lit≤ tt) (all_offered _ _ (lit≤ tt) (lit≤ tt) refl) (none_handed_back t refl refl refl refl) refl tt)
+
+reads_without_room_seems : SeemsATurn reads_without_room
+reads_without_room_seems =
+    let row = reads_without_room in
+    let t : Exchange = record (exchanged None (Some first_request)) { read = Some (record { room = 0; octets = [] }) } in
+    seems row t (turn_by row.old row.new t (after [] row.before) row.acts row.says refl refl refl refl (lit≤ tt) refl (none_handed_back t refl refl refl refl) refl tt)
+
+asks_for_none_seems : SeemsATurn asks_for_none
+asks_for_none_seems =
+    let row = asks_for_none in
+    let t : Exchange = record (exchanged (offers (drop 2 sabm_zero) 4) None) { next = None } in
+    seems row t (turn_by row.old row.new t (after [] row.before) row.acts row.says refl refl refl refl (lit≤ tt) (all_offered _ _ (lit≤ tt) (lit≤ tt) refl) (none_handed_back t refl refl refl refl) refl tt)
+
+looks_at_no_backlog_seems : SeemsATurn looks_at_no_backlog
+looks_at_no_backlog_seems =
+    let row = looks_at_no_backlog in
+    let lines = replicate 256 ring in
+    let t : Exchange = record (exchanged (offers last_flag 1) None) { still_heard = lines; heard_back = ring ∷ [] } in
+    seems row t (turn_by row.old row.new t (after [] row.before) row.acts row.says refl refl refl refl (lit≤ tt) (all_offered _ _ (lit≤ tt) (lit≤ tt) refl)
+    (record { outcomes = λ c. refl; lines = of_kinds (λ k. of_kind k (ring ∷ []) ≡ take 1 (of_kind k lines)) (record { ring = refl; cring = refl; creg = refl; cgreg = refl; cgev = refl; ciev = refl; other = refl }) }) refl tt)
+
+puts_half_seems : SeemsATurn puts_half
+puts_half_seems =
+    let row = puts_half in
+    let t = reads_octets lf_octet (exchanged (offers (take 3 sabm_zero) 0) None) in
+    seems row t (turn_by row.old row.new t (after [] row.before) row.acts row.says refl refl refl refl (lit≤ tt) (all_offered _ _ (lit≤ tt) (lit≤ tt) refl) (none_handed_back t refl refl refl refl) refl tt)
+
+leaves_an_outcome_seems : SeemsATurn leaves_an_outcome
+leaves_an_outcome_seems =
+    let row = leaves_an_outcome in
+    let t = reads_octets lf_octet (outcome_back (outcome_of 1 Opened)) in
+    seems row t (turn_by row.old row.new t (after [] row.before) row.acts row.says refl refl refl refl (lit≤ tt) refl (record { outcomes = one_back (outcome_of 1 Opened); lines = λ k. refl }) refl tt)
+
+pub all_seem : Each SeemsATurn skipping_turns
+all_seem = (offers_nothing_seems, (reads_without_room_seems, (asks_for_none_seems, (looks_at_no_backlog_seems, (puts_half_seems, (leaves_an_outcome_seems, tt))))))
