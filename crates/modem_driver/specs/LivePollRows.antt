@@ -1,5 +1,5 @@
 -- A session that has just begun, and what isn't a poll of it.
-use Rattle.std.specs.Prelude.{◌≡◌, ℕ, ◌+◌, ◌-◌, ◌^◌, ◌<◌, ◌≤◌, Bool, true, false, List, [], ◌∷◌, length, filter, replicate, None, Result, Ok, Err}
+use Rattle.std.specs.Prelude.{◌≡◌, ℕ, ◌+◌, ◌-◌, ◌^◌, ◌<◌, ◌≤◌, Bool, true, false, List, [], ◌∷◌, length, filter, replicate, None, Result, Ok}
 use Rattle.modem_desk.specs.Ends.{DeskId}
 use Rattle.modem_history.specs.Acts.{Act, Tick}
 use Rattle.modem_history.specs.Sessions.{Beginning, LineView}

@@ -1,8 +1,8 @@
 -- What isn't a poll of a session that has just begun.
-use Rattle.std.proofs.Common.{ap, sym, ◌∙◌, subst, arith, append-nil, lit<, lit≤}
+use Rattle.std.proofs.Common.{ap, sym, ◌∙◌, subst, arith, lit<, lit≤}
 use Rattle.std.proofs.lemmas.Bool.{and_parts, ltb-true}
 use Rattle.std.proofs.lemmas.List.{get_or_past, length-append}
-use Rattle.std.specs.Prelude.{◌≡◌, ◌≢◌, ℕ, zero, suc, ◌+◌, ◌-◌, ◌^◌, ◌<◌, ◌≤◌, ◌==◌, ◌&&◌, ◌||◌, not, min, nat_lt, if◌then◌else◌, Bool, true, false, List, [], ◌∷◌, ◌++◌, length, filter, flat_map, refl, Option, None, Some, option_to_list, Result, Ok, Err}
+use Rattle.std.specs.Prelude.{◌≡◌, ℕ, zero, suc, ◌+◌, ◌-◌, ◌^◌, ◌<◌, ◌≤◌, ◌==◌, ◌||◌, not, min, nat_lt, Bool, true, false, List, [], ◌∷◌, ◌++◌, length, flat_map, refl, Option, None, Some, option_to_list, Ok}
 use Rattle.std.specs.List.{list_all, list_any}
 use Rattle.mux_frame.specs.Frames.{Frame}
 use Rattle.mux_station.specs.declared.role.Role.TheVariants.{Initiator}
@@ -11,25 +11,22 @@ use Rattle.mux_station.proofs.states.StationPasts as stations
 use Rattle.modem_desk.specs.Ends.{DeskId}
 use Rattle.modem_desk.specs.declared.request.Request.{Request}
 use Rattle.modem_desk.specs.declared.request.Urc.{Urc}
-use Rattle.modem_history.specs.Acts.{Act, Took, Got, Sent, Told, Heard, Tick, Lost, Held, Freed, Given, after, in_hand}
+use Rattle.modem_history.specs.Acts.{Act, Took, Got, Sent, Told, Heard, Tick, Lost, Held, Freed, Given, after}
 use Rattle.modem_history.specs.Calls.{Setting}
 use Rattle.modem_history.specs.Lawful.{Lawful, Allows, Gated, IsNext, When}
 use Rattle.modem_history.specs.Wholes.{taken_requests}
 use Rattle.modem_history.specs.Sessions.{Beginning, LineView, driving, gots, at_place}
-use Rattle.modem_history.specs.Turns.{Exchange, Read, TurnAnswer, amount, calls_made, counted, is_mark, may_act, may_fail, octets_read, octets_written}
+use Rattle.modem_history.specs.Turns.{Read, TurnAnswer, amount, calls_made, counted, is_mark, may_act, may_fail, octets_read, octets_written}
 use Rattle.modem_history.specs.EveryTurn.{Handles, ReadsWhereFed, asked_in_vain, gets, waits}
 use Rattle.modem_history.proofs.law_proofs.SessionLaws.{begins_fitting}
 use Rattle.modem_history.specs.SessionLaws.{BeginsFitting}
-use Rattle.modem_driver.specs.declared.session.ending.Ended.TheVariants.{Stopped}
-use Rattle.modem_driver.specs.declared.session.error.SessionFault.{SessionFault}
-use Rattle.modem_driver.specs.declared.session.polling.Progress.TheVariants as progress
 use Rattle.modem_driver.specs.Endings.{Begins}
-use Rattle.modem_driver.specs.SessionStates.{SessionState, FitsAll, Ticks, beginning_of, new_kept, session_view}
+use Rattle.modem_driver.specs.SessionStates.{SessionState, Ticks, beginning_of, new_kept}
 use Rattle.modem_driver.specs.SessionTurns.{TakesTurn}
 use Rattle.modem_driver.specs.Polls.{MakesTurn, MovesOn, RunsTurns, ends, goes_on, has_ended, moves_none, moves_once, rests}
-use Rattle.modem_driver.specs.PollLaws.{IsSession, MovesThrough, NoLossIsKeptBack, NoLossIsStopped, RunsThrough, all_through, ended_through, fails_through, rests_through, through_none, through_once}
+use Rattle.modem_driver.specs.PollLaws.{IsSession, MovesThrough, NoLossIsKeptBack, NoLossIsStopped, all_through, ended_through, fails_through, rests_through, through_none, through_once}
 use Rattle.modem_driver.specs.PollRows.{bare_desk, first_line, lost_session}
-use Rattle.modem_driver.specs.LivePollRows.{AreNoLivePolls, AsksPerTurn, IsNewSession, NoTickInAPoll, NoTickIsAPoll, ReadsTheLine, after_flags, after_idle, is_tick, lost_and_stopped, new_session, ticks_in}
+use Rattle.modem_driver.specs.LivePollRows.{AreNoLivePolls, AsksPerTurn, IsNewSession, NoTickInAPoll, NoTickIsAPoll, ReadsTheLine, after_flags, after_idle, lost_and_stopped, new_session, ticks_in}
 use Rattle.modem_driver.proofs.cores.NewCore.{new_fits}
 use Rattle.modem_driver.proofs.sessions.PollLaws.{no_loss_is_kept_back, no_loss_is_stopped}
 use Rattle.modem_driver.proofs.sessions.StartAndTick.{kept_begins}
