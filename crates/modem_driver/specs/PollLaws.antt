@@ -3,6 +3,7 @@ use Rattle.std.specs.Prelude.{◌≡◌, ◌≢◌, ℕ, ◌+◌, ◌-◌, ◌^�
 use Rattle.modem_history.specs.Acts.{Act, after}
 use Rattle.modem_history.specs.Sessions.{Beginning, LineView}
 use Rattle.modem_history.specs.Turns.{Exchange, TurnAnswer, IsTurn, IsFault, says_moved}
+use Rattle.modem_history.specs.EveryTurn.{OffersWhatWaits, TakesSteps}
 use Rattle.modem_driver.specs.declared.session.ending.Ended.{Ended}
 use Rattle.modem_driver.specs.declared.session.ending.Ended.TheVariants.{Stopped}
 use Rattle.modem_driver.specs.declared.session.error.SessionFault.{SessionFault}
@@ -14,7 +15,8 @@ use Rattle.modem_driver.specs.Polls.{Gives, PollsOn, RunsTurns, end_given, has_e
 
 -- ## Over a history
 
--- so many turns that answer Moved: each session on the way fits the history so far, and each turn is one in it
+-- so many turns that answer Moved: each session on the way fits the history so far, and each turn is one in it,
+-- with all its steps
 pub data MovesThrough {X : Type 0} (look : X → LineView) (b : Beginning) (old : SessionState X)
     (past : List Act) : ℕ → SessionState X → List Act → Type 0 where
   through_none : FitsAll b look old past → MovesThrough look b old past 0 old past
@@ -22,6 +24,7 @@ pub data MovesThrough {X : Type 0} (look : X → LineView) (b : Beginning) (old 
       → MovesThrough look b old past n mid before → has_ended mid.kept ≡ false
       → FitsAll b look new (after before acts)
       → IsTurn b (session_view look mid) (session_view look new) t before acts TurnAnswer.Moved
+      → TakesSteps b (session_view look mid) (session_view look new) t before acts
       → MovesThrough look b old past (n + 1) new (after before acts)
 
 -- the same of all turns of a poll
@@ -35,11 +38,13 @@ pub data RunsThrough {X : Type 0} (look : X → LineView) (b : Beginning) (old :
       → n < 64 → MovesThrough look b old past n mid before → has_ended mid.kept ≡ false
       → FitsAll b look new (after before acts)
       → IsTurn b (session_view look mid) (session_view look new) t before acts says
+      → TakesSteps b (session_view look mid) (session_view look new) t before acts
       → says_moved says ≡ false → RunsThrough look b old past new (after before acts) (Ok false)
   fails_through : (n : ℕ) (mid : SessionState X) (before acts : List Act) (t : Exchange) (why : SessionFault)
       → n < 64 → MovesThrough look b old past n mid before → has_ended mid.kept ≡ false
       → FitsAll b look new (after before acts)
       → IsFault b (session_view look mid) (session_view look new) t before acts (fault_of why)
+      → OffersWhatWaits b (session_view look mid) (session_view look new) t
       → RunsThrough look b old past new (after before acts) (Err why)
 
 pub record HasRun {X : Type 0} (look : X → LineView) (b : Beginning) (old : SessionState X) (past : List Act)

@@ -57,7 +57,7 @@ pub record Adds (old new : Kept) (waiting : List Urc) (most : ℕ) (acts : List 
   pub may : list_all (may_act waiting) acts ≡ true
   pub few_got : length (gots acts) ≤ most
 
--- that is so after every history of which no caller used a number twice
+-- that is so after every history
 unfoldable pub AddsAll : (old new : TurnState) → List Urc → ℕ → List Act → Type 0
 AddsAll old new waiting most acts =
     (b : Beginning) (past : List Act) → StandingFits b old past

@@ -125,7 +125,7 @@ pub fn worked_connections()
 /// that are read in the octets received since it began; the octets sent are the first of the spellings of the frames
 /// sent, in order; those frames that are wholly among them were given on; the requests in hand are those taken and not
 /// told; and no caller is told an outcome twice. One call after another is as one call, and what had a history has one
-/// after a call, where no caller used a number twice.
+/// after a call.
 #[tactic(auto, using(crate::proofs::law_proofs::SessionLaws::begins_fitting, crate::proofs::law_proofs::SessionLaws::fits_says, crate::proofs::law_proofs::SessionLaws::calls_run_on, crate::proofs::law_proofs::SessionLaws::calls_keep_history))]
 pub fn sessions()
     ensures begins { (b : Beginning) → BeginsFitting b }

@@ -1,10 +1,15 @@
 //! Tests of frames.
 ghost use Rattle.std.specs.Prelude.{◌≡◌, ◌<◌, None, OnOk};
 
+mod ring;
+
 use mux_frame::laws::read_plain;
 use mux_frame::*;
 use std::alloc::Global;
 use std::test::*;
+
+/// Frames, and the octets of the rest.
+type Reading = (Vec<FrameBuf>, Vec<u8>);
 
 fn same(a: FrameView<'_>, b: FrameView<'_>) -> bool {
     a.dlci.number() == b.dlci.number()
@@ -48,15 +53,18 @@ fn feed_piece(
     Ok(())
 }
 
+fn reads_same(a: &Reading, b: &Reading) -> bool {
+    let mut pairs = a.0.iter().zip(b.0.iter());
+    pairs.all(|(x, y)| same(x.view(), y.view()))
+        && a.0.len() == b.0.len()
+        && a.1.as_slice() == b.1.as_slice()
+}
+
 /// The octets as a deframer reads them, fed in pieces of this size.
-fn read_in_pieces(
-    alloc: Global,
-    octets: &[u8],
-    size: usize,
-) -> Result<(Vec<FrameBuf>, Vec<u8>), FrameError>
+fn read_in_pieces(alloc: Global, n1: u16, octets: &[u8], size: usize) -> Result<Reading, FrameError>
     requires { 0 < size }
 {
-    let mut input = Deframer::new(alloc, 31)?;
+    let mut input = Deframer::new(alloc, n1)?;
     let mut frames = Vec::new(alloc);
     for piece in octets.chunks(size) {
         feed_piece(alloc, &mut input, piece, &mut frames)?;
@@ -66,31 +74,15 @@ fn read_in_pieces(
     Ok((frames, rest))
 }
 
-/// Whether a deframer that takes the octets in pieces of this size reads these frames and this rest.
-fn reads_so(
-    alloc: Global,
-    octets: &[u8],
-    size: usize,
-    plain: &[FrameBuf],
-    plain_rest: &[u8],
-) -> Result<bool, FrameError>
-    requires { 0 < size }
-{
-    let (frames, rest) = read_in_pieces(alloc, octets, size)?;
-    let mut pairs = plain.iter().zip(frames.iter());
-    let alike = pairs.all(|(a, b)| same(a.view(), b.view()));
-    Ok(alike && plain.len() == frames.len() && plain_rest == rest.as_slice())
-}
-
 /// Whether a deframer, however its octets are cut, reads what is read plainly, which is so many frames.
-fn reads_alike(alloc: Global, octets: &[u8], count: usize) -> Result<bool, FrameError> {
-    let (plain, rest) = read_plain(alloc, 31, octets)?;
+fn reads_alike(alloc: Global, n1: u16, octets: &[u8], count: usize) -> Result<bool, FrameError> {
+    let plain = read_plain(alloc, n1, octets)?;
     for size in [1, 2, 3, 7] {
-        if !reads_so(alloc, octets, size, &plain, &rest)? {
+        if !reads_same(&read_in_pieces(alloc, n1, octets, size)?, &plain) {
             return Ok(false);
         }
     }
-    Ok(plain.len() == count)
+    Ok(plain.0.len() == count)
 }
 
 /// Octets, and how many frames they are.
@@ -118,7 +110,7 @@ const CUTS: [Cut; 8] = [
 #[test]
 fn octets_are_read_however_they_are_cut(rt: HostRuntime) -> Result<(), Fail> {
     for (octets, count) in CUTS {
-        assert!(rt; reads_alike(rt.alloc(), octets, count)?);
+        assert!(rt; reads_alike(rt.alloc(), 31, octets, count)?);
     }
     Ok(())
 }

@@ -13,8 +13,6 @@ pub mod laws;
 mod piece;
 mod probe;
 mod settling;
-#[cfg(test)]
-mod tests;
 mod write;
 
 pub use check::check_octet;

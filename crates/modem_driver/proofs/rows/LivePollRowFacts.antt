@@ -58,16 +58,16 @@ none_ticks test off (a ∷ acts) past h =
 module _ {X : Type 0} (look : X → LineView) where
   moves_tick_none : (b : Beginning) (past : List Act) (old new : SessionState X) (n : ℕ) (now : List Act) → MovesThrough look b old past n new now → ticks_in now ≡ ticks_in past
   moves_tick_none b past old _ _ _ (through_none f) = refl
-  moves_tick_none b past old _ _ _ (through_once n mid new before acts t moves going f turn) =
+  moves_tick_none b past old _ _ _ (through_once n mid new before acts t moves going f turn steps) =
       none_ticks (may_act t.still_heard) refl acts before turn.acts_may ∙ moves_tick_none b past old mid n before moves
 
   pub no_tick_in_a_poll : NoTickInAPoll look
   unfolding NoTickInAPoll
   no_tick_in_a_poll b past _ old new _ (all_through now moves) = moves_tick_none b past old new 64 now moves
   no_tick_in_a_poll b past _ old new _ (ended_through n now few moves e) = moves_tick_none b past old new n now moves
-  no_tick_in_a_poll b past _ old new _ (rests_through n mid before acts t says few moves going f turn other) =
+  no_tick_in_a_poll b past _ old new _ (rests_through n mid before acts t says few moves going f turn steps other) =
       none_ticks (may_act t.still_heard) refl acts before turn.acts_may ∙ moves_tick_none b past old mid n before moves
-  no_tick_in_a_poll b past _ old new _ (fails_through n mid before acts t why few moves going f turn) =
+  no_tick_in_a_poll b past _ old new _ (fails_through n mid before acts t why few moves going f turn offers) =
       none_ticks (may_fail t.still_heard) refl acts before turn.acts_may ∙ moves_tick_none b past old mid n before moves
 
 -- ## Calls

@@ -43,7 +43,7 @@ module _ {X : Type 0} (look : X → LineView) where
       record {
         now = after before.now acts;
         fits = here;
-        moves = through_once n mid new before.now acts turn.turn.exchange before.moves turn.going here (turn.turn.turn b before.now before.fits);
+        moves = through_once n mid new before.now acts turn.turn.exchange before.moves turn.going here (turn.turn.turn b before.now before.fits) (turn.turn.steps b before.now before.fits);
       }
 
   pub runs_in_histories : RunsInHistories look
@@ -59,14 +59,14 @@ module _ {X : Type 0} (look : X → LineView) where
       let acts = turn.turn.acts in
       record {
         now = after t.now acts;
-        through = rests_through n mid t.now acts turn.turn.exchange says few t.moves turn.going (turn.turn.goes b t.now t.fits) (turn.turn.turn b t.now t.fits) other;
+        through = rests_through n mid t.now acts turn.turn.exchange says few t.moves turn.going (turn.turn.goes b t.now t.fits) (turn.turn.turn b t.now t.fits) (turn.turn.steps b t.now t.fits) other;
       }
   runs_in_histories b past old new _ f (fails n mid why few moves turn) =
       let t = moves_through b past old mid n f moves in
       let acts = turn.fault.acts in
       record {
         now = after t.now acts;
-        through = fails_through n mid t.now acts turn.fault.exchange why few t.moves turn.going (turn.fault.goes b t.now t.fits) (turn.fault.fault b t.now t.fits);
+        through = fails_through n mid t.now acts turn.fault.exchange why few t.moves turn.going (turn.fault.goes b t.now t.fits) (turn.fault.fault b t.now t.fits) (turn.fault.offers b t.now t.fits);
       }
 
 -- ## What a turn says of a loss and of the line's calls
@@ -151,28 +151,28 @@ module _ {X : Type 0} (look : X → LineView) where
   -- a lost line stays so
   lost_through : (b : Beginning) (past : List Act) (old new : SessionState X) (n : ℕ) (now : List Act) → MovesThrough look b old past n new now → is_lost past ≡ true → is_lost now ≡ true
   lost_through b past old _ _ _ (through_none f) lost = lost
-  lost_through b past old _ _ _ (through_once n mid new before acts t moves going f turn) lost = lost_since acts before (lost_through b past old mid n before moves lost)
+  lost_through b past old _ _ _ (through_once n mid new before acts t moves going f turn steps) lost = lost_since acts before (lost_through b past old mid n before moves lost)
 
   -- so no turn is made that answers Moved
   none_moved : (b : Beginning) (past : List Act) (old new : SessionState X) (n : ℕ) (now : List Act) → 1 ≤ n → MovesThrough look b old past n new now → is_lost now ≡ true → ⊥
   none_moved b past old _ _ _ some (through_none f) lost = omega (arith, some)
-  none_moved b past old _ _ _ some (through_once n mid new before acts t moves going f turn) lost = sound_turn b mid new t before acts TurnAnswer.Moved f turn lost
+  none_moved b past old _ _ _ some (through_once n mid new before acts t moves going f turn steps) lost = sound_turn b mid new t before acts TurnAnswer.Moved f turn lost
 
   -- an end without a fault is one with a sound line
   sound_run : (b : Beginning) (past : List Act) (old new : SessionState X) (now : List Act) → FitsAll b look new now → (more : Bool) → RunsThrough look b old past new now (Ok more) → is_lost now ≡ true → ⊥
   sound_run b past old new _ f _ (all_through now moves) lost = none_moved b past old new 64 now (lit≤ tt) moves lost
   sound_run b past old new _ f _ (ended_through n now few moves e) lost = not_ended new.kept e (sym f.inside.fits.lost_is ∙ lost)
-  sound_run b past old new _ f _ (rests_through n mid before acts t says few moves going g turn other) lost = sound_turn b mid new t before acts says g turn lost
+  sound_run b past old new _ f _ (rests_through n mid before acts t says few moves going g turn steps other) lost = sound_turn b mid new t before acts says g turn lost
 
   new_fits : (b : Beginning) (past : List Act) (old new : SessionState X) (n : ℕ) (now : List Act) → MovesThrough look b old past n new now → FitsAll b look new now
   new_fits b past old _ _ _ (through_none f) = f
-  new_fits b past old _ _ _ (through_once n mid new before acts t moves going f turn) = f
+  new_fits b past old _ _ _ (through_once n mid new before acts t moves going f turn steps) = f
 
   run_fits : (b : Beginning) (past : List Act) (old new : SessionState X) (now : List Act) (ran : Result Bool SessionFault) → RunsThrough look b old past new now ran → FitsAll b look new now
   run_fits b past old new _ _ (all_through now moves) = new_fits b past old new 64 now moves
   run_fits b past old new _ _ (ended_through n now few moves e) = new_fits b past old new n now moves
-  run_fits b past old new _ _ (rests_through n mid before acts t says few moves going g turn other) = g
-  run_fits b past old new _ _ (fails_through n mid before acts t why few moves going g turn) = g
+  run_fits b past old new _ _ (rests_through n mid before acts t says few moves going g turn steps other) = g
+  run_fits b past old new _ _ (fails_through n mid before acts t why few moves going g turn offers) = g
 
   live_fault : (b : Beginning) (old new : SessionState X) (t : Exchange) (before acts : List Act) (why : SessionFault) → IsFault b (session_view look old) (session_view look new) t before acts (fault_of why) → is_lost before ≡ true → why ≡ fault.Failed
   live_fault b old new t before acts fault.NoMemory h lost = let live = h.means.live in let x : false ≡ true = sym live ∙ lost_since acts before lost in absurd (let y : false ≡ true = x in cc)
@@ -183,9 +183,9 @@ module _ {X : Type 0} (look : X → LineView) where
   lost_run b past old new _ _ f (all_through now moves) lost = absurd (none_moved b past old new 64 now (lit≤ tt) moves (lost_through b past old new 64 now moves lost))
   lost_run b past old new _ _ f (ended_through n now few moves e) lost =
       absurd (not_ended new.kept e (sym (new_fits b past old new n now moves).inside.fits.lost_is ∙ lost_through b past old new n now moves lost))
-  lost_run b past old new _ _ f (rests_through n mid before acts t says few moves going g turn other) lost =
+  lost_run b past old new _ _ f (rests_through n mid before acts t says few moves going g turn steps other) lost =
       absurd (sound_turn b mid new t before acts says g turn (lost_since acts before (lost_through b past old mid n before moves lost)))
-  lost_run b past old new _ _ f (fails_through n mid before acts t why few moves going g turn) lost =
+  lost_run b past old new _ _ f (fails_through n mid before acts t why few moves going g turn offers) lost =
       ap (λ (w : SessionFault). Err w) (live_fault b mid new t before acts why turn (lost_through b past old mid n before moves lost))
 
   -- ## What isn't a poll
@@ -282,7 +282,7 @@ module _ {X : Type 0} (look : X → LineView) where
 
   called : (b : Beginning) (past : List Act) (old new : SessionState X) (n : ℕ) (now : List Act) → old.kept.unwritten ≢ [] → (look old.line).calls < 2 ^ 64 - 1 → MovesThrough look b old past n new now → Called old new n
   called b past old _ _ _ some few (through_none f) = record { bound = omega (arith, few); none = λ e. refl; some = λ e. absurd (omega (arith, e)) }
-  called b past old _ _ _ some few (through_once n mid new before acts t moves going f turn) =
+  called b past old _ _ _ some few (through_once n mid new before acts t moves going f turn steps) =
       calls_on b old mid new n t before acts TurnAnswer.Moved some few (new_fits b past old mid n before moves) (called b past old mid n before some few moves) f turn
 
   -- where octets wait it hasn't ended
@@ -304,7 +304,7 @@ module _ {X : Type 0} (look : X → LineView) where
   ran_calls b past old new _ some few _ (ended_through n now small moves e) =
       let so = called b past old new n now some few moves in
       so.some (some_moves old new n some e so)
-  ran_calls b past old new _ some few _ (rests_through n mid before acts t says small moves going g turn other) =
+  ran_calls b past old new _ some few _ (rests_through n mid before acts t says small moves going g turn steps other) =
       (calls_on b old mid new n t before acts says some few (new_fits b past old mid n before moves) (called b past old mid n before some few moves) g turn).some (omega arith)
 
   pub calls_the_line : CallsTheLine look
