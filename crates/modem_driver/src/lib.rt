@@ -29,4 +29,6 @@ pub use event::{Event, Octets};
 pub use modem_desk::{Answer, Ask, Outcome, Request, Urc};
 pub use modem_history::Act;
 pub use run::replay;
-pub use session::{Ended, Progress, Finished, Session, SessionError, SessionFault, SessionRefused, Turn};
+pub use session::{
+    Ended, Finished, Progress, Session, SessionError, SessionFault, SessionRefused, Turn,
+};

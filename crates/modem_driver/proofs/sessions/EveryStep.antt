@@ -1,21 +1,20 @@
 -- Every turn took all its steps.
 use Rattle.std.proofs.Common.{ap, sym, ◌∙◌, inl, inr, subst, arith}
 use Rattle.std.proofs.lemmas.List.{append-nil, append_assoc, nil_from_length}
-use Rattle.std.specs.Prelude.{◌≡◌, ◌≢◌, ℕ, ◌+◌, ◌<◌, ◌≤◌, ◌==◌, Bool, true, false, List, [], ◌∷◌, ◌++◌, length, drop, refl, Option, None, Some, option_to_list, if◌then◌else◌}
+use Rattle.std.specs.Prelude.{◌≡◌, ◌≢◌, ℕ, ◌<◌, ◌≤◌, ◌==◌, Bool, true, false, List, [], ◌++◌, length, drop, refl, Option, None, Some, option_to_list, if◌then◌else◌}
 use Rattle.mux_frame.specs.Frames.{Frame}
 use Rattle.mux_station.specs.GivenFrames.{Outgoing}
 use Rattle.modem_desk.specs.Ends.{DriverView}
 use Rattle.modem_desk.specs.declared.request.Urc.{Urc}
 use Rattle.modem_history.specs.Acts.{Act, after}
-use Rattle.modem_history.specs.Calls.{is_lost}
 use Rattle.modem_history.specs.GoingOut.{next_out}
 use Rattle.modem_history.specs.Sessions.{Beginning, LineView, SessionView, driving, gots, backlog_in}
-use Rattle.modem_history.specs.Turns.{Exchange, HoldsByBacklog, HoldsWhereRoom, counted, has_room_for, octets_read}
-use Rattle.modem_history.specs.EveryTurn.{TakesSteps, WritesOn, ReadsOn as ReadsFed, Handles, gets, waits, Asks, acts_out, octets_out, goes_in, asked_in_vain, stalled_after, empty_after, octets_offered, count_taken, ReadsWhereFed}
+use Rattle.modem_history.specs.Turns.{HoldsWhereRoom, counted, octets_read}
+use Rattle.modem_history.specs.EveryTurn.{TakesSteps, WritesOn, ReadsOn as ReadsFed, Handles, gets, waits, Asks, acts_out, octets_out, goes_in, asked_in_vain, stalled_after, empty_after, count_taken, ReadsWhereFed}
 use Rattle.modem_history.proofs.calls.StatesAfterActs.{after_both}
 use Rattle.modem_driver.specs.TurnSteps.{TurnState, StandingFits, Leads, AddsAll, view_of}
 use Rattle.modem_driver.proofs.sessions.OneFrame.{got_both, none_both}
-use Rattle.modem_driver.proofs.sessions.WholeTurns.{placed, went_wrote, offers_what_waits}
+use Rattle.modem_driver.proofs.sessions.WholeTurns.{offers_what_waits}
 use Rattle.modem_driver.proofs.sessions.TurnAnswers.{Run, all_exchange, all_acts, went_out, went_all, not_lost, unfed_at_five, aside_at_six, line_at_three, line_at_seven, driver_at_six}
 
 -- what is held is said of the lines that wait alone

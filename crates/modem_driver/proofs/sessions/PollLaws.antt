@@ -3,8 +3,7 @@ use Rattle.std.proofs.Common.{ap, sym, ◌∙◌, subst, arith, eqb-true, lit≤
 use Rattle.std.proofs.lemmas.Bool.{and_parts}
 use Rattle.std.proofs.lemmas.List.{append-nil, append_assoc, append_cancel_left, nil_from_length, length-append}
 use Rattle.std.proofs.lemmas.List.Concat.{flat_map-append}
-use Rattle.std.specs.Prelude.{◌≡◌, ◌≢◌, ℕ, zero, suc, ◌+◌, ◌-◌, ◌^◌, ◌<◌, ◌≤◌, ◌==◌, ◌&&◌, ◌||◌, not, min, if◌then◌else◌, Bool, true, false, List, [], ◌∷◌, ◌++◌, length, take, drop, refl, Option, None, Some, Result, Ok, Err}
-use Rattle.std.specs.List.{list_all}
+use Rattle.std.specs.Prelude.{◌≡◌, ◌≢◌, ℕ, zero, suc, ◌+◌, ◌-◌, ◌^◌, ◌<◌, ◌≤◌, ◌==◌, ◌&&◌, ◌||◌, not, min, if◌then◌else◌, Bool, true, false, List, [], ◌∷◌, ◌++◌, length, take, refl, Option, None, Some, Result, Ok, Err}
 use Rattle.mux_frame.specs.Frames.{Frame}
 use Rattle.mux_frame.specs.Spelling.{spelled}
 use Rattle.mux_station.specs.Sending.{queue}
@@ -13,7 +12,6 @@ use Rattle.modem_history.specs.Acts.{Act, Got, Sent, Given, after, wire}
 use Rattle.modem_history.specs.Calls.{is_loss, is_lost}
 use Rattle.modem_history.specs.Sessions.{Beginning, LineView, given_on, octets_of_frames}
 use Rattle.modem_history.specs.Turns.{Exchange, IsTurn, IsFault, Offers, TurnAnswer, Write, calls_made, counted, octets_written}
-use Rattle.modem_desk.specs.declared.request.Request.{Request}
 use Rattle.modem_driver.specs.declared.session.ending.Course.{Course}
 use Rattle.modem_driver.specs.declared.session.ending.Course.TheVariants as course
 use Rattle.modem_driver.specs.declared.session.polling.Progress.{Progress}

@@ -21,7 +21,6 @@ use Rattle.modem_driver.specs.TurnSteps.{TurnState, StandingFits, Leads, view_of
 use Rattle.modem_driver.specs.SessionTurns.{Answers}
 use Rattle.modem_driver.proofs.outgoing.QuietHistories.{drained_quiet}
 use Rattle.modem_driver.proofs.sessions.CoreCalls.{is_run}
-use Rattle.modem_driver.proofs.sessions.WholeTurns.{placed}
 use Rattle.modem_driver.proofs.sessions.EveryStep.{takes_steps}
 use Rattle.modem_driver.proofs.sessions.TurnAnswers.{Run, Still, all_exchange, all_acts, went_out, went_got, went_all, has_moved_all, is_still, sound_five, not_lost, none_queued, all_given, all_sent, all_got}
 

@@ -3,7 +3,7 @@ use Rattle.std.proofs.Common.{ap, sym, ◌∙◌, subst, arith}
 use Rattle.std.proofs.lemmas.List.{append_assoc, append-nil}
 use Rattle.std.proofs.lemmas.List.Folds.{list_all-append}
 use Rattle.std.proofs.lemmas.Bool.{and_from}
-use Rattle.std.specs.Prelude.{◌≡◌, ◌≢◌, ℕ, zero, suc, Bool, ◌+◌, ◌<◌, ◌≤◌, true, List, [], ◌∷◌, ◌++◌, length, map, drop, refl, Option, None, Some}
+use Rattle.std.specs.Prelude.{◌≡◌, ◌≢◌, ℕ, zero, suc, Bool, ◌+◌, ◌<◌, ◌≤◌, true, List, [], ◌∷◌, ◌++◌, length, map, refl, Option, None, Some}
 use Rattle.std.specs.List.{list_all}
 use Rattle.modem_desk.specs.declared.request.Request.{Request}
 use mathlib.Core.Option.{some, some-ne-none}
@@ -14,7 +14,6 @@ use Rattle.modem_desk.specs.declared.request.Urc.{Urc}
 use Rattle.modem_history.specs.Kinds.{of_kind}
 use Rattle.modem_history.specs.EveryTurn.{GivesSome, OffersWhatWaits, count_at}
 use Rattle.modem_history.specs.Acts.{Act, after}
-use Rattle.modem_history.specs.Requests.{are_distinct}
 use Rattle.modem_desk.specs.Ends.{DriverView}
 use Rattle.modem_history.specs.Sessions.{Beginning, LineView, at_place, caller_outcomes, gots, heard_as}
 use Rattle.modem_history.specs.Turns.{Write, Read, Exchange, HandsBack, ReadHasRoom, octets_written, octets_read, request_given, calls_made, counted, outcomes_told, lines_heard, may_act}
