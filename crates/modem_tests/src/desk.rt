@@ -29,6 +29,15 @@ fn submit_stops<R: Wait + Abort>(rt: &R, callers: &mut Vec<Caller>, place: usize
     submit_times(rt, caller, count);
 }
 
+// An ask of the caller at this place, which is taken.
+pub fn submit_to<R: Wait + Abort>(rt: &R, callers: &mut Vec<Caller>, place: usize, ask: Ask)
+    ensures { map place_of callers.new.items ≡ map place_of callers.old.items }
+{
+    assert!(rt; place < callers.len());
+    let caller = &mut callers[place];
+    assert!(rt; caller.submit(rt, ask).is_ok());
+}
+
 // An ask of the caller at this place.
 fn submit_one<R: Wait + Abort>(
     rt: &R,
@@ -42,7 +51,7 @@ fn submit_one<R: Wait + Abort>(
 }
 
 // The outcome that the caller at this place takes.
-fn taken_by<R: Abort>(rt: &R, callers: &mut Vec<Caller>, place: usize) -> Option<Outcome>
+pub fn taken_by<R: Abort>(rt: &R, callers: &mut Vec<Caller>, place: usize) -> Option<Outcome>
     ensures { map place_of callers.new.items ≡ map place_of callers.old.items }
 {
     assert!(rt; place < callers.len());
@@ -74,7 +83,7 @@ fn tell_stopped<R: Abort>(rt: &R, driver: &mut DriverEnd, caller: u8, number: u6
 }
 
 // Settles, by a second call where memory held up the first.
-fn settle_by_two<R: Wait + Abort>(
+pub fn settle_by_two<R: Wait + Abort>(
     rt: &R,
     alloc: Global,
     driver: DriverEnd,

@@ -1,5 +1,5 @@
-//! The tests of what stored runs can't show: of frames, a station, lines of octets and the desk, of the core, of the program's runs,
-//! and of which calls take no memory.
+//! The tests of what stored runs can't show: of frames, a station, lines of octets and the desk, of the core, of a session that
+//! ticks, of the program's runs, and of which calls take no memory.
 #![tactic(auto)]
 
 #[cfg(test)]
@@ -16,3 +16,5 @@ mod no_memory;
 mod program;
 #[cfg(test)]
 mod station;
+#[cfg(test)]
+mod ticking;

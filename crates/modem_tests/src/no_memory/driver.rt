@@ -118,41 +118,41 @@ fn new_session<R: Wait + Abort + Drop + Copy>(rt: R, alloc: Global) -> Begun<R> 
     )
 }
 
-// The octets come, and the session turns until it gets them.
+// The octets come, and the session turns so often.
 fn octets_come<R: Wait + Abort + Drop + Copy>(
     rt: &R,
     session: &mut Session<CutLine, R>,
     octets: &[u8],
+    turns: u32,
 ) {
     assert!(rt; session.line_mut().put(octets) == octets.len());
-    for _ in 0..3 {
+    for _ in 0..turns {
         assert!(rt; session.turn().is_ok());
     }
 }
 
-// 0 and 1 are opened, a command is in hand, and a RING has come.
+// 0 and 1 are opened, a command is in hand, and a RING has come: the next turn would announce it.
 fn keep_busy<R: Wait + Abort + Drop + Copy>(
     rt: &R,
     alloc: Global,
     session: &mut Session<CutLine, R>,
     caller: &mut Caller,
 ) -> Result<(), Fail> {
-    for number in 0..2 {
+    for (number, ua) in [
+        (0, b"\xF9\x03\x73\x01\xD7\xF9"),
+        (1, b"\xF9\x07\x73\x01\x15\xF9"),
+    ] {
         assert!(rt; caller.submit(rt, Ask::OpenChannel(dlci(number)?)).is_ok());
+        octets_come(rt, session, b"", 3);
+        octets_come(rt, session, ua, 3);
     }
-    octets_come(rt, session, b"");
-    octets_come(rt, session, b"\xF9\x03\x73\x01\xD7\xF9");
-    octets_come(rt, session, b"\xF9\x07\x73\x01\x15\xF9");
     assert!(rt; caller.submit(rt, command(alloc, b"AT+CSQ")?).is_ok());
-    octets_come(rt, session, b"\xF9\x05\xEF\x11\r\nRING\r\n\x4A\xF9");
+    octets_come(rt, session, b"\xF9\x05\xEF\x11\r\nRING\r\n\x4A\xF9", 2);
     Ok(())
 }
 
 // A session's line is lent, and the session ends, between marks.
-fn ends_a_session<R: Wait + Abort + Print + Drop + Copy>(
-    rt: R,
-    alloc: Global,
-) -> Result<(), Fail> {
+fn ends_a_session<R: Wait + Abort + Print + Drop + Copy>(rt: R, alloc: Global) -> Result<(), Fail> {
     let (mut session, mut callers) = new_session(rt, alloc);
     assert!(&rt; callers.len() == 1);
     keep_busy(&rt, alloc, &mut session, &mut callers[0])?;

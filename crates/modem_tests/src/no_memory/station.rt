@@ -121,11 +121,7 @@ fn controls<R: Abort + Print>(rt: &R, station: &mut Station) -> Result<(), Fail>
 }
 
 // A frame is put in place to be written.
-fn is_written<R: Abort + Print>(
-    rt: &R,
-    buffer: &mut WriteBuffer,
-    dlci: Dlci,
-) {
+fn is_written<R: Abort + Print>(rt: &R, buffer: &mut WriteBuffer, dlci: Dlci) {
     begin(
         rt,
         "WriteBuffer::put, WriteBuffer::is_empty, WriteBuffer::as_slice, WriteBuffer::pass",

@@ -1,0 +1,73 @@
+//! A session that ticks, and whose desk is settled.
+ghost use Rattle.std.specs.Prelude.{◌≡◌};
+
+use crate::desk::{settle_by_two, submit_to, taken_by};
+use crate::station::dlci;
+use modem_desk::*;
+use modem_driver::*;
+use serial_line::CutLine;
+use std::alloc::Global;
+use std::process::Abort;
+use std::sync::Wait;
+use std::test::Fail;
+
+// Turns three times: what moves goes on.
+fn turn_thrice<R: Wait + Abort + Drop>(rt: &impl Abort, session: &mut Session<CutLine, R>)
+    ensures { session.new.driver.desk ≡ session.old.driver.desk }
+{
+    for _ in 0..3 {
+        assert!(rt; session.turn().is_ok());
+    }
+}
+
+// Ticks four times: at the fourth what waits for an answer is given up.
+fn tick_out<R: Wait + Abort + Drop>(rt: &impl Abort, session: &mut Session<CutLine, R>)
+    ensures { session.new.driver.desk ≡ session.old.driver.desk }
+{
+    for _ in 0..4 {
+        assert!(rt; session.tick().is_ok());
+    }
+}
+
+// The desk's end of a session over a line that gives nothing, which gave up what it was asked.
+fn given_up<R: Wait + Abort + Drop + Copy>(rt: R, alloc: Global, driver: DriverEnd) -> DriverEnd
+    ensures { result.desk ≡ driver.desk }
+{
+    let Ok(line) = CutLine::new(alloc, b"", &[], &[], 64) else {
+        panic!(&rt; "no memory");
+    };
+    let Ok(mut session) = Session::new(rt, alloc, line, driver, 31) else {
+        panic!(&rt; "no memory");
+    };
+    turn_thrice(&rt, &mut session);
+    tick_out(&rt, &mut session);
+    turn_thrice(&rt, &mut session);
+    let Finished {
+        line: _,
+        driver,
+        in_hand,
+        unplaced,
+        unannounced,
+    } = session.finish();
+    assert!(&rt; in_hand.is_empty() && unplaced.is_empty() && unannounced.is_empty());
+    driver
+}
+
+// An opening that isn't answered is given up at the fourth tick, and its caller takes NoAnswer; then the desk is settled.
+#[test]
+fn a_session_that_ticked_is_settled(rt: HostRuntime) -> Result<(), Fail> {
+    let alloc = rt.alloc();
+    let (driver, mut callers, listeners) = Desk::open(alloc, 1, &[])?;
+    submit_to(&rt, &mut callers, 0, Ask::OpenChannel(dlci(0)?));
+    let driver = given_up(rt, alloc, driver);
+    let told = taken_by(&rt, &mut callers, 0).expect(&rt, "an outcome");
+    assert!(rt; told.number == 1 && matches!(told.answer, Answer::NoAnswer));
+    let Settled {
+        left,
+        untaken,
+        unheard,
+    } = settle_by_two(&rt, alloc, driver, callers, listeners);
+    assert!(rt; left.is_empty() && untaken.len() == 1 && unheard.is_empty());
+    assert!(rt; untaken[0].is_empty());
+    Ok(())
+}
