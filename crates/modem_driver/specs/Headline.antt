@@ -20,6 +20,7 @@ use Rattle.modem_history.specs.Kinds.{of_kind}
 use Rattle.modem_history.specs.Sessions as session
 use Rattle.modem_history.specs.Sessions.{Beginning, Finishes, Leftovers, SessionFits, SessionView, driving, heard_as, heards, taken_since}
 use Rattle.modem_history.specs.Wholes.{HasOwnAnswer, IsPrefixOf, commands_for, is_same}
+use Rattle.modem_driver.specs.Replays.{AreFull}
 
 -- ## A run and its end
 
@@ -90,6 +91,11 @@ NoneAfterClose past =
     (newer older : List Act) (f : Frame) → past ≡ newer ++ Sent f ∷ older → is_data_frame f ≡ true
     → is_open Initiator f.dlci (wire older) ≡ true
 
+-- of each command all data frames but the last have N1 octets, in every history of a session: each was the next
+-- in turn (27.010, 5.4)
+unfoldable pub SendsFull : Beginning → SessionView → List Act → Type 0
+SendsFull b v past = SessionFits b v past → AreFull b.n1 past
+
 -- ## What is answered
 
 -- each answer told has just the lines that answer the request's own command, up to the final code
@@ -142,6 +148,7 @@ pub record Headline (run : Run) : Type 0 where
   pub fits : SessionFits run.start run.session past
   pub leaves : (newer older : List Act) → past ≡ newer ++ older → (d : ℕ) → Leaves d older run.callers
   pub none_after_close : NoneAfterClose past
+  pub full : AreFull run.start.n1 past
   pub answers : AnswersOwn run.start past
   pub hears : HearsEach run.start past
   pub announces : Each (Announces run past) run.listeners

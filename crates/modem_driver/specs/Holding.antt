@@ -66,16 +66,28 @@ Flows old new d lines acts =
     (s : Setting) (past : List Act) → MayAsk s old past
     → FlowsOn s old new past d (due_by s past d lines) acts
 
+-- the MSC that says so has a place in the control queue
+abbrev pub has_flow_room : Setting → List Act → ℕ → (go : Bool) → Bool
+has_flow_room s past d go =
+    all_have_room s (seen s past) (by_flow s.role (seen s past).state d (if go then ready else held_up))
+
 -- the frame that is called for has no place in the control queue
 abbrev pub LacksRoom : Setting → List Act → ℕ → Option Bool → Type 0
 LacksRoom s past d None = ⊥
-LacksRoom s past d (Some go) =
-    all_have_room s (seen s past) (by_flow s.role (seen s past).state d (if go then ready else held_up))
-    ≡ false
+LacksRoom s past d (Some go) = has_flow_room s past d go ≡ false
+
+-- it has one, if one is called for
+abbrev pub HasPlace : Setting → List Act → ℕ → Option Bool → Type 0
+HasPlace s past d None = Unit {0}
+HasPlace s past d (Some go) = has_flow_room s past d go ≡ true
 
 unfoldable pub HasNoRoom : Core → ℕ → (lines : ℕ) → Type 0
 HasNoRoom v d lines =
     (s : Setting) (past : List Act) → MayAsk s v past → LacksRoom s past d (due_by s past d lines)
+
+unfoldable pub FindsRoom : Core → ℕ → (lines : ℕ) → Type 0
+FindsRoom v d lines =
+    (s : Setting) (past : List Act) → MayAsk s v past → HasPlace s past d (due_by s past d lines)
 
 -- no backlog of d calls for anything
 unfoldable pub NeverDue : Core → ℕ → Type 0
@@ -89,6 +101,9 @@ TurnsFlow old new d go acts =
 
 unfoldable pub CannotTurn : Core → ℕ → (go : Bool) → Type 0
 CannotTurn v d go = (s : Setting) (past : List Act) → MayAsk s v past → LacksRoom s past d (Some go)
+
+unfoldable pub CanTurn : Core → ℕ → (go : Bool) → Type 0
+CanTurn v d go = (s : Setting) (past : List Act) → MayAsk s v past → HasPlace s past d (Some go)
 
 -- a call on another matter keeps what is held
 unfoldable pub KeepsHeld : Core → Core → Act → List Act → Type 0

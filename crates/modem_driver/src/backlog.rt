@@ -8,7 +8,7 @@ ghost use Rattle.mux_station.specs.Tables.{ready, held_up};
 ghost use Rattle.modem_driver.specs.Lanes.{turned};
 ghost use Rattle.modem_driver.specs.Cores.{lane_at};
 ghost use Rattle.modem_history.specs.declared.act.Act.TheVariants as act;
-ghost use Rattle.modem_driver.specs.Holding.{acts_due, due_in, Flows, HasNoRoom, NeverDue, TurnsFlow, CannotTurn};
+ghost use Rattle.modem_driver.specs.Holding.{acts_due, due_in, Flows, HasNoRoom, NeverDue, TurnsFlow, CannotTurn, CanTurn, FindsRoom};
 ghost use Rattle.modem_driver.specs.declared.error.CoreError.TheVariants as CoreError;
 
 use crate::act_list::ActList;
@@ -23,7 +23,7 @@ use mux_station::ChannelState;
 impl Core {
     /// So many lines of a connection wait for a place at their listener: from 256 on the other end is
     /// asked to stop sending on it, and below 128 to go on, by an MSC (27.010, 5.4.6.3.7). Refusals: 3
-    /// NoRoom in the control queue; 1 NoMemory. Both change nothing.
+    /// NoRoom in the control queue, looked at first; 1 NoMemory. Both change nothing.
     pub fn backlog(&mut self, dlci: Dlci, lines: usize) -> Result<Vec<Act>, CoreError>
         ensures past { IfOk result (λ acts.
             Flows self.old self.new dlci.number lines (map act_of acts.items)) }
@@ -31,6 +31,7 @@ impl Core {
             ≡ acts_due dlci.number (due_in self.old dlci.number lines)) }
         ensures err { OnErr result (self.new ≡ self.old) }
         ensures no_room { result ≡ Err CoreError.NoRoom → HasNoRoom self.old dlci.number lines }
+        ensures no_memory { result ≡ Err CoreError.NoMemory → FindsRoom self.old dlci.number lines }
         ensures others { result ≢ Err CoreError.BadN1 }
         ensures n1 { self.new.station.n1 ≡ self.old.station.n1 }
     {
@@ -84,9 +85,13 @@ impl Core {
         ensures acts { IfOk result (λ acts. map act_of acts.items ≡ acts_due dlci.number (Some go)) }
         ensures err { OnErr result (self.new ≡ self.old) }
         ensures no_room { result ≡ Err CoreError.NoRoom → CannotTurn self.old dlci.number go }
+        ensures no_memory { result ≡ Err CoreError.NoMemory → CanTurn self.old dlci.number go }
         ensures others { result ≢ Err CoreError.BadN1 }
         ensures n1 { self.new.station.n1 ≡ self.old.station.n1 }
     {
+        if !self.station.has_room_to_flow(dlci, go) {
+            return Err(CoreError::NoRoom);
+        }
         let msc = message(self.alloc, MSC, &[4 * dlci.number() + 3, signals_of(go)])?;
         let mut acts = ActList::with_room(self.alloc, 2)?;
         acts.push(flow_act(dlci, go));

@@ -2,14 +2,14 @@
 ghost use Rattle.std.specs.Prelude.{◌≡◌, ℕ, true, false, List, []};
 ghost use Rattle.std.specs.List.{list_all, list_any};
 ghost use Rattle.modem_driver.specs.EndingRows.{ends_in, going_rows, stopped_rows, AreNoEndings, IsNoGoing, IsRightEnding, StaysEnded};
-ghost use Rattle.modem_driver.specs.Headline.{IsHeadline, Run};
+ghost use Rattle.modem_driver.specs.Headline.{IsHeadline, Run, SendsFull};
 ghost use Rattle.modem_driver.specs.HeadlineRows.{AreRight, AreWrong, IsOtherOrder, right_places, wrong_places};
 ghost use Rattle.modem_driver.specs.Replays.{AreFull, Brought, Replays};
 ghost use Rattle.modem_driver.specs.ReplayRows.{NoReplay, NoReplayOfAny, WantsRoom, busy_again, busy_at_first, frame_invented, full_frames, full_queue, half_frames, lost_by_itself, one_request, request_dropped, test_comes, two_requests, while_opening};
 ghost use Rattle.modem_driver.specs.Room.{EachBeginsEmpty, FindsRoom, FitsEmpty, NeverWantsRoom};
 ghost use Rattle.modem_driver.specs.declared.event.Event.{Event};
 ghost use Rattle.modem_history.specs.Acts.{Act};
-ghost use Rattle.modem_history.specs.Sessions.{LineView};
+ghost use Rattle.modem_history.specs.Sessions.{Beginning, LineView, SessionView};
 ghost use Rattle.modem_driver.specs.PollRows.{AreNoPolls, IsLostSession};
 ghost use Rattle.modem_driver.specs.LivePollRows.{AreNoLivePolls, AsksPerTurn, IsNewSession, NoTickInAPoll, NoTickIsAPoll, ReadsTheLine};
 ghost use Rattle.modem_driver.specs.PollLaws.{RunsInHistories, LostFails, NoLossIsKeptBack, NoLossIsStopped, CallsTheLine, LostGivesFailed};
@@ -42,10 +42,12 @@ pub fn replays()
 /// at every moment what left on a connection since it opened is a prefix of its callers' command lines taken since then,
 /// each once, each caller's in its submitted order, none after a close; each answered command has just its solicited lines
 /// up to its final code; each subscribed unsolicited line was announced once; and every caller holds each of its outcomes
-/// once. A request that has two places, or none, is refused, and so are commands that left in another order.
-#[tactic(auto, using(crate::proofs::law_proofs::Headlines::headline, crate::proofs::rows::HeadlineRowFacts::all_right_places, crate::proofs::rows::HeadlineRowFacts::all_wrong_places, crate::proofs::rows::HeadlineRowFacts::other_order))]
+/// once. Of each command all data frames but the last have N1 octets of information, in every history of a session. A
+/// request that has two places, or none, is refused, and so are commands that left in another order.
+#[tactic(auto, using(crate::proofs::law_proofs::Headlines::headline, crate::proofs::replays::FullFrames::sends_full, crate::proofs::rows::HeadlineRowFacts::all_right_places, crate::proofs::rows::HeadlineRowFacts::all_wrong_places, crate::proofs::rows::HeadlineRowFacts::other_order))]
 pub fn headlines()
     ensures headline { (run : Run) → IsHeadline run }
+    ensures full { (b : Beginning) (v : SessionView) (past : List Act) → SendsFull b v past }
     ensures right { AreRight right_places }
     ensures wrong { AreWrong wrong_places }
     ensures order { IsOtherOrder }

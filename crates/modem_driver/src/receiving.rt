@@ -7,7 +7,7 @@ ghost use Rattle.mux_station.specs.Fitting as station_fits;
 ghost use Rattle.mux_station.specs.Noting.{says_open, noted_of};
 ghost use Rattle.mux_station.specs.Sending.{got_refused, station_view};
 ghost use Rattle.mux_station.specs.Stations.{setting_of, seen_in};
-ghost use Rattle.mux_station.specs.Written.{is_data_frame};
+ghost use Rattle.mux_station.specs.Tables.{have_room, octets_of, by_frame};
 ghost use Rattle.modem_history.specs.Acts.{act_of, Got};
 ghost use Rattle.modem_driver.specs.Running.{CoreIsIdle};
 ghost use Rattle.modem_driver.specs.Cores.{Handles, shows_opened, lane_at};
@@ -87,10 +87,11 @@ fn opens(noted: Noted) -> bool
     matches!(noted, Noted::Opened | Noted::Reset)
 }
 
-/// The station takes data of a connection other than 0. It calls for no frame, and so there is room for it.
-fn take_data(station: &mut Station, frame: FrameView<'_>) -> Noted
+/// The station takes a frame. The condition is that there is room for all that it calls for.
+fn take(station: &mut Station, frame: FrameView<'_>) -> Noted
     requires short { length frame.info.now ≤ most_info station.old.n1 frame.kind }
-    requires is_data { is_data_frame (frame_of frame) ≡ true }
+    requires room { have_room station.old.n1 (octets_of station.old.queue)
+        (by_frame station.old.role (seen_in station.old).state (frame_of frame)) ≡ true }
     ensures past { station_fits.StationHandles station.old station.new
         (station_acts.Got (frame_of frame.entry)) }
     ensures noted { (past : List station_acts.Act) → station_fits.StationFits station.old past
@@ -153,19 +154,22 @@ impl Core {
         ensures room { OnOk result (HasRoom self.old (Got (frame_of frame.entry)) true) }
         ensures no_room { result ≡ Err CoreError.NoRoom
             → HasRoom self.old (Got (frame_of frame.entry)) false }
+        ensures no_memory { result ≡ Err CoreError.NoMemory
+            → HasRoom self.old (Got (frame_of frame.entry)) true }
         ensures good_n1 { result ≢ Err CoreError.BadN1 }
         ensures err { OnErr result (self.new ≡ self.old) }
         ensures n1 { self.new.station.n1 ≡ self.old.station.n1 }
         ensures never_full { result ≡ Err CoreError.NoRoom → ¬ CoreIsIdle self.old }
     {
+        if !self.station.has_room_for(frame) {
+            return Err(CoreError::NoRoom);
+        }
         let mut acts = ActList::with_room(self.alloc, 2 + self.hand.len())?;
         let spare = Vec::with_capacity(self.alloc, frame.info.len().max(MSC_LEN))?;
         acts.push(Act::Got(frame.to_buf(self.alloc)?));
         let before = self.station.state(CONTROL);
         let place = self.station.queue_len();
-        let Ok(noted) = self.station.got(frame) else {
-            return Err(CoreError::NoRoom);
-        };
+        let noted = take(&mut self.station, frame);
         push_sent(&mut self.station, place, spare, &mut acts);
         let ended = has_ended(before, self.station.state(CONTROL));
         tell(
@@ -272,7 +276,7 @@ impl Core {
     {
         let (fork, mut acts) = self.read(frame)?;
         let done = self.join_lane(frame.dlci, fork, &mut acts)?;
-        let _noted = take_data(&mut self.station, frame);
+        let _noted = take(&mut self.station, frame);
         self.go_on(frame.dlci, done);
         Ok(acts)
     }
@@ -288,7 +292,7 @@ impl Core {
 
     /// Handles a frame that came. The condition is that its information is at most N1 octets, and empty
     /// in a kind other than UIH. Refusals, which change nothing: 3 NoRoom where not all frames that it
-    /// calls for fit into the control queue; 1 NoMemory.
+    /// calls for fit into the control queue, looked at first; 1 NoMemory.
     pub fn got(&mut self, frame: FrameView<'_>) -> Result<Vec<Act>, CoreError>
         requires { length frame.info.now ≤ most_info self.old.station.n1 frame.kind }
         ensures past { IfOk result (λ acts.
@@ -298,6 +302,8 @@ impl Core {
         ensures room { OnOk result (HasRoom self.old (Got (frame_of frame.entry)) true) }
         ensures no_room { result ≡ Err CoreError.NoRoom
             → HasRoom self.old (Got (frame_of frame.entry)) false }
+        ensures no_memory { result ≡ Err CoreError.NoMemory
+            → HasRoom self.old (Got (frame_of frame.entry)) true }
         ensures good_n1 { result ≢ Err CoreError.BadN1 }
         ensures err { OnErr result (self.new ≡ self.old) }
         ensures n1 { self.new.station.n1 ≡ self.old.station.n1 }

@@ -87,6 +87,16 @@ data_overtakes_frame = record {
   acts = csq_and_two ++ sends Uih 1 (codes "AT+CSQ" ++ cr) ∷ [];
 }
 
+-- AT+CSQ leaves in two frames, though N1 octets and more wait (27.010, 5.4)
+abbrev pub half_a_frame : SessionRow
+half_a_frame = record {
+  view =
+      settled one_came one_left (first_request ∷ second_request ∷ third_request ∷ []) opened_both [] [] last_flag;
+  acts =
+      opening_one ++ takes 3 (Command one (codes "AT+CSQ")) ∷ sends Uih 1 (codes "AT+C") ∷
+      sends Uih 1 (codes "SQ" ++ cr) ∷ [];
+}
+
 -- the octets of a frame wait that nothing called for
 abbrev pub octets_of_none : SessionRow
 octets_of_none = record { view = record (settled [] [] [] [] [] [] []) { unwritten = sabm_zero }; acts = [] }
@@ -329,7 +339,7 @@ announced_beyond = record {
 abbrev pub wrong_sessions : List SessionRow
 wrong_sessions =
     written_twice ∷ octet_left_out ∷ octet_waits_again ∷ marked_too_early ∷ marked_too_late ∷ two_marked ∷
-    data_overtakes_octets ∷ data_overtakes_frame ∷ octets_of_none ∷ broken_frame_got ∷ got_too_soon ∷
+    data_overtakes_octets ∷ data_overtakes_frame ∷ half_a_frame ∷ octets_of_none ∷ broken_frame_got ∷ got_too_soon ∷
     got_unfed ∷ frame_dropped ∷ flag_dropped ∷ other_n1 ∷ request_dropped ∷ aside_and_taken ∷
     request_invented ∷ number_twice ∷ caller_unknown ∷ sound_line_lost ∷ lost_twice ∷ told_and_kept ∷
     outcome_dropped ∷ told_to_another ∷ told_by_number ∷ told_in_other_order ∷ not_told_at_all ∷

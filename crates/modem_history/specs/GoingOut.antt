@@ -1,5 +1,5 @@
 -- What goes out next (27.010, 5.4): the control queue in its order, and where it is empty data.
-use Rattle.std.specs.Prelude.{ℕ, ◌+◌, ◌-◌, ◌==◌, ◌&&◌, not, Bool, List, [], ◌∷◌, length, take, drop, find, Option, None, Some, option_map, true, false, if◌then◌else◌}
+use Rattle.std.specs.Prelude.{◌≡◌, ℕ, ◌+◌, ◌-◌, ◌==◌, ◌&&◌, not, Bool, List, [], ◌∷◌, length, take, drop, find, Option, None, Some, option_map, true, false, if◌then◌else◌}
 use Rattle.std.specs.List.{concat, range_with_len}
 use Rattle.mux_frame.specs.Frames.{Frame}
 use Rattle.mux_frame.specs.declared.frame.Kind.TheVariants.{Uih}
@@ -15,6 +15,7 @@ use Rattle.modem_history.specs.Acts.{Act, Sent, Given, wire}
 use Rattle.modem_history.specs.Information.{accepted, texts, information_out}
 use Rattle.modem_history.specs.Placing.{marks}
 use Rattle.modem_history.specs.Calls.{Setting, is_lost}
+use Rattle.modem_history.specs.Lawful.{OnData}
 
 -- ## Data
 
@@ -70,3 +71,10 @@ with_out (Some o) past = act_out o ∷ past
 
 abbrev pub after_out : Setting → List Act → List Act
 after_out s past = with_out (next_out s past) past
+
+-- each data frame was the next to go out when it was sent: of the connection whose turn it was, and with as
+-- many octets as waited there, at most N1
+abbrev pub SendsInTurn : Setting → List Act → Type 0
+SendsInTurn s [] = Unit {0}
+SendsInTurn s (a ∷ past) =
+    OnData (λ (f : Frame). next_out s past ≡ Some (with_freshness true f)) a × SendsInTurn s past

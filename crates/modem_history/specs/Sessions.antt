@@ -19,6 +19,7 @@ use Rattle.modem_history.specs.Requests.{are_distinct}
 use Rattle.modem_history.specs.Kinds.{is_same_kind, is_listened, of_kind, on_channel}
 use Rattle.modem_history.specs.Calls.{Setting, is_loss, is_lost}
 use Rattle.modem_history.specs.Lawful.{Lawful, Complete}
+use Rattle.modem_history.specs.GoingOut.{SendsInTurn}
 use Rattle.modem_history.specs.Wholes.{taken_requests, outcomes, CompleteCalls}
 
 -- ## What is seen of a session
@@ -135,13 +136,14 @@ TakesWithRoom (_ ∷ past) = TakesWithRoom past
 
 -- ## What it fits
 
--- the history of a session: lawful, each of its calls complete, and no request taken where 128 are
--- in hand
+-- the history of a session: lawful, each of its calls complete, no request taken where 128 are in hand, and
+-- each data frame sent in turn
 pub record IsHistory (b : Beginning) (past : List Act) : Type 0 where
   pub lawful : Lawful (driving b) past
   pub complete : Complete (driving b) past
   pub calls : CompleteCalls (driving b) past
   pub room : TakesWithRoom past
+  pub in_turn : SendsInTurn (driving b) past
 
 -- a loss of the line: the history has one at most, and only where a call on the line has failed since the
 -- session began

@@ -1,5 +1,5 @@
 //! The frames that a frame which comes calls for.
-ghost use Rattle.std.specs.Prelude.{◌≡◌, ◌≤◌};
+ghost use Rattle.std.specs.Prelude.{◌≡◌, ◌≤◌, []};
 ghost use Rattle.mux_station.specs.Tables.{octets_of, response};
 ghost use Rattle.mux_station.specs.MessagesRead.{message_read};
 ghost use Rattle.mux_station.specs.Getting.{row_frames};
@@ -30,6 +30,16 @@ fn written_len(frame: &Option<ControlFrame>) -> usize
 }
 
 impl Answers {
+    /// No frame.
+    pub fn none() -> Answers
+        ensures { answers_sent result ≡ [] }
+    {
+        Answers {
+            first: None,
+            second: None,
+        }
+    }
+
     /// What a row of a table calls for.
     pub fn by_row(role: Role, dlci: Dlci, row: Row) -> Answers
         ensures { answers_sent result ≡ row_frames role dlci.number row.answer row.turn }

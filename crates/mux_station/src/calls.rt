@@ -155,6 +155,17 @@ impl Station {
         Ok(())
     }
 
+    /// The message that tells the other end whether it may send on a connection, or for 0 on all of them.
+    pub(crate) fn flow_message(&self, dlci: Dlci, go: bool) -> ControlFrame
+        ensures { control_frame result ∷ [] ≡ frames_asked self.now.role (Flow dlci.number go) }
+    {
+        if dlci.number() == 0 {
+            ControlFrame::message(self.role, if go { FCON } else { FCOFF }, &[])
+        } else {
+            ControlFrame::msc(self.role, dlci, if go { READY } else { HELD_UP })
+        }
+    }
+
     fn ask_flow(&mut self, dlci: Dlci, go: bool) -> Result<(), StationError>
         ensures refusal { result_err result ≡ refused_in self.old (Flow dlci.number go) }
         ensures ok { OnOk result (self.new
@@ -165,11 +176,7 @@ impl Station {
         if !(self.stage(dlci).is_opened() && self.is_running()) {
             return Err(StationError::NotOpen);
         }
-        let message = if dlci.number() == 0 {
-            ControlFrame::message(self.role, if go { FCON } else { FCOFF }, &[])
-        } else {
-            ControlFrame::msc(self.role, dlci, if go { READY } else { HELD_UP })
-        };
+        let message = self.flow_message(dlci, go);
         self.check_room(&message)?;
         self.control.push(message);
         Ok(())

@@ -32,7 +32,7 @@ use mux_frame::{Dlci, FrameView, Kind};
 
 impl Station {
     /// What the table of this end says of a frame.
-    fn row(&self, dlci: Dlci, kind: Kind) -> Row
+    pub(crate) fn row(&self, dlci: Dlci, kind: Kind) -> Row
         ensures turns { TurnsBy self.now.role ((dlci.number == 0) || is_opened (channel_at self.now 0).state)
             (channel_at self.now dlci.number).state kind result.turn }
         ensures frames { by_table self.now.role dlci.number (channel_at self.now 0).state
@@ -61,14 +61,22 @@ impl Station {
         }
     }
 
+    /// Whether the frames all fit into the control queue.
+    #[tactic(auto, using(crate::proofs::queues::QueueRoom::room_test))]
+    pub(crate) fn fits(&self, answers: &Answers) -> bool
+        ensures { result ≡ have_room self.now.n1 (octets_of self.now.queue) (answers_sent answers.now) }
+    {
+        self.control.has_room(answers.written_len())
+    }
+
     /// Puts the frames into the control queue: NoRoom where they don't all fit.
-    #[tactic(auto, using(crate::proofs::queues::QueueRoom::room_before, crate::proofs::queues::QueueRoom::room_behind, crate::proofs::queues::QueueRoom::room_test))]
+    #[tactic(auto, using(crate::proofs::queues::QueueRoom::room_before, crate::proofs::queues::QueueRoom::room_behind))]
     fn answer(&mut self, answers: Answers) -> Result<(), StationError>
         ensures refusal { result_err result ≡ without_room_in self.old (answers_sent answers) }
         ensures ok { OnOk result (self.new ≡ queued_in self.old (answers_sent answers)) }
         ensures err { OnErr result (self.new ≡ self.old) }
     {
-        if !self.control.has_room(answers.written_len()) {
+        if !self.fits(&answers) {
             return Err(StationError::NoRoom);
         }
         let Answers { first, second } = answers;

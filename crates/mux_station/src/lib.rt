@@ -17,6 +17,7 @@ mod outgoing;
 mod reading;
 mod repeats;
 mod role;
+mod room;
 mod row;
 mod sending;
 mod station;

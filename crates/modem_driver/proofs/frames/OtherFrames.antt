@@ -217,10 +217,3 @@ has_room_by false h = cc
 
 pub taken_room : (v : Core) (f : Frame) → IsSound v → v.lost ≡ false → f.dlci < 62 → None ≡ got_refused (setting_of v.station) (seen_in v.station) f → HasRoom v (Got f) true
 taken_room v f i n k h = room_is v f true i n k (has_room_by (have_room v.station.n1 (octets_of v.station.queue) (by_frame v.station.role (λ d. (channel_at v.station d).state) f)) h)
-
-lacks_by : (b : Bool) (why : StationError) → Some why ≡ (if b then None else Some NoRoom) → b ≡ false
-lacks_by false why h = refl
-lacks_by true why h = cc
-
-pub refused_room : (v : Core) (f : Frame) (why : StationError) → IsSound v → v.lost ≡ false → f.dlci < 62 → Some why ≡ got_refused (setting_of v.station) (seen_in v.station) f → HasRoom v (Got f) false
-refused_room v f why i n k h = room_is v f false i n k (lacks_by (have_room v.station.n1 (octets_of v.station.queue) (by_frame v.station.role (λ d. (channel_at v.station d).state) f)) why h)

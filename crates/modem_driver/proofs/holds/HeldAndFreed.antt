@@ -19,7 +19,7 @@ use Rattle.mux_station.specs.Messages.{msc}
 use Rattle.mux_station.specs.Opening.{since, is_open}
 use Rattle.mux_station.specs.States.{State, is_opened, state_of}
 use Rattle.mux_station.specs.Stages.{as_shown}
-use Rattle.mux_station.specs.Tables.{msc_frame, by_flow, ready, held_up, has_room, octets_of}
+use Rattle.mux_station.specs.Tables.{msc_frame, by_flow, ready, held_up, has_room, have_room, octets_of}
 use Rattle.mux_station.specs.Offering.{offered}
 use Rattle.mux_station.specs.Sending as sending
 use Rattle.mux_station.specs.Sending.{queue, refused, or_else, sent_after, probe_of}
@@ -44,7 +44,7 @@ use Rattle.modem_driver.specs.Telling.{told_to, left_by}
 use Rattle.modem_history.specs.Wholes.{taken_requests, is_first, is_said, UsesOnce}
 use Rattle.modem_driver.specs.Cores.{Core, Fits, Runs, RunsUnless, LaneFits, IsRun, MayCome, GoesOn, lane_at, may_wait, state_shown, probe_or, probe_in}
 use Rattle.modem_history.specs.Holding.{last_held, is_held, OnHeld}
-use Rattle.modem_driver.specs.Holding.{due_in, flow_due, flow_act, due_by, HoldsFit, MayAsk, FlowsOn, Flows, LacksRoom, HasNoRoom, NeverDue, TurnsFlow, CannotTurn}
+use Rattle.modem_driver.specs.Holding.{due_in, flow_due, flow_act, due_by, HoldsFit, MayAsk, FlowsOn, Flows, LacksRoom, HasPlace, HasNoRoom, FindsRoom, NeverDue, TurnsFlow, CannotTurn, CanTurn, has_flow_room}
 use Rattle.modem_history.proofs.calls.CalledActs.{calls_said}
 use Rattle.modem_history.proofs.commands.BegunCommands.{opens_by_sent}
 use Rattle.modem_history.proofs.calls.CallEnds.{frames_in, now_in, now_is, ended, end_of}
@@ -375,6 +375,30 @@ refusal_by true true false x h k e = refl
 refusal_by false r room x h k e = cc
 refusal_by true false room x h k e = cc
 
+-- whether the MSC has a place is what the station says of it
+turn_room : (s : Setting) (v : Core) (past : List Act) (d : ℕ) (go : Bool) (b : Bool) → v.station.role ≡ Initiator → v.lost ≡ false → d < 62 → (d == 0) ≡ false → is_opened (channel_at v.station d).state ≡ true
+    → have_room v.station.n1 (octets_of v.station.queue) (sending.frames_asked v.station.role (station.Flow d go)) ≡ b → MayAsk s v past → has_flow_room s past d go ≡ b
+turn_room s v past d go b role lost small z o h m =
+    let st = v.station in
+    let l = live_of s v past (flow_act d go) role lost (may_come s v past d go m) in
+    let asked : (has_room st.n1 (octets_of st.queue) (flow_frame d go st.role) && true) ≡ b
+    = ap (λ (y : Bool). have_room st.n1 (octets_of st.queue) (if y then sending.frames_asked st.role (station.Flow 0 go) else flow_frame d go st.role ∷ [])) (sym z) ∙ h in
+    let opened : is_opened (state_of s.role d (wire past)) ≡ true = ap is_opened (l.states_are d small) ∙ o in
+    ap (λ (y : Bool). all_have_room s (seen s past) (if y then flow_frame d go s.role ∷ [] else [])) opened
+    ∙ (ap (λ (n : ℕ). has_room n (octets_of (queue (wire past))) (flow_frame d go s.role) && true) l.n1_is
+    ∙ (ap (λ (q : ℕ). has_room st.n1 q (flow_frame d go s.role) && true) l.queued_is
+    ∙ (ap (λ (r : Role). has_room st.n1 (octets_of st.queue) (flow_frame d go r) && true) l.same_role ∙ asked)))
+
+pub lacks_room : (v : Core) (d : ℕ) (go : Bool) → v.station.role ≡ Initiator → v.lost ≡ false → d < 62 → (d == 0) ≡ false → is_opened (channel_at v.station d).state ≡ true
+    → have_room v.station.n1 (octets_of v.station.queue) (sending.frames_asked v.station.role (station.Flow d go)) ≡ false → CannotTurn v d go
+unfolding CannotTurn
+lacks_room v d go role lost b z o h s past m = turn_room s v past d go false role lost b z o h m
+
+pub finds_room : (v : Core) (d : ℕ) (go : Bool) → v.station.role ≡ Initiator → v.lost ≡ false → d < 62 → (d == 0) ≡ false → is_opened (channel_at v.station d).state ≡ true
+    → have_room v.station.n1 (octets_of v.station.queue) (sending.frames_asked v.station.role (station.Flow d go)) ≡ true → CanTurn v d go
+unfolding CanTurn
+finds_room v d go role lost b z o h s past m = turn_room s v past d go true role lost b z o h m
+
 pub cannot_turn : (v : Core) (d : ℕ) (go : Bool) (x : StationError) → v.station.role ≡ Initiator → v.lost ≡ false → d < 62 → (d == 0) ≡ false → is_opened (channel_at v.station d).state ≡ true
     → refused (setting_of v.station) (seen_in v.station) (station.Flow d go) ≡ Some x → CannotTurn v d go
 unfolding CannotTurn
@@ -449,6 +473,10 @@ none_flows v d lines acts role b h e s past m =
 pub some_flows : (v new : Core) (d lines : ℕ) (go : Bool) (acts : List Act) → v.station.role ≡ Initiator → d < 62 → due_in v d lines ≡ Some go → TurnsFlow v new d go acts → Flows v new d lines acts
 unfolding Flows TurnsFlow
 some_flows v new d lines go acts role b h t s past m = subst (λ (o : Option Bool). FlowsOn s v new past d o acts) (sym (due_same s v past d lines role b m ∙ h)) (t s past m)
+
+pub some_finds : (v : Core) (d lines : ℕ) (go : Bool) → v.station.role ≡ Initiator → d < 62 → due_in v d lines ≡ Some go → CanTurn v d go → FindsRoom v d lines
+unfolding FindsRoom CanTurn
+some_finds v d lines go role b h t s past m = subst (λ (o : Option Bool). HasPlace s past d o) (sym (due_same s v past d lines role b m ∙ h)) (t s past m)
 
 pub some_lacks : (v : Core) (d lines : ℕ) (go : Bool) → v.station.role ≡ Initiator → d < 62 → due_in v d lines ≡ Some go → CannotTurn v d go → HasNoRoom v d lines
 unfolding HasNoRoom CannotTurn

@@ -37,6 +37,7 @@ use Rattle.modem_history.proofs.requests.RequestsAfterCalls.{distinct_front}
 use Rattle.modem_history.proofs.outcomes.SingleOutcomes.{of_its_caller, uses_once}
 use Rattle.modem_history.proofs.requests.UntoldRequests.{all_answer, hand_is}
 use Rattle.modem_driver.specs.Headline.{AnswersOwn, Announces, HasEnd, HasOnePlace, HearsEach, Holds, InSubmittedOrder, IsHeadline, IsSettled, NoneAfterClose, Run, outcomes_of}
+use Rattle.modem_driver.proofs.replays.FullFrames.{turns_are_full}
 use Rattle.modem_driver.proofs.law_proofs.RequestNumbers.{numbered_once}
 use Rattle.modem_driver.proofs.law_proofs.RequestPlaces.{counted_own, is_counted, one_place}
 use Rattle.modem_driver.proofs.law_proofs.SubmittedOrder.{Stretch, stretch_of}
@@ -269,6 +270,7 @@ headline run s =
         order = in_order run s e.past e.fits newer older joins d;
       };
       none_after_close = while_open run e.past e.fits.history.lawful;
+      full = turns_are_full (driving run.start) e.past e.fits.history.in_turn;
       answers = answers_own run s e.past e.fits;
       hears = hears_each run e.past e.fits;
       announces = announces_each run s e;

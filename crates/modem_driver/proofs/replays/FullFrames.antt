@@ -20,7 +20,10 @@ use Rattle.modem_history.specs.Information.{accepted, texts, line_of, informatio
 use Rattle.modem_history.specs.Placing.{marks}
 use Rattle.modem_history.specs.Wholes.{is_first, is_said}
 use Rattle.modem_driver.specs.declared.event.Event.{Event}
-use Rattle.modem_history.specs.GoingOut.{waits_on, may_send, from_on, next_to_send, data_of, out_by, next_out}
+use Rattle.modem_history.specs.Lawful.{When}
+use Rattle.modem_history.specs.Sessions.{Beginning, SessionView, driving}
+use Rattle.modem_driver.specs.Headline.{SendsFull}
+use Rattle.modem_history.specs.GoingOut.{SendsInTurn, waits_on, may_send, from_on, next_to_send, data_of, out_by, next_out}
 use Rattle.modem_driver.specs.Replays.{Piece, acts_in, first_of, after_call, with_piece, GoOutInTurn, ArePieces, Replays, AreFull, ends_command, is_full}
 use Rattle.modem_driver.specs.ReplayRows.{half_frames, NoReplayOfAny}
 use Rattle.modem_driver.proofs.replays.FirstActs.{brought_first}
@@ -170,6 +173,32 @@ pub full : (n1 : ℕ) (events : List Event) (acts : List Act) → Replays n1 eve
 full n1 events acts r =
     let all = brought_first n1 [] events (map first_of r.pieces) r.begins in
     subst (AreFull n1) r.joins (pieces_are_full (replaying n1) r.pieces [] all r.are_pieces)
+
+-- ## Histories
+
+-- where each data frame was the next to go out
+pub turns_are_full : (s : Setting) (past : List Act) → SendsInTurn s past → AreFull s.n1 past
+turns_are_full s [] h = refl
+turns_are_full s (Sent f ∷ past) h =
+    and_from (is_full s.n1 (Sent f)) (list_all (is_full s.n1) past) (by_kind (is_data_frame f) refl h.0) (turns_are_full s past h.1)
+  where
+    by_kind : (b : Bool) → is_data_frame f ≡ b → When b (next_out s past ≡ Some (with_freshness true f)) → is_full s.n1 (Sent f) ≡ true
+    by_kind true e next = sent_full s past f next
+    by_kind false e next = or_first (not (is_data_frame f)) ((length f.info == s.n1) || ends_command f.info) (ap not e)
+turns_are_full s (Took r ∷ past) h = turns_are_full s past h.1
+turns_are_full s (Got f ∷ past) h = turns_are_full s past h.1
+turns_are_full s (Told o ∷ past) h = turns_are_full s past h.1
+turns_are_full s (Heard k d line ∷ past) h = turns_are_full s past h.1
+turns_are_full s (Tick ∷ past) h = turns_are_full s past h.1
+turns_are_full s (Lost ∷ past) h = turns_are_full s past h.1
+turns_are_full s (Held d ∷ past) h = turns_are_full s past h.1
+turns_are_full s (Freed d ∷ past) h = turns_are_full s past h.1
+turns_are_full s (Given ∷ past) h = turns_are_full s past h.1
+
+-- so it is of every session
+pub sends_full : (b : Beginning) (v : SessionView) (past : List Act) → SendsFull b v past
+unfolding SendsFull
+sends_full b v past f = turns_are_full (driving b) past f.history.in_turn
 
 -- ## Rows
 

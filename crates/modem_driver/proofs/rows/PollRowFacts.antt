@@ -23,7 +23,7 @@ pub is_lost_session : IsLostSession
 unfolding IsLostSession Lawful Complete
 is_lost_session at = record {
   session = record {
-    history = record { lawful = (record { gated = tt; once = tt; in_turn = tt; controlled = tt; answered = tt; heard = tt; prompt = tt; held = tt; marked = tt }, tt); complete = refl; calls = ((λ e. refl), tt); room = tt };
+    history = record { lawful = (record { gated = tt; once = tt; in_turn = tt; controlled = tt; answered = tt; heard = tt; prompt = tt; held = tt; marked = tt }, tt); complete = refl; calls = ((λ e. refl), tt); room = tt; in_turn = (tt, tt) };
     loss = record { one = lit≤ tt; by_fault = λ gone. lit< tt };
     requests = record { taken_are = refl; once = refl; callers = refl; few = lit≤ tt };
     received = record { fed = []; received_are = refl; bound = refl; deframes = past_none 31 };

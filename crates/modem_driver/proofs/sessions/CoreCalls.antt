@@ -9,6 +9,8 @@ use Rattle.modem_desk.specs.declared.request.Request.{Request}
 use Rattle.modem_desk.specs.declared.request.Outcome.{Outcome}
 use Rattle.modem_desk.specs.Ends.{DriverView}
 use Rattle.modem_history.specs.Acts.{Act, after, in_hand}
+use Rattle.modem_history.specs.Calls.{Setting}
+use Rattle.modem_history.specs.GoingOut.{SendsInTurn}
 use Rattle.modem_history.specs.Requests.{are_distinct}
 use Rattle.modem_history.specs.Wholes.{UsesOnce, taken_requests}
 use Rattle.modem_history.specs.Sessions.{Beginning, LineView, FitsWith, FitsLoss, FitsReceived, TakesWithRoom, driving, given_on, heard_as}
@@ -21,7 +23,7 @@ use Rattle.modem_driver.specs.Cores.{MayCome, GoesOn, IsRun}
 use Rattle.modem_driver.specs.Holding.{HoldsFit}
 use Rattle.modem_driver.specs.Endings.{HasCome, is_stop}
 use Rattle.modem_driver.specs.SessionStates.{Kept, KeptFits, seen_by, end_of}
-use Rattle.modem_driver.proofs.sessions.LongerHistories.{taken_after, given_after, room_after, has_listener}
+use Rattle.modem_driver.proofs.sessions.LongerHistories.{taken_after, given_after, room_after, turn_after, has_listener}
 use Rattle.modem_driver.proofs.sessions.OutcomeCounts.{is_caller, hand_counts, callers_told}
 use Rattle.modem_driver.proofs.sessions.ListenedLines.{Hear, all_listened}
 use Rattle.modem_driver.proofs.sessions.WaitingDeliveries.{told_part, heard_part, sent_part}
@@ -69,6 +71,7 @@ pub record IsBare (a : Act) (past : List Act) : Type 0 where
   pub given_is : given_on (a ∷ past) ≡ given_on past
   pub hand_is : in_hand (a ∷ past) ≡ in_hand past
   pub room_is : TakesWithRoom past → TakesWithRoom (a ∷ past)
+  pub turn_is : (s : Setting) → SendsInTurn s past → SendsInTurn s (a ∷ past)
   pub told_is : (more : List Act) → outcomes_told (a ∷ more) ≡ outcomes_told more
   pub heard_is : (more : List Act) → lines_heard (a ∷ more) ≡ lines_heard more
 
@@ -107,6 +110,7 @@ call_fits b l d old new past more a f bare goes holds said hear keeps aside unwr
           complete = goes.run.complete;
           calls = goes.run.whole;
           room = room_after more (a ∷ past) said (bare.room_is s.history.room);
+          in_turn = turn_after (driving b) more (a ∷ past) said (bare.turn_is (driving b) s.history.in_turn);
         };
         loss = loss;
         requests = record {

@@ -37,7 +37,7 @@ use Rattle.modem_driver.proofs.sessions.EndedStops.{none_noted}
 use Rattle.modem_history.specs.Lawful.{Lawful}
 
 got_bare : (f : Frame) (past : List Act) → IsBare (Got f) past
-got_bare f past = record { taken_is = refl; given_is = refl; hand_is = refl; room_is = λ h. h; told_is = λ more. refl; heard_is = λ more. refl }
+got_bare f past = record { taken_is = refl; given_is = refl; hand_is = refl; room_is = λ h. h; turn_is = λ s h. (tt, h); told_is = λ more. refl; heard_is = λ more. refl }
 
 -- what came, whatever the core says first of it
 abbrev came : Frame → List Act → List Act

@@ -30,7 +30,7 @@ use Rattle.modem_driver.proofs.sessions.OneFrame.{said_none}
 use Rattle.modem_driver.proofs.sessions.StopsInHand.{ends, ends_by, later_ends, none_ends, unless_ends}
 
 lost_bare : (past : List Act) → IsBare Lost past
-lost_bare past = record { taken_is = refl; given_is = refl; hand_is = refl; room_is = λ h. h; told_is = λ more. refl; heard_is = λ more. refl }
+lost_bare past = record { taken_is = refl; given_is = refl; hand_is = refl; room_is = λ h. h; turn_is = λ s h. (tt, h); told_is = λ more. refl; heard_is = λ more. refl }
 
 none_lost : (past : List Act) → is_lost past ≡ false → filter is_loss past ≡ []
 none_lost [] h = refl

@@ -2,14 +2,17 @@
 use Rattle.std.proofs.Common.{ap, sym, ◌∙◌}
 use Rattle.std.proofs.lemmas.Bool.{and_parts}
 use Rattle.std.proofs.lemmas.List.{append_assoc, append-nil}
-use Rattle.std.specs.Prelude.{◌≡◌, ℕ, ◌&&◌, not, Bool, true, false, List, [], ◌∷◌, ◌++◌, filter, map, refl, if◌then◌else◌}
+use Rattle.std.specs.Prelude.{◌≡◌, ℕ, ◌&&◌, not, Bool, true, false, List, [], ◌∷◌, ◌++◌, filter, map, refl, Some, if◌then◌else◌}
 use Rattle.std.specs.List.{list_all}
 use Rattle.mux_frame.specs.Frames.{Frame}
 use Rattle.mux_station.specs.Written.{is_data_frame}
+use Rattle.mux_station.specs.GivenFrames.{with_freshness}
 use Rattle.at_text.specs.declared.unsolicited.UrcKind.{UrcKind}
 use Rattle.modem_desk.specs.declared.request.Urc.{Urc}
 use Rattle.modem_history.specs.Acts.{Act, Took, Got, Sent, Told, Heard, Tick, Lost, Held, Freed, Given, after}
-use Rattle.modem_history.specs.Calls.{is_loss, is_lost}
+use Rattle.modem_history.specs.Calls.{Setting, is_loss, is_lost}
+use Rattle.modem_history.specs.Lawful.{When}
+use Rattle.modem_history.specs.GoingOut.{SendsInTurn, next_out}
 use Rattle.modem_history.specs.Kinds.{is_same_kind, of_kind, is_listened}
 use Rattle.modem_history.specs.Wholes.{is_said, taken_requests, outcomes}
 use Rattle.modem_history.specs.Sessions.{TakesWithRoom, gots, given_on, heards, heard_as}
@@ -109,6 +112,29 @@ room_after [] past h room = room
 room_after (a ∷ more) past h room =
     let parts = and_parts (is_said a) (list_all is_said more) h in
     room_after more (a ∷ past) parts.1 (room_stays a past parts.0 room)
+
+-- data alone is sent in turn, and no call says any
+turn_stays : (s : Setting) (a : Act) (past : List Act) → is_said a ≡ true → SendsInTurn s past → SendsInTurn s (a ∷ past)
+turn_stays s (Took r) past h turn = unsaid h
+turn_stays s Lost past h turn = (tt, turn)
+turn_stays s (Sent f) past h turn = (no_data (is_data_frame f) h, turn)
+  where
+    no_data : (b : Bool) → not b ≡ true → When b (next_out s past ≡ Some (with_freshness true f))
+    no_data false h = tt
+    no_data true h = unsaid h
+turn_stays s Given past h turn = (tt, turn)
+turn_stays s (Got f) past h turn = (tt, turn)
+turn_stays s (Told o) past h turn = (tt, turn)
+turn_stays s (Heard k d line) past h turn = (tt, turn)
+turn_stays s Tick past h turn = (tt, turn)
+turn_stays s (Held d) past h turn = (tt, turn)
+turn_stays s (Freed d) past h turn = (tt, turn)
+
+pub turn_after : (s : Setting) (more past : List Act) → Saids more → SendsInTurn s past → SendsInTurn s (after past more)
+turn_after s [] past h turn = turn
+turn_after s (a ∷ more) past h turn =
+    let parts = and_parts (is_said a) (list_all is_said more) h in
+    turn_after s more (a ∷ past) parts.1 (turn_stays s a past parts.0 turn)
 
 pub gots_after : (more past : List Act) → Saids more → gots (after past more) ≡ gots past
 gots_after more past h = stays gots got_stays more past h

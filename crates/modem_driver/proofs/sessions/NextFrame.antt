@@ -25,7 +25,7 @@ use Rattle.modem_history.specs.Turns.{outcomes_told, lines_heard, may_act}
 use Rattle.modem_driver.specs.Cores.{Core}
 use Rattle.modem_driver.specs.CoreGoing.{StandsIn, GoesOut, CoreGoesOn, gone_on}
 use Rattle.modem_history.specs.EveryTurn.{acts_out, octets_out, goes_in}
-use Rattle.modem_history.specs.GoingOut.{next_out, out_by, next_to_send, data_of, with_out, after_out}
+use Rattle.modem_history.specs.GoingOut.{SendsInTurn, next_out, out_by, next_to_send, data_of, with_out, after_out}
 use Rattle.modem_driver.specs.Holding.{HoldsFit, KeepsHeldOut}
 use Rattle.modem_driver.specs.Running.{CoreIsIdle}
 use Rattle.modem_driver.specs.SessionStates.{Kept, seen_by, end_of}
@@ -147,6 +147,15 @@ is_out : (c : Bool) (f : Frame) (past : List Act) → IsOut (out_act c f) past
 is_out true f past = record { taken_is = refl; hand_is = refl; room_is = λ h. h; gots_are = refl; losses_are = refl; lost_is = refl; told_are = refl; heard_are = refl; may = λ us. refl }
 is_out false f past = record { taken_is = refl; hand_is = refl; room_is = λ h. h; gots_are = refl; losses_are = refl; lost_is = refl; told_are = refl; heard_are = refl; may = λ us. refl }
 
+-- what goes out is the next
+out_in_turn : (s : Setting) (c : Bool) (f : Frame) (past : List Act) → Some (with_freshness c f) ≡ next_out s past → SendsInTurn s past → SendsInTurn s (out_act c f ∷ past)
+out_in_turn s true f past next turn = (on_data (is_data_frame f), turn)
+  where
+    on_data : (b : Bool) → When b (next_out s past ≡ Some (with_freshness true f))
+    on_data true = sym next
+    on_data false = tt
+out_in_turn s false f past next turn = (tt, turn)
+
 out_few : (c : Bool) (f : Frame) → length (gots (out_act c f ∷ [])) ≤ 0
 out_few true f = omega arith
 out_few false f = omega arith
@@ -182,7 +191,7 @@ out_fits old c f out none short goes on holds writes b l d past fit =
     let before : sent.since ≡ octets_of_frames (given_on past) = sym (append-nil sent.since) ∙ (ap (λ (xs : List ℕ). sent.since ++ xs) (sym none) ∙ sent.frames_are) in
     record {
       session = record {
-        history = record { lawful = goes_on.run.lawful; complete = goes_on.run.complete; calls = goes_on.run.whole; room = more.room_is h.history.room };
+        history = record { lawful = goes_on.run.lawful; complete = goes_on.run.complete; calls = goes_on.run.whole; room = more.room_is h.history.room; in_turn = out_in_turn s c f past next h.history.in_turn };
         loss = record {
           one = subst (λ (xs : List Act). length xs ≤ 1) (sym more.losses_are) h.loss.one;
           by_fault = λ gone. h.loss.by_fault (sym more.lost_is ∙ gone);

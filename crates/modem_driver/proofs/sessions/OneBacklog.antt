@@ -45,8 +45,8 @@ may_ask : (b : Beginning) (l : LineView) (d : DriverView) (k : Kept) (past : Lis
 may_ask b l d k past f = record { setting = f.inside.setting; fits = f.inside.fits; holds = f.inside.holds; run = is_run b l d k past f }
 
 flow_bare : (n : ℕ) (go : Bool) (past : List Act) → IsBare (flow_act n go) past
-flow_bare n true past = record { taken_is = refl; given_is = refl; hand_is = refl; room_is = λ h. h; told_is = λ more. refl; heard_is = λ more. refl }
-flow_bare n false past = record { taken_is = refl; given_is = refl; hand_is = refl; room_is = λ h. h; told_is = λ more. refl; heard_is = λ more. refl }
+flow_bare n true past = record { taken_is = refl; given_is = refl; hand_is = refl; room_is = λ h. h; turn_is = λ s h. (tt, h); told_is = λ more. refl; heard_is = λ more. refl }
+flow_bare n false past = record { taken_is = refl; given_is = refl; hand_is = refl; room_is = λ h. h; turn_is = λ s h. (tt, h); told_is = λ more. refl; heard_is = λ more. refl }
 
 no_loss : (n : ℕ) (go : Bool) (past : List Act) → filter is_loss (flow_act n go ∷ past) ≡ filter is_loss past
 no_loss n true past = refl

@@ -21,7 +21,7 @@ use Rattle.modem_driver.specs.SessionStates.{Kept, KeptGoes, seen_by, end_of}
 use Rattle.modem_driver.specs.TurnSteps.{Adds}
 use Rattle.modem_driver.specs.TurnTakes.{TakesAside}
 use Rattle.modem_driver.specs.WaitingLists.{WaitingLists, Keeps}
-use Rattle.modem_driver.proofs.sessions.LongerHistories.{gots_after, taken_after, given_after, losses_after, lost_after, room_after}
+use Rattle.modem_driver.proofs.sessions.LongerHistories.{gots_after, taken_after, given_after, losses_after, lost_after, room_after, turn_after}
 use Rattle.modem_driver.proofs.sessions.CoreCalls.{FitsKept, is_run}
 use Rattle.modem_driver.proofs.sessions.OutcomeCounts.{is_caller, hand_counts, callers_told}
 use Rattle.modem_driver.proofs.sessions.StopProgress.{come_on, grows_none}
@@ -89,6 +89,7 @@ takes_all old core room q w acts aside role handles held keeps b l d past f =
             complete = here.run.complete;
             calls = here.run.whole;
             room = room_after more (Took q ∷ past) said (omega arith, f.session.history.room);
+            in_turn = turn_after s more (Took q ∷ past) said (tt, f.session.history.in_turn);
           };
           loss = record {
             one = subst (λ (xs : List Act). length xs ≤ 1) (sym (losses_after more (Took q ∷ past) said)) f.session.loss.one;

@@ -62,7 +62,7 @@ begins_over n1 ks k l d e inside =
 -- ## A tick
 
 tick_bare : (past : List Act) → IsBare Tick past
-tick_bare past = record { taken_is = refl; given_is = refl; hand_is = refl; room_is = λ h. h; told_is = λ more. refl; heard_is = λ more. refl }
+tick_bare past = record { taken_is = refl; given_is = refl; hand_is = refl; room_is = λ h. h; turn_is = λ s h. (tt, h); told_is = λ more. refl; heard_is = λ more. refl }
 
 pub tick_goes : (old : Kept) (core : Core) (room : ℕ) (w : WaitingLists) (acts : List Act)
     → Handles old.core core Tick acts → KeepsHeld old.core core Tick acts → Keeps (record { outcomes = old.unplaced; lines = old.unannounced; room = room }) w acts → old.core.lost ≡ false

@@ -112,7 +112,7 @@ drop_own (q ∷ qs) = drop_own qs
 pub begins_fitting : (b : Beginning) → BeginsFitting b
 unfolding BeginsFitting Lawful Complete
 begins_fitting b = record {
-  history = record { lawful = tt; complete = refl; calls = tt; room = tt };
+  history = record { lawful = tt; complete = refl; calls = tt; room = tt; in_turn = tt };
   loss = record { one = lit≤ tt; by_fault = λ gone. absurd (never gone) };
   requests = record {
     taken_are = sym (append-nil (b.desk.taken ++ []) ∙ append-nil b.desk.taken);

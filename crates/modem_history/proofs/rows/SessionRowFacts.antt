@@ -1,6 +1,6 @@
 -- The rows of sessions, computed.
 use Rattle.std.proofs.Common.{ap, sym, ◌∙◌, subst, arith, lit<, lit≤, length-drop}
-use Rattle.std.specs.Prelude.{◌≡◌, ℕ, ◌-◌, ◌<◌, ◌≤◌, ◌==◌, ◌&&◌, nat_lt, Bool, true, false, List, [], ◌∷◌, ◌++◌, length, map, take, drop, Some, None, refl}
+use Rattle.std.specs.Prelude.{◌≡◌, ℕ, ◌-◌, ◌<◌, ◌≤◌, ◌==◌, ◌&&◌, nat_lt, Bool, true, false, List, [], ◌∷◌, ◌++◌, length, map, take, drop, Option, Some, None, refl}
 use Rattle.std.proofs.lemmas.Bool.{ltb-true, eq-eqb}
 use Rattle.mux_frame.specs.declared.frame.Kind.TheVariants.{Ua}
 use Rattle.mux_frame.specs.CheckOctet.{check_octet_of}
@@ -10,6 +10,7 @@ use Rattle.mux_frame.specs.Deframing.{AtHand, Deframes}
 use Rattle.mux_frame.proofs.readings.LaterTexts.{reads_on}
 use Rattle.mux_station.specs.declared.role.Role.TheVariants.{Responder}
 use Rattle.mux_station.specs.Written.{written}
+use Rattle.mux_station.specs.GivenFrames.{Outgoing}
 use Rattle.at_text.specs.declared.unsolicited.UrcKind.TheVariants.{Ring, Creg}
 use Rattle.modem_history.specs.Acts.{Act, after}
 use Rattle.std.proofs.lemmas.List.{append_assoc}
@@ -21,7 +22,7 @@ use Rattle.modem_history.specs.Wholes.{outcomes}
 use Rattle.modem_history.specs.Sessions.{Beginning, SessionView, FitsSent, ToldTo, AnnouncedTo, octets_of_frames, caller_outcomes, at_place, heards, heard_as, driving, gots, given_on, last_octets}
 use Rattle.modem_history.specs.SessionRows.{SessionRow, IsRight, IsWrong, Each, beginning, entry_answer, lf_octet, zero_came, one_came, ua_zero, broken_ua_zero, ring_one, last_flag, ring}
 use Rattle.modem_history.specs.GoodSessions.{right_sessions, nothing_yet, sabm_queued, sabm_half_sent, ua_unfed, ua_at_hand, zero_opened, outcome_waits, request_aside, csq_sent, ring_announced, ring_waits, line_lost}
-use Rattle.modem_history.specs.BadSessions.{wrong_sessions, written_twice, octet_left_out, octet_waits_again, marked_too_early, marked_too_late, two_marked, data_overtakes_octets, data_overtakes_frame, octets_of_none, broken_frame_got, got_too_soon, got_unfed, frame_dropped, flag_dropped, other_n1, request_dropped, aside_and_taken, request_invented, number_twice, caller_unknown, sound_line_lost, lost_twice, told_and_kept, outcome_dropped, told_to_another, told_by_number, told_in_other_order, not_told_at_all, announced_out_of_order, announced_elsewhere, announced_twice, line_dropped, unheard_line_waits, lines_change_places, announced_beyond}
+use Rattle.modem_history.specs.BadSessions.{wrong_sessions, written_twice, octet_left_out, octet_waits_again, marked_too_early, marked_too_late, two_marked, data_overtakes_octets, data_overtakes_frame, half_a_frame, octets_of_none, broken_frame_got, got_too_soon, got_unfed, frame_dropped, flag_dropped, other_n1, request_dropped, aside_and_taken, request_invented, number_twice, caller_unknown, sound_line_lost, lost_twice, told_and_kept, outcome_dropped, told_to_another, told_by_number, told_in_other_order, not_told_at_all, announced_out_of_order, announced_elsewhere, announced_twice, line_dropped, unheard_line_waits, lines_change_places, announced_beyond}
 use Rattle.modem_history.proofs.rows.HistoryTests.{refused, incomplete}
 use Rattle.modem_history.proofs.rows.SessionTests.{all_small, small_octets, frames_in, rest_of, read_in, is_read, fed_is, fits_by, fits_none, octets_differ, acts_differ, outcomes_differ, requests_differ}
 
@@ -111,6 +112,11 @@ heard_whole v past i k none f =
 
 -- ## Octets that leave
 
+-- the information of the frame that goes out
+abbrev info_out : Option Outgoing → List ℕ
+info_out None = []
+info_out (Some o) = o.frame.info
+
 written_twice_wrong : IsWrong written_twice
 unfolding check_octet_of body_of
 written_twice_wrong f = octets_differ _ _ refl (sent_whole _ _ _ f.sent)
@@ -134,6 +140,9 @@ marked_too_late_wrong f = octets_differ _ _ refl (sent_whole _ _ _ f.sent)
 data_overtakes_octets_wrong : IsWrong data_overtakes_octets
 unfolding check_octet_of body_of
 data_overtakes_octets_wrong f = octets_differ _ _ refl (sent_whole _ _ _ f.sent)
+
+half_a_frame_wrong : IsWrong half_a_frame
+half_a_frame_wrong f = octets_differ _ _ refl (ap info_out f.history.in_turn.1.0)
 
 octets_of_none_wrong : IsWrong octets_of_none
 octets_of_none_wrong f = octets_differ _ _ refl (sent_whole _ _ _ f.sent)
@@ -266,4 +275,4 @@ lost_twice_wrong : IsWrong lost_twice
 lost_twice_wrong f = let few : 2 ≤ 1 = f.loss.one in omega arith
 
 pub all_wrong : Each IsWrong wrong_sessions
-all_wrong = (written_twice_wrong, (octet_left_out_wrong, (octet_waits_again_wrong, (marked_too_early_wrong, (marked_too_late_wrong, (two_marked_wrong, (data_overtakes_octets_wrong, (data_overtakes_frame_wrong, (octets_of_none_wrong, (broken_frame_got_wrong, (got_too_soon_wrong, (got_unfed_wrong, (frame_dropped_wrong, (flag_dropped_wrong, (other_n1_wrong, (request_dropped_wrong, (aside_and_taken_wrong, (request_invented_wrong, (number_twice_wrong, (caller_unknown_wrong, (sound_line_lost_wrong, (lost_twice_wrong, (told_and_kept_wrong, (outcome_dropped_wrong, (told_to_another_wrong, (told_by_number_wrong, (told_in_other_order_wrong, (not_told_at_all_wrong, (announced_out_of_order_wrong, (announced_elsewhere_wrong, (announced_twice_wrong, (line_dropped_wrong, (unheard_line_waits_wrong, (lines_change_places_wrong, (announced_beyond_wrong, tt)))))))))))))))))))))))))))))))))))
+all_wrong = (written_twice_wrong, (octet_left_out_wrong, (octet_waits_again_wrong, (marked_too_early_wrong, (marked_too_late_wrong, (two_marked_wrong, (data_overtakes_octets_wrong, (data_overtakes_frame_wrong, (half_a_frame_wrong, (octets_of_none_wrong, (broken_frame_got_wrong, (got_too_soon_wrong, (got_unfed_wrong, (frame_dropped_wrong, (flag_dropped_wrong, (other_n1_wrong, (request_dropped_wrong, (aside_and_taken_wrong, (request_invented_wrong, (number_twice_wrong, (caller_unknown_wrong, (sound_line_lost_wrong, (lost_twice_wrong, (told_and_kept_wrong, (outcome_dropped_wrong, (told_to_another_wrong, (told_by_number_wrong, (told_in_other_order_wrong, (not_told_at_all_wrong, (announced_out_of_order_wrong, (announced_elsewhere_wrong, (announced_twice_wrong, (line_dropped_wrong, (unheard_line_waits_wrong, (lines_change_places_wrong, (announced_beyond_wrong, tt))))))))))))))))))))))))))))))))))))

@@ -1,6 +1,6 @@
 -- Whether a session fits a history, by tests that compute.
 use Rattle.std.proofs.Common.{ap, sym, ◌∙◌, subst, arith, lit<, eqb-true}
-use Rattle.std.specs.Prelude.{◌≡◌, ℕ, zero, suc, ◌+◌, ◌<◌, ◌≤◌, ◌==◌, ◌&&◌, ◌||◌, not, nat_lt, nat_le, Bool, true, false, List, [], ◌∷◌, ◌++◌, length, drop, filter, flat_map, map, refl, None, option_to_list}
+use Rattle.std.specs.Prelude.{◌≡◌, ℕ, zero, suc, ◌+◌, ◌<◌, ◌≤◌, ◌==◌, ◌&&◌, ◌||◌, not, nat_lt, nat_le, Bool, true, false, List, [], ◌∷◌, ◌++◌, length, drop, filter, flat_map, map, refl, Option, None, Some, option_to_list}
 use Rattle.std.specs.List.{list_all}
 use Rattle.std.specs.Str.{bytes_eq}
 use Rattle.std.proofs.lemmas.Bool.{and_parts, ltb-true, leb-true}
@@ -24,7 +24,10 @@ use Rattle.modem_desk.specs.declared.request.Outcome.{Outcome}
 use Rattle.modem_desk.specs.declared.request.Urc.{Urc}
 use Rattle.modem_history.specs.Acts.{Act, Took, Got, Sent, Told, Heard, Tick, Lost, Held, Freed, Given, after, in_hand}
 use Rattle.modem_history.specs.Calls.{Setting, is_loss, is_lost}
-use Rattle.modem_history.specs.Lawful.{owed}
+use Rattle.modem_history.specs.Lawful.{When, owed}
+use Rattle.modem_history.specs.GoingOut.{SendsInTurn, next_out}
+use Rattle.mux_station.specs.Written.{is_data_frame}
+use Rattle.mux_station.specs.GivenFrames.{Outgoing, with_freshness}
 use Rattle.modem_history.specs.Wholes.{CompleteCalls, is_said, taken_requests, outcomes}
 use Rattle.modem_history.specs.Requests.{are_distinct}
 use Rattle.modem_history.specs.Kinds.{is_listened, of_kind}
@@ -109,10 +112,51 @@ takes_with_room (Held d ∷ past) h = takes_with_room past h
 takes_with_room (Freed d ∷ past) h = takes_with_room past h
 takes_with_room (Given ∷ past) h = takes_with_room past h
 
+-- the data frames that were sent, each as it goes out, and what the next one was at each of them
+abbrev pub one_out : Frame → Bool → List (Option Outgoing)
+one_out f true = Some (with_freshness true f) ∷ []
+one_out f false = []
+
+abbrev pub data_out : List Act → List (Option Outgoing)
+data_out [] = []
+data_out (Sent f ∷ past) = one_out f (is_data_frame f) ++ data_out past
+data_out (_ ∷ past) = data_out past
+
+abbrev pub one_next : Setting → List Act → Bool → List (Option Outgoing)
+one_next s past true = next_out s past ∷ []
+one_next s past false = []
+
+abbrev pub next_outs : Setting → List Act → List (Option Outgoing)
+next_outs s [] = []
+next_outs s (Sent f ∷ past) = one_next s past (is_data_frame f) ++ next_outs s past
+next_outs s (_ ∷ past) = next_outs s past
+
+abbrev first_out : List (Option Outgoing) → Option Outgoing
+first_out [] = None
+first_out (o ∷ os) = o
+
+one_in_turn : (s : Setting) (past : List Act) (f : Frame) (b : Bool) → (data_out past ≡ next_outs s past → SendsInTurn s past)
+    → one_out f b ++ data_out past ≡ one_next s past b ++ next_outs s past → When b (next_out s past ≡ Some (with_freshness true f)) × SendsInTurn s past
+one_in_turn s past f true more e = (sym (ap first_out e), more (ap (drop 1) e))
+one_in_turn s past f false more e = (tt, more e)
+
+sends_in_turn : (s : Setting) (past : List Act) → data_out past ≡ next_outs s past → SendsInTurn s past
+sends_in_turn s [] e = tt
+sends_in_turn s (Sent f ∷ past) e = one_in_turn s past f (is_data_frame f) (sends_in_turn s past) e
+sends_in_turn s (Took r ∷ past) e = (tt, sends_in_turn s past e)
+sends_in_turn s (Got f ∷ past) e = (tt, sends_in_turn s past e)
+sends_in_turn s (Told o ∷ past) e = (tt, sends_in_turn s past e)
+sends_in_turn s (Heard k d line ∷ past) e = (tt, sends_in_turn s past e)
+sends_in_turn s (Tick ∷ past) e = (tt, sends_in_turn s past e)
+sends_in_turn s (Lost ∷ past) e = (tt, sends_in_turn s past e)
+sends_in_turn s (Held d ∷ past) e = (tt, sends_in_turn s past e)
+sends_in_turn s (Freed d ∷ past) e = (tt, sends_in_turn s past e)
+sends_in_turn s (Given ∷ past) e = (tt, sends_in_turn s past e)
+
 pub history_is : (b : Beginning) (acts : List Act) → steps_test (driving b) [] (steps_of acts) ≡ true
     → run (driving b) [] (steps_of acts) ≡ after [] acts → quiet_test (driving b) (after [] acts) ≡ true
-    → (calls_test (driving b) (after [] acts) && room_test (after [] acts)) ≡ true → IsHistory b (after [] acts)
-history_is b acts h e q k =
+    → (calls_test (driving b) (after [] acts) && room_test (after [] acts)) ≡ true → data_out (after [] acts) ≡ next_outs (driving b) (after [] acts) → IsHistory b (after [] acts)
+history_is b acts h e q k n =
     let keeps = good (driving b) acts h e q in
     let parts = and_parts (calls_test (driving b) (after [] acts)) (room_test (after [] acts)) k in
     record {
@@ -120,6 +164,7 @@ history_is b acts h e q k =
       complete = keeps.complete;
       calls = complete_calls (driving b) (after [] acts) parts.0;
       room = takes_with_room (after [] acts) parts.1;
+      in_turn = sends_in_turn (driving b) (after [] acts) n;
     }
 
 -- ## Octets that come
@@ -265,6 +310,7 @@ pub record Sides : Type 0 where
   pub unwritten : List ℕ
   pub told_zero : List Outcome
   pub told_one : List Outcome
+  pub next : List (Option Outgoing)
   pub rings : List Act
   pub cregs : List Act
   pub lines : List Act
@@ -283,6 +329,7 @@ seen_side row =
       unwritten = v.unwritten;
       told_zero = at_place 0 v.desk.told ++ caller_outcomes 0 v.unplaced;
       told_one = at_place 1 v.desk.told ++ caller_outcomes 1 v.unplaced;
+      next = data_out (after [] row.acts);
       rings = map heard_as (at_place 0 v.desk.announced ++ of_kind Ring v.unannounced);
       cregs = map heard_as (at_place 1 v.desk.announced ++ of_kind Creg v.unannounced);
       lines = map heard_as v.unannounced;
@@ -302,6 +349,7 @@ told_side row fed written =
       unwritten = drop written (last_octets (given_on past));
       told_zero = caller_outcomes 0 (outcomes past);
       told_one = caller_outcomes 1 (outcomes past);
+      next = next_outs (driving beginning) past;
       rings = heards Ring past;
       cregs = heards Creg past;
       lines = heard_behind (announced_of row.view past) past;
@@ -327,7 +375,7 @@ fits_by row fed written h e deframes =
     let p11 = and_parts _ _ p10.1 in
     let lost = and_parts _ _ p4.0 in
     record {
-      history = history_is beginning row.acts p1.0 (sym (ap (λ (x : Sides). x.acts) e)) p2.0 p3.0;
+      history = history_is beginning row.acts p1.0 (sym (ap (λ (x : Sides). x.acts) e)) p2.0 p3.0 (ap (λ (x : Sides). x.next) e);
       loss = record { one = leb-true _ 1 lost.0; by_fault = λ gone. lost_by (is_lost (after [] row.acts)) row.view.line.failures lost.1 gone };
       requests = record { taken_are = ap (λ (x : Sides). x.requests) e; once = p5.0; callers = p6.0; few = leb-true _ 128 p7.0 };
       received = record { fed = fed; received_are = ap (λ (x : Sides). x.received) e; bound = ap (λ (x : Sides). x.bound) e; deframes = deframes };

@@ -8,7 +8,7 @@ use Rattle.modem_driver.specs.Cores.{Core}
 use Rattle.modem_driver.specs.Holding.{Flows, TurnsFlow}
 use Rattle.modem_history.specs.declared.act.Act.{Act}
 use Rattle.modem_driver.proofs.requests.AcceptedRequests.{ok_too}
-use Rattle.modem_driver.proofs.holds.HeldAndFreed.{none_flows, some_flows, some_lacks}
+use Rattle.modem_driver.proofs.holds.HeldAndFreed.{none_flows, some_flows, some_lacks, some_finds}
 use Rattle.modem_driver.proofs.driver.Core.backlog.Goals as goal
 
 pub returns-in-None-clause-past : goal.returns-in-None-clause-past
@@ -33,3 +33,10 @@ returns-in-Some-clause-no_room c = λ k.
     let d = c.args.dlci in
     let role : v.station.role ≡ Initiator = subst (λ (x : Core). x.station.role ≡ Initiator) c.self.view_is c.self.invariant.role_is in
     some_lacks v d.number c.args.lines c.in-Some.go role d.in_range (sym c.in-Some.ensures) (c.turn_flow.ensures.no_room k)
+
+pub returns-in-Some-clause-no_memory : goal.returns-in-Some-clause-no_memory
+returns-in-Some-clause-no_memory c = λ k.
+    let v = c.args.self.now in
+    let d = c.args.dlci in
+    let role : v.station.role ≡ Initiator = subst (λ (x : Core). x.station.role ≡ Initiator) c.self.view_is c.self.invariant.role_is in
+    some_finds v d.number c.args.lines c.in-Some.go role d.in_range (sym c.in-Some.ensures) (c.turn_flow.ensures.no_memory k)

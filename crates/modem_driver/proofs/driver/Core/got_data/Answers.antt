@@ -28,9 +28,9 @@ returns-clause-past c =
     = subst (λ (v : Core). IsJoined v mid f.dlci c.in_ok-fork.fork) c.read.ensures.same (c.self.view_is ∙ c.in_ok-done.ensures.after) in
     let behind = subst (λ (v : Core). acts ≡ joined_acts (lines_so_far (lane_at v f.dlci).window) c.in_ok-fork.fork.window (map act_of c.in_ok-fork.acts.items)) c.read.ensures.same c.in_ok-done.ensures.acts in
     let done = subst (λ (v : Core). c.in_ok-done.done ≡ (is_some (lane_at v f.dlci).window && is_none c.in_ok-fork.fork.window)) c.read.ensures.same c.in_ok-done.ensures.done in
-    data_handles old c.go_on.new.self f c.take_data-noted.result (joined (lane_at old f.dlci) c.in_ok-fork.fork) c.take_data-noted.new.station acts (sound_before old mid f.dlci c.in_ok-fork.fork m (sound mid c.self.inside.n1 c.self.invariant))
-    (data_came old mid c.go_on.new.self f c.in_ok-fork.fork (map act_of c.in_ok-fork.acts.items) acts c.in_ok-done.done c.take_data-noted.result c.take_data-noted.new.station c.requires.live c.requires.is_data c.args.frame.dlci.in_range
-    c.in_ok-fork.ensures.read m behind done c.take_data-noted.ensures.past c.take_data-noted.ensures.noted c.go_on.ensures)
+    data_handles old c.go_on.new.self f c.take-noted.result (joined (lane_at old f.dlci) c.in_ok-fork.fork) c.take-noted.new.station acts (sound_before old mid f.dlci c.in_ok-fork.fork m (sound mid c.self.inside.n1 c.self.invariant))
+    (data_came old mid c.go_on.new.self f c.in_ok-fork.fork (map act_of c.in_ok-fork.acts.items) acts c.in_ok-done.done c.take-noted.result c.take-noted.new.station c.requires.live c.requires.is_data c.args.frame.dlci.in_range
+    c.in_ok-fork.ensures.read m behind done c.take-noted.ensures.past c.take-noted.ensures.noted c.go_on.ensures)
 
 pub returns-clause-room : goal.returns-clause-room
 returns-clause-room c =
@@ -40,13 +40,13 @@ returns-clause-room c =
     let m : IsJoined old mid f.dlci c.in_ok-fork.fork
     = subst (λ (v : Core). IsJoined v mid f.dlci c.in_ok-fork.fork) c.read.ensures.same (c.self.view_is ∙ c.in_ok-done.ensures.after) in
     let taken : None ≡ got_refused (setting_of old.station) (seen_in old.station) f
-    = c.take_data-noted.ensures.taken ∙ ap (λ (v : Core). got_refused (setting_of v.station) (seen_in v.station) f) m in
+    = c.take-noted.ensures.taken ∙ ap (λ (v : Core). got_refused (setting_of v.station) (seen_in v.station) f) m in
     taken_room old f (sound_before old mid f.dlci c.in_ok-fork.fork m (sound mid c.self.inside.n1 c.self.invariant)) c.requires.live c.args.frame.dlci.in_range taken
 
 pub returns-clause-n1 : goal.returns-clause-n1
 returns-clause-n1 c =
     ended_n1 _ _ c.go_on.new.self c.args.frame.dlci.number c.go_on.ensures
-    ∙ (ap (λ (s : station_sending.StationSetting). s.n1) c.take_data-noted.ensures.past.setting ∙ (ap (λ (v : Core). v.station.n1) (c.self.view_is ∙ c.in_ok-done.ensures.after) ∙ ap (λ (v : Core). v.station.n1) c.read.ensures.same))
+    ∙ (ap (λ (s : station_sending.StationSetting). s.n1) c.take-noted.ensures.past.setting ∙ (ap (λ (v : Core). v.station.n1) (c.self.view_is ∙ c.in_ok-done.ensures.after) ∙ ap (λ (v : Core). v.station.n1) c.read.ensures.same))
 
 pub returns-clause-holds : goal.returns-clause-holds
 returns-clause-holds c =
@@ -61,7 +61,7 @@ returns-clause-holds c =
     = subst (λ (v : Core). IsJoined v mid f.dlci c.in_ok-fork.fork) c.read.ensures.same (c.self.view_is ∙ c.in_ok-done.ensures.after) in
     let behind = subst (λ (v : Core). acts ≡ joined_acts (lines_so_far (lane_at v f.dlci).window) c.in_ok-fork.fork.window (map act_of c.in_ok-fork.acts.items)) c.read.ensures.same c.in_ok-done.ensures.acts in
     let done = subst (λ (v : Core). c.in_ok-done.done ≡ (is_some (lane_at v f.dlci).window && is_none c.in_ok-fork.fork.window)) c.read.ensures.same c.in_ok-done.ensures.done in
-    let came : DataCame old new f c.take_data-noted.result lane c.take_data-noted.new.station acts
-    = data_came old mid new f c.in_ok-fork.fork (map act_of c.in_ok-fork.acts.items) acts c.in_ok-done.done c.take_data-noted.result c.take_data-noted.new.station c.requires.live c.requires.is_data c.args.frame.dlci.in_range
-    c.in_ok-fork.ensures.read m behind done c.take_data-noted.ensures.past c.take_data-noted.ensures.noted c.go_on.ensures in
-    data_holds old new f lane c.take_data-noted.new.station _ acts quiet c.in_ok-fork.ensures.held came.ends (returns-clause-past c)
+    let came : DataCame old new f c.take-noted.result lane c.take-noted.new.station acts
+    = data_came old mid new f c.in_ok-fork.fork (map act_of c.in_ok-fork.acts.items) acts c.in_ok-done.done c.take-noted.result c.take-noted.new.station c.requires.live c.requires.is_data c.args.frame.dlci.in_range
+    c.in_ok-fork.ensures.read m behind done c.take-noted.ensures.past c.take-noted.ensures.noted c.go_on.ensures in
+    data_holds old new f lane c.take-noted.new.station _ acts quiet c.in_ok-fork.ensures.held came.ends (returns-clause-past c)

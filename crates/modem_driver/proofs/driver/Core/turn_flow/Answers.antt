@@ -12,12 +12,36 @@ use Rattle.modem_history.specs.Acts.{act_of}
 use Rattle.modem_driver.specs.ActLists.{ActList}
 use Rattle.modem_driver.specs.Lanes.{Lane, turned}
 use Rattle.modem_driver.specs.Cores.{Core, lane_at}
-use Rattle.modem_driver.specs.Holding.{TurnsFlow, CannotTurn}
+use Rattle.modem_driver.specs.Holding.{TurnsFlow, CannotTurn, CanTurn}
 use Rattle.modem_history.specs.declared.act.Act.{Act}
 use Rattle.modem_history.specs.declared.act.Act.TheVariants as code
 use Rattle.modem_driver.proofs.requests.AcceptedRequests.{pushed_on}
-use Rattle.modem_driver.proofs.holds.HeldAndFreed.{Flowing, flow_frame, turn_handles, cannot_turn}
+use Rattle.modem_driver.proofs.holds.HeldAndFreed.{Flowing, flow_frame, turn_handles, cannot_turn, lacks_room, finds_room}
 use Rattle.modem_driver.proofs.driver.Core.turn_flow.Goals as goal
+
+pub returns-then-not-has_room_to_flow-clause-no_room : goal.returns-then-not-has_room_to_flow-clause-no_room
+returns-then-not-has_room_to_flow-clause-no_room c = λ k.
+    let d = c.args.dlci in
+    let v : Core = record { station = c.self.inside.station; lanes = c.self.inside.lanes.items; hand = c.self.inside.hand; kinds = c.self.inside.kinds.items; lost = c.self.inside.lost } in
+    subst (λ (x : Core). CannotTurn x d.number c.args.go) c.self.view_is
+    (lacks_room v d.number c.args.go c.self.invariant.role_is (ap (λ (x : Core). x.lost) c.self.view_is ∙ c.requires.live) d.in_range c.requires.not_zero
+    (subst (λ (x : Core). is_opened (channel_at x.station d.number).state ≡ true) (sym c.self.view_is) c.requires.opened) (sym c.has_room_to_flow.ensures ∙ c.if-not-has_room_to_flow.true))
+
+pub returns-in_err-msc-clause-no_memory : goal.returns-in_err-msc-clause-no_memory
+returns-in_err-msc-clause-no_memory c = λ k.
+    let d = c.args.dlci in
+    let v : Core = record { station = c.self.inside.station; lanes = c.self.inside.lanes.items; hand = c.self.inside.hand; kinds = c.self.inside.kinds.items; lost = c.self.inside.lost } in
+    subst (λ (x : Core). CanTurn x d.number c.args.go) c.self.view_is
+    (finds_room v d.number c.args.go c.self.invariant.role_is (ap (λ (x : Core). x.lost) c.self.view_is ∙ c.requires.live) d.in_range c.requires.not_zero
+    (subst (λ (x : Core). is_opened (channel_at x.station d.number).state ≡ true) (sym c.self.view_is) c.requires.opened) (sym c.has_room_to_flow.ensures ∙ c.if-not-has_room_to_flow.false))
+
+pub returns-in_err-acts-clause-no_memory : goal.returns-in_err-acts-clause-no_memory
+returns-in_err-acts-clause-no_memory c = λ k.
+    let d = c.args.dlci in
+    let v : Core = record { station = c.self.inside.station; lanes = c.self.inside.lanes.items; hand = c.self.inside.hand; kinds = c.self.inside.kinds.items; lost = c.self.inside.lost } in
+    subst (λ (x : Core). CanTurn x d.number c.args.go) c.self.view_is
+    (finds_room v d.number c.args.go c.self.invariant.role_is (ap (λ (x : Core). x.lost) c.self.view_is ∙ c.requires.live) d.in_range c.requires.not_zero
+    (subst (λ (x : Core). is_opened (channel_at x.station d.number).state ≡ true) (sym c.self.view_is) c.requires.opened) (sym c.has_room_to_flow.ensures ∙ c.if-not-has_room_to_flow.false))
 
 pub returns-in-Err-clause-no_room : goal.returns-in-Err-clause-no_room
 returns-in-Err-clause-no_room c = λ k.
