@@ -3,4 +3,5 @@ pub mod Cuts
 pub mod Tape
 pub mod CutLine
 pub mod ThreadLine
+pub mod StreamLine
 pub mod Numbers

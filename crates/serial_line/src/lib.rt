@@ -1,13 +1,15 @@
 //! Lines of octets: what a serial line is to its callers, a line in memory whose cuts and faults are
-//! chosen beforehand, and a line between two threads.
+//! chosen beforehand, a line between two threads, and a line over a reader and a writer.
 #![tactic(auto)]
 
 mod counting;
 mod cut_line;
 mod cuts;
 mod errors;
+mod history;
 mod line;
 mod read_buffer;
+mod stream_line;
 mod tape;
 mod thread_line;
 
@@ -16,4 +18,5 @@ pub use cuts::Cut;
 pub use errors::LineError;
 pub use line::{LineFault, SerialLine};
 pub use read_buffer::ReadBuffer;
+pub use stream_line::{StreamLine, ZeroRead};
 pub use thread_line::ThreadLine;

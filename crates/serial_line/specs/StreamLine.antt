@@ -1,0 +1,35 @@
+-- A line over a reader and a writer.
+use Rattle.std.specs.Prelude.{◌≡◌, ℕ, List, [], Option}
+use Rattle.serial_line.specs.Counts.{one_more}
+use Rattle.serial_line.specs.declared.stream_line.ZeroRead.{ZeroRead}
+
+pub record StreamState : Type 0 where
+  pub received : List ℕ  -- what its reads gave
+  pub sent : List ℕ  -- what its writes took
+  pub left : Option (List ℕ)  -- what the reader is still to give, where that is known
+  pub held : Option (List ℕ)  -- what the writer holds, where that is known
+  pub zero : ZeroRead  -- what a read of nothing says
+  pub calls : ℕ
+  pub failures : ℕ
+  pub empty_reads : ℕ  -- so many reads could give octets and gave none
+  pub stalled_writes : ℕ  -- so many writes could take octets and took none
+  pub refusals : ℕ  -- so many calls the reader or the writer refused for now
+
+-- a line on which nothing has happened yet
+abbrev pub new_stream : (left held : Option (List ℕ)) → ZeroRead → StreamState
+new_stream left held zero = record {
+  received = [];
+  sent = [];
+  left = left;
+  held = held;
+  zero = zero;
+  calls = 0;
+  failures = 0;
+  empty_reads = 0;
+  stalled_writes = 0;
+  refusals = 0;
+}
+
+-- the reader or the writer refused this call for now
+abbrev pub IsRefused : (old new : StreamState) → Type 0
+IsRefused old new = new.refusals ≡ one_more old.refusals
