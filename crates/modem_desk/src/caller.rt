@@ -5,9 +5,10 @@ ghost use mathlib.Core.List.{IsPrefix};
 use crate::error::SubmitError;
 use crate::request::{Ask, Outcome, Request};
 use crate::rule::{InOrder, Submits, View};
+use bell::Bell;
 use crossbeam_queue::{Pass, RuledArrayQueue};
 use rtrb::Consumer;
-use std::alloc::Global;
+use std::alloc::{AllocError, Global};
 use std::marker::Model;
 use std::sync::{Arc, Wait};
 
@@ -35,6 +36,7 @@ pub struct Caller {
     first: u64,
     issued: u64,
     untaken: u8,
+    bell: Option<Bell>,
 }
 
 impl Model for Caller {
@@ -81,6 +83,7 @@ impl Caller {
         outcomes: Consumer<Outcome>,
         number: u8,
         first: u64,
+        bell: Option<Bell>,
     ) -> Caller
         requires pass { IsPassOf (arc_value queue) pass × (ruled_capacity (arc_value queue) ≡ 64)
             × (view pass ≡ caller number []) }
@@ -107,6 +110,7 @@ impl Caller {
             first,
             issued: 0,
             untaken: 0,
+            bell,
         }
     }
 
@@ -127,11 +131,13 @@ impl Caller {
             first: _,
             issued: _,
             untaken: _,
+            bell: _,
         } = self;
         (pass, outcomes, number)
     }
 
-    /// Submits a request, and gives its number: the caller's first number, and then each time the next.
+    /// Submits a request, and gives its number: the caller's first number, and then each time the next. It rings the bell that the
+    /// caller was given, if any.
     ///
     /// Refused, in this order, with TooMany, Exhausted or Full, and the ask handed back. A refusal uses up no number.
     pub fn submit<R: Wait>(&mut self, rt: &R, ask: Ask) -> Result<u64, (SubmitError, Ask)>
@@ -167,13 +173,15 @@ impl Caller {
             Ok(()) => {
                 self.issued += 1;
                 self.untaken += 1;
+                ring(&self.bell);
                 Ok(number)
             }
             Err(back) => Err((SubmitError::Full, back.ask)),
         }
     }
 
-    /// The oldest outcome that waits for this caller. `None` only where it has seen none to wait.
+    /// The oldest outcome that waits for this caller. `None` only where it has seen none to wait. It rings the bell that the caller
+    /// was given, if any, since there is room for an outcome more.
     pub fn take(&mut self) -> Option<Outcome>
         ensures place { (self.new.place ≡ self.old.place) × (self.new.submitted ≡ self.old.submitted) }
         ensures got { MatchOption result (self.new.got ≡ self.old.got) (λ outcome. self.new.got ≡ self.old.got
@@ -186,6 +194,34 @@ impl Caller {
     {
         let outcome = self.outcomes.pop().ok()?;
         self.untaken = self.untaken.saturating_sub(1);
+        ring(&self.bell);
         Some(outcome)
+    }
+
+    /// Whether the driver's end is gone. Then the outcomes that wait are the last: `take` still gives them, and what is submitted
+    /// from then on is told by nobody.
+    ///
+    /// No clause speaks of the answer, as none of `rtrb` does: it is shown by tests.
+    pub fn is_alone(&mut self) -> bool
+        ensures place { (self.new.place ≡ self.old.place) × (self.new.submitted ≡ self.old.submitted) }
+        ensures got { (self.new.got ≡ self.old.got) × (self.new.untaken ≡ self.old.untaken) }
+        ensures seen { IsPrefix self.old.seen self.new.seen }
+    {
+        self.outcomes.is_abandoned()
+    }
+}
+
+// Rings the bell, if there is one.
+pub(crate) fn ring(bell: &Option<Bell>) {
+    if let Some(bell) = bell {
+        bell.ring();
+    }
+}
+
+// Another share of the bell, if there is one.
+pub(crate) fn share_of(bell: Option<&Bell>) -> Result<Option<Bell>, AllocError> {
+    match bell {
+        Some(bell) => Ok(Some(bell.share()?)),
+        None => Ok(None),
     }
 }

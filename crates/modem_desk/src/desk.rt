@@ -8,6 +8,7 @@ use crate::driver::DriverEnd;
 use crate::error::DeskError;
 use crate::listener::Listener;
 use at_text::UrcKind;
+use bell::Bell;
 use std::alloc::{AllocError, Global};
 use std::sync::Arc;
 
@@ -46,14 +47,48 @@ impl Desk {
         ensures bad_count { IfErr result (λ e. (e ≡ BadCount) ↔ ¬ CanOpen callers kinds.now first) }
         ensures opened { IfOk result (λ r. Opened callers kinds.now first r.0 r.1.items r.2.items) }
     {
-        if callers == 0 || callers > CALLERS || first == 0 || !are_each_once(kinds) {
-            return Err(DeskError::BadCount);
-        }
-        let mut driver = unconnected(alloc)?;
-        let all = add_callers(alloc, &mut driver, callers, first)?;
-        let listeners = add_listeners(alloc, &mut driver, kinds)?;
-        Ok((driver, all, listeners))
+        open_all(alloc, callers, kinds, first, None)
     }
+
+    /// The same as `open_from`, but that each caller and each listener has a share of this bell: a caller rings it when it has
+    /// submitted a request or taken an outcome, a listener when it has taken a line. So a driver that waits on the bell wakes
+    /// where a request came, or where there is room at the desk again.
+    ///
+    /// Refused as `open_from` is. No clause speaks of the bell.
+    pub fn open_with_bell(
+        alloc: Global,
+        callers: u8,
+        kinds: &[UrcKind],
+        first: u64,
+        bell: &Bell,
+    ) -> Result<(DriverEnd, Vec<Caller>, Vec<Listener>), DeskError>
+        ensures allowed { IfOk result (λ r. CanOpen callers kinds.now first) }
+        ensures bad_count { IfErr result (λ e. (e ≡ BadCount) ↔ ¬ CanOpen callers kinds.now first) }
+        ensures opened { IfOk result (λ r. Opened callers kinds.now first r.0 r.1.items r.2.items) }
+    {
+        open_all(alloc, callers, kinds, first, Some(bell))
+    }
+}
+
+// A desk, whose callers and listeners ring this bell.
+fn open_all(
+    alloc: Global,
+    callers: u8,
+    kinds: &[UrcKind],
+    first: u64,
+    bell: Option<&Bell>,
+) -> Result<(DriverEnd, Vec<Caller>, Vec<Listener>), DeskError>
+    ensures allowed { IfOk result (λ r. CanOpen callers kinds.now first) }
+    ensures bad_count { IfErr result (λ e. (e ≡ BadCount) ↔ ¬ CanOpen callers kinds.now first) }
+    ensures opened { IfOk result (λ r. Opened callers kinds.now first r.0 r.1.items r.2.items) }
+{
+    if callers == 0 || callers > CALLERS || first == 0 || !are_each_once(kinds) {
+        return Err(DeskError::BadCount);
+    }
+    let mut driver = unconnected(alloc)?;
+    let all = add_callers(alloc, &mut driver, callers, first, bell)?;
+    let listeners = add_listeners(alloc, &mut driver, kinds, bell)?;
+    Ok((driver, all, listeners))
 }
 
 // Whether no kind stands there twice.
@@ -90,6 +125,7 @@ fn add_callers(
     driver: &mut DriverEnd,
     callers: u8,
     first: u64,
+    bell: Option<&Bell>,
 ) -> Result<Vec<Caller>, AllocError>
     requires { (callers ≤ 8) × (1 ≤ first) × (driver.old.desk.rings ≡ []) × (driver.old.told ≡ [])
         × (driver.old.free ≡ []) × (driver.old.told_back ≡ []) }
@@ -109,7 +145,7 @@ fn add_callers(
 {
     let mut all = Vec::new(alloc);
     for _ in 0..callers {
-        let caller = driver.add_caller(alloc, first)?;
+        let caller = driver.add_caller(alloc, first, bell)?;
         all.push(caller)?;
     }
     Ok(all)
@@ -120,6 +156,7 @@ fn add_listeners(
     alloc: Global,
     driver: &mut DriverEnd,
     kinds: &[UrcKind],
+    bell: Option<&Bell>,
 ) -> Result<Vec<Listener>, AllocError>
     requires { EachOnce kinds.now × (driver.old.desk.kinds ≡ []) × (driver.old.desk.line_rings ≡ [])
         × (driver.old.announced ≡ []) × (driver.old.free_lines ≡ []) × (driver.old.announced_back ≡ []) }
@@ -138,7 +175,7 @@ fn add_listeners(
 {
     let mut all = Vec::new(alloc);
     for kind in kinds {
-        let listener = driver.add_listener(alloc, *kind)?;
+        let listener = driver.add_listener(alloc, *kind, bell)?;
         all.push(listener)?;
     }
     Ok(all)

@@ -4,11 +4,12 @@ ghost use mathlib.Core.Option.{some};
 ghost use lib.ListN.{get_elem?};
 ghost use Rattle.modem_desk.specs.Ends.{Changes, RisesByOne};
 
-use crate::caller::{Caller, Queue, WAITING};
+use crate::caller::{Caller, Queue, WAITING, share_of};
 use crate::listener::{LINES, Listener};
 use crate::request::{Outcome, Request, Urc};
 use crate::rule::{AddsCaller, Takes, View};
 use at_text::UrcKind;
+use bell::Bell;
 use crossbeam_queue::Pass;
 use rtrb::{Producer, PushError, RingBuffer};
 use std::alloc::{AllocError, Global};
@@ -139,8 +140,13 @@ impl DriverEnd {
         (queue, pass, rings, lines)
     }
 
-    // One more caller.
-    pub(crate) fn add_caller(&mut self, alloc: Global, first: u64) -> Result<Caller, AllocError>
+    // One more caller, which rings this bell.
+    pub(crate) fn add_caller(
+        &mut self,
+        alloc: Global,
+        first: u64,
+        bell: Option<&Bell>,
+    ) -> Result<Caller, AllocError>
         requires { (length self.old.desk.rings < 8) × (1 ≤ first) }
         ensures driver { IfOk result (λ c. (self.new.taken ≡ self.old.taken) × (self.new.told ≡ self.old.told
             ++ [] ∷ []) × (self.new.announced ≡ self.old.announced)) }
@@ -157,6 +163,7 @@ impl DriverEnd {
             × (c.place.number ≡ length self.old.desk.rings) × (c.place.first ≡ first)
             × IsFresh c) }
     {
+        let bell = share_of(bell)?;
         let queue = Arc::try_clone(&self.queue)?;
         let (producer, consumer) = RingBuffer::new(alloc, WAITING)?;
         let number = self.rings.len() as u8;
@@ -164,14 +171,15 @@ impl DriverEnd {
         self.rings.push(producer)?;
         self.told_back.push(0)?;
         let pass = queue.another::<AddsCaller>(&mut self.pass);
-        Ok(Caller::new(queue, pass, consumer, number, first))
+        Ok(Caller::new(queue, pass, consumer, number, first, bell))
     }
 
-    // One more listener, of a kind that no other has.
+    // One more listener, of a kind that no other has, which rings this bell.
     pub(crate) fn add_listener(
         &mut self,
         alloc: Global,
         kind: UrcKind,
+        bell: Option<&Bell>,
     ) -> Result<Listener, AllocError>
         requires { ¬ Contains self.old.desk.kinds kind }
         ensures driver { IfOk result (λ l. (self.new.taken ≡ self.old.taken) × (self.new.told ≡ self.old.told)
@@ -190,6 +198,7 @@ impl DriverEnd {
             × (l.subscription.place ≡ length self.old.desk.line_rings) × (l.subscription.kind ≡ kind)
             × (l.heard ≡ []) × (l.seen ≡ [])) }
     {
+        let bell = share_of(bell)?;
         let (producer, consumer) = RingBuffer::new(alloc, LINES)?;
         let place = self.kinds.len();
         self.kinds.try_reserve(1)?;
@@ -197,7 +206,7 @@ impl DriverEnd {
         self.lines.push(producer)?;
         self.kinds.push(kind)?;
         self.lines_back.push(0)?;
-        Ok(Listener::new(consumer, kind, place))
+        Ok(Listener::new(consumer, kind, place, bell))
     }
 
     /// Of the requests that were taken those of each caller are numbered one after the other: so no caller used a number

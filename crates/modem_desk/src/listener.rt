@@ -2,8 +2,10 @@
 ghost use Rattle.std.specs.Prelude.{◌≡◌, ◌<◌, ◌++◌, ◌∷◌, [], length, IsSome, MatchOption};
 ghost use mathlib.Core.List.{IsPrefix};
 
+use crate::caller::ring;
 use crate::request::Urc;
 use at_text::UrcKind;
+use bell::Bell;
 use rtrb::Consumer;
 use std::marker::Model;
 
@@ -18,6 +20,7 @@ pub struct Listener {
     lines: Consumer<Urc>,
     kind: UrcKind,
     place: usize,
+    bell: Option<Bell>,
 }
 
 impl Model for Listener {
@@ -44,7 +47,12 @@ impl Listener {
     ghost use Rattle.rtrb.specs.Ring.{received, known_items, consumer_capacity};
     ghost use Rattle.modem_desk.specs.Ends.{ring_of_consumer};
 
-    pub(crate) fn new(lines: Consumer<Urc>, kind: UrcKind, place: usize) -> Listener
+    pub(crate) fn new(
+        lines: Consumer<Urc>,
+        kind: UrcKind,
+        place: usize,
+        bell: Option<Bell>,
+    ) -> Listener
         requires { (received lines ≡ []) × (known_items lines ≡ []) × (consumer_capacity lines ≡ 256) }
         ensures { result ≡ record {
           subscription = record {
@@ -56,7 +64,12 @@ impl Listener {
           seen = [];
         } }
     {
-        Listener { lines, kind, place }
+        Listener {
+            lines,
+            kind,
+            place,
+            bell,
+        }
     }
 
     pub(crate) fn into_parts(self) -> (Consumer<Urc>, usize)
@@ -68,6 +81,7 @@ impl Listener {
             lines,
             kind: _,
             place,
+            bell: _,
         } = self;
         (lines, place)
     }
@@ -79,7 +93,8 @@ impl Listener {
         self.kind
     }
 
-    /// The oldest line that waits for this listener. `None` only where it has seen none to wait.
+    /// The oldest line that waits for this listener. `None` only where it has seen none to wait. It rings the bell that the listener
+    /// was given, if any, since there is room for a line more.
     pub fn take(&mut self) -> Option<Urc>
         ensures subscription { self.new.subscription ≡ self.old.subscription }
         ensures heard { MatchOption result (self.new.heard ≡ self.old.heard) (λ line.
@@ -88,6 +103,8 @@ impl Listener {
             ∷ self.new.seen)) }
         ensures finds { 0 < length self.old.seen → IsSome result }
     {
-        self.lines.pop().ok()
+        let line = self.lines.pop().ok()?;
+        ring(&self.bell);
+        Some(line)
     }
 }

@@ -1,7 +1,7 @@
 use Rattle.std.proofs.Common.{◌∙◌, ap, sym, List, length}
 use Rattle.modem_desk.specs.Ends.{RingId, AreNewCallers}
 use Rattle.modem_desk.proofs.desk_places.DeskPlaces.{new_callers_on, new_callers_whole, new_subscriptions}
-use Rattle.modem_desk.proofs.desk.Desk.open_from.Goals as goal
+use Rattle.modem_desk.proofs.desk.open_all.Goals as goal
 
 pub returns-clause-opened : goal.returns-clause-opened
 returns-clause-opened c =
