@@ -3,3 +3,4 @@ pub mod SubmittedOrder
 pub mod RequestNumbers
 pub mod RequestPlaces
 pub mod Headlines
+pub mod DeskHeadlines

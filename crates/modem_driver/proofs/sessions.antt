@@ -40,3 +40,4 @@ pub mod TurnEnds
 pub mod Backlogs
 pub mod Polls
 pub mod PollLaws
+pub mod OfflinePasses

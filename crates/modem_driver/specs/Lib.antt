@@ -20,6 +20,7 @@ pub mod Handing
 pub mod Holding
 pub mod Headline
 pub mod HeadlineRows
+pub mod DeskHeadline
 pub mod Entries
 pub mod WaitingLists
 pub mod Endings
@@ -37,3 +38,4 @@ pub mod BacklogChecks
 pub mod PollLaws
 pub mod PollRows
 pub mod LivePollRows
+pub mod TurningAway

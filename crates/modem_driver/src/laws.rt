@@ -2,6 +2,7 @@
 ghost use Rattle.std.specs.Prelude.{◌≡◌, ℕ, true, false, List, []};
 ghost use Rattle.std.specs.List.{list_all, list_any};
 ghost use Rattle.modem_driver.specs.EndingRows.{ends_in, going_rows, stopped_rows, AreNoEndings, IsNoGoing, IsRightEnding, StaysEnded};
+ghost use Rattle.modem_driver.specs.DeskHeadline.{DeskRun, IsDeskHeadline};
 ghost use Rattle.modem_driver.specs.Headline.{IsHeadline, Run, SendsFull};
 ghost use Rattle.modem_driver.specs.HeadlineRows.{AreRight, AreWrong, IsOtherOrder, right_places, wrong_places};
 ghost use Rattle.modem_driver.specs.Replays.{AreFull, Brought, Replays};
@@ -12,6 +13,7 @@ ghost use Rattle.modem_history.specs.Acts.{Act};
 ghost use Rattle.modem_history.specs.Sessions.{Beginning, LineView, SessionView};
 ghost use Rattle.modem_driver.specs.PollRows.{AreNoPolls, IsLostSession};
 ghost use Rattle.modem_driver.specs.LivePollRows.{AreNoLivePolls, AsksPerTurn, IsNewSession, NoTickInAPoll, NoTickIsAPoll, ReadsTheLine};
+ghost use Rattle.modem_driver.specs.TurningAway.{TurnsOn};
 ghost use Rattle.modem_driver.specs.PollLaws.{RunsInHistories, LostFails, NoLossIsKeptBack, NoLossIsStopped, CallsTheLine, LostGivesFailed};
 
 /// The requests taken, frames got, ticks and losses of a replay are those that its events bring, in their order, and no
@@ -51,6 +53,22 @@ pub fn headlines()
     ensures right { AreRight right_places }
     ensures wrong { AreWrong wrong_places }
     ensures order { IsOtherOrder }
+{}
+
+/// The headline of a desk, whatever sessions it had one after the other, on the same driver's end, and whether or not their
+/// lines failed: each of them keeps what the headline says of one; over all of them each subscribed unsolicited line was
+/// announced once, and every caller holds each of its outcomes once, those that were turned away between two sessions too.
+#[tactic(auto, using(crate::proofs::law_proofs::DeskHeadlines::desk_headline))]
+pub fn desks()
+    ensures headline { (run : DeskRun) → IsDeskHeadline run }
+{}
+
+/// Passes of a desk without a line, one after the other, turn away all that each of them did: of each caller, what was told
+/// and what still waits are the outcomes that waited and then a LineLost for each of its requests; of each listener, what was
+/// announced and what still waits are the lines that waited.
+#[tactic(auto, using(crate::proofs::sessions::OfflinePasses::turns_on))]
+pub fn turning_away()
+    ensures passes { TurnsOn }
 {}
 
 /// Worked ends of a session, computed by the definitions: a Stop that is answered or given up has ended, and neither one that

@@ -30,5 +30,6 @@ pub use modem_desk::{Answer, Ask, Outcome, Request, Urc};
 pub use modem_history::Act;
 pub use run::replay;
 pub use session::{
-    Ended, Finished, Progress, Session, SessionError, SessionFault, SessionRefused, Turn,
+    Ended, Finished, Offline, OfflineRefused, Progress, Session, SessionError, SessionFault,
+    SessionRefused, Turn,
 };

@@ -1,5 +1,5 @@
 //! The tests of what stored runs can't show: of frames, a station, lines of octets and the desk, of the core, of a session that
-//! ticks, of the program's runs, and of which calls take no memory.
+//! ticks, of one that follows another, of the program's runs, and of which calls take no memory.
 #![tactic(auto)]
 
 #[cfg(test)]
@@ -14,6 +14,8 @@ mod lines;
 mod no_memory;
 #[cfg(test)]
 mod program;
+#[cfg(test)]
+mod reset;
 #[cfg(test)]
 mod station;
 #[cfg(test)]

@@ -30,7 +30,7 @@ fn tick_out<R: Wait + Abort + Drop>(rt: &impl Abort, session: &mut Session<CutLi
 }
 
 // The desk's end of a session over a line that gives nothing, which gave up what it was asked.
-fn given_up<R: Wait + Abort + Drop + Copy>(rt: R, alloc: Global, driver: DriverEnd) -> DriverEnd
+pub fn given_up<R: Wait + Abort + Drop + Copy>(rt: R, alloc: Global, driver: DriverEnd) -> DriverEnd
     ensures { result.desk ≡ driver.desk }
 {
     let Ok(line) = CutLine::new(alloc, b"", &[], &[], 64) else {

@@ -23,7 +23,7 @@ use Rattle.modem_history.specs.Kinds.{of_kind}
 use Rattle.modem_history.specs.Lawful.{Gated, Lawful, When, owed}
 use Rattle.modem_history.specs.Requests.{are_distinct}
 use Rattle.modem_history.specs.Sessions as session
-use Rattle.modem_history.specs.Sessions.{AreOnce, IsHistory, SessionFits, TakesWithRoom, driving, heard_as, heards, taken_since}
+use Rattle.modem_history.specs.Sessions.{AreOnce, Beginning, IsHistory, SessionFits, SessionView, TakesWithRoom, driving, heard_as, heards, taken_since}
 use Rattle.modem_history.specs.SessionLaws.{untold}
 use Rattle.modem_history.proofs.law_proofs.SessionLaws.{since_are}
 use Rattle.modem_history.specs.Hearing.{HearsAll}
@@ -88,58 +88,59 @@ taken_both (Held d ∷ newer) older = taken_both newer older
 taken_both (Freed d ∷ newer) older = taken_both newer older
 taken_both (Given ∷ newer) older = taken_both newer older
 
--- at every moment
-in_order : (run : Run) (s : IsSettled run) (past : List Act) → SessionFits run.start run.session past → (newer older : List Act) → past ≡ newer ++ older
-    → (d : ℕ) → Each (λ i c. InSubmittedOrder d older c.place.number c.submitted) run.callers
-in_order run s past f newer older joins d i c at =
-    let n = c.place.number in
+-- at every moment, where a caller submitted what the history took of it, between these
+pub order_of : (n : ℕ) (submitted earlier last : List Request) (b : Beginning) (v : SessionView) (past : List Act) → SessionFits b v past
+    → submitted ≡ earlier ++ (of_caller n (taken_requests past) ++ last) → (newer older : List Act) → past ≡ newer ++ older → (d : ℕ) → InSubmittedOrder d older n submitted
+order_of n submitted earlier last b v past f whole newer older joins d =
     let own = λ (q : Request). q.caller == n in
     let st : Stretch d older = stretch_of d older (room_before newer older (subst TakesWithRoom joins f.history.room)) in
-    let last = of_caller n (aside_of run) ++ of_caller n run.settlement.left in
     let after = of_caller n (taken_requests newer) ++ last in
-    let first : c.submitted ≡ of_caller n (taken_requests older) ++ after =
-    submitted_are run s past f i c at
-    ∙ (ap (λ (qs : List Request). of_caller n qs ++ last) (ap taken_requests joins ∙ taken_both newer older)
-    ∙ (ap (λ (qs : List Request). qs ++ last) (filter-append own (taken_requests older) (taken_requests newer)) ∙ append_assoc (of_caller n (taken_requests older)) (of_caller n (taken_requests newer)) last)) in
+    let first : submitted ≡ earlier ++ (of_caller n (taken_requests older) ++ after) =
+    whole
+    ∙ (ap (λ (qs : List Request). earlier ++ (of_caller n qs ++ last)) (ap taken_requests joins ∙ taken_both newer older)
+    ∙ ap (λ (qs : List Request). earlier ++ qs)
+        (ap (λ (qs : List Request). qs ++ last) (filter-append own (taken_requests older) (taken_requests newer)) ∙ append_assoc (of_caller n (taken_requests older)) (of_caller n (taken_requests newer)) last)) in
     record {
-      before = of_caller n st.before;
+      before = earlier ++ of_caller n st.before;
       stretch = of_caller n st.stretch;
       later = of_caller n st.later ++ after;
       submitted_are =
           first
-          ∙ (ap (λ (qs : List Request). of_caller n qs ++ after) st.taken_are
-          ∙ (ap (λ (qs : List Request). qs ++ after) (filter-append own st.before (st.stretch ++ st.later) ∙ ap (λ (qs : List Request). of_caller n st.before ++ qs) (filter-append own st.stretch st.later))
-          ∙ (append_assoc (of_caller n st.before) (of_caller n st.stretch ++ of_caller n st.later) after
-          ∙ (ap (λ (qs : List Request). of_caller n st.before ++ qs) (append_assoc (of_caller n st.stretch) (of_caller n st.later) after)
-          ∙ sym (append_assoc (of_caller n st.before) (of_caller n st.stretch) (of_caller n st.later ++ after))))));
+          ∙ (ap (λ (qs : List Request). earlier ++ qs)
+              (ap (λ (qs : List Request). of_caller n qs ++ after) st.taken_are
+              ∙ (ap (λ (qs : List Request). qs ++ after) (filter-append own st.before (st.stretch ++ st.later) ∙ ap (λ (qs : List Request). of_caller n st.before ++ qs) (filter-append own st.stretch st.later))
+              ∙ (append_assoc (of_caller n st.before) (of_caller n st.stretch ++ of_caller n st.later) after
+              ∙ ap (λ (qs : List Request). of_caller n st.before ++ qs) (append_assoc (of_caller n st.stretch) (of_caller n st.later) after))))
+          ∙ (sym (append_assoc earlier (of_caller n st.before) (of_caller n st.stretch ++ (of_caller n st.later ++ after)))
+          ∙ sym (append_assoc (earlier ++ of_caller n st.before) (of_caller n st.stretch) (of_caller n st.later ++ after))));
       commands_are = ap (of_caller n) st.commands ∙ swapped own (λ (q : Request). command_on d q.ask) st.stretch;
     }
 
-while_open : (run : Run) (past : List Act) → Lawful (driving run.start) past → NoneAfterClose past
+pub while_open : (b : Beginning) (past : List Act) → Lawful (driving b) past → NoneAfterClose past
 unfolding Lawful
-while_open run past l newer older f joins is_data =
-    let here = lawful_part (driving run.start) newer (Sent f ∷ older) (subst (Lawful (driving run.start)) joins l) in
+while_open b past l newer older f joins is_data =
+    let here = lawful_part (driving b) newer (Sent f ∷ older) (subst (Lawful (driving b)) joins l) in
     by_data (is_data_frame f) is_data here.0.gated
   where
-    by_data : (b : Bool) → b ≡ true → When b (Gated (driving run.start) older (owed (driving run.start) older) f) → is_open Initiator f.dlci (wire older) ≡ true
+    by_data : (c : Bool) → c ≡ true → When c (Gated (driving b) older (owed (driving b) older) f) → is_open Initiator f.dlci (wire older) ≡ true
     by_data true e g = g.is_open
     by_data false e g = cc
 
 -- ## What is answered, and what is announced
 
-once_taken : (run : Run) (s : IsSettled run) (past : List Act) → SessionFits run.start run.session past → are_distinct (taken_requests past) ≡ true
-once_taken run s past f =
-    (distinct_front (taken_requests past) (aside_of run) (sym (ap are_distinct (since_are run.start run.session past f)) ∙ f.requests.once)).0
+pub once_taken : (b : Beginning) (v : SessionView) (past : List Act) → SessionFits b v past → are_distinct (taken_requests past) ≡ true
+once_taken b v past f =
+    (distinct_front (taken_requests past) (option_to_list v.aside) (sym (ap are_distinct (since_are b v past f)) ∙ f.requests.once)).0
 
-answers_own : (run : Run) (s : IsSettled run) (past : List Act) → SessionFits run.start run.session past → AnswersOwn run.start past
+pub answers_own : (b : Beginning) (v : SessionView) (past : List Act) → SessionFits b v past → AnswersOwn b past
 unfolding TellsOwn
-answers_own run s past f = tells_own (driving run.start) past f.history.lawful refl f.history.calls (uses_once (taken_requests past) (once_taken run s past f))
+answers_own b v past f = tells_own (driving b) past f.history.lawful refl f.history.calls (uses_once (taken_requests past) (once_taken b v past f))
 
-hears_each : (run : Run) (past : List Act) → SessionFits run.start run.session past → HearsEach run.start past
+pub hears_each : (b : Beginning) (v : SessionView) (past : List Act) → SessionFits b v past → HearsEach b past
 unfolding HearsAll
-hears_each run past f = hears_all (driving run.start) past f.history.lawful f.history.complete
+hears_each b v past f = hears_all (driving b) past f.history.lawful f.history.complete
 
-subscription_at : (ls : List ListenerView) (i : ℕ) (l : ListenerView) → get_elem? ls i ≡ some l → get_elem? (map subscription_of ls) i ≡ some l.subscription
+pub subscription_at : (ls : List ListenerView) (i : ℕ) (l : ListenerView) → get_elem? ls i ≡ some l → get_elem? (map subscription_of ls) i ≡ some l.subscription
 subscription_at [] i l e = absurd (some-ne-none l (sym e))
 subscription_at (x ∷ xs) zero l e = ap (λ (y : ListenerView). some y.subscription) (some-injective x l e)
 subscription_at (x ∷ xs) (suc i) l e = subscription_at xs i l e
@@ -169,7 +170,7 @@ outcomes_are run s e i c at =
     ap (λ (os : List Outcome). os ++ session.caller_outcomes n run.leftovers.unplaced) same
     ∙ (ap (λ (os : List Outcome). to.since ++ session.caller_outcomes n os) e.finishes.unplaced_are ∙ to.outcomes_are)
 
-of_its_own : (n : ℕ) (qs : List Request) → All (λ q. q.caller ≡ n) (of_caller n qs)
+pub of_its_own : (n : ℕ) (qs : List Request) → All (λ q. q.caller ≡ n) (of_caller n qs)
 of_its_own n [] = All-nil (λ q. q.caller ≡ n)
 of_its_own n (q ∷ qs) = by_caller (q.caller == n) refl (of_its_own n qs)
   where
@@ -197,7 +198,7 @@ has_one_place : (run : Run) (s : IsSettled run) (e : HasEnd run) (i : ℕ) (c : 
 has_one_place run s e i c at r in_it =
     let n = c.place.number in
     let f = e.fits in
-    let once = once_taken run s e.past f in
+    let once = once_taken run.start run.session e.past f in
     let whole : c.submitted ≡ of_caller n (taken_requests e.past ++ (aside_of run ++ run.settlement.left)) =
     submitted_are run s e.past f i c at
     ∙ sym (filter-append (λ (q : Request). q.caller == n) (taken_requests e.past) (aside_of run ++ run.settlement.left) ∙ ap (λ (qs : List Request). of_caller n (taken_requests e.past) ++ qs) (filter-append (λ (q : Request). q.caller == n) (aside_of run) run.settlement.left)) in
@@ -215,7 +216,7 @@ has_one_place run s e i c at r in_it =
 
 -- ## Each outcome answers a request of its caller's
 
-any_more : (o : Outcome) (xs ys : List Request) → list_any (λ q. is_for q o) xs ≡ true → list_any (λ q. is_for q o) (xs ++ ys) ≡ true
+pub any_more : (o : Outcome) (xs ys : List Request) → list_any (λ q. is_for q o) xs ≡ true → list_any (λ q. is_for q o) (xs ++ ys) ≡ true
 any_more o xs ys h = list_any-append (λ q. is_for q o) xs ys ∙ ap (λ (b : Bool). b || list_any (λ q. is_for q o) ys) h
 
 -- whom it answers is a request of its own caller
@@ -230,7 +231,7 @@ answers_one o (q ∷ qs) h = by_tests (is_for q o) (q.caller == o.caller) refl r
     by_tests false true e k g more = ap (λ (b : Bool). b || list_any (λ x. is_for x o) (of_caller o.caller qs)) e ∙ more g
     by_tests false false e k g more = more g
 
-own_answers : (n : ℕ) (qs more : List Request) (os : List Outcome) → list_all (λ o. list_any (λ q. is_for q o) qs) os ≡ true → list_all (λ o. list_any (λ q. is_for q o) (of_caller n qs ++ more)) (session.caller_outcomes n os) ≡ true
+pub own_answers : (n : ℕ) (qs more : List Request) (os : List Outcome) → list_all (λ o. list_any (λ q. is_for q o) qs) os ≡ true → list_all (λ o. list_any (λ q. is_for q o) (of_caller n qs ++ more)) (session.caller_outcomes n os) ≡ true
 own_answers n qs more [] h = refl
 own_answers n qs more (o ∷ os) h =
     let parts = and_parts (list_any (λ q. is_for q o) qs) (list_all (λ p. list_any (λ q. is_for q p) qs) os) h in
@@ -267,12 +268,12 @@ headline run s =
       fits = e.fits;
       leaves = λ newer older joins d. record {
         is_prefix = leaves_once (driving run.start) older (lawful_part (driving run.start) newer older (subst (Lawful (driving run.start)) joins e.fits.history.lawful)) d;
-        order = in_order run s e.past e.fits newer older joins d;
+        order = λ i c at. order_of c.place.number c.submitted [] (of_caller c.place.number (aside_of run) ++ of_caller c.place.number run.settlement.left) run.start run.session e.past e.fits (submitted_are run s e.past e.fits i c at) newer older joins d;
       };
-      none_after_close = while_open run e.past e.fits.history.lawful;
+      none_after_close = while_open run.start e.past e.fits.history.lawful;
       full = turns_are_full (driving run.start) e.past e.fits.history.in_turn;
-      answers = answers_own run s e.past e.fits;
-      hears = hears_each run e.past e.fits;
+      answers = answers_own run.start run.session e.past e.fits;
+      hears = hears_each run.start run.session e.past e.fits;
       announces = announces_each run s e;
       holds = holds_each run s e;
     }

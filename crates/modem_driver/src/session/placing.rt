@@ -60,7 +60,7 @@ impl Waiting {
 
     /// Each outcome is offered to its caller, in order. What is handed back stays, in its order, and
     /// once one of a caller was handed back no other of that caller is offered. Whether any was told.
-    fn place_outcomes(&mut self, driver: &mut DriverEnd) -> bool
+    pub(super) fn place_outcomes(&mut self, driver: &mut DriverEnd) -> bool
         ensures placed { Placed caller_of IsRingOf (IsCaller driver.old.desk) (caller_rings driver.old)
             (caller_rings driver.new) self.old.outcomes self.new.outcomes result }
         ensures alone { TellsAlone driver.old driver.new }
@@ -103,7 +103,7 @@ impl Waiting {
     /// Each line is offered to the listener of its kind, in order. What is handed back stays, in its
     /// order, and once one of a kind was handed back no other of that kind is offered. Whether any was
     /// announced.
-    fn place_lines(&mut self, driver: &mut DriverEnd) -> bool
+    pub(super) fn place_lines(&mut self, driver: &mut DriverEnd) -> bool
         ensures placed { Placed place_of (IsListenerOf driver.old.desk.kinds) (IsHeard driver.old.desk.kinds)
             (listener_rings driver.old) (listener_rings driver.new) self.old.lines self.new.lines result }
         ensures alone { AnnouncesAlone driver.old driver.new }
