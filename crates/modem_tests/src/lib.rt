@@ -1,5 +1,5 @@
 //! The tests of what stored runs can't show: of frames, a station, lines of octets and the desk, of the core, of a session that
-//! ticks, of one that follows another, of the program's runs, and of which calls take no memory.
+//! ticks, of one that follows another, of sizes, of the program's runs, and of which calls take no memory.
 #![tactic(auto)]
 
 #[cfg(test)]
@@ -16,6 +16,8 @@ mod no_memory;
 mod program;
 #[cfg(test)]
 mod reset;
+#[cfg(test)]
+mod sizes;
 #[cfg(test)]
 mod station;
 #[cfg(test)]
