@@ -9,6 +9,7 @@ use std::process::Abort;
 use std::sync::Wait;
 use std::test::Fail;
 
+mod bells;
 mod threads;
 
 // So many Stops of a caller, numbered from 1.

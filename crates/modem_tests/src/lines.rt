@@ -7,6 +7,9 @@ use std::test::Fail;
 use std::thread;
 use std::thread::Threads;
 
+mod devices;
+mod streams;
+
 // The octets 0 to 250, over and over.
 fn long_text(alloc: Global, count: u32) -> Result<Vec<u8>, AllocError> {
     (0..count).map(|place| (place % 251) as u8).collect(alloc)

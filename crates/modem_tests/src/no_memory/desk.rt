@@ -1,6 +1,7 @@
 //! Of the desk.
 use crate::no_memory::{begin, end};
 use at_text::{Text, UrcKind};
+use bell::Bell;
 use modem_desk::*;
 use mux_frame::Dlci;
 use std::alloc::Global;
@@ -51,7 +52,8 @@ fn callers_and_driver<R: Wait + Abort + Print>(
     begin(rt, "DriverEnd::tell, DriverEnd::callers");
     assert!(rt; tell_all(rt, driver) == 8);
     end(rt);
-    begin(rt, "Caller::take");
+    begin(rt, "Caller::take, Caller::is_alone");
+    assert!(rt; !callers[0].is_alone());
     assert!(rt; callers[0].take().is_some());
     assert!(rt; callers[1].take().is_none());
     end(rt);
@@ -88,7 +90,14 @@ fn ring(alloc: Global) -> Result<Urc, Fail> {
 fn calls_that_take_no_memory(rt: HostRuntime) -> Result<(), Fail> {
     let alloc = rt.alloc();
     let line = ring(alloc)?;
-    let (mut driver, mut callers, mut listeners) = Desk::open(alloc, 2, &[UrcKind::Ring])?;
+    let bell = Bell::new(alloc)?;
+    let (mut driver, mut callers, mut listeners) = Desk::open_with_bell(
+        alloc,
+        2,
+        &[UrcKind::Ring],
+        1,
+        &bell,
+    )?;
     callers_and_driver(&rt, &mut driver, callers.as_mut_slice());
     listener_and_driver(&rt, &mut driver, listeners.as_mut_slice(), line);
     Ok(())

@@ -1,7 +1,11 @@
 //! Of lines of octets.
 use crate::no_memory::{begin, end};
+use bell::Bell;
+use device_line::{RingReader, RingWriter, line_over};
+use rtrb::RingBuffer;
 use serial_line::*;
 use std::alloc::Global;
+use std::io;
 use std::io::Print;
 use std::process::Abort;
 use std::test::Fail;
@@ -76,9 +80,42 @@ fn between_threads<R: Abort + Print>(rt: &R, alloc: Global) -> Result<(), Fail> 
     Ok(())
 }
 
+// Of a line over a reader and a writer.
+fn over_a_slice<R: Print>(rt: &R) {
+    let mut buffer = [0x41; 4];
+    begin(
+        rt,
+        "StreamLine::new, StreamLine::try_read, StreamLine::try_write, StreamLine::into_parts",
+    );
+    let mut line = StreamLine::new(b"abcdef".as_slice(), io::sink(), ZeroRead::Ended);
+    turn(&mut line, &mut buffer);
+    let _ = line.into_parts();
+    end(rt);
+}
+
+// Of the line of a device, and of its bell.
+fn of_a_device<R: Print>(rt: &R, alloc: Global) -> Result<(), Fail> {
+    let mut buffer = [0x41; 4];
+    let bell = Bell::new(alloc)?;
+    let (mut filled, octets) = RingBuffer::new(alloc, 64)?;
+    let (out, _emptied) = RingBuffer::new(alloc, 64)?;
+    let _ = filled.push_entire_slice(b"abcdef");
+    begin(
+        rt,
+        "RingReader::read, RingWriter::write, Bell::share, Bell::ring",
+    );
+    let writer = RingWriter::new(out, bell.share()?);
+    let mut line = line_over(RingReader::new(octets), writer);
+    turn(&mut line, &mut buffer);
+    end(rt);
+    Ok(())
+}
+
 #[test]
 fn calls_that_take_no_memory(rt: HostRuntime) -> Result<(), Fail> {
     let alloc = rt.alloc();
+    over_a_slice(&rt);
+    of_a_device(&rt, alloc)?;
     in_memory(&rt, alloc)?;
     between_threads(&rt, alloc)
 }

@@ -1,0 +1,103 @@
+//! Bells, and a desk whose callers and listeners ring one.
+use crate::desk::{submit_stops, take_requests, taken_by, tell_stopped};
+use at_text::{Text, UrcKind};
+use bell::Bell;
+use modem_desk::*;
+use mux_frame::Dlci;
+use std::alloc::Global;
+use std::process::Abort;
+use std::test::Fail;
+use std::thread;
+use std::time::Duration;
+
+// Longer than a test may last: a wait that isn't rung for fails it.
+fn long() -> Duration {
+    Duration::from_secs(3600)
+}
+
+#[test]
+fn a_ring_ends_the_next_wait_and_an_end_is_seen_by_all_shares(rt: HostRuntime) -> Result<(), Fail> {
+    let bell = Bell::new(rt.alloc())?;
+    let other = bell.share()?;
+    other.ring();
+    bell.wait(&rt, long());
+    bell.wait(&rt, Duration::from_millis(1));
+    assert!(rt; !bell.is_over() && !other.is_over());
+    other.end();
+    bell.wait(&rt, long());
+    assert!(rt; bell.is_over() && other.is_over());
+    Ok(())
+}
+
+#[test]
+fn a_ring_wakes_the_thread_that_waits(rt: HostRuntime) -> Result<(), Fail> {
+    let bell = Bell::new(rt.alloc())?;
+    let other = bell.share()?;
+    let there = &other;
+    let here = &bell;
+    thread::join(
+        &rt,
+        || here.wait(&rt, long()),
+        || {
+            thread::sleep(&rt, Duration::from_millis(20));
+            there.ring()
+        },
+    );
+    Ok(())
+}
+
+fn ring(alloc: Global) -> Result<Urc, Fail> {
+    Ok(Urc {
+        kind: UrcKind::Ring,
+        dlci: Dlci::new(1).ok_or("no such DLCI")?,
+        line: Text::from(b"RING".to_vec(alloc)?),
+    })
+}
+
+#[test]
+fn a_submit_and_each_take_ring(rt: HostRuntime) -> Result<(), Fail> {
+    let alloc = rt.alloc();
+    let bell = Bell::new(alloc)?;
+    let line = ring(alloc)?;
+    let (mut driver, mut callers, mut listeners) = Desk::open_with_bell(
+        alloc,
+        1,
+        &[UrcKind::Ring],
+        1,
+        &bell,
+    )?;
+    submit_stops(&rt, &mut callers, 0, 1);
+    bell.wait(&rt, long());
+    take_requests(&rt, &mut driver, &[(0, 1)]);
+    tell_stopped(&rt, &mut driver, 0, 1);
+    assert!(rt; taken_by(&rt, &mut callers, 0).is_some());
+    bell.wait(&rt, long());
+    assert!(rt; driver.listens(UrcKind::Ring) && line.kind == UrcKind::Ring);
+    assert!(rt; driver.announce(line).is_ok() && listeners.len() == 1);
+    assert!(rt; listeners[0].take().is_some());
+    bell.wait(&rt, long());
+    Ok(())
+}
+
+// Whether the caller at this place is alone.
+fn is_alone(rt: &impl Abort, callers: &mut Vec<Caller>, place: usize) -> bool {
+    assert!(rt; place < callers.len());
+    let caller = &mut callers[place];
+    caller.is_alone()
+}
+
+#[test]
+fn a_caller_is_alone_once_the_driver_is_gone_and_takes_what_waits(
+    rt: HostRuntime,
+) -> Result<(), Fail> {
+    let (mut driver, mut callers, _) = Desk::open(rt.alloc(), 2, &[])?;
+    assert!(rt; !is_alone(&rt, &mut callers, 0) && !is_alone(&rt, &mut callers, 1));
+    submit_stops(&rt, &mut callers, 0, 1);
+    take_requests(&rt, &mut driver, &[(0, 1)]);
+    tell_stopped(&rt, &mut driver, 0, 1);
+    drop(driver);
+    assert!(rt; is_alone(&rt, &mut callers, 0) && is_alone(&rt, &mut callers, 1));
+    assert!(rt; taken_by(&rt, &mut callers, 0).is_some());
+    assert!(rt; taken_by(&rt, &mut callers, 0).is_none());
+    Ok(())
+}
