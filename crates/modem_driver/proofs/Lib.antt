@@ -12,4 +12,5 @@ pub mod holds
 pub mod law_proofs
 pub mod rows
 pub mod Entries
+pub mod EntrySteps
 pub mod sessions

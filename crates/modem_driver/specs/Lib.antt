@@ -22,6 +22,7 @@ pub mod Headline
 pub mod HeadlineRows
 pub mod DeskHeadline
 pub mod Entries
+pub mod EntrySteps
 pub mod WaitingLists
 pub mod Endings
 pub mod EndingRows

@@ -123,7 +123,7 @@ impl Entry {
 }
 
 /// The next octet of the line, if there is one.
-fn next_octet<L: SerialLine>(line: &mut L) -> Result<Option<u8>, LineFault>
+pub(crate) fn next_octet<L: SerialLine>(line: &mut L) -> Result<Option<u8>, LineFault>
     ensures came { IfOk result (λ octet. L.received line.new ≡ L.received line.old ++ octet_in octet) }
     ensures none_came { OnErr result (L.received line.new ≡ L.received line.old) }
     ensures none_went { L.sent line.new ≡ L.sent line.old }
@@ -143,7 +143,7 @@ fn next_octet<L: SerialLine>(line: &mut L) -> Result<Option<u8>, LineFault>
 
 #[tactic(auto, using(crate::proofs::Entries::sees_line))]
 /// An octet is read: the final code that it ends, if it ends one.
-fn see(reader: &mut LineReader, octet: u8) -> Option<Final>
+pub(crate) fn see(reader: &mut LineReader, octet: u8) -> Option<Final>
     ensures keeps { HasRead reader.new (reader.old ++ octet ∷ []) }
     ensures given { SeesCode reader.old octet result }
 {

@@ -8,6 +8,7 @@ use std::thread;
 use std::thread::Threads;
 
 mod devices;
+mod entries;
 mod streams;
 
 // The octets 0 to 250, over and over.
