@@ -6,6 +6,7 @@ use Rattle.std.specs.declared.alloc.Global.{Global}
 use Rattle.modem_desk.specs.declared.request.Ask.{Ask}
 use Rattle.modem_desk.specs.declared.request.Outcome.{Outcome}
 use Rattle.modem_desk.specs.Ends.{CallerView, Place, place_of}
+use Rattle.modem_sim.specs.declared.script.Script.{Script}
 use Rattle.modem_bench.specs.Asks.{asks_for}
 use Rattle.modem_bench.specs.Calling.{OpensAll, Stops, Works}
 use Rattle.modem_bench.specs.Running.{AllWork, AreBack, AreCalled, AreOut, ComesBack, IsBack, IsOut, OpensFirst, Ran, StopsFirst, Work}
@@ -131,9 +132,13 @@ stops_first (x ∷ ws) w d lt e h = (subst (λ (y : Worked). Stops y.caller d) e
 pub known_ok : {A E : Type 0} (P : A → Type 0) (r : Result A E) (x : A) → r ≡ Ok x → IfOk r P → P x
 known_ok {A} {E} P r x e h = subst (λ (s : Result A E). IfOk s P) e h
 
+pub ok_on : {A E : Type 0} (P R : A → Type 0) (r : Result A E) → ((x : A) → P x → R x) → IfOk r P → IfOk r R
+ok_on P R (Ok x) f p = f x p
+ok_on P R (Err e) f p = tt
+
 pub ok_both : {A E : Type 0} (P Q R : A → Type 0) (r : Result A E) → ((x : A) → P x → Q x → R x) → IfOk r P → IfOk r Q → IfOk r R
 ok_both P Q R (Ok x) f p q = f x p q
 ok_both P Q R (Err e) f p q = tt
 
-pub ran_many : (all : List Submission) (count : ℕ) (os : List (List Outcome)) → Ran all count os → length os ≡ count
-ran_many all count os h = h.ran.one_each ∙ h.fresh.many
+pub ran_many : (all : List Submission) (count cut : ℕ) (script : Script) (os : List (List Outcome)) → Ran all count cut script os → length os ≡ count
+ran_many all count cut script os h = h.ran.one_each ∙ h.fresh.many

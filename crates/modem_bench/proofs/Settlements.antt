@@ -1,7 +1,7 @@
 -- The run of a bench: its session begins, goes on and is finished, and then its desk is settled.
-use Rattle.std.specs.Prelude.{◌≡◌, ℕ, zero, suc, replicate, true, List, [], ◌++◌, drop, length, map, nat_lt, refl, vec_items, slice_index_or, Option, Some, IfSome}
+use Rattle.std.specs.Prelude.{◌≡◌, ℕ, zero, suc, replicate, true, List, [], ◌++◌, drop, length, map, nat_lt, refl, vec_items, slice_index_or, Option, Some, IfSome, false, Bool, Result, Ok, Err, IsErr, OnOk}
 use Rattle.std.specs.List.{list_all}
-use Rattle.std.proofs.Common.{ap, ◌∙◌, sym, subst}
+use Rattle.std.proofs.Common.{ap, ◌∙◌, sym, subst, inl}
 use Rattle.std.proofs.lemmas.List.{length-map}
 use Rattle.std.specs.declared.vec.Vec.{Vec}
 use Rattle.std.specs.declared.alloc.Global.{Global}
@@ -13,14 +13,17 @@ use Rattle.modem_desk.specs.Ends.{AreSubscribed, CallerView, DeskId, DriverView,
 use Rattle.modem_history.specs.Acts.{after}
 use Rattle.modem_history.specs.Sessions.{EndView, LineView, at_place, taken_since}
 use Rattle.modem_driver.specs.Headline.{IsHeadline, IsSettled, Run}
-use Rattle.modem_driver.specs.Polls.{SessionGoesOn}
+use Rattle.modem_driver.specs.Polls.{SessionGoesOn, waits_none, waits_once}
 use Rattle.modem_driver.specs.SessionStates.{FitsAll, SessionState, beginning_of, end_of, session_view}
 use Rattle.modem_driver.proofs.law_proofs.Headlines.{headline}
 use Rattle.modem_driver.proofs.sessions.Polls.{goes_none, goes_then}
 use Rattle.modem_driver.proofs.sessions.TakenRequests.{takes_none, takes_then}
-use Rattle.modem_bench.specs.Driving.{Continues, IsBegun, IsOver}
+use Rattle.modem_sim.specs.Sims.{Sight, SimState}
+use Rattle.modem_bench.specs.Driving.{Advances, Continues, IsBegun, IsOver}
 use Rattle.modem_bench.specs.Running.{AreCalled, RanFor}
+use Rattle.modem_bench.specs.Simulating.{IsSimulated}
 use Rattle.modem_bench.specs.declared.calling.Worked.{Worked}
+use Rattle.modem_bench.specs.declared.signals.Fault.{Fault}
 use Rattle.modem_bench.specs.declared.submission.Submission.{Submission}
 use Rattle.modem_bench.proofs.CallerThreads.{called_long, lists_through}
 
@@ -45,20 +48,41 @@ module _ {X : Type 0} (look : X → LineView) where
     kinds = ap (λ (v : DriverView). v.desk.kinds) same;
   }
 
-  pub continues_none : (s : SessionState X) → Continues look s s
-  continues_none s = record { takes = takes_none s.driver; goes = goes_none look s }
+  -- where the bench is given up, or no poll is left, it stays as it is
+  pub advances_none : (s : SessionState X) (says : Result Bool Fault) → IsErr says → Advances look s s says
+  advances_none s (Err told) h = record { takes = takes_none s.driver; goes = goes_none look s; polled = inl refl }
+  advances_none s (Ok x) h = cc
 
-  pub continues_then : (s0 s1 s2 : SessionState X) → Continues look s0 s1 → Continues look s1 s2 → Continues look s0 s2
-  continues_then s0 s1 s2 a b = record {
+  -- a poll of it gave Stopped
+  pub continues_at : (old new : SessionState X) → Advances look old new (Ok true) → Continues look old new
+  continues_at old new a = record {
+    mid = old;
+    waits = waits_none old;
+    stops = a.polled;
+    takes = a.takes;
+    goes = a.goes;
+  }
+
+  -- it stopped after a poll that gave no end
+  pub continues_after : (s0 s1 s2 : SessionState X) → Advances look s0 s1 (Ok false) → Continues look s1 s2 → Continues look s0 s2
+  continues_after s0 s1 s2 a b = record {
+    mid = b.mid;
+    waits = waits_once s0 s1 b.mid a.polled.given a.polled.polls a.polled.no_end b.waits;
+    stops = b.stops;
     takes = takes_then s0.driver s1.driver s2.driver a.takes b.takes;
     goes = goes_then look s0 s1 s2 a.goes b.goes;
   }
 
-  -- what a later one continues to, it continues to
-  pub given_before : (o p : Option (SessionState X)) (old new end : SessionState X) → o ≡ Some old → p ≡ Some new → Continues look old new → IfSome p (λ s. Continues look s end) → IfSome o (λ s. Continues look s end)
-  given_before o p old new end e f h later =
+  -- the one that was polled has stopped
+  pub given_at : (o : Option (SessionState X)) (old new : SessionState X) → o ≡ Some old → Advances look old new (Ok true) → IfSome o (λ s. Continues look s new)
+  given_at o old new e h = subst (λ (x : Option (SessionState X)). IfSome x (λ s. Continues look s new)) (sym e) (continues_at old new h)
+
+  -- what a later one comes to, it comes to
+  pub given_before : (o p : Option (SessionState X)) (old new end : SessionState X) (out : Result (Unit {0}) Fault) → o ≡ Some old → p ≡ Some new → Advances look old new (Ok false) → IfSome p (λ s. OnOk out (Continues look s end)) → IfSome o (λ s. OnOk out (Continues look s end))
+  given_before o p old new end (Err told) e f h later = subst (λ (x : Option (SessionState X)). IfSome x (λ s. Unit {0})) (sym e) tt
+  given_before o p old new end (Ok x) e f h later =
       let on : Continues look new end = subst (λ (x : Option (SessionState X)). IfSome x (λ s. Continues look s end)) f later in
-      subst (λ (x : Option (SessionState X)). IfSome x (λ s. Continues look s end)) (sym e) (continues_then old new end h on)
+      subst (λ (x : Option (SessionState X)). IfSome x (λ s. Continues look s end)) (sym e) (continues_after old new end h on)
 
   -- ## It is over
 
@@ -105,19 +129,27 @@ module _ {X : Type 0} (look : X → LineView) where
         books = over.books;
       }
 
-  pub ran_for : (all : List Submission) (fresh cs : List CallerView) (ws : List Worked) (vs : List (Vec Outcome Global)) (s0 s1 : SessionState X) (ls : List ListenerView) (settled : Settled)
+  pub ran_for : (see : Sight X) (all : List Submission) (fresh cs : List CallerView) (ws : List Worked) (vs : List (Vec Outcome Global)) (s0 s1 : SessionState X) (m : SimState X) (ls : List ListenerView) (settled : Settled)
       → AreCalled all fresh ws → cs ≡ map (λ (w : Worked). w.caller) ws → vs ≡ map (λ (w : Worked). w.outcomes) ws
-      → IsBegun look s0 → Continues look s0 s1 → IsWhole s1.driver.desk (map place_of cs) → AreSubscribed s1.driver.desk (map subscription_of ls) → IsOver look s1 cs ls settled
-      → RanFor all fresh (map vec_items vs)
+      → IsBegun look s0 → Continues look s0 s1 → IsSimulated see m
+      → IsWhole s1.driver.desk (map place_of cs) → AreSubscribed s1.driver.desk (map subscription_of ls) → IsOver look s1 cs ls settled
+      → RanFor look see all fresh s0 m (map vec_items vs)
   unfolding IsHeadline
-  ran_for all fresh cs ws vs s0 s1 ls settled h callers e begun on whole subscribed over =
+  ran_for see all fresh cs ws vs s0 s1 m ls settled h callers e begun on simulated whole subscribed over =
       let done = settles s0 s1 cs ls settled begun on whole subscribed over in
       record {
         worked = ws;
         called = h;
         outcomes_are = lists_through ws vs e;
         one_each = ap (length {A = List Outcome}) (lists_through ws vs e) ∙ length-map ws (λ (w : Worked). w.outcomes.items) ∙ called_long all fresh ws h;
+        begun = begun;
+        stopped = s1;
+        driven = on;
+        simulated = simulated;
         run = run_of s0 s1 cs ls settled begun over;
+        start_is = refl;
+        session_is = refl;
+        driver_is = refl;
         callers_are = callers;
         settled = done;
         headline = headline (run_of s0 s1 cs ls settled begun over) done;

@@ -1,11 +1,17 @@
 -- The session of a bench: how it begins, how it goes on in its thread, and how it ends.
-use Rattle.std.specs.Prelude.{◌≡◌, ℕ, List, [], map, slice_index_or, vec_items}
+use Rattle.std.specs.Prelude.{◌≡◌, ◌⊎◌, ℕ, Bool, true, false, List, [], None, Result, Ok, Err, map, slice_index_or, vec_items}
 use Rattle.modem_desk.specs.declared.settling.Settled.{Settled}
 use Rattle.modem_desk.specs.Books.{DeskBooks}
 use Rattle.modem_desk.specs.Ends.{CallerView, ListenerView}
 use Rattle.modem_history.specs.Sessions.{Beginning, Leftovers, LineView}
-use Rattle.modem_driver.specs.Polls.{SessionGoesOn}
+use Rattle.modem_driver.specs.declared.session.ending.Ended.TheVariants.{Stopped}
+use Rattle.modem_driver.specs.declared.session.error.SessionFault.{SessionFault}
+use Rattle.modem_driver.specs.declared.session.polling.Progress.{Progress}
+use Rattle.modem_driver.specs.declared.session.polling.Progress.TheVariants.{Ended}
+use Rattle.modem_driver.specs.Polls.{Polls, SessionGoesOn, Waits, end_in}
 use Rattle.modem_driver.specs.SessionStates.{SessionEnds, FitsAll, SessionState, TakesMore, end_of}
+use Rattle.modem_bench.specs.Faults.{session_fault}
+use Rattle.modem_bench.specs.declared.signals.Fault.{Fault}
 
 -- it has done nothing yet, and neither has its desk
 pub record IsBegun {X : Type 0} (look : X → LineView) (s : SessionState X) : Type 0 where
@@ -17,8 +23,39 @@ pub record IsBegun {X : Type 0} (look : X → LineView) (s : SessionState X) : T
   pub desk : end_of s.driver ≡ start.desk
   pub kinds : s.driver.desk.kinds ≡ start.kinds
 
--- the same session, later: it took requests of its desk, and went on by some acts, whatever history it had
+-- a poll of it gave no end
+pub record WaitsOnce {X : Type 0} (look : X → LineView) (old new : SessionState X) : Type 0 where
+  pub given : Progress
+  pub polls : Polls look old new given
+  pub no_end : end_in given ≡ None
+
+-- a poll of it gave a fault, which is told so
+pub record FailsOnce {X : Type 0} (look : X → LineView) (old new : SessionState X) (told : Fault) :
+    Type 0 where
+  pub why : SessionFault
+  pub polls : Polls look old new (Ended (Err why))
+  pub told_is : told ≡ session_fault why
+
+-- one poll of it, and whether it gave Stopped, or its fault; or none, where the bench was given up before
+abbrev pub IsPolled :
+    {X : Type 0} → (X → LineView) → (old new : SessionState X) → Result Bool Fault → Type 0
+IsPolled look old new (Ok true) = Polls look old new (Ended (Ok Stopped))
+IsPolled look old new (Ok false) = WaitsOnce look old new
+IsPolled look old new (Err told) = (new ≡ old) ⊎ FailsOnce look old new told
+
+-- by one poll or none it took requests of its desk, and went on by some acts, whatever history it had
+pub record Advances {X : Type 0} (look : X → LineView) (old new : SessionState X) (says : Result Bool Fault) :
+    Type 0 where
+  pub takes : TakesMore old.driver new.driver
+  pub goes : SessionGoesOn look old new
+  pub polled : IsPolled look old new says
+
+-- The same session, once it has stopped: after polls that gave no end one gave Stopped. It took requests of its
+-- desk, and went on by some acts, whatever history it had.
 pub record Continues {X : Type 0} (look : X → LineView) (old new : SessionState X) : Type 0 where
+  pub mid : SessionState X
+  pub waits : Waits look old mid
+  pub stops : Polls look mid new (Ended (Ok Stopped))
   pub takes : TakesMore old.driver new.driver
   pub goes : SessionGoesOn look old new
 

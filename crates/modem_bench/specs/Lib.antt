@@ -1,4 +1,6 @@
 pub mod Asks
 pub mod Calling
 pub mod Driving
+pub mod Faults
 pub mod Running
+pub mod Simulating

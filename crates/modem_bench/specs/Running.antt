@@ -1,13 +1,20 @@
 -- Callers that are out in threads, and a bench as a whole.
 use Rattle.std.specs.Prelude.{◌≡◌, ℕ, ◌+◌, List, [], ◌∷◌, ◌++◌, length, map, Result}
 use Rattle.std.specs.declared.thread.PromisedHandle.{PromisedHandle}
+use Rattle.serial_line.specs.ThreadLine.{AreEnds, EndState, IsNew}
 use Rattle.modem_desk.specs.declared.request.Outcome.{Outcome}
 use Rattle.modem_desk.specs.Ends.{CallerView, Each, IsFresh}
 use Rattle.modem_driver.specs.Headline.{Headline, IsSettled, Run}
+use Rattle.modem_driver.specs.SessionStates.{SessionState, line_by, session_view}
+use Rattle.modem_history.specs.Sessions.{LineView}
+use Rattle.modem_sim.specs.Sims.{Sight, SimState, sight}
+use Rattle.modem_sim.specs.declared.script.Script.{Script}
 use Rattle.modem_bench.specs.Asks.{asks_for}
 use Rattle.modem_bench.specs.Calling.{OpensAll, Stops, Works}
+use Rattle.modem_bench.specs.Driving.{Continues, IsBegun}
+use Rattle.modem_bench.specs.Simulating.{IsSimulated, IsStarted}
 use Rattle.modem_bench.specs.declared.calling.Worked.{Worked}
-use Rattle.modem_bench.specs.declared.running.HasWorked.{HasWorked}
+use Rattle.modem_bench.specs.declared.crew.HasWorked.{HasWorked}
 use Rattle.modem_bench.specs.declared.signals.Fault.{Fault}
 use Rattle.modem_bench.specs.declared.submission.Submission.{Submission}
 
@@ -78,16 +85,26 @@ AreCalled all [] ws = ⊥
 AreCalled all (c ∷ cs) [] = ⊥
 AreCalled all (c ∷ cs) (w ∷ ws) = Leads all c w.caller w.outcomes.items × AllWork all 1 cs ws
 
--- These callers did what the submissions ask of them, and these are the outcomes that each took for it. They
--- are all the callers of a desk; its session was finished, and then it was settled with the driver's end and
--- with them: so the headline holds of that run.
-pub record RanFor (all : List Submission) (fresh : List CallerView) (outcomes : List (List Outcome)) :
-    Type 0 where
+-- These callers did what the submissions ask of them, and these are the outcomes that each took for it, each
+-- for the line at its place. The session was polled in its thread until it stopped, and the simulated modem
+-- until it had ended. The session had done nothing before, and neither had its desk, of which these are all
+-- the callers; it was finished, and then its desk was settled with the driver's end and with them: so the
+-- headline holds of that run.
+pub record RanFor {X : Type 0} (look : X → LineView) (see : Sight X) (all : List Submission)
+    (fresh : List CallerView) (session : SessionState X) (sim : SimState X)
+    (outcomes : List (List Outcome)) : Type 0 where
   pub worked : List Worked
   pub called : AreCalled all fresh worked
   pub outcomes_are : outcomes ≡ map (λ (w : Worked). w.outcomes.items) worked
   pub one_each : length outcomes ≡ length fresh
+  pub begun : IsBegun look session
+  pub stopped : SessionState X
+  pub driven : Continues look session stopped
+  pub simulated : IsSimulated see sim
   pub run : Run
+  pub start_is : run.start ≡ begun.start
+  pub session_is : run.session ≡ session_view look stopped
+  pub driver_is : run.driver ≡ stopped.driver
   pub callers_are : run.callers ≡ map (λ (w : Worked). w.caller) worked
   pub settled : IsSettled run
   pub headline : Headline run
@@ -97,8 +114,31 @@ pub record AreFresh (count : ℕ) (cs : List CallerView) : Type 0 where
   pub many : length cs ≡ count
   pub fresh : Each (λ i c. IsFresh c) cs
 
--- so many callers, which had done nothing before, did what the submissions ask of them
-pub record Ran (all : List Submission) (count : ℕ) (outcomes : List (List Outcome)) : Type 0 where
+-- the ends of a new line between two threads, with room for so many octets each way
+pub record IsLine (cut : ℕ) (near far : EndState) : Type 0 where
+  pub ends : AreEnds near far
+  pub near_is_new : IsNew cut near
+  pub far_is_new : IsNew cut far
+
+-- how an end of such a line is seen
+abbrev pub look_at : EndState → LineView
+look_at = line_by (λ l. l.received) (λ l. l.sent) (λ l. l.calls) (λ _. 0) (λ l. l.empty_reads) (λ l. l.stalled_writes)
+
+abbrev pub sight_of : Sight EndState
+sight_of = sight (λ l. l.received) (λ l. l.sent) (λ l. l.calls) (λ _. 0) (λ l. l.empty_reads) (λ l. l.stalled_writes)
+
+-- So many callers, which had done nothing before, did what the submissions ask of them, by a session at one end
+-- of a new line with this room, at the other end of which stood a simulated modem that had just started, with
+-- this script.
+pub record Ran (all : List Submission) (count cut : ℕ) (script : Script) (outcomes : List (List Outcome)) :
+    Type 0 where
+  pub near : EndState
+  pub far : EndState
+  pub line : IsLine cut near far
+  pub session : SessionState EndState
+  pub at_line : session.line ≡ near
+  pub sim : SimState EndState
+  pub started : IsStarted sight_of far script sim
   pub callers : List CallerView
   pub fresh : AreFresh count callers
-  pub ran : RanFor all callers outcomes
+  pub ran : RanFor look_at sight_of all callers session sim outcomes

@@ -1,8 +1,8 @@
 //! What the callers of a bench do.
-ghost use Rattle.std.specs.Prelude.{◌≡◌, ◌≤◌, ◌<◌, ◌++◌, ◌∷◌, [], IfOk, OnOk, length};
-ghost use Rattle.std.specs.List.Sorted.{IsNonDecreasingBy, IsPermutation};
+ghost use Rattle.std.specs.Prelude.{◌≡◌, ◌≤◌, ◌<◌, ◌++◌, ◌∷◌, [], true, IfOk, OnOk, length};
+ghost use Rattle.std.specs.List.Sorted.{IsPermutation};
 ghost use Rattle.modem_desk.specs.declared.request.Ask.TheVariants as ask;
-ghost use Rattle.modem_bench.specs.Calling.{Asks, Opens, OpensAll, PutsBehind, Stops, Works, asked};
+ghost use Rattle.modem_bench.specs.Calling.{AreAnswers, Asks, Opens, OpensAll, PutsBehind, Stops, Works, asked};
 
 use crate::signals::{Fault, Signals};
 use crate::submission::{Submission, names};
@@ -12,7 +12,7 @@ use std::alloc::Global;
 use std::sync::Wait;
 use std::thread;
 
-/// A caller that has worked, and the outcomes that it took meanwhile, by their numbers.
+/// A caller that has worked, and what it was told for each of its asks, in order.
 #[derive(Drop)]
 pub struct Worked {
     pub caller: Caller,
@@ -31,20 +31,21 @@ fn take_one(caller: &mut Caller, outcomes: &mut Vec<Outcome>) -> Result<bool, Fa
     Ok(true)
 }
 
-/// Submits a request, taking outcomes where it is refused.
+/// Submits a request, taking outcomes where it is refused, and gives its number.
 fn submit<R: Wait>(
     rt: &R,
     caller: &mut Caller,
     ask: Ask,
     outcomes: &mut Vec<Outcome>,
     signals: &Signals,
-) -> Result<(), Fault>
-    ensures { OnOk result (Asks caller.old caller.new (ask ∷ []) outcomes.old.items outcomes.new.items) }
+) -> Result<u64, Fault>
+    ensures { IfOk result (λ n. Asks caller.old caller.new (ask ∷ []) (n ∷ [])
+        outcomes.old.items outcomes.new.items) }
 {
     let mut left = ask;
     for _ in rt.forever() {
         match caller.submit(rt, left) {
-            Ok(_) => return Ok(()),
+            Ok(number) => return Ok(number),
             Err((_, back)) => left = back,
         }
         signals.check()?;
@@ -63,8 +64,7 @@ fn take_all<R: Wait>(
     outcomes: &mut Vec<Outcome>,
     signals: &Signals,
 ) -> Result<(), Fault>
-    ensures asks { OnOk result (Asks caller.old caller.new [] outcomes.old.items outcomes.new.items) }
-    ensures all { OnOk result (count ≤ length outcomes.new.items) }
+    ensures { OnOk result (Asks caller.old caller.new [] [] outcomes.old.items outcomes.new.items) }
 {
     for _ in rt.forever() {
         if outcomes.len() >= count {
@@ -78,34 +78,52 @@ fn take_all<R: Wait>(
     unreachable!()
 }
 
-/// Submits requests in order.
+/// Submits requests in order, and gives their numbers.
 fn submit_all<R: Wait>(
     rt: &R,
+    alloc: Global,
     caller: &mut Caller,
     asks: Vec<Ask>,
     outcomes: &mut Vec<Outcome>,
     signals: &Signals,
-) -> Result<(), Fault>
-    ensures { OnOk result (Asks caller.old caller.new asks.items outcomes.old.items outcomes.new.items) }
+) -> Result<Vec<u64>, Fault>
+    ensures { IfOk result (λ ns. Asks caller.old caller.new asks.items ns.items
+        outcomes.old.items outcomes.new.items) }
 {
+    let mut numbers = Vec::new(alloc);
     for ask in asks {
-        submit(rt, caller, ask, outcomes, signals)?;
+        let number = submit(rt, caller, ask, outcomes, signals)?;
+        numbers.push(number)?;
     }
-    Ok(())
+    Ok(numbers)
 }
 
 /// Puts outcomes in the order of their numbers.
 fn in_order(outcomes: Vec<Outcome>) -> Vec<Outcome>
-    ensures same { IsPermutation outcomes.items result.items }
-    ensures by_number { IsNonDecreasingBy (λ o. o.number) result.items }
-    ensures long { length result.items ≡ length outcomes.items }
+    ensures { IsPermutation outcomes.items result.items }
 {
     let mut sorted = outcomes;
     sorted.sort_unstable_by_key(|outcome| outcome.number);
     sorted
 }
 
-/// Submits requests in order, taking outcomes where it is refused, and then takes outcomes until it has as many.
+/// Whether these outcomes answer the requests of these numbers, each the one at its place.
+fn answer_all(numbers: &[u64], outcomes: &[Outcome]) -> bool
+    ensures { result ≡ true → AreAnswers numbers.now outcomes.now }
+{
+    if numbers.len() != outcomes.len() {
+        return false;
+    }
+    for i in 0..numbers.len() {
+        if outcomes[i].number != numbers[i] {
+            return false;
+        }
+    }
+    true
+}
+
+/// Submits requests in order, taking outcomes where it is refused, and then takes outcomes until it has as many. Given up where
+/// these aren't theirs.
 fn work_on<R: Wait>(
     rt: &R,
     alloc: Global,
@@ -117,10 +135,12 @@ fn work_on<R: Wait>(
 {
     let mut caller = caller;
     let mut outcomes = Vec::new(alloc);
-    let count = asks.len();
-    submit_all(rt, &mut caller, asks, &mut outcomes, signals)?;
-    take_all(rt, &mut caller, count, &mut outcomes, signals)?;
+    let numbers = submit_all(rt, alloc, &mut caller, asks, &mut outcomes, signals)?;
+    take_all(rt, &mut caller, numbers.len(), &mut outcomes, signals)?;
     let outcomes = in_order(outcomes);
+    if !answer_all(numbers.as_slice(), outcomes.as_slice()) {
+        return Err(Fault::GaveUp);
+    }
     Ok(Worked { caller, outcomes })
 }
 
@@ -136,7 +156,7 @@ pub fn work<R: Wait>(
 {
     match work_on(rt, alloc, caller, asks, &signals) {
         Ok(worked) => Ok(worked),
-        Err(fault) => Err(signals.give_up(fault)),
+        Err(fault) => Err(signals.give_up(rt, fault).fault),
     }
 }
 

@@ -1,7 +1,8 @@
 //! The driver's thread of a bench.
 ghost use Rattle.std.specs.Prelude.{◌≡◌, IfOk, IsSome, None, Ok, Some};
 ghost use Rattle.modem_driver.specs.SessionStates.{line_by};
-ghost use Rattle.modem_bench.specs.Driving.{Continues};
+ghost use Rattle.modem_bench.specs.Driving.{Advances, Continues};
+ghost use Rattle.modem_bench.specs.Faults.{session_fault};
 
 use crate::signals::{Fault, Signals};
 use futures::Future;
@@ -19,14 +20,16 @@ use std::{io, thread};
 /// How often the session of a bench is polled at most.
 const POLLS: u32 = 10_000_000;
 
-fn fault_of(fault: SessionFault) -> Fault {
+fn fault_of(fault: SessionFault) -> Fault
+    ensures { result ≡ session_fault fault }
+{
     match fault {
         SessionFault::NoMemory => Fault::NoMemory,
         SessionFault::Line | SessionFault::Failed => Fault::Line,
     }
 }
 
-/// The same session, later.
+/// The same session, once it has stopped.
 #[derive(Drop)]
 pub struct Later<L: SerialLine + Drop, R: Wait + Drop>(pub Snapshot<Session<L, R>>);
 
@@ -56,7 +59,7 @@ impl<L: SerialLine + Drop, R: Wait + Drop> Driven<'_, L, R> {
     /// A poll of the session, and whether it has ended by it.
     fn advance(&mut self, session: &mut Session<L, R>) -> Result<bool, Fault>
         ensures same { self.new.session ≡ self.old.session }
-        ensures continues { Continues (line_by L.received L.sent L.calls L.failures L.empty_reads L.stalled_writes) session.old session.new }
+        ensures advances { Advances (line_by L.received L.sent L.calls L.failures L.empty_reads L.stalled_writes) session.old session.new result }
     {
         count(&mut self.left, self.signals)?;
         match session.advance() {
@@ -93,7 +96,7 @@ fn polled<S: Drop>(end: io::Result<(S, Result<(), Fault>)>) -> Result<S, Fault>
 }
 
 impl<L: SerialLine + Drop, R: Wait + Drop> Future for Driven<'_, L, R> {
-    ghost use Rattle.std.specs.Prelude.{IfSome, IsSome};
+    ghost use Rattle.std.specs.Prelude.{IfSome, IsSome, OnOk};
     ghost use Rattle.modem_driver.specs.SessionStates.{line_by};
     ghost use Rattle.modem_bench.specs.Driving.{Continues};
 
@@ -101,8 +104,8 @@ impl<L: SerialLine + Drop, R: Wait + Drop> Future for Driven<'_, L, R> {
 
     ghost can_poll = { λ d. IsSome d.session };
 
-    ghost gives = { λ d out. IfSome d.session
-        (λ s. Continues (line_by L.received L.sent L.calls L.failures L.empty_reads L.stalled_writes) s out.0) };
+    ghost gives = { λ d out. IfSome d.session (λ s. OnOk out.1
+        (Continues (line_by L.received L.sent L.calls L.failures L.empty_reads L.stalled_writes) s out.0)) };
 
     fn poll(&mut self, cx: &mut Context<'_>) -> Poll<(Session<L, R>, Result<(), Fault>)> {
         let mut session = take_out(&mut self.session);
@@ -144,6 +147,6 @@ pub fn drive<L: SerialLine + Drop, R: Wait + RandomSource + AllocGlobal + Drop>(
 {
     match drive_on(rt, session, &signals) {
         Ok(session) => Ok(session),
-        Err(fault) => Err(signals.give_up(fault)),
+        Err(fault) => Err(signals.give_up(rt, fault).fault),
     }
 }

@@ -2,7 +2,10 @@
 #![tactic(auto)]
 
 mod calling;
+mod crew;
 mod driving;
+mod ends;
+mod results;
 mod running;
 mod signals;
 mod simulating;

@@ -7,6 +7,7 @@ use Rattle.modem_history.specs.Acts.{Act}
 use Rattle.modem_driver.specs.Replays.{Replays}
 use Rattle.modem_driver.specs.declared.event.Event.{Event}
 use Rattle.modem_desk.specs.declared.request.Outcome.{Outcome}
+use Rattle.modem_sim.specs.declared.script.Script.{Script}
 use Rattle.modem_runs.specs.Bench.{AreSubmitted}
 use Rattle.modem_runs.specs.Dump.{dump_octets}
 use Rattle.modem_runs.specs.Input.{input_lines}
@@ -33,12 +34,14 @@ pub record IsReplayed (n1 : ℕ) (text shown : List ℕ) : Type 0 where
   pub replays : Replays n1 events acts
   pub printed : shown ≡ acts_text acts
 
--- a text has what so many callers submit, and this is printed of what they were told for it
-pub record IsBenched (callers : ℕ) (text shown : List ℕ) : Type 0 where
+-- a text has what so many callers submit, and this is printed of what they were told for it, each line of a
+-- caller for the line of the text at its place, by a driver over a line with room for so many octets each way
+-- and a simulated modem that had just started, with this script, at its other end
+pub record IsBenched (callers cut : ℕ) (script : Script) (text shown : List ℕ) : Type 0 where
   pub submissions : List Submission
   pub outcomes : List (List Outcome)
   pub input : AreSubmitted callers (input_lines text) submissions
-  pub ran : Ran submissions callers outcomes
+  pub ran : Ran submissions callers cut script outcomes
   pub printed : shown ≡ outcomes_text outcomes
 
 -- no bench has so many callers, or so many octets under way

@@ -1,5 +1,6 @@
 -- Exit statuses of the program.
 use Rattle.std.specs.Prelude.{ℕ}
+use Rattle.modem_bench.specs.declared.signals.Fault.{Fault}
 use Rattle.modem_runs.specs.declared.stop.Stop.{Stop}
 use Rattle.modem_runs.specs.declared.stop.Refusal.{Refusal}
 
@@ -19,3 +20,9 @@ status_of (Stop.BadLine _) = 2
 abbrev pub stop_at : ℕ → Refusal → Stop
 stop_at place Refusal.Bad = Stop.BadLine place
 stop_at place Refusal.NoMemory = Stop.NoMemory
+
+-- what a fault of a bench is told as
+abbrev pub stop_of : Fault → Stop
+stop_of Fault.NoMemory = Stop.NoMemory
+stop_of Fault.Line = Stop.Line
+stop_of Fault.GaveUp = Stop.GaveUp

@@ -23,10 +23,10 @@ use std::thread::Threads;
 use submissions::read_submissions;
 
 impl From<Fault> for Stop {
-    ghost use Rattle.std.specs.Prelude.{◌≡◌, ◌⊎◌};
-    ghost use Rattle.modem_runs.specs.declared.stop.Stop.TheVariants.{NoMemory, Line, GaveUp};
+    ghost use Rattle.std.specs.Prelude.{◌≡◌};
+    ghost use Rattle.modem_runs.specs.Statuses.{stop_of};
 
-    ghost from_gives = { λ _ stop. (stop ≡ NoMemory) ⊎ ((stop ≡ Line) ⊎ (stop ≡ GaveUp)) };
+    ghost from_gives = { λ fault stop. stop ≡ stop_of fault };
 
     fn from(fault: Fault) -> Stop {
         match fault {
@@ -50,7 +50,7 @@ where
     R: Threads + Wait + RandomSource + AllocGlobal + Copy + Send + Drop + 'static,
     requires { (1 ≤ callers) × (callers ≤ 8) }
     ensures ok { IfOk result
-        (λ text. IfSome (I.remaining input.old) (λ all. IsBenched callers all (string_bytes text))) }
+        (λ text. IfSome (I.remaining input.old) (λ all. IsBenched callers cut script all (string_bytes text))) }
     ensures bad_line { (place : ℕ) → IsErrOf result (Stop.BadLine place)
         → IfSome (I.remaining input.old)
         (λ text. IsFirstBad (IsNoSubmission callers) (input_lines text) place) }
@@ -97,7 +97,7 @@ where
     R: Threads + Wait + RandomSource + AllocGlobal + Copy + Send + Drop + 'static,
     ensures status { result ≤ 2 }
     ensures done { result ≡ 0
-        → IsPrinted (IsBenched callers) (I.remaining input.old) (W.contents output.old)
+        → IsPrinted (IsBenched callers cut script) (I.remaining input.old) (W.contents output.old)
         (W.contents output.new) }
     ensures refused { result ≡ 2
         → IsNoBench callers cut

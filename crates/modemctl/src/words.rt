@@ -2,7 +2,8 @@
 ghost use Rattle.std.specs.Prelude.{◌≡◌, ◌≢◌, ℕ, ◌<◌, ◌≤◌, [], map, Some, None, IfOk, false, codes};
 ghost use Rattle.std.specs.String.{string_bytes};
 ghost use Rattle.clap.specs.Words.{app_of, rule_of, kind_of, found_of, one_text, subcommand_name_of};
-ghost use Rattle.modem_runs.specs.Printed.{IsBenched, IsFramed, IsPrinted, IsReplayed};
+ghost use Rattle.modem_runs.specs.Printed.{IsFramed, IsPrinted, IsReplayed};
+ghost use Rattle.modemctl.specs.Benches.{PrintsBench};
 ghost use Rattle.modemctl.specs.Words.{callers_rule, cut_rule, n1_rule, program_app, fault_in, with_two, AreFor, AsksNoHelp};
 
 use clap::error::ErrorKind;
@@ -146,9 +147,7 @@ where
     R: Threads + Wait + RandomSource + AllocGlobal + Copy + Send + Drop + 'static,
     ensures status { result ≤ 2 }
     ensures bad { result ≡ 2 → output.new ≡ output.old }
-    ensures done { result ≡ 0 → (callers : ℕ)
-        × IsPrinted (IsBenched callers) (I.remaining input.old) (W.contents output.old)
-        (W.contents output.new) }
+    ensures done { result ≡ 0 → PrintsBench (I.remaining input.old) (W.contents output.old) (W.contents output.new) }
 {
     let callers = callers_of(matches);
     let cut = usize::from(cut_of(matches));
@@ -176,9 +175,7 @@ where
         × IsPrinted (IsFramed n1) (I.remaining input.old) (W.contents output.old) (W.contents output.new) }
     ensures replay { result ≡ 0 → subcommand_name_of matches.now ≡ Some (codes "replay") → (n1 : ℕ)
         × IsPrinted (IsReplayed n1) (I.remaining input.old) (W.contents output.old) (W.contents output.new) }
-    ensures bench { result ≡ 0 → subcommand_name_of matches.now ≡ Some (codes "bench") → (callers : ℕ)
-        × IsPrinted (IsBenched callers) (I.remaining input.old) (W.contents output.old)
-        (W.contents output.new) }
+    ensures bench { result ≡ 0 → subcommand_name_of matches.now ≡ Some (codes "bench") → PrintsBench (I.remaining input.old) (W.contents output.old) (W.contents output.new) }
 {
     if let Some(matches) = matches.subcommand_matches("frames") {
         return frames_run(alloc, input, output, faults, n1_of(matches));
@@ -213,9 +210,7 @@ where
         × IsPrinted (IsFramed n1) (I.remaining input.old) (W.contents output.old) (W.contents output.new) }
     ensures replay { result ≡ 0 → AreFor (codes "replay") (map string_bytes words.now) → (n1 : ℕ)
         × IsPrinted (IsReplayed n1) (I.remaining input.old) (W.contents output.old) (W.contents output.new) }
-    ensures bench { result ≡ 0 → AreFor (codes "bench") (map string_bytes words.now) → (callers : ℕ)
-        × IsPrinted (IsBenched callers) (I.remaining input.old) (W.contents output.old)
-        (W.contents output.new) }
+    ensures bench { result ≡ 0 → AreFor (codes "bench") (map string_bytes words.now) → PrintsBench (I.remaining input.old) (W.contents output.old) (W.contents output.new) }
 {
     let command = match program(alloc) {
         Ok(command) => command,

@@ -2,7 +2,7 @@ use Rattle.std.proofs.Common.{◌≡◌, ◌∙◌, List, [], ◌∷◌, ◌++�
 use Rattle.std.specs.Vec.Iter.{into_iter_items}
 use Rattle.modem_bench.specs.Running.{Work}
 use Rattle.modem_bench.proofs.CallerThreads.{back_next}
-use Rattle.modem_bench.proofs.running.bring_back.Goals as goal
+use Rattle.modem_bench.proofs.crew.bring_back.Goals as goal
 
 pub loop-handle-preserved-in-Ok : goal.loop-handle-preserved-in-Ok
 loop-handle-preserved-in-Ok g c =

@@ -8,7 +8,7 @@ use Rattle.modem_desk.specs.Ends.{CallerView}
 use Rattle.modem_bench.specs.Asks.{asks_for}
 use Rattle.modem_bench.specs.Running.{AreOut, IsOut, Work}
 use Rattle.modem_bench.proofs.CallerThreads.{out_more}
-use Rattle.modem_bench.proofs.running.send_out.Goals as goal
+use Rattle.modem_bench.proofs.crew.send_out.Goals as goal
 
 pub loop-caller-preserved : goal.loop-caller-preserved
 loop-caller-preserved g c =

@@ -1,6 +1,6 @@
 use Rattle.std.proofs.Common.{arith}
 use Rattle.modem_bench.proofs.CallerThreads.{opened_long}
-use Rattle.modem_bench.proofs.running.call.Goals as goal
+use Rattle.modem_bench.proofs.crew.call.Goals as goal
 
 pub work_all-requires-after_bounds : goal.work_all-requires-after_bounds
 work_all-requires-after_bounds g c =

@@ -1,7 +1,7 @@
 use Rattle.std.specs.Prelude.{◌≡◌, ◌++◌, OnOk}
 use Rattle.std.specs.Vec.Iter.{into_iter_items}
 use Rattle.modem_bench.specs.Running.{AreBack}
-use Rattle.modem_bench.proofs.running.bring_back.Given as goal
+use Rattle.modem_bench.proofs.crew.bring_back.Given as goal
 
 abbrev pub invariant-loop-handle : goal.invariant-loop-handle
 invariant-loop-handle g l = record {

@@ -1,7 +1,7 @@
 use Rattle.std.specs.Prelude.{◌≡◌, ◌++◌, length}
 use Rattle.std.specs.Vec.Iter.{into_iter_items}
 use Rattle.modem_bench.specs.Running.{AreOut}
-use Rattle.modem_bench.proofs.running.send_out.Given as goal
+use Rattle.modem_bench.proofs.crew.send_out.Given as goal
 
 abbrev pub invariant-loop-caller : goal.invariant-loop-caller
 invariant-loop-caller g l = record {

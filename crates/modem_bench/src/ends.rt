@@ -1,0 +1,108 @@
+//! What a bench begins with: a desk, a line, a session and a simulated modem.
+ghost use Rattle.std.specs.Prelude.{◌≡◌, [], false, None, IfOk, map};
+ghost use Rattle.modem_desk.specs.Ends.{AreSubscribed, IsWhole, Opened, subscription_of, place_of};
+ghost use Rattle.modem_driver.specs.SessionStates.{FitsAll, beginning_of, line_by};
+ghost use Rattle.modem_sim.specs.Sims.{sight};
+ghost use Rattle.modem_bench.specs.Driving.{IsBegun};
+ghost use Rattle.modem_bench.specs.Running.{AreFresh, IsLine};
+ghost use Rattle.modem_bench.specs.Simulating.{IsStarted};
+
+use crate::results::beside;
+use crate::signals::Fault;
+use modem_desk::{Caller, Desk, DriverEnd, Listener};
+use modem_driver::Session;
+use modem_sim::{Modem, ModemStart, Script, Sim};
+use serial_line::{SerialLine, ThreadLine};
+use std::alloc::Global;
+use std::sync::Wait;
+
+/// Octets of information that a frame of a bench may have.
+const N1: u16 = 31;
+
+/// What a bench begins with.
+#[derive(Drop)]
+pub struct Ends<L: SerialLine + Drop, R: Wait + Drop> {
+    pub session: Session<L, R>,
+    pub sim: Sim<L>,
+    pub callers: Vec<Caller>,
+    pub listeners: Vec<Listener>,
+}
+
+/// A desk with so many callers, and no listener.
+fn open_desk(alloc: Global, callers: u8) -> Result<(DriverEnd, Vec<Caller>, Vec<Listener>), Fault>
+    ensures { IfOk result (λ r. Opened callers [] 1 r.0 r.1.items r.2.items) }
+{
+    match Desk::open(alloc, callers, &[]) {
+        Ok(ends) => Ok(ends),
+        Err(_) => Err(Fault::NoMemory),
+    }
+}
+
+/// The two ends of a new line, with room for so many octets each way.
+pub fn make_line(alloc: Global, cut: usize) -> Result<(ThreadLine, ThreadLine), Fault>
+    ensures { IfOk result (λ r. IsLine cut r.0 r.1) }
+{
+    match ThreadLine::pair(alloc, cut) {
+        Ok(ends) => Ok(ends),
+        Err(_) => Err(Fault::NoMemory),
+    }
+}
+
+/// A session that has done nothing yet.
+fn make_session<L: SerialLine + Drop, R: Wait + Drop>(
+    rt: R,
+    alloc: Global,
+    line: L,
+    driver: DriverEnd,
+) -> Result<Session<L, R>, Fault>
+    ensures begins { IfOk result (λ s.
+        FitsAll (beginning_of 31 (line_by L.received L.sent L.calls L.failures L.empty_reads L.stalled_writes line) driver)
+        (line_by L.received L.sent L.calls L.failures L.empty_reads L.stalled_writes) s []) }
+    ensures same { IfOk result (λ s. (s.line ≡ line) × (s.driver ≡ driver)) }
+{
+    match Session::new(rt, alloc, line, driver, N1) {
+        Ok(session) => Ok(session),
+        Err(_) => Err(Fault::NoMemory),
+    }
+}
+
+/// A simulated modem with its default start.
+fn make_sim<L: SerialLine + Drop>(alloc: Global, line: L, script: Script) -> Result<Sim<L>, Fault>
+    ensures { IfOk result
+        (IsStarted (sight L.received L.sent L.calls L.failures L.empty_reads L.stalled_writes) line script) }
+{
+    let modem = Modem::new(alloc, ModemStart::default());
+    match Sim::new(alloc, line, modem, script, N1) {
+        Ok(sim) => Ok(sim),
+        Err(_) => Err(Fault::NoMemory),
+    }
+}
+
+/// A desk, a session at its driver's end, and a simulated modem at the other end of the line.
+pub fn begin<L: SerialLine + Drop, R: Wait + Drop + Copy>(
+    rt: &R,
+    alloc: Global,
+    callers: u8,
+    line: (L, L),
+    script: Script,
+) -> Result<Ends<L, R>, Fault>
+    ensures many { IfOk result (λ e. AreFresh callers e.callers.items) }
+    ensures begun { IfOk result (λ e. IsBegun (line_by L.received L.sent L.calls L.failures L.empty_reads L.stalled_writes) e.session) }
+    ensures at_line { IfOk result (λ e. e.session.line ≡ line.0) }
+    ensures started { IfOk result
+        (λ e. IsStarted (sight L.received L.sent L.calls L.failures L.empty_reads L.stalled_writes) line.1 script e.sim) }
+    ensures callers { IfOk result (λ e. IsWhole e.session.driver.desk (map place_of e.callers.items)) }
+    ensures listeners { IfOk result
+        (λ e. AreSubscribed e.session.driver.desk (map subscription_of e.listeners.items)) }
+{
+    let (driver, callers, listeners) = open_desk(alloc, callers)?;
+    let (near, far) = line;
+    let session = make_session(*rt, alloc, near, driver)?;
+    let (sim, session) = beside(make_sim(alloc, far, script), session)?;
+    Ok(Ends {
+        session,
+        sim,
+        callers,
+        listeners,
+    })
+}

@@ -1,0 +1,37 @@
+//! Results with what stands beside them.
+ghost use Rattle.std.specs.Prelude.{◌≡◌, IfOk, Ok};
+
+use crate::signals::Fault;
+use std::thread::SpawnError;
+
+/// What was made, beside what is kept. That something is dropped where nothing was made costs less to prove here, where it may
+/// be anything.
+pub fn beside<A: Drop, K: Drop, E: Drop>(made: Result<A, E>, kept: K) -> Result<(A, K), E>
+    ensures made { IfOk result (λ r. made ≡ Ok r.0) }
+    ensures kept { IfOk result (λ r. r.1 ≡ kept) }
+{
+    match made {
+        Ok(value) => Ok((value, kept)),
+        Err(error) => Err(error),
+    }
+}
+
+/// What came of two threads, unless one failed.
+pub fn both<A: Drop, B: Drop>(
+    first: Result<A, Fault>,
+    second: Result<B, Fault>,
+) -> Result<(A, B), Fault>
+    ensures first { IfOk result (λ r. first ≡ Ok r.0) }
+    ensures second { IfOk result (λ r. second ≡ Ok r.1) }
+{
+    let first = first?;
+    let second = second?;
+    Ok((first, second))
+}
+
+/// A thread that was spawned.
+pub fn spawned<H: Drop, F: Drop>(thread: Result<H, SpawnError<F>>) -> Result<H, Fault>
+    ensures { IfOk result (λ h. thread ≡ Ok h) }
+{
+    Ok(thread?)
+}
