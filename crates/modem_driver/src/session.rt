@@ -12,14 +12,14 @@ mod ending;
 mod error;
 mod exchanging;
 mod getting;
-mod kept;
+pub(crate) mod kept;
 mod offline;
 mod placing;
 mod polling;
 mod sending;
 mod taking;
 mod turn;
-mod waiting;
+pub(crate) mod waiting;
 
 use crate::run::KINDS;
 use at_text::UrcKind;

@@ -65,7 +65,7 @@ firsts_are {X} key n (x ∷ xs) = by_test (key x == n) refl (firsts_are key n xs
 
 -- ## Kinds
 
-none_beyond : (ks : List UrcKind) (i : ℕ) (k : UrcKind) → length ks ≤ i → get_elem? ks i ≡ some k → ⊥
+pub none_beyond : (ks : List UrcKind) (i : ℕ) (k : UrcKind) → length ks ≤ i → get_elem? ks i ≡ some k → ⊥
 none_beyond [] i k far e = some-ne-none k (sym e)
 none_beyond (m ∷ ks) zero k far e = omega arith
 none_beyond (m ∷ ks) (suc i) k far e = none_beyond ks i k (omega arith) e
@@ -77,7 +77,7 @@ has_at (m ∷ ks) (suc i) k e = Contains-append_right (m ∷ []) ks k (has_at ks
 
 -- ## What was told and announced
 
-told_more : (b : Beginning) (old new : SessionView) (past : List Act) → FitsTold b old past → ((c : ℕ) → Gave caller_of old.desk.told new.desk.told old.unplaced new.unplaced c c)
+pub told_more : (b : Beginning) (old new : SessionView) (past : List Act) → FitsTold b old past → ((c : ℕ) → Gave caller_of old.desk.told new.desk.told old.unplaced new.unplaced c c)
     → list_all (is_callers b.callers) new.unplaced ≡ true → FitsTold b new past
 told_more b old new past f gave callers = record {
   each = λ c.
@@ -91,7 +91,7 @@ told_more b old new past f gave callers = record {
   callers = callers;
 }
 
-heard_more : (b : Beginning) (old new : SessionView) (past : List Act) → FitsHeard b old past
+pub heard_more : (b : Beginning) (old new : SessionView) (past : List Act) → FitsHeard b old past
     → ((i : ℕ) (k : UrcKind) → get_elem? b.kinds i ≡ some k → Gave place_of old.desk.announced new.desk.announced old.unannounced new.unannounced (kind_place k) i)
     → list_all (λ (u : Urc). is_listened b.kinds u.kind) new.unannounced ≡ true → Stay place_of old.unannounced new.unannounced
     → ((i : ℕ) → length b.kinds ≤ i → at_place i new.desk.announced ≡ at_place i old.desk.announced) → FitsHeard b new past
@@ -133,7 +133,7 @@ both d m e os ps us vs told announced p t q a = record {
 }
 
 -- each caller has what it had, and then more
-grows_told : (v w : SessionView) → ((c : ℕ) → Gave caller_of v.desk.told w.desk.told v.unplaced w.unplaced c c) → Begins v.line.sent w.line.sent → Grows v w
+pub grows_told : (v w : SessionView) → ((c : ℕ) → Gave caller_of v.desk.told w.desk.told v.unplaced w.unplaced c c) → Begins v.line.sent w.line.sent → Grows v w
 grows_told v w gave sent = record {
   sent = sent;
   told = λ c. let g = gave c in record { rest = g.since; joins = sym g.given_are };

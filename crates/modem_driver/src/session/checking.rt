@@ -41,6 +41,7 @@ impl Kept {
             → Checks (turn_state l d self.old) (turn_state l d self.new) moved) }
         ensures part { OnErr result ((l : LineView) (d : DriverView)
             → ChecksPart (turn_state l d self.old) (turn_state l d self.new)) }
+        ensures stays { self.new ≡ record self.old { core = self.new.core } }
         ensures no_memory { OnErr result (result ≡ Err fault.NoMemory) }
     {
         let mut moved = false;

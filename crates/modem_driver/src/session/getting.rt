@@ -1,5 +1,5 @@
 //! Frames that are handled.
-ghost use Rattle.std.specs.Prelude.{◌≡◌, IfOk, OnErr};
+ghost use Rattle.std.specs.Prelude.{◌≡◌, ◌≢◌, ◌<◌, length, true, None, IfOk, OnErr};
 ghost use Rattle.modem_driver.specs.GettingSteps.{KeptGets};
 ghost use Rattle.modem_driver.specs.declared.session.error.SessionFault.TheVariants as fault;
 
@@ -13,7 +13,13 @@ impl Kept {
     /// Refusal: 1 NoMemory, which changes nothing: the frame stays at hand too.
     pub(crate) fn get_one(&mut self) -> Result<bool, SessionFault>
         ensures gets { IfOk result (λ moved. KeptGets self.old self.new moved) }
+        ensures shorter { IfOk result (λ moved. moved ≡ true
+            → length self.new.deframer.undecided < length self.old.deframer.undecided) }
+        ensures unfed { self.new.unfed ≡ self.old.unfed }
+        ensures aside { self.new.aside ≡ self.old.aside }
+        ensures unwritten { self.new.unwritten ≡ self.old.unwritten }
         ensures err { OnErr result (self.new ≡ self.old) }
+        ensures at_hand { OnErr result (self.old.deframer.next ≢ None) }
         ensures no_memory { OnErr result (result ≡ Err fault.NoMemory) }
     {
         let Some(frame) = self.deframer.peek() else {

@@ -24,14 +24,14 @@ use std::marker::Model;
 /// whether a call on the line has failed, and how far it has come on the way to its end.
 #[derive(Drop)]
 pub(crate) struct Kept {
-    pub(super) core: Core,
-    pub(super) aside: Option<Request>,
-    pub(super) input: ReadBuffer,
-    pub(super) deframer: Deframer,
-    pub(super) output: WriteBuffer,
-    pub(super) waiting: Waiting,
-    pub(super) faulty: bool,
-    pub(super) course: Course,
+    pub(crate) core: Core,
+    pub(crate) aside: Option<Request>,
+    pub(crate) input: ReadBuffer,
+    pub(crate) deframer: Deframer,
+    pub(crate) output: WriteBuffer,
+    pub(crate) waiting: Waiting,
+    pub(crate) faulty: bool,
+    pub(crate) course: Course,
 }
 
 impl Model for Kept {
@@ -100,6 +100,8 @@ impl Kept {
     /// NoMemory.
     pub(crate) fn tick(&mut self) -> Result<(), SessionFault>
         ensures ticks { OnOk result (KeptTicks self.old self.new) }
+        ensures unfed { self.new.unfed ≡ self.old.unfed }
+        ensures aside { self.new.aside ≡ self.old.aside }
         ensures ended { KeepsEnd self.old.course self.new.course }
         ensures err { OnErr result (self.new ≡ self.old) }
         ensures failed { (result ≡ Err fault.Failed) ↔ (self.old.core.lost ≡ true) }

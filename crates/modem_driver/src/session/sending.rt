@@ -1,4 +1,5 @@
 //! Frames that go into the output.
+ghost use Rattle.std.specs.Prelude.{◌≡◌};
 ghost use Rattle.modem_driver.specs.SendingSteps.{KeptSends};
 
 use crate::session::kept::Kept;
@@ -9,6 +10,9 @@ impl Kept {
     /// queued. It takes no memory.
     pub(crate) fn send_on(&mut self) -> bool
         ensures sends { KeptSends self.old self.new result }
+        ensures unfed { self.new.unfed ≡ self.old.unfed }
+        ensures aside { self.new.aside ≡ self.old.aside }
+        ensures next { self.new.deframer ≡ self.old.deframer }
     {
         if !self.output.is_empty() {
             return false;

@@ -19,8 +19,8 @@ use std::marker::Model;
 /// together 128 at most, and for so many outcomes there is room.
 #[derive(Drop)]
 pub(crate) struct Waiting {
-    pub(super) outcomes: VecDeque<Outcome>,
-    pub(super) lines: VecDeque<Urc>,
+    pub(crate) outcomes: VecDeque<Outcome>,
+    pub(crate) lines: VecDeque<Urc>,
 }
 
 impl Model for Waiting {

@@ -1,6 +1,7 @@
 -- One connection after the other is checked.
-use Rattle.std.proofs.Common.{subst, arith, ℕ}
+use Rattle.std.proofs.Common.{◌≡◌, sym, subst, arith, ℕ}
 use Rattle.modem_driver.specs.BacklogChecks.{ChecksOne}
+use Rattle.modem_driver.specs.SessionStates.{Kept}
 use Rattle.modem_driver.proofs.sessions.Backlogs.{checks_first, checks_more, checks_all, checks_part, same_number}
 use Rattle.modem_driver.proofs.session.kept.Kept.check_backlogs.Goals as goal
 
@@ -22,3 +23,10 @@ returns-clause-checks c =
 
 pub returns-in_err-moved-clause-part : goal.returns-in_err-moved-clause-part
 returns-in_err-moved-clause-part c = checks_part c.args.self.now c.loop-number.self c.check_backlog.new.self c.loop-number.number c.loop-number.moved c.from_residual.result c.loop-number.invariant c.in_err-moved.ensures.err
+
+pub returns-clause-stays : goal.returns-clause-stays
+returns-clause-stays c = c.loop-number.invariant.stays
+
+pub returns-in_err-moved-clause-stays : goal.returns-in_err-moved-clause-stays
+returns-in_err-moved-clause-stays c =
+    subst (λ (k : Kept). k ≡ record c.args.self.now { core = k.core }) (sym c.in_err-moved.ensures.err) c.loop-number.invariant.stays

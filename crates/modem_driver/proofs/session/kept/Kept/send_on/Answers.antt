@@ -8,8 +8,8 @@ use Rattle.modem_driver.specs.SendingSteps.{KeptSends}
 use Rattle.modem_driver.proofs.sessions.NextFrame.{send_goes, send_busy, send_none, some_wait, none_wait}
 use Rattle.modem_driver.proofs.session.kept.Kept.send_on.Goals as goal
 
-pub returns-then-not-is_empty : goal.returns-then-not-is_empty
-returns-then-not-is_empty c =
+pub returns-then-not-is_empty-clause-sends : goal.returns-then-not-is_empty-clause-sends
+returns-then-not-is_empty-clause-sends c =
     let k = c.self.inside in
     let old : Kept = record {
       core = k.core;
@@ -23,10 +23,10 @@ returns-then-not-is_empty c =
       course = k.course;
     } in
     let some : old.unwritten ≢ [] = some_wait k.output (sym c.is_empty.ensures ∙ c.if-not-is_empty.true) in
-    record { sends = subst (λ (v : Kept). KeptSends v v false) c.self.view_is (send_busy old some) }
+    subst (λ (v : Kept). KeptSends v v false) c.self.view_is (send_busy old some)
 
-pub returns-in_default : goal.returns-in_default
-returns-in_default c =
+pub returns-in_default-clause-sends : goal.returns-in_default-clause-sends
+returns-in_default-clause-sends c =
     let k = c.self.inside in
     let old : Kept = record {
       core = k.core;
@@ -41,13 +41,11 @@ returns-in_default c =
     } in
     let none : old.unwritten ≡ [] = none_wait k.output (sym c.is_empty.ensures ∙ c.if-not-is_empty.false) in
     let e = c.in_default.ensures in
-    record {
-      sends = subst (λ (v : Kept). KeptSends v (record old { core = c.outgoing.follows.lender-at-none }) false) c.self.view_is
-          (send_none old c.outgoing.follows.lender-at-none (c.outgoing.follows.holds-at-none ∙ e.still) e.frame e.idle none);
-    }
+    subst (λ (v : Kept). KeptSends v (record old { core = c.outgoing.follows.lender-at-none }) false) c.self.view_is
+    (send_none old c.outgoing.follows.lender-at-none (c.outgoing.follows.holds-at-none ∙ e.still) e.frame e.idle none)
 
-pub returns : goal.returns
-returns c =
+pub returns-clause-sends : goal.returns-clause-sends
+returns-clause-sends c =
     let k = c.self.inside in
     let old : Kept = record {
       core = k.core;
@@ -63,8 +61,6 @@ returns c =
     let none : old.unwritten ≡ [] = none_wait k.output (sym c.is_empty.ensures ∙ c.if-not-is_empty.false) in
     let e = c.in-Some.ensures in
     let out = c.put.new.self in
-    record {
-      sends = subst (λ (v : Kept). KeptSends v (record old { core = c.outgoing.follows.lender-at-none; unwritten = out }) c.in-Some.outgoing.fresh) c.self.view_is
-          (subst (λ (v : Core). KeptSends old (record old { core = v; unwritten = out }) c.in-Some.outgoing.fresh) (sym c.outgoing.follows.holds-at-none)
-          (send_goes old (outgoing_of c.in-Some.outgoing) out none e.short e.frame e.past e.holds c.put.ensures.some c.put.ensures.octets));
-    }
+    subst (λ (v : Kept). KeptSends v (record old { core = c.outgoing.follows.lender-at-none; unwritten = out }) c.in-Some.outgoing.fresh) c.self.view_is
+    (subst (λ (v : Core). KeptSends old (record old { core = v; unwritten = out }) c.in-Some.outgoing.fresh) (sym c.outgoing.follows.holds-at-none)
+    (send_goes old (outgoing_of c.in-Some.outgoing) out none e.short e.frame e.past e.holds c.put.ensures.some c.put.ensures.octets))
