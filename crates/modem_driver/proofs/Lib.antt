@@ -14,3 +14,4 @@ pub mod rows
 pub mod Entries
 pub mod EntrySteps
 pub mod sessions
+pub mod endpoints

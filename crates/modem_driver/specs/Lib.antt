@@ -24,6 +24,8 @@ pub mod DeskHeadline
 pub mod Entries
 pub mod EntrySteps
 pub mod WaitingLists
+pub mod EndpointSteps
+pub mod Endpoints
 pub mod Endings
 pub mod EndingRows
 pub mod SessionStates

@@ -4,6 +4,7 @@ use Rattle.modem_driver.specs.declared.error.CoreError.{CoreError}
 use Rattle.modem_driver.specs.declared.session.error.SessionError.{SessionError}
 use Rattle.modem_driver.specs.declared.session.error.SessionFault.{SessionFault}
 use Rattle.modem_driver.specs.declared.entering.EntryError.{EntryError}
+use Rattle.modem_driver.specs.declared.endpoint.error.RequestError.{RequestError}
 
 abbrev pub core_error_number : CoreError → ℕ
 core_error_number CoreError.NoMemory = 1
@@ -23,3 +24,7 @@ abbrev pub entry_error_number : EntryError → ℕ
 entry_error_number EntryError.Refused = 1
 entry_error_number EntryError.NoAnswer = 2
 entry_error_number EntryError.Line = 3
+
+abbrev pub request_error_number : RequestError → ℕ
+request_error_number RequestError.NoMemory = 1
+request_error_number RequestError.Full = 2

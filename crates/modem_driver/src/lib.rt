@@ -4,6 +4,7 @@
 mod act_list;
 mod backlog;
 mod driver;
+mod endpoint;
 mod entering;
 mod entry;
 mod error;
@@ -24,6 +25,7 @@ mod written;
 
 pub use at_text::{AnswerLine, CommandLine};
 pub use driver::Core;
+pub use endpoint::{Blocked, Endpoint, Input, Left, RequestError, RequestRefused};
 pub use entering::{EntryError, enter};
 pub use entry::{Entry, EntryStep, close_down};
 pub use error::CoreError;

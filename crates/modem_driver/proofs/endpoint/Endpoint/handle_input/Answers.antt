@@ -1,0 +1,13 @@
+-- All octets came, and the backlogs were looked at.
+use Rattle.std.proofs.Common.{subst, take}
+use Rattle.modem_driver.specs.Endpoints.{EndpointState, TakesOctets}
+use Rattle.modem_driver.proofs.endpoints.WholeCalls.{takes_octets}
+use Rattle.modem_driver.proofs.endpoint.Endpoint.handle_input.Goals as goal
+
+pub returns-clause-takes : goal.returns-clause-takes
+returns-clause-takes c l d =
+    let e = c.self.inside in
+    let input = c.take_in-input.result in
+    let octets = take input.taken c.args.octets.now in
+    subst (λ (v : EndpointState). TakesOctets l d v (record { kept = c.check_backlogs.new.self; next = e.next }) octets input.blocked) c.self.view_is
+    (takes_octets e.kept c.take_in-input.new.self c.check_backlogs.new.self e.next octets c.in-Ok._moved input.blocked c.take_in-input.ensures.takes c.in-Ok.ensures.checks l d)

@@ -1,0 +1,203 @@
+-- An endpoint begins, and takes a request.
+use Rattle.std.proofs.Common.{ap, sym, ◌∙◌, subst, arith}
+use Rattle.std.proofs.Math.Seq.{drop-length}
+use Rattle.std.proofs.lemmas.Bool.{and_from, and_parts}
+use Rattle.std.proofs.lemmas.List.{append-nil}
+use Rattle.std.proofs.lemmas.List.Folds.{list_all-append}
+use Rattle.std.specs.Prelude.{◌≡◌, ℕ, ◌+◌, ◌<◌, ◌≤◌, true, List, [], ◌∷◌, ◌++◌, length, map, refl, option_to_list, Option, None, Some, Contains, Result, Ok, Err, OnErr}
+use Rattle.std.specs.List.{list_all}
+use Rattle.at_text.specs.declared.unsolicited.UrcKind.{UrcKind}
+use Rattle.modem_desk.specs.declared.request.Ask.{Ask}
+use Rattle.modem_desk.specs.declared.request.Request.{Request}
+use Rattle.modem_desk.specs.Ends.{DriverView}
+use Rattle.modem_history.specs.Requests.{are_distinct, is_apart}
+use Rattle.modem_history.specs.Acts.{Act, after}
+use Rattle.modem_history.specs.Wholes.{taken_requests}
+use Rattle.modem_history.specs.Sessions.{Beginning, LineView, taken_since, heard_as}
+use Rattle.modem_history.specs.Turns.{may_act}
+use Rattle.modem_history.proofs.calls.StatesAfterActs.{after_both}
+use Rattle.modem_history.proofs.law_proofs.SessionLaws.{since_more}
+use Rattle.modem_driver.specs.Cores.{Fits}
+use Rattle.modem_driver.specs.Holding.{HoldsFit}
+use Rattle.modem_driver.specs.EndpointSteps.{HandlesFrames}
+use Rattle.modem_driver.specs.Endpoints.{EndpointFits, Begins, HasNoneAside, LeadsOver, Numbers, Refuses, TakesRequest, is_numbered, with_taken}
+use Rattle.modem_driver.specs.SessionStates.{Kept, KeptGoes, new_kept, seen_by, end_of}
+use Rattle.modem_driver.specs.TurnSteps.{StandingFits, Leads, turn_state}
+use Rattle.modem_driver.specs.TurnTakes.{TakesAside}
+use Rattle.modem_driver.proofs.endpoints.WholeCalls.{leads_over}
+use Rattle.modem_driver.proofs.sessions.LineOctets.{loss_with}
+use Rattle.modem_driver.proofs.sessions.OutcomeCounts.{is_caller}
+use Rattle.modem_driver.proofs.sessions.StartAndTick.{begins_over, kept_begins}
+use Rattle.modem_driver.proofs.sessions.StopProgress.{come_on, grows_none}
+use Rattle.modem_driver.proofs.sessions.WaitingDeliveries.{told_part, heard_part, sent_part, received_part}
+
+-- ## The beginning
+
+pub begins : (n1 : ℕ) (ks : List UrcKind) (k : Kept) (next : ℕ) → k ≡ new_kept n1 ks → Fits k.core [] → HoldsFit k.core [] → Begins n1 ks (record { kept = k; next = next })
+unfolding Begins
+begins n1 ks k next e fits holds l d same =
+    let inside = kept_begins n1 ks k d e (λ m. ((λ c. subst (λ (xs : List UrcKind). Contains xs m) (sym same) c), (λ c. subst (λ (xs : List UrcKind). Contains xs m) same c))) fits holds l in
+    record {
+      stands = begins_over n1 ks k l d e inside;
+      numbers = ap (list_all (is_numbered next)) (drop-length d.taken);
+    }
+
+-- ## Numbers
+
+-- one with a higher number is another
+apart_one : (n : ℕ) (ask : Ask) (q : Request) → is_numbered n q ≡ true → is_apart q (record { caller = 0; number = n; ask = ask }) ≡ true
+apart_one n ask q h = grind arith
+
+apart_last : (n : ℕ) (ask : Ask) (q : Request) (qs : List Request) → is_numbered n q ≡ true → list_all (is_apart q) qs ≡ true → list_all (is_apart q) (qs ++ record { caller = 0; number = n; ask = ask } ∷ []) ≡ true
+apart_last n ask q qs low all =
+    let r : Request = record { caller = 0; number = n; ask = ask } in
+    list_all-append (is_apart q) qs (r ∷ []) ∙ and_from (list_all (is_apart q) qs) (list_all (is_apart q) (r ∷ [])) all (and_from (is_apart q r) true (apart_one n ask q low) refl)
+
+distinct_last : (n : ℕ) (ask : Ask) (qs : List Request) → list_all (is_numbered n) qs ≡ true → are_distinct qs ≡ true → are_distinct (qs ++ record { caller = 0; number = n; ask = ask } ∷ []) ≡ true
+distinct_last n ask [] low once = refl
+distinct_last n ask (q ∷ qs) low once =
+    let lows = and_parts (is_numbered n q) (list_all (is_numbered n) qs) low in
+    let onces = and_parts (list_all (is_apart q) qs) (are_distinct qs) once in
+    let r : Request = record { caller = 0; number = n; ask = ask } in
+    and_from (list_all (is_apart q) (qs ++ r ∷ [])) (are_distinct (qs ++ r ∷ [])) (apart_last n ask q qs lows.0 onces.0) (distinct_last n ask qs lows.1 onces.1)
+
+lower_one : (n : ℕ) (q : Request) → is_numbered n q ≡ true → is_numbered (n + 1) q ≡ true
+lower_one n q h = grind arith
+
+lower_all : (n : ℕ) (qs : List Request) → list_all (is_numbered n) qs ≡ true → list_all (is_numbered (n + 1)) qs ≡ true
+lower_all n [] h = refl
+lower_all n (q ∷ qs) h =
+    let parts = and_parts (is_numbered n q) (list_all (is_numbered n) qs) h in
+    and_from (is_numbered (n + 1) q) (list_all (is_numbered (n + 1)) qs) (lower_one n q parts.0) (lower_all n qs parts.1)
+
+last_low : (n : ℕ) (ask : Ask) → is_numbered (n + 1) (record { caller = 0; number = n; ask = ask }) ≡ true
+last_low n ask = grind arith
+
+numbered_last : (n : ℕ) (ask : Ask) (qs : List Request) → list_all (is_numbered n) qs ≡ true → list_all (is_numbered (n + 1)) (qs ++ record { caller = 0; number = n; ask = ask } ∷ []) ≡ true
+numbered_last n ask qs h =
+    let r : Request = record { caller = 0; number = n; ask = ask } in
+    list_all-append (is_numbered (n + 1)) qs (r ∷ []) ∙ and_from (list_all (is_numbered (n + 1)) qs) (list_all (is_numbered (n + 1)) (r ∷ [])) (lower_all n qs h) (and_from (is_numbered (n + 1) r) true (last_low n ask) refl)
+
+-- ## The request waits aside
+
+is_caller_0 : (n : ℕ) (q : Request) → q.caller ≡ 0 → 1 ≤ n → list_all (is_caller n) (q ∷ []) ≡ true
+is_caller_0 n q e h = grind arith
+
+asks_here : (b : Beginning) (l : LineView) (d : DriverView) (old : Kept) (n : ℕ) (ask : Ask) (past : List Act) → old.aside ≡ None → length old.core.hand + length old.unplaced < 128 → 1 ≤ length d.desk.rings
+    → EndpointFits b l d (record { kept = old; next = n }) past
+    → StandingFits b (turn_state l (with_taken d (record { caller = 0; number = n; ask = ask })) (record old { aside = Some (record { caller = 0; number = n; ask = ask }) })) past
+asks_here b l d old n ask past none room some fit =
+    let q : Request = record { caller = 0; number = n; ask = ask } in
+    let f = fit.stands in
+    let e = with_taken d q in
+    let new : Kept = record old { aside = Some q } in
+    let v = seen_by l (end_of d) old in
+    let w = seen_by l (end_of e) new in
+    let s = f.session in
+    let hand = ap (length {A = Request}) f.inside.fits.hand_is in
+    let since = since_more b v w past (q ∷ []) s refl in
+    let same : length d.desk.rings ≡ b.callers = f.inside.callers_are in
+    record {
+      session = record {
+        history = s.history;
+        loss = loss_with b v w past s (omega arith);
+        requests = record {
+          taken_are =
+              ap (λ (qs : List Request). qs ++ q ∷ []) (s.requests.taken_are ∙ ap (λ (x : Option Request). b.desk.taken ++ taken_requests past ++ option_to_list x) none)
+              ∙ ap (λ (qs : List Request). qs ++ q ∷ []) (append-nil (b.desk.taken ++ taken_requests past));
+          once = ap are_distinct since ∙ distinct_last n ask (taken_since b v) fit.numbers s.requests.once;
+          callers =
+              ap (list_all (is_caller b.callers)) since
+              ∙ (list_all-append (is_caller b.callers) (taken_since b v) (q ∷ [])
+              ∙ and_from (list_all (is_caller b.callers) (taken_since b v)) (list_all (is_caller b.callers) (q ∷ [])) s.requests.callers (is_caller_0 b.callers q refl (omega (arith, same, some))));
+          few = let one = s.requests.few in omega arith;
+        };
+        received = received_part b v w past past s.received refl refl refl refl;
+        sent = sent_part b v w past past s.sent refl refl refl;
+        told = told_part b v w past [] s.told refl (sym (append-nil old.unplaced)) refl;
+        heard = heard_part b v w past [] s.heard refl (sym (append-nil (map heard_as old.unannounced))) refl;
+      };
+      inside = record {
+        setting = f.inside.setting;
+        fits = f.inside.fits;
+        holds = f.inside.holds;
+        kinds_are = f.inside.kinds_are;
+        callers_are = f.inside.callers_are;
+        sound = f.inside.sound;
+        by_fault = f.inside.by_fault;
+        one_stop = f.inside.one_stop;
+        come = come_on b v w past [] old.course (λ h. h) (grows_none v w refl refl) f.inside.come;
+      };
+    }
+
+-- the numbers that its desk's end took then
+numbered_here : (b : Beginning) (l : LineView) (d : DriverView) (old k : Kept) (n : ℕ) (ask : Ask) (past : List Act) → EndpointFits b l d (record { kept = old; next = n }) past
+    → list_all (is_numbered (n + 1)) (taken_since b (seen_by l (end_of (with_taken d (record { caller = 0; number = n; ask = ask }))) k)) ≡ true
+numbered_here b l d old k n ask past fit =
+    let q : Request = record { caller = 0; number = n; ask = ask } in
+    let v = seen_by l (end_of d) old in
+    let w = seen_by l (end_of (with_taken d q)) k in
+    ap (list_all (is_numbered (n + 1))) (since_more b v w past (q ∷ []) fit.stands.session refl) ∙ numbered_last n ask (taken_since b v) fit.numbers
+
+-- ## It is taken
+
+pub takes_request : (k0 k1 k2 : Kept) (n : ℕ) (ask : Ask) → HandlesFrames k0 k1 → k1.aside ≡ None → length k1.core.hand + length k1.unplaced < 128 → TakesAside (record k1 { aside = Some (record { caller = 0; number = n; ask = ask }) }) k2 → (l : LineView) (d : DriverView)
+    → TakesRequest l d (record { kept = k0; next = n }) (record { kept = k2; next = n + 1 }) ask n
+unfolding HandlesFrames KeptGoes LeadsOver Leads
+takes_request k0 k1 k2 n ask handles none room takes l d =
+    let q : Request = record { caller = 0; number = n; ask = ask } in
+    let e = with_taken d q in
+    let h = handles l d in
+    record {
+      acts = h.acts ++ takes.acts;
+      leads = λ some b past f.
+          let mid : EndpointFits b l d (record { kept = k1; next = n }) (after past h.acts) = leads_over l l d k0 k1 n h.acts h.leads b past f in
+          let asked = asks_here b l d k1 n ask (after past h.acts) none room some mid in
+          record {
+            stands = subst (λ (p : List Act). StandingFits b (turn_state l e k2) p) (sym (after_both h.acts takes.acts past)) (takes.goes b l e (after past h.acts) asked);
+            numbers = numbered_here b l d k1 k2 n ask (after past h.acts) mid;
+          };
+      may = λ some b past f waiting.
+          let mid : EndpointFits b l d (record { kept = k1; next = n }) (after past h.acts) = leads_over l l d k0 k1 n h.acts h.leads b past f in
+          let asked = asks_here b l d k1 n ask (after past h.acts) none room some mid in
+          list_all-append (may_act waiting) h.acts takes.acts
+          ∙ and_from (list_all (may_act waiting) h.acts) (list_all (may_act waiting) takes.acts) (h.may waiting b past f.stands)
+          (takes.adds waiting b l e (after past h.acts) asked).may;
+    }
+
+pub numbers : (k0 k1 k2 : Kept) (n later : ℕ) (ask : Ask) → HandlesFrames k0 k1 → k1.aside ≡ None → length k1.core.hand + length k1.unplaced < 128 → TakesAside (record k1 { aside = Some (record { caller = 0; number = n; ask = ask }) }) k2 → later ≡ n + 1
+    → Numbers (record { kept = k0; next = n }) (record { kept = k2; next = later }) ask n
+numbers k0 k1 k2 n later ask handles none room takes e = record {
+  number = refl;
+  later = e;
+  takes = λ l d. subst (λ (m : ℕ). TakesRequest l d (record { kept = k0; next = n }) (record { kept = k2; next = m }) ask n) (sym e) (takes_request k0 k1 k2 n ask handles none room takes l d);
+}
+
+pub refuses : (k0 k1 : Kept) (n : ℕ) → HandlesFrames k0 k1 → Refuses (record { kept = k0; next = n }) (record { kept = k1; next = n })
+unfolding HandlesFrames
+refuses k0 k1 n handles = record {
+  number = refl;
+  handles = λ l d.
+      let h = handles l d in
+      record {
+        acts = h.acts;
+        leads = leads_over l l d k0 k1 n h.acts h.leads;
+        may = λ b past f waiting. h.may waiting b past f.stands;
+      };
+}
+
+-- the octets are all fed, and none is kept aside
+pub fed_after : (k1 k2 : Kept) (q : Request) → TakesAside (record k1 { aside = Some q }) k2 → k1.unfed ≡ [] → HasNoneAside k2
+fed_after k1 k2 q takes fed = record {
+  fed = ap (λ (k : Kept). k.unfed) takes.stays ∙ fed;
+  bare = ap (λ (k : Kept). k.aside) takes.stays;
+}
+
+-- where a call was refused, whatever it is of
+pub always_err : {A E : Type 0} (P : Type 0) (r : Result A E) → P → OnErr r P
+always_err P (Ok a) p = tt
+always_err P (Err e) p = p
+
+pub refused_by : {A E : Type 0} (r : Result A E) (k0 k1 k2 : Kept) (n : ℕ) → HandlesFrames k0 k1 → OnErr r (k2 ≡ k1) → OnErr r (Refuses (record { kept = k0; next = n }) (record { kept = k2; next = n }))
+refused_by (Ok a) k0 k1 k2 n handles same = tt
+refused_by (Err e) k0 k1 k2 n handles same = subst (λ (k : Kept). Refuses (record { kept = k0; next = n }) (record { kept = k; next = n })) (sym same) (refuses k0 k1 n handles)

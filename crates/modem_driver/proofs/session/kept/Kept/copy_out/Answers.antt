@@ -1,0 +1,24 @@
+-- What was copied went out.
+use Rattle.std.proofs.Common.{sym, subst, take, ℕ, List}
+use Rattle.modem_driver.specs.SessionStates.{Kept}
+use Rattle.modem_driver.specs.EndpointSteps.{CopiesOut}
+use Rattle.modem_driver.proofs.endpoints.GivenOctets.{copies}
+use Rattle.modem_driver.proofs.session.kept.Kept.copy_out.Goals as goal
+
+pub returns-clause-out : goal.returns-clause-out
+returns-clause-out c =
+    let k = c.self.inside in
+    let old : Kept = record {
+      core = k.core;
+      aside = k.aside;
+      unfed = k.input;
+      deframer = k.deframer;
+      unwritten = k.output;
+      unplaced = k.waiting.outcomes;
+      unannounced = k.waiting.lines;
+      faulty = k.faulty;
+      course = k.course;
+    } in
+    let n = c.copy_to-count.result in
+    subst (λ (v : Kept). CopiesOut v (record old { unwritten = c.pass.new.self }) (take n v.unwritten)) c.self.view_is
+    (subst (λ (xs : List ℕ). CopiesOut old (record old { unwritten = xs }) (take n k.output)) (sym c.pass.ensures) (copies old n))

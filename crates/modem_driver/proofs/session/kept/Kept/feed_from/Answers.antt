@@ -1,0 +1,26 @@
+-- What was fed came from the line.
+use Rattle.std.proofs.Common.{◌≡◌, ap, sym, ◌∙◌, subst, take, ℕ, List, []}
+use Rattle.modem_driver.specs.SessionStates.{Kept}
+use Rattle.modem_driver.specs.EndpointSteps.{FeedsFrom}
+use Rattle.modem_driver.proofs.endpoints.TakenOctets.{feeds}
+use Rattle.modem_driver.proofs.session.kept.Kept.feed_from.Goals as goal
+
+pub returns-clause-feeds : goal.returns-clause-feeds
+returns-clause-feeds c =
+    let k = c.self.inside in
+    let old : Kept = record {
+      core = k.core;
+      aside = k.aside;
+      unfed = k.input;
+      deframer = k.deframer;
+      unwritten = k.output;
+      unplaced = k.waiting.outcomes;
+      unannounced = k.waiting.lines;
+      faulty = k.faulty;
+      course = k.course;
+    } in
+    let octets = take c.feed.result c.args.octets.now in
+    let none : k.input ≡ [] = ap (λ (v : Kept). v.unfed) c.self.view_is ∙ c.requires in
+    subst (λ (v : Kept). FeedsFrom v (record old { deframer = c.feed.new.self }) octets) c.self.view_is
+    (subst (λ (xs : List ℕ). FeedsFrom old (record old { unfed = xs; deframer = c.feed.new.self }) octets) (sym none)
+    (feeds old c.feed.new.self octets none c.feed.ensures.past c.feed.ensures.n1))

@@ -1,0 +1,97 @@
+//! A driver that its caller drives: octets in, octets out, answers polled. It has no line, no desk, no
+//! thread and no clock.
+ghost use Rattle.std.specs.Prelude.{◌≡◌, ◌↔◌, ◌<◌, ◌⊎◌, None, Some, IfOk, IsErrOf};
+ghost use Rattle.modem_driver.specs.Endpoints.{new_endpoint, Begins};
+ghost use Rattle.modem_driver.specs.declared.session.error.SessionError.TheVariants as why;
+
+mod error;
+mod handing;
+mod octets_in;
+mod octets_out;
+mod requests;
+mod time;
+
+use crate::session::SessionError;
+use crate::session::kept::Kept;
+use at_text::UrcKind;
+pub use error::{RequestError, RequestRefused};
+pub use handing::Left;
+use std::alloc::Global;
+use std::marker::Model;
+
+/// A driver between its caller and the octets of a line that the caller reads and writes. It numbers
+/// the requests itself.
+#[derive(Drop)]
+pub struct Endpoint {
+    kept: Kept,
+    next: u64,
+}
+
+impl Model for Endpoint {
+    ghost use Rattle.modem_driver.specs.Endpoints.{EndpointState, HasNoneAside};
+
+    ghost Value = { EndpointState };
+
+    ghost view = { λ e. record { kept = e.kept; next = e.next } };
+
+    ghost invariant = { λ e. HasNoneAside e.kept };
+}
+
+/// Why a frame at hand isn't handled yet.
+#[derive(Clone, Copy, PartialEq, Eq, Debug)]
+pub enum Blocked {
+    /// What the frame calls for has no room behind the octets that wait: `poll_output` first.
+    OutputFirst,
+    /// An allocation was refused.
+    NoMemory,
+}
+
+/// How many octets of an input were taken, and what keeps the endpoint from going on, if anything does.
+#[derive(Clone, Copy, PartialEq, Eq, Debug)]
+pub struct Input {
+    pub taken: usize,
+    pub blocked: Option<Blocked>,
+}
+
+impl Input {
+    /// All was taken and handled.
+    fn done(taken: usize) -> Input
+        ensures { result ≡ record { taken = taken; blocked = None } }
+    {
+        Input {
+            taken,
+            blocked: None,
+        }
+    }
+
+    /// A frame isn't handled yet.
+    fn blocked(taken: usize, why: Blocked) -> Input
+        ensures { result ≡ record { taken = taken; blocked = Some why } }
+    {
+        Input {
+            taken,
+            blocked: Some(why),
+        }
+    }
+}
+
+impl Endpoint {
+    /// An endpoint that has done nothing yet. It listens to these kinds of unsolicited lines, and its
+    /// first request has this number. N1 is how many octets of information a frame may have. It takes
+    /// room for 128 requests and 128 outcomes. Refusals: 2 BadN1 where N1 isn't 31 to 32767, checked
+    /// first; 1 NoMemory.
+    #[tactic(auto, using(crate::proofs::endpoints::Requests::begins))]
+    pub fn new(
+        alloc: Global,
+        n1: u16,
+        kinds: &[UrcKind],
+        first: u64,
+    ) -> Result<Endpoint, SessionError>
+        ensures ok { IfOk result (λ e. e ≡ new_endpoint n1 kinds.now first) }
+        ensures begins { IfOk result (λ e. Begins n1 kinds.now e) }
+        ensures bad_n1 { IsErrOf result why.BadN1 ↔ ((n1 < 31) ⊎ (32767 < n1)) }
+    {
+        let kept = Kept::new(alloc, n1, kinds)?;
+        Ok(Endpoint { kept, next: first })
+    }
+}

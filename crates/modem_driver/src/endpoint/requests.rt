@@ -1,0 +1,134 @@
+//! Requests that the caller makes.
+ghost use Rattle.std.specs.Prelude.{◌≡◌, ◌+◌, ◌<◌, nat_le, length, None, Some, IfOk, IfErr, OnOk, OnErr};
+ghost use Rattle.modem_driver.specs.Endpoints.{IsFull, Numbers, Refuses};
+ghost use Rattle.modem_driver.specs.TurnTakes.{TakesAside};
+ghost use Rattle.modem_driver.specs.declared.endpoint.error.RequestError.TheVariants as why;
+ghost use Rattle.modem_desk.specs.declared.request.Ask.TheVariants as Ask;
+
+use crate::endpoint::Endpoint;
+use crate::endpoint::error::{RequestError, RequestRefused};
+use crate::session::kept::Kept;
+use at_text::CommandLine;
+use modem_desk::{Ask, Request};
+use mux_frame::{Dlci, ProbeData};
+
+/// The caller of every request of an endpoint.
+const CALLER: u8 = 0;
+
+impl Kept {
+    /// Whether the requests in hand and the outcomes that wait are 128.
+    fn is_full(&self) -> bool
+        ensures { result ≡ nat_le 128 (length self.now.core.hand + length self.now.unplaced) }
+    {
+        self.waiting.count() >= self.core.hand_left()
+    }
+
+    /// Takes a request. It is handed back where there was no memory for it, and nothing changed. The
+    /// condition is that none is kept aside.
+    fn take_request(&mut self, request: Request) -> Result<(), Request>
+        requires { self.old.aside ≡ None }
+        ensures takes { OnOk result (TakesAside (record self.old { aside = Some request }) self.new) }
+        ensures err { OnErr result (self.new ≡ self.old) }
+        ensures back { IfErr result (λ r. r ≡ request) }
+    {
+        match self.core.took(request) {
+            Ok(acts) => {
+                self.waiting.keep(acts);
+                Ok(())
+            }
+            Err((_why, request)) => Err(request),
+        }
+    }
+}
+
+impl Endpoint {
+    /// Makes a request, and says its number.
+    #[tactic(auto, using(crate::proofs::endpoints::Requests::numbers, crate::proofs::endpoints::Requests::refuses, crate::proofs::endpoints::Requests::fed_after))]
+    fn request(&mut self, ask: Ask) -> Result<u64, RequestRefused>
+        ensures takes { IfOk result (λ n. Numbers self.old self.new ask n) }
+        ensures refused { OnErr result (Refuses self.old self.new) }
+        ensures full { IfErr result (λ e. e.why ≡ why.Full → IsFull self.new) }
+        ensures back { IfErr result (λ e. e.ask ≡ ask) }
+    {
+        if self.kept.handle_frames().is_err() {
+            return Err(RequestRefused::new(RequestError::NoMemory, ask));
+        }
+        if self.next == u64::MAX || self.kept.is_full() {
+            return Err(RequestRefused::new(RequestError::Full, ask));
+        }
+        let number = self.next;
+        let request = Request {
+            caller: CALLER,
+            number,
+            ask,
+        };
+        if let Err(request) = self.kept.take_request(request) {
+            return Err(RequestRefused::new(RequestError::NoMemory, request.ask));
+        }
+        self.next += 1;
+        Ok(number)
+    }
+}
+
+impl Endpoint {
+    /// Asks for a connection to be opened, and says the request's number. What comes of it is an
+    /// outcome of that number. It tries the frame at hand first. Refusals, after which nothing but the
+    /// frames at hand has changed and the number is still the next: 2 Full where 128 requests are in
+    /// hand or told and not polled, or all numbers are used up; 1 NoMemory.
+    pub fn open(&mut self, dlci: Dlci) -> Result<u64, RequestError>
+        ensures takes { IfOk result (λ n. Numbers self.old self.new (Ask.OpenChannel dlci) n) }
+        ensures refused { OnErr result (Refuses self.old self.new) }
+        ensures full { IfErr result (λ e. e ≡ why.Full → IsFull self.new) }
+    {
+        match self.request(Ask::OpenChannel(dlci)) {
+            Ok(number) => Ok(number),
+            Err(refused) => Err(refused.why),
+        }
+    }
+
+    /// Asks for a connection to be closed, and says the request's number. Otherwise as `open`.
+    pub fn close(&mut self, dlci: Dlci) -> Result<u64, RequestError>
+        ensures takes { IfOk result (λ n. Numbers self.old self.new (Ask.CloseChannel dlci) n) }
+        ensures refused { OnErr result (Refuses self.old self.new) }
+        ensures full { IfErr result (λ e. e ≡ why.Full → IsFull self.new) }
+    {
+        match self.request(Ask::CloseChannel(dlci)) {
+            Ok(number) => Ok(number),
+            Err(refused) => Err(refused.why),
+        }
+    }
+
+    /// Asks for a command line to be sent on a connection and its answer read, and says the request's
+    /// number. Refusals as those of `open`, which hand back what it asks for.
+    pub fn command(&mut self, dlci: Dlci, line: CommandLine) -> Result<u64, RequestRefused>
+        ensures takes { IfOk result (λ n. Numbers self.old self.new (Ask.Command dlci line) n) }
+        ensures refused { OnErr result (Refuses self.old self.new) }
+        ensures full { IfErr result (λ e. e.why ≡ why.Full → IsFull self.new) }
+        ensures back { IfErr result (λ e. e.ask ≡ Ask.Command dlci line) }
+    {
+        self.request(Ask::Command(dlci, line))
+    }
+
+    /// Asks for octets to be sent back by the other end, and says the request's number. Refusals as
+    /// those of `open`, which hand back what it asks for.
+    pub fn probe(&mut self, octets: ProbeData) -> Result<u64, RequestRefused>
+        ensures takes { IfOk result (λ n. Numbers self.old self.new (Ask.Probe octets) n) }
+        ensures refused { OnErr result (Refuses self.old self.new) }
+        ensures full { IfErr result (λ e. e.why ≡ why.Full → IsFull self.new) }
+        ensures back { IfErr result (λ e. e.ask ≡ Ask.Probe octets) }
+    {
+        self.request(Ask::Probe(octets))
+    }
+
+    /// Asks for the multiplexer to be ended, and says the request's number. Otherwise as `open`.
+    pub fn stop(&mut self) -> Result<u64, RequestError>
+        ensures takes { IfOk result (λ n. Numbers self.old self.new Ask.Stop n) }
+        ensures refused { OnErr result (Refuses self.old self.new) }
+        ensures full { IfErr result (λ e. e ≡ why.Full → IsFull self.new) }
+    {
+        match self.request(Ask::Stop) {
+            Ok(number) => Ok(number),
+            Err(refused) => Err(refused.why),
+        }
+    }
+}
