@@ -5,3 +5,4 @@ pub mod WholeCalls
 pub mod Requests
 pub mod Time
 pub mod Handing
+pub mod Law

@@ -26,6 +26,7 @@ pub mod EntrySteps
 pub mod WaitingLists
 pub mod EndpointSteps
 pub mod Endpoints
+pub mod EndpointLaws
 pub mod Endings
 pub mod EndingRows
 pub mod SessionStates

@@ -1,6 +1,7 @@
-//! Laws of replays, the headline, and ends of a session.
+//! Laws of replays, the headline, ends of a session, and the calls of an endpoint.
 ghost use Rattle.std.specs.Prelude.{◌≡◌, ℕ, true, false, List, []};
 ghost use Rattle.std.specs.List.{list_all, list_any};
+ghost use Rattle.modem_driver.specs.EndpointLaws.{OneHistory, TellsAll};
 ghost use Rattle.modem_driver.specs.EndingRows.{ends_in, going_rows, stopped_rows, AreNoEndings, IsNoGoing, IsRightEnding, StaysEnded};
 ghost use Rattle.modem_driver.specs.DeskHeadline.{DeskRun, IsDeskHeadline};
 ghost use Rattle.modem_driver.specs.Headline.{IsHeadline, Run, SendsFull};
@@ -107,4 +108,16 @@ pub fn polls()
     ensures asked { AsksPerTurn (λ (l : LineView). l) }
     ensures new_session { IsNewSession }
     ensures no_live_polls { AreNoLivePolls }
+{}
+
+/// The calls of an endpoint, one after the other, by their clauses, over a line that gave and took just the octets of the
+/// calls, and a desk's end that took just their requests and told and announced just what they gave. Whatever history there
+/// was before them, it goes on to one that fits after them. So from the beginning on one history tells all: it is lawful and
+/// of whole calls; of the octets taken in just its frames were read; the octets given, and then those that wait, are the
+/// frames that it gives on; the outcomes given, and then those that wait, are its outcomes, and so are of each kind the
+/// lines: each once, in its order.
+#[tactic(auto, using(crate::proofs::endpoints::Law::one_history, crate::proofs::endpoints::Law::tells_all))]
+pub fn endpoints()
+    ensures history { OneHistory }
+    ensures all { TellsAll }
 {}
