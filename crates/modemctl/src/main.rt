@@ -2,6 +2,7 @@
 //! requests and octets, and what callers in threads are told by a simulated modem.
 #![tactic(auto)]
 
+pub mod laws;
 mod words;
 
 pub use modem_runs::{bench_run, frames_run, replay_run};
