@@ -1,2 +1,3 @@
 pub mod CallerThreads
+pub mod JointLists
 pub mod Settlements

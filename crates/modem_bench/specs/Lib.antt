@@ -2,5 +2,6 @@ pub mod Asks
 pub mod Calling
 pub mod Driving
 pub mod Faults
+pub mod Rounds
 pub mod Running
 pub mod Simulating

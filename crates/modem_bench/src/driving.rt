@@ -20,7 +20,7 @@ use std::{io, thread};
 /// How often the session of a bench is polled at most.
 const POLLS: u32 = 10_000_000;
 
-fn fault_of(fault: SessionFault) -> Fault
+pub fn fault_of(fault: SessionFault) -> Fault
     ensures { result ≡ session_fault fault }
 {
     match fault {

@@ -6,11 +6,13 @@ mod crew;
 mod driving;
 mod ends;
 mod results;
+mod rounds;
 mod running;
 mod signals;
 mod simulating;
 mod submission;
 
+pub use rounds::{Rest, run_in_rounds};
 pub use running::run_bench;
 pub use signals::Fault;
 pub use submission::Submission;

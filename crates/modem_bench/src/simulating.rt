@@ -24,7 +24,7 @@ struct Simulated<'a, L: SerialLine + Drop> {
     signals: &'a Signals,
 }
 
-fn fault_of(why: SimError) -> Fault
+pub fn fault_of(why: SimError) -> Fault
     ensures { result ≡ sim_fault why }
 {
     match why {

@@ -1,0 +1,118 @@
+-- One turn after the other.
+use Rattle.std.proofs.Common.{◌≡◌, ℕ, arith, subst}
+use Rattle.std.specs.Prelude.{Ok, Err}
+use Rattle.modem_sim.specs.declared.sim.SimTurn.{SimTurn}
+use Rattle.modem_sim.specs.Polls.{MovesOn, Turned, moves_none, moves_once}
+use Rattle.modem_sim.proofs.sims.SimPasts.{sim_none, sim_then}
+use Rattle.modem_bench.specs.Rounds.{sight_in, moves, rests, ends, fails}
+use Rattle.modem_bench.proofs.rounds.turns.Goals as goal
+
+pub loop-init : goal.loop-init
+loop-init c = record { goes = sim_none sight_in.received sight_in.sent c.args.sim.now; moves = moves_none }
+
+pub loop-preserved : goal.loop-preserved
+loop-preserved c =
+    let once : Turned sight_in c.loop.sim c.turn.new.self (Ok c.in-Ok-Moved.field-0) = record {
+      goes = c.turn.ensures.goes;
+      turn = c.in-Ok-Moved.ensures.turn;
+      failed = c.in-Ok-Moved.ensures.failed;
+      fails = c.in-Ok-Moved.ensures.fails;
+      still = c.turn.ensures.still;
+      over = c.in-Ok-Moved.ensures.over;
+      memory = c.in-Ok-Moved.ensures.memory;
+      others = c.in-Ok-Moved.ensures.others;
+      sound = c.in-Ok-Moved.ensures.sound;
+      failure = c.in-Ok-Moved.ensures.failure;
+      ended = c.in-Ok-Moved.ensures.ended;
+      goes_on = c.in-Ok-Moved.ensures.goes_on;
+      end = c.turn.ensures.end;
+    } in
+    let Says : SimTurn → Type 0 = λ says. Turned sight_in c.loop.sim c.turn.new.self (Ok says) in
+    record {
+      goes = sim_then sight_in.received sight_in.sent c.args.sim.now c.loop.sim c.turn.new.self c.loop.invariant.goes c.turn.ensures.goes;
+      moves = moves_once c.loop.counter c.loop.sim c.turn.new.self c.loop.invariant.moves (subst Says c.in-Ok-Moved.field-0-is once);
+    }
+
+pub returns-in-Ok-Idle-clause-goes : goal.returns-in-Ok-Idle-clause-goes
+returns-in-Ok-Idle-clause-goes c =
+    sim_then sight_in.received sight_in.sent c.args.sim.now c.loop.sim c.turn.new.self c.loop.invariant.goes c.turn.ensures.goes
+
+pub returns-in-Ok-Idle-clause-runs : goal.returns-in-Ok-Idle-clause-runs
+returns-in-Ok-Idle-clause-runs c =
+    let once : Turned sight_in c.loop.sim c.turn.new.self (Ok c.in-Ok-Idle.field-0) = record {
+      goes = c.turn.ensures.goes;
+      turn = c.in-Ok-Idle.ensures.turn;
+      failed = c.in-Ok-Idle.ensures.failed;
+      fails = c.in-Ok-Idle.ensures.fails;
+      still = c.turn.ensures.still;
+      over = c.in-Ok-Idle.ensures.over;
+      memory = c.in-Ok-Idle.ensures.memory;
+      others = c.in-Ok-Idle.ensures.others;
+      sound = c.in-Ok-Idle.ensures.sound;
+      failure = c.in-Ok-Idle.ensures.failure;
+      ended = c.in-Ok-Idle.ensures.ended;
+      goes_on = c.in-Ok-Idle.ensures.goes_on;
+      end = c.turn.ensures.end;
+    } in
+    let Says : SimTurn → Type 0 = λ says. Turned sight_in c.loop.sim c.turn.new.self (Ok says) in
+    let last = c.loop-test.true in
+    rests c.loop.counter c.loop.sim (omega (arith, last)) c.loop.invariant.moves (subst Says c.in-Ok-Idle.field-0-is once)
+
+pub returns-in-Ok-Ended-clause-goes : goal.returns-in-Ok-Ended-clause-goes
+returns-in-Ok-Ended-clause-goes c =
+    sim_then sight_in.received sight_in.sent c.args.sim.now c.loop.sim c.turn.new.self c.loop.invariant.goes c.turn.ensures.goes
+
+pub returns-in-Ok-Ended-clause-runs : goal.returns-in-Ok-Ended-clause-runs
+returns-in-Ok-Ended-clause-runs c =
+    let once : Turned sight_in c.loop.sim c.turn.new.self (Ok c.in-Ok-Ended.field-0) = record {
+      goes = c.turn.ensures.goes;
+      turn = c.in-Ok-Ended.ensures.turn;
+      failed = c.in-Ok-Ended.ensures.failed;
+      fails = c.in-Ok-Ended.ensures.fails;
+      still = c.turn.ensures.still;
+      over = c.in-Ok-Ended.ensures.over;
+      memory = c.in-Ok-Ended.ensures.memory;
+      others = c.in-Ok-Ended.ensures.others;
+      sound = c.in-Ok-Ended.ensures.sound;
+      failure = c.in-Ok-Ended.ensures.failure;
+      ended = c.in-Ok-Ended.ensures.ended;
+      goes_on = c.in-Ok-Ended.ensures.goes_on;
+      end = c.turn.ensures.end;
+    } in
+    let Says : SimTurn → Type 0 = λ says. Turned sight_in c.loop.sim c.turn.new.self (Ok says) in
+    let last = c.loop-test.true in
+    ends c.loop.counter c.loop.sim (omega (arith, last)) c.loop.invariant.moves (subst Says c.in-Ok-Ended.field-0-is once)
+
+pub returns-in-Err-clause-goes : goal.returns-in-Err-clause-goes
+returns-in-Err-clause-goes c =
+    sim_then sight_in.received sight_in.sent c.args.sim.now c.loop.sim c.turn.new.self c.loop.invariant.goes c.turn.ensures.goes
+
+pub returns-in-Err-clause-runs : goal.returns-in-Err-clause-runs
+returns-in-Err-clause-runs c =
+    let once : Turned sight_in c.loop.sim c.turn.new.self (Err c.in-Err.why) = record {
+      goes = c.turn.ensures.goes;
+      turn = c.in-Err.ensures.turn;
+      failed = c.in-Err.ensures.failed;
+      fails = c.in-Err.ensures.fails;
+      still = c.turn.ensures.still;
+      over = c.in-Err.ensures.over;
+      memory = c.in-Err.ensures.memory;
+      others = c.in-Err.ensures.others;
+      sound = c.in-Err.ensures.sound;
+      failure = c.in-Err.ensures.failure;
+      ended = c.in-Err.ensures.ended;
+      goes_on = c.in-Err.ensures.goes_on;
+      end = c.turn.ensures.end;
+    } in
+    let last = c.loop-test.true in
+    fails c.loop.counter c.loop.sim c.in-Err.why (omega (arith, last)) c.loop.invariant.moves once
+
+pub returns-clause-goes : goal.returns-clause-goes
+returns-clause-goes c = c.loop.invariant.goes
+
+pub returns-clause-runs : goal.returns-clause-runs
+returns-clause-runs c =
+    let At : ℕ → Type 0 = λ n. MovesOn sight_in c.args.sim.now n c.loop.sim in
+    let last = c.loop-test.false in
+    let all : c.loop.counter ≡ 64 = omega arith in
+    moves (subst At all c.loop.invariant.moves)

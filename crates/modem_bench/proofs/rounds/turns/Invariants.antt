@@ -1,0 +1,11 @@
+-- So many turns were made, each of which answered Moved.
+use Rattle.modem_sim.specs.Sims.{SimGoes}
+use Rattle.modem_sim.specs.Polls.{MovesOn}
+use Rattle.modem_bench.specs.Rounds.{sight_in}
+use Rattle.modem_bench.proofs.rounds.turns.Given as goal
+
+abbrev pub invariant-loop : goal.invariant-loop
+invariant-loop l = record {
+  goes : SimGoes sight_in.received sight_in.sent l.fn.sim l.sim;
+  moves : MovesOn sight_in l.fn.sim l.counter l.sim;
+}

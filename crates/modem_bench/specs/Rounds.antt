@@ -1,0 +1,178 @@
+-- A session and a simulated modem, each at one of two lines in memory, in one thread and in rounds.
+use Rattle.std.specs.Prelude.{◌≡◌, ◌⊎◌, ℕ, ◌+◌, ◌<◌, ◌≤◌, ◌&&◌, Bool, true, false, List, ◌∷◌, ◌++◌, length, Option, None, Some, Result, Ok, Err, if◌then◌else◌}
+use Rattle.serial_line.specs.CutLine.{CutState, after_carry}
+use Rattle.at_text.specs.declared.answer.AnswerLine.{AnswerLine}
+use Rattle.modem_desk.specs.declared.request.Answer.TheVariants.{Done}
+use Rattle.modem_desk.specs.declared.request.Outcome.{Outcome}
+use Rattle.modem_history.specs.Acts as driver
+use Rattle.modem_history.specs.Acts.{Told}
+use Rattle.modem_history.specs.Sessions.{Beginning, LineView, driving}
+use Rattle.modem_history.specs.TwoEnds.{AsksOnce, TakesCommandLines}
+use Rattle.modem_driver.specs.declared.session.ending.Ended.TheVariants.{Stopped}
+use Rattle.modem_driver.specs.declared.session.polling.Progress.{Progress}
+use Rattle.modem_driver.specs.declared.session.polling.Progress.TheVariants as progress
+use Rattle.modem_driver.specs.Polls.{Polls}
+use Rattle.modem_driver.specs.SessionStates.{FitsAll, SessionState, line_by}
+use Rattle.modem_sim.specs.declared.error.SimError.{SimError}
+use Rattle.modem_sim.specs.declared.sim.SimTurn.{SimTurn}
+use Rattle.modem_sim.specs.declared.sim.SimTurn.TheVariants as turn
+use Rattle.modem_sim.specs.Acts.{End}
+use Rattle.modem_sim.specs.Heard.{heard}
+use Rattle.modem_sim.specs.Polls.{MovesOn, Turned}
+use Rattle.modem_sim.specs.Replied.{AnnouncesUnsolicited, IsModem}
+use Rattle.modem_sim.specs.Sims.{FitsSim, LineAt, Sight, SimState, sight}
+use Rattle.modem_ends.specs.OneModem.{EndAct, IsModemAnswer, IsOneLine, driver_past, driver_wire, modem_past}
+use Rattle.modem_bench.specs.Faults.{session_fault, sim_fault}
+use Rattle.modem_bench.specs.declared.rounds.Rest.{Rest}
+use Rattle.modem_bench.specs.declared.rounds.Rest.TheVariants.{Still, Full, UsedUp}
+use Rattle.modem_bench.specs.declared.signals.Fault.{Fault}
+
+-- how a line in memory is seen
+abbrev pub look_in : CutState → LineView
+look_in =
+    line_by (λ l. l.received) (λ l. l.sent) (λ l. l.calls) (λ l. l.failures) (λ l. l.empty_reads)
+    (λ l. l.stalled_writes)
+
+abbrev pub sight_in : Sight CutState
+sight_in =
+    sight (λ l. l.received) (λ l. l.sent) (λ l. l.calls) (λ l. l.failures) (λ l. l.empty_reads)
+    (λ l. l.stalled_writes)
+
+-- a session at its line, and a simulated modem at its
+pub record Pair : Type 0 where
+  pub near : SessionState CutState
+  pub far : SimState CutState
+
+abbrev pub pair : SessionState CutState → SimState CutState → Pair
+pair near far = record { near = near; far = far }
+
+-- ## Rounds
+
+-- octets are carried once between the two lines, at most so many each way, and nothing else changes
+abbrev pub carried_between : ℕ → Pair → Pair
+carried_between cut p =
+    pair (record p.near { line = after_carry cut p.near.line p.far.line })
+    (record p.far { line = after_carry cut p.far.line p.near.line })
+
+-- The turns of a simulated modem in a round are those of a poll: 64 that answer Moved, or fewer and one that
+-- answers otherwise.
+pub data RunsFar (old new : SimState CutState) : Result SimTurn SimError → Type 0 where
+  moves : MovesOn sight_in old 64 new → RunsFar old new (Ok turn.Moved)
+  rests :
+      (n : ℕ) (mid : SimState CutState) → n < 64 → MovesOn sight_in old n mid
+      → Turned sight_in mid new (Ok turn.Idle) → RunsFar old new (Ok turn.Idle)
+  ends :
+      (n : ℕ) (mid : SimState CutState) → n < 64 → MovesOn sight_in old n mid
+      → Turned sight_in mid new (Ok turn.Ended) → RunsFar old new (Ok turn.Ended)
+  fails :
+      (n : ℕ) (mid : SimState CutState) (why : SimError) → n < 64 → MovesOn sight_in old n mid
+      → Turned sight_in mid new (Err why) → RunsFar old new (Err why)
+
+-- what the two came to in a round
+pub record Says : Type 0 where
+  pub near : Progress
+  pub far : Result SimTurn SimError
+
+-- one round: the session is polled once, octets are carried once, and the simulated modem makes the turns of a
+-- poll
+pub record IsRound (cut : ℕ) (old new : Pair) (says : Says) : Type 0 where
+  pub polled : SessionState CutState
+  pub polls : Polls look_in old.near polled says.near
+  pub carried : Pair
+  pub carries : carried ≡ carried_between cut (pair polled old.far)
+  pub stays : new.near ≡ carried.near
+  pub runs : RunsFar carried.far new.far says.far
+
+-- ## How they end
+
+-- the session has stopped, or has nothing to do
+abbrev pub near_rests : Progress → Bool
+near_rests progress.Idle = true
+near_rests (progress.Ended (Ok Stopped)) = true
+near_rests _ = false
+
+-- the simulated modem has ended, or has nothing to do
+abbrev pub far_rests : SimTurn → Bool
+far_rests turn.Idle = true
+far_rests turn.Ended = true
+far_rests turn.Moved = false
+
+-- what ends the rounds: a fault, the session's first; or that both rest
+abbrev pub judged_by : Progress → Result SimTurn SimError → Option (Result Rest Fault)
+judged_by (progress.Ended (Err why)) far = Some (Err (session_fault why))
+judged_by near (Err why) = Some (Err (sim_fault why))
+judged_by near (Ok says) = if near_rests near && far_rests says then Some (Ok Still) else None
+
+abbrev pub judged : Says → Option (Result Rest Fault)
+judged says = judged_by says.near says.far
+
+-- one of the two has sent as many octets as there is room for
+abbrev pub IsFull : ℕ → Pair → Type 0
+IsFull room p = (room ≤ length p.near.line.sent) ⊎ (room ≤ length p.far.line.sent)
+
+-- a round that ends nothing
+pub record GoesOnRound (cut : ℕ) (old new : Pair) : Type 0 where
+  pub says : Says
+  pub round : IsRound cut old new says
+  pub none : judged says ≡ None
+
+-- a round by which they end: by what the two came to in it; or, where that ends nothing, by a line that is full
+pub data IsLastRound (cut room : ℕ) (old new : Pair) : Result Rest Fault → Type 0 where
+  judged_so :
+      (says : Says) (end : Result Rest Fault) → IsRound cut old new says → judged says ≡ Some end
+      → IsLastRound cut room old new end
+  is_full :
+      (says : Says) → IsRound cut old new says → judged says ≡ None → IsFull room new
+      → IsLastRound cut room old new (Ok Full)
+
+-- so many rounds that end nothing, one after the other
+pub data Rounds (cut : ℕ) (old : Pair) : ℕ → Pair → Type 0 where
+  no_round : Rounds cut old 0 old
+  one_more :
+      (n : ℕ) (mid new : Pair) → Rounds cut old n mid → GoesOnRound cut mid new
+      → Rounds cut old (n + 1) new
+
+-- they end by the first round that ends them, or where all are used up
+pub data EndsInRounds (cut room rounds : ℕ) (old new : Pair) : Result Rest Fault → Type 0 where
+  by_round :
+      (n : ℕ) (mid : Pair) (end : Result Rest Fault) → n < rounds → Rounds cut old n mid
+      → IsLastRound cut room mid new end → EndsInRounds cut room rounds old new end
+  used_up : Rounds cut old rounds new → EndsInRounds cut room rounds old new (Ok UsedUp)
+
+-- ## Their joint list
+
+-- each of the two fits its part of the list
+pub record AreJoined (b : Beginning) (at : LineAt) (e : End) (line : List EndAct) (p : Pair) : Type 0 where
+  pub near : FitsAll b look_in p.near (driver_past line)
+  pub far : FitsSim sight_in.received sight_in.sent at e p.far (modem_past line)
+
+-- they fit a list that goes on from this one
+pub record JoinedFrom (b : Beginning) (at : LineAt) (e : End) (line : List EndAct) (p : Pair) : Type 0 where
+  pub newer : List EndAct
+  pub joined : AreJoined b at e (newer ++ line) p
+
+-- whatever joint list they had, it goes on to one that they have
+unfoldable pub JoinsOn : (old new : Pair) → Type 0
+JoinsOn old new =
+    (b : Beginning) (at : LineAt) (e : End) (line : List EndAct) → AreJoined b at e line old
+    → JoinedFrom b at e line new
+
+-- ## One modem
+
+-- what the law of one modem asks beside: one line, each connection asked for once at most, unsolicited lines
+-- alone announced, command lines taken, and a modem that was started
+pub record IsOneLineOf (e : End) (line : List EndAct) : Type 0 where
+  pub one_line : IsOneLine line
+  pub once : AsksOnce (driver_wire line)
+  pub announced : AnnouncesUnsolicited (modem_past line)
+  pub commands : TakesCommandLines (driver_past line)
+  pub modem_is : IsModem e.modem
+
+-- in each such joint list of theirs each command told Done was read, and is told what the modem's step gives at
+-- its place
+unfoldable pub TellsModemTo : Pair → Type 0
+TellsModemTo p =
+    (b : Beginning) (at : LineAt) (e : End) (line : List EndAct) → AreJoined b at e line p → IsOneLineOf e line
+    → (newer older : List driver.Act) (o : Outcome) (answer : List AnswerLine)
+    → driver_past line ≡ newer ++ Told o ∷ older → o.answer ≡ Done answer
+    → IsModemAnswer (driving b) e (heard (modem_past line)) older o answer

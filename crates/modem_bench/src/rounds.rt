@@ -1,0 +1,171 @@
+//! A session and a simulated modem, each at one of two lines in memory, in one thread and in rounds.
+ghost use Rattle.std.specs.Prelude.{◌≡◌, true, IfNone, IfSome, Ok};
+ghost use Rattle.modem_sim.specs.Sims.{SimGoes};
+ghost use Rattle.modem_bench.specs.Rounds.{EndsInRounds, GoesOnRound, IsFull, IsLastRound, IsRound, JoinsOn, RunsFar, TellsModemTo, judged_by, pair, sight_in};
+
+use crate::signals::Fault;
+use crate::{driving, simulating};
+use modem_driver::{Ended, Progress, Session};
+use modem_sim::{Sim, SimError, SimTurn};
+use serial_line::CutLine;
+use std::sync::Wait;
+
+/// The most turns of a simulated modem in a round.
+const TURNS: usize = 64;
+
+/// Why rounds end.
+#[derive(Clone, Copy, PartialEq, Eq, Debug)]
+pub enum Rest {
+    /// In the last one each of the two had ended, or found nothing to do.
+    Still,
+    /// One of the two has sent as many octets as there is room for.
+    Full,
+    /// All are used up.
+    UsedUp,
+}
+
+/// What the two came to in a round.
+#[derive(Clone, Copy)]
+pub struct Said {
+    pub near: Progress,
+    pub far: Result<SimTurn, SimError>,
+}
+
+/// The turns of a poll of a simulated modem, and what the last one answers.
+fn turns(sim: &mut Sim<CutLine>) -> Result<SimTurn, SimError>
+    ensures runs { RunsFar sim.old sim.new result }
+    ensures goes { SimGoes sight_in.received sight_in.sent sim.old sim.new }
+{
+    for _ in 0..TURNS {
+        match sim.turn() {
+            Ok(SimTurn::Moved) => {}
+            Ok(SimTurn::Idle) => return Ok(SimTurn::Idle),
+            Ok(SimTurn::Ended) => return Ok(SimTurn::Ended),
+            Err(why) => return Err(why),
+        }
+    }
+    Ok(SimTurn::Moved)
+}
+
+/// One round: a poll of the session, one carrying between the lines, and the turns of a poll of the simulated modem.
+fn round<R: Wait + Drop>(
+    session: &mut Session<CutLine, R>,
+    sim: &mut Sim<CutLine>,
+    cut: usize,
+) -> Said
+    ensures round { IsRound cut (pair session.old sim.old) (pair session.new sim.new) (record { near = result.near; far = result.far }) }
+    ensures joins { JoinsOn (pair session.old sim.old) (pair session.new sim.new) }
+{
+    let near = session.advance();
+    session.line_mut().carry(sim.line_mut(), cut);
+    let far = turns(sim);
+    Said { near, far }
+}
+
+/// What ends the rounds with this one, if anything does.
+fn judge(said: Said) -> Option<Result<Rest, Fault>>
+    ensures { result ≡ judged_by said.near said.far }
+{
+    match (said.near, said.far) {
+        (Progress::Ended(Err(why)), _) => Some(Err(driving::fault_of(why))),
+        (_, Err(why)) => Some(Err(simulating::fault_of(why))),
+        (
+            Progress::Idle | Progress::Ended(Ok(Ended::Stopped)),
+            Ok(SimTurn::Idle | SimTurn::Ended),
+        ) => { Some(Ok(Rest::Still)) }
+        _ => None,
+    }
+}
+
+/// Whether one of the two has sent so many octets.
+fn is_full<R: Wait + Drop>(
+    session: &mut Session<CutLine, R>,
+    sim: &mut Sim<CutLine>,
+    room: usize,
+) -> bool
+    ensures full { result ≡ true → IsFull room (pair session.old sim.old) }
+    ensures same { (session.new ≡ session.old) × (sim.new ≡ sim.old) }
+{
+    let near = session.line_mut().sent().len();
+    let far = sim.line_mut().sent().len();
+    near >= room || far >= room
+}
+
+/// The end of the rounds, where one of the two has sent so many octets.
+fn full_end<R: Wait + Drop>(
+    session: &mut Session<CutLine, R>,
+    sim: &mut Sim<CutLine>,
+    room: usize,
+) -> Option<Result<Rest, Fault>>
+    ensures ends { IfSome result (λ end. end ≡ Ok Rest.Full) }
+    ensures full { IfSome result (λ _. IsFull room (pair session.old sim.old)) }
+    ensures same { (session.new ≡ session.old) × (sim.new ≡ sim.old) }
+{
+    if is_full(session, sim, room) {
+        Some(Ok(Rest::Full))
+    } else {
+        None
+    }
+}
+
+/// One round, and how it ends the rounds, if it does.
+fn step<R: Wait + Drop>(
+    session: &mut Session<CutLine, R>,
+    sim: &mut Sim<CutLine>,
+    cut: usize,
+    room: usize,
+) -> Option<Result<Rest, Fault>>
+    ensures ends { IfSome result (IsLastRound cut room (pair session.old sim.old) (pair session.new sim.new)) }
+    ensures goes { IfNone result (GoesOnRound cut (pair session.old sim.old) (pair session.new sim.new)) }
+    ensures joins { JoinsOn (pair session.old sim.old) (pair session.new sim.new) }
+{
+    let said = round(session, sim, cut);
+    match judge(said) {
+        Some(end) => Some(end),
+        None => full_end(session, sim, room),
+    }
+}
+
+/// So many rounds at most.
+fn steps<R: Wait + Drop>(
+    session: &mut Session<CutLine, R>,
+    sim: &mut Sim<CutLine>,
+    cut: usize,
+    room: usize,
+    rounds: usize,
+) -> Result<Rest, Fault>
+    ensures ended { EndsInRounds cut room rounds (pair session.old sim.old) (pair session.new sim.new) result }
+    ensures joins { JoinsOn (pair session.old sim.old) (pair session.new sim.new) }
+{
+    for _ in 0..rounds {
+        match step(session, sim, cut, room) {
+            Some(end) => return end,
+            None => {}
+        }
+    }
+    Ok(Rest::UsedUp)
+}
+
+/// Runs a session and a simulated modem, each at one of two lines in memory, in rounds: in each the session is polled once, at most
+/// `cut` octets are carried each way, and the simulated modem makes the turns of a poll. Callers submit before it and between two
+/// calls of it. It ends after the first round in which both have ended or have nothing to do, or after which one of them has sent
+/// `room` octets; at the latest after so many rounds. Refusals: the fault of the session, or else that of the simulated modem, after
+/// the first round that has one.
+///
+/// Whatever joint list of acts the two had before, it goes on to one that they have after it. In each joint list of theirs that is
+/// one line's, with each connection asked for once at most and only unsolicited lines announced, each command told Done is told
+/// what the modem answered to it at its place.
+#[tactic(auto, using(crate::proofs::JointLists::tells_modem_to))]
+pub fn run_in_rounds<R: Wait + Drop>(
+    session: &mut Session<CutLine, R>,
+    sim: &mut Sim<CutLine>,
+    cut: usize,
+    room: usize,
+    rounds: usize,
+) -> Result<Rest, Fault>
+    ensures ended { EndsInRounds cut room rounds (pair session.old sim.old) (pair session.new sim.new) result }
+    ensures joins { JoinsOn (pair session.old sim.old) (pair session.new sim.new) }
+    ensures told { TellsModemTo (pair session.new sim.new) }
+{
+    steps(session, sim, cut, room, rounds)
+}
