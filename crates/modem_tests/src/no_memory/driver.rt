@@ -95,6 +95,11 @@ fn enters(rt: &impl Print, alloc: Global) -> Result<(), Fail> {
     begin(rt, "enter");
     enter(&mut line, 100)?;
     end(rt);
+    begin(rt, "close_down, Entry::new, Entry::step, Entry::is_sent");
+    let mut entry = Entry::new(close_down());
+    let _ = entry.step(&mut line);
+    let _ = entry.is_sent();
+    end(rt);
     Ok(())
 }
 
