@@ -1,6 +1,7 @@
 -- The words of the program.
-use Rattle.std.specs.Prelude.{◌≡◌, pos, true, List, [], ◌∷◌, Option, Some, option_map, codes}
-use Rattle.clap.specs.Words.{App, IsAmong, Kinds, Rule, Text, fault_of, new_app, new_rule, subcommand_of, with_rule, with_subcommand}
+use Rattle.std.specs.Prelude.{◌≡◌, ◌<◌, ◌^◌, ℕ, pos, true, List, [], ◌∷◌, Option, None, Some, option_and_then, option_map, codes}
+use Rattle.std.specs.Str.Parse.{IsNumeral, digits_value, without_leading_plus}
+use Rattle.clap.specs.Words.{App, IsAmong, Kinds, Row, Rule, Text, one_of, fault_of, new_app, new_rule, subcommand_of, with_rule, with_subcommand}
 use Rattle.clap.specs.declared.builder.ArgAction.TheVariants.{Set}
 use Rattle.clap.specs.declared.error.ErrorKind.TheVariants.{DisplayHelp, DisplayVersion}
 use Rattle.clap.specs.declared.builder.ValueParser.TheVariants.{Signed}
@@ -67,10 +68,35 @@ fault_in words = fault_of program_app words
 abbrev pub AsksNoHelp : Kinds → Type 0
 AsksNoHelp kinds = (IsAmong DisplayHelp kinds → ⊥) × (IsAmong DisplayVersion kinds → ⊥)
 
--- the subcommand that words name
+-- the subcommand that words name, with what they give for its options
+abbrev pub met_in : List Text → Option (Text × List Row)
+met_in words = subcommand_of program_app words
+
+-- its name
 abbrev pub named_in : List Text → Option Text
-named_in words = option_map (λ p. p.0) (subcommand_of program_app words)
+named_in words = option_map (λ p. p.0) (met_in words)
 
 -- they name this subcommand, and nothing is wrong with them
 abbrev pub AreFor : Text → List Text → Type 0
 AreFor name words = (fault_in words ≡ []) × (named_in words ≡ Some name)
+
+-- ## Numbers
+
+-- the text writes a number of so many bits in decimal digits; a plus may stand before them
+abbrev pub WritesNumber : (bits : ℕ) → Text → Type 0
+WritesNumber bits t =
+    IsNumeral 10 (without_leading_plus t) × (digits_value 10 (without_leading_plus t) < 2 ^ bits)
+
+-- the number that it writes; or the default, where there is no text or it writes none
+abbrev pub IsNumberOf : (default bits : ℕ) → Option Text → ℕ → Type 0
+IsNumberOf default bits None n = n ≡ default
+IsNumberOf default bits (Some t) n =
+    (WritesNumber bits t → n ≡ digits_value 10 (without_leading_plus t)) × (¬ WritesNumber bits t → n ≡ default)
+
+-- the text of an option of the subcommand that was met
+abbrev pub text_in : Option (Text × List Row) → (option : Text) → Option Text
+text_in met option = option_and_then (λ p. one_of option p.1) met
+
+-- the number that the words give for it
+abbrev pub IsGiven : Option (Text × List Row) → (option : Text) → (default bits : ℕ) → ℕ → Type 0
+IsGiven met option default bits n = IsNumberOf default bits (text_in met option) n

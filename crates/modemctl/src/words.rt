@@ -1,10 +1,9 @@
 //! The words of the program.
-ghost use Rattle.std.specs.Prelude.{◌≡◌, ◌≢◌, ℕ, ◌<◌, ◌≤◌, [], map, Some, None, IfOk, false, codes};
+ghost use Rattle.std.specs.Prelude.{◌≡◌, ◌≢◌, ◌<◌, ◌≤◌, [], map, Some, IfOk, false, codes};
 ghost use Rattle.std.specs.String.{string_bytes};
-ghost use Rattle.clap.specs.Words.{app_of, rule_of, kind_of, found_of, one_text, subcommand_name_of};
-ghost use Rattle.modem_runs.specs.Printed.{IsFramed, IsPrinted, IsReplayed};
-ghost use Rattle.modemctl.specs.Benches.{PrintsBench};
-ghost use Rattle.modemctl.specs.Words.{callers_rule, cut_rule, n1_rule, program_app, fault_in, with_two, AreFor, AsksNoHelp};
+ghost use Rattle.clap.specs.Words.{app_of, rule_of, kind_of, found_of, one_text, subcommand_name_of, subcommand_rows_of};
+ghost use Rattle.modemctl.specs.Benches.{PrintsBench, PrintsBenchBy, PrintsFrames, PrintsReplay};
+ghost use Rattle.modemctl.specs.Words.{callers_rule, cut_rule, n1_rule, program_app, fault_in, met_in, with_two, AreFor, AsksNoHelp, IsNumberOf};
 
 use clap::error::ErrorKind;
 use clap::{Arg, ArgAction, ArgMatches, Command, Error, value_parser};
@@ -96,19 +95,19 @@ fn program<'a>(alloc: Global) -> Result<Command<'a>, AllocError>
 }
 
 fn n1_of(matches: &ArgMatches<'_>) -> u16
-    ensures none { one_text (found_of matches.now) (codes "n1") ≡ None → result ≡ 31 }
+    ensures { IsNumberOf 31 16 (one_text (found_of matches.now) (codes "n1")) result }
 {
     matches.get_one::<u16>("n1").unwrap_or(DEFAULT_N1)
 }
 
 fn callers_of(matches: &ArgMatches<'_>) -> u8
-    ensures none { one_text (found_of matches.now) (codes "callers") ≡ None → result ≡ 2 }
+    ensures { IsNumberOf 2 8 (one_text (found_of matches.now) (codes "callers")) result }
 {
     matches.get_one::<u8>("callers").unwrap_or(DEFAULT_CALLERS)
 }
 
 fn cut_of(matches: &ArgMatches<'_>) -> u16
-    ensures none { one_text (found_of matches.now) (codes "cut") ≡ None → result ≡ 64 }
+    ensures { IsNumberOf 64 16 (one_text (found_of matches.now) (codes "cut")) result }
 {
     matches.get_one::<u16>("cut").unwrap_or(DEFAULT_CUT)
 }
@@ -147,7 +146,8 @@ where
     R: Threads + Wait + RandomSource + AllocGlobal + Copy + Send + Drop + 'static,
     ensures status { result ≤ 2 }
     ensures bad { result ≡ 2 → output.new ≡ output.old }
-    ensures done { result ≡ 0 → PrintsBench (I.remaining input.old) (W.contents output.old) (W.contents output.new) }
+    ensures done { result ≡ 0 → PrintsBenchBy (found_of matches.now) (I.remaining input.old)
+        (W.contents output.old) (W.contents output.new) }
 {
     let callers = callers_of(matches);
     let cut = usize::from(cut_of(matches));
@@ -171,11 +171,15 @@ where
     R: Threads + Wait + RandomSource + AllocGlobal + Copy + Send + Drop + 'static,
     ensures status { result ≤ 2 }
     ensures bad { result ≡ 2 → output.new ≡ output.old }
-    ensures frames { result ≡ 0 → subcommand_name_of matches.now ≡ Some (codes "frames") → (n1 : ℕ)
-        × IsPrinted (IsFramed n1) (I.remaining input.old) (W.contents output.old) (W.contents output.new) }
-    ensures replay { result ≡ 0 → subcommand_name_of matches.now ≡ Some (codes "replay") → (n1 : ℕ)
-        × IsPrinted (IsReplayed n1) (I.remaining input.old) (W.contents output.old) (W.contents output.new) }
-    ensures bench { result ≡ 0 → subcommand_name_of matches.now ≡ Some (codes "bench") → PrintsBench (I.remaining input.old) (W.contents output.old) (W.contents output.new) }
+    ensures frames { result ≡ 0 → subcommand_name_of matches.now ≡ Some (codes "frames")
+        → PrintsFrames (subcommand_rows_of matches.now) (I.remaining input.old) (W.contents output.old)
+        (W.contents output.new) }
+    ensures replay { result ≡ 0 → subcommand_name_of matches.now ≡ Some (codes "replay")
+        → PrintsReplay (subcommand_rows_of matches.now) (I.remaining input.old) (W.contents output.old)
+        (W.contents output.new) }
+    ensures bench { result ≡ 0 → subcommand_name_of matches.now ≡ Some (codes "bench")
+        → PrintsBench (subcommand_rows_of matches.now) (I.remaining input.old) (W.contents output.old)
+        (W.contents output.new) }
 {
     if let Some(matches) = matches.subcommand_matches("frames") {
         return frames_run(alloc, input, output, faults, n1_of(matches));
@@ -206,11 +210,15 @@ where
     ensures wrong { fault_in (map string_bytes words.now) ≢ []
         → AsksNoHelp (fault_in (map string_bytes words.now)) → 0 < result }
     ensures unread { fault_in (map string_bytes words.now) ≢ [] → input.new ≡ input.old }
-    ensures frames { result ≡ 0 → AreFor (codes "frames") (map string_bytes words.now) → (n1 : ℕ)
-        × IsPrinted (IsFramed n1) (I.remaining input.old) (W.contents output.old) (W.contents output.new) }
-    ensures replay { result ≡ 0 → AreFor (codes "replay") (map string_bytes words.now) → (n1 : ℕ)
-        × IsPrinted (IsReplayed n1) (I.remaining input.old) (W.contents output.old) (W.contents output.new) }
-    ensures bench { result ≡ 0 → AreFor (codes "bench") (map string_bytes words.now) → PrintsBench (I.remaining input.old) (W.contents output.old) (W.contents output.new) }
+    ensures frames { result ≡ 0 → AreFor (codes "frames") (map string_bytes words.now)
+        → PrintsFrames (met_in (map string_bytes words.now)) (I.remaining input.old) (W.contents output.old)
+        (W.contents output.new) }
+    ensures replay { result ≡ 0 → AreFor (codes "replay") (map string_bytes words.now)
+        → PrintsReplay (met_in (map string_bytes words.now)) (I.remaining input.old) (W.contents output.old)
+        (W.contents output.new) }
+    ensures bench { result ≡ 0 → AreFor (codes "bench") (map string_bytes words.now)
+        → PrintsBench (met_in (map string_bytes words.now)) (I.remaining input.old) (W.contents output.old)
+        (W.contents output.new) }
 {
     let command = match program(alloc) {
         Ok(command) => command,

@@ -1,10 +1,11 @@
 use Rattle.std.proofs.Common.{◌≡◌, ◌≢◌, ◌∙◌, ◌<◌, ◌⊎◌, ℕ, ⊎_elim, ap, arith, refl, subst, true, List, [], ◌∷◌, Option, None, Some, option_map, codes}
-use Rattle.clap.specs.Words.{App, HasKind, IsAmong, Kinds, Text, fault_of, is_simple, is_simple_and_free, subcommand_of, subcommand_name_of, subcommand_rows_of}
+use Rattle.clap.specs.Words.{App, HasKind, IsAmong, Kinds, Row, Text, fault_of, is_simple, is_simple_and_free, subcommand_of, subcommand_name_of, subcommand_rows_of}
 use Rattle.clap.specs.declared.ArgMatches.{ArgMatches}
 use Rattle.clap.specs.declared.error.ErrorKind.{ErrorKind}
 use Rattle.clap.specs.declared.error.ErrorKind.TheVariants.{DisplayHelp, DisplayVersion, OutOfMemory}
 use Rattle.clap.proofs.OnLiterals.{clap_on_literals}
-use Rattle.modemctl.specs.Words.{AsksNoHelp, program_app, fault_in, named_in}
+use Rattle.modemctl.specs.Words.{AsksNoHelp, program_app, fault_in, met_in, named_in, text_in}
+use Rattle.modemctl.specs.Benches.{PrintsBench, PrintsFrames, PrintsReplay}
 use Rattle.modemctl.proofs.words.run.Goals as goal
 
 simple : is_simple program_app ≡ true
@@ -15,26 +16,32 @@ twice : {A B C : Type 0} (f : A → B) (g : B → C) (o : Option A) → option_m
 twice f g None = refl
 twice f g (Some a) = refl
 
--- the subcommand that was met is the one that the words name
+-- the subcommand that was met, with its options, is the one that the words name
+met : (m : ArgMatches) (a : App) (words : List Text) → a ≡ program_app → (is_simple a ≡ true → subcommand_rows_of m ≡ subcommand_of a words) → subcommand_rows_of m ≡ met_in words
+met m a words same h = h (ap is_simple same ∙ simple) ∙ ap (λ (b : App). subcommand_of b words) same
+
 named : (m : ArgMatches) (a : App) (words : List Text) → a ≡ program_app → (is_simple a ≡ true → subcommand_rows_of m ≡ subcommand_of a words) → subcommand_name_of m ≡ named_in words
-named m a words same met =
+named m a words same h =
     let name_is : subcommand_name_of m ≡ option_map (λ p. p.0) (subcommand_rows_of m) = twice _ (λ p. p.0) _ in
-    name_is ∙ ap (option_map (λ p. p.0)) (met (ap is_simple same ∙ simple) ∙ ap (λ (b : App). subcommand_of b words) same)
+    name_is ∙ ap (option_map (λ p. p.0)) (met m a words same h)
 
 pub returns-in-Ok-try_get_matches_from-clause-frames :
     goal.returns-in-Ok-try_get_matches_from-clause-frames
 returns-in-Ok-try_get_matches_from-clause-frames g c zero for =
-    c.run_named.ensures.frames zero (named c.in-Ok-try_get_matches_from.matches _ _ c.in-Ok.ensures (λ e. (c.in-Ok-try_get_matches_from.ensures.matches e).1) ∙ for.1)
+    subst (λ (m : Option (Text × List Row)). PrintsFrames m (g.I.Read.remaining c.args.input.now) (g.W.Write.contents c.args.output.now) (g.W.Write.contents c.run_named.new.output)) (met c.in-Ok-try_get_matches_from.matches _ _ c.in-Ok.ensures (λ e. (c.in-Ok-try_get_matches_from.ensures.matches e).1))
+    (c.run_named.ensures.frames zero (named c.in-Ok-try_get_matches_from.matches _ _ c.in-Ok.ensures (λ e. (c.in-Ok-try_get_matches_from.ensures.matches e).1) ∙ for.1))
 
 pub returns-in-Ok-try_get_matches_from-clause-replay :
     goal.returns-in-Ok-try_get_matches_from-clause-replay
 returns-in-Ok-try_get_matches_from-clause-replay g c zero for =
-    c.run_named.ensures.replay zero (named c.in-Ok-try_get_matches_from.matches _ _ c.in-Ok.ensures (λ e. (c.in-Ok-try_get_matches_from.ensures.matches e).1) ∙ for.1)
+    subst (λ (m : Option (Text × List Row)). PrintsReplay m (g.I.Read.remaining c.args.input.now) (g.W.Write.contents c.args.output.now) (g.W.Write.contents c.run_named.new.output)) (met c.in-Ok-try_get_matches_from.matches _ _ c.in-Ok.ensures (λ e. (c.in-Ok-try_get_matches_from.ensures.matches e).1))
+    (c.run_named.ensures.replay zero (named c.in-Ok-try_get_matches_from.matches _ _ c.in-Ok.ensures (λ e. (c.in-Ok-try_get_matches_from.ensures.matches e).1) ∙ for.1))
 
 pub returns-in-Ok-try_get_matches_from-clause-bench :
     goal.returns-in-Ok-try_get_matches_from-clause-bench
 returns-in-Ok-try_get_matches_from-clause-bench g c zero for =
-    c.run_named.ensures.bench zero (named c.in-Ok-try_get_matches_from.matches _ _ c.in-Ok.ensures (λ e. (c.in-Ok-try_get_matches_from.ensures.matches e).1) ∙ for.1)
+    subst (λ (m : Option (Text × List Row)). PrintsBench m (g.I.Read.remaining c.args.input.now) (g.W.Write.contents c.args.output.now) (g.W.Write.contents c.run_named.new.output)) (met c.in-Ok-try_get_matches_from.matches _ _ c.in-Ok.ensures (λ e. (c.in-Ok-try_get_matches_from.ensures.matches e).1))
+    (c.run_named.ensures.bench zero (named c.in-Ok-try_get_matches_from.matches _ _ c.in-Ok.ensures (λ e. (c.in-Ok-try_get_matches_from.ensures.matches e).1) ∙ for.1))
 
 -- ## What is wrong with the words
 
@@ -123,3 +130,11 @@ replay_with_less e = cc
 no_word : fault_in (codes "modemctl" ∷ []) ≢ []
 unfolding clap_on_literals
 no_word e = cc
+
+n1_of_words : text_in (met_in (codes "modemctl" ∷ codes "replay" ∷ codes "--n1" ∷ codes "2000" ∷ [])) (codes "n1") ≡ Some (codes "2000")
+unfolding clap_on_literals
+n1_of_words = refl
+
+n1_by_default : text_in (met_in (codes "modemctl" ∷ codes "frames" ∷ [])) (codes "n1") ≡ Some (codes "31")
+unfolding clap_on_literals
+n1_by_default = refl
