@@ -1,11 +1,13 @@
-//! The tests of what stored runs can't show: of frames, a station, lines of octets and the desk, of the core, of a session that
-//! ticks, of one that follows another, of sizes, of the program's runs, and of which calls take no memory.
+//! The tests of what stored runs can't show: of frames, a station, lines of octets and the desk, of the core, an endpoint, a session
+//! that ticks and one that follows another, of sizes, of the program's runs, and of which calls take no memory.
 #![tactic(auto)]
 
 #[cfg(test)]
 mod desk;
 #[cfg(test)]
 mod driver;
+#[cfg(test)]
+mod endpoint;
 #[cfg(test)]
 mod frames;
 #[cfg(test)]

@@ -3,6 +3,7 @@ use std::io::Print;
 
 mod desk;
 mod driver;
+mod endpoints;
 mod frames;
 mod lines;
 mod sims;
