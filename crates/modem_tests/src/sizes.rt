@@ -58,9 +58,11 @@ fn a_pin_text_of_200_octets(rt: HostRuntime) -> Result<(), Fail> {
     let Seen::Done(answer) = window.see(b"OK")? else {
         return Err("no answer".into());
     };
-    let Ok(Reply::Pin(PinState::Other(text))) =
-        Reply::read(alloc, &Command::PinQuery, answer.as_slice())
-    else {
+    let Ok(Reply::Pin(PinState::Other(text))) = Reply::read(
+        alloc,
+        &Command::PinQuery,
+        answer.as_slice(),
+    ) else {
         return Err("no text of its own".into());
     };
     assert!(rt; text.as_slice().len() == 200);

@@ -252,15 +252,15 @@ spell_own kinds callers d s p c =
     let all = taken_of kinds callers d s p in
     let lost = map line_lost f.lost in
     let within : (r : Request) → many r f.lost ≤ many r all = λ r.
-        let whole : many r all ≡ many r (taken_requests s.past) + (many r (option_to_list s.session.aside) + many r f.more)
-        = many_append r (taken_requests s.past) (later_of kinds callers d s p) ∙ ap (λ (n : ℕ). many r (taken_requests s.past) + n) (many_append r (option_to_list s.session.aside) f.more) in
-        let hand : s.leftovers.in_hand ≡ untold s.past ++ option_to_list s.session.aside
-        = p.finishes.hand_is ∙ ap (λ (qs : List Request). qs ++ option_to_list s.session.aside) (hand_is (driving s.start) s.past p.fits.history.lawful (once_taken s.start s.session s.past p.fits)) in
-        let places : many r s.rest.in_hand + many r f.lost ≡ many r s.leftovers.in_hand + many r f.more
-        = sym (many_append r s.rest.in_hand f.lost) ∙ (ap (many r) f.places ∙ many_append r s.leftovers.in_hand f.more) in
-        let in_hand_are : many r s.leftovers.in_hand ≡ many r (untold s.past) + many r (option_to_list s.session.aside) = ap (many r) hand ∙ many_append r (untold s.past) (option_to_list s.session.aside) in
-        let fewer = few_untold (is_told (outcomes s.past) r) (many r (untold s.past)) (many r (taken_requests s.past)) (many_untold r (outcomes s.past) (taken_requests s.past)) in
-        omega (arith, whole, places, in_hand_are, fewer) in
+    let whole : many r all ≡ many r (taken_requests s.past) + (many r (option_to_list s.session.aside) + many r f.more)
+    = many_append r (taken_requests s.past) (later_of kinds callers d s p) ∙ ap (λ (n : ℕ). many r (taken_requests s.past) + n) (many_append r (option_to_list s.session.aside) f.more) in
+    let hand : s.leftovers.in_hand ≡ untold s.past ++ option_to_list s.session.aside
+    = p.finishes.hand_is ∙ ap (λ (qs : List Request). qs ++ option_to_list s.session.aside) (hand_is (driving s.start) s.past p.fits.history.lawful (once_taken s.start s.session s.past p.fits)) in
+    let places : many r s.rest.in_hand + many r f.lost ≡ many r s.leftovers.in_hand + many r f.more
+    = sym (many_append r s.rest.in_hand f.lost) ∙ (ap (many r) f.places ∙ many_append r s.leftovers.in_hand f.more) in
+    let in_hand_are : many r s.leftovers.in_hand ≡ many r (untold s.past) + many r (option_to_list s.session.aside) = ap (many r) hand ∙ many_append r (untold s.past) (option_to_list s.session.aside) in
+    let fewer = few_untold (is_told (outcomes s.past) r) (many r (untold s.past)) (many r (taken_requests s.past)) (many_untold r (outcomes s.past) (taken_requests s.past)) in
+    omega (arith, whole, places, in_hand_are, fewer) in
     let told : list_all (answered_in all) (outcomes s.past) ≡ true
     = all_wider (answered_in (taken_requests s.past)) (answered_in all) (λ o. any_more o (taken_requests s.past) (later_of kinds callers d s p)) (outcomes s.past) (all_answer (driving s.start) s.past p.fits.history.lawful) in
     let one = own_answers c all [] (outcomes s.past) told in
@@ -312,9 +312,9 @@ over kinds callers d e (s ∷ ss) follow c =
     let mine = all_parts (answered_in (of_caller c first)) t.given (caller_outcomes c s.rest.unplaced) (spell_own kinds callers d s p c) in
     let others = all_parts (answered_in (of_caller c o.taken)) o.since (caller_outcomes c (unplaced_over ss)) o.own in
     let wide = λ (os : List Outcome) (h : list_all (answered_in (of_caller c first)) os ≡ true).
-        all_wider (answered_in (of_caller c first)) (answered_in (of_caller c (first ++ o.taken))) (λ x k. ap (λ (qs : List Request). answered_in qs x) taken ∙ any_more x (of_caller c first) (of_caller c o.taken) k) os h in
+    all_wider (answered_in (of_caller c first)) (answered_in (of_caller c (first ++ o.taken))) (λ x k. ap (λ (qs : List Request). answered_in qs x) taken ∙ any_more x (of_caller c first) (of_caller c o.taken) k) os h in
     let wider = λ (os : List Outcome) (h : list_all (answered_in (of_caller c o.taken)) os ≡ true).
-        all_wider (answered_in (of_caller c o.taken)) (answered_in (of_caller c (first ++ o.taken))) (λ x k. ap (λ (qs : List Request). answered_in qs x) taken ∙ any_before x (of_caller c first) (of_caller c o.taken) k) os h in
+    all_wider (answered_in (of_caller c o.taken)) (answered_in (of_caller c (first ++ o.taken))) (λ x k. ap (λ (qs : List Request). answered_in qs x) taken ∙ any_before x (of_caller c first) (of_caller c o.taken) k) os h in
     record {
       taken = first ++ o.taken;
       taken_are = o.taken_are ∙ (ap (λ (qs : List Request). qs ++ o.taken) (spell_taken kinds callers d s p) ∙ append_assoc d.taken first o.taken);
@@ -403,8 +403,8 @@ spell_headline kinds callers d s p more left cs submitted = record {
         ∙ (append_assoc (filter own a ++ (filter own b ++ filter own c)) (filter own m) (filter own l)
         ∙ (append_assoc (filter own a) (filter own b ++ filter own c) (filter own m ++ filter own l)
         ∙ ap (λ (qs : List Request). filter own a ++ qs)
-            (append_assoc (filter own b) (filter own c) (filter own m ++ filter own l)
-            ∙ ap (λ (qs : List Request). filter own b ++ qs) (sym (append_assoc (filter own c) (filter own m) (filter own l))))))
+        (append_assoc (filter own b) (filter own c) (filter own m ++ filter own l)
+        ∙ ap (λ (qs : List Request). filter own b ++ qs) (sym (append_assoc (filter own c) (filter own m) (filter own l))))))
 
 spell_headlines : (kinds : List UrcKind) (callers : ℕ) (d e : EndView) (ss : List Spell) → Follow kinds callers d ss e → (left : List Request) (cs : List CallerView) → AreSubmitted e.taken left cs → Each (λ _ s. SpellHeadline cs s) ss
 spell_headlines kinds callers d e [] follow left cs submitted = each_none (SpellHeadline cs)

@@ -99,7 +99,7 @@ order_of n submitted earlier last b v past f whole newer older joins d =
     whole
     ∙ (ap (λ (qs : List Request). earlier ++ (of_caller n qs ++ last)) (ap taken_requests joins ∙ taken_both newer older)
     ∙ ap (λ (qs : List Request). earlier ++ qs)
-        (ap (λ (qs : List Request). qs ++ last) (filter-append own (taken_requests older) (taken_requests newer)) ∙ append_assoc (of_caller n (taken_requests older)) (of_caller n (taken_requests newer)) last)) in
+    (ap (λ (qs : List Request). qs ++ last) (filter-append own (taken_requests older) (taken_requests newer)) ∙ append_assoc (of_caller n (taken_requests older)) (of_caller n (taken_requests newer)) last)) in
     record {
       before = earlier ++ of_caller n st.before;
       stretch = of_caller n st.stretch;
@@ -107,10 +107,10 @@ order_of n submitted earlier last b v past f whole newer older joins d =
       submitted_are =
           first
           ∙ (ap (λ (qs : List Request). earlier ++ qs)
-              (ap (λ (qs : List Request). of_caller n qs ++ after) st.taken_are
-              ∙ (ap (λ (qs : List Request). qs ++ after) (filter-append own st.before (st.stretch ++ st.later) ∙ ap (λ (qs : List Request). of_caller n st.before ++ qs) (filter-append own st.stretch st.later))
-              ∙ (append_assoc (of_caller n st.before) (of_caller n st.stretch ++ of_caller n st.later) after
-              ∙ ap (λ (qs : List Request). of_caller n st.before ++ qs) (append_assoc (of_caller n st.stretch) (of_caller n st.later) after))))
+          (ap (λ (qs : List Request). of_caller n qs ++ after) st.taken_are
+          ∙ (ap (λ (qs : List Request). qs ++ after) (filter-append own st.before (st.stretch ++ st.later) ∙ ap (λ (qs : List Request). of_caller n st.before ++ qs) (filter-append own st.stretch st.later))
+          ∙ (append_assoc (of_caller n st.before) (of_caller n st.stretch ++ of_caller n st.later) after
+          ∙ ap (λ (qs : List Request). of_caller n st.before ++ qs) (append_assoc (of_caller n st.stretch) (of_caller n st.later) after))))
           ∙ (sym (append_assoc earlier (of_caller n st.before) (of_caller n st.stretch ++ (of_caller n st.later ++ after)))
           ∙ sym (append_assoc (earlier ++ of_caller n st.before) (of_caller n st.stretch) (of_caller n st.later ++ after))));
       commands_are = ap (of_caller n) st.commands ∙ swapped own (λ (q : Request). command_on d q.ask) st.stretch;
