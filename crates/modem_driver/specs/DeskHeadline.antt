@@ -1,6 +1,6 @@
 -- The headline of a desk: what all sessions on it come to, one after the other, from its opening to its
 -- settlement.
-use Rattle.std.specs.Prelude.{◌≡◌, ℕ, ◌+◌, true, List, [], ◌∷◌, ◌++◌, length, map, flat_map, slice_index_or, nat_lt, Contains}
+use Rattle.std.specs.Prelude.{◌≡◌, ℕ, true, List, [], ◌∷◌, ◌++◌, length, map, flat_map, slice_index_or, nat_lt, Contains}
 use Rattle.std.specs.List.{list_all, list_any}
 use Rattle.at_text.specs.declared.unsolicited.UrcKind.{UrcKind}
 use Rattle.modem_desk.specs.declared.request.Request.{Request}

@@ -1,5 +1,5 @@
 -- A desk without a line: what waits is still placed, and each request that comes is told LineLost.
-use Rattle.std.specs.Prelude.{◌≡◌, ◌≢◌, ℕ, ◌+◌, ◌-◌, ◌<◌, ◌≤◌, ◌||◌, nat_lt, Bool, true, false, List, [], ◌∷◌, ◌++◌, length, map, take, slice_index_or, if◌then◌else◌}
+use Rattle.std.specs.Prelude.{◌≡◌, ◌≢◌, ℕ, ◌-◌, ◌<◌, ◌≤◌, ◌||◌, nat_lt, Bool, true, false, List, [], ◌++◌, length, map, take, slice_index_or, if◌then◌else◌}
 use Rattle.std.specs.List.{list_all}
 use mathlib.Core.Option.{some}
 use lib.ListN.{get_elem?}
@@ -14,7 +14,6 @@ use Rattle.modem_history.specs.Kinds.{of_kind}
 use Rattle.modem_history.specs.Sessions.{at_place, caller_outcomes}
 use Rattle.modem_history.specs.Turns.{amount, counted}
 use Rattle.modem_driver.specs.declared.session.turn.Turn.{Turn}
-use Rattle.modem_driver.specs.declared.session.turn.Turn.TheVariants as Turn
 use Rattle.modem_driver.specs.SessionTurns.{IsLeast, IsFirstOf}
 use Rattle.modem_driver.specs.WaitingLists.{WaitingLists}
 

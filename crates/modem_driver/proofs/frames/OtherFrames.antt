@@ -29,7 +29,6 @@ use Rattle.modem_driver.specs.Telling.{told_by, told_to, left_by, probe_noted}
 use Rattle.modem_driver.specs.Cores as cores
 use Rattle.modem_driver.specs.Cores.{Core, Runs, RunsUnless, Fits, IsRun, IsSettingOf, MayCome, GoesOn, Handles, state_shown, may_wait, probe_or, probe_in}
 use Rattle.modem_driver.specs.Receiving.{sent_in, answer_room, afresh_if, reads_data, fits_in, HasRoom}
-use Rattle.mux_station.specs.declared.error.StationError.{StationError}
 use Rattle.mux_station.specs.declared.error.StationError.TheVariants.{NoRoom}
 use Rattle.mux_station.specs.Tables.{have_room, octets_of, by_frame}
 use Rattle.modem_history.proofs.calls.CalledActs.{Saids, calls_said}

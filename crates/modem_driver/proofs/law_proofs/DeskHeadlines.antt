@@ -13,8 +13,8 @@ use Rattle.modem_desk.specs.declared.request.Request.{Request}
 use Rattle.modem_desk.specs.declared.request.Outcome.{Outcome}
 use Rattle.modem_desk.specs.declared.request.Urc.{Urc}
 use Rattle.modem_desk.specs.Rule.{of_caller}
-use Rattle.modem_desk.specs.Ends.{CallerView, DriverView, Each, ListenerView}
-use Rattle.modem_history.specs.Acts.{Act, is_for, in_hand}
+use Rattle.modem_desk.specs.Ends.{CallerView, Each}
+use Rattle.modem_history.specs.Acts.{Act, is_for}
 use Rattle.modem_history.specs.EveryTurn.{GivesSome}
 use Rattle.modem_history.specs.Kinds.{of_kind}
 use Rattle.modem_history.specs.Lawful.{Lawful}
@@ -25,9 +25,8 @@ use Rattle.modem_history.proofs.commands.SentPrefixes.{leaves_once}
 use Rattle.modem_history.proofs.outcomes.OutcomeCounts.{answers_once, lawful_part, many, many_append, many_filtered}
 use Rattle.modem_history.proofs.outcomes.SingleOutcomes.{of_its_caller, uses_once}
 use Rattle.modem_history.proofs.requests.UntoldRequests.{all_answer, hand_is}
-use Rattle.modem_driver.specs.DeskHeadline.{AnnouncedOver, DeskHeadline, DeskRun, Follow, HoldsOver, IsDeskHeadline, IsDeskSettled, IsSpell, Rest, RestsOf, Spell, SpellHeadline, outcomes_over}
-use Rattle.modem_driver.specs.SessionStates.{end_of}
-use Rattle.modem_driver.specs.TurningAway.{TurnsAway, line_lost}
+use Rattle.modem_driver.specs.DeskHeadline.{AnnouncedOver, DeskRun, Follow, HoldsOver, IsDeskHeadline, IsDeskSettled, IsSpell, Rest, RestsOf, Spell, SpellHeadline, outcomes_over}
+use Rattle.modem_driver.specs.TurningAway.{line_lost}
 use Rattle.modem_driver.proofs.replays.FullFrames.{turns_are_full}
 use Rattle.modem_driver.proofs.law_proofs.Headlines.{any_more, answers_own, hears_each, of_its_own, once_taken, order_of, own_answers, subscription_at, while_open}
 use Rattle.modem_driver.proofs.law_proofs.RequestNumbers.{numbered_once}

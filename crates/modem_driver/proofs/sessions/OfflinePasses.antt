@@ -4,11 +4,9 @@ use Rattle.std.proofs.lemmas.Bool.{and_from}
 use Rattle.std.proofs.lemmas.List.{append_assoc, map-append}
 use Rattle.std.proofs.lemmas.List.Elements.{filter-append}
 use Rattle.std.proofs.lemmas.List.Folds.{list_all-append}
-use Rattle.std.specs.Prelude.{◌≡◌, ℕ, ◌<◌, ◌==◌, ◌||◌, nat_lt, Bool, true, false, List, [], ◌∷◌, ◌++◌, length, map, take, refl}
+use Rattle.std.specs.Prelude.{◌≡◌, ◌<◌, ◌==◌, ◌||◌, nat_lt, Bool, true, false, List, [], ◌++◌, length, map, take, refl}
 use Rattle.std.specs.List.{list_all}
-use mathlib.Core.Option.{some}
 use lib.ListN.{get_elem?}
-use Rattle.at_text.specs.declared.unsolicited.UrcKind.{UrcKind}
 use Rattle.modem_desk.specs.declared.request.Request.{Request}
 use Rattle.modem_desk.specs.declared.request.Outcome.{Outcome}
 use Rattle.modem_desk.specs.declared.request.Urc.{Urc}
@@ -21,7 +19,7 @@ use Rattle.modem_driver.specs.declared.session.turn.Turn.{Turn}
 use Rattle.modem_driver.specs.Placing.{Placed, TellsAlone, AnnouncesAlone, caller_of, place_of, IsRingOf, IsCaller, IsListenerOf, IsHeard, caller_rings, listener_rings}
 use Rattle.modem_driver.specs.SessionStates.{Kept, new_kept}
 use Rattle.modem_driver.specs.TurnSteps.{Places, turn_state}
-use Rattle.modem_driver.specs.TurningAway.{Offline, TurnsAway, TurnsOn, RefusesOne, PassesAway, PassSays, line_lost, moves}
+use Rattle.modem_driver.specs.TurningAway.{TurnsOn, RefusesOne, PassesAway, PassSays, line_lost, moves}
 use Rattle.modem_driver.specs.WaitingLists.{WaitingLists}
 use Rattle.modem_driver.proofs.sessions.DeskOffers.{places}
 

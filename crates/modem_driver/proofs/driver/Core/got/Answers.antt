@@ -1,6 +1,5 @@
 -- What a frame calls for has room after a loss of the line, and where it is data: nothing is called for then.
-use Rattle.std.proofs.Common.{◌≡◌, ℕ, List, [], ◌∙◌, ap, sym, subst, true, false}
-use Rattle.std.specs.Prelude.{◌&&◌}
+use Rattle.std.proofs.Common.{◌≡◌, ℕ, List, [], ◌∙◌, ap, sym, subst, true}
 use Rattle.std.proofs.lemmas.Bool.{and_parts}
 use Rattle.mux_frame.specs.Frames.{Frame, frame_of}
 use Rattle.mux_station.specs.declared.role.Role.{Role}

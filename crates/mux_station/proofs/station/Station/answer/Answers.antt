@@ -1,5 +1,5 @@
 -- The second frame has room behind the first.
-use Rattle.std.specs.Prelude.{◌≡◌, ◌++◌, true}
+use Rattle.std.specs.Prelude.{◌≡◌, true}
 use Rattle.std.proofs.Common.{◌∙◌, ap, sym}
 use Rattle.mux_station.specs.Tables.{octets_of, have_room}
 use Rattle.mux_station.specs.AnswersSent.{frames_in, answers_sent}

@@ -1,5 +1,5 @@
 -- A request was refused, and then outcomes and lines were offered.
-use Rattle.std.proofs.Common.{sym, subst, List, ◌||◌}
+use Rattle.std.proofs.Common.{sym, subst, List}
 use Rattle.modem_desk.specs.declared.request.Outcome.{Outcome}
 use Rattle.modem_desk.specs.declared.request.Urc.{Urc}
 use Rattle.modem_driver.specs.Placing.{Placed, caller_of, place_of, IsRingOf, IsCaller, IsListenerOf, IsHeard, caller_rings, listener_rings}
