@@ -1,4 +1,4 @@
-//! The tests of what stored runs can't show: of frames, a station, lines of octets and the desk, of the core, an endpoint, a session
+//! The tests of what stored runs can't show: of frames, a station, lines of octets and the desk, of the core, a session
 //! that ticks and one that follows another, of sizes, of the program's runs, and of which calls take no memory.
 #![tactic(auto)]
 
@@ -6,8 +6,6 @@
 mod desk;
 #[cfg(test)]
 mod driver;
-#[cfg(test)]
-mod endpoint;
 #[cfg(test)]
 mod frames;
 #[cfg(test)]

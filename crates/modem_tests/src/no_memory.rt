@@ -3,7 +3,6 @@ use std::io::Print;
 
 mod desk;
 mod driver;
-mod endpoints;
 mod frames;
 mod lines;
 mod sims;

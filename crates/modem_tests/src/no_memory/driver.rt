@@ -1,6 +1,6 @@
 //! Of the driver, and what the calls of a command take.
 use crate::driver::command;
-use crate::no_memory::{begin, end, endpoints};
+use crate::no_memory::{begin, end};
 use crate::station::dlci;
 use at_text::UrcKind;
 use modem_desk::{Caller, Desk};
@@ -178,7 +178,6 @@ fn calls_that_take_no_memory(rt: HostRuntime) -> Result<(), Fail> {
     command_leaves(&rt, alloc, &mut core)?;
     drop(core);
     enters(&rt, alloc)?;
-    endpoints::calls(&rt, alloc)?;
     ends_a_session(rt, alloc)
 }
 
