@@ -114,8 +114,8 @@ fn of_a_device<R: Print>(rt: &R, alloc: Global) -> Result<(), Fail> {
 #[test]
 fn calls_that_take_no_memory(rt: HostRuntime) -> Result<(), Fail> {
     let alloc = rt.alloc();
+    in_memory(&rt, alloc)?;
     over_a_slice(&rt);
     of_a_device(&rt, alloc)?;
-    in_memory(&rt, alloc)?;
     between_threads(&rt, alloc)
 }
