@@ -1,4 +1,5 @@
 -- A core beside its history: begun, unchanged, and after a loss of the line.
+pub mod HeldLanes
 pub mod StationPasts
 pub mod WholeCalls
 pub mod LineLoss

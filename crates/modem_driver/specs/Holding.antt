@@ -89,6 +89,10 @@ unfoldable pub FindsRoom : Core → ℕ → (lines : ℕ) → Type 0
 FindsRoom v d lines =
     (s : Setting) (past : List Act) → MayAsk s v past → HasPlace s past d (due_by s past d lines)
 
+-- on no connection do fewer than 256 lines that wait call for anything
+unfoldable pub CallsForNothing : Core → Type 0
+CallsForNothing v = (d lines : ℕ) → d < 62 → lines < 256 → Flows v v d lines []
+
 -- no backlog of d calls for anything
 unfoldable pub NeverDue : Core → ℕ → Type 0
 NeverDue v d = (s : Setting) (past : List Act) (lines : ℕ) → MayAsk s v past → due_by s past d lines ≡ None

@@ -1,6 +1,6 @@
 -- What is kept of one connection.
-use Rattle.std.specs.Prelude.{ℕ, Bool, false, List, [], Option, None, slice_set, slice_index_or}
-use Rattle.at_text.specs.OpenWindow.{OpenWindow}
+use Rattle.std.specs.Prelude.{◌≡◌, ℕ, Bool, false, List, [], length, Option, None, Some, is_none, slice_set, slice_index_or, if◌then◌else◌}
+use Rattle.at_text.specs.OpenWindow.{OpenWindow, opened}
 
 -- its unfinished line, its window, and whether it is held
 pub record Lane : Type 0 where
@@ -10,6 +10,20 @@ pub record Lane : Type 0 where
 
 abbrev pub new_lane : Lane
 new_lane = record { kept = []; window = None; held = false }
+
+abbrev pub lane_in : List Lane → ℕ → Lane
+lane_in lanes d = slice_index_or lanes d new_lane
+
+-- every connection has one; and where none may be held, none is
+pub record AreLanes (lanes : List Lane) (may_hold : Bool) : Type 0 where
+  pub all : length lanes ≡ 62
+  pub free : may_hold ≡ false → (d : ℕ) → (lane_in lanes d).held ≡ false
+
+-- the lanes, the window of d begun with this command, where none is open there
+abbrev pub begun : List Lane → ℕ → List ℕ → List Lane
+begun lanes d line =
+    if is_none (lane_in lanes d).window
+    then slice_set lanes d (record (lane_in lanes d) { window = Some (opened line) }) else lanes
 
 -- the lanes, with that of d held or not
 abbrev pub turned : List Lane → ℕ → Bool → List Lane

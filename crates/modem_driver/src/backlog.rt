@@ -5,16 +5,14 @@ ghost use Rattle.mux_station.specs.States.{is_opened};
 ghost use Rattle.mux_station.specs.Stations.{channel_at};
 ghost use Rattle.modem_history.specs.Acts.{act_of};
 ghost use Rattle.mux_station.specs.Tables.{ready, held_up};
-ghost use Rattle.modem_driver.specs.Lanes.{turned};
 ghost use Rattle.modem_driver.specs.Cores.{lane_at};
 ghost use Rattle.modem_history.specs.declared.act.Act.TheVariants as act;
-ghost use Rattle.modem_driver.specs.Holding.{acts_due, due_in, Flows, HasNoRoom, NeverDue, TurnsFlow, CannotTurn, CanTurn, FindsRoom};
+ghost use Rattle.modem_driver.specs.Holding.{acts_due, due_in, CallsForNothing, Flows, HasNoRoom, NeverDue, TurnsFlow, CannotTurn, CanTurn, FindsRoom};
 ghost use Rattle.modem_driver.specs.declared.error.CoreError.TheVariants as CoreError;
 
 use crate::act_list::ActList;
 use crate::driver::Core;
 use crate::error::CoreError;
-use crate::lane::Lane;
 use crate::written::{HELD_UP, MSC, READY, message};
 use modem_history::Act;
 use mux_frame::Dlci;
@@ -48,6 +46,14 @@ impl Core {
         !self.lost && self.is_open(dlci)
     }
 
+    /// Whether no connection is held: then fewer than 256 lines that wait call for nothing.
+    #[tactic(auto, using(crate::proofs::holds::HeldAndFreed::free_flows))]
+    pub(crate) fn holds_none(&self) -> bool
+        ensures { result ≡ true → CallsForNothing self.now }
+    {
+        self.lanes.holds_none()
+    }
+
     fn is_open(&self, dlci: Dlci) -> bool
         ensures { result ≡ is_opened (channel_at self.now.station dlci.number).state }
     {
@@ -64,7 +70,7 @@ impl Core {
         if !self.is_open(dlci) {
             return None;
         }
-        let held = self.lanes[usize::from(dlci.number())].held;
+        let held = self.lanes.is_held(dlci);
         if !held && lines >= 256 {
             Some(false)
         } else if held && lines < 128 {
@@ -99,7 +105,7 @@ impl Core {
         if let Err(_why) = self.station.flow(dlci, go) {
             return Err(CoreError::NoRoom);
         }
-        turn_lane(&mut self.lanes, dlci, !go);
+        self.lanes.turn(dlci, !go);
         Ok(acts.into_vec())
     }
 }
@@ -118,13 +124,4 @@ fn flow_act(dlci: Dlci, go: bool) -> Act
     } else {
         Act::Held(dlci)
     }
-}
-
-fn turn_lane(lanes: &mut Vec<Lane>, dlci: Dlci, held: bool)
-    requires { length lanes.old.items ≡ 62 }
-    ensures lanes { lanes.new.items ≡ turned lanes.old.items dlci.number held }
-    ensures all { length lanes.new.items ≡ 62 }
-{
-    let lane = &mut lanes[usize::from(dlci.number())];
-    lane.held = held;
 }

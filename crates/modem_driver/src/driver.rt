@@ -2,7 +2,6 @@
 ghost use Rattle.std.specs.Prelude.{◌≡◌, ◌≢◌, ◌↔◌, ◌+◌, ◌<◌, ◌≤◌, ◌⊎◌, List, [], length, replicate, map, find, option_map, vec_capacity, true, IfOk, IsErrOf, OnOk, OnErr};
 ghost use Rattle.modem_history.specs.Acts.{Act as Happening, act_of, Lost};
 ghost use Rattle.modem_driver.specs.Endings.{asker_of, is_stop};
-ghost use Rattle.modem_driver.specs.Lanes.{new_lane};
 ghost use Rattle.modem_driver.specs.Cores.{new_core, state_shown, Fits, Handles};
 ghost use Rattle.modem_driver.specs.Holding.{HoldsFit, KeepsHeld};
 ghost use Rattle.modem_driver.specs.declared.error.CoreError.TheVariants as CoreError;
@@ -10,7 +9,7 @@ ghost use Rattle.modem_driver.specs.declared.error.CoreError.TheVariants as Core
 use crate::act_list::ActList;
 use crate::error::CoreError;
 use crate::hand::Hand;
-use crate::lane::Lane;
+use crate::lanes::Lanes;
 use crate::session::Asker;
 use crate::telling::{Happened, state_of, tell};
 use at_text::UrcKind;
@@ -18,11 +17,8 @@ use modem_desk::Request;
 use modem_history::Act;
 use mux_frame::Dlci;
 use mux_station::{ChannelState, Role, Station, StationError};
-use std::alloc::{AllocError, Global};
+use std::alloc::Global;
 use std::marker::Model;
-
-/// How many connections there are, 0 among them.
-const CONNECTIONS: usize = 62;
 
 /// The driver: it takes requests, frames and ticks, and says what comes of them.
 #[derive(Drop)]
@@ -30,7 +26,7 @@ pub struct Core {
     pub(crate) alloc: Global,
     pub(crate) station: Station,
     pub(crate) n1: u16,
-    pub(crate) lanes: Vec<Lane>,
+    pub(crate) lanes: Lanes,
     /// The requests that wait for their outcome, in the order taken.
     pub(crate) hand: Hand,
     /// The kinds that are listened to.
@@ -46,24 +42,13 @@ impl Model for Core {
 
     ghost view = { λ c. record {
       station = c.station;
-      lanes = c.lanes.items;
+      lanes = c.lanes;
       hand = c.hand;
       kinds = c.kinds.items;
       lost = c.lost;
     } };
 
-    ghost invariant = { λ c. IsKept c.station c.n1 c.lanes.items };
-}
-
-/// The lanes of all connections.
-fn new_lanes(alloc: Global) -> Result<Vec<Lane>, AllocError>
-    ensures { IfOk result (λ ls. ls.items ≡ replicate 62 new_lane) }
-{
-    let mut lanes = Vec::with_capacity(alloc, CONNECTIONS)?;
-    for _ in 0..CONNECTIONS {
-        lanes.push(Lane::new(alloc))?;
-    }
-    Ok(lanes)
+    ghost invariant = { λ c. IsKept c.station c.n1 c.lanes };
 }
 
 impl Core {
@@ -82,7 +67,7 @@ impl Core {
             Err(StationError::BadN1) => return Err(CoreError::BadN1),
             Err(_) => return Err(CoreError::NoMemory),
         };
-        let lanes = new_lanes(alloc)?;
+        let lanes = Lanes::new(alloc)?;
         let hand = Hand::new(alloc)?;
         let kinds = kinds.to_vec(alloc)?;
         Ok(Core {

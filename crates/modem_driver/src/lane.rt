@@ -34,4 +34,13 @@ impl Lane {
             held: false,
         }
     }
+
+    /// Everything starts afresh.
+    pub(crate) fn start(&mut self)
+        ensures { self.new ≡ new_lane }
+    {
+        self.reader.reset();
+        self.window.drop_command();
+        self.held = false;
+    }
 }

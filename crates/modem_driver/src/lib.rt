@@ -12,6 +12,7 @@ mod event;
 mod hand;
 mod joining;
 mod lane;
+mod lanes;
 pub mod laws;
 mod receiving;
 mod reports;

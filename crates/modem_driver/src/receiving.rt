@@ -105,25 +105,13 @@ fn take(station: &mut Station, frame: FrameView<'_>) -> Noted
     noted
 }
 
-impl Lane {
-    /// Everything starts afresh.
-    fn start(&mut self)
-        ensures { self.new ≡ new_lane }
-    {
-        self.reader.reset();
-        self.window.drop_command();
-        self.held = false;
-    }
-}
-
 impl Core {
     /// Where the frame opened its connection, everything of that starts afresh.
     fn start_lane(&mut self, dlci: Dlci, opened: bool)
         ensures { self.new ≡ record self.old { lanes = afresh_if opened dlci.number self.old.lanes } }
     {
         if opened {
-            let lane = &mut self.lanes[usize::from(dlci.number())];
-            lane.start();
+            self.lanes.start(dlci);
         }
     }
 
@@ -189,8 +177,7 @@ impl Core {
         ensures fork { result ≡ forked_lane (lane_at self.old dlci.number) }
         ensures same { self.new ≡ self.old }
     {
-        let lane = &mut self.lanes[usize::from(dlci.number())];
-        lane.fork()
+        self.lanes.fork(dlci)
     }
 
     /// Reads the information of a frame on a fork of what is kept of its connection.
@@ -243,12 +230,10 @@ impl Core {
         ensures err { OnErr result (self.new ≡ self.old) }
         ensures no_memory { OnErr result (result ≡ Err CoreError.NoMemory) }
     {
-        let lane = &mut self.lanes[usize::from(dlci.number())];
-        let done = !lane.window.idle() && fork.window.idle();
-        if lane.join(fork, acts).is_err() {
-            return Err(CoreError::NoMemory);
+        match self.lanes.join(dlci, fork, acts) {
+            Ok(done) => Ok(done),
+            Err(_) => Err(CoreError::NoMemory),
         }
-        Ok(done)
     }
 
     /// Where the command under way has its answer, the next one goes out.

@@ -43,10 +43,7 @@ impl Core {
         let Some(line) = first_line(self.hand.as_slice(), dlci) else {
             return;
         };
-        let lane = &mut self.lanes[usize::from(dlci.number())];
-        if lane.window.idle() {
-            lane.window.begin(line);
-        }
+        self.lanes.begin(dlci, line);
     }
 
     /// Whether all octets that wait on the connection fit one frame.

@@ -2,7 +2,7 @@
 use Rattle.std.specs.Prelude.{◌≡◌, ℕ, ◌+◌, ◌*◌, ◌<◌, ◌==◌, ◌&&◌, ◌||◌, not, nat_le, nat_lt, Bool, true, false, List, [], ◌∷◌, ◌++◌, length, map, take, refl, Option, Some, None, if◌then◌else◌, slice_index_or}
 use Rattle.std.specs.List.{list_all, concat}
 use Rattle.std.proofs.Common.{ap, sym, ◌∙◌, subst, append-nil, eqb-true, get_or-set_same, get_or-set_other}
-use Rattle.std.proofs.lemmas.Bool.{and_parts, eq-eqb, eqb-false}
+use Rattle.std.proofs.lemmas.Bool.{and_parts, eq-eqb, eqb-false, lt-leb}
 use Rattle.mux_frame.specs.Frames.{Frame, kept_frame}
 use Rattle.mux_frame.specs.declared.dlci.Dlci.{Dlci}
 use Rattle.mux_frame.specs.declared.frame.FrameBuf.{FrameBuf}
@@ -44,7 +44,7 @@ use Rattle.modem_driver.specs.Telling.{told_to, left_by}
 use Rattle.modem_history.specs.Wholes.{taken_requests, is_first, is_said, UsesOnce}
 use Rattle.modem_driver.specs.Cores.{Core, Fits, Runs, RunsUnless, LaneFits, IsRun, MayCome, GoesOn, lane_at, may_wait, state_shown, probe_or, probe_in}
 use Rattle.modem_history.specs.Holding.{last_held, is_held, OnHeld}
-use Rattle.modem_driver.specs.Holding.{due_in, flow_due, flow_act, due_by, HoldsFit, MayAsk, FlowsOn, Flows, LacksRoom, HasPlace, HasNoRoom, FindsRoom, NeverDue, TurnsFlow, CannotTurn, CanTurn, has_flow_room}
+use Rattle.modem_driver.specs.Holding.{due_in, flow_due, flow_act, due_by, HoldsFit, MayAsk, FlowsOn, Flows, LacksRoom, HasPlace, HasNoRoom, FindsRoom, CallsForNothing, NeverDue, TurnsFlow, CannotTurn, CanTurn, has_flow_room}
 use Rattle.modem_history.proofs.calls.CalledActs.{calls_said}
 use Rattle.modem_history.proofs.commands.BegunCommands.{opens_by_sent}
 use Rattle.modem_history.proofs.calls.CallEnds.{frames_in, now_in, now_is, ended, end_of}
@@ -469,6 +469,19 @@ pub none_flows : (v : Core) (d lines : ℕ) (acts : List code.Act) → v.station
 unfolding Flows
 none_flows v d lines acts role b h e s past m =
     subst (λ (o : Option Bool). FlowsOn s v v past d o (map act_of acts)) (sym (due_same s v past d lines role b m ∙ h)) (ap (map act_of) e, refl)
+
+free_due : (lost zero opened : Bool) (lines : ℕ) → lines < 256 → (if lost || zero then None else flow_due opened false lines) ≡ None
+free_due true zero opened lines few = refl
+free_due false true opened lines few = refl
+free_due false false false lines few = refl
+free_due false false true lines few = ap (λ (c : Bool). if c then Some false else None) (lt-leb 256 lines few)
+
+-- where none is held, fewer than 256 lines call for nothing
+pub free_flows : (v : Core) → v.station.role ≡ Initiator → ((d : ℕ) → (lane_at v d).held ≡ false) → CallsForNothing v
+unfolding CallsForNothing
+free_flows v role free d lines b few =
+    none_flows v d lines [] role b (ap (λ (h : Bool). if v.lost || (d == 0) then None else flow_due (is_opened (channel_at v.station d).state) h lines) (free d)
+    ∙ free_due v.lost (d == 0) (is_opened (channel_at v.station d).state) lines few) refl
 
 pub some_flows : (v new : Core) (d lines : ℕ) (go : Bool) (acts : List Act) → v.station.role ≡ Initiator → d < 62 → due_in v d lines ≡ Some go → TurnsFlow v new d go acts → Flows v new d lines acts
 unfolding Flows TurnsFlow

@@ -35,7 +35,7 @@ impl Kept {
     }
 
     /// Looks at the backlogs of the connections 1 to 61, in rising order, and says whether any was held
-    /// or freed. Refusal: 1 NoMemory, which leaves those after it as they are.
+    /// or freed. None is where fewer than 256 lines wait and nothing is held. Refusal: 1 NoMemory, which leaves those after it as they are.
     pub(crate) fn check_backlogs(&mut self) -> Result<bool, SessionFault>
         ensures checks { IfOk result (λ moved. (l : LineView) (d : DriverView)
             → Checks (turn_state l d self.old) (turn_state l d self.new) moved) }
@@ -44,6 +44,9 @@ impl Kept {
         ensures stays { self.new ≡ record self.old { core = self.new.core } }
         ensures no_memory { OnErr result (result ≡ Err fault.NoMemory) }
     {
+        if self.waiting.many() < 256 && self.core.holds_none() {
+            return Ok(false);
+        }
         let mut moved = false;
         for number in 1..CONNECTIONS {
             moved |= self.check_backlog(Dlci::new(number).unwrap())?;

@@ -1,8 +1,10 @@
 -- One connection after the other is checked.
-use Rattle.std.proofs.Common.{◌≡◌, sym, subst, arith, ℕ}
+use Rattle.std.proofs.Common.{◌≡◌, ◌∙◌, ap, sym, subst, arith, ℕ}
+use Rattle.std.specs.Prelude.{◌<◌, false, length, refl}
+use Rattle.modem_driver.specs.Holding.{CallsForNothing}
 use Rattle.modem_driver.specs.BacklogChecks.{ChecksOne}
 use Rattle.modem_driver.specs.SessionStates.{Kept}
-use Rattle.modem_driver.proofs.sessions.Backlogs.{checks_first, checks_more, checks_all, checks_part, same_number}
+use Rattle.modem_driver.proofs.sessions.Backlogs.{checks_few, checks_first, checks_more, checks_all, checks_part, same_number}
 use Rattle.modem_driver.proofs.session.kept.Kept.check_backlogs.Goals as goal
 
 pub loop-number-init : goal.loop-number-init
@@ -30,3 +32,10 @@ returns-clause-stays c = c.loop-number.invariant.stays
 pub returns-in_err-moved-clause-stays : goal.returns-in_err-moved-clause-stays
 returns-in_err-moved-clause-stays c =
     subst (λ (k : Kept). k ≡ record c.args.self.now { core = k.core }) (sym c.in_err-moved.ensures.err) c.loop-number.invariant.stays
+
+pub returns-then-holds_none-clause-checks : goal.returns-then-holds_none-clause-checks
+returns-then-holds_none-clause-checks c =
+    let k = c.args.self.now in
+    let few : length k.unannounced < 256 = subst (λ (x : Kept). length x.unannounced < 256) c.self.view_is (subst (λ (n : ℕ). n < 256) c.many.ensures c.if-many-lt256.true) in
+    let free : CallsForNothing k.core = subst (λ (x : Kept). CallsForNothing x.core) c.self.view_is (c.holds_none.ensures c.if-holds_none.true) in
+    checks_all k k 62 false refl (checks_few k 61 (omega arith) few free)
