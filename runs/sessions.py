@@ -1,14 +1,18 @@
-"""A script of `replay`, played by a session with one caller and a listener of each kind.
+"""A script of `replay`, played by a session with one caller and a listener of each kind, and by an endpoint.
 
-It is played octet by octet, and the session turns after each as long as it moves, on lines whose calls give and take one octet,
+By a session it is played octet by octet, and the session turns after each as long as it moves, on lines whose calls give and take one octet,
 seven, or as much as there is. It has to send the octets that the replay sends, and to tell the same outcomes; of each kind the same
 lines are heard. Passed over are scripts in which the line is lost, since the line of a session fails of its own accord, and those
 with more than 16 requests untold at once, since a caller may have no more.
+
+By an endpoint it is played octet by octet, and after each all is taken that goes out, by one octet, by sevens and as it comes. It has
+to give the octets that the replay sends, and to tell and to announce the same, in the same order.
 """
 import subprocess
 
 KINDS = "RING CRING CREG CGREG CGEV CIEV OTHER".split()
 CUTS = ["1x8192", "7x8192", "16384"]
+PIECES = [1, 7, 4096]
 MOST = 16
 
 # Turns as long as it moves; twice, since no more than eight outcomes wait for a caller.
@@ -19,7 +23,7 @@ class Replayed:
     """What a replay's output says."""
 
     def __init__(self, output):
-        self.sent, self.told, self.heard = "", [], {kind: [] for kind in KINDS}
+        self.sent, self.told, self.lines, self.heard = "", [], [], {kind: [] for kind in KINDS}
         self.untold = self.most_untold = 0
         for line in output.splitlines():
             word, _, rest = line.partition(" ")
@@ -29,6 +33,7 @@ class Replayed:
                 self.told.append(line)
                 self.untold -= word == "told"
             elif word == "heard":
+                self.lines.append(line)
                 self.heard[rest.split(" ")[0]].append(line)
             elif word == "took":
                 self.untold += 1
@@ -76,11 +81,31 @@ def fault(player, script, replayed, cut):
     return None
 
 
+def driven(script, piece):
+    """The same for an endpoint."""
+    lines = [*(f"listen {kind}" for kind in KINDS), "endpoint"]
+    for event in events(script):
+        lines += [event, f"out {piece}", "outcomes"]
+    return "".join(f"{line}\n" for line in [*lines, "sent", "lines"]).encode()
+
+
+def endpoint_fault(player, script, replayed, piece):
+    """What an endpoint does otherwise, or None."""
+    lines = output_of([player], driven(script, piece)).splitlines()
+    wanted = [*replayed.told, replayed.sent or "-", *replayed.lines]
+    came = [it for it in lines if it != "the line was lost before"]
+    return None if came == wanted else f"came {came}"
+
+
 def faults(replay, player, scripts):
     """How many scripts were played, and what came otherwise."""
     count, others = 0, []
     for place, script in scripts:
         replayed = Replayed(output_of([replay, "replay"], script))
+        for piece in PIECES:
+            said = endpoint_fault(player, script, replayed, piece)
+            if said:
+                others.append(f"{place}: by an endpoint, in pieces of {piece}: {said}")
         if b"lost\n" in script or replayed.most_untold > MOST:
             continue
         count += 1

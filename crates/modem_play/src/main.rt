@@ -1,12 +1,13 @@
-//! Plays scripts for tests, line by line, and prints what comes of each: a session on a line in memory, a simulated modem at its
+//! Plays scripts for tests, line by line, and prints what comes of each: a session on a line in memory, an endpoint, a simulated modem at its
 //! end of one, both on one line in one thread, a modem's answers, typed commands and their replies, lines of text, how frames are
 //! spelled, or the entry into the multiplexer.
 //!
-//! The first lines say what the line and its ends are (see `Setup`), and end with one that says what is played: `session`, `sim`,
+//! The first lines say what the line and its ends are (see `Setup`), and end with one that says what is played: `session`, `endpoint`, `sim`,
 //! `pair`, `modem`, `typed`, `texts`, `frames` or `enter CALLS`. A line that isn't read as one of these ends it with `bad line N`
 //! and status 2.
 #![tactic(auto)]
 
+mod endpoints;
 mod frames;
 mod modems;
 mod near;
@@ -33,6 +34,7 @@ fn play_entry<R: Host>(lines: &mut Lines<R>, setup: &Setup, what: &str) -> Resul
 fn play<R: Host>(lines: &mut Lines<R>, setup: &mut Setup, what: &str) -> Result<(), Stop> {
     match what {
         "session" => sessions::play(lines, setup),
+        "endpoint" => endpoints::play(lines, setup),
         "sim" => sims::play(lines, setup),
         "pair" => pairs::play(lines, setup),
         "modem" => modems::play(lines, setup),
