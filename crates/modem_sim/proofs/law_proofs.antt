@@ -5,3 +5,4 @@ pub mod StateRuns
 pub mod KeptSettings
 pub mod PinRuns
 pub mod NetworkRuns
+pub mod WordedModems

@@ -2,6 +2,7 @@
 pub mod Contexts
 pub mod AnswerLines
 pub mod ReadCommands
+pub mod StandardModems
 pub mod LineSteps
 pub mod DecimalNumbers
 pub mod ReachedStates

@@ -1,5 +1,6 @@
 -- Worked rows, computed.
 pub mod AnswerRowFacts
+pub mod WordRowFacts
 pub mod HistoryRowFacts
 pub mod RefusedRowFacts
 pub mod TurnRowFacts

@@ -1,6 +1,7 @@
 -- Turns of a simulated modem at its line.
 pub mod WrittenFrames
 pub mod SimPasts
+pub mod ShownStates
 pub mod TurnParts
 pub mod WholeTurns
 pub mod TurnHistories

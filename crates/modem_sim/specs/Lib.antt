@@ -1,5 +1,7 @@
 pub mod Contexts
 pub mod Reading
+pub mod CommandLines
+pub mod Words
 pub mod Steps
 pub mod Meanings
 pub mod Laws
@@ -21,4 +23,6 @@ pub mod Turns
 pub mod Stills
 pub mod Polls
 pub mod TurnRows
+pub mod WordRows
+pub mod WordLaws
 pub mod Numbers

@@ -8,9 +8,12 @@ use Rattle.modem_sim.specs.declared.error.SimError.TheVariants.{Line}
 use Rattle.modem_sim.specs.declared.sim.SimTurn.{SimTurn}
 use Rattle.modem_sim.specs.declared.state.ModemState.{ModemState}
 use Rattle.mux_station.specs.declared.role.Role.TheVariants.{Responder}
+use Rattle.mux_station.specs.declared.role.ChannelState.{ChannelState}
+use Rattle.mux_station.specs.Stages.{as_shown}
+use Rattle.mux_station.specs.States.{state_of}
 use Rattle.mux_station.specs.Stations as stations
 use Rattle.mux_station.specs.Fitting as fitting
-use Rattle.modem_sim.specs.Acts.{Act, End}
+use Rattle.modem_sim.specs.Acts.{Act, End, wire}
 use Rattle.modem_sim.specs.Boxes.{Box, fresh_box}
 use Rattle.modem_sim.specs.Doing.{is_closed_down}
 use Rattle.modem_sim.specs.Histories.{SimLawful, SimComplete, FitsOctets, FitsModem, sent}
@@ -158,6 +161,10 @@ pub record Simulates (e : End) (came went : List ℕ) (k : Kept) (past : List Ac
   pub came_is : came ≡ taken ++ k.unfed
   pub octets : FitsOctets e.n1 taken went past
   pub modem_is : FitsModem e past k.core.modem
+
+-- how a connection stands to a caller of a simulated modem, after its past
+abbrev pub state_shown : ℕ → List Act → ChannelState
+state_shown d past = as_shown (state_of Responder d (wire past))
 
 -- it has closed down, and all frames sent are written
 pub record IsOver (went : List ℕ) (past : List Act) : Type 0 where

@@ -1,6 +1,6 @@
 -- The modem: what it answers to a command line, and its state afterwards
 -- (V.250, 5.2 and 5.7; 27.007, 7.2, 7.3, 8.3, 8.5, 9.1, 9.2, 10.1.1, 10.1.9).
-use Rattle.std.specs.Prelude.{ℕ, ◌-◌, ◌==◌, nat_lt, Bool, true, false, List, [], ◌∷◌, ◌++◌, map, Option, Some, None, unwrap_or, if◌then◌else◌, codes}
+use Rattle.std.specs.Prelude.{ℕ, ◌-◌, ◌==◌, nat_lt, Bool, true, false, List, [], ◌∷◌, ◌++◌, map, fold, Option, Some, None, unwrap_or, if◌then◌else◌, codes}
 use Rattle.std.specs.Fmt.{decimal}
 use Rattle.std.specs.Str.{bytes_eq}
 use Rattle.at_text.specs.declared.answer.AnswerLine.{AnswerLine}
@@ -17,8 +17,15 @@ use Rattle.modem_sim.specs.declared.modem.ModemStart.{ModemStart}
 use Rattle.modem_sim.specs.declared.state.Lock.{Lock}
 use Rattle.modem_sim.specs.declared.state.Lock.TheVariants.{Ready, NeedPin, NeedPuk}
 use Rattle.modem_sim.specs.declared.state.ModemState.{ModemState}
+use Rattle.modem_sim.specs.declared.state.Words.{Words}
+use Rattle.modem_sim.specs.declared.words.Domain.{Domain}
+use Rattle.modem_sim.specs.declared.words.Domain.TheVariants.{Packet, Evolved}
+use Rattle.modem_sim.specs.declared.words.Word.{Word}
+use Rattle.modem_sim.specs.declared.words.Word.TheVariants.{Reset, Echo, Identity, Manufacturer, Product, Revision, Serial, Subscriber, Capabilities, Functionality, FunctionalityQuery, FunctionalityForms, RegForms, Report, ReportQuery, ReportForms, OperFormat}
+use Rattle.modem_sim.specs.CommandLines.{commands_in}
 use Rattle.modem_sim.specs.Contexts.{with_context}
 use Rattle.modem_sim.specs.Reading.{is_attention, command_of}
+use Rattle.modem_sim.specs.Words.{word_of}
 
 -- a SIM with a PIN wants it, and takes three tries
 abbrev pub locked_by : Option (List ℕ) → Lock
@@ -36,7 +43,23 @@ started start = record {
   attached = false;
   rssi = start.rssi;
   ber = start.ber;
+  words = None;
 }
+
+-- what a modem with words starts with: the functions are all on, reports off, the operator is told by its number
+abbrev pub first_words : Bool → Words
+first_words echo = record {
+  echo = echo;
+  first_echo = echo;
+  functionality = 1;
+  packet_reports = 0;
+  evolved_reports = 0;
+  oper_format = 2;
+}
+
+-- a modem with words as it starts: as one without, and its commands are repeated or not
+abbrev pub started_with_words : ModemStart → Bool → ModemState
+started_with_words start echo = record (started start) { words = Some (first_words echo) }
 
 -- what commands that need the SIM are refused with before it is ready (27.007, 9.2.1): 11 SIM PIN required,
 -- 12 SIM PUK required
@@ -189,8 +212,215 @@ abbrev pub step_by : ModemState → Option Command → Step
 step_by s None = record { state = s; answer = line_of (codes "ERROR") ∷ [] }
 step_by s (Some c) = obeyed s c
 
--- what a line does
-abbrev pub step : ModemState → List ℕ → Step
-step s line =
+-- what a line does of which the first table is all
+abbrev pub standard_step : ModemState → List ℕ → Step
+standard_step s line =
     if is_attention line then record { state = s; answer = good_answer [] }
     else step_by s (command_of line)
+
+-- ## The second table (V.250, 6.1, 6.2; 27.007, 5, 7.2, 7.3, 8.2, 10.1.20, 10.1.22)
+
+-- the operator by its name (0), its short name (1) or its number (2) (27.007, 7.3)
+abbrev pub oper_name : ℕ → List ℕ → List ℕ
+oper_name format number =
+    if format == 0 then codes "Network " ++ number
+    else if format == 1 then codes "N" ++ number
+    else number
+
+abbrev pub named_oper_text : ℕ → OperChoice → List ℕ
+named_oper_text format Automatic =
+    codes "+COPS: 0," ++ decimal format ++ codes "," ++ in_quotes (oper_name format (codes "00101")) ++ codes ",7"
+named_oper_text format (Manual oper) =
+    codes "+COPS: 1," ++ decimal format ++ codes "," ++ in_quotes (oper_name format oper) ++ codes ",7"
+named_oper_text format Deregister = codes "+COPS: 2"
+
+-- what a command of the first table is told before OK: with words the operator in the form that was asked for
+abbrev pub told_as : Option Words → ModemState → Command → List (List ℕ)
+told_as (Some w) s OperQuery = named_oper_text w.oper_format s.oper ∷ []
+told_as words s c = told_texts s c
+
+-- the status of a registration, with the cell where reports have it (27.007, 7.2)
+abbrev pub status_text : ℕ → Bool → List ℕ
+status_text n false = codes "0"
+status_text n true = codes "1" ++ cell_text n
+
+abbrev pub domain_name : Domain → List ℕ
+domain_name Packet = codes "+CGREG: "
+domain_name Evolved = codes "+CEREG: "
+
+-- how changes of a registration are reported, and its status
+abbrev pub registration_text : Domain → ℕ → Bool → List ℕ
+registration_text d n registered = domain_name d ++ decimal n ++ codes "," ++ status_text n registered
+
+-- how changes of a registration are reported
+abbrev pub reports_of : Words → Domain → ℕ
+reports_of w Packet = w.packet_reports
+reports_of w Evolved = w.evolved_reports
+
+abbrev pub with_reports : Words → Domain → ℕ → Words
+with_reports w Packet n = record w { packet_reports = n }
+with_reports w Evolved n = record w { evolved_reports = n }
+
+-- the number of the error that a command of the second table is refused with: the number of the subscriber is in the SIM
+abbrev pub word_refusal : ModemState → Word → Option ℕ
+word_refusal s Subscriber = lock_error s.lock
+word_refusal s _ = None
+
+-- what it is told before OK
+abbrev pub word_told : Words → ModemState → Word → List (List ℕ)
+word_told w s Identity = codes "Cimbaloty simulated modem" ∷ []
+word_told w s Manufacturer = codes "Cimbaloty" ∷ []
+word_told w s Product = codes "Simulated modem" ∷ []
+word_told w s Revision = codes "1" ∷ []
+word_told w s Serial = codes "490154203237518" ∷ []
+word_told w s Subscriber = codes "001010123456789" ∷ []
+word_told w s Capabilities = codes "+GCAP: +CGSM" ∷ []
+word_told w s FunctionalityQuery = (codes "+CFUN: " ++ decimal w.functionality) ∷ []
+word_told w s FunctionalityForms = codes "+CFUN: (0,1,4),(0)" ∷ []
+word_told w s RegForms = codes "+CREG: (0-2)" ∷ []
+word_told w s (ReportForms d) = (domain_name d ++ codes "(0-2)") ∷ []
+word_told w s (ReportQuery d) =
+    registration_text d (reports_of w d) (is_registered s.lock s.oper) ∷ []
+word_told w s _ = []
+
+-- functions are switched: 1 all, where the modem looks for a network if it has none; 0 and 4 without radio, where it leaves its
+-- network (27.007, 8.2); what is set already changes nothing
+abbrev pub switched : ℕ → Words → ModemState → ModemState
+switched n w s =
+    if w.functionality == n then s
+    else if n == 1 then record s { oper = Automatic; words = Some (record w { functionality = n }) }
+    else record s { oper = Deregister; attached = false; words = Some (record w { functionality = n }) }
+
+-- the state after it
+abbrev pub word_after : Words → ModemState → Word → ModemState
+word_after w s Reset = record s {
+  reports = 0;
+  errors = 0;
+  words = Some (record w { echo = w.first_echo; packet_reports = 0; evolved_reports = 0; oper_format = 2 });
+}
+word_after w s (Echo on) = record s { words = Some (record w { echo = on }) }
+word_after w s (Functionality n) = switched n w s
+word_after w s (Report d n) = record s { words = Some (with_reports w d n) }
+word_after w s (OperFormat n) = record s { words = Some (record w { oper_format = n }) }
+word_after w s _ = s
+
+-- what commands of one line came to: the state, the lines that were told, and the error that ended them, if one did
+pub record Ran : Type 0 where
+  pub state : ModemState
+  pub told : List AnswerLine
+  pub error : Option (List ℕ)
+
+abbrev pub nothing_ran : ModemState → Ran
+nothing_ran s = record { state = s; told = []; error = None }
+
+abbrev pub ran_command : Option ℕ → Ran → Command → Ran
+ran_command None r c = record {
+  state = after_command r.state c;
+  told = r.told ++ map line_of (told_as r.state.words r.state c);
+  error = None;
+}
+ran_command (Some number) r c = record {
+  state = after_refusal r.state c;
+  told = r.told;
+  error = Some (error_text r.state.errors number);
+}
+
+abbrev pub ran_word : Option ℕ → Words → Ran → Word → Ran
+ran_word None w r x = record {
+  state = word_after w r.state x;
+  told = r.told ++ map line_of (word_told w r.state x);
+  error = None;
+}
+ran_word (Some number) w r x = record r { error = Some (error_text r.state.errors number) }
+
+-- a command of neither table
+abbrev pub ran_unknown : Ran → Ran
+ran_unknown r = record r { error = Some (codes "ERROR") }
+
+abbrev pub ran_other : Option Words → Ran → Option Word → Ran
+ran_other (Some w) r (Some x) = ran_word (word_refusal r.state x) w r x
+ran_other words r word = ran_unknown r
+
+-- a command by its text: of the first table, of the second, or of neither
+abbrev pub ran_text : Option Command → Ran → List ℕ → Ran
+ran_text (Some c) r text = ran_command (refusal_of r.state c) r c
+ran_text None r text = ran_other r.state.words r (word_of text)
+
+-- after an error the rest of a line isn't done (V.250, 5.7.2)
+abbrev pub ran_unless : Option (List ℕ) → Ran → List ℕ → Ran
+ran_unless (Some error) r text = r
+ran_unless None r text = ran_text (command_of text) r text
+
+abbrev pub ran_next : Ran → List ℕ → Ran
+ran_next r text = ran_unless r.error r text
+
+-- the commands of a line: one of the first table is that command
+abbrev pub divided_by : Option Command → List ℕ → Option (List (List ℕ))
+divided_by (Some c) line = Some (line ∷ [])
+divided_by None line = commands_in line
+
+unfoldable pub line_commands : List ℕ → Option (List (List ℕ))
+line_commands line = divided_by (command_of line) line
+
+abbrev pub final_text : Option (List ℕ) → List ℕ
+final_text None = codes "OK"
+final_text (Some error) = error
+
+-- a report of a registration, where they are on
+abbrev pub report_texts : List ℕ → ℕ → Bool → List (List ℕ)
+report_texts name n registered = if n == 0 then [] else (name ++ status_text n registered) ∷ []
+
+abbrev pub domain_reports : Option Words → Bool → List (List ℕ)
+domain_reports None registered = []
+domain_reports (Some w) registered =
+    report_texts (codes "+CGREG: ") w.packet_reports registered
+    ++ report_texts (codes "+CEREG: ") w.evolved_reports registered
+
+abbrev pub all_reports : ModemState → Bool → List (List ℕ)
+all_reports s registered =
+    report_texts (codes "+CREG: ") s.reports registered ++ domain_reports s.words registered
+
+abbrev pub announced_as : Bool → Bool → ModemState → List (List ℕ)
+announced_as true true s = []
+announced_as false false s = []
+announced_as true false s = all_reports s false
+announced_as false true s = all_reports s true
+
+-- the lines by which a change of registration is announced: behind the answer to the line that made it (27.007, 7.2, 10.1.20, 10.1.22)
+abbrev pub announced : ModemState → ModemState → List (List ℕ)
+announced before s = announced_as (is_registered before.lock before.oper) (is_registered s.lock s.oper) s
+
+-- the answer to a line whose commands came to this
+abbrev pub worded_answer : ModemState → Ran → List AnswerLine
+worded_answer s r = r.told ++ line_of (final_text r.error) ∷ map line_of (announced s r.state)
+
+-- a line without AT isn't for the modem, and isn't answered
+abbrev pub worded_by : ModemState → Option (List (List ℕ)) → Step
+worded_by s None = record { state = s; answer = [] }
+worded_by s (Some commands) = record {
+  state = (fold ran_next (nothing_ran s) commands).state;
+  answer = worded_answer s (fold ran_next (nothing_ran s) commands);
+}
+
+-- what a line does to a modem with words
+abbrev pub worded_step : ModemState → List ℕ → Step
+worded_step s line = worded_by s (line_commands line)
+
+-- ## Both
+
+abbrev pub step_as : Option Words → ModemState → List ℕ → Step
+step_as None s line = standard_step s line
+step_as (Some w) s line = worded_step s line
+
+-- what a line does
+abbrev pub step : ModemState → List ℕ → Step
+step s line = step_as s.words s line
+
+abbrev pub echoes_as : Option Words → Bool
+echoes_as None = false
+echoes_as (Some w) = w.echo
+
+-- whether a modem repeats commands: where it is to always, and where a modem with words was told to
+abbrev pub echoes : Bool → ModemState → Bool
+echoes true s = true
+echoes false s = echoes_as s.words

@@ -18,6 +18,20 @@ pub(crate) fn answer_of(alloc: Global, text: &[u8]) -> Result<Vec<AnswerLine>, A
     Ok(answer)
 }
 
+/// The text of an error.
+pub(crate) fn error_text(alloc: Global, mode: u8, number: u32) -> Result<Vec<u8>, AllocError>
+    ensures { IfOk result (λ text. text.items ≡ error_text mode number) }
+{
+    match mode {
+        0 => Vec::from_slice(alloc, b"ERROR"),
+        1 => Ok(format!(in alloc; "+CME ERROR: {number}")?.into_bytes()),
+        _ => {
+            let words = cme_text(number).unwrap_or("");
+            Ok(format!(in alloc; "+CME ERROR: {words}")?.into_bytes())
+        }
+    }
+}
+
 /// The answer to a command that is refused with this error.
 pub(crate) fn error_answer(
     alloc: Global,
@@ -26,14 +40,9 @@ pub(crate) fn error_answer(
 ) -> Result<Vec<AnswerLine>, AllocError>
     ensures { IfOk result (λ answer. answer.items ≡ line_of (error_text mode number) ∷ []) }
 {
-    match mode {
-        0 => answer_of(alloc, b"ERROR"),
-        1 => answer_of(alloc, format!(in alloc; "+CME ERROR: {number}")?.as_bytes()),
-        _ => {
-            let words = cme_text(number).unwrap_or("");
-            answer_of(alloc, format!(in alloc; "+CME ERROR: {words}")?.as_bytes())
-        }
-    }
+    let mut answer = Vec::new(alloc);
+    push_line(&mut answer, error_text(alloc, mode, number)?)?;
+    Ok(answer)
 }
 
 /// The answer to a command that is carried out.
@@ -45,29 +54,43 @@ pub(crate) fn told(
     ensures { IfOk result (λ answer. answer.items ≡ good_answer (told_texts state.now command.now)) }
 {
     let mut answer = Vec::new(alloc);
+    push_told(alloc, state, command, &mut answer)?;
+    push_line(&mut answer, Vec::from_slice(alloc, b"OK")?)?;
+    Ok(answer)
+}
+
+/// Writes what a command that is carried out is told before OK behind other lines.
+pub(crate) fn push_told(
+    alloc: Global,
+    state: &ModemState,
+    command: &Command,
+    answer: &mut Vec<AnswerLine>,
+) -> Result<(), AllocError>
+    ensures { OnOk result
+        (answer.new.items ≡ answer.old.items ++ map line_of (told_texts state.now command.now)) }
+{
     match command {
-        Command::PinQuery => push_line(&mut answer, pin_line(alloc, &state.lock)?)?,
+        Command::PinQuery => push_line(answer, pin_line(alloc, &state.lock)?),
         Command::RegQuery => push_line(
-            &mut answer,
+            answer,
             reg_line(alloc, state.reports, state.is_registered())?,
-        )?,
-        Command::Signal => push_line(&mut answer, signal_line(alloc, state.rssi, state.ber)?)?,
-        Command::OperQuery => push_line(&mut answer, oper_line(alloc, &state.oper)?)?,
-        Command::ContextQuery => push_contexts(alloc, state.contexts.as_slice(), &mut answer)?,
-        Command::AttachQuery => push_line(&mut answer, attached_line(alloc, state.attached)?)?,
+        ),
+        Command::Signal => push_line(answer, signal_line(alloc, state.rssi, state.ber)?),
+        Command::OperQuery => push_line(answer, oper_line(alloc, &state.oper)?),
+        Command::ContextQuery => push_contexts(alloc, state.contexts.as_slice(), answer),
+        Command::AttachQuery => push_line(answer, attached_line(alloc, state.attached)?),
         Command::PinEnter(_)
         | Command::RegReport(_)
         | Command::OperChoose(_)
         | Command::ContextSet { .. }
         | Command::AttachSet(_)
         | Command::ErrorMode(_)
-        | Command::Multiplex => {}
+        | Command::Multiplex => Ok(()),
     }
-    push_line(&mut answer, Vec::from_slice(alloc, b"OK")?)?;
-    Ok(answer)
 }
 
-fn push_line(answer: &mut Vec<AnswerLine>, text: Vec<u8>) -> Result<(), AllocError>
+/// Writes a line behind others.
+pub(crate) fn push_line(answer: &mut Vec<AnswerLine>, text: Vec<u8>) -> Result<(), AllocError>
     ensures { OnOk result (answer.new.items ≡ answer.old.items ++ line_of text.items ∷ []) }
 {
     answer.push(AnswerLine {
@@ -156,7 +179,8 @@ fn context_line(alloc: Global, context: &PdpContext) -> Result<Vec<u8>, AllocErr
     Ok(text)
 }
 
-fn push_quoted(text: &mut Vec<u8>, inner: &[u8]) -> Result<(), AllocError>
+/// Writes a text between quotes behind other octets.
+pub(crate) fn push_quoted(text: &mut Vec<u8>, inner: &[u8]) -> Result<(), AllocError>
     ensures { OnOk result (text.new.items ≡ text.old.items ++ in_quotes inner.now) }
 {
     text.push(b'"')?;

@@ -8,6 +8,8 @@ ghost use Rattle.modem_sim.specs.Laws.{IsStart, AnswersWellAlways, SetsOne, AreI
 ghost use Rattle.modem_sim.specs.SettingLaws.{KeepsAttached, KeepsContext, KeepsErrors, KeepsOper, KeepsReports};
 ghost use Rattle.modem_sim.specs.PinLaws.{FollowsNetworkAlways, IsReadyAlways, KeepsPin};
 ghost use Rattle.modem_sim.specs.Rows.{PinEntered, ThreeWrongPins, ErrorInWords, NetworkLeft};
+ghost use Rattle.modem_sim.specs.WordLaws.{AnswersAsStandard};
+ghost use Rattle.modem_sim.specs.WordRows.{BareLines, ChangeAnnounced, ClientBegins, DividedLine, EchoOff, OperatorNamed, PinAnnounced, QuotedLine};
 ghost use Rattle.modem_sim.specs.Acts.{Act, End};
 ghost use Rattle.modem_sim.specs.Histories.{SimLawful, LeavesInPieces, SaysReplies, DoesInOrder};
 ghost use Rattle.modem_sim.specs.Replied.{AnswersInLines, SendsReplies};
@@ -63,6 +65,27 @@ pub fn worked_examples()
     ensures three_wrong_pins { ThreeWrongPins }
     ensures error_in_words { ErrorInWords }
     ensures network_left { NetworkLeft }
+{}
+
+/// On a line that is a command of the first table a modem with words answers as one without them, while it tells the operator by its
+/// number, and announces a change of registration behind that.
+#[tactic(auto, using(crate::proofs::law_proofs::WordedModems::answers_as_standard))]
+pub fn words()
+    ensures { AnswersAsStandard }
+{}
+
+/// Worked examples of a modem with words: how lines are divided into commands, what clients send as they begin, changes that are
+/// announced, the operator in other forms, and commands repeated.
+#[tactic(auto, using(crate::proofs::rows::WordRowFacts::divided_line, crate::proofs::rows::WordRowFacts::quoted_line, crate::proofs::rows::WordRowFacts::bare_lines, crate::proofs::rows::WordRowFacts::client_begins, crate::proofs::rows::WordRowFacts::change_announced, crate::proofs::rows::WordRowFacts::pin_announced, crate::proofs::rows::WordRowFacts::operator_named, crate::proofs::rows::WordRowFacts::echo_off))]
+pub fn worked_words()
+    ensures divided { DividedLine }
+    ensures quoted { QuotedLine }
+    ensures bare { BareLines }
+    ensures begins { ClientBegins }
+    ensures announced { ChangeAnnounced }
+    ensures pin { PinAnnounced }
+    ensures oper { OperatorNamed }
+    ensures echo { EchoOff }
 {}
 
 /// What left a simulated modem on a connection since it opened is the beginning of what is said there, piece by piece.

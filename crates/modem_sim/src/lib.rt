@@ -3,6 +3,7 @@
 
 mod answers;
 mod channel;
+mod command_lines;
 mod contexts;
 mod doing;
 mod error;
@@ -17,8 +18,12 @@ mod script;
 mod sim;
 mod sim_core;
 mod state;
+mod wording;
+mod words;
 
+pub use command_lines::commands_in;
 pub use error::SimError;
 pub use modem::{Modem, ModemStart};
+pub use replying::reply;
 pub use script::{Script, Step, StepAct, Steps};
 pub use sim::{Sim, SimRefused, SimTurn};

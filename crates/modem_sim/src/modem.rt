@@ -4,7 +4,8 @@ ghost use Rattle.std.specs.Prelude.{◌≡◌, IfOk, OnOk, OnErr, IsErrOf};
 use crate::answers::{answer_of, error_answer, told};
 use crate::contexts::PdpContexts;
 use crate::error::SimError;
-use crate::state::{Lock, ModemState};
+use crate::state::{Lock, ModemState, Words};
+use crate::wording::worded;
 use at_cmds::{Command, OperChoice, Pin};
 use at_text::AnswerLine;
 use std::alloc::{AllocError, Global};
@@ -55,7 +56,7 @@ impl Model for Modem {
 }
 
 impl Modem {
-    ghost use Rattle.modem_sim.specs.Steps.{started, step, obeyed};
+    ghost use Rattle.modem_sim.specs.Steps.{echoes, obeyed, standard_step, started, started_with_words, step};
 
     /// A modem that was just started. It takes no memory.
     pub fn new(alloc: Global, start: ModemStart) -> Modem
@@ -75,8 +76,41 @@ impl Modem {
             attached: false,
             rssi,
             ber,
+            words: None,
         };
         Modem { alloc, state }
+    }
+
+    /// A modem with words that was just started: beside the commands of a modem it takes those that clients send as they begin,
+    /// several in a line, with blanks and behind whatever stands before `AT` (V.250, 5.2.1), and it announces changes of
+    /// registration where reports are on (27.007, 7.2). `echo` says whether its commands are repeated until an `ATE` says otherwise.
+    /// It takes no memory.
+    pub fn with_words(alloc: Global, start: ModemStart, echo: bool) -> Modem
+        ensures { result ≡ started_with_words start echo }
+    {
+        let mut modem = Modem::new(alloc, start);
+        modem.state.words = Some(Words {
+            echo,
+            first_echo: echo,
+            functionality: 1,
+            packet_reports: 0,
+            evolved_reports: 0,
+            oper_format: 2,
+        });
+        modem
+    }
+
+    /// Whether it repeats a command: where it is to always, and where a modem with words was told to (V.250, 6.2.4).
+    pub fn echoes(&self, always: bool) -> bool
+        ensures { result ≡ echoes always self.now }
+    {
+        if always {
+            return true;
+        }
+        match self.state.words {
+            Some(words) => words.echo,
+            None => false,
+        }
     }
 
     /// The same modem once more.
@@ -90,11 +124,30 @@ impl Modem {
         })
     }
 
-    /// Does what a command line says, without its CR, and answers it: lines, the last one a final code. At
-    /// 1 NoMemory the modem is as it was.
+    /// Does what a command line says, without its CR, and answers it: lines, the last one a final code; a modem with words
+    /// announces a change of registration behind that, and doesn't answer a line without `AT`. At 1 NoMemory the modem is as it
+    /// was.
+    #[tactic(auto, using(crate::proofs::modem_steps::StandardModems::step_standard, crate::proofs::modem_steps::StandardModems::step_worded))]
     pub fn execute(&mut self, line: &[u8]) -> Result<Vec<AnswerLine>, SimError>
         ensures answer { IfOk result (λ answer. answer.items ≡ (step self.old line.now).answer) }
         ensures state { OnOk result (self.new ≡ (step self.old line.now).state) }
+        ensures err { OnErr result (self.new ≡ self.old) }
+        ensures no_memory { OnErr result (IsErrOf result SimError.NoMemory) }
+    {
+        match self.state.words {
+            Some(_) => {
+                let (state, answer) = worded(self.alloc, &self.state, line)?;
+                self.state = state;
+                Ok(answer)
+            }
+            None => self.execute_standard(line),
+        }
+    }
+
+    /// The same for a modem without words.
+    fn execute_standard(&mut self, line: &[u8]) -> Result<Vec<AnswerLine>, SimError>
+        ensures answer { IfOk result (λ answer. answer.items ≡ (standard_step self.old line.now).answer) }
+        ensures state { OnOk result (self.new ≡ (standard_step self.old line.now).state) }
         ensures err { OnErr result (self.new ≡ self.old) }
         ensures no_memory { OnErr result (IsErrOf result SimError.NoMemory) }
     {

@@ -40,14 +40,16 @@ fn push_answer(answer: &[AnswerLine], out: &mut Vec<u8>) -> Result<(), AllocErro
     Ok(())
 }
 
-/// Does what a command line says, and writes the reply behind other octets. After an error nothing is said of either.
-fn reply(modem: &mut Modem, echo: bool, line: &[u8], out: &mut Vec<u8>) -> Result<(), SimError>
+/// Does what a command line says, without its CR, and writes the reply behind other octets: the line repeated, where `echo` says so or
+/// a modem with words was told to, and the answer (V.250, 5.2.3, 5.7.1). After an error, which is 1 NoMemory, nothing is said of
+/// either: they are to be copies where one goes on.
+pub fn reply(modem: &mut Modem, echo: bool, line: &[u8], out: &mut Vec<u8>) -> Result<(), SimError>
     ensures reply { OnOk result
         (out.new.items ≡ out.old.items ++ pieces_octets (reply echo modem.old line.now)) }
     ensures state { OnOk result (modem.new ≡ (step modem.old line.now).state) }
     ensures no_memory { OnErr result (IsErrOf result SimError.NoMemory) }
 {
-    push_echo(echo, line, out)?;
+    push_echo(modem.echoes(echo), line, out)?;
     let answer = modem.execute(line)?;
     push_answer(&answer, out)?;
     Ok(())

@@ -9,6 +9,8 @@ use crate::error::SimError;
 use crate::kept::{Kept, Room};
 use crate::modem::Modem;
 use crate::script::Script;
+use mux_frame::Dlci;
+use mux_station::ChannelState;
 use serial_line::SerialLine;
 use std::alloc::Global;
 use std::marker::Model;
@@ -51,6 +53,9 @@ impl<L: SerialLine> Model for Sim<L> {
 
 impl<L: SerialLine> Sim<L> {
     ghost use Rattle.modem_sim.specs.contracts.sim.Sim.{the_row};
+    ghost use Rattle.std.specs.Prelude.{List};
+    ghost use Rattle.modem_sim.specs.Acts.{Act, End};
+    ghost use Rattle.modem_sim.specs.Sims.{LineAt, state_shown};
 
     /// A simulated modem to which nothing has happened yet, whatever its line did before. N1 is how many octets of information a
     /// frame may have. Refusals, which hand everything back: 2 BadN1 where N1 isn't 31 to 32767, checked first; 1 NoMemory.
@@ -125,6 +130,16 @@ impl<L: SerialLine> Sim<L> {
             return Ok(SimTurn::Moved);
         }
         Ok(SimTurn::Idle)
+    }
+
+    /// How a connection stands at its end. Connection 0 is Shut before the multiplexer is opened and again once a DISC on 0 was
+    /// answered, which closes the multiplexer down as a CLD does (27.010, 5.4.6.3.3).
+    #[tactic(auto, using(crate::proofs::sims::ShownStates::shown_is))]
+    pub fn state(&self, dlci: Dlci) -> ChannelState
+        ensures { (at : LineAt) (e : End) (past : List Act) → FitsSim L.received L.sent at e self.now past
+            → result ≡ state_shown dlci.number past }
+    {
+        self.kept.core.station.state(dlci)
     }
 
     /// The line, lent. What it fitted before it fits afterwards, where what was done left the octets received and sent as they

@@ -2,6 +2,7 @@
 ghost use Rattle.std.specs.Prelude.{◌≡◌, true, IfOk, OnOk, OnErr};
 
 use crate::contexts::{PdpContext, PdpContexts};
+use crate::words::{Domain, Word};
 use at_cmds::{Command, OperChoice, Pin};
 use std::alloc::AllocError;
 
@@ -27,6 +28,21 @@ pub(crate) enum Lock {
     NeedPuk,
 }
 
+/// What a modem with words keeps beside the rest.
+#[derive(Clone, Copy, Debug, PartialEq, Eq)]
+pub(crate) struct Words {
+    /// Whether commands are repeated (V.250, 6.2.4), now and at the start.
+    pub(crate) echo: bool,
+    pub(crate) first_echo: bool,
+    /// 0 least, 1 full, 4 without radio (27.007, 8.2).
+    pub(crate) functionality: u8,
+    /// How changes of registration are reported, 0 to 2 (27.007, 10.1.20, 10.1.22).
+    pub(crate) packet_reports: u8,
+    pub(crate) evolved_reports: u8,
+    /// How the operator is named: 0 by its name, 1 by its short name, 2 by its number (27.007, 7.3).
+    pub(crate) oper_format: u8,
+}
+
 /// What a modem keeps.
 #[derive(Drop, Debug)]
 pub(crate) struct ModemState {
@@ -42,6 +58,8 @@ pub(crate) struct ModemState {
     /// Strength and errors of the signal (27.007, 8.5).
     pub(crate) rssi: u8,
     pub(crate) ber: u8,
+    /// What the second table needs, where there is one.
+    pub(crate) words: Option<Words>,
 }
 
 impl Lock {
@@ -114,6 +132,7 @@ impl ModemState {
             attached: self.attached,
             rssi: self.rssi,
             ber: self.ber,
+            words: self.words,
         })
     }
 
@@ -201,6 +220,94 @@ impl ModemState {
             self.attached = false;
         }
         self.oper = choice;
+    }
+}
+
+impl ModemState {
+    ghost use Rattle.modem_sim.specs.Steps.{switched, word_after, word_refusal};
+
+    /// The error that a command of the second table is refused with, where it is.
+    pub(crate) fn word_refusal(&self, word: Word) -> Option<u32>
+        ensures { result ≡ word_refusal self.now word }
+    {
+        match word {
+            Word::Subscriber => self.lock.error(),
+            _ => None,
+        }
+    }
+
+    /// Carries a command of the second table out.
+    pub(crate) fn carry_out_word(&mut self, words: Words, word: Word)
+        ensures { self.new ≡ word_after words self.old word }
+    {
+        match word {
+            Word::Reset => {
+                self.reports = 0;
+                self.errors = 0;
+                self.words = Some(Words {
+                    echo: words.first_echo,
+                    packet_reports: 0,
+                    evolved_reports: 0,
+                    oper_format: 2,
+                    ..words
+                });
+            }
+            Word::Echo(on) => self.words = Some(Words { echo: on, ..words }),
+            Word::Functionality(n) => self.switch(words, n),
+            Word::Report(domain, n) => self.words = Some(words.with_reports(domain, n)),
+            Word::OperFormat(n) => self.words = Some(Words {
+                oper_format: n,
+                ..words
+            }),
+            _ => {}
+        }
+    }
+
+    /// Switches functions.
+    fn switch(&mut self, words: Words, functionality: u8)
+        ensures { self.new ≡ switched functionality words self.old }
+    {
+        if words.functionality == functionality {
+            return;
+        }
+        self.words = Some(Words {
+            functionality,
+            ..words
+        });
+        if functionality == 1 {
+            self.choose(OperChoice::Automatic);
+        } else {
+            self.choose(OperChoice::Deregister);
+        }
+    }
+}
+
+impl Words {
+    ghost use Rattle.modem_sim.specs.Steps.{reports_of, with_reports};
+
+    /// How changes of a registration are reported.
+    pub(crate) fn reports_of(self, domain: Domain) -> u8
+        ensures { result ≡ reports_of self domain }
+    {
+        match domain {
+            Domain::Packet => self.packet_reports,
+            Domain::Evolved => self.evolved_reports,
+        }
+    }
+
+    fn with_reports(self, domain: Domain, reports: u8) -> Words
+        ensures { result ≡ with_reports self domain reports }
+    {
+        match domain {
+            Domain::Packet => Words {
+                packet_reports: reports,
+                ..self
+            },
+            Domain::Evolved => Words {
+                evolved_reports: reports,
+                ..self
+            },
+        }
     }
 }
 

@@ -4,7 +4,7 @@ use Rattle.std.specs.Ordering.{nat_cmp}
 use Rattle.std.specs.List.{AllByRecursion}
 use Rattle.std.specs.List.Sorted.{IsStrictlySortedBy}
 use Rattle.std.specs.declared.cmp.Ordering.TheVariants.{Less}
-use Rattle.std.proofs.Common.{arith}
+use Rattle.std.proofs.Common.{arith, subst, sym}
 use Rattle.std.proofs.lemmas.Bool.Decides.{nat_tests}
 use Rattle.std.proofs.lemmas.Map.Keys.{IsStrictlyIncreasing-from_sorted}
 use Rattle.at_cmds.specs.declared.command.Command.{Command}
@@ -15,8 +15,9 @@ use Rattle.modem_sim.specs.declared.modem.ModemStart.{ModemStart}
 use Rattle.modem_sim.specs.declared.state.ModemState.{ModemState}
 use Rattle.modem_sim.specs.Contexts.{with_context}
 use Rattle.modem_sim.specs.Reading.{is_attention, command_of}
-use Rattle.modem_sim.specs.Steps.{started, step, step_by, refusal_of, obeyed_unless, after_refusal, after_command}
+use Rattle.modem_sim.specs.Steps.{Step, standard_step, started, step, step_by, refusal_of, obeyed_unless, after_refusal, after_command}
 use Rattle.modem_sim.specs.Laws.{after_lines, reached, SetsOne, AreInOrder, context_of}
+use Rattle.modem_sim.proofs.modem_steps.StandardModems.{step_standard, step_words}
 
 -- a number is below those of these contexts
 abbrev IsBelowAll : ℕ → List PdpContext → Type 0
@@ -96,13 +97,16 @@ step_by_rising : (s : ModemState) (o : Option Command) → AreRising s.contexts 
 step_by_rising s None rising = rising
 step_by_rising s (Some c) rising = obeyed_rising (refusal_of s c) s c rising
 
-step_rising_at : (s : ModemState) (line : List ℕ) (at : Bool) → is_attention line ≡ at → AreRising s.contexts → AreRising (step s line).state.contexts
+step_rising_at : (s : ModemState) (line : List ℕ) (at : Bool) → is_attention line ≡ at → AreRising s.contexts → AreRising (standard_step s line).state.contexts
 step_rising_at s line true is rising = rw is rising
 step_rising_at s line false is rising = rw is (step_by_rising s (command_of line) rising)
 
-lines_rising : (s : ModemState) (lines : List (List ℕ)) → AreRising s.contexts → AreRising (after_lines s lines).contexts
-lines_rising s [] rising = rising
-lines_rising s (line ∷ lines) rising = lines_rising (step s line).state lines (step_rising_at s line (is_attention line) refl rising)
+step_rising : (s : ModemState) (line : List ℕ) → s.words ≡ None → AreRising s.contexts → AreRising (step s line).state.contexts
+step_rising s line none rising = subst (λ (t : Step). AreRising t.state.contexts) (sym (step_standard s line none)) (step_rising_at s line (is_attention line) refl rising)
+
+lines_rising : (s : ModemState) (lines : List (List ℕ)) → s.words ≡ None → AreRising s.contexts → AreRising (after_lines s lines).contexts
+lines_rising s [] none rising = rising
+lines_rising s (line ∷ lines) none rising = lines_rising (step s line).state lines (step_words s line none) (step_rising s line none rising)
 
 less : (m n : ℕ) → m < n → nat_cmp m n ≡ Less
 less m n is = grind (arith, nat_tests)
@@ -120,7 +124,7 @@ rising_sorted (c ∷ contexts) rising = (below_sorted c.cid contexts rising.0, r
 pub reached_in_order : (start : ModemStart) (lines : List (List ℕ)) → AreInOrder (reached start lines).contexts
 reached_in_order start lines =
     let contexts = (reached start lines).contexts in
-    IsStrictlyIncreasing-from_sorted (map (λ c. c.cid) contexts) (rising_sorted contexts (lines_rising (started start) lines tt))
+    IsStrictlyIncreasing-from_sorted (map (λ c. c.cid) contexts) (rising_sorted contexts (lines_rising (started start) lines refl tt))
 
 found_at : (new c : PdpContext) (contexts rest : List PdpContext) (n : ℕ) (below same here mine : Bool) → nat_lt c.cid new.cid ≡ below → (c.cid == new.cid) ≡ same → (c.cid == n) ≡ here → (new.cid == n) ≡ mine → context_of n rest ≡ (if mine then Some new else context_of n contexts) → context_of n (if below then c ∷ rest else if same then new ∷ contexts else new ∷ c ∷ contexts) ≡ (if mine then Some new else cond here (Some c) (context_of n contexts))
 found_at new c contexts rest n true same true true b s h m more = absurd (grind (arith, nat_tests))

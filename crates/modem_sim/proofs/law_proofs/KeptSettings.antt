@@ -23,6 +23,7 @@ use Rattle.modem_sim.specs.Laws.{IsStart, context_of}
 use Rattle.modem_sim.specs.SettingLaws.{KeepsAttached, KeepsContext, KeepsErrors, KeepsOper, KeepsReports, TellsContext, TellsOper, TellsReports, refused_as, sets_attached, sets_context, sets_errors, sets_oper, sets_reports}
 use Rattle.modem_sim.proofs.law_proofs.ContextOrder.{sets_one}
 use Rattle.modem_sim.proofs.law_proofs.StateRuns.{command_step, no_error, set_ready, set_so, set_tells, was_set}
+use Rattle.modem_sim.proofs.modem_steps.StandardModems.{no_words}
 
 carried_reports : (s : ModemState) (c : Command) → sets_reports c ≡ false → (after_command s c).reports ≡ s.reports
 carried_reports s PinQuery other = refl
@@ -79,7 +80,7 @@ pub keeps_errors : (start : ModemStart) → IsStart start → KeepsErrors start
 keeps_errors start is n s set line text =
     let w = was_set start (ErrorMode n) sets_errors s is set in
     let same = set_so start (ErrorMode n) sets_errors s (λ t. t.errors) w (λ t l. refl) carried_errors in
-    ap (λ t. map (λ (l : AnswerLine). l.text) t.answer) (command_step s line Multiplex text)
+    ap (λ t. map (λ (l : AnswerLine). l.text) t.answer) (command_step s line Multiplex (ap (λ (t : ModemState). t.words) w.is_reached ∙ no_words start w.all) text)
     ∙ ap (λ m. error_text m 3 ∷ []) same
     ∙ ap (λ xs. xs ∷ []) (error_as n (may_be n (is_mode n) refl set.is_text.written))
 

@@ -107,6 +107,6 @@ follows_network start is lines reg pin oper attached attach asks =
           ∙ sym (ap (λ r. is_ready r && is_on (meant s OperQuery)) (answered_is start lines PinQuery pin is asks.pin_is))
           ∙ sym (ap (λ r. is_ready (answered s PinQuery pin) && is_on r) (answered_is start lines OperQuery oper is asks.oper_is));
       attaches = λ there. answered_is start lines (AttachSet true) attach is asks.attach_is ∙ attaches_at s s.lock s.oper refl refl (sym home ∙ there);
-      attached = λ there. home ∙ by_lines IsAtHome (λ t c at. obeyed_at_home (refusal_of t c) t c refl at) (started start) lines (started_at_home start)
+      attached = λ there. home ∙ by_lines IsAtHome (λ t c at. obeyed_at_home (refusal_of t c) t c refl at) (started start) lines refl (started_at_home start)
           (told_attached (lock_error s.lock) s (sym (answered_is start lines AttachQuery attached is asks.attached_is) ∙ there));
     }

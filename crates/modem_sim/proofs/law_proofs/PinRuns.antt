@@ -18,6 +18,7 @@ use Rattle.modem_sim.specs.Meanings.{meant, meant_unless, oper_reply, told_conte
 use Rattle.modem_sim.specs.Laws.{IsStart, reached}
 use Rattle.modem_sim.specs.PinLaws.{ChangesNothingBefore, IsReadyAlways, KeepsPin, Locks, Opens, RefusesBefore, WantsPin, WrongTries, changes_network, no_line, no_try, tells_network, unlocked_start, wrong_try}
 use Rattle.modem_sim.proofs.law_proofs.StateRuns.{after_append, answered_is, by_line, by_lines, command_step, stays_ready, tells}
+use Rattle.modem_sim.proofs.modem_steps.StandardModems.{no_words, step_words}
 
 -- ## The lock
 
@@ -101,13 +102,13 @@ lock_is start pin _ _ has (wrong_try entered line lines n tries is other) =
     let before = lock_is start pin lines n has tries in
     let Refused : Lock → Type 0 = λ l. pin_error l entered ≢ None in
     ap (λ t. t.lock) (line_behind start lines line)
-    ∙ ap (λ t. t.state.lock) (command_step s line (PinEnter entered) is)
+    ∙ ap (λ t. t.state.lock) (command_step s line (PinEnter entered) (no_words start lines) is)
     ∙ refused_pin (pin_error s.lock entered) s entered (subst Refused (sym before) (refuses_pin pin entered n other))
     ∙ ap after_wrong_pin before ∙ one_wrong pin n
 lock_is start pin _ _ has (no_try line lines n tries other) =
     let s = reached start lines in
     ap (λ t. t.lock) (line_behind start lines line)
-    ∙ by_line (λ t. t.lock ≡ s.lock) s line refl (λ c is. same_lock (refusal_of s c) s c (λ entered same. let Text : Command → Type 0 = λ d. IsTextOf line d in other entered (subst Text same is)))
+    ∙ by_line (λ t. t.lock ≡ s.lock) s line (no_words start lines) refl (λ c is. same_lock (refusal_of s c) s c (λ entered same. let Text : Command → Type 0 = λ d. IsTextOf line d in other entered (subst Text same is)))
     ∙ lock_is start pin lines n has tries
 
 wants_at : (pin : List ℕ) (n : ℕ) → n < 3 → wanted_pin (lock_after pin n) ≡ state.SimPin
@@ -159,7 +160,7 @@ opens_state : (start : ModemStart) (pin : List ℕ) (lines : List (List ℕ)) (l
 opens_state start pin lines line n has tries few is =
     let s = reached start lines in
     let none = ap (λ l. pin_error l pin) (lock_is start pin lines n has tries) ∙ opened_by pin n few in
-    ap (λ t. t.state) (command_step s line (PinEnter pin) is) ∙ ap (λ o. (obeyed_unless o s (PinEnter pin)).state) none
+    ap (λ t. t.state) (command_step s line (PinEnter pin) (no_words start lines) is) ∙ ap (λ o. (obeyed_unless o s (PinEnter pin)).state) none
 
 wants : (start : ModemStart) (pin : List ℕ) → IsStart start → start.pin ≡ Some pin → WantsPin start pin
 wants start pin is has lines n tries few =
@@ -170,7 +171,7 @@ locks : (start : ModemStart) (pin : List ℕ) → IsStart start → start.pin �
 locks start pin is has lines later n tries many =
     let s = reached start lines in
     let locked = lock_is start pin lines n has tries ∙ locked_at pin n many in
-    let still = by_lines (λ t. t.lock ≡ NeedPuk) (λ t c lock. obeyed_locked (refusal_of t c) t c refl lock) s later locked in
+    let still = by_lines (λ t. t.lock ≡ NeedPuk) (λ t c lock. obeyed_locked (refusal_of t c) t c refl lock) s later (no_words start lines) locked in
     tells start (lines ++ later) PinQuery (λ r. r ≡ Ok (Pin state.SimPuk)) is
     (ap (λ t. Ok (Pin (wanted_pin t.lock))) (after_append (started start) lines later) ∙ ap (λ l. Ok (Pin (wanted_pin l))) still)
 
@@ -178,7 +179,7 @@ opens : (start : ModemStart) (pin : List ℕ) → IsStart start → start.pin �
 opens start pin is has lines later line n tries few text =
     let s = reached start lines in
     let opened = opens_state start pin lines line n has tries few text in
-    let still = stays_ready (step s line).state later (ap (λ t. t.lock) opened) in
+    let still = stays_ready (step s line).state later (step_words s line (no_words start lines)) (ap (λ t. t.lock) opened) in
     tells start (lines ++ line ∷ later) PinQuery (λ r. r ≡ Ok (Pin state.Ready)) is
     (ap (λ t. Ok (Pin (wanted_pin t.lock))) (after_append (started start) lines (line ∷ later)) ∙ ap (λ l. Ok (Pin (wanted_pin l))) still)
 
@@ -266,11 +267,11 @@ stays_fresh start pin _ _ has no_line = record { oper = refl; contexts = refl; a
 stays_fresh start pin _ _ has (wrong_try entered line lines n tries is other) =
     let s = reached start lines in
     subst IsFresh (sym (line_behind start lines line))
-    (by_line IsFresh s line (stays_fresh start pin lines n has tries) (λ c text. obeyed_fresh (refusal_of s c) s c refl (some_error start pin lines n has tries) (stays_fresh start pin lines n has tries)))
+    (by_line IsFresh s line (no_words start lines) (stays_fresh start pin lines n has tries) (λ c text. obeyed_fresh (refusal_of s c) s c refl (some_error start pin lines n has tries) (stays_fresh start pin lines n has tries)))
 stays_fresh start pin _ _ has (no_try line lines n tries other) =
     let s = reached start lines in
     subst IsFresh (sym (line_behind start lines line))
-    (by_line IsFresh s line (stays_fresh start pin lines n has tries) (λ c text. obeyed_fresh (refusal_of s c) s c refl (some_error start pin lines n has tries) (stays_fresh start pin lines n has tries)))
+    (by_line IsFresh s line (no_words start lines) (stays_fresh start pin lines n has tries) (λ c text. obeyed_fresh (refusal_of s c) s c refl (some_error start pin lines n has tries) (stays_fresh start pin lines n has tries)))
 
 same_told : (s t : ModemState) (c : Command) → tells_network c ≡ true → IsFresh s → IsFresh t → t.lock ≡ Ready → meant (record s { lock = Ready }) c ≡ meant t c
 same_told s t OperQuery is fresh other ready =
@@ -312,4 +313,4 @@ keeps_pin start pin is has = record {
 pub ready_always : (start : ModemStart) → IsStart start → start.pin ≡ None → IsReadyAlways start
 ready_always start is none lines =
     tells start lines PinQuery (λ r. r ≡ Ok (Pin state.Ready)) is
-    (ap (λ l. Ok (Pin (wanted_pin l))) (stays_ready (started start) lines (ap locked_by none)))
+    (ap (λ l. Ok (Pin (wanted_pin l))) (stays_ready (started start) lines refl (ap locked_by none)))

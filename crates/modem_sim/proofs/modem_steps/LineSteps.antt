@@ -6,7 +6,7 @@ use Rattle.at_cmds.specs.declared.command.Command.{Command}
 use Rattle.at_cmds.specs.Commands.{IsTextOf, Reads}
 use Rattle.modem_sim.specs.declared.state.ModemState.{ModemState}
 use Rattle.modem_sim.specs.Reading.{lowered, is_attention, command_of}
-use Rattle.modem_sim.specs.Steps.{step, step_by}
+use Rattle.modem_sim.specs.Steps.{standard_step, step_by}
 use Rattle.modem_sim.proofs.modem_steps.ReadCommands.{read_command}
 
 not_attention : (line : List ℕ) (b : Bool) → is_attention line ≡ b → (lowered line ≡ codes "at" → false ≡ true) → is_attention line ≡ false
@@ -14,7 +14,7 @@ not_attention line true is other = is ∙ sym (other ((bytes_eq-Decides (lowered
 not_attention line false is other = is
 
 -- a line that isn't AT alone does what the command does that it is read as
-pub step_read : (s : ModemState) (line : List ℕ) (read : Option Command) → (lowered line ≡ codes "at" → false ≡ true) → Reads (IsTextOf line) (Ok read) → step_by s read ≡ step s line
+pub step_read : (s : ModemState) (line : List ℕ) (read : Option Command) → (lowered line ≡ codes "at" → false ≡ true) → Reads (IsTextOf line) (Ok read) → step_by s read ≡ standard_step s line
 step_read s line read other reads =
     let behind : is_attention line ≡ false = not_attention line (is_attention line) refl other in
     let read_as : command_of line ≡ read = read_command line read reads in

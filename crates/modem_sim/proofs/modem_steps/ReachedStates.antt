@@ -1,7 +1,7 @@
 -- What every state that a modem reaches has.
 use Rattle.std.specs.Prelude.{◌≡◌, ℕ, ◌<◌, ◌≤◌, ◌==◌, nat_lt, Bool, true, false, List, [], ◌∷◌, Option, Some, None, refl, if◌then◌else◌}
 use Rattle.std.specs.List.{list_all, list_any}
-use Rattle.std.proofs.Common.{arith}
+use Rattle.std.proofs.Common.{arith, subst, sym}
 use Rattle.std.proofs.lemmas.Bool.Decides.{nat_tests}
 use Rattle.at_text.specs.Octets.{is_digit, is_quote}
 use Rattle.at_cmds.specs.declared.command.Command.{Command}
@@ -18,9 +18,10 @@ use Rattle.modem_sim.specs.declared.modem.ModemStart.{ModemStart}
 use Rattle.modem_sim.specs.declared.state.ModemState.{ModemState}
 use Rattle.modem_sim.specs.Contexts.{with_context}
 use Rattle.modem_sim.specs.Reading.{is_attention, command_of}
-use Rattle.modem_sim.specs.Steps.{started, step, step_by, refusal_of, obeyed_unless, after_refusal, after_command}
+use Rattle.modem_sim.specs.Steps.{Step, standard_step, started, step, step_by, refusal_of, obeyed_unless, after_refusal, after_command}
 use Rattle.modem_sim.specs.Laws.{IsStart, after_lines, reached}
 use Rattle.modem_sim.proofs.modem_steps.ReadCommands.{command_reads}
+use Rattle.modem_sim.proofs.modem_steps.StandardModems.{step_standard}
 
 -- a number stands for itself, a name is one and holds no quote
 pub record IsContextKept (c : PdpContext) : Type 0 where
@@ -43,9 +44,10 @@ pub record IsKept (s : ModemState) : Type 0 where
   pub contexts : AreContextsKept s.contexts
   pub rssi : s.rssi < 256
   pub ber : s.ber < 256
+  pub words : s.words ≡ None
 
 started_kept : (start : ModemStart) → IsStart start → IsKept (started start)
-started_kept start is = record { reports = omega arith; oper = tt; contexts = tt; rssi = is.rssi; ber = is.ber }
+started_kept start is = record { reports = omega arith; oper = tt; contexts = tt; rssi = is.rssi; ber = is.ber; words = refl }
 
 not_refused : (b : Bool) (why : CmdError) → (if b then None else Some why) ≡ None → b ≡ true
 not_refused true why is = refl
@@ -88,29 +90,29 @@ mode_small n is = let small : n ≤ 2 = grind (arith, nat_tests) in omega arith
 
 after_kept : (s : ModemState) (c : Command) → IsKept s → refused_for c ≡ None → IsKept (after_command s c)
 after_kept s PinQuery kept may = kept
-after_kept s (PinEnter pin) kept may = record { reports = kept.reports; oper = kept.oper; contexts = kept.contexts; rssi = kept.rssi; ber = kept.ber }
-after_kept s (RegReport n) kept may = record { reports = mode_small n (not_refused (is_mode n) BadNumber may); oper = kept.oper; contexts = kept.contexts; rssi = kept.rssi; ber = kept.ber }
+after_kept s (PinEnter pin) kept may = record { reports = kept.reports; oper = kept.oper; contexts = kept.contexts; rssi = kept.rssi; ber = kept.ber; words = kept.words }
+after_kept s (RegReport n) kept may = record { reports = mode_small n (not_refused (is_mode n) BadNumber may); oper = kept.oper; contexts = kept.contexts; rssi = kept.rssi; ber = kept.ber; words = kept.words }
 after_kept s RegQuery kept may = kept
 after_kept s Signal kept may = kept
 after_kept s OperQuery kept may = kept
-after_kept s (OperChoose Automatic) kept may = record { reports = kept.reports; oper = tt; contexts = kept.contexts; rssi = kept.rssi; ber = kept.ber }
-after_kept s (OperChoose Deregister) kept may = record { reports = kept.reports; oper = tt; contexts = kept.contexts; rssi = kept.rssi; ber = kept.ber }
+after_kept s (OperChoose Automatic) kept may = record { reports = kept.reports; oper = tt; contexts = kept.contexts; rssi = kept.rssi; ber = kept.ber; words = kept.words }
+after_kept s (OperChoose Deregister) kept may = record { reports = kept.reports; oper = tt; contexts = kept.contexts; rssi = kept.rssi; ber = kept.ber; words = kept.words }
 after_kept s (OperChoose (Manual oper)) kept may =
     let number = not_refused (is_oper oper) BadNumber may in
     let run = run_is is_digit 5 6 oper number in
-    record { reports = kept.reports; oper = (none_quoted is_digit digit_not_quote oper run.all, number); contexts = kept.contexts; rssi = kept.rssi; ber = kept.ber }
+    record { reports = kept.reports; oper = (none_quoted is_digit digit_not_quote oper run.all, number); contexts = kept.contexts; rssi = kept.rssi; ber = kept.ber; words = kept.words }
 after_kept s (ContextSet cid pdp apn) kept may =
     let tests = context_may (is_cid cid) (is_apn apn) may in
     let new : PdpContext = record { cid = cid; pdp = pdp; apn = apn } in
-    record { reports = kept.reports; oper = kept.oper; contexts = with_kept new s.contexts (new_kept new tests.0 tests.1) kept.contexts; rssi = kept.rssi; ber = kept.ber }
+    record { reports = kept.reports; oper = kept.oper; contexts = with_kept new s.contexts (new_kept new tests.0 tests.1) kept.contexts; rssi = kept.rssi; ber = kept.ber; words = kept.words }
 after_kept s ContextQuery kept may = kept
-after_kept s (AttachSet on) kept may = record { reports = kept.reports; oper = kept.oper; contexts = kept.contexts; rssi = kept.rssi; ber = kept.ber }
+after_kept s (AttachSet on) kept may = record { reports = kept.reports; oper = kept.oper; contexts = kept.contexts; rssi = kept.rssi; ber = kept.ber; words = kept.words }
 after_kept s AttachQuery kept may = kept
-after_kept s (ErrorMode n) kept may = record { reports = kept.reports; oper = kept.oper; contexts = kept.contexts; rssi = kept.rssi; ber = kept.ber }
+after_kept s (ErrorMode n) kept may = record { reports = kept.reports; oper = kept.oper; contexts = kept.contexts; rssi = kept.rssi; ber = kept.ber; words = kept.words }
 after_kept s Multiplex kept may = kept
 
 refused_kept : (s : ModemState) (c : Command) → IsKept s → IsKept (after_refusal s c)
-refused_kept s (PinEnter pin) kept = record { reports = kept.reports; oper = kept.oper; contexts = kept.contexts; rssi = kept.rssi; ber = kept.ber }
+refused_kept s (PinEnter pin) kept = record { reports = kept.reports; oper = kept.oper; contexts = kept.contexts; rssi = kept.rssi; ber = kept.ber; words = kept.words }
 refused_kept s PinQuery kept = kept
 refused_kept s (RegReport n) kept = kept
 refused_kept s RegQuery kept = kept
@@ -135,13 +137,16 @@ command_written line (Some c) is s kept =
     let reads = rw is at (command_reads line) in
     obeyed_kept (refusal_of s c) s c kept reads.is.written
 
-step_kept_at : (s : ModemState) (line : List ℕ) (at : Bool) → IsKept s → is_attention line ≡ at → IsKept (step s line).state
+step_kept_at : (s : ModemState) (line : List ℕ) (at : Bool) → IsKept s → is_attention line ≡ at → IsKept (standard_step s line).state
 step_kept_at s line true kept is = rw is kept
 step_kept_at s line false kept is = rw is (command_written line (command_of line) refl s kept)
 
+step_kept : (s : ModemState) (line : List ℕ) → IsKept s → IsKept (step s line).state
+step_kept s line kept = subst (λ (t : Step). IsKept t.state) (sym (step_standard s line kept.words)) (step_kept_at s line (is_attention line) kept refl)
+
 lines_kept : (s : ModemState) (lines : List (List ℕ)) → IsKept s → IsKept (after_lines s lines)
 lines_kept s [] kept = kept
-lines_kept s (line ∷ lines) kept = lines_kept (step s line).state lines (step_kept_at s line (is_attention line) kept refl)
+lines_kept s (line ∷ lines) kept = lines_kept (step s line).state lines (step_kept s line kept)
 
 pub reached_kept : (start : ModemStart) (lines : List (List ℕ)) → IsStart start → IsKept (reached start lines)
 reached_kept start lines is = lines_kept (started start) lines (started_kept start is)

@@ -2,7 +2,7 @@
 use Rattle.std.specs.Prelude.{◌≡◌, ℕ, ◌<◌, ◌==◌, ◌&&◌, Bool, true, false, List, [], ◌∷◌, ◌++◌, map, Option, Some, None, refl, if◌then◌else◌, codes}
 use Rattle.std.specs.Fmt.{decimal}
 use Rattle.std.specs.List.{list_all, list_any}
-use Rattle.std.proofs.Common.{arith, sym, ap, ◌∙◌}
+use Rattle.std.proofs.Common.{arith, sym, ap, ◌∙◌, subst}
 use Rattle.std.proofs.lemmas.Bool.Decides.{nat_tests}
 use Rattle.at_text.specs.declared.answer.AnswerLine.{AnswerLine}
 use Rattle.at_text.specs.Finals.{is_final}
@@ -25,6 +25,7 @@ use Rattle.modem_sim.proofs.modem_steps.AnswerLines.{registered_text}
 use Rattle.modem_sim.proofs.modem_steps.DecimalNumbers.{decimal_digits}
 use Rattle.modem_sim.proofs.modem_steps.ReachedStates.{IsKept, reached_kept}
 use Rattle.modem_sim.proofs.replies.RepliesReadBack.{read_back}
+use Rattle.modem_sim.proofs.modem_steps.StandardModems.{step_standard}
 
 abbrev is_code : AnswerLine → Bool
 is_code line = is_final line.text
@@ -173,8 +174,8 @@ chosen_asked false a b first second = second
 -- what a modem answers to any line
 answers_well : (s : ModemState) (line : List ℕ) → IsKept s → AnswersWell s line
 answers_well s line kept = record {
-  ends = chosen_ends (is_attention line) (record { state = s; answer = good_answer [] }) (step_by s (command_of line)) (good_ends [] refl) (step_by_ends s (command_of line));
-  solicited = chosen_asked (is_attention line) (record { state = s; answer = good_answer [] }) (step_by s (command_of line)) refl (step_by_asked s (command_of line) kept);
+  ends = subst (λ (t : Step). EndsOnce t.answer) (sym (step_standard s line kept.words)) (chosen_ends (is_attention line) (record { state = s; answer = good_answer [] }) (step_by s (command_of line)) (good_ends [] refl) (step_by_ends s (command_of line)));
+  solicited = ap (λ (t : Step). list_all is_asked t.answer) (step_standard s line kept.words) ∙ chosen_asked (is_attention line) (record { state = s; answer = good_answer [] }) (step_by s (command_of line)) refl (step_by_asked s (command_of line) kept);
   read_back = λ c is. read_back s line c kept is;
 }
 

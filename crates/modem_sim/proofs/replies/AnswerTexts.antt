@@ -2,7 +2,7 @@
 use Rattle.std.specs.Prelude.{◌≡◌, ℕ, ◌+◌, ◌<◌, ◌≤◌, ◌==◌, ◌&&◌, nat_le, Bool, true, false, List, [], ◌∷◌, ◌++◌, length, map, Option, Some, None, IfSome, refl, if◌then◌else◌, codes}
 use Rattle.std.specs.Fmt.{decimal, digits}
 use Rattle.std.specs.List.{list_all, list_any}
-use Rattle.std.proofs.Common.{arith}
+use Rattle.std.proofs.Common.{arith, ap, ◌∙◌}
 use Rattle.std.proofs.lemmas.Bool.Decides.{nat_tests}
 use Rattle.std.proofs.lemmas.Bool.{and_parts}
 use Rattle.std.proofs.lemmas.List.{length-append}
@@ -32,6 +32,7 @@ use Rattle.modem_sim.specs.Replied.{AnswersInLines, is_answer_line}
 use Rattle.modem_sim.proofs.modem_steps.ReachedStates.{IsKept, IsContextKept, AreContextsKept, IsOperKept, reached_kept}
 use Rattle.modem_sim.proofs.modem_steps.DecimalNumbers.{decimal_digits}
 use Rattle.modem_sim.proofs.replies.RepliesReadBack.{refusals_are, text_by}
+use Rattle.modem_sim.proofs.modem_steps.StandardModems.{step_standard}
 
 -- ## Printable texts
 
@@ -224,7 +225,8 @@ chosen_told false a b first second = second
 
 pub kept_told : (s : ModemState) (line : List ℕ) → IsKept s → list_all is_answer_line (step s line).answer ≡ true
 kept_told s line kept =
-    chosen_told (is_attention line) (record { state = s; answer = good_answer [] }) (step_by s (command_of line)) refl (step_by_told s (command_of line) kept)
+    ap (λ (t : Step). list_all is_answer_line t.answer) (step_standard s line kept.words)
+    ∙ chosen_told (is_attention line) (record { state = s; answer = good_answer [] }) (step_by s (command_of line)) refl (step_by_told s (command_of line) kept)
 
 pub answers_in_lines : (start : ModemStart) → IsStart start → AnswersInLines start
 answers_in_lines start is before line = kept_told _ line (reached_kept start before is)

@@ -1,7 +1,7 @@
 -- What is said on a connection is read as the lines of its pieces.
 use Rattle.std.specs.Prelude.{◌≡◌, ℕ, zero, suc, ◌≤◌, ◌==◌, ◌&&◌, not, nat_le, Bool, true, false, List, [], ◌∷◌, ◌++◌, length, take, map, filter, refl, if◌then◌else◌}
 use Rattle.std.specs.List.{list_all, list_any}
-use Rattle.std.proofs.Common.{arith, sym, ap, ◌∙◌, append_assoc}
+use Rattle.std.proofs.Common.{arith, sym, ap, ◌∙◌, subst, append_assoc}
 use Rattle.std.proofs.lemmas.Bool.Decides.{nat_tests}
 use Rattle.std.proofs.lemmas.Bool.{and_parts}
 use Rattle.mux_frame.specs.Frames.{Frame}
@@ -21,7 +21,7 @@ use Rattle.modem_sim.specs.Laws.{IsStart, after_lines, reached}
 use Rattle.modem_sim.specs.Steps.{step}
 use Rattle.modem_sim.specs.Acts.{Act, Wire, Did, End, wire, is_open_at_modem}
 use Rattle.modem_sim.specs.Heard.{heard, texts_of, texts_with, modem_after}
-use Rattle.modem_sim.specs.Pieces.{Piece, Echo, Answer, Announced, framed, octets_of, pieces_octets, answers, reply, replies, asked_for}
+use Rattle.modem_sim.specs.Pieces.{Piece, Echo, Answer, Announced, framed, octets_of, pieces_octets, answers, echoed, reply, replies, asked_for}
 use Rattle.modem_sim.specs.Outboxes.{Outbox, empty_box, outbox, dropped, said_after, say, replies_by, hold_on, is_holding}
 use Rattle.modem_sim.specs.Doing.{is_line}
 use Rattle.modem_sim.specs.Histories.{EachAllowed}
@@ -31,6 +31,7 @@ use Rattle.modem_sim.proofs.modem_steps.ReachedStates.{reached_kept}
 use Rattle.modem_sim.proofs.connections.OctetReplies.{after_lines-append}
 use Rattle.modem_sim.proofs.connections.ControlChannel.{does_act}
 use Rattle.modem_sim.proofs.replies.AnswerTexts.{kept_told}
+use Rattle.modem_sim.proofs.modem_steps.StandardModems.{echoes_standard}
 
 -- ## Pieces that are lines
 
@@ -150,7 +151,9 @@ answers_sound (l ∷ ls) all =
 
 reply_sound : (start : ModemStart) → IsStart start → (echo : Bool) (before : List (List ℕ)) (line : List ℕ) → is_line line ≡ true → AreSound (reply echo (reached start before) line)
 reply_sound start is true before line own = (own, answers_sound (step (reached start before) line).answer (kept_told (reached start before) line (reached_kept start before is)))
-reply_sound start is false before line own = answers_sound (step (reached start before) line).answer (kept_told (reached start before) line (reached_kept start before is))
+reply_sound start is false before line own =
+    subst (λ (b : Bool). AreSound (echoed b line ++ answers (step (reached start before) line).answer)) (sym (echoes_standard start before))
+    (answers_sound (step (reached start before) line).answer (kept_told (reached start before) line (reached_kept start before is)))
 
 replies_sound : (start : ModemStart) → IsStart start → (echo : Bool) (before ls : List (List ℕ)) → AreLines ls → AreSound (replies echo (reached start before) ls)
 replies_sound start is echo before [] are = tt

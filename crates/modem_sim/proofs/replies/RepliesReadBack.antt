@@ -28,7 +28,7 @@ use Rattle.at_cmds.proofs.values_read.Parameters.{divided-quoted, put_text-ended
 use Rattle.modem_sim.specs.declared.state.Lock.{Lock}
 use Rattle.modem_sim.specs.declared.state.Lock.TheVariants.{Ready, NeedPin, NeedPuk}
 use Rattle.modem_sim.specs.declared.state.ModemState.{ModemState}
-use Rattle.modem_sim.specs.Steps.{line_of, error_text, lock_error, pin_error, attach_error, is_registered, refusal_of, pin_text, cell_text, reg_text, signal_text, oper_text, context_text, attached_text, told_texts, good_answer, obeyed_unless, step}
+use Rattle.modem_sim.specs.Steps.{Step, standard_step, line_of, error_text, lock_error, pin_error, attach_error, is_registered, refusal_of, pin_text, cell_text, reg_text, signal_text, oper_text, context_text, attached_text, told_texts, good_answer, obeyed_unless, step}
 use Rattle.modem_sim.specs.Reading.{lowered, is_attention, command_of}
 use Rattle.modem_sim.specs.declared.contexts.PdpContext.{PdpContext}
 use Rattle.modem_sim.specs.Meanings.{told_reply, wanted_pin, registration, bare_registration, cell_registration, numbered, oper_reply, told_context, meant, meant_unless}
@@ -37,6 +37,7 @@ use Rattle.modem_sim.proofs.modem_steps.DecimalNumbers.{number_back, blank_numbe
 use Rattle.modem_sim.proofs.modem_steps.ReadCommands.{read_command}
 use Rattle.modem_sim.proofs.modem_steps.ReachedStates.{IsKept, IsContextKept, AreContextsKept, IsOperKept}
 use Rattle.at_cmds.proofs.values_read.ValueForms.{if_some}
+use Rattle.modem_sim.proofs.modem_steps.StandardModems.{step_standard}
 
 -- an error's text, by which mode it is
 abbrev pub text_by : Bool → Bool → ℕ → List ℕ
@@ -283,4 +284,5 @@ pub read_back : (s : ModemState) (line : List ℕ) (c : Command) → IsKept s �
 read_back s line c kept is =
     let behind = command_is_no_attention line c (is_attention line) is refl in
     let read = command_is line c is in
-    rw (behind, read) (answer_back (refusal_of s c) s c refl kept)
+    let back : reply_of c (standard_step s line).answer ≡ meant s c = rw (behind, read) (answer_back (refusal_of s c) s c refl kept) in
+    ap (λ (t : Step). reply_of c t.answer) (step_standard s line kept.words) ∙ back

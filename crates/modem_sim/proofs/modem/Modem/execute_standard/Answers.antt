@@ -1,6 +1,6 @@
 use Rattle.std.proofs.Common.{ap, ◌∙◌, Some, None}
 use Rattle.modem_sim.proofs.modem_steps.LineSteps.{step_read}
-use Rattle.modem_sim.proofs.modem.Modem.execute.Goals as goal
+use Rattle.modem_sim.proofs.modem.Modem.execute_standard.Goals as goal
 
 pub returns-in_default-command-clause-answer : goal.returns-in_default-command-clause-answer
 returns-in_default-command-clause-answer c =

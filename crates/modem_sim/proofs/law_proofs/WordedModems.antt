@@ -1,0 +1,138 @@
+-- A modem with words does with the commands of the first table what one without them does.
+use Rattle.std.specs.Prelude.{◌≡◌, ℕ, true, false, List, [], ◌∷◌, ◌++◌, map, Option, Some, None, is_some, refl, codes}
+use Rattle.std.specs.Fmt.{digits}
+use Rattle.std.proofs.Common.{ap, sym, ◌∙◌, append_assoc}
+use Rattle.at_text.specs.declared.answer.AnswerLine.{AnswerLine}
+use Rattle.at_cmds.specs.declared.command.Command.{Command}
+use Rattle.at_cmds.specs.declared.command.Command.TheVariants.{PinQuery, PinEnter, RegReport, RegQuery, Signal, OperQuery, OperChoose, ContextSet, ContextQuery, AttachSet, AttachQuery, ErrorMode, Multiplex}
+use Rattle.at_cmds.specs.declared.command.OperChoice.{OperChoice}
+use Rattle.at_cmds.specs.declared.command.OperChoice.TheVariants.{Automatic, Deregister, Manual}
+use Rattle.modem_sim.specs.declared.state.ModemState.{ModemState}
+use Rattle.modem_sim.specs.declared.state.Words.{Words}
+use Rattle.modem_sim.specs.Reading.{is_attention, command_of}
+use Rattle.modem_sim.specs.Steps.{after_command, after_refusal, announced, divided_by, line_commands, line_of, named_oper_text, nothing_ran, obeyed, obeyed_unless, oper_text, ran_command, ran_text, refusal_of, standard_step, step, Step, told_as, told_texts, worded_answer, worded_by, worded_step}
+use Rattle.modem_sim.specs.WordLaws.{AnswersAsStandard, IsAsStandard, bare}
+use Rattle.modem_sim.proofs.modem_steps.ReadCommands.{command_reads}
+use Rattle.modem_sim.proofs.modem_steps.StandardModems.{step_standard, step_worded}
+use Rattle.modem_sim.proofs.replies.RepliesReadBack.{command_is_no_attention}
+
+same_refusal : (s : ModemState) (c : Command) → refusal_of (bare s) c ≡ refusal_of s c
+same_refusal s PinQuery = refl
+same_refusal s (PinEnter pin) = refl
+same_refusal s (RegReport n) = refl
+same_refusal s RegQuery = refl
+same_refusal s Signal = refl
+same_refusal s OperQuery = refl
+same_refusal s (OperChoose choice) = refl
+same_refusal s (ContextSet cid pdp apn) = refl
+same_refusal s ContextQuery = refl
+same_refusal s (AttachSet true) = refl
+same_refusal s (AttachSet false) = refl
+same_refusal s AttachQuery = refl
+same_refusal s (ErrorMode n) = refl
+same_refusal s Multiplex = refl
+
+same_after : (s : ModemState) (c : Command) → bare (after_command s c) ≡ after_command (bare s) c
+same_after s PinQuery = refl
+same_after s (PinEnter pin) = refl
+same_after s (RegReport n) = refl
+same_after s RegQuery = refl
+same_after s Signal = refl
+same_after s OperQuery = refl
+same_after s (OperChoose Automatic) = refl
+same_after s (OperChoose Deregister) = refl
+same_after s (OperChoose (Manual oper)) = refl
+same_after s (ContextSet cid pdp apn) = refl
+same_after s ContextQuery = refl
+same_after s (AttachSet on) = refl
+same_after s AttachQuery = refl
+same_after s (ErrorMode n) = refl
+same_after s Multiplex = refl
+
+same_refused : (s : ModemState) (c : Command) → bare (after_refusal s c) ≡ after_refusal (bare s) c
+same_refused s PinQuery = refl
+same_refused s (PinEnter pin) = refl
+same_refused s (RegReport n) = refl
+same_refused s RegQuery = refl
+same_refused s Signal = refl
+same_refused s OperQuery = refl
+same_refused s (OperChoose choice) = refl
+same_refused s (ContextSet cid pdp apn) = refl
+same_refused s ContextQuery = refl
+same_refused s (AttachSet on) = refl
+same_refused s AttachQuery = refl
+same_refused s (ErrorMode n) = refl
+same_refused s Multiplex = refl
+
+-- the operator by its number is told as by the first table
+by_number : (choice : OperChoice) → named_oper_text 2 choice ≡ oper_text choice
+unfolding digits
+by_number Automatic = refl
+by_number (Manual oper) = refl
+by_number Deregister = refl
+
+same_told : (w : Words) (s : ModemState) (c : Command) → w.oper_format ≡ 2 → told_as (Some w) s c ≡ told_texts (bare s) c
+same_told w s OperQuery is = ap (λ n. named_oper_text n s.oper ∷ []) is ∙ ap (λ t. t ∷ []) (by_number s.oper)
+same_told w s PinQuery is = refl
+same_told w s (PinEnter pin) is = refl
+same_told w s (RegReport n) is = refl
+same_told w s RegQuery is = refl
+same_told w s Signal is = refl
+same_told w s (OperChoose choice) is = refl
+same_told w s (ContextSet cid pdp apn) is = refl
+same_told w s ContextQuery is = refl
+same_told w s (AttachSet on) is = refl
+same_told w s AttachQuery is = refl
+same_told w s (ErrorMode n) is = refl
+same_told w s Multiplex is = refl
+
+-- what one command comes to, and what it comes to without words
+record IsSame (s : ModemState) (worded plain : Step) : Type 0 where
+  answer : worded.answer ≡ plain.answer ++ map line_of (announced s worded.state)
+  state : bare worded.state ≡ plain.state
+
+abbrev worded_of : Option ℕ → ModemState → Command → Step
+worded_of o s c = record { state = (ran_command o (nothing_ran s) c).state; answer = worded_answer s (ran_command o (nothing_ran s) c) }
+
+same_at : (o : Option ℕ) (w : Words) (s : ModemState) (c : Command) → s.words ≡ Some w → w.oper_format ≡ 2 → IsSame s (worded_of o s c) (obeyed_unless o (bare s) c)
+same_at None w s c some is =
+    let told : told_as s.words s c ≡ told_texts (bare s) c = ap (λ x. told_as x s c) some ∙ same_told w s c is in
+    let later : List AnswerLine = map line_of (announced s (after_command s c)) in
+    record {
+      answer = ap (λ t. map line_of t ++ line_of (codes "OK") ∷ later) told
+          ∙ sym (append_assoc (map line_of (told_texts (bare s) c)) (line_of (codes "OK") ∷ []) later);
+      state = same_after s c;
+    }
+same_at (Some number) w s c some is = record { answer = refl; state = same_refused s c }
+
+-- a line that is a command
+pub one_command : (s : ModemState) (w : Words) (line : List ℕ) (c : Command) → s.words ≡ Some w → command_of line ≡ Some c → step s line ≡ worded_of (refusal_of s c) s c
+unfolding line_commands
+one_command s w line c some read =
+    let by : Option Command → Step = λ o. record { state = (ran_text o (nothing_ran s) line).state; answer = worded_answer s (ran_text o (nothing_ran s) line) } in
+    let divided : worded_step s line ≡ worded_by s (Some (line ∷ [])) = ap (λ o. worded_by s (divided_by o line)) read in
+    let done : worded_by s (Some (line ∷ [])) ≡ worded_of (refusal_of s c) s c = ap by read in
+    step_worded s line w some ∙ divided ∙ done
+
+bare_command : (s : ModemState) (line : List ℕ) (c : Command) → command_of line ≡ Some c → step (bare s) line ≡ obeyed_unless (refusal_of s c) (bare s) c
+bare_command s line c read =
+    let reads = rw read at (command_reads line) in
+    let behind = command_is_no_attention line c (is_attention line) reads.is refl in
+    let done : standard_step (bare s) line ≡ obeyed (bare s) c = rw (behind, read) refl in
+    step_standard (bare s) line refl ∙ done ∙ ap (λ o. obeyed_unless o (bare s) c) (same_refusal s c)
+
+by_command : (s : ModemState) (w : Words) (line : List ℕ) (o : Option Command) → command_of line ≡ o → is_some o ≡ true → s.words ≡ Some w → w.oper_format ≡ 2 → IsAsStandard s line
+by_command s w line None read is some two = cc
+by_command s w line (Some c) read is some two =
+    let with = one_command s w line c some read in
+    let without = bare_command s line c read in
+    let same = same_at (refusal_of s c) w s c some two in
+    record {
+      answer = ap (λ (t : Step). t.answer) with ∙ same.answer
+          ∙ ap (λ (t : Step). t.answer ++ map line_of (announced s (worded_of (refusal_of s c) s c).state)) (sym without)
+          ∙ ap (λ (t : Step). (step (bare s) line).answer ++ map line_of (announced s t.state)) (sym with);
+      state = ap (λ (t : Step). bare t.state) with ∙ same.state ∙ ap (λ (t : Step). t.state) (sym without);
+    }
+
+pub answers_as_standard : AnswersAsStandard
+answers_as_standard s w line some two is = by_command s w line (command_of line) refl is some two

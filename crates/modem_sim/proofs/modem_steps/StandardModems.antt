@@ -1,0 +1,82 @@
+-- A modem without words stays one, and does what the first table says.
+use Rattle.std.specs.Prelude.{◌≡◌, ℕ, Bool, true, false, List, [], ◌∷◌, Option, Some, None, if◌then◌else◌, refl}
+use Rattle.std.proofs.Common.{ap, ◌∙◌}
+use Rattle.at_cmds.specs.declared.command.Command.{Command}
+use Rattle.at_cmds.specs.declared.command.Command.TheVariants.{PinQuery, PinEnter, RegReport, RegQuery, Signal, OperQuery, OperChoose, ContextSet, ContextQuery, AttachSet, AttachQuery, ErrorMode, Multiplex}
+use Rattle.at_cmds.specs.declared.command.OperChoice.TheVariants.{Automatic, Deregister, Manual}
+use Rattle.modem_sim.specs.declared.modem.ModemStart.{ModemStart}
+use Rattle.modem_sim.specs.declared.state.ModemState.{ModemState}
+use Rattle.modem_sim.specs.declared.state.Words.{Words}
+use Rattle.modem_sim.specs.Reading.{is_attention, command_of}
+use Rattle.modem_sim.specs.Steps.{after_command, after_refusal, echoes, echoes_as, obeyed_unless, refusal_of, standard_step, started, step, step_as, step_by, worded_step, Step}
+use Rattle.modem_sim.specs.Laws.{after_lines, reached}
+
+pub carried_words : (s : ModemState) (c : Command) → (after_command s c).words ≡ s.words
+carried_words s PinQuery = refl
+carried_words s (PinEnter pin) = refl
+carried_words s (RegReport n) = refl
+carried_words s RegQuery = refl
+carried_words s Signal = refl
+carried_words s OperQuery = refl
+carried_words s (OperChoose Automatic) = refl
+carried_words s (OperChoose Deregister) = refl
+carried_words s (OperChoose (Manual oper)) = refl
+carried_words s (ContextSet cid pdp apn) = refl
+carried_words s ContextQuery = refl
+carried_words s (AttachSet on) = refl
+carried_words s AttachQuery = refl
+carried_words s (ErrorMode n) = refl
+carried_words s Multiplex = refl
+
+refused_words : (s : ModemState) (c : Command) → (after_refusal s c).words ≡ s.words
+refused_words s PinQuery = refl
+refused_words s (PinEnter pin) = refl
+refused_words s (RegReport n) = refl
+refused_words s RegQuery = refl
+refused_words s Signal = refl
+refused_words s OperQuery = refl
+refused_words s (OperChoose choice) = refl
+refused_words s (ContextSet cid pdp apn) = refl
+refused_words s ContextQuery = refl
+refused_words s (AttachSet on) = refl
+refused_words s AttachQuery = refl
+refused_words s (ErrorMode n) = refl
+refused_words s Multiplex = refl
+
+pub obeyed_words : (o : Option ℕ) (s : ModemState) (c : Command) → (obeyed_unless o s c).state.words ≡ s.words
+obeyed_words None s c = carried_words s c
+obeyed_words (Some number) s c = refused_words s c
+
+read_words : (s : ModemState) (o : Option Command) → (step_by s o).state.words ≡ s.words
+read_words s None = refl
+read_words s (Some c) = obeyed_words (refusal_of s c) s c
+
+chosen_words : (s : ModemState) (at : Bool) (a b : Step) → a.state.words ≡ s.words → b.state.words ≡ s.words → (if at then a else b).state.words ≡ s.words
+chosen_words s true a b first second = first
+chosen_words s false a b first second = second
+
+-- the first table leaves what the second one needs
+pub standard_words : (s : ModemState) (line : List ℕ) → (standard_step s line).state.words ≡ s.words
+standard_words s line = chosen_words s (is_attention line) _ (step_by s (command_of line)) refl (read_words s (command_of line))
+
+-- without words a line does what the first table says
+pub step_standard : (s : ModemState) (line : List ℕ) → s.words ≡ None → step s line ≡ standard_step s line
+step_standard s line none = ap (λ w. step_as w s line) none
+
+-- with words it does what both say
+pub step_worded : (s : ModemState) (line : List ℕ) (w : Words) → s.words ≡ Some w → step s line ≡ worded_step s line
+step_worded s line w some = ap (λ x. step_as x s line) some
+
+pub step_words : (s : ModemState) (line : List ℕ) → s.words ≡ None → (step s line).state.words ≡ None
+step_words s line none = ap (λ t. t.state.words) (step_standard s line none) ∙ standard_words s line ∙ none
+
+pub lines_words : (s : ModemState) (lines : List (List ℕ)) → s.words ≡ None → (after_lines s lines).words ≡ None
+lines_words s [] none = none
+lines_words s (line ∷ lines) none = lines_words (step s line).state lines (step_words s line none)
+
+pub no_words : (start : ModemStart) (lines : List (List ℕ)) → (reached start lines).words ≡ None
+no_words start lines = lines_words (started start) lines refl
+
+-- it repeats commands where it is to always
+pub echoes_standard : (start : ModemStart) (lines : List (List ℕ)) → echoes false (reached start lines) ≡ false
+echoes_standard start lines = ap echoes_as (no_words start lines)

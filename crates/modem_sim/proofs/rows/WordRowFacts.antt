@@ -1,0 +1,43 @@
+-- Worked examples of a modem with words, computed by the definitions.
+use Rattle.std.specs.Prelude.{refl}
+use Rattle.std.specs.Fmt.{digits}
+use Rattle.at_cmds.specs.Params.{parameters, unquoted}
+use Rattle.at_cmds.specs.Forms.{numeral_in}
+use Rattle.at_cmds.specs.Values.{command_in}
+use Rattle.modem_sim.specs.CommandLines.{commands_in}
+use Rattle.modem_sim.specs.Reading.{command_of}
+use Rattle.modem_sim.specs.Steps.{line_commands}
+use Rattle.modem_sim.specs.WordRows.{BareLines, ChangeAnnounced, ClientBegins, DividedLine, EchoOff, OperatorNamed, PinAnnounced, QuotedLine}
+use Rattle.modem_sim.specs.Words.{word_of}
+
+pub divided_line : DividedLine
+unfolding commands_in
+divided_line = refl
+
+pub quoted_line : QuotedLine
+unfolding commands_in
+quoted_line = refl
+
+pub bare_lines : BareLines
+unfolding commands_in
+bare_lines = (refl, refl)
+
+pub client_begins : ClientBegins
+unfolding command_of command_in numeral_in unquoted parameters digits commands_in line_commands word_of
+client_begins = refl
+
+pub change_announced : ChangeAnnounced
+unfolding command_of command_in numeral_in unquoted parameters digits commands_in line_commands word_of
+change_announced = refl
+
+pub pin_announced : PinAnnounced
+unfolding command_of command_in numeral_in unquoted parameters digits commands_in line_commands word_of
+pin_announced = refl
+
+pub operator_named : OperatorNamed
+unfolding command_of command_in numeral_in unquoted parameters digits commands_in line_commands word_of
+operator_named = refl
+
+pub echo_off : EchoOff
+unfolding command_of command_in numeral_in unquoted parameters digits commands_in line_commands word_of
+echo_off = refl

@@ -1,0 +1,16 @@
+-- How a connection stands to a caller is how it stands after the past.
+use Rattle.std.specs.Prelude.{◌≡◌, ℕ, List}
+use Rattle.std.proofs.Common.{ap, ◌∙◌}
+use Rattle.mux_station.specs.declared.role.ChannelState.{ChannelState}
+use Rattle.mux_station.specs.Acts as station
+use Rattle.mux_station.specs.Fitting as fitting
+use Rattle.mux_station.specs.Stages.{as_shown}
+use Rattle.mux_station.specs.Sending as sending
+use Rattle.mux_station.specs.States.{state_of}
+use Rattle.modem_sim.specs.Acts.{Act, End, wire}
+use Rattle.modem_sim.specs.Sims.{FitsSim, LineAt, SimState, state_shown}
+
+pub shown_is : {X : Type 0} (received sent : X → List ℕ) (s : SimState X) (d : ℕ) (shown : ChannelState) (at : LineAt) (e : End) (past : List Act) → ((past : List station.Act) → fitting.StationFits s.kept.core.station past → shown ≡ as_shown (state_of s.kept.core.station.role d past)) → FitsSim received sent at e s past → shown ≡ state_shown d past
+shown_is received sent s d shown at e past says fits =
+    let core = fits.kept_fits.core_fits in
+    says (wire past) core.station_is ∙ ap (λ (x : sending.StationSetting). as_shown (state_of x.role d (wire past))) core.setting_is

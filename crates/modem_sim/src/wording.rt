@@ -1,0 +1,385 @@
+//! What a line does to a modem with words.
+ghost use Rattle.std.specs.Prelude.{◌≡◌, ◌∷◌, ◌++◌, [], codes, fold, map, None, Some, IfOk, OnOk, OnErr, IsErrOf, option_map};
+ghost use Rattle.std.specs.Fmt.{decimal};
+ghost use Rattle.at_cmds.specs.Forms.{in_quotes};
+ghost use Rattle.modem_sim.specs.Reading.{command_of};
+ghost use Rattle.modem_sim.specs.Steps.{all_reports, announced, domain_name, line_commands, line_of, named_oper_text, nothing_ran, oper_name, ran_command, ran_next, ran_other, ran_word, refusal_of, registration_text, report_texts, status_text, told_as, word_refusal, word_told, worded_step};
+
+use crate::answers::{error_text, push_line, push_quoted, push_told};
+use crate::command_lines::commands_in;
+use crate::error::SimError;
+use crate::state::{ModemState, Words};
+use crate::words::{Domain, Word, word_of};
+use at_cmds::{Command, OperChoice};
+use at_text::{AnswerLine, Text};
+use std::alloc::{AllocError, Global};
+use std::marker::Model;
+
+/// What commands of one line came to.
+#[derive(Drop, Debug)]
+struct Run {
+    state: ModemState,
+    told: Vec<AnswerLine>,
+    error: Option<Text>,
+}
+
+impl Model for Run {
+    ghost use Rattle.modem_sim.specs.Steps.{Ran};
+
+    ghost Value = { Ran };
+
+    ghost view = { λ r. record { state = r.state; told = r.told.items; error = r.error } };
+}
+
+/// The command of the first table that a text is, if it is one.
+#[tactic(auto, using(crate::proofs::modem_steps::ReadCommands::read_command))]
+fn command_of(alloc: Global, text: &[u8]) -> Result<Option<Command>, SimError>
+    ensures read { IfOk result (λ command. command ≡ command_of text.now) }
+    ensures no_memory { OnErr result (IsErrOf result SimError.NoMemory) }
+{
+    match Command::read(alloc, text) {
+        Ok(command) => Ok(command),
+        Err(_) => Err(SimError::NoMemory),
+    }
+}
+
+/// The commands of a line, if it has an `AT`.
+#[tactic(auto, unfolding(crate::specs::Steps::line_commands))]
+fn line_commands(alloc: Global, line: &[u8]) -> Result<Option<Vec<Text>>, SimError>
+    ensures read { IfOk result (λ read. option_map (λ commands. commands.items) read ≡ line_commands line.now) }
+    ensures no_memory { OnErr result (IsErrOf result SimError.NoMemory) }
+{
+    if command_of(alloc, line)?.is_none() {
+        return Ok(commands_in(alloc, line)?);
+    }
+    let mut commands = Vec::new(alloc);
+    commands.push(Text::from(Vec::from_slice(alloc, line)?))?;
+    Ok(Some(commands))
+}
+
+/// The operator's name in this form.
+fn oper_name(alloc: Global, format: u8, number: &[u8]) -> Result<Vec<u8>, AllocError>
+    ensures { IfOk result (λ name. name.items ≡ oper_name format number.now) }
+{
+    let mut name = Vec::new(alloc);
+    match format {
+        0 => name.extend_from_slice(b"Network ")?,
+        1 => name.extend_from_slice(b"N")?,
+        _ => {}
+    }
+    name.extend_from_slice(number)?;
+    Ok(name)
+}
+
+/// How an operator was chosen, and its name.
+fn named_line(alloc: Global, head: &str, format: u8, name: &[u8]) -> Result<Vec<u8>, AllocError>
+    ensures { IfOk result
+        (λ text. text.items ≡ head.now ++ decimal format ++ codes "," ++ in_quotes name.now ++ codes ",7") }
+{
+    let mut text = format!(in alloc; "{head}{format},")?.into_bytes();
+    push_quoted(&mut text, name)?;
+    text.extend_from_slice(b",7")?;
+    Ok(text)
+}
+
+/// The operator: how it was chosen, and its name.
+fn named_oper(alloc: Global, format: u8, oper: &OperChoice) -> Result<Vec<u8>, AllocError>
+    ensures { IfOk result (λ text. text.items ≡ named_oper_text format oper.now) }
+{
+    match oper {
+        OperChoice::Automatic => {
+            let name = oper_name(alloc, format, b"00101")?;
+            named_line(alloc, "+COPS: 0,", format, name.as_slice())
+        }
+        OperChoice::Manual(number) => {
+            let name = oper_name(alloc, format, number.as_slice())?;
+            named_line(alloc, "+COPS: 1,", format, name.as_slice())
+        }
+        OperChoice::Deregister => Vec::from_slice(alloc, b"+COPS: 2"),
+    }
+}
+
+/// The status of a registration, with the cell where reports have it.
+fn status_text(reports: u8, registered: bool) -> &'static str
+    ensures { result.now ≡ status_text reports registered }
+{
+    match (registered, reports) {
+        (false, _) => "0",
+        (true, 2) => "1,\"00A1\",\"01B2C3D4\",7",
+        (true, _) => "1",
+    }
+}
+
+impl Domain {
+    ghost use Rattle.modem_sim.specs.Steps.{domain_name};
+
+    /// How its lines begin.
+    fn name(self) -> &'static str
+        ensures { result.now ≡ domain_name self }
+    {
+        match self {
+            Domain::Packet => "+CGREG: ",
+            Domain::Evolved => "+CEREG: ",
+        }
+    }
+}
+
+/// `+CFUN?` (27.007, 8.2).
+fn functionality_line(alloc: Global, functionality: u8) -> Result<Vec<u8>, AllocError>
+    ensures { IfOk result (λ text. text.items ≡ codes "+CFUN: " ++ decimal functionality) }
+{
+    Ok(format!(in alloc; "+CFUN: {functionality}")?.into_bytes())
+}
+
+/// What values reports of a registration take.
+fn forms_line(alloc: Global, domain: Domain) -> Result<Vec<u8>, AllocError>
+    ensures { IfOk result (λ text. text.items ≡ domain_name domain ++ codes "(0-2)") }
+{
+    let mut text = Vec::from_slice(alloc, domain.name().as_bytes())?;
+    text.extend_from_slice(b"(0-2)")?;
+    Ok(text)
+}
+
+/// How changes of a registration are reported, and its status.
+fn registration_line(
+    alloc: Global,
+    domain: Domain,
+    reports: u8,
+    registered: bool,
+) -> Result<Vec<u8>, AllocError>
+    ensures { IfOk result
+        (λ text. text.items ≡ registration_text domain reports registered) }
+{
+    let status = status_text(reports, registered);
+    match domain {
+        Domain::Packet => Ok(format!(in alloc; "+CGREG: {reports},{status}")?.into_bytes()),
+        Domain::Evolved => Ok(format!(in alloc; "+CEREG: {reports},{status}")?.into_bytes()),
+    }
+}
+
+/// A fixed line behind others.
+fn push_text(alloc: Global, text: &str, answer: &mut Vec<AnswerLine>) -> Result<(), AllocError>
+    ensures { OnOk result (answer.new.items ≡ answer.old.items ++ line_of text.now ∷ []) }
+{
+    push_line(answer, Vec::from_slice(alloc, text.as_bytes())?)
+}
+
+/// Writes what a command of the second table is told before OK behind other lines.
+fn push_word_told(
+    alloc: Global,
+    words: Words,
+    state: &ModemState,
+    word: Word,
+    answer: &mut Vec<AnswerLine>,
+) -> Result<(), AllocError>
+    ensures { OnOk result
+        (answer.new.items ≡ answer.old.items ++ map line_of (word_told words state.now word)) }
+{
+    match word {
+        Word::Identity => push_text(alloc, "Cimbaloty simulated modem", answer),
+        Word::Manufacturer => push_text(alloc, "Cimbaloty", answer),
+        Word::Product => push_text(alloc, "Simulated modem", answer),
+        Word::Revision => push_text(alloc, "1", answer),
+        Word::Serial => push_text(alloc, "490154203237518", answer),
+        Word::Subscriber => push_text(alloc, "001010123456789", answer),
+        Word::Capabilities => push_text(alloc, "+GCAP: +CGSM", answer),
+        Word::FunctionalityForms => push_text(alloc, "+CFUN: (0,1,4),(0)", answer),
+        Word::RegForms => push_text(alloc, "+CREG: (0-2)", answer),
+        Word::FunctionalityQuery => push_line(
+            answer,
+            functionality_line(alloc, words.functionality)?,
+        ),
+        Word::ReportForms(domain) => push_line(answer, forms_line(alloc, domain)?),
+        Word::ReportQuery(domain) => push_line(
+            answer,
+            registration_line(
+                alloc,
+                domain,
+                words.reports_of(domain),
+                state.is_registered(),
+            )?,
+        ),
+        Word::Reset
+        | Word::Echo(_)
+        | Word::Usual
+        | Word::Functionality(_)
+        | Word::Report(_, _)
+        | Word::OperFormat(_) => Ok(()),
+    }
+}
+
+/// Writes what a command of the first table is told before OK behind other lines.
+fn push_told_as(
+    alloc: Global,
+    state: &ModemState,
+    command: &Command,
+    answer: &mut Vec<AnswerLine>,
+) -> Result<(), AllocError>
+    ensures { OnOk result
+        (answer.new.items ≡ answer.old.items ++ map line_of (told_as state.now.words state.now command.now)) }
+{
+    match (state.words, command) {
+        (Some(words), Command::OperQuery) => push_line(
+            answer,
+            named_oper(alloc, words.oper_format, &state.oper)?,
+        ),
+        _ => push_told(alloc, state, command, answer),
+    }
+}
+
+impl Run {
+    /// Does a command of the first table. After an error nothing is said of what was done.
+    fn obey(&mut self, alloc: Global, command: Command) -> Result<(), AllocError>
+        requires { self.old.error ≡ None }
+        ensures { OnOk result
+            (self.new ≡ ran_command (refusal_of self.old.state command) self.old command) }
+    {
+        if let Some(number) = self.state.refusal_of(&command) {
+            let error = error_text(alloc, self.state.errors, number)?;
+            self.error = Some(Text::from(error));
+            self.state.refuse(&command);
+            return Ok(());
+        }
+        push_told_as(alloc, &self.state, &command, &mut self.told)?;
+        self.state.carry_out(command)
+    }
+
+    /// Does a command of the second table.
+    fn obey_word(&mut self, alloc: Global, words: Words, word: Word) -> Result<(), AllocError>
+        requires { self.old.error ≡ None }
+        ensures { OnOk result
+            (self.new ≡ ran_word (word_refusal self.old.state word) words self.old word) }
+    {
+        if let Some(number) = self.state.word_refusal(word) {
+            let error = error_text(alloc, self.state.errors, number)?;
+            self.error = Some(Text::from(error));
+            return Ok(());
+        }
+        push_word_told(alloc, words, &self.state, word, &mut self.told)?;
+        self.state.carry_out_word(words, word);
+        Ok(())
+    }
+
+    /// Does a command that isn't of the first table.
+    fn do_other(&mut self, alloc: Global, word: Option<Word>) -> Result<(), AllocError>
+        requires { self.old.error ≡ None }
+        ensures { OnOk result (self.new ≡ ran_other self.old.state.words self.old word) }
+    {
+        match (self.state.words, word) {
+            (Some(words), Some(word)) => self.obey_word(alloc, words, word),
+            _ => {
+                self.error = Some(Text::from(Vec::from_slice(alloc, b"ERROR")?));
+                Ok(())
+            }
+        }
+    }
+
+    /// Does the next command of the line, unless one before it was refused.
+    fn go_on(&mut self, alloc: Global, text: &[u8]) -> Result<(), SimError>
+        ensures done { OnOk result (self.new ≡ ran_next self.old text.now) }
+        ensures no_memory { OnErr result (IsErrOf result SimError.NoMemory) }
+    {
+        if self.error.is_some() {
+            return Ok(());
+        }
+        match command_of(alloc, text)? {
+            Some(command) => self.obey(alloc, command)?,
+            None => self.do_other(alloc, word_of(alloc, text)?)?,
+        }
+        Ok(())
+    }
+}
+
+/// What commands come to.
+fn run_all(alloc: Global, state: ModemState, commands: &[Text]) -> Result<Run, SimError>
+    ensures done { IfOk result (λ run. run ≡ fold ran_next (nothing_ran state) commands.now) }
+    ensures no_memory { OnErr result (IsErrOf result SimError.NoMemory) }
+{
+    let mut run = Run {
+        state,
+        told: Vec::new(alloc),
+        error: None,
+    };
+    for command in commands {
+        run.go_on(alloc, command.as_slice())?;
+    }
+    Ok(run)
+}
+
+/// Writes a report of a registration behind other lines, where reports are on.
+fn push_report(
+    alloc: Global,
+    name: &str,
+    reports: u8,
+    registered: bool,
+    answer: &mut Vec<AnswerLine>,
+) -> Result<(), AllocError>
+    ensures { OnOk result
+        (answer.new.items ≡ answer.old.items ++ map line_of (report_texts name.now reports registered)) }
+{
+    if reports == 0 {
+        return Ok(());
+    }
+    let mut text = Vec::from_slice(alloc, name.as_bytes())?;
+    text.extend_from_slice(status_text(reports, registered).as_bytes())?;
+    push_line(answer, text)
+}
+
+/// Writes all reports that are on.
+fn push_reports(
+    alloc: Global,
+    state: &ModemState,
+    registered: bool,
+    answer: &mut Vec<AnswerLine>,
+) -> Result<(), AllocError>
+    ensures { OnOk result
+        (answer.new.items ≡ answer.old.items ++ map line_of (all_reports state.now registered)) }
+{
+    push_report(alloc, "+CREG: ", state.reports, registered, answer)?;
+    if let Some(words) = state.words {
+        push_report(alloc, "+CGREG: ", words.packet_reports, registered, answer)?;
+        push_report(alloc, "+CEREG: ", words.evolved_reports, registered, answer)?;
+    }
+    Ok(())
+}
+
+/// Writes what announces a change of registration, if there was one.
+fn push_announced(
+    alloc: Global,
+    before: &ModemState,
+    state: &ModemState,
+    answer: &mut Vec<AnswerLine>,
+) -> Result<(), AllocError>
+    ensures { OnOk result
+        (answer.new.items ≡ answer.old.items ++ map line_of (announced before.now state.now)) }
+{
+    match (before.is_registered(), state.is_registered()) {
+        (true, false) => push_reports(alloc, state, false, answer),
+        (false, true) => push_reports(alloc, state, true, answer),
+        (true, true) | (false, false) => Ok(()),
+    }
+}
+
+/// What a line does to a modem with words: its state afterwards, and the answer.
+pub(crate) fn worded(
+    alloc: Global,
+    before: &ModemState,
+    line: &[u8],
+) -> Result<(ModemState, Vec<AnswerLine>), SimError>
+    ensures state { IfOk result (λ r. r.0 ≡ (worded_step before.now line.now).state) }
+    ensures answer { IfOk result (λ r. r.1.items ≡ (worded_step before.now line.now).answer) }
+    ensures no_memory { OnErr result (IsErrOf result SimError.NoMemory) }
+{
+    let state = before.copy()?;
+    let Some(commands) = line_commands(alloc, line)? else {
+        return Ok((state, Vec::new(alloc)));
+    };
+    let Run { state, told, error } = run_all(alloc, state, &commands)?;
+    let mut answer = told;
+    match error {
+        Some(error) => push_line(&mut answer, error.into_vec())?,
+        None => push_text(alloc, "OK", &mut answer)?,
+    }
+    push_announced(alloc, before, &state, &mut answer)?;
+    Ok((state, answer))
+}
