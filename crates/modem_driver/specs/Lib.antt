@@ -23,6 +23,7 @@ pub mod HeadlineRows
 pub mod DeskHeadline
 pub mod Entries
 pub mod EntrySteps
+pub mod EntryTries
 pub mod WaitingLists
 pub mod EndpointSteps
 pub mod Endpoints

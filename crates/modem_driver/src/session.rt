@@ -18,6 +18,7 @@ mod placing;
 mod polling;
 mod sending;
 mod taking;
+mod time;
 mod turn;
 pub(crate) mod waiting;
 

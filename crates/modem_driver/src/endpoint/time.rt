@@ -20,6 +20,13 @@ fn wants_time(request: &Request) -> bool
 }
 
 impl Kept {
+    /// Whether a tick may give something up.
+    pub(crate) fn wants_tick(&self) -> bool
+        ensures { result ≡ list_any wants_time self.now.core.hand }
+    {
+        self.core.hand.as_slice().iter().any(wants_time)
+    }
+
     /// A call on the line has failed, and so it is lost: everyone in hand is told so. Refusal: 1
     /// NoMemory, which changes nothing. The condition is that it wasn't lost before.
     fn lose_line(&mut self) -> Result<(), SessionFault>
@@ -58,7 +65,7 @@ impl Endpoint {
     pub fn wants_tick(&self) -> bool
         ensures { result ≡ list_any wants_time self.now.kept.core.hand }
     {
-        self.kept.core.hand.as_slice().iter().any(wants_time)
+        self.kept.wants_tick()
     }
 
     /// The caller's line has failed or ended: everyone in hand is told LineLost, and nothing is sent any
