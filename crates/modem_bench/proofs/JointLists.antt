@@ -4,50 +4,40 @@ use Rattle.std.specs.Prelude.{◌≡◌, ℕ, List, [], ◌∷◌, ◌++◌, Opt
 use Rattle.serial_line.specs.CutLine.{CutState, after_carry}
 use Rattle.modem_history.specs.Acts as driver
 use Rattle.modem_history.specs.Acts.{after}
-use Rattle.modem_history.specs.Sessions.{Beginning, driving}
+use Rattle.modem_history.specs.Sessions.{Beginning}
 use Rattle.modem_driver.specs.Polls.{SessionGoesOn}
 use Rattle.modem_driver.specs.SessionStates.{FitsAll, SessionState}
-use Rattle.modem_driver.proofs.sessions.CoreCalls.{is_run}
 use Rattle.modem_sim.specs.Acts as modem
 use Rattle.modem_sim.specs.Acts.{End}
 use Rattle.modem_sim.specs.Sims.{FitsSim, LineAt, SimGoes, SimState}
-use Rattle.modem_ends.specs.OneModem.{AtDriver, AtModem, EndAct, IsOneModem, TellsModem, driver_past, modem_past}
-use Rattle.modem_ends.proofs.law_proofs.OneModem.{tells_modem}
-use Rattle.modem_bench.specs.Rounds.{AreJoined, IsFull, IsLastRound, IsOneLineOf, IsRound, JoinsOn, Pair, Says, TellsModemTo, carried_between, is_full, judged, look_in, pair, sight_in}
+use Rattle.modem_ends.specs.OneModem.{AtDriver, AtModem, EndAct, driver_past, modem_past}
+use Rattle.modem_ends.proofs.octets.LineGoesOn.{after_near, at_far}
+use Rattle.modem_bench.specs.Rounds.{AreJoined, IsFull, IsLastRound, IsRound, JoinsOn, Pair, Says, carried_between, is_full, judged, look_in, pair, sight_in}
 use Rattle.modem_bench.specs.declared.rounds.Rest.{Rest}
 use Rattle.modem_bench.specs.declared.rounds.Rest.TheVariants.{Full}
 use Rattle.modem_bench.specs.declared.signals.Fault.{Fault}
 
 -- ## Acts of the driver
 
--- the list with these acts of the driver behind it, of which the first comes first
-abbrev after_near : List EndAct → List driver.Act → List EndAct
-after_near line [] = line
-after_near line (a ∷ acts) = after_near (AtDriver a ∷ line) acts
-
-near_past : (line : List EndAct) (acts : List driver.Act) → driver_past (after_near line acts) ≡ after (driver_past line) acts
+pub near_past : (line : List EndAct) (acts : List driver.Act) → driver_past (after_near line acts) ≡ after (driver_past line) acts
 near_past line [] = refl
 near_past line (a ∷ acts) = near_past (AtDriver a ∷ line) acts
 
-near_other : (line : List EndAct) (acts : List driver.Act) → modem_past (after_near line acts) ≡ modem_past line
+pub near_other : (line : List EndAct) (acts : List driver.Act) → modem_past (after_near line acts) ≡ modem_past line
 near_other line [] = refl
 near_other line (a ∷ acts) = near_other (AtDriver a ∷ line) acts
 
-near_joins : (line more : List EndAct) (acts : List driver.Act) → after_near (more ++ line) acts ≡ after_near more acts ++ line
+pub near_joins : (line more : List EndAct) (acts : List driver.Act) → after_near (more ++ line) acts ≡ after_near more acts ++ line
 near_joins line more [] = refl
 near_joins line more (a ∷ acts) = near_joins line (AtDriver a ∷ more) acts
 
 -- ## Acts of the modem
 
-abbrev at_far : List modem.Act → List EndAct
-at_far [] = []
-at_far (a ∷ acts) = AtModem a ∷ at_far acts
-
-far_past : (line : List EndAct) (acts : List modem.Act) → modem_past (at_far acts ++ line) ≡ acts ++ modem_past line
+pub far_past : (line : List EndAct) (acts : List modem.Act) → modem_past (at_far acts ++ line) ≡ acts ++ modem_past line
 far_past line [] = refl
 far_past line (a ∷ acts) = ap (λ (l : List modem.Act). a ∷ l) (far_past line acts)
 
-far_other : (line : List EndAct) (acts : List modem.Act) → driver_past (at_far acts ++ line) ≡ driver_past line
+pub far_other : (line : List EndAct) (acts : List modem.Act) → driver_past (at_far acts ++ line) ≡ driver_past line
 far_other line [] = refl
 far_other line (a ∷ acts) = far_other line acts
 
@@ -117,25 +107,3 @@ pub last_full : (cut room : ℕ) (old mid new : Pair) (says : Says) (r : Option 
 last_full cut room old mid new says None round none same ends full = tt
 last_full cut room old mid new says (Some end) round none same ends full =
     subst (λ (x : Pair × Result Rest Fault). IsLastRound cut room old x.0 x.1) (λ i. (sym same i, sym ends i)) (is_full says round none full)
-
--- ## One modem
-
-is_one_modem : (p : Pair) (b : Beginning) (at : LineAt) (e : End) (line : List EndAct) → AreJoined b at e line p → IsOneLineOf e line → IsOneModem (driving b) e line
-is_one_modem p b at e line j one =
-    let run = is_run b (look_in p.near.line) p.near.driver p.near.kept (driver_past line) j.near in
-    record {
-      is_initiator = refl;
-      driver_lawful = run.lawful;
-      calls = run.whole;
-      numbers = run.numbers;
-      commands = one.commands;
-      modem_lawful = record { at_station = j.far.kept_fits.core_fits.lawful; acts = j.far.kept_fits.core_fits.allowed };
-      modem_is = one.modem_is;
-      announced = one.announced;
-      one_line = one.one_line;
-      once = one.once;
-    }
-
-pub tells_modem_to : (p : Pair) → TellsModemTo p
-unfolding TellsModemTo TellsModem
-tells_modem_to p b at e line j one = tells_modem (driving b) e line (is_one_modem p b at e line j one)

@@ -1,3 +1,4 @@
 pub mod CallerThreads
 pub mod JointLists
+pub mod OneLine
 pub mod Settlements

@@ -1,13 +1,7 @@
 -- A session and a simulated modem, each at one of two lines in memory, in one thread and in rounds.
-use Rattle.std.specs.Prelude.{◌≡◌, ◌⊎◌, ℕ, ◌+◌, ◌<◌, ◌≤◌, ◌&&◌, Bool, true, false, List, ◌∷◌, ◌++◌, length, Option, None, Some, Result, Ok, Err, if◌then◌else◌}
+use Rattle.std.specs.Prelude.{◌≡◌, ◌⊎◌, ℕ, ◌+◌, ◌<◌, ◌≤◌, ◌&&◌, Bool, true, false, List, ◌++◌, length, Option, None, Some, Result, Ok, Err, if◌then◌else◌}
 use Rattle.serial_line.specs.CutLine.{CutState, after_carry}
-use Rattle.at_text.specs.declared.answer.AnswerLine.{AnswerLine}
-use Rattle.modem_desk.specs.declared.request.Answer.TheVariants.{Done}
-use Rattle.modem_desk.specs.declared.request.Outcome.{Outcome}
-use Rattle.modem_history.specs.Acts as driver
-use Rattle.modem_history.specs.Acts.{Told}
-use Rattle.modem_history.specs.Sessions.{Beginning, LineView, driving}
-use Rattle.modem_history.specs.TwoEnds.{AsksOnce, TakesCommandLines}
+use Rattle.modem_history.specs.Sessions.{Beginning, LineView}
 use Rattle.modem_driver.specs.declared.session.ending.Ended.TheVariants.{Stopped}
 use Rattle.modem_driver.specs.declared.session.polling.Progress.{Progress}
 use Rattle.modem_driver.specs.declared.session.polling.Progress.TheVariants as progress
@@ -17,11 +11,9 @@ use Rattle.modem_sim.specs.declared.error.SimError.{SimError}
 use Rattle.modem_sim.specs.declared.sim.SimTurn.{SimTurn}
 use Rattle.modem_sim.specs.declared.sim.SimTurn.TheVariants as turn
 use Rattle.modem_sim.specs.Acts.{End}
-use Rattle.modem_sim.specs.Heard.{heard}
 use Rattle.modem_sim.specs.Polls.{MovesOn, Turned}
-use Rattle.modem_sim.specs.Replied.{AnnouncesUnsolicited, IsModem}
 use Rattle.modem_sim.specs.Sims.{FitsSim, LineAt, Sight, SimState, sight}
-use Rattle.modem_ends.specs.OneModem.{EndAct, IsModemAnswer, IsOneLine, driver_past, driver_wire, modem_past}
+use Rattle.modem_ends.specs.OneModem.{EndAct, driver_past, modem_past}
 use Rattle.modem_bench.specs.Faults.{session_fault, sim_fault}
 use Rattle.modem_bench.specs.declared.rounds.Rest.{Rest}
 use Rattle.modem_bench.specs.declared.rounds.Rest.TheVariants.{Still, Full, UsedUp}
@@ -156,23 +148,3 @@ unfoldable pub JoinsOn : (old new : Pair) → Type 0
 JoinsOn old new =
     (b : Beginning) (at : LineAt) (e : End) (line : List EndAct) → AreJoined b at e line old
     → JoinedFrom b at e line new
-
--- ## One modem
-
--- what the law of one modem asks beside: one line, each connection asked for once at most, unsolicited lines
--- alone announced, command lines taken, and a modem that was started
-pub record IsOneLineOf (e : End) (line : List EndAct) : Type 0 where
-  pub one_line : IsOneLine line
-  pub once : AsksOnce (driver_wire line)
-  pub announced : AnnouncesUnsolicited (modem_past line)
-  pub commands : TakesCommandLines (driver_past line)
-  pub modem_is : IsModem e.modem
-
--- in each such joint list of theirs each command told Done was read, and is told what the modem's step gives at
--- its place
-unfoldable pub TellsModemTo : Pair → Type 0
-TellsModemTo p =
-    (b : Beginning) (at : LineAt) (e : End) (line : List EndAct) → AreJoined b at e line p → IsOneLineOf e line
-    → (newer older : List driver.Act) (o : Outcome) (answer : List AnswerLine)
-    → driver_past line ≡ newer ++ Told o ∷ older → o.answer ≡ Done answer
-    → IsModemAnswer (driving b) e (heard (modem_past line)) older o answer

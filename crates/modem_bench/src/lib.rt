@@ -5,6 +5,7 @@ mod calling;
 mod crew;
 mod driving;
 mod ends;
+pub mod laws;
 mod results;
 mod rounds;
 mod running;

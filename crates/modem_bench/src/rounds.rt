@@ -1,7 +1,10 @@
 //! A session and a simulated modem, each at one of two lines in memory, in one thread and in rounds.
-ghost use Rattle.std.specs.Prelude.{◌≡◌, true, IfNone, IfSome, Ok};
+ghost use Rattle.std.specs.Prelude.{◌≡◌, true, IfNone, IfSome, Ok, length};
 ghost use Rattle.modem_sim.specs.Sims.{SimGoes};
-ghost use Rattle.modem_bench.specs.Rounds.{EndsInRounds, GoesOnRound, IsFull, IsLastRound, IsRound, JoinsOn, RunsFar, TellsModemTo, judged_by, pair, sight_in};
+ghost use Rattle.mux_frame.specs.Laws.{AreOctets};
+ghost use Rattle.serial_line.specs.CutLine.{other_side_of};
+ghost use Rattle.modem_bench.specs.OneLine.{StaysOneLine, TellsModemTo};
+ghost use Rattle.modem_bench.specs.Rounds.{EndsInRounds, GoesOnRound, IsFull, IsLastRound, IsRound, JoinsOn, RunsFar, judged_by, pair, sight_in};
 
 use crate::signals::Fault;
 use crate::{driving, simulating};
@@ -35,6 +38,7 @@ pub struct Said {
 fn turns(sim: &mut Sim<CutLine>) -> Result<SimTurn, SimError>
     ensures runs { RunsFar sim.old sim.new result }
     ensures goes { SimGoes sight_in.received sight_in.sent sim.old sim.new }
+    ensures beyond { other_side_of sim.new.line ≡ other_side_of sim.old.line }
 {
     for _ in 0..TURNS {
         match sim.turn() {
@@ -47,6 +51,31 @@ fn turns(sim: &mut Sim<CutLine>) -> Result<SimTurn, SimError>
     Ok(SimTurn::Moved)
 }
 
+/// What a slice holds are octets.
+fn are_octets(octets: &[u8])
+    ensures { AreOctets octets.now }
+{
+    let _count = octets.len();
+}
+
+/// So is what a session sent and has to send.
+fn near_octets<R: Wait + Drop>(session: &Session<CutLine, R>)
+    ensures sent { AreOctets session.now.line.sent }
+    ensures unwritten { AreOctets session.now.kept.unwritten }
+{
+    are_octets(session.line().sent());
+    are_octets(session.unwritten());
+}
+
+/// So is what a simulated modem sent and has to send.
+fn far_octets(sim: &Sim<CutLine>)
+    ensures sent { AreOctets sim.now.line.sent }
+    ensures unwritten { AreOctets sim.now.kept.out }
+{
+    are_octets(sim.line().sent());
+    are_octets(sim.unwritten());
+}
+
 /// One round: a poll of the session, one carrying between the lines, and the turns of a poll of the simulated modem.
 fn round<R: Wait + Drop>(
     session: &mut Session<CutLine, R>,
@@ -55,9 +84,12 @@ fn round<R: Wait + Drop>(
 ) -> Said
     ensures round { IsRound cut (pair session.old sim.old) (pair session.new sim.new) (record { near = result.near; far = result.far }) }
     ensures joins { JoinsOn (pair session.old sim.old) (pair session.new sim.new) }
+    ensures one_line { StaysOneLine (pair session.old sim.old) (pair session.new sim.new) }
 {
+    far_octets(sim);
     let near = session.advance();
     session.line_mut().carry(sim.line_mut(), cut);
+    near_octets(session);
     let far = turns(sim);
     Said { near, far }
 }
@@ -118,6 +150,7 @@ fn step<R: Wait + Drop>(
     ensures ends { IfSome result (IsLastRound cut room (pair session.old sim.old) (pair session.new sim.new)) }
     ensures goes { IfNone result (GoesOnRound cut (pair session.old sim.old) (pair session.new sim.new)) }
     ensures joins { JoinsOn (pair session.old sim.old) (pair session.new sim.new) }
+    ensures one_line { StaysOneLine (pair session.old sim.old) (pair session.new sim.new) }
 {
     let said = round(session, sim, cut);
     match judge(said) {
@@ -136,6 +169,7 @@ fn steps<R: Wait + Drop>(
 ) -> Result<Rest, Fault>
     ensures ended { EndsInRounds cut room rounds (pair session.old sim.old) (pair session.new sim.new) result }
     ensures joins { JoinsOn (pair session.old sim.old) (pair session.new sim.new) }
+    ensures one_line { StaysOneLine (pair session.old sim.old) (pair session.new sim.new) }
 {
     for _ in 0..rounds {
         match step(session, sim, cut, room) {
@@ -152,10 +186,11 @@ fn steps<R: Wait + Drop>(
 /// `room` octets; at the latest after so many rounds. Refusals: the fault of the session, or else that of the simulated modem, after
 /// the first round that has one.
 ///
-/// Whatever joint list of acts the two had before, it goes on to one that they have after it. In each joint list of theirs that is
-/// one line's, with each connection asked for once at most and only unsolicited lines announced, each command told Done is told
-/// what the modem answered to it at its place.
-#[tactic(auto, using(crate::proofs::JointLists::tells_modem_to))]
+/// Whatever joint list of acts the two had before, it goes on to one that they have after it; and where they began at new lines,
+/// with one N1, it stays one line's: what came at each end are the first frames that the other sent. In each such list in which
+/// each connection is asked for once at most and only unsolicited lines are announced, each command told Done is told what the
+/// modem answered to it at its place.
+#[tactic(auto, using(crate::proofs::OneLine::tells_modem_to))]
 pub fn run_in_rounds<R: Wait + Drop>(
     session: &mut Session<CutLine, R>,
     sim: &mut Sim<CutLine>,
@@ -165,6 +200,7 @@ pub fn run_in_rounds<R: Wait + Drop>(
 ) -> Result<Rest, Fault>
     ensures ended { EndsInRounds cut room rounds (pair session.old sim.old) (pair session.new sim.new) result }
     ensures joins { JoinsOn (pair session.old sim.old) (pair session.new sim.new) }
+    ensures one_line { StaysOneLine (pair session.old sim.old) (pair session.new sim.new) }
     ensures told { TellsModemTo (pair session.new sim.new) }
 {
     steps(session, sim, cut, room, rounds)

@@ -1,8 +1,11 @@
 -- What contracts see of a session, and which histories it fits.
-use Rattle.std.specs.Prelude.{◌≡◌, ℕ, ◌<◌, ◌≤◌, ◌++◌, filter, map, Bool, true, false, List, [], length, Option, None, nat_lt}
+use Rattle.std.specs.Prelude.{◌≡◌, ℕ, ◌<◌, ◌≤◌, ◌++◌, filter, map, Bool, true, false, List, [], ◌∷◌, length, Option, None, nat_lt}
 use Rattle.std.specs.List.{list_all}
 use Rattle.mux_frame.specs.Deframing.{Deframing}
 use Rattle.at_text.specs.declared.unsolicited.UrcKind.{UrcKind}
+use Rattle.at_text.specs.Commands.{refusal_of}
+use Rattle.modem_desk.specs.declared.request.Ask.{Ask}
+use Rattle.modem_desk.specs.declared.request.Ask.TheVariants.{Command, Probe}
 use Rattle.modem_desk.specs.declared.request.Request.{Request}
 use Rattle.modem_desk.specs.declared.request.Outcome.{Outcome}
 use Rattle.modem_desk.specs.declared.request.Urc.{Urc}
@@ -143,12 +146,23 @@ Ticks look old new =
     GoesTick (session_view look old) (session_view look new) (λ b. FitsInside b look old)
     (λ b. FitsInside b look new)
 
--- the same desk, whose end took these requests more, each of a caller of that desk
+-- a command is a command line (V.250, 5.2.1), and a probe has at most 16 octets
+abbrev pub IsFormedAsk : Ask → Type 0
+IsFormedAsk (Command d line) = refusal_of line ≡ None
+IsFormedAsk (Probe octets) = length octets ≤ 16
+IsFormedAsk _ = Unit {0}
+
+abbrev pub AreFormed : List Request → Type 0
+AreFormed [] = Unit {0}
+AreFormed (q ∷ qs) = IsFormedAsk q.ask × AreFormed qs
+
+-- the same desk, whose end took these requests more, each of a caller of that desk and of its form
 pub record TakesMore (old new : DriverView) : Type 0 where
   pub desk : new.desk ≡ old.desk
   pub more : List Request
   pub taken : new.taken ≡ old.taken ++ more
   pub callers : list_all (λ (q : Request). nat_lt q.caller (length old.desk.rings)) more ≡ true
+  pub formed : AreFormed more
 
 -- what is left of a session that ended is what each history that it fits says
 abbrev pub SessionEnds : {X : Type 0} → (X → LineView) → SessionState X → Leftovers → Type 0

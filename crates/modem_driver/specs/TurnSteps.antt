@@ -19,7 +19,7 @@ use Rattle.modem_history.specs.GoingOut.{next_out}
 use Rattle.modem_history.specs.EveryTurn.{GivesSome, ReadsWhereFed, count_at, is_check, octets_out, acts_out, goes_in, octets_offered, count_taken, stalled_after, empty_after, asked_in_vain}
 use Rattle.modem_driver.specs.Running.{CoreIsIdle}
 use Rattle.modem_driver.specs.Endings.{KeepsEnd}
-use Rattle.modem_driver.specs.SessionStates.{Kept, KeptFits, seen_by, end_of}
+use Rattle.modem_driver.specs.SessionStates.{AreFormed, Kept, KeptFits, seen_by, end_of}
 
 -- ## What a turn works on
 
@@ -244,6 +244,7 @@ pub record TakesOne (old new : TurnState) (moved : Bool) : Type 0 where
   pub taken : new.driver.taken ≡ old.driver.taken ++ request_given next
   pub callers : list_all (λ (q : Request). nat_lt q.caller (length old.driver.desk.rings))
       (request_given next) ≡ true
+  pub formed : AreFormed (request_given next)
   pub asks_bare : next ≢ None → old.kept.aside ≡ None
   pub none_aside : new.kept.aside ≡ None
   pub still : moved ≡ false → (acts ≡ []) × (new.kept ≡ old.kept)
@@ -275,6 +276,7 @@ pub record KeepsAside (old new : TurnState) : Type 0 where
   pub taken : new.driver.taken ≡ old.driver.taken ++ request_given next
   pub callers : list_all (λ (q : Request). nat_lt q.caller (length old.driver.desk.rings))
       (request_given next) ≡ true
+  pub formed : AreFormed (request_given next)
   pub asks_bare : next ≢ None → old.kept.aside ≡ None
   pub one_aside : (new.kept.aside ≢ None)
       × (option_to_list new.kept.aside ≡ option_to_list old.kept.aside ++ request_given next)

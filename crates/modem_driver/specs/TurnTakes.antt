@@ -8,7 +8,7 @@ use Rattle.modem_history.specs.Acts.{Act}
 use Rattle.modem_history.specs.Sessions.{Beginning, LineView, FitsWith}
 use Rattle.modem_history.specs.EveryTurn.{asked_in_vain}
 use Rattle.modem_history.specs.Turns.{counted, request_given}
-use Rattle.modem_driver.specs.SessionStates.{Kept, KeptFits, KeptGoes, seen_by, end_of}
+use Rattle.modem_driver.specs.SessionStates.{AreFormed, Kept, KeptFits, KeptGoes, seen_by, end_of}
 use Rattle.modem_driver.specs.TurnSteps.{TurnState, Leads, Adds, is_more}
 
 -- The desk is asked where none is aside and there is room for one more, and what it gives is put aside.
@@ -19,6 +19,7 @@ pub record Fetches (old new : TurnState) : Type 0 where
   pub aside : option_to_list new.kept.aside ≡ option_to_list old.kept.aside ++ request_given next
   pub callers : list_all (λ (q : Request). nat_lt q.caller (length old.driver.desk.rings))
       (request_given next) ≡ true
+  pub formed : AreFormed (request_given next)
   pub asks_bare : next ≢ None → old.kept.aside ≡ None
   pub none : new.kept.aside ≡ None
       → (next ≡ Some None) ⊎ (128 ≤ length old.kept.core.hand + length old.kept.unplaced)

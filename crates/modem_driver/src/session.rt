@@ -126,6 +126,20 @@ impl<L: SerialLine, R: Wait + Drop> Session<L, R> {
         }
     }
 
+    /// The line.
+    pub fn line(&self) -> &L
+        ensures { result.now ≡ self.now.line }
+    {
+        &self.line
+    }
+
+    /// The octets that are to be written and that the line hasn't taken yet.
+    pub fn unwritten(&self) -> &[u8]
+        ensures { result.now ≡ self.now.kept.unwritten }
+    {
+        self.kept.output.as_slice()
+    }
+
     /// The line, lent. The session fits afterwards what it fitted before where what was done through
     /// the loan left the octets received and sent and all counts as they were.
     pub fn line_mut(&mut self) -> &mut L

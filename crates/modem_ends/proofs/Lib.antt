@@ -1,3 +1,4 @@
 pub mod two_ends
 pub mod law_proofs
 pub mod rows
+pub mod octets

@@ -23,6 +23,7 @@ impl Kept {
         ensures bounded { L.calls line.new ≤ L.calls line.old + 2 }
         ensures sound { result ≢ Err SimError.Line → L.failures line.new ≡ L.failures line.old }
         ensures failure { result ≡ Err SimError.Line → L.failures line.new ≡ L.failures line.old + 1 }
+        ensures beyond { L.other_side line.new ≡ L.other_side line.old }
     {
         let done = self.do_steps()?;
         let wrote = self.write(line)? > 0;

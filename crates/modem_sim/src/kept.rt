@@ -224,6 +224,7 @@ impl Kept {
         ensures bounded { L.calls line.new ≤ L.calls line.old + 1 }
         ensures sound { OnOk result (L.failures line.new ≡ L.failures line.old) }
         ensures failure { OnErr result (L.failures line.new ≡ L.failures line.old + 1) }
+        ensures beyond { L.other_side line.new ≡ L.other_side line.old }
     {
         let octets = self.out.as_slice();
         if octets.is_empty() {
@@ -255,6 +256,7 @@ impl Kept {
         ensures bounded { L.calls line.new ≤ L.calls line.old + 1 }
         ensures sound { OnOk result (L.failures line.new ≡ L.failures line.old) }
         ensures failure { OnErr result (L.failures line.new ≡ L.failures line.old + 1) }
+        ensures beyond { L.other_side line.new ≡ L.other_side line.old }
     {
         if !self.unfed.is_empty() {
             return Ok(false);

@@ -18,6 +18,7 @@ impl<L: SerialLine> Sim<L> {
         ensures runs { Runs (sight L.received L.sent L.calls L.failures L.empty_reads L.stalled_writes) self.old self.new result }
         ensures goes { SimGoes L.received L.sent self.old self.new }
         ensures bounded { L.calls self.new.line ≤ L.calls self.old.line + 128 }
+        ensures beyond { L.other_side self.new.line ≡ L.other_side self.old.line }
     {
         for _ in 0..TURNS {
             match self.turn() {
@@ -54,6 +55,7 @@ impl<L: SerialLine> Sim<L> {
         ensures polls { Polls (sight L.received L.sent L.calls L.failures L.empty_reads L.stalled_writes) self.old self.new result }
         ensures goes { SimGoes L.received L.sent self.old self.new }
         ensures bounded { L.calls self.new.line ≤ L.calls self.old.line + 128 }
+        ensures beyond { L.other_side self.new.line ≡ L.other_side self.old.line }
     {
         if let Some(end) = self.end() {
             return Some(end);

@@ -112,6 +112,7 @@ impl<L: SerialLine> Sim<L> {
         ensures goes_on { IfOk result (λ turn. has_ended self.new ≡ true → turn ≡ SimTurn.Ended) }
         ensures end { end_given self.new ≡ end_given self.old }
         ensures bounded { L.calls self.new.line ≤ L.calls self.old.line + 2 }
+        ensures beyond { L.other_side self.new.line ≡ L.other_side self.old.line }
         ensures sound { result ≢ Err SimError.Line → L.failures self.new.line ≡ L.failures self.old.line }
         ensures failure { result ≡ Err SimError.Line
             → L.failures self.new.line ≡ L.failures self.old.line + 1 }
@@ -140,6 +141,20 @@ impl<L: SerialLine> Sim<L> {
             → result ≡ state_shown dlci.number past }
     {
         self.kept.core.station.state(dlci)
+    }
+
+    /// The line.
+    pub fn line(&self) -> &L
+        ensures { result.now ≡ self.now.line }
+    {
+        &self.line
+    }
+
+    /// The octets that are to be written and that the line hasn't taken yet.
+    pub fn unwritten(&self) -> &[u8]
+        ensures { result.now ≡ self.now.kept.out }
+    {
+        self.kept.out.as_slice()
     }
 
     /// The line, lent. What it fitted before it fits afterwards, where what was done left the octets received and sent as they

@@ -3,6 +3,7 @@ use Rattle.std.specs.Prelude.{ℕ, ◌+◌, ◌-◌, List, [], ◌++◌, length,
 use Rattle.serial_line.specs.declared.cuts.Cut.{Cut}
 use Rattle.serial_line.specs.declared.line.LineFault.{LineFault}
 use Rattle.serial_line.specs.Counts.{one_more, counted_if_none}
+use Rattle.serial_line.specs.OtherSide.{OtherSide}
 
 pub record CutState : Type 0 where
   pub received : List ℕ  -- what its reads gave
@@ -44,6 +45,10 @@ room_to_send s = s.room - length s.sent
 -- what was sent and not yet given on
 abbrev pub unmoved : CutState → List ℕ
 unmoved s = drop s.moved s.sent
+
+-- what was put in and carried to it, and what was taken and carried from it
+abbrev pub other_side_of : CutState → OtherSide
+other_side_of s = record { given = s.received ++ s.waiting; passed_on = take s.moved s.sent }
 
 -- after a read with this room: it counts as a call, and its entry is used up
 abbrev pub after_read : CutState → (room : ℕ) → Result ℕ LineFault → CutState

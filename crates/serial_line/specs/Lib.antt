@@ -1,5 +1,6 @@
 pub mod Counts
 pub mod Cuts
+pub mod OtherSide
 pub mod Tape
 pub mod CutLine
 pub mod ThreadLine

@@ -2,7 +2,7 @@
 ghost use Rattle.std.specs.Prelude.{◌≡◌, ◌+◌, ◌^◌, ◌<◌, ◌≤◌, ◌++◌, take, drop, length, min, IfOk, OnErr, IsOkUnless};
 ghost use Rattle.serial_line.specs.Counts.{one_more};
 ghost use Rattle.serial_line.specs.Cuts.{outcome_of};
-ghost use Rattle.serial_line.specs.CutLine.{new_line, room_to_receive, room_to_send, unmoved, after_read, after_write, carried, after_carry};
+ghost use Rattle.serial_line.specs.CutLine.{new_line, room_to_receive, room_to_send, unmoved, after_read, after_write, carried, after_carry, other_side_of};
 
 use crate::counting::count_if_none;
 use crate::cuts::{Cut, Cuts};
@@ -151,6 +151,8 @@ impl SerialLine for CutLine {
 
     ghost stalled_writes = { λ l. l.stalled_writes };
 
+    ghost other_side = { other_side_of };
+
     /// Gives as many octets as its entry, the buffer and the octets there allow.
     fn try_read(&mut self, buffer: &mut [u8]) -> Result<usize, LineFault>
         ensures value { let most = min (length buffer.old) (length self.old.waiting)
@@ -171,11 +173,13 @@ impl SerialLine for CutLine {
     }
 
     /// Takes as many octets as its entry, the slice and the room allow.
+    #[tactic(auto, using(crate::proofs::PassedOctets::passed_stay))]
     fn try_write(&mut self, octets: &[u8]) -> Result<usize, LineFault>
         ensures value { let most = min (length octets.now) (room_to_send self.old)
             in result ≡ outcome_of self.old.writes self.old.failures most }
         ensures bound { IfOk result (λ n. n ≤ length octets.now) }
         ensures line { self.new ≡ after_write self.old octets.now result }
+        ensures beyond { other_side_of self.new ≡ other_side_of self.old }
     {
         self.calls = self.calls.saturating_add(1);
         let most = octets.len().min(self.output.free());

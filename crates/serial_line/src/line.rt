@@ -1,6 +1,7 @@
 //! What a line is to its callers.
 ghost use Rattle.std.specs.Prelude.{◌≡◌, ℕ, ◌+◌, ◌<◌, ◌≤◌, ◌++◌, List, length, take, IfOk, OnErr};
 ghost use Rattle.serial_line.specs.Counts.{one_more, counted_if_none};
+ghost use Rattle.serial_line.specs.OtherSide.{OtherSide};
 
 use thiserror::Error;
 
@@ -35,6 +36,11 @@ pub trait SerialLine {
     /// The writes so far that were offered at least one octet and took none.
     ghost stalled_writes: { Self → ℕ };
 
+    /// What was done with it on its other side: all octets that were given to be read, read or not,
+    /// and those of the octets that it took that were given on. No call of its user changes it. A line
+    /// that doesn't know of it has none of both.
+    ghost other_side: { Self → OtherSide };
+
     /// Writes the next octets to the front of the buffer, and says how many. What stands behind them
     /// there is left open.
     fn try_read(&mut self, buffer: &mut [u8]) -> Result<usize, LineFault>
@@ -53,7 +59,9 @@ pub trait SerialLine {
         ensures empty { IfOk result (λ n.
             empty_reads self.new ≡ counted_if_none (length buffer.old) n (empty_reads self.old)) }
         ensures not_empty { OnErr result (empty_reads self.new ≡ empty_reads self.old) }
-        ensures no_write { stalled_writes self.new ≡ stalled_writes self.old };
+        ensures no_write { stalled_writes self.new ≡ stalled_writes self.old }
+
+        ensures beyond { other_side self.new ≡ other_side self.old };
 
     /// Takes octets from the front of these, and says how many.
     fn try_write(&mut self, octets: &[u8]) -> Result<usize, LineFault>
@@ -72,5 +80,7 @@ pub trait SerialLine {
         ensures stalled { IfOk result (λ n.
             stalled_writes self.new ≡ counted_if_none (length octets.now) n (stalled_writes self.old)) }
         ensures not_stalled { OnErr result (stalled_writes self.new ≡ stalled_writes self.old) }
-        ensures no_read { empty_reads self.new ≡ empty_reads self.old };
+        ensures no_read { empty_reads self.new ≡ empty_reads self.old }
+
+        ensures beyond { other_side self.new ≡ other_side self.old };
 }

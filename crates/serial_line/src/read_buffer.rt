@@ -78,6 +78,7 @@ impl ReadBuffer {
             L.empty_reads line.new ≡ counted_if_none 512 n (L.empty_reads line.old)) }
         ensures not_empty { OnErr result (L.empty_reads line.new ≡ L.empty_reads line.old) }
         ensures no_write { L.stalled_writes line.new ≡ L.stalled_writes line.old }
+        ensures beyond { L.other_side line.new ≡ L.other_side line.old }
     {
         self.start = 0;
         self.end = 0;

@@ -7,6 +7,7 @@
 ghost use Rattle.std.specs.Prelude.{◌≡◌, ◌+◌, ◌<◌, ◌≤◌, ◌++◌, ◌⊎◌, [], take, length, IfOk, OnErr, MatchResult};
 ghost use Rattle.std.specs.Io.KnownBytes.{Keeps, Consumes, Appends, IsAtEnd};
 ghost use Rattle.serial_line.specs.Counts.{one_more, counted_if_none};
+ghost use Rattle.serial_line.specs.OtherSide.{unknown_side};
 ghost use Rattle.serial_line.specs.StreamLine.{new_stream, IsRefused};
 ghost use Rattle.serial_line.specs.declared.stream_line.ZeroRead.TheVariants.{Ended};
 
@@ -165,6 +166,8 @@ impl<R: Read, W: Write> SerialLine for StreamLine<R, W> {
     ghost empty_reads = { λ l. l.empty_reads };
 
     ghost stalled_writes = { λ l. l.stalled_writes };
+
+    ghost other_side = { λ _. unknown_side };
 
     /// Reads once.
     fn try_read(&mut self, buffer: &mut [u8]) -> Result<usize, LineFault>

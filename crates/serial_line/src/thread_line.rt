@@ -2,6 +2,7 @@
 ghost use Rattle.std.specs.Prelude.{◌≡◌, ◌+◌, ◌<◌, ◌≤◌, ◌++◌, ◌↔◌, ◌⊎◌, [], take, drop, length, IsOk, IfOk, IsErrOf};
 ghost use mathlib.Core.List.{IsPrefix};
 ghost use Rattle.serial_line.specs.Counts.{one_more, counted_if_none};
+ghost use Rattle.serial_line.specs.OtherSide.{unknown_side};
 ghost use Rattle.serial_line.specs.ThreadLine.{AreEnds, IsNew};
 
 use crate::counting::count_if_none;
@@ -100,6 +101,8 @@ impl SerialLine for ThreadLine {
     ghost empty_reads = { λ l. l.empty_reads };
 
     ghost stalled_writes = { λ l. l.stalled_writes };
+
+    ghost other_side = { λ _. unknown_side };
 
     /// Gives what is there, as far as the buffer goes.
     fn try_read(&mut self, buffer: &mut [u8]) -> Result<usize, LineFault>

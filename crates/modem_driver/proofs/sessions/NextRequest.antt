@@ -16,7 +16,7 @@ use Rattle.modem_history.specs.Sessions.{Beginning, LineView, taken_since, heard
 use Rattle.modem_history.specs.Turns.{counted, request_given, outcomes_told, lines_heard}
 use Rattle.modem_history.proofs.law_proofs.SessionLaws.{since_more}
 use Rattle.modem_driver.specs.declared.session.error.SessionFault.{SessionFault}
-use Rattle.modem_driver.specs.SessionStates.{Kept, KeptGoes, seen_by, end_of}
+use Rattle.modem_driver.specs.SessionStates.{AreFormed, Kept, KeptGoes, seen_by, end_of}
 use Rattle.modem_driver.specs.TurnSteps.{TurnState, StandingFits, Leads, AddsAll, TakesOne, KeepsAside, turn_state}
 use Rattle.modem_driver.specs.TurnTakes.{Fetches, TakesAside, TakesIf}
 use Rattle.modem_driver.proofs.law_proofs.RequestNumbers.{taken_once}
@@ -38,15 +38,16 @@ pub record Gives (d e : DriverView) (o : Option Request) : Type 0 where
   pub once : are_distinct e.taken ≡ true
   pub more : e.taken ≡ d.taken ++ option_to_list o
   pub callers : list_all (is_caller (length d.desk.rings)) (option_to_list o) ≡ true
+  pub formed : AreFormed (option_to_list o)
 
 caller_of : (d : DriverView) (q : Request) → q.caller < length d.desk.rings → list_all (is_caller (length d.desk.rings)) (q ∷ []) ≡ true
 caller_of d q h = grind arith
 
 pub gives : (d e : DriverView) (o : Option Request) → e.desk ≡ d.desk → e.told ≡ d.told → e.announced ≡ d.announced → (e.free ≡ d.free) × (e.free_lines ≡ d.free_lines) → (e.told_back ≡ d.told_back) × (e.announced_back ≡ d.announced_back)
     → MatchOption o (RisesByOne d.found_none e.found_none) (λ _. e.found_none ≡ d.found_none) → AreNumbered e.taken
-    → MatchOption o (e.taken ≡ d.taken) (λ q. (e.taken ≡ d.taken ++ q ∷ []) × (q.caller < length d.desk.rings)) → Gives d e o
-gives d e None desk told announced places backs found once h = record { desk = desk; told = told; announced = announced; places = places; backs = backs; found = found; once = taken_once e.taken once; more = h ∙ sym (append-nil d.taken); callers = refl }
-gives d e (Some q) desk told announced places backs found once h = record { desk = desk; told = told; announced = announced; places = places; backs = backs; found = found; once = taken_once e.taken once; more = h.0; callers = caller_of d q h.1 }
+    → MatchOption o (e.taken ≡ d.taken) (λ q. (e.taken ≡ d.taken ++ q ∷ []) × (q.caller < length d.desk.rings)) → AreFormed (option_to_list o) → Gives d e o
+gives d e None desk told announced places backs found once h formed = record { desk = desk; told = told; announced = announced; places = places; backs = backs; found = found; once = taken_once e.taken once; more = h ∙ sym (append-nil d.taken); callers = refl; formed = formed }
+gives d e (Some q) desk told announced places backs found once h formed = record { desk = desk; told = told; announced = announced; places = places; backs = backs; found = found; once = taken_once e.taken once; more = h.0; callers = caller_of d q h.1; formed = formed }
 
 pub is_none : (o : Option Request) → is_some o ≡ false → o ≡ None
 is_none None h = refl
@@ -114,6 +115,7 @@ fetches l d e old o none room g = record {
   leads = asks_next l d e old o none room g;
   taken = g.more;
   callers = g.callers;
+  formed = g.formed;
   aside = ap (λ (x : Option Request). option_to_list x ++ option_to_list o) (sym none);
   asks_bare = λ _. none;
   none = λ h. inl (ap (λ (x : Option Request). Some x) h);
@@ -137,6 +139,7 @@ fetches_none l d k full = record {
   leads = leads_still (turn_state l d k);
   taken = sym (append-nil d.taken);
   callers = refl;
+  formed = tt;
   aside = sym (append-nil (option_to_list k.aside));
   asks_bare = λ asked. absurd (asked refl);
   none = λ h. inr (full h);
@@ -173,6 +176,7 @@ takes_none l d e old mid h none =
       moved_is = refl;
       taken = h.taken;
       callers = h.callers;
+      formed = h.formed;
       asks_bare = h.asks_bare;
       none_aside = none;
       still = λ _. (refl, same);
@@ -216,6 +220,7 @@ takes_some l d e old mid new h t = record {
   moved_is = sym t.moves;
   taken = h.taken;
   callers = h.callers;
+  formed = h.formed;
   asks_bare = h.asks_bare;
   none_aside = ap (λ (k : Kept). k.aside) t.stays;
   still = λ n. cc;
@@ -245,6 +250,7 @@ keep_two d e old mid new h same some l = subst (λ (k : Kept). KeepsAside (turn_
   leads = (h l).leads;
   taken = (h l).taken;
   callers = (h l).callers;
+  formed = (h l).formed;
   asks_bare = (h l).asks_bare;
   one_aside = (some, (h l).aside);
   desk_stays = (h l).desk_stays;

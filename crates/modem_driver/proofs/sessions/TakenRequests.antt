@@ -3,21 +3,25 @@ use Rattle.std.proofs.Common.{ap, sym, ◌∙◌, subst}
 use Rattle.std.proofs.lemmas.Bool.{and_from}
 use Rattle.std.proofs.lemmas.List.{append-nil, append_assoc}
 use Rattle.std.proofs.lemmas.List.Folds.{list_all-append}
-use Rattle.std.specs.Prelude.{◌≡◌, Bool, true, List, [], ◌++◌, length, refl}
+use Rattle.std.specs.Prelude.{◌≡◌, Bool, true, List, [], ◌∷◌, ◌++◌, length, refl}
 use Rattle.std.specs.List.{list_all}
 use Rattle.modem_desk.specs.declared.request.Request.{Request}
 use Rattle.modem_desk.specs.Ends.{DeskId, DriverView}
 use Rattle.modem_history.specs.Turns.{request_given}
 use Rattle.modem_driver.specs.declared.session.error.SessionFault.{SessionFault}
-use Rattle.modem_driver.specs.SessionStates.{TakesMore}
+use Rattle.modem_driver.specs.SessionStates.{AreFormed, TakesMore}
 use Rattle.modem_driver.specs.SessionTurns.{LosesOr}
 use Rattle.modem_driver.specs.TurnSteps.{TurnState, Places, Checks, ChecksPart, SendsOn, Writes, Gets, ReadsOn, TakesOne, KeepsAside}
 use Rattle.modem_driver.proofs.sessions.OutcomeCounts.{is_caller}
 
 -- ## None, and one after the other
 
+formed_both : (qs rs : List Request) → AreFormed qs → AreFormed rs → AreFormed (qs ++ rs)
+formed_both [] rs h k = k
+formed_both (q ∷ qs) rs h k = (h.0, formed_both qs rs h.1 k)
+
 pub takes_same : (d e : DriverView) → e.desk ≡ d.desk → e.taken ≡ d.taken → TakesMore d e
-takes_same d e desk taken = record { desk = desk; more = []; taken = taken ∙ sym (append-nil d.taken); callers = refl }
+takes_same d e desk taken = record { desk = desk; more = []; taken = taken ∙ sym (append-nil d.taken); callers = refl; formed = tt }
 
 pub takes_none : (d : DriverView) → TakesMore d d
 takes_none d = takes_same d d refl refl
@@ -31,6 +35,7 @@ takes_then d e f a b =
       taken = b.taken ∙ (ap (λ (qs : List Request). qs ++ b.more) a.taken ∙ append_assoc d.taken a.more b.more);
       callers = list_all-append (is_caller (length d.desk.rings)) a.more b.more
           ∙ and_from (list_all (is_caller (length d.desk.rings)) a.more) (list_all (is_caller (length d.desk.rings)) b.more) a.callers callers;
+      formed = formed_both a.more b.more a.formed b.formed;
     }
 
 -- ## Over the steps of a turn
@@ -60,8 +65,8 @@ read_driver {s1} {s2} {s3} {s4} {s5} {s6} {m2} {m3} {m4} {m5} {m6} k n w g r = a
 -- a request that is taken, and one that is kept aside
 pub took_one : (s0 s s7 : TurnState) {m7 : Bool} → TakesMore s0.driver s.driver → TakesOne s s7 m7 → TakesMore s0.driver s7.driver
 took_one s0 s s7 {m7} before q =
-    takes_then s0.driver s.driver s7.driver before (record { desk = q.desk_stays.0; more = request_given q.next; taken = q.taken; callers = q.callers })
+    takes_then s0.driver s.driver s7.driver before (record { desk = q.desk_stays.0; more = request_given q.next; taken = q.taken; callers = q.callers; formed = q.formed })
 
 pub kept_one : (s0 s s7 : TurnState) → TakesMore s0.driver s.driver → KeepsAside s s7 → TakesMore s0.driver s7.driver
 kept_one s0 s s7 before q =
-    takes_then s0.driver s.driver s7.driver before (record { desk = q.desk_stays.0; more = request_given q.next; taken = q.taken; callers = q.callers })
+    takes_then s0.driver s.driver s7.driver before (record { desk = q.desk_stays.0; more = request_given q.next; taken = q.taken; callers = q.callers; formed = q.formed })

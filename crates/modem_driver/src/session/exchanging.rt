@@ -11,8 +11,9 @@ impl Kept {
     /// there is no call. A fault is kept in mind.
     #[tactic(auto, using(crate::proofs::sessions::LineCalls::writes_none))]
     pub(crate) fn write_on<L: SerialLine>(&mut self, line: &mut L) -> bool
-        ensures { KeptWrites (line_by L.received L.sent L.calls L.failures L.empty_reads L.stalled_writes line.old)
+        ensures writes { KeptWrites (line_by L.received L.sent L.calls L.failures L.empty_reads L.stalled_writes line.old)
             (line_by L.received L.sent L.calls L.failures L.empty_reads L.stalled_writes line.new) self.old self.new result }
+        ensures beyond { L.other_side line.new ≡ L.other_side line.old }
     {
         if self.output.is_empty() {
             return false;
@@ -42,8 +43,9 @@ impl Kept {
     /// Reads from the line, once, where all octets were given to the deframer; and gives it those that
     /// wait. Says whether octets came, or were given to it. A fault is kept in mind.
     pub(crate) fn read_on<L: SerialLine>(&mut self, line: &mut L) -> bool
-        ensures { KeptReads (line_by L.received L.sent L.calls L.failures L.empty_reads L.stalled_writes line.old)
+        ensures reads { KeptReads (line_by L.received L.sent L.calls L.failures L.empty_reads L.stalled_writes line.old)
             (line_by L.received L.sent L.calls L.failures L.empty_reads L.stalled_writes line.new) self.old self.new result }
+        ensures beyond { L.other_side line.new ≡ L.other_side line.old }
     {
         if !self.input.is_empty() {
             return self.feed() > 0;

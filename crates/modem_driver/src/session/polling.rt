@@ -75,6 +75,7 @@ impl<L: SerialLine, R: Wait + Drop> Session<L, R> {
         ensures goes { SessionGoesOn (line_by L.received L.sent L.calls L.failures L.empty_reads L.stalled_writes) self.old self.new }
         ensures bounded { L.calls self.new.line ≤ L.calls self.old.line + 128 }
         ensures takes { TakesMore self.old.driver self.new.driver }
+        ensures beyond { L.other_side self.new.line ≡ L.other_side self.old.line }
         ensures lost { IfErr result (λ why. LeavesLost why self.new) }
     {
         for _ in 0..TURNS {
@@ -121,6 +122,7 @@ impl<L: SerialLine, R: Wait + Drop> Session<L, R> {
         ensures says { IfSome (end_in result) (SaysEnd (line_by L.received L.sent L.calls L.failures L.empty_reads L.stalled_writes) self.new) }
         ensures bounded { L.calls self.new.line ≤ L.calls self.old.line + 128 }
         ensures takes { TakesMore self.old.driver self.new.driver }
+        ensures beyond { L.other_side self.new.line ≡ L.other_side self.old.line }
     {
         match self.turns() {
             Ok(more) => {
@@ -150,6 +152,7 @@ impl<L: SerialLine, R: Wait + Drop> Session<L, R> {
         ensures gives { IfSome (end_in result) (Gives (line_by L.received L.sent L.calls L.failures L.empty_reads L.stalled_writes) self.old) }
         ensures bounded { L.calls self.new.line ≤ L.calls self.old.line + 128 }
         ensures takes { TakesMore self.old.driver self.new.driver }
+        ensures beyond { L.other_side self.new.line ≡ L.other_side self.old.line }
     {
         match self.end() {
             Some(end) => Progress::Ended(end),

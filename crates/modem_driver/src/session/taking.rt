@@ -1,14 +1,39 @@
 //! A request is taken: the one kept aside, or else the next of the desk.
-ghost use Rattle.std.specs.Prelude.{◌≡◌, ◌≢◌, None, IfOk, OnErr};
+ghost use Rattle.std.specs.Prelude.{◌≡◌, ◌≢◌, None, IfOk, OnErr, option_to_list};
 ghost use Rattle.modem_history.specs.Sessions.{LineView};
+ghost use Rattle.modem_driver.specs.SessionStates.{AreFormed, IsFormedAsk};
 ghost use Rattle.modem_driver.specs.TurnSteps.{turn_state, TakesOne, KeepsAside};
 ghost use Rattle.modem_driver.specs.TurnTakes.{Fetches, TakesIf};
 ghost use Rattle.modem_driver.specs.declared.session.error.SessionFault.TheVariants as fault;
 
 use crate::session::error::SessionFault;
 use crate::session::kept::Kept;
-use modem_desk::DriverEnd;
+use modem_desk::{Ask, DriverEnd, Request};
 use std::sync::Wait;
+
+/// What a request asks for has its form: its type says so.
+fn know_form(ask: &Ask)
+    ensures { IsFormedAsk ask.now }
+{
+    match ask {
+        Ask::Command(_, line) => {
+            let _text = line.text();
+        }
+        Ask::Probe(data) => {
+            let _octets = data.octets();
+        }
+        _ => {}
+    }
+}
+
+/// And so does the next one, if there is one.
+fn know_next(next: &Option<Request>)
+    ensures { AreFormed (option_to_list next.now) }
+{
+    if let Some(request) = next {
+        know_form(&request.ask);
+    }
+}
 
 impl Kept {
     /// Keeps the next request of the desk aside, where none is kept so, and where those in hand and
@@ -23,7 +48,9 @@ impl Kept {
         if self.waiting.count() >= self.core.hand_left() {
             return;
         }
-        self.aside = driver.next(rt);
+        let next = driver.next(rt);
+        know_next(&next);
+        self.aside = next;
     }
 
     /// Takes the request that is kept aside, and says whether there was one. Refusal: 1 NoMemory, which

@@ -73,8 +73,9 @@ impl<L: SerialLine, R: Wait + Drop> Session<L, R> {
 
     /// Offers what waits to the desk.
     fn place(&mut self) -> bool
-        ensures { Places (standing_of (line_by L.received L.sent L.calls L.failures L.empty_reads L.stalled_writes) self.old)
+        ensures places { Places (standing_of (line_by L.received L.sent L.calls L.failures L.empty_reads L.stalled_writes) self.old)
             (standing_of (line_by L.received L.sent L.calls L.failures L.empty_reads L.stalled_writes) self.new) result }
+        ensures line { self.new.line ≡ self.old.line }
     {
         self.kept.place(&mut self.driver)
     }
@@ -88,6 +89,7 @@ impl<L: SerialLine, R: Wait + Drop> Session<L, R> {
             (standing_of (line_by L.received L.sent L.calls L.failures L.empty_reads L.stalled_writes) self.old)
             (standing_of (line_by L.received L.sent L.calls L.failures L.empty_reads L.stalled_writes) self.new)) }
         ensures no_memory { OnErr result (result ≡ Err fault.NoMemory) }
+        ensures line { self.new.line ≡ self.old.line }
     {
         self.kept.check_backlogs()
     }
@@ -95,8 +97,9 @@ impl<L: SerialLine, R: Wait + Drop> Session<L, R> {
     /// Takes the next frame into the output.
     #[tactic(auto, unfolding(crate::specs::SendingSteps::KeptSends))]
     fn send_on(&mut self) -> bool
-        ensures { SendsOn (standing_of (line_by L.received L.sent L.calls L.failures L.empty_reads L.stalled_writes) self.old)
+        ensures sends { SendsOn (standing_of (line_by L.received L.sent L.calls L.failures L.empty_reads L.stalled_writes) self.old)
             (standing_of (line_by L.received L.sent L.calls L.failures L.empty_reads L.stalled_writes) self.new) result }
+        ensures line { self.new.line ≡ self.old.line }
     {
         self.kept.send_on()
     }
@@ -104,8 +107,9 @@ impl<L: SerialLine, R: Wait + Drop> Session<L, R> {
     /// Writes to the line.
     #[tactic(auto, unfolding(crate::specs::SessionTurns::KeptWrites))]
     fn write_on(&mut self) -> bool
-        ensures { Writes (standing_of (line_by L.received L.sent L.calls L.failures L.empty_reads L.stalled_writes) self.old)
+        ensures writes { Writes (standing_of (line_by L.received L.sent L.calls L.failures L.empty_reads L.stalled_writes) self.old)
             (standing_of (line_by L.received L.sent L.calls L.failures L.empty_reads L.stalled_writes) self.new) result }
+        ensures beyond { L.other_side self.new.line ≡ L.other_side self.old.line }
     {
         self.kept.write_on(&mut self.line)
     }
@@ -118,6 +122,7 @@ impl<L: SerialLine, R: Wait + Drop> Session<L, R> {
             (standing_of (line_by L.received L.sent L.calls L.failures L.empty_reads L.stalled_writes) self.new) moved) }
         ensures err { OnErr result (self.new ≡ self.old) }
         ensures no_memory { OnErr result (result ≡ Err fault.NoMemory) }
+        ensures line { self.new.line ≡ self.old.line }
     {
         self.kept.get_one()
     }
@@ -125,8 +130,9 @@ impl<L: SerialLine, R: Wait + Drop> Session<L, R> {
     /// Reads from the line, and feeds.
     #[tactic(auto, unfolding(crate::specs::SessionTurns::KeptReads))]
     fn read_on(&mut self) -> bool
-        ensures { ReadsOn (standing_of (line_by L.received L.sent L.calls L.failures L.empty_reads L.stalled_writes) self.old)
+        ensures reads { ReadsOn (standing_of (line_by L.received L.sent L.calls L.failures L.empty_reads L.stalled_writes) self.old)
             (standing_of (line_by L.received L.sent L.calls L.failures L.empty_reads L.stalled_writes) self.new) result }
+        ensures beyond { L.other_side self.new.line ≡ L.other_side self.old.line }
     {
         self.kept.read_on(&mut self.line)
     }
@@ -140,6 +146,7 @@ impl<L: SerialLine, R: Wait + Drop> Session<L, R> {
             (standing_of (line_by L.received L.sent L.calls L.failures L.empty_reads L.stalled_writes) self.old)
             (standing_of (line_by L.received L.sent L.calls L.failures L.empty_reads L.stalled_writes) self.new)) }
         ensures no_memory { OnErr result (result ≡ Err fault.NoMemory) }
+        ensures line { self.new.line ≡ self.old.line }
     {
         self.kept.take_one(&mut self.driver, &self.rt)
     }
@@ -149,6 +156,7 @@ impl<L: SerialLine, R: Wait + Drop> Session<L, R> {
     fn lose_line(&mut self) -> SessionFault
         requires { self.old.kept.faulty ≡ true }
         ensures lost { LeavesLost result self.new }
+        ensures line { self.new.line ≡ self.old.line }
         ensures loses { LosesOr result (standing_of (line_by L.received L.sent L.calls L.failures L.empty_reads L.stalled_writes) self.old)
             (standing_of (line_by L.received L.sent L.calls L.failures L.empty_reads L.stalled_writes) self.new) }
     {
@@ -180,6 +188,7 @@ impl<L: SerialLine, R: Wait + Drop> Session<L, R> {
         ensures failed { has_lost_line self.old ≡ true → result ≡ Err fault.Failed }
         ensures takes { TakesMore self.old.driver self.new.driver }
         ensures full { IfOk result (λ says. HasNoPlace self.new.driver (turn_answer says)) }
+        ensures beyond { L.other_side self.new.line ≡ L.other_side self.old.line }
     {
         let placed = self.place();
         if self.is_lost() {

@@ -2,10 +2,11 @@
 use Rattle.std.proofs.Common.{◌≡◌, ℕ, arith, subst}
 use Rattle.modem_bench.specs.Rounds.{Rounds, by_round, no_round, one_more, pair, used_up}
 use Rattle.modem_bench.proofs.JointLists.{joins_none, joins_then}
+use Rattle.modem_bench.proofs.OneLine.{stays_none, stays_then}
 use Rattle.modem_bench.proofs.rounds.steps.Goals as goal
 
 pub loop-init : goal.loop-init
-loop-init g c = record { rounds = no_round; joins = joins_none (pair c.args.session.now c.args.sim.now) }
+loop-init g c = record { rounds = no_round; joins = joins_none (pair c.args.session.now c.args.sim.now); one_line = stays_none (pair c.args.session.now c.args.sim.now) }
 
 pub loop-preserved : goal.loop-preserved
 loop-preserved g c =
@@ -15,6 +16,7 @@ loop-preserved g c =
     record {
       rounds = one_more c.loop.counter mid new c.loop.invariant.rounds c.in-None.ensures.goes;
       joins = joins_then old mid new c.loop.invariant.joins c.step.ensures.joins;
+      one_line = stays_then old mid new c.loop.invariant.one_line c.step.ensures.one_line;
     }
 
 pub returns-in-Some-clause-ended : goal.returns-in-Some-clause-ended
@@ -36,3 +38,10 @@ returns-clause-ended g c =
 
 pub returns-clause-joins : goal.returns-clause-joins
 returns-clause-joins g c = c.loop.invariant.joins
+
+pub returns-in-Some-clause-one_line : goal.returns-in-Some-clause-one_line
+returns-in-Some-clause-one_line g c =
+    stays_then (pair c.args.session.now c.args.sim.now) (pair c.loop.session c.loop.sim) (pair c.step.new.session c.step.new.sim) c.loop.invariant.one_line c.step.ensures.one_line
+
+pub returns-clause-one_line : goal.returns-clause-one_line
+returns-clause-one_line g c = c.loop.invariant.one_line

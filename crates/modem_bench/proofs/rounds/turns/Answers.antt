@@ -1,6 +1,6 @@
 -- One turn after the other.
-use Rattle.std.proofs.Common.{◌≡◌, ℕ, arith, subst}
-use Rattle.std.specs.Prelude.{Ok, Err}
+use Rattle.std.proofs.Common.{◌≡◌, ◌∙◌, ℕ, arith, subst}
+use Rattle.std.specs.Prelude.{Ok, Err, refl}
 use Rattle.modem_sim.specs.declared.sim.SimTurn.{SimTurn}
 use Rattle.modem_sim.specs.Polls.{MovesOn, Turned, moves_none, moves_once}
 use Rattle.modem_sim.proofs.sims.SimPasts.{sim_none, sim_then}
@@ -8,7 +8,7 @@ use Rattle.modem_bench.specs.Rounds.{sight_in, moves, rests, ends, fails}
 use Rattle.modem_bench.proofs.rounds.turns.Goals as goal
 
 pub loop-init : goal.loop-init
-loop-init c = record { goes = sim_none sight_in.received sight_in.sent c.args.sim.now; moves = moves_none }
+loop-init c = record { goes = sim_none sight_in.received sight_in.sent c.args.sim.now; beyond = refl; moves = moves_none }
 
 pub loop-preserved : goal.loop-preserved
 loop-preserved c =
@@ -30,6 +30,7 @@ loop-preserved c =
     let Says : SimTurn → Type 0 = λ says. Turned sight_in c.loop.sim c.turn.new.self (Ok says) in
     record {
       goes = sim_then sight_in.received sight_in.sent c.args.sim.now c.loop.sim c.turn.new.self c.loop.invariant.goes c.turn.ensures.goes;
+      beyond = c.turn.ensures.beyond ∙ c.loop.invariant.beyond;
       moves = moves_once c.loop.counter c.loop.sim c.turn.new.self c.loop.invariant.moves (subst Says c.in-Ok-Moved.field-0-is once);
     }
 

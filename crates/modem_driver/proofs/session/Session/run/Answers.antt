@@ -58,4 +58,5 @@ returns-in-Err g c =
       says = subst (λ (s : SessionState g.row.L.Denot). SaysEnd look s (Err why)) (sym kept) (failing_says look mid why);
       bounded = subst Few (sym kept) c.in-Err.ensures.bounded;
       takes = subst (λ (s : SessionState g.row.L.Denot). TakesMore old.driver s.driver) (sym kept) c.in-Err.ensures.takes;
+      beyond = ap (λ (s : SessionState g.row.L.Denot). g.L.SerialLine.other_side s.line) kept ∙ c.turns.ensures.beyond;
     }

@@ -14,109 +14,109 @@ pub returns-then-is_lost-clause-faults : goal.returns-then-is_lost-clause-faults
 unfolding Faults
 returns-then-is_lost-clause-faults g c =
     let look = line_by g.L.SerialLine.received g.L.SerialLine.sent g.L.SerialLine.calls g.L.SerialLine.failures g.L.SerialLine.empty_reads g.L.SerialLine.stalled_writes in
-    let p = c.place-placed.ensures in
+    let p = c.place-placed.ensures.places in
     (failed_before p (lost_at_first true p (sym c.is_lost.ensures ∙ c.if-is_lost.true))).fault
 
 pub returns-then-is_lost-clause-turned : goal.returns-then-is_lost-clause-turned
 returns-then-is_lost-clause-turned g c =
     let look = line_by g.L.SerialLine.received g.L.SerialLine.sent g.L.SerialLine.calls g.L.SerialLine.failures g.L.SerialLine.empty_reads g.L.SerialLine.stalled_writes in
-    let p = c.place-placed.ensures in
+    let p = c.place-placed.ensures.places in
     (failed_before p (lost_at_first true p (sym c.is_lost.ensures ∙ c.if-is_lost.true))).turned
 
 pub returns-then-is_faulty-clause-faults : goal.returns-then-is_faulty-clause-faults
 unfolding Faults
 returns-then-is_faulty-clause-faults g c =
     let look = line_by g.L.SerialLine.received g.L.SerialLine.sent g.L.SerialLine.calls g.L.SerialLine.failures g.L.SerialLine.empty_reads g.L.SerialLine.stalled_writes in
-    let p = c.place-placed.ensures in
+    let p = c.place-placed.ensures.places in
     (lost_first c.lose_line.result (standing_of look c.lose_line.new.self) p c.lose_line.ensures.loses (lost_at_first false p (sym c.is_lost.ensures ∙ c.if-is_lost.false))).fault
 
 pub returns-then-is_faulty-clause-turned : goal.returns-then-is_faulty-clause-turned
 returns-then-is_faulty-clause-turned g c =
     let look = line_by g.L.SerialLine.received g.L.SerialLine.sent g.L.SerialLine.calls g.L.SerialLine.failures g.L.SerialLine.empty_reads g.L.SerialLine.stalled_writes in
-    let p = c.place-placed.ensures in
+    let p = c.place-placed.ensures.places in
     (lost_first c.lose_line.result (standing_of look c.lose_line.new.self) p c.lose_line.ensures.loses (lost_at_first false p (sym c.is_lost.ensures ∙ c.if-is_lost.false))).turned
 
 pub returns-in_default-clause-faults : goal.returns-in_default-clause-faults
 unfolding Faults
 returns-in_default-clause-faults g c =
     let look = line_by g.L.SerialLine.received g.L.SerialLine.sent g.L.SerialLine.calls g.L.SerialLine.failures g.L.SerialLine.empty_reads g.L.SerialLine.stalled_writes in
-    let p = c.place-placed.ensures in
+    let p = c.place-placed.ensures.places in
     (checks_in_vain (standing_of look c.check_backlogs.new.self) p c.in_default.ensures.part (faulty_at_first false p (sym c.is_faulty.ensures ∙ c.if-is_faulty.false)) (lost_at_first false p (sym c.is_lost.ensures ∙ c.if-is_lost.false))).fault
 
 pub returns-in_default-clause-turned : goal.returns-in_default-clause-turned
 returns-in_default-clause-turned g c =
     let look = line_by g.L.SerialLine.received g.L.SerialLine.sent g.L.SerialLine.calls g.L.SerialLine.failures g.L.SerialLine.empty_reads g.L.SerialLine.stalled_writes in
-    let p = c.place-placed.ensures in
+    let p = c.place-placed.ensures.places in
     (checks_in_vain (standing_of look c.check_backlogs.new.self) p c.in_default.ensures.part (faulty_at_first false p (sym c.is_faulty.ensures ∙ c.if-is_faulty.false)) (lost_at_first false p (sym c.is_lost.ensures ∙ c.if-is_lost.false))).turned
 
 pub returns-then-is_faulty-2-clause-faults : goal.returns-then-is_faulty-2-clause-faults
 unfolding Faults
 returns-then-is_faulty-2-clause-faults g c =
     let look = line_by g.L.SerialLine.received g.L.SerialLine.sent g.L.SerialLine.calls g.L.SerialLine.failures g.L.SerialLine.empty_reads g.L.SerialLine.stalled_writes in
-    let p = c.place-placed.ensures in
+    let p = c.place-placed.ensures.places in
     let end = c.lose_line-then-is_faulty-2 in
-    (lost_writing end.result (standing_of look end.new.self) p c.in-Ok.ensures.checks c.send_on-sent.ensures c.write_on-wrote.ensures end.ensures.loses (faulty_at_first false p (sym c.is_faulty.ensures ∙ c.if-is_faulty.false)) (lost_at_first false p (sym c.is_lost.ensures ∙ c.if-is_lost.false))).fault
+    (lost_writing end.result (standing_of look end.new.self) p c.in-Ok.ensures.checks c.send_on-sent.ensures.sends c.write_on-wrote.ensures.writes end.ensures.loses (faulty_at_first false p (sym c.is_faulty.ensures ∙ c.if-is_faulty.false)) (lost_at_first false p (sym c.is_lost.ensures ∙ c.if-is_lost.false))).fault
 
 pub returns-then-is_faulty-2-clause-turned : goal.returns-then-is_faulty-2-clause-turned
 returns-then-is_faulty-2-clause-turned g c =
     let look = line_by g.L.SerialLine.received g.L.SerialLine.sent g.L.SerialLine.calls g.L.SerialLine.failures g.L.SerialLine.empty_reads g.L.SerialLine.stalled_writes in
-    let p = c.place-placed.ensures in
+    let p = c.place-placed.ensures.places in
     let end = c.lose_line-then-is_faulty-2 in
-    (lost_writing end.result (standing_of look end.new.self) p c.in-Ok.ensures.checks c.send_on-sent.ensures c.write_on-wrote.ensures end.ensures.loses (faulty_at_first false p (sym c.is_faulty.ensures ∙ c.if-is_faulty.false)) (lost_at_first false p (sym c.is_lost.ensures ∙ c.if-is_lost.false))).turned
+    (lost_writing end.result (standing_of look end.new.self) p c.in-Ok.ensures.checks c.send_on-sent.ensures.sends c.write_on-wrote.ensures.writes end.ensures.loses (faulty_at_first false p (sym c.is_faulty.ensures ∙ c.if-is_faulty.false)) (lost_at_first false p (sym c.is_lost.ensures ∙ c.if-is_lost.false))).turned
 
 pub returns-in_default-get_one-clause-faults : goal.returns-in_default-get_one-clause-faults
 unfolding Faults
 returns-in_default-get_one-clause-faults g c =
     let look = line_by g.L.SerialLine.received g.L.SerialLine.sent g.L.SerialLine.calls g.L.SerialLine.failures g.L.SerialLine.empty_reads g.L.SerialLine.stalled_writes in
-    let p = c.place-placed.ensures in
-    (gets_in_vain (standing_of look c.get_one.new.self) p c.in-Ok.ensures.checks c.send_on-sent.ensures c.write_on-wrote.ensures (ap (standing_of look) c.in_default-get_one.ensures.err) (faulty_at_first false p (sym c.is_faulty.ensures ∙ c.if-is_faulty.false)) (lost_at_first false p (sym c.is_lost.ensures ∙ c.if-is_lost.false))).fault
+    let p = c.place-placed.ensures.places in
+    (gets_in_vain (standing_of look c.get_one.new.self) p c.in-Ok.ensures.checks c.send_on-sent.ensures.sends c.write_on-wrote.ensures.writes (ap (standing_of look) c.in_default-get_one.ensures.err) (faulty_at_first false p (sym c.is_faulty.ensures ∙ c.if-is_faulty.false)) (lost_at_first false p (sym c.is_lost.ensures ∙ c.if-is_lost.false))).fault
 
 pub returns-in_default-get_one-clause-turned : goal.returns-in_default-get_one-clause-turned
 returns-in_default-get_one-clause-turned g c =
     let look = line_by g.L.SerialLine.received g.L.SerialLine.sent g.L.SerialLine.calls g.L.SerialLine.failures g.L.SerialLine.empty_reads g.L.SerialLine.stalled_writes in
-    let p = c.place-placed.ensures in
-    (gets_in_vain (standing_of look c.get_one.new.self) p c.in-Ok.ensures.checks c.send_on-sent.ensures c.write_on-wrote.ensures (ap (standing_of look) c.in_default-get_one.ensures.err) (faulty_at_first false p (sym c.is_faulty.ensures ∙ c.if-is_faulty.false)) (lost_at_first false p (sym c.is_lost.ensures ∙ c.if-is_lost.false))).turned
+    let p = c.place-placed.ensures.places in
+    (gets_in_vain (standing_of look c.get_one.new.self) p c.in-Ok.ensures.checks c.send_on-sent.ensures.sends c.write_on-wrote.ensures.writes (ap (standing_of look) c.in_default-get_one.ensures.err) (faulty_at_first false p (sym c.is_faulty.ensures ∙ c.if-is_faulty.false)) (lost_at_first false p (sym c.is_lost.ensures ∙ c.if-is_lost.false))).turned
 
 pub returns-then-is_faulty-3-clause-faults : goal.returns-then-is_faulty-3-clause-faults
 unfolding Faults
 returns-then-is_faulty-3-clause-faults g c =
     let look = line_by g.L.SerialLine.received g.L.SerialLine.sent g.L.SerialLine.calls g.L.SerialLine.failures g.L.SerialLine.empty_reads g.L.SerialLine.stalled_writes in
-    let p = c.place-placed.ensures in
+    let p = c.place-placed.ensures.places in
     let end = c.lose_line-then-is_faulty-3 in
-    (lost_reading end.result (standing_of look end.new.self) p c.in-Ok.ensures.checks c.send_on-sent.ensures c.write_on-wrote.ensures c.in-Ok-get_one.ensures.gets c.read_on-read.ensures end.ensures.loses (faulty_at_first false p (sym c.is_faulty.ensures ∙ c.if-is_faulty.false)) (lost_at_first false p (sym c.is_lost.ensures ∙ c.if-is_lost.false))).fault
+    (lost_reading end.result (standing_of look end.new.self) p c.in-Ok.ensures.checks c.send_on-sent.ensures.sends c.write_on-wrote.ensures.writes c.in-Ok-get_one.ensures.gets c.read_on-read.ensures.reads end.ensures.loses (faulty_at_first false p (sym c.is_faulty.ensures ∙ c.if-is_faulty.false)) (lost_at_first false p (sym c.is_lost.ensures ∙ c.if-is_lost.false))).fault
 
 pub returns-then-is_faulty-3-clause-turned : goal.returns-then-is_faulty-3-clause-turned
 returns-then-is_faulty-3-clause-turned g c =
     let look = line_by g.L.SerialLine.received g.L.SerialLine.sent g.L.SerialLine.calls g.L.SerialLine.failures g.L.SerialLine.empty_reads g.L.SerialLine.stalled_writes in
-    let p = c.place-placed.ensures in
+    let p = c.place-placed.ensures.places in
     let end = c.lose_line-then-is_faulty-3 in
-    (lost_reading end.result (standing_of look end.new.self) p c.in-Ok.ensures.checks c.send_on-sent.ensures c.write_on-wrote.ensures c.in-Ok-get_one.ensures.gets c.read_on-read.ensures end.ensures.loses (faulty_at_first false p (sym c.is_faulty.ensures ∙ c.if-is_faulty.false)) (lost_at_first false p (sym c.is_lost.ensures ∙ c.if-is_lost.false))).turned
+    (lost_reading end.result (standing_of look end.new.self) p c.in-Ok.ensures.checks c.send_on-sent.ensures.sends c.write_on-wrote.ensures.writes c.in-Ok-get_one.ensures.gets c.read_on-read.ensures.reads end.ensures.loses (faulty_at_first false p (sym c.is_faulty.ensures ∙ c.if-is_faulty.false)) (lost_at_first false p (sym c.is_lost.ensures ∙ c.if-is_lost.false))).turned
 
 pub returns-in_default-take_one-clause-faults : goal.returns-in_default-take_one-clause-faults
 unfolding Faults
 returns-in_default-take_one-clause-faults g c =
     let look = line_by g.L.SerialLine.received g.L.SerialLine.sent g.L.SerialLine.calls g.L.SerialLine.failures g.L.SerialLine.empty_reads g.L.SerialLine.stalled_writes in
-    let p = c.place-placed.ensures in
-    (takes_in_vain (standing_of look c.take_one.new.self) p c.in-Ok.ensures.checks c.send_on-sent.ensures c.write_on-wrote.ensures c.in-Ok-get_one.ensures.gets c.read_on-read.ensures c.in_default-take_one.ensures.keeps (faulty_at_first false p (sym c.is_faulty.ensures ∙ c.if-is_faulty.false)) (lost_at_first false p (sym c.is_lost.ensures ∙ c.if-is_lost.false))).fault
+    let p = c.place-placed.ensures.places in
+    (takes_in_vain (standing_of look c.take_one.new.self) p c.in-Ok.ensures.checks c.send_on-sent.ensures.sends c.write_on-wrote.ensures.writes c.in-Ok-get_one.ensures.gets c.read_on-read.ensures.reads c.in_default-take_one.ensures.keeps (faulty_at_first false p (sym c.is_faulty.ensures ∙ c.if-is_faulty.false)) (lost_at_first false p (sym c.is_lost.ensures ∙ c.if-is_lost.false))).fault
 
 pub returns-in_default-take_one-clause-turned : goal.returns-in_default-take_one-clause-turned
 returns-in_default-take_one-clause-turned g c =
     let look = line_by g.L.SerialLine.received g.L.SerialLine.sent g.L.SerialLine.calls g.L.SerialLine.failures g.L.SerialLine.empty_reads g.L.SerialLine.stalled_writes in
-    let p = c.place-placed.ensures in
-    (takes_in_vain (standing_of look c.take_one.new.self) p c.in-Ok.ensures.checks c.send_on-sent.ensures c.write_on-wrote.ensures c.in-Ok-get_one.ensures.gets c.read_on-read.ensures c.in_default-take_one.ensures.keeps (faulty_at_first false p (sym c.is_faulty.ensures ∙ c.if-is_faulty.false)) (lost_at_first false p (sym c.is_lost.ensures ∙ c.if-is_lost.false))).turned
+    let p = c.place-placed.ensures.places in
+    (takes_in_vain (standing_of look c.take_one.new.self) p c.in-Ok.ensures.checks c.send_on-sent.ensures.sends c.write_on-wrote.ensures.writes c.in-Ok-get_one.ensures.gets c.read_on-read.ensures.reads c.in_default-take_one.ensures.keeps (faulty_at_first false p (sym c.is_faulty.ensures ∙ c.if-is_faulty.false)) (lost_at_first false p (sym c.is_lost.ensures ∙ c.if-is_lost.false))).turned
 
 pub returns-clause-turns : goal.returns-clause-turns
 unfolding TakesTurn
 returns-clause-turns g c =
-    let p = c.place-placed.ensures in
+    let p = c.place-placed.ensures.places in
     goes_turn
     (record {
       places = p;
       checks = c.in-Ok.ensures.checks;
-      sends = c.send_on-sent.ensures;
-      writes = c.write_on-wrote.ensures;
+      sends = c.send_on-sent.ensures.sends;
+      writes = c.write_on-wrote.ensures.writes;
       gets = c.in-Ok-get_one.ensures.gets;
-      reads = c.read_on-read.ensures;
+      reads = c.read_on-read.ensures.reads;
       takes = c.in-Ok-take_one.ensures.takes;
       sound_first = faulty_at_first false p (sym c.is_faulty.ensures ∙ c.if-is_faulty.false);
       sound_written = sym c.is_faulty-2.ensures ∙ c.if-is_faulty-2.false;
@@ -127,57 +127,81 @@ returns-clause-turns g c =
 
 pub returns-clause-turned : goal.returns-clause-turned
 returns-clause-turned g c =
-    all_turned c.place-placed.ensures c.in-Ok.ensures.checks c.send_on-sent.ensures c.write_on-wrote.ensures c.in-Ok-get_one.ensures.gets c.read_on-read.ensures c.in-Ok-take_one.ensures.takes
+    all_turned c.place-placed.ensures.places c.in-Ok.ensures.checks c.send_on-sent.ensures.sends c.write_on-wrote.ensures.writes c.in-Ok-get_one.ensures.gets c.read_on-read.ensures.reads c.in-Ok-take_one.ensures.takes
 
 pub returns-then-is_lost-clause-takes : goal.returns-then-is_lost-clause-takes
 returns-then-is_lost-clause-takes g c =
     let look = line_by g.L.SerialLine.received g.L.SerialLine.sent g.L.SerialLine.calls g.L.SerialLine.failures g.L.SerialLine.empty_reads g.L.SerialLine.stalled_writes in
-    took_none (standing_of look c.place-placed.new.self) c.place-placed.ensures refl
+    took_none (standing_of look c.place-placed.new.self) c.place-placed.ensures.places refl
 
 pub returns-then-is_faulty-clause-takes : goal.returns-then-is_faulty-clause-takes
 returns-then-is_faulty-clause-takes g c =
     let look = line_by g.L.SerialLine.received g.L.SerialLine.sent g.L.SerialLine.calls g.L.SerialLine.failures g.L.SerialLine.empty_reads g.L.SerialLine.stalled_writes in
     let s = standing_of look c.lose_line.new.self in
-    took_none s c.place-placed.ensures (lost_driver c.lose_line.result (standing_of look c.place-placed.new.self) s c.lose_line.ensures.loses)
+    took_none s c.place-placed.ensures.places (lost_driver c.lose_line.result (standing_of look c.place-placed.new.self) s c.lose_line.ensures.loses)
 
 pub returns-in_default-clause-takes : goal.returns-in_default-clause-takes
 returns-in_default-clause-takes g c =
     let look = line_by g.L.SerialLine.received g.L.SerialLine.sent g.L.SerialLine.calls g.L.SerialLine.failures g.L.SerialLine.empty_reads g.L.SerialLine.stalled_writes in
-    took_none (standing_of look c.check_backlogs.new.self) c.place-placed.ensures (part_driver c.in_default.ensures.part)
+    took_none (standing_of look c.check_backlogs.new.self) c.place-placed.ensures.places (part_driver c.in_default.ensures.part)
 
 pub returns-then-is_faulty-2-clause-takes : goal.returns-then-is_faulty-2-clause-takes
 returns-then-is_faulty-2-clause-takes g c =
     let look = line_by g.L.SerialLine.received g.L.SerialLine.sent g.L.SerialLine.calls g.L.SerialLine.failures g.L.SerialLine.empty_reads g.L.SerialLine.stalled_writes in
     let end = c.lose_line-then-is_faulty-2 in
     let s = standing_of look end.new.self in
-    took_none s c.place-placed.ensures (lost_driver end.result (standing_of look c.write_on-wrote.new.self) s end.ensures.loses ∙ wrote_driver c.in-Ok.ensures.checks c.send_on-sent.ensures c.write_on-wrote.ensures)
+    took_none s c.place-placed.ensures.places (lost_driver end.result (standing_of look c.write_on-wrote.new.self) s end.ensures.loses ∙ wrote_driver c.in-Ok.ensures.checks c.send_on-sent.ensures.sends c.write_on-wrote.ensures.writes)
 
 pub returns-in_default-get_one-clause-takes : goal.returns-in_default-get_one-clause-takes
 returns-in_default-get_one-clause-takes g c =
     let look = line_by g.L.SerialLine.received g.L.SerialLine.sent g.L.SerialLine.calls g.L.SerialLine.failures g.L.SerialLine.empty_reads g.L.SerialLine.stalled_writes in
     let s = standing_of look c.get_one.new.self in
-    took_none s c.place-placed.ensures (ap (λ (x : TurnState). x.driver) (ap (standing_of look) c.in_default-get_one.ensures.err) ∙ wrote_driver c.in-Ok.ensures.checks c.send_on-sent.ensures c.write_on-wrote.ensures)
+    took_none s c.place-placed.ensures.places (ap (λ (x : TurnState). x.driver) (ap (standing_of look) c.in_default-get_one.ensures.err) ∙ wrote_driver c.in-Ok.ensures.checks c.send_on-sent.ensures.sends c.write_on-wrote.ensures.writes)
 
 pub returns-then-is_faulty-3-clause-takes : goal.returns-then-is_faulty-3-clause-takes
 returns-then-is_faulty-3-clause-takes g c =
     let look = line_by g.L.SerialLine.received g.L.SerialLine.sent g.L.SerialLine.calls g.L.SerialLine.failures g.L.SerialLine.empty_reads g.L.SerialLine.stalled_writes in
     let end = c.lose_line-then-is_faulty-3 in
     let s = standing_of look end.new.self in
-    took_none s c.place-placed.ensures (lost_driver end.result (standing_of look c.read_on-read.new.self) s end.ensures.loses ∙ read_driver c.in-Ok.ensures.checks c.send_on-sent.ensures c.write_on-wrote.ensures c.in-Ok-get_one.ensures.gets c.read_on-read.ensures)
+    took_none s c.place-placed.ensures.places (lost_driver end.result (standing_of look c.read_on-read.new.self) s end.ensures.loses ∙ read_driver c.in-Ok.ensures.checks c.send_on-sent.ensures.sends c.write_on-wrote.ensures.writes c.in-Ok-get_one.ensures.gets c.read_on-read.ensures.reads)
 
 pub returns-in_default-take_one-clause-takes : goal.returns-in_default-take_one-clause-takes
 returns-in_default-take_one-clause-takes g c =
     let look = line_by g.L.SerialLine.received g.L.SerialLine.sent g.L.SerialLine.calls g.L.SerialLine.failures g.L.SerialLine.empty_reads g.L.SerialLine.stalled_writes in
     let s = standing_of look c.read_on-read.new.self in
-    kept_one (standing_of look c.args.self.now) s (standing_of look c.take_one.new.self) (took_none s c.place-placed.ensures (read_driver c.in-Ok.ensures.checks c.send_on-sent.ensures c.write_on-wrote.ensures c.in-Ok-get_one.ensures.gets c.read_on-read.ensures)) c.in_default-take_one.ensures.keeps
+    kept_one (standing_of look c.args.self.now) s (standing_of look c.take_one.new.self) (took_none s c.place-placed.ensures.places (read_driver c.in-Ok.ensures.checks c.send_on-sent.ensures.sends c.write_on-wrote.ensures.writes c.in-Ok-get_one.ensures.gets c.read_on-read.ensures.reads)) c.in_default-take_one.ensures.keeps
 
 pub returns-clause-takes : goal.returns-clause-takes
 returns-clause-takes g c =
     let look = line_by g.L.SerialLine.received g.L.SerialLine.sent g.L.SerialLine.calls g.L.SerialLine.failures g.L.SerialLine.empty_reads g.L.SerialLine.stalled_writes in
     let s = standing_of look c.read_on-read.new.self in
-    took_one (standing_of look c.args.self.now) s (standing_of look c.take_one.new.self) (took_none s c.place-placed.ensures (read_driver c.in-Ok.ensures.checks c.send_on-sent.ensures c.write_on-wrote.ensures c.in-Ok-get_one.ensures.gets c.read_on-read.ensures)) c.in-Ok-take_one.ensures.takes
+    took_one (standing_of look c.args.self.now) s (standing_of look c.take_one.new.self) (took_none s c.place-placed.ensures.places (read_driver c.in-Ok.ensures.checks c.send_on-sent.ensures.sends c.write_on-wrote.ensures.writes c.in-Ok-get_one.ensures.gets c.read_on-read.ensures.reads)) c.in-Ok-take_one.ensures.takes
 
 pub returns-clause-full : goal.returns-clause-full
 returns-clause-full g c =
-    none_free (turn_answer c.answer.result) c.place-placed.ensures c.in-Ok.ensures.checks c.send_on-sent.ensures c.write_on-wrote.ensures c.in-Ok-get_one.ensures.gets c.read_on-read.ensures c.in-Ok-take_one.ensures.takes
+    none_free (turn_answer c.answer.result) c.place-placed.ensures.places c.in-Ok.ensures.checks c.send_on-sent.ensures.sends c.write_on-wrote.ensures.writes c.in-Ok-get_one.ensures.gets c.read_on-read.ensures.reads c.in-Ok-take_one.ensures.takes
     (subst (λ (m : Bool). Answers c.take_one.new.self.kept m (turn_answer c.answer.result)) (all_or c.place-placed.result c.in-Ok.checked c.send_on-sent.result c.write_on-wrote.result c.in-Ok-get_one.got c.read_on-read.result c.in-Ok-take_one.took) c.answer.ensures)
+
+pub returns-then-is_lost-clause-beyond : goal.returns-then-is_lost-clause-beyond
+returns-then-is_lost-clause-beyond g c = ap g.L.SerialLine.other_side c.place-placed.ensures.line
+
+pub returns-then-is_faulty-clause-beyond : goal.returns-then-is_faulty-clause-beyond
+returns-then-is_faulty-clause-beyond g c = ap g.L.SerialLine.other_side c.lose_line.ensures.line ∙ ap g.L.SerialLine.other_side c.place-placed.ensures.line
+
+pub returns-in_default-clause-beyond : goal.returns-in_default-clause-beyond
+returns-in_default-clause-beyond g c = ap g.L.SerialLine.other_side c.check_backlogs.ensures.line ∙ ap g.L.SerialLine.other_side c.place-placed.ensures.line
+
+pub returns-then-is_faulty-2-clause-beyond : goal.returns-then-is_faulty-2-clause-beyond
+returns-then-is_faulty-2-clause-beyond g c = ap g.L.SerialLine.other_side c.lose_line-then-is_faulty-2.ensures.line ∙ (c.write_on-wrote.ensures.beyond ∙ (ap g.L.SerialLine.other_side c.send_on-sent.ensures.line ∙ (ap g.L.SerialLine.other_side c.check_backlogs.ensures.line ∙ ap g.L.SerialLine.other_side c.place-placed.ensures.line)))
+
+pub returns-in_default-get_one-clause-beyond : goal.returns-in_default-get_one-clause-beyond
+returns-in_default-get_one-clause-beyond g c = ap g.L.SerialLine.other_side c.get_one.ensures.line ∙ (c.write_on-wrote.ensures.beyond ∙ (ap g.L.SerialLine.other_side c.send_on-sent.ensures.line ∙ (ap g.L.SerialLine.other_side c.check_backlogs.ensures.line ∙ ap g.L.SerialLine.other_side c.place-placed.ensures.line)))
+
+pub returns-then-is_faulty-3-clause-beyond : goal.returns-then-is_faulty-3-clause-beyond
+returns-then-is_faulty-3-clause-beyond g c = ap g.L.SerialLine.other_side c.lose_line-then-is_faulty-3.ensures.line ∙ (c.read_on-read.ensures.beyond ∙ (ap g.L.SerialLine.other_side c.get_one.ensures.line ∙ (c.write_on-wrote.ensures.beyond ∙ (ap g.L.SerialLine.other_side c.send_on-sent.ensures.line ∙ (ap g.L.SerialLine.other_side c.check_backlogs.ensures.line ∙ ap g.L.SerialLine.other_side c.place-placed.ensures.line)))))
+
+pub returns-in_default-take_one-clause-beyond : goal.returns-in_default-take_one-clause-beyond
+returns-in_default-take_one-clause-beyond g c = ap g.L.SerialLine.other_side c.take_one.ensures.line ∙ (c.read_on-read.ensures.beyond ∙ (ap g.L.SerialLine.other_side c.get_one.ensures.line ∙ (c.write_on-wrote.ensures.beyond ∙ (ap g.L.SerialLine.other_side c.send_on-sent.ensures.line ∙ (ap g.L.SerialLine.other_side c.check_backlogs.ensures.line ∙ ap g.L.SerialLine.other_side c.place-placed.ensures.line)))))
+
+pub returns-clause-beyond : goal.returns-clause-beyond
+returns-clause-beyond g c = ap g.L.SerialLine.other_side c.take_one.ensures.line ∙ (c.read_on-read.ensures.beyond ∙ (ap g.L.SerialLine.other_side c.get_one.ensures.line ∙ (c.write_on-wrote.ensures.beyond ∙ (ap g.L.SerialLine.other_side c.send_on-sent.ensures.line ∙ (ap g.L.SerialLine.other_side c.check_backlogs.ensures.line ∙ ap g.L.SerialLine.other_side c.place-placed.ensures.line)))))

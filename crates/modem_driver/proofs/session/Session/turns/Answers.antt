@@ -1,5 +1,6 @@
 -- One turn after the other.
 use Rattle.std.proofs.Common.{◌≡◌, ◌∙◌, ℕ, arith, subst, sym}
+use Rattle.std.specs.Prelude.{refl}
 use Rattle.modem_driver.specs.SessionStates.{line_by}
 use Rattle.modem_driver.specs.SessionTurns.{TakesTurn, turn_answer, fault_of}
 use Rattle.modem_driver.specs.Polls.{MovesOn, moves_none, moves_once, goes_on, ends, rests, fails}
@@ -10,7 +11,7 @@ use Rattle.modem_driver.proofs.session.Session.turns.Goals as goal
 pub loop-init : goal.loop-init
 loop-init g c =
     let look = line_by g.L.SerialLine.received g.L.SerialLine.sent g.L.SerialLine.calls g.L.SerialLine.failures g.L.SerialLine.empty_reads g.L.SerialLine.stalled_writes in
-    record { goes = goes_none look c.args.self.now; moves = moves_none; takes = takes_none c.args.self.now.driver; calls = omega arith }
+    record { goes = goes_none look c.args.self.now; moves = moves_none; takes = takes_none c.args.self.now.driver; beyond = refl; calls = omega arith }
 
 pub loop-preserved : goal.loop-preserved
 loop-preserved g c =
@@ -28,6 +29,7 @@ loop-preserved g c =
         takes = c.in-Ok.ensures.takes;
       });
       takes = takes_then c.args.self.now.driver c.loop.self.driver c.turn.new.self.driver c.loop.invariant.takes c.in-Ok.ensures.takes;
+      beyond = c.turn.ensures.beyond ∙ c.loop.invariant.beyond;
       calls = omega (arith, one, before);
     }
 

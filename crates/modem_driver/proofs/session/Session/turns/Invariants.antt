@@ -1,5 +1,5 @@
 -- So many turns were made, each where it hadn't ended, and each of which answered Moved.
-use Rattle.std.proofs.Common.{◌+◌, ◌*◌, ◌≤◌}
+use Rattle.std.proofs.Common.{◌≡◌, ◌+◌, ◌*◌, ◌≤◌}
 use Rattle.modem_driver.specs.SessionStates.{line_by, TakesMore}
 use Rattle.modem_driver.specs.Polls.{SessionGoesOn, MovesOn}
 use Rattle.modem_driver.proofs.session.Session.turns.Given as goal
@@ -11,5 +11,6 @@ invariant-loop g l =
       goes : SessionGoesOn look l.fn.self l.self;
       moves : MovesOn look l.fn.self l.counter l.self;
       takes : TakesMore l.fn.self.driver l.self.driver;
+      beyond : g.L.SerialLine.other_side l.self.line ≡ g.L.SerialLine.other_side l.fn.self.line;
       calls : g.L.SerialLine.calls l.self.line ≤ g.L.SerialLine.calls l.fn.self.line + 2 * l.counter;
     }

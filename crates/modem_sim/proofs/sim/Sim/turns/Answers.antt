@@ -1,6 +1,6 @@
 -- One turn after the other.
-use Rattle.std.proofs.Common.{◌≡◌, ℕ, arith, subst}
-use Rattle.std.specs.Prelude.{Ok, Err}
+use Rattle.std.proofs.Common.{◌≡◌, ◌∙◌, ℕ, arith, subst}
+use Rattle.std.specs.Prelude.{Ok, Err, refl}
 use Rattle.modem_sim.specs.Sims.{sight}
 use Rattle.modem_sim.specs.declared.sim.SimTurn.{SimTurn}
 use Rattle.modem_sim.specs.Polls.{MovesOn, Turned, moves_none, moves_once, goes_on, rests, ends, fails}
@@ -8,7 +8,7 @@ use Rattle.modem_sim.proofs.sims.SimPasts.{sim_none, sim_then}
 use Rattle.modem_sim.proofs.sim.Sim.turns.Goals as goal
 
 pub loop-init : goal.loop-init
-loop-init g c = record { goes = sim_none g.L.SerialLine.received g.L.SerialLine.sent c.args.self.now; moves = moves_none; calls = omega arith }
+loop-init g c = record { goes = sim_none g.L.SerialLine.received g.L.SerialLine.sent c.args.self.now; moves = moves_none; beyond = refl; calls = omega arith }
 
 pub loop-preserved : goal.loop-preserved
 loop-preserved g c =
@@ -33,6 +33,7 @@ loop-preserved g c =
     record {
       goes = sim_then g.L.SerialLine.received g.L.SerialLine.sent c.args.self.now c.loop.self c.turn.new.self c.loop.invariant.goes c.turn.ensures.goes;
       moves = moves_once c.loop.counter c.loop.self c.turn.new.self c.loop.invariant.moves (subst Says c.in-Ok-Moved.field-0-is once);
+      beyond = c.turn.ensures.beyond ∙ c.loop.invariant.beyond;
       calls = omega (arith, one, before);
     }
 

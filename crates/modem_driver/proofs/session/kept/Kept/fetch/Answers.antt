@@ -30,7 +30,7 @@ returns-then-count-hand_left g c =
 pub returns : goal.returns
 returns g c =
     let d = c.args.driver.now in
-    let h = c.next.ensures in
+    let h = c.next-next.ensures in
     let waits = c.count.ensures in
     let left = c.hand_left.ensures in
     let room = c.if-count-hand_left.false in
@@ -47,5 +47,5 @@ returns g c =
       faulty = k.faulty;
       course = k.course;
     } in
-    subst (λ (v : Kept). (l : LineView) → Fetches (turn_state l d v) (turn_state l c.next.new.self (record old { aside = c.next.result }))) c.self.view_is
-    (λ l. fetches l d c.next.new.self old c.next.result none (omega arith) (gives d c.next.new.self c.next.result h.desk.0 h.desk.1 h.desk.2 (h.desk.3, h.desk.4) (h.desk.5, h.desk.6) h.found h.numbered h.taken))
+    subst (λ (v : Kept). (l : LineView) → Fetches (turn_state l d v) (turn_state l c.next-next.new.self (record old { aside = c.next-next.result }))) c.self.view_is
+    (λ l. fetches l d c.next-next.new.self old c.next-next.result none (omega arith) (gives d c.next-next.new.self c.next-next.result h.desk.0 h.desk.1 h.desk.2 (h.desk.3, h.desk.4) (h.desk.5, h.desk.6) h.found h.numbered h.taken c.know_next.ensures))

@@ -8,16 +8,16 @@ use Rattle.modem_driver.specs.SessionTurns.{KeptReads, Feeds}
 use Rattle.modem_driver.proofs.sessions.LineCalls.{reads_fed, reads_none, reads_some, reads_failing}
 use Rattle.modem_driver.proofs.session.kept.Kept.read_on.Goals as goal
 
-pub returns-then-not-is_empty : goal.returns-then-not-is_empty
-returns-then-not-is_empty g c =
+pub returns-then-not-is_empty-clause-reads : goal.returns-then-not-is_empty-clause-reads
+returns-then-not-is_empty-clause-reads g c =
     let k = c.self.inside in
     let look = line_by g.L.SerialLine.received g.L.SerialLine.sent g.L.SerialLine.calls g.L.SerialLine.failures g.L.SerialLine.empty_reads g.L.SerialLine.stalled_writes in
     let size = eqb-false (length k.input) 0 (sym c.is_empty.ensures ∙ c.if-not-is_empty.true) in
     let same : c.args.self.now.unfed ≡ k.input = ap (λ (v : Kept). v.unfed) (sym c.self.view_is) in
     reads_fed (look c.args.line.now) c.args.self.now c.feed.new.self c.feed.result (λ none. size (ap length (sym same ∙ none))) c.feed.ensures
 
-pub returns-in-Ok-eq0 : goal.returns-in-Ok-eq0
-returns-in-Ok-eq0 g c =
+pub returns-in-Ok-eq0-clause-reads : goal.returns-in-Ok-eq0-clause-reads
+returns-in-Ok-eq0-clause-reads g c =
     let k = c.self.inside in
     let old : Kept = record {
       core = k.core;
@@ -40,8 +40,8 @@ returns-in-Ok-eq0 g c =
     subst (λ (v : Kept). KeptReads l m v (record old { unfed = c.read.new.self }) false) c.self.view_is
     (subst (λ (xs : List ℕ). KeptReads l m old (record old { unfed = xs }) false) (sym nothing) (reads_none l m old none came e.none_went e.sound e.counted (e.empty ∙ ap (λ (n : ℕ). counted_if_none 512 n l.empty_reads) c.in-Ok-eq0.field-0-test) e.no_write))
 
-pub returns-in-Ok : goal.returns-in-Ok
-returns-in-Ok g c =
+pub returns-in-Ok-clause-reads : goal.returns-in-Ok-clause-reads
+returns-in-Ok-clause-reads g c =
     let k = c.self.inside in
     let old : Kept = record {
       core = k.core;
@@ -66,8 +66,8 @@ returns-in-Ok g c =
     (subst (λ (v : Kept). KeptReads l m old v true) (sym f.stays)
     (reads_some l m old c.read.new.self c.feed-in-Ok.new.self.deframer c.feed-in-Ok.result none some few e.came e.none_went e.sound e.counted (e.empty ∙ ap (λ (n : ℕ). counted_if_none 512 n l.empty_reads) e.count) e.no_write f.takes f.bound f.few f.some f.frame_stays))
 
-pub returns-in-Err : goal.returns-in-Err
-returns-in-Err g c =
+pub returns-in-Err-clause-reads : goal.returns-in-Err-clause-reads
+returns-in-Err-clause-reads g c =
     let k = c.self.inside in
     let old : Kept = record {
       core = k.core;

@@ -8,15 +8,15 @@ use Rattle.modem_driver.specs.SessionTurns.{KeptWrites}
 use Rattle.modem_driver.proofs.sessions.LineCalls.{writes_none, writes_some, writes_failing}
 use Rattle.modem_driver.proofs.session.kept.Kept.write_on.Goals as goal
 
-pub returns-then-is_empty : goal.returns-then-is_empty
-returns-then-is_empty g c =
+pub returns-then-is_empty-clause-writes : goal.returns-then-is_empty-clause-writes
+returns-then-is_empty-clause-writes g c =
     let k = c.self.inside in
     let look = line_by g.L.SerialLine.received g.L.SerialLine.sent g.L.SerialLine.calls g.L.SerialLine.failures g.L.SerialLine.empty_reads g.L.SerialLine.stalled_writes in
     let none : k.output ≡ [] = nil_from_length k.output (eqb-true (length k.output) 0 (sym c.is_empty.ensures ∙ c.if-is_empty.true)) in
     writes_none (look c.args.line.now) c.args.self.now (ap (λ (v : Kept). v.unwritten) (sym c.self.view_is) ∙ none)
 
-pub returns-in-Ok : goal.returns-in-Ok
-returns-in-Ok g c =
+pub returns-in-Ok-clause-writes : goal.returns-in-Ok-clause-writes
+returns-in-Ok-clause-writes g c =
     let k = c.self.inside in
     let old : Kept = record {
       core = k.core;
@@ -41,8 +41,8 @@ returns-in-Ok g c =
     subst (λ (v : Kept). KeptWrites l m v (record old { unwritten = c.pass.new.self }) (nat_lt 0 n)) c.self.view_is
     (subst (λ (xs : List ℕ). KeptWrites l m old (record old { unwritten = xs }) (nat_lt 0 n)) (sym c.pass.ensures) (writes_some l m old n some few e.none_came went e.sound e.counted stalled e.no_read))
 
-pub returns-in-Err : goal.returns-in-Err
-returns-in-Err g c =
+pub returns-in-Err-clause-writes : goal.returns-in-Err-clause-writes
+returns-in-Err-clause-writes g c =
     let k = c.self.inside in
     let old : Kept = record {
       core = k.core;
