@@ -1,0 +1,31 @@
+-- One part more goes out, behind the frames at hand.
+use Rattle.std.proofs.Common.{◌≡◌, ◌+◌, ℕ, take, drop, refl, subst, arith, ◌∙◌, ap, sym}
+use Rattle.std.proofs.lemmas.List.{drop-drop}
+use Rattle.modem_c.specs.Calls.{GivesOn, unmoved}
+use Rattle.modem_c.proofs.GivenParts.{one_part}
+use Rattle.modem_c.proofs.octets.give_on.Goals as goal
+
+pub loop-count-init : goal.loop-count-init
+loop-count-init c = record { out = λ v d. unmoved v d c.args.endpoint.now; behind = refl; few = omega arith; same = refl }
+
+pub returns-then-given-eq0-clause-out : goal.returns-then-given-eq0-clause-out
+returns-then-given-eq0-clause-out c l d =
+    let none = c.if-given-eq0.true in
+    let count : c.loop-count.count + c.give_part-given.result ≡ c.loop-count.count = omega (arith, none) in
+    subst (λ (n : ℕ). GivesOn l d c.args.endpoint.now c.give_part-given.new.endpoint (take n c.give_part-given.new.room)) count
+    (one_part _ _ _ _ c.loop-count.count c.give_part-given.result c.loop-count.room c.give_part-given.new.room _ c.loop-count.invariant.out
+    c.handle_waiting-blocked.ensures c.give_part-given.ensures.out c.give_part-given.ensures.before l d)
+
+pub loop-count-preserved : goal.loop-count-preserved
+loop-count-preserved c =
+    let n = c.loop-count.count in
+    let k = c.give_part-given.result in
+    let few = c.give_part-given.ensures.few in
+    let len = c.loop-count.invariant.same in
+    record {
+      out = one_part _ _ _ _ n k c.loop-count.room c.give_part-given.new.room _ c.loop-count.invariant.out c.handle_waiting-blocked.ensures c.give_part-given.ensures.out
+          c.give_part-given.ensures.before;
+      behind = c.give_part-given.ensures.behind ∙ (sym (drop-drop k n c.loop-count.room) ∙ (ap (drop k) c.loop-count.invariant.behind ∙ drop-drop k n c.args.room.now));
+      few = omega (arith, few, len);
+      same = c.give_part-given.ensures.same ∙ len;
+    }

@@ -1,0 +1,8 @@
+-- The sum is that of the lines so far.
+use Rattle.std.specs.Prelude.{◌≡◌, ◌^◌, ◌-◌, length, min, take}
+use Rattle.std.specs.List.{flat_map}
+use Rattle.modem_c.specs.Texts.{line_text}
+use Rattle.modem_c.proofs.outcomes.octets_of.Given as goal
+
+abbrev pub invariant-loop-line : goal.invariant-loop-line
+invariant-loop-line l = l.sum ≡ min (length (flat_map line_text (take l.line-index l.lines))) (2 ^ 64 - 1)

@@ -1,0 +1,47 @@
+-- What calls from C do, said of the endpoint that a driver holds.
+use Rattle.std.specs.Prelude.{◌≡◌, ℕ, List, [], ◌++◌, Option, None, Some}
+use Rattle.mux_frame.specs.declared.dlci.Dlci.{Dlci}
+use Rattle.modem_desk.specs.declared.request.Ask.{Ask}
+use Rattle.modem_desk.specs.Ends.{DriverView}
+use Rattle.modem_history.specs.Sessions.{LineView}
+use Rattle.modem_driver.specs.Endpoints.{EndpointState, GivesOctets, Numbers, TakesOctets}
+use Rattle.modem_driver.specs.EndpointSteps.{with_sent}
+use Rattle.modem_driver.specs.declared.endpoint.Blocked.{Blocked}
+use Rattle.modem_c.specs.declared.driver.Cimbaloty.{Cimbaloty}
+
+-- ## The driver
+
+-- the endpoint that it holds, if any
+abbrev pub endpoint_of : Cimbaloty → Option EndpointState
+endpoint_of c = c.handle.held
+
+abbrev pub HoldsSome : Option EndpointState → (EndpointState → Type 0) → Type 0
+HoldsSome None p = ⊥
+HoldsSome (Some e) p = p e
+
+-- it holds an endpoint, of which this holds
+abbrev pub Holds : Cimbaloty → (EndpointState → Type 0) → Type 0
+Holds c p = HoldsSome (endpoint_of c) p
+
+-- it held an endpoint and holds one, and this holds of the two
+abbrev pub Goes : (old new : Cimbaloty) → (EndpointState → EndpointState → Type 0) → Type 0
+Goes old new p = Holds old (λ e. Holds new (p e))
+
+-- ## Requests
+
+-- a request that asks this of the connection of this number has the next number
+pub record NumbersAt (e f : EndpointState) (asks : Dlci → Ask) (dlci n : ℕ) : Type 0 where
+  pub connection : Dlci
+  pub is_it : connection.number ≡ dlci
+  pub numbers : Numbers e f (asks connection) n
+
+-- ## Octets for the line
+
+-- The line took these octets, one part after the other; between the parts frames at hand were handled, and
+-- connections held and freed by how many of their lines wait. No other octets came.
+pub data GivesOn : LineView → DriverView → EndpointState → EndpointState → List ℕ → Type 0 where
+  unmoved : (l : LineView) (d : DriverView) (e : EndpointState) → GivesOn l d e e []
+  gave : (l : LineView) (d : DriverView) (e f g : EndpointState) (before octets : List ℕ)
+      → GivesOn l d e f before → GivesOctets (with_sent l before) d f g octets → GivesOn l d e g (before ++ octets)
+  handled : (l : LineView) (d : DriverView) (e f g : EndpointState) (before : List ℕ) (blocked : Option Blocked)
+      → GivesOn l d e f before → TakesOctets (with_sent l before) d f g [] blocked → GivesOn l d e g before

@@ -1,0 +1,58 @@
+//! An endpoint in a box as a pointer that C keeps, or no endpoint.
+ghost use Rattle.std.specs.Prelude.{◌≡◌, ◌≢◌, None, Some, Option};
+ghost use Rattle.modem_driver.specs.Endpoints.{EndpointState};
+ghost use Rattle.modem_c.specs.Held.{held_coded, holds};
+
+use crate::parts::Parts;
+use modem_driver::Endpoint;
+use std::alloc::Global;
+use std::marker::Model;
+use std::ptr::null_mut;
+
+/// The pointer, and what it holds.
+#[repr(C)]
+#[derive(Drop)]
+pub struct Handle {
+    at: *mut u8,
+    alloc: Global,
+    pub(crate) ghost held: { Option EndpointState } by { held_coded },
+}
+
+impl Model for Handle {
+    ghost also_owns = { λ h. holds h.alloc h.at h.held };
+}
+
+impl Handle {
+    /// No endpoint.
+    pub(crate) fn none(alloc: Global) -> Handle
+        ensures { result.held ≡ None }
+    {
+        Handle {
+            at: null_mut(),
+            alloc,
+        }
+    }
+
+    /// The endpoint of these parts.
+    pub(crate) fn of_parts(parts: Parts<Endpoint, Global>) -> Handle
+        ensures { result.held ≡ Some parts.value }
+    {
+        let Parts { ptr, alloc } = parts;
+        Handle {
+            at: ptr.cast::<u8>(),
+            alloc,
+        }
+    }
+
+    /// Its endpoint in parts. The condition is that it holds one.
+    pub(crate) fn into_parts(self) -> Parts<Endpoint, Global>
+        requires { self.held ≢ None }
+        ensures { self.held ≡ Some result.value }
+    {
+        let Handle { at, alloc } = self;
+        Parts {
+            ptr: at.cast::<Endpoint>(),
+            alloc,
+        }
+    }
+}

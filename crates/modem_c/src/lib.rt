@@ -1,0 +1,22 @@
+//! A driver of a cellular modem for programs in C: the calls of include/cimbaloty.h, each an endpoint's
+//! (`modem_driver::Endpoint`), whose contract it carries through.
+#![tactic(auto)]
+
+mod driver;
+mod ending;
+mod handle;
+mod kinds;
+mod lines;
+mod making;
+mod numbers;
+mod octets;
+mod outcomes;
+mod parts;
+mod places;
+mod requests;
+mod time;
+
+pub use driver::Cimbaloty;
+pub use ending::LeftCounts;
+pub use lines::LineHead;
+pub use outcomes::OutcomeHead;

@@ -1,0 +1,43 @@
+//! What calls answer. Refusals of an endpoint and of a text have the numbers of those; a text's stand behind 32.
+
+/// It is done.
+pub const OK: u8 = 0;
+
+/// An allocation was refused.
+pub const NO_MEMORY: u8 = 1;
+
+/// N1 isn't 31 to 32767.
+pub const BAD_N1: u8 = 2;
+
+/// Too many requests.
+pub const FULL: u8 = 2;
+
+/// The line was lost before.
+pub const LINE_LOST: u8 = 3;
+
+/// There is no driver.
+pub const NO_DRIVER: u8 = 16;
+
+/// There is a driver already.
+pub const HAS_DRIVER: u8 = 17;
+
+/// A connection is 0 to 61.
+pub const BAD_DLCI: u8 = 18;
+
+/// A probe has at most 16 octets.
+pub const LONG_PROBE: u8 = 19;
+
+/// There is no such kind of unsolicited lines.
+pub const BAD_KINDS: u8 = 20;
+
+/// What came calls for octets that have no room behind those that wait for the line.
+pub const OUTPUT_FIRST: u8 = 21;
+
+/// The text is longer than the room.
+pub const NO_ROOM: u8 = 22;
+
+/// Nothing waits.
+pub const NOTHING: u8 = 23;
+
+/// The refusals of a text stand behind this number.
+pub const TEXT: u8 = 32;

@@ -1,0 +1,169 @@
+//! Outcomes of requests.
+ghost use Rattle.std.specs.Prelude.{◌≡◌, ◌≢◌, ◌↔◌, ◌⊎◌, ◌≤◌, ◌<◌, ◌-◌, ◌+◌, ◌^◌, ◌++◌, [], min, length, take, drop, None, Some};
+ghost use Rattle.modem_c.specs.Calls.{Goes, Holds, endpoint_of};
+ghost use Rattle.modem_c.specs.Texts.{HandsOutcome, IsOutcomeHead, ShowsOutcome, line_text, lines_of, lines_text};
+
+use crate::driver::Cimbaloty;
+use crate::numbers::{NO_DRIVER, NO_ROOM, NOTHING, OK};
+use crate::places::put;
+use at_text::AnswerLine;
+use modem_driver::{Answer, Endpoint, Outcome};
+use std::alloc::Global;
+
+/// What an outcome is but for its text.
+#[repr(C)]
+#[derive(Clone, Copy)]
+pub struct OutcomeHead {
+    pub number: u64,
+    pub length: usize,
+    pub lines: usize,
+    pub answer: u8,
+}
+
+/// The lines of an answer.
+fn lines_of(answer: &Answer) -> &[AnswerLine]
+    ensures { result.now ≡ lines_of answer.now }
+{
+    match answer {
+        Answer::Done(lines) => lines.as_slice(),
+        _ => &[],
+    }
+}
+
+/// How many octets the lines have, each with an LF behind it.
+fn octets_of(lines: &[AnswerLine]) -> usize
+    ensures { result ≡ min (length (lines_text lines.now)) (2 ^ 64 - 1) }
+{
+    let mut sum: usize = 0;
+    for line in lines {
+        sum = sum
+            .saturating_add(line.text.as_slice().len())
+            .saturating_add(1);
+    }
+    sum
+}
+
+/// Copies a line and an LF to a place of the room, and says where they end. The condition is that they
+/// have room there.
+fn put_line(line: &AnswerLine, room: &mut [u8], place: usize) -> usize
+    requires { place + length (line_text line.now) ≤ length room.old }
+    ensures place { result ≡ place + length (line_text line.now) }
+    ensures room { room.new ≡ take place room.old ++ (line_text line.now ++ drop result room.old) }
+{
+    let behind = put(line.text.as_slice(), room, place);
+    put(b"\n", room, behind)
+}
+
+/// Copies the lines to the front of the room, each with an LF behind it. The condition is that they
+/// have room.
+fn put_lines(lines: &[AnswerLine], room: &mut [u8])
+    requires { length (lines_text lines.now) ≤ length room.old }
+    ensures { room.new ≡ lines_text lines.now ++ drop (length (lines_text lines.now)) room.old }
+{
+    let mut place = 0;
+    for line in lines {
+        place = put_line(line, room, place);
+    }
+}
+
+/// The head of an outcome.
+fn head_of(outcome: &Outcome) -> OutcomeHead
+    ensures { IsOutcomeHead result outcome.now }
+{
+    let lines = lines_of(&outcome.answer);
+    OutcomeHead {
+        number: outcome.number,
+        length: octets_of(lines),
+        lines: lines.len(),
+        answer: outcome.answer.number(),
+    }
+}
+
+/// Shows the head of the outcome that waits first.
+fn show(endpoint: &Endpoint, head: &mut OutcomeHead) -> u8
+    ensures ok { result ≡ OK → ShowsOutcome endpoint.now head.new }
+    ensures nothing { (result ≡ NOTHING) ↔ (endpoint.now.kept.unplaced ≡ []) }
+    ensures same { result ≡ NOTHING → head.new ≡ head.old }
+    ensures others { result ≢ OK → result ≡ NOTHING }
+{
+    match endpoint.peek_outcome() {
+        Some(outcome) => {
+            *head = head_of(outcome);
+            OK
+        }
+        None => NOTHING,
+    }
+}
+
+/// Hands the outcome that waits first out, if its text has room.
+fn hand(endpoint: &mut Endpoint, head: &mut OutcomeHead, text: &mut [u8]) -> u8
+    ensures ok { result ≡ OK → HandsOutcome endpoint.old endpoint.new head.new text.old text.new }
+    ensures no_room { result ≡ NO_ROOM → ShowsOutcome endpoint.old head.new }
+    ensures wants { result ≡ NO_ROOM → length text.old < head.new.length }
+    ensures nothing { (result ≡ NOTHING) ↔ (endpoint.old.kept.unplaced ≡ []) }
+    ensures stays { result ≢ OK → endpoint.new ≡ endpoint.old }
+    ensures same { result ≢ OK → text.new ≡ text.old }
+    ensures head { result ≡ NOTHING → head.new ≡ head.old }
+    ensures others { result ≢ OK → result ≢ NO_ROOM → result ≡ NOTHING }
+{
+    let shown = show(endpoint, head);
+    if shown != OK {
+        return shown;
+    }
+    if head.length > text.len() {
+        return NO_ROOM;
+    }
+    let Some(outcome) = endpoint.poll_outcome() else {
+        return NOTHING;
+    };
+    put_lines(lines_of(&outcome.answer), text);
+    OK
+}
+
+/// Shows the head of the outcome that waits first, which stays.
+#[unsafe(no_mangle)]
+pub extern "C" fn cimbaloty_peek_outcome(
+    alloc: Global,
+    c: &mut Cimbaloty,
+    head: &mut OutcomeHead,
+) -> u8
+    ensures ok { result ≡ OK → Holds c.old (λ e. ShowsOutcome e head.new) }
+    ensures nothing { (result ≡ NOTHING) ↔ Holds c.old (λ e. e.kept.unplaced ≡ []) }
+    ensures no_driver { (result ≡ NO_DRIVER) ↔ (endpoint_of c.old ≡ None) }
+    ensures stays { endpoint_of c.new ≡ endpoint_of c.old }
+    ensures same { result ≢ OK → head.new ≡ head.old }
+    ensures others { result ≢ OK → result ≢ NOTHING → result ≡ NO_DRIVER }
+{
+    let Some(endpoint) = c.take(alloc) else {
+        return NO_DRIVER;
+    };
+    let shown = show(&endpoint, head);
+    *c = Cimbaloty::of(endpoint);
+    shown
+}
+
+/// Hands the outcome that waits first out, head and text, if its text has room; it waits no more then.
+#[unsafe(no_mangle)]
+pub extern "C" fn cimbaloty_poll_outcome_at(
+    alloc: Global,
+    c: &mut Cimbaloty,
+    head: &mut OutcomeHead,
+    text: &mut [u8],
+) -> u8
+    ensures ok { result ≡ OK → Goes c.old c.new (λ e f. HandsOutcome e f head.new text.old text.new) }
+    ensures no_room { result ≡ NO_ROOM → Holds c.old (λ e. ShowsOutcome e head.new) }
+    ensures wants { result ≡ NO_ROOM → length text.old < head.new.length }
+    ensures nothing { (result ≡ NOTHING) ↔ Holds c.old (λ e. e.kept.unplaced ≡ []) }
+    ensures no_driver { (result ≡ NO_DRIVER) ↔ (endpoint_of c.old ≡ None) }
+    ensures stays { result ≢ OK → endpoint_of c.new ≡ endpoint_of c.old }
+    ensures same { result ≢ OK → text.new ≡ text.old }
+    ensures head { (result ≡ NOTHING) ⊎ (result ≡ NO_DRIVER) → head.new ≡ head.old }
+    ensures others { result ≢ OK → result ≢ NO_ROOM → result ≢ NOTHING → result ≡ NO_DRIVER }
+{
+    let Some(mut endpoint) = c.take(alloc) else {
+        return NO_DRIVER;
+    };
+    let handed = hand(&mut endpoint, head, text);
+    *c = Cimbaloty::of(endpoint);
+    handed
+}

@@ -1,0 +1,112 @@
+/* ask.c - one command to a modem, and its answer: ask TTY COMMAND, as in ask /dev/ttyUSB2 AT+CSQ
+ * The status is 0 where the answer ends with OK, 1 where it doesn't or none came, 2 where it wasn't asked. */
+#define _POSIX_C_SOURCE 200809L
+#include "cimbaloty.h"
+#include "line.h"
+#include <errno.h>
+#include <poll.h>
+#include <stdio.h>
+#include <stdlib.h>
+#include <string.h>
+#include <unistd.h>
+
+/* Writes all that has to go; false where the line failed. */
+static bool send_all(struct cimbaloty *c, int fd)
+{
+	uint8_t room[256];
+	size_t count;
+
+	while ((count = cimbaloty_output(c, room, sizeof room)) > 0)
+		for (size_t at = 0; at < count;) {
+			struct pollfd p = { fd, POLLOUT, 0 };
+			ssize_t n = write(fd, room + at, count - at);
+
+			if (n > 0)
+				at += (size_t)n;
+			else if (errno != EAGAIN || poll(&p, 1, 5000) != 1)
+				return false;
+		}
+	return true;
+}
+
+/* Waits for octets, at most a second, and takes them in; false where the line failed or memory is short. */
+static bool receive(struct cimbaloty *c, int fd)
+{
+	struct pollfd p = { fd, POLLIN, 0 };
+	uint8_t octets[512];
+	size_t taken;
+
+	if (poll(&p, 1, 1000) == 0)
+		return cimbaloty_tick(c) == CIMBALOTY_OK;
+	ssize_t count = read(fd, octets, sizeof octets);
+	if (count <= 0)
+		return count < 0 && (errno == EAGAIN || errno == EINTR);
+	for (size_t at = 0; at < (size_t)count; at += taken)
+		if (cimbaloty_input(c, octets + at, (size_t)count - at, &taken) == CIMBALOTY_NO_MEMORY || !send_all(c, fd))
+			return false;
+	return true;
+}
+
+/* Waits for the outcome of a request, at most `seconds` without an octet, and prints its text. Says how it
+ * ended, or 0 where the line failed. */
+static unsigned wait_for(struct cimbaloty *c, int fd, uint64_t number, bool *ok)
+{
+	struct cimbaloty_outcome o;
+
+	for (;;) {
+		if (!send_all(c, fd) || !receive(c, fd))
+			return 0;
+		while (cimbaloty_peek_outcome(c, &o) == CIMBALOTY_OK) {
+			char *text = malloc(o.length + 1);
+
+			if (!text || cimbaloty_poll_outcome(c, &o, text, o.length) != CIMBALOTY_OK) {
+				free(text);
+				return 0;
+			}
+			printf("%.*s", (int)o.length, text);
+			*ok = o.length >= 3 && !memcmp(text + o.length - 3, "OK\n", 3);
+			free(text);
+			if (o.number == number)
+				return o.answer;
+		}
+	}
+}
+
+int main(int argc, char **argv)
+{
+	struct cimbaloty c = CIMBALOTY_NONE;
+	uint64_t number;
+	bool ok = false;
+	unsigned said;
+
+	if (argc != 3) {
+		fprintf(stderr, "usage: %s TTY COMMAND\n", argv[0]);
+		return 2;
+	}
+	int fd = line_open(argv[1]);
+	if (fd < 0 || line_enter(fd) != 0) {
+		fprintf(stderr, "%s: %s\n", argv[1], fd < 0 ? strerror(errno) : "the modem doesn't answer AT+CMUX=0 by OK");
+		return 2;
+	}
+	if (cimbaloty_new(&c, 31, 0, 1) != CIMBALOTY_OK)
+		return 2;
+	for (uint8_t dlci = 0; dlci < 2; dlci++)
+		if (cimbaloty_open(&c, dlci, &number) != CIMBALOTY_OK || wait_for(&c, fd, number, &ok) != CIMBALOTY_OPENED) {
+			fprintf(stderr, "connection %u doesn't open\n", dlci);
+			return 2;
+		}
+	said = cimbaloty_command(&c, 1, argv[2], strlen(argv[2]), &number);
+	if (said != CIMBALOTY_OK) {
+		fprintf(stderr, "refused: %u\n", said);
+		return 2;
+	}
+	said = wait_for(&c, fd, number, &ok);
+	bool answered = said == CIMBALOTY_DONE && ok;
+	if (said != CIMBALOTY_DONE)
+		fprintf(stderr, "no answer: %u\n", said);
+	if (cimbaloty_stop(&c, &number) == CIMBALOTY_OK)
+		wait_for(&c, fd, number, &ok);
+	cimbaloty_free(&c);
+	close(fd);
+	return answered ? 0 : 1;
+}

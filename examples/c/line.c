@@ -1,0 +1,90 @@
+/* line.c - a modem's tty: opened raw, and brought into the multiplexer. */
+#define _DEFAULT_SOURCE
+#include "line.h"
+#include <errno.h>
+#include <fcntl.h>
+#include <poll.h>
+#include <string.h>
+#include <termios.h>
+#include <time.h>
+#include <unistd.h>
+
+int line_open(const char *path)
+{
+	struct termios t;
+	int fd = open(path, O_RDWR | O_NOCTTY | O_NONBLOCK | O_CLOEXEC);
+
+	if (fd < 0)
+		return -1;
+	if (tcgetattr(fd, &t) == 0) {
+		cfmakeraw(&t);
+		t.c_cflag |= CLOCAL | CREAD;
+		t.c_cc[VMIN] = 1;
+		t.c_cc[VTIME] = 0;
+		cfsetispeed(&t, B115200);
+		cfsetospeed(&t, B115200);
+		if (tcsetattr(fd, TCSANOW, &t) == 0)
+			return fd;
+	}
+	int why = errno;
+	close(fd);
+	errno = why;
+	return -1;
+}
+
+static long milliseconds(void)
+{
+	struct timespec t;
+
+	clock_gettime(CLOCK_MONOTONIC, &t);
+	return (long)t.tv_sec * 1000 + t.tv_nsec / 1000000;
+}
+
+/* Reads lines until one is OK (0), one is an error (-1), the line ends (-1) or the time is over (1). */
+static int read_final(int fd, long until)
+{
+	char line[80];
+	size_t length = 0;
+	char octet;
+
+	for (;;) {
+		struct pollfd p = { fd, POLLIN, 0 };
+		long left = until - milliseconds();
+
+		if (left <= 0)
+			return 1;
+		if (poll(&p, 1, (int)left) < 0 && errno != EINTR)
+			return -1;
+		ssize_t n = read(fd, &octet, 1);
+		if (n == 0 || (n < 0 && errno != EAGAIN && errno != EINTR))
+			return -1;
+		if (n < 0)
+			continue;
+		if (octet != '\r' && octet != '\n') {
+			if (length < sizeof line - 1)
+				line[length++] = octet;
+			continue;
+		}
+		line[length] = 0;
+		length = 0;
+		if (!strcmp(line, "OK"))
+			return 0;
+		if (!strcmp(line, "ERROR") || !strncmp(line, "+CME ERROR:", 11))
+			return -1;
+	}
+}
+
+int line_enter(int fd)
+{
+	static const char ask[] = "AT+CMUX=0\r";
+
+	for (int tries = 0; tries < 3; tries++) {
+		tcflush(fd, TCIFLUSH);
+		if (write(fd, ask, sizeof ask - 1) != (ssize_t)(sizeof ask - 1))
+			return -1;
+		int said = read_final(fd, milliseconds() + 1000);
+		if (said <= 0)
+			return said;
+	}
+	return -1;
+}
