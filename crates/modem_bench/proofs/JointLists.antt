@@ -1,7 +1,7 @@
 -- The joint list of a session and a simulated modem goes on.
 use Rattle.std.proofs.Common.{◌∙◌, append_assoc, sym, subst, ap}
-use Rattle.std.specs.Prelude.{◌≡◌, ℕ, List, [], ◌∷◌, ◌++◌, Option, None, Some, IfSome, Result, Ok, refl}
-use Rattle.serial_line.specs.CutLine.{CutState, after_carry}
+use Rattle.std.specs.Prelude.{◌≡◌, ℕ, nat_lt, ◌+◌, ◌||◌, List, [], ◌∷◌, ◌++◌, length, Option, None, Some, IfSome, Result, Ok, refl}
+use Rattle.serial_line.specs.CutLine.{CutState, after_carry, carried}
 use Rattle.modem_history.specs.Acts as driver
 use Rattle.modem_history.specs.Acts.{after}
 use Rattle.modem_history.specs.Sessions.{Beginning}
@@ -12,7 +12,7 @@ use Rattle.modem_sim.specs.Acts.{End}
 use Rattle.modem_sim.specs.Sims.{FitsSim, LineAt, SimGoes, SimState}
 use Rattle.modem_ends.specs.OneModem.{AtDriver, AtModem, EndAct, driver_past, modem_past}
 use Rattle.modem_ends.proofs.octets.LineGoesOn.{after_near, at_far}
-use Rattle.modem_bench.specs.Rounds.{AreJoined, IsFull, IsLastRound, IsRound, JoinsOn, Pair, Says, carried_between, is_full, judged, look_in, pair, sight_in}
+use Rattle.modem_bench.specs.Rounds.{AreJoined, IsFull, IsLastRound, IsRound, JoinsOn, Pair, Says, carried_between, is_full, judged, look_in, moved_in, pair, sight_in}
 use Rattle.modem_bench.specs.declared.rounds.Rest.{Rest}
 use Rattle.modem_bench.specs.declared.rounds.Rest.TheVariants.{Full}
 use Rattle.modem_bench.specs.declared.signals.Fault.{Fault}
@@ -99,6 +99,13 @@ joins_carried_so cut near far a b c d here there carried back =
     let one : c ≡ after_carry cut near.line far.line = carried ∙ (λ i. after_carry cut (here i) (there i)) in
     let two : d ≡ after_carry cut far.line near.line = back ∙ (λ i. after_carry cut (there i) (here i)) in
     subst (λ (x : CutState × CutState). JoinsOn (pair near far) (pair (record near { line = x.0 }) (record far { line = x.1 }))) (λ i. (sym one i, sym two i)) (joins_carried cut (pair near far))
+
+-- whether octets moved, by the numbers that tell it
+pub moved_so : (cut n before later : ℕ) (near far last a b : CutState) → a ≡ near → b ≡ far → n ≡ carried cut a b + carried cut b a → before ≡ length far.sent → later ≡ length last.sent
+    → (nat_lt 0 n || nat_lt before later) ≡ moved_in cut near far last
+moved_so cut n before later near far last a b here there count first then =
+    let both : n ≡ carried cut near far + carried cut far near = count ∙ (λ i. carried cut (here i) (there i) + carried cut (there i) (here i)) in
+    λ i. nat_lt 0 (both i) || nat_lt (first i) (then i)
 
 -- ## The last round
 

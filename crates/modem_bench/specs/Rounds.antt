@@ -1,6 +1,6 @@
 -- A session and a simulated modem, each at one of two lines in memory, in one thread and in rounds.
-use Rattle.std.specs.Prelude.{◌≡◌, ◌⊎◌, ℕ, ◌+◌, ◌<◌, ◌≤◌, ◌&&◌, Bool, true, false, List, ◌++◌, length, Option, None, Some, Result, Ok, Err, if◌then◌else◌}
-use Rattle.serial_line.specs.CutLine.{CutState, after_carry}
+use Rattle.std.specs.Prelude.{◌≡◌, ◌⊎◌, ℕ, ◌+◌, ◌<◌, ◌≤◌, ◌&&◌, ◌||◌, not, nat_lt, Bool, true, false, List, ◌++◌, length, Option, None, Some, Result, Ok, Err, if◌then◌else◌}
+use Rattle.serial_line.specs.CutLine.{CutState, after_carry, carried}
 use Rattle.modem_history.specs.Sessions.{Beginning, LineView}
 use Rattle.modem_driver.specs.declared.session.ending.Ended.TheVariants.{Stopped}
 use Rattle.modem_driver.specs.declared.session.polling.Progress.{Progress}
@@ -60,20 +60,26 @@ pub data RunsFar (old new : SimState CutState) : Result SimTurn SimError → Typ
       (n : ℕ) (mid : SimState CutState) (why : SimError) → n < 64 → MovesOn sight_in old n mid
       → Turned sight_in mid new (Err why) → RunsFar old new (Err why)
 
--- what the two came to in a round
+-- what the two came to in a round, and whether octets were carried in it, or the modem sent some behind that
 pub record Says : Type 0 where
   pub near : Progress
   pub far : Result SimTurn SimError
+  pub moved : Bool
+
+abbrev pub moved_in : ℕ → (near far later : CutState) → Bool
+moved_in cut near far later =
+    nat_lt 0 (carried cut near far + carried cut far near) || nat_lt (length far.sent) (length later.sent)
 
 -- one round: the session is polled once, octets are carried once, and the simulated modem makes the turns of a
 -- poll
 pub record IsRound (cut : ℕ) (old new : Pair) (says : Says) : Type 0 where
   pub polled : SessionState CutState
   pub polls : Polls look_in old.near polled says.near
-  pub carried : Pair
-  pub carries : carried ≡ carried_between cut (pair polled old.far)
-  pub stays : new.near ≡ carried.near
-  pub runs : RunsFar carried.far new.far says.far
+  pub mid : Pair
+  pub carries : mid ≡ carried_between cut (pair polled old.far)
+  pub stays : new.near ≡ mid.near
+  pub runs : RunsFar mid.far new.far says.far
+  pub moved_is : says.moved ≡ moved_in cut polled.line old.far.line new.far.line
 
 -- ## How they end
 
@@ -89,14 +95,15 @@ far_rests turn.Idle = true
 far_rests turn.Ended = true
 far_rests turn.Moved = false
 
--- what ends the rounds: a fault, the session's first; or that both rest
-abbrev pub judged_by : Progress → Result SimTurn SimError → Option (Result Rest Fault)
-judged_by (progress.Ended (Err why)) far = Some (Err (session_fault why))
-judged_by near (Err why) = Some (Err (sim_fault why))
-judged_by near (Ok says) = if near_rests near && far_rests says then Some (Ok Still) else None
+-- what ends the rounds: a fault, the session's first; or that both rest, and no octets are under way
+abbrev pub judged_by : Progress → Result SimTurn SimError → (moved : Bool) → Option (Result Rest Fault)
+judged_by (progress.Ended (Err why)) far moved = Some (Err (session_fault why))
+judged_by near (Err why) moved = Some (Err (sim_fault why))
+judged_by near (Ok says) moved =
+    if not moved && (near_rests near && far_rests says) then Some (Ok Still) else None
 
 abbrev pub judged : Says → Option (Result Rest Fault)
-judged says = judged_by says.near says.far
+judged says = judged_by says.near says.far says.moved
 
 -- one of the two has sent as many octets as there is room for
 abbrev pub IsFull : ℕ → Pair → Type 0

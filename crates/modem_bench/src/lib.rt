@@ -6,6 +6,7 @@ mod crew;
 mod driving;
 mod ends;
 pub mod laws;
+mod meeting;
 mod results;
 mod rounds;
 mod running;
@@ -13,6 +14,7 @@ mod signals;
 mod simulating;
 mod submission;
 
+pub use meeting::{Meeting, meet};
 pub use rounds::{Rest, run_in_rounds};
 pub use running::run_bench;
 pub use signals::Fault;

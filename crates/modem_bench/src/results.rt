@@ -1,5 +1,5 @@
 //! Results with what stands beside them.
-ghost use Rattle.std.specs.Prelude.{◌≡◌, IfOk, Ok};
+ghost use Rattle.std.specs.Prelude.{◌≡◌, IfErr, IfOk, Err, Ok};
 
 use crate::signals::Fault;
 use std::thread::SpawnError;
@@ -9,6 +9,7 @@ use std::thread::SpawnError;
 pub fn beside<A: Drop, K: Drop, E: Drop>(made: Result<A, E>, kept: K) -> Result<(A, K), E>
     ensures made { IfOk result (λ r. made ≡ Ok r.0) }
     ensures kept { IfOk result (λ r. r.1 ≡ kept) }
+    ensures refused { IfErr result (λ e. made ≡ Err e) }
 {
     match made {
         Ok(value) => Ok((value, kept)),

@@ -19,7 +19,7 @@ const TURNS: usize = 64;
 /// Why rounds end.
 #[derive(Clone, Copy, PartialEq, Eq, Debug)]
 pub enum Rest {
-    /// In the last one each of the two had ended, or found nothing to do.
+    /// In the last one each of the two had ended, or found nothing to do, and no octets were under way.
     Still,
     /// One of the two has sent as many octets as there is room for.
     Full,
@@ -27,11 +27,12 @@ pub enum Rest {
     UsedUp,
 }
 
-/// What the two came to in a round.
+/// What the two came to in a round, and whether octets were carried in it, or the modem sent some behind that.
 #[derive(Clone, Copy)]
 pub struct Said {
     pub near: Progress,
     pub far: Result<SimTurn, SimError>,
+    pub moved: bool,
 }
 
 /// The turns of a poll of a simulated modem, and what the last one answers.
@@ -76,35 +77,42 @@ fn far_octets(sim: &Sim<CutLine>)
     are_octets(sim.unwritten());
 }
 
+/// How many octets a simulated modem sent.
+fn far_sent(sim: &Sim<CutLine>) -> usize
+    ensures { result ≡ length sim.now.line.sent }
+{
+    sim.line().sent().len()
+}
+
 /// One round: a poll of the session, one carrying between the lines, and the turns of a poll of the simulated modem.
 fn round<R: Wait + Drop>(
     session: &mut Session<CutLine, R>,
     sim: &mut Sim<CutLine>,
     cut: usize,
 ) -> Said
-    ensures round { IsRound cut (pair session.old sim.old) (pair session.new sim.new) (record { near = result.near; far = result.far }) }
+    ensures round { IsRound cut (pair session.old sim.old) (pair session.new sim.new) (record { near = result.near; far = result.far; moved = result.moved }) }
     ensures joins { JoinsOn (pair session.old sim.old) (pair session.new sim.new) }
     ensures one_line { StaysOneLine (pair session.old sim.old) (pair session.new sim.new) }
 {
     far_octets(sim);
     let near = session.advance();
-    session.line_mut().carry(sim.line_mut(), cut);
+    let before = far_sent(sim);
+    let carried = session.line_mut().carry(sim.line_mut(), cut);
     near_octets(session);
     let far = turns(sim);
-    Said { near, far }
+    let moved = (carried > 0) | (far_sent(sim) > before);
+    Said { near, far, moved }
 }
 
 /// What ends the rounds with this one, if anything does.
 fn judge(said: Said) -> Option<Result<Rest, Fault>>
-    ensures { result ≡ judged_by said.near said.far }
+    ensures { result ≡ judged_by said.near said.far said.moved }
 {
     match (said.near, said.far) {
         (Progress::Ended(Err(why)), _) => Some(Err(driving::fault_of(why))),
         (_, Err(why)) => Some(Err(simulating::fault_of(why))),
-        (
-            Progress::Idle | Progress::Ended(Ok(Ended::Stopped)),
-            Ok(SimTurn::Idle | SimTurn::Ended),
-        ) => { Some(Ok(Rest::Still)) }
+        (Progress::Idle | Progress::Ended(Ok(Ended::Stopped)), Ok(SimTurn::Idle | SimTurn::Ended))
+            if !said.moved => { Some(Ok(Rest::Still)) }
         _ => None,
     }
 }
@@ -182,8 +190,8 @@ fn steps<R: Wait + Drop>(
 
 /// Runs a session and a simulated modem, each at one of two lines in memory, in rounds: in each the session is polled once, at most
 /// `cut` octets are carried each way, and the simulated modem makes the turns of a poll. Callers submit before it and between two
-/// calls of it. It ends after the first round in which both have ended or have nothing to do, or after which one of them has sent
-/// `room` octets; at the latest after so many rounds. Refusals: the fault of the session, or else that of the simulated modem, after
+/// calls of it. It ends after the first round in which both have ended or have nothing to do, no octets were carried and the modem
+/// sent none, or after which one of them has sent `room` octets; at the latest after so many rounds. Refusals: the fault of the session, or else that of the simulated modem, after
 /// the first round that has one.
 ///
 /// Whatever joint list of acts the two had before, it goes on to one that they have after it; and where they began at new lines,
