@@ -1,4 +1,5 @@
 pub mod CallerThreads
+pub mod Crossings
 pub mod JointLists
 pub mod OneLine
 pub mod Settlements

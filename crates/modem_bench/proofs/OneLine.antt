@@ -169,7 +169,7 @@ far_goes near old new goes beyond octets waiting b at e line on =
 -- ## Octets are carried
 
 -- what is given on more at the one end comes at the other
-carried_one : (cut : ℕ) (from to : CutState) → to.received ++ to.waiting ≡ take from.moved from.sent → to.received ++ (to.waiting ++ take (carried cut from to) (unmoved from)) ≡ take (from.moved + carried cut from to) from.sent
+pub carried_one : (cut : ℕ) (from to : CutState) → to.received ++ to.waiting ≡ take from.moved from.sent → to.received ++ (to.waiting ++ take (carried cut from to) (unmoved from)) ≡ take (from.moved + carried cut from to) from.sent
 carried_one cut from to e =
     sym (append_assoc to.received to.waiting (take (carried cut from to) (unmoved from)))
     ∙ (ap (λ (xs : List ℕ). xs ++ take (carried cut from to) (unmoved from)) e

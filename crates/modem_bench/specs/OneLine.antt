@@ -1,7 +1,7 @@
 -- A session and a simulated modem that began at two new lines in memory: the octets that each received are those that the other
 -- sent, and so their joint list is one line's.
-use Rattle.std.specs.Prelude.{◌≡◌, ℕ, ◌≤◌, List, [], ◌∷◌, ◌++◌, take}
-use Rattle.serial_line.specs.CutLine.{CutState, new_line}
+use Rattle.std.specs.Prelude.{◌≡◌, ℕ, ◌<◌, ◌≤◌, List, [], ◌∷◌, ◌++◌, take}
+use Rattle.serial_line.specs.CutLine.{CutState, after_carry, carried, new_line, unmoved}
 use Rattle.serial_line.specs.declared.cuts.Cut.{Cut}
 use Rattle.at_text.specs.declared.answer.AnswerLine.{AnswerLine}
 use Rattle.modem_desk.specs.Ends.{DriverView}
@@ -98,3 +98,30 @@ TellsModemTo p =
     → (newer older : List driver.Act) (o : Outcome) (answer : List AnswerLine)
     → driver_past line ≡ newer ++ Told o ∷ older → o.answer ≡ Done answer
     → IsModemAnswer (driving b) e (heard (modem_past line)) older o answer
+
+-- ## Worked crossings
+
+-- octets more wait to be received
+abbrev pub given_more : List ℕ → CutState → CutState
+given_more octets to = record to { waiting = to.waiting ++ octets }
+
+-- an octet more that waits at one of two such lines, or one fewer, and they are no longer such
+pub record WrongCrossings : Type 0 where
+  pub stray_at_far :
+      (near far : CutState) (x : ℕ) → AreCrossed near far
+      → ¬ AreCrossed near (given_more (x ∷ []) far)
+  pub lost_at_far :
+      (near far : CutState) (x : ℕ) (xs : List ℕ) → far.waiting ≡ x ∷ xs → AreCrossed near far
+      → ¬ AreCrossed near (record far { waiting = xs })
+  pub stray_at_near :
+      (near far : CutState) (x : ℕ) → AreCrossed near far
+      → ¬ AreCrossed (given_more (x ∷ []) near) far
+
+-- what is carried once leaves them such; where octets went over, giving them once more doesn't
+pub record RightCrossings : Type 0 where
+  pub once :
+      (cut : ℕ) (near far : CutState) → AreCrossed near far
+      → AreCrossed (after_carry cut near far) (after_carry cut far near)
+  pub twice :
+      (cut : ℕ) (near far : CutState) → AreCrossed near far → 0 < carried cut near far
+      → ¬ AreCrossed (after_carry cut near far) (given_more (take (carried cut near far) (unmoved near)) (after_carry cut far near))

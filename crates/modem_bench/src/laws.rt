@@ -1,8 +1,16 @@
 //! Laws of a session and a simulated modem at two lines in memory, as contracts of functions that do nothing.
-ghost use Rattle.modem_bench.specs.OneLine.{BeginsOnOneLine};
+ghost use Rattle.modem_bench.specs.OneLine.{BeginsOnOneLine, RightCrossings, WrongCrossings};
 
 /// A session and a simulated modem that were just made with one N1, each at a new line without input, whatever its cuts and its
 /// room, have the empty joint list, which is one line's. So what `run_in_rounds` promises of such lists holds of theirs.
 pub fn new_lines()
     ensures { BeginsOnOneLine }
+{}
+
+/// Of two lines of which each was given what was given on of the other: carrying leaves them so; an octet more at one of them, one
+/// fewer, or octets that are given a second time don't.
+#[tactic(auto, using(crate::proofs::Crossings::right_crossings, crate::proofs::Crossings::wrong_crossings))]
+pub fn worked_crossings()
+    ensures right { RightCrossings }
+    ensures wrong { WrongCrossings }
 {}
