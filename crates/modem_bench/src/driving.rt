@@ -17,9 +17,6 @@ use std::sync::Wait;
 use std::thread::Promise;
 use std::{io, thread};
 
-/// How often the session of a bench is polled at most.
-const POLLS: u32 = 10_000_000;
-
 pub fn fault_of(fault: SessionFault) -> Fault
     ensures { result ≡ session_fault fault }
 {
@@ -126,26 +123,28 @@ fn drive_on<L: SerialLine + Drop, R: Wait + RandomSource + AllocGlobal + Drop>(
     rt: &R,
     session: Session<L, R>,
     signals: &Signals,
+    polls: u32,
 ) -> Result<Session<L, R>, Fault>
     ensures { IfOk result (Continues (line_by L.received L.sent L.calls L.failures L.empty_reads L.stalled_writes) session) }
 {
     let driven = Driven {
         session: Some(session),
-        left: POLLS,
+        left: polls,
         signals,
     };
     polled(block_on(rt, driven))
 }
 
-/// What the driver does in its thread.
+/// What the driver does in its thread, with so many polls at most.
 pub fn drive<L: SerialLine + Drop, R: Wait + RandomSource + AllocGlobal + Drop>(
     rt: &R,
     session: Session<L, R>,
     signals: Signals,
+    polls: u32,
 ) -> Result<Session<L, R>, Fault>
     ensures { IfOk result (Continues (line_by L.received L.sent L.calls L.failures L.empty_reads L.stalled_writes) session) }
 {
-    match drive_on(rt, session, &signals) {
+    match drive_on(rt, session, &signals, polls) {
         Ok(session) => Ok(session),
         Err(fault) => Err(signals.give_up(rt, fault).fault),
     }

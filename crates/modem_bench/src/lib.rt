@@ -16,6 +16,6 @@ mod submission;
 
 pub use meeting::{Meeting, meet};
 pub use rounds::{Rest, run_in_rounds};
-pub use running::run_bench;
+pub use running::{run_bench, run_bench_within};
 pub use signals::Fault;
 pub use submission::Submission;

@@ -26,6 +26,9 @@ use std::sync::Wait;
 use std::thread;
 use std::thread::{PromisedHandle, Threads};
 
+/// How often the session of a bench is polled at most.
+const POLLS: u32 = 10_000_000;
+
 /// Has a simulated modem go on in a thread of its own.
 fn send_modem<L, R>(
     rt: &R,
@@ -111,6 +114,7 @@ fn send_driver<L, R>(
     rt: &R,
     session: Session<L, R>,
     signals: &Signals,
+    polls: u32,
 ) -> Result<PromisedHandle<Result<Session<L, R>, Fault>, Later<L, R>>, Fault>
 where
     L: SerialLine + Drop + Send + 'static,
@@ -120,7 +124,7 @@ where
     let (theirs, session) = beside(signals.share(), session)?;
     let own = *rt;
     let promise = Later(Snapshot::of(&session));
-    spawned(thread::spawn_with(rt, promise, move || drive(&own, session, theirs)))
+    spawned(thread::spawn_with(rt, promise, move || drive(&own, session, theirs, polls)))
 }
 
 /// Ends a session and settles its desk with the callers that have worked: the outcomes that each took.
@@ -156,6 +160,7 @@ fn run_beside<L, R>(
     callers: Vec<Caller>,
     submissions: &[Submission],
     signals: &Signals,
+    polls: u32,
 ) -> Result<(Session<L, R>, Vec<Worked>), Fault>
 where
     L: SerialLine + Drop + Send + 'static,
@@ -167,7 +172,7 @@ where
     ensures simulated { OnOk result
         (IsSimulated (sight L.received L.sent L.calls L.failures L.empty_reads L.stalled_writes) sim) }
 {
-    let (driving, sim) = beside(send_driver(rt, session, signals), sim)?;
+    let (driving, sim) = beside(send_driver(rt, session, signals, polls), sim)?;
     let called = call_modem(rt, alloc, sim, callers, submissions, signals);
     if let Err(fault) = &called {
         signals.give_up(rt, *fault);
@@ -182,6 +187,7 @@ fn run_threads<L, R>(
     ends: Ends<L, R>,
     submissions: &[Submission],
     signals: &Signals,
+    polls: u32,
 ) -> Result<Vec<Vec<Outcome>>, Fault>
 where
     L: SerialLine + Drop + Send + 'static,
@@ -201,7 +207,16 @@ where
         callers,
         listeners,
     } = ends;
-    let (session, back) = run_beside(rt, alloc, session, sim, callers, submissions, signals)?;
+    let (session, back) = run_beside(
+        rt,
+        alloc,
+        session,
+        sim,
+        callers,
+        submissions,
+        signals,
+        polls,
+    )?;
     settle_run(rt, alloc, session, back, listeners)
 }
 
@@ -221,8 +236,26 @@ where
     requires { (1 ≤ callers) × (callers ≤ 8) }
     ensures { IfOk result (λ outcomes. Ran submissions.now callers cut script (map vec_items outcomes.items)) }
 {
+    run_bench_within(rt, alloc, submissions, callers, cut, script, POLLS)
+}
+
+/// Runs a bench whose session is polled so often at most; it is given up then.
+pub fn run_bench_within<R>(
+    rt: &R,
+    alloc: Global,
+    submissions: &[Submission],
+    callers: u8,
+    cut: usize,
+    script: Script,
+    polls: u32,
+) -> Result<Vec<Vec<Outcome>>, Fault>
+where
+    R: Threads + Wait + RandomSource + AllocGlobal + Copy + Send + Drop + 'static,
+    requires { (1 ≤ callers) × (callers ≤ 8) }
+    ensures { IfOk result (λ outcomes. Ran submissions.now callers cut script (map vec_items outcomes.items)) }
+{
     let signals = Signals::new(alloc)?;
     let line = make_line(alloc, cut)?;
     let ends = begin(rt, alloc, callers, line, script)?;
-    run_threads(rt, alloc, ends, submissions, &signals)
+    run_threads(rt, alloc, ends, submissions, &signals, polls)
 }

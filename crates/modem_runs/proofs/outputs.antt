@@ -1,3 +1,5 @@
 -- What the program shows.
 pub mod RunEnds
 pub mod ShownOutcomes
+pub mod StoppedRuns
+pub mod WrittenTexts

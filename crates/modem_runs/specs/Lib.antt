@@ -6,4 +6,5 @@ pub mod Printed
 pub mod Script
 pub mod Shown
 pub mod Statuses
+pub mod Stopping
 pub mod Texts

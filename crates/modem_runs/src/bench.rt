@@ -4,14 +4,15 @@ ghost use Rattle.std.specs.String.{string_bytes};
 ghost use Rattle.modem_runs.specs.Bench.{IsNoSubmission};
 ghost use Rattle.modem_runs.specs.Input.{HasBad, IsFirstBad, input_lines};
 ghost use Rattle.modem_runs.specs.Printed.{IsBenched, IsNoBench, IsPrinted};
+ghost use Rattle.modem_runs.specs.Stopping.{HasGivenUp, HasStopped, IsBenchStop};
 ghost use Rattle.modem_runs.specs.declared.stop.Stop.TheVariants as Stop;
 
 mod showing;
 mod submissions;
 
 use crate::input::read_whole;
-use crate::runs::{finish, give_up};
 use crate::stop::Stop;
+use crate::writing::{finish, give_up};
 use modem_bench::{Fault, run_bench};
 use modem_sim::Script;
 use showing::outcomes_text;
@@ -55,6 +56,7 @@ where
         → IfSome (I.remaining input.old)
         (λ text. IsFirstBad (IsNoSubmission callers) (input_lines text) place) }
     ensures others { (result ≢ Err Stop.BadN1) × (result ≢ Err Stop.BadCallers) × (result ≢ Err Stop.BadCut) }
+    ensures no_output { result ≢ Err Stop.Output }
 {
     let text = read_whole(alloc, input)?;
     let submissions = read_submissions(alloc, callers, text.as_slice())?;
@@ -99,6 +101,12 @@ where
     ensures done { result ≡ 0
         → IsPrinted (IsBenched callers cut script) (I.remaining input.old) (W.contents output.old)
         (W.contents output.new) }
+    ensures stopped { result ≢ 0
+        → HasStopped (IsBenched callers cut script) (IsBenchStop callers cut (I.remaining input.old))
+        (I.remaining input.old) W.contents output.old output.new (E.contents faults.old) (E.contents faults.new)
+        result }
+    ensures nothing { result ≡ 1 → HasGivenUp output.old output.new (E.contents faults.old)
+        (E.contents faults.new) result }
     ensures refused { result ≡ 2
         → IsNoBench callers cut
         ⊎ IfSome (I.remaining input.old) (λ text. HasBad (IsNoSubmission callers) (input_lines text)) }

@@ -10,9 +10,11 @@ mod runs;
 mod script;
 mod stop;
 mod texts;
+mod writing;
 
 pub use bench::bench_run;
-pub use runs::{frames_run, give_up, replay_run};
+pub use runs::{frames_run, replay_run};
 pub use script::read_script;
 pub use stop::Stop;
 pub use texts::{push_act, push_frame};
+pub use writing::give_up;

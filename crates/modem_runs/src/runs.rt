@@ -1,6 +1,5 @@
 //! The subcommands, each over a reader and two writers.
 ghost use Rattle.std.specs.Prelude.{◌≡◌, ◌≢◌, ℕ, ◌≤◌, ◌<◌, ◌⊎◌, map, Ok, Err, IfOk, IfSome, IsErrOf, OnErr, MatchResult, true, false};
-ghost use Rattle.std.specs.Io.KnownBytes.{Appends};
 ghost use Rattle.std.specs.String.{string_bytes};
 ghost use Rattle.mux_frame.specs.Frames.{kept_frame};
 ghost use Rattle.mux_frame.specs.Reading.{Reads};
@@ -11,7 +10,7 @@ ghost use Rattle.modem_runs.specs.Dump.{IsNoDump};
 ghost use Rattle.modem_runs.specs.Input.{HasBad, IsFirstBad, input_lines};
 ghost use Rattle.modem_runs.specs.Printed.{IsFramed, IsPrinted, IsReplayed};
 ghost use Rattle.modem_runs.specs.Script.{IsNoOrder};
-ghost use Rattle.modem_runs.specs.Statuses.{status_of};
+ghost use Rattle.modem_runs.specs.Stopping.{HasGivenUp, HasStopped, IsRunStop};
 ghost use Rattle.modem_runs.specs.declared.stop.Stop.TheVariants as Stop;
 
 use crate::dump::read_dump;
@@ -20,44 +19,11 @@ use crate::input::read_whole;
 use crate::script::read_script;
 use crate::stop::Stop;
 use crate::texts::{acts_text, frames_text};
+use crate::writing::{finish, give_up};
 use modem_driver::{Act, CoreError, Event, replay};
 use mux_frame::{FrameBuf, FrameError};
 use std::alloc::{AllocError, Global};
 use std::io::{Read, Write};
-
-/// Writes the output whole, and says whether the writer took it.
-fn put<W: Write>(output: &mut W, text: &str) -> bool
-    ensures { result ≡ true → Appends (W.contents output.old) (W.contents output.new) text.now }
-{
-    output.write_all(text.as_bytes()).is_ok() && output.flush().is_ok()
-}
-
-/// Says why a run ended, and gives the status. A writer that fails changes nothing.
-pub fn give_up<E: Write>(faults: &mut E, stop: Stop) -> u8
-    ensures { result ≡ status_of stop }
-{
-    let _ = writeln!(faults, "{stop}");
-    stop.status()
-}
-
-/// Writes what a run gave, or says why it gave nothing; and gives the status.
-pub fn finish<W: Write, E: Write>(output: &mut W, faults: &mut E, built: Result<String, Stop>) -> u8
-    ensures ended { MatchResult built (λ _. result ≤ 1) (λ stop. result ≡ status_of stop) }
-    ensures written { IfOk built
-        (λ text. result ≡ 0 → Appends (W.contents output.old) (W.contents output.new) (string_bytes text)) }
-    ensures nothing { OnErr built (output.new ≡ output.old) }
-    ensures silent { result ≡ 0 → faults.new ≡ faults.old }
-{
-    let text = match built {
-        Ok(text) => text,
-        Err(stop) => return give_up(faults, stop),
-    };
-    if put(output, text.as_str()) {
-        0
-    } else {
-        give_up(faults, Stop::Output)
-    }
-}
 
 /// Whether frames may have so many octets of information.
 fn takes_n1(n1: u16) -> bool
@@ -100,6 +66,8 @@ fn replayed<R: Read>(alloc: Global, input: &mut R, n1: u16) -> Result<String, St
     ensures bad_line { (place : ℕ) → IsErrOf result (Stop.BadLine place)
         → IfSome (R.remaining input.old) (λ text. IsFirstBad IsNoOrder (input_lines text) place) }
     ensures others { (result ≢ Err Stop.BadN1) × (result ≢ Err Stop.BadCallers) × (result ≢ Err Stop.BadCut) }
+    ensures no_line { (result ≢ Err Stop.Line) × (result ≢ Err Stop.GaveUp) }
+    ensures no_output { result ≢ Err Stop.Output }
 {
     let script = read_whole(alloc, input)?;
     let events = read_script(alloc, script.as_slice())?;
@@ -116,6 +84,8 @@ fn framed<R: Read>(alloc: Global, input: &mut R, n1: u16) -> Result<String, Stop
     ensures bad_line { (place : ℕ) → IsErrOf result (Stop.BadLine place)
         → IfSome (R.remaining input.old) (λ text. IsFirstBad IsNoDump (input_lines text) place) }
     ensures others { (result ≢ Err Stop.BadN1) × (result ≢ Err Stop.BadCallers) × (result ≢ Err Stop.BadCut) }
+    ensures no_line { (result ≢ Err Stop.Line) × (result ≢ Err Stop.GaveUp) }
+    ensures no_output { result ≢ Err Stop.Output }
 {
     let dump = read_whole(alloc, input)?;
     let octets = read_dump(alloc, dump.as_slice())?;
@@ -137,6 +107,11 @@ pub fn replay_run<R: Read, W: Write, E: Write>(
     ensures status { result ≤ 2 }
     ensures done { result ≡ 0
         → IsPrinted (IsReplayed n1) (R.remaining input.old) (W.contents output.old) (W.contents output.new) }
+    ensures stopped { result ≢ 0 → HasStopped (IsReplayed n1) (IsRunStop n1 IsNoOrder (R.remaining input.old))
+        (R.remaining input.old) W.contents output.old output.new (E.contents faults.old) (E.contents faults.new)
+        result }
+    ensures nothing { result ≡ 1 → HasGivenUp output.old output.new (E.contents faults.old)
+        (E.contents faults.new) result }
     ensures refused { result ≡ 2
         → ((n1 < 31) ⊎ (32767 < n1))
         ⊎ IfSome (R.remaining input.old) (λ text. HasBad IsNoOrder (input_lines text)) }
@@ -163,6 +138,11 @@ pub fn frames_run<R: Read, W: Write, E: Write>(
     ensures status { result ≤ 2 }
     ensures done { result ≡ 0
         → IsPrinted (IsFramed n1) (R.remaining input.old) (W.contents output.old) (W.contents output.new) }
+    ensures stopped { result ≢ 0 → HasStopped (IsFramed n1) (IsRunStop n1 IsNoDump (R.remaining input.old))
+        (R.remaining input.old) W.contents output.old output.new (E.contents faults.old) (E.contents faults.new)
+        result }
+    ensures nothing { result ≡ 1 → HasGivenUp output.old output.new (E.contents faults.old)
+        (E.contents faults.new) result }
     ensures refused { result ≡ 2
         → ((n1 < 31) ⊎ (32767 < n1))
         ⊎ IfSome (R.remaining input.old) (λ text. HasBad IsNoDump (input_lines text)) }

@@ -2,44 +2,35 @@
 ghost use Rattle.std.specs.Prelude.{◌≡◌, ◌↔◌};
 ghost use Rattle.hex.specs.declared.error.FromHexError.TheVariants.{OutOfMemory};
 ghost use Rattle.at_text.specs.declared.error.TextError.TheVariants as TextError;
-ghost use Rattle.modem_runs.specs.Statuses.{status_of, stop_at};
+ghost use Rattle.modem_runs.specs.Statuses.{status_of, stop_at, stop_words};
 ghost use Rattle.modem_runs.specs.declared.stop.Stop.TheVariants.{NoMemory};
 ghost use Rattle.modem_runs.specs.declared.stop.Refusal.TheVariants as Refused;
 
 use at_text::TextError;
 use hex::FromHexError;
 use std::alloc::{AllocError, AllocFailed};
-use thiserror::Error;
+use std::{error, fmt};
 
 /// Why a run ends without its whole output.
-#[derive(Clone, Copy, PartialEq, Eq, Debug, Error)]
+#[derive(Clone, Copy, PartialEq, Eq, Debug)]
 pub enum Stop {
     /// A growth was refused.
-    #[error("fault: no memory")]
     NoMemory,
     /// The reader failed, or gave no end.
-    #[error("fault: input")]
     Input,
     /// The writer failed.
-    #[error("fault: output")]
     Output,
     /// The line failed.
-    #[error("fault: line")]
     Line,
     /// A bench didn't come to its end.
-    #[error("fault: gave up")]
     GaveUp,
     /// N1 isn't 31 to 32767.
-    #[error("error: N1 is 31 to 32767")]
     BadN1,
     /// Callers aren't 1 to 8.
-    #[error("error: callers are 1 to 8")]
     BadCallers,
     /// The octets that are under way each way aren't 1 to 4096.
-    #[error("error: the cut is 1 to 4096")]
     BadCut,
     /// This line of the input is bad, counted from 1.
-    #[error("bad line {0}")]
     BadLine(u64),
 }
 
@@ -53,7 +44,41 @@ impl Stop {
             Stop::BadN1 | Stop::BadCallers | Stop::BadCut | Stop::BadLine(_) => 2,
         }
     }
+
+    /// What is said of it, but for the number of a bad line.
+    pub fn words(self) -> &'static str
+        ensures { result.now ≡ stop_words self }
+    {
+        match self {
+            Stop::NoMemory => "fault: no memory",
+            Stop::Input => "fault: input",
+            Stop::Output => "fault: output",
+            Stop::Line => "fault: line",
+            Stop::GaveUp => "fault: gave up",
+            Stop::BadN1 => "error: N1 is 31 to 32767",
+            Stop::BadCallers => "error: callers are 1 to 8",
+            Stop::BadCut => "error: the cut is 1 to 4096",
+            Stop::BadLine(_) => "bad line ",
+        }
+    }
 }
+
+impl fmt::Display for Stop {
+    ghost use Rattle.std.specs.Prelude.{Some};
+    ghost use Rattle.modem_runs.specs.Statuses.{stop_text};
+
+    ghost output = { λ stop. Some (stop_text stop) };
+
+    fn fmt<W: fmt::Write>(&self, f: &mut fmt::Formatter<W>) -> fmt::Result {
+        let words = self.words();
+        match self {
+            Stop::BadLine(place) => write!(f, "{words}{place}"),
+            _ => f.write_str(words),
+        }
+    }
+}
+
+impl error::Error for Stop {}
 
 impl From<AllocError> for Stop {
     ghost from_gives = { λ _ e. e ≡ NoMemory };

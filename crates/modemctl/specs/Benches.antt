@@ -1,21 +1,20 @@
 -- What the program prints at its subcommands, by the numbers that its words give.
 use Rattle.std.specs.Prelude.{ℕ, false, List, [], Option, codes}
-use Rattle.clap.specs.Words.{Row, Text, one_text}
-use Rattle.clap.specs.declared.parser.matches.Found.{Found}
+use Rattle.clap.specs.Words.{Row, Text}
 use Rattle.modem_sim.specs.declared.script.Script.{Script}
 use Rattle.modem_runs.specs.Printed.{IsBenched, IsFramed, IsPrinted, IsReplayed}
-use Rattle.modemctl.specs.Words.{IsGiven, IsNumberOf}
+use Rattle.modemctl.specs.Words.{IsGiven}
 
 -- these frames were printed, with the N1 of the words
 pub record PrintsFrames (met : Option (Text × List Row)) (input before after : Option (List ℕ)) : Type 0 where
   pub n1 : ℕ
-  pub given : IsGiven met (codes "n1") 31 16 n1
+  pub given : IsGiven met (codes "n1") 31 n1
   pub printed : IsPrinted (IsFramed n1) input before after
 
 -- these acts were printed, with the N1 of the words
 pub record PrintsReplay (met : Option (Text × List Row)) (input before after : Option (List ℕ)) : Type 0 where
   pub n1 : ℕ
-  pub given : IsGiven met (codes "n1") 31 16 n1
+  pub given : IsGiven met (codes "n1") 31 n1
   pub printed : IsPrinted (IsReplayed n1) input before after
 
 -- no command is repeated, and nothing is done that no command asks for
@@ -25,15 +24,7 @@ plain_script = record { echo = false; steps = [] }
 -- this was printed of a bench with a simulated modem of that script, with the callers and the cut of the words
 pub record PrintsBench (met : Option (Text × List Row)) (input before after : Option (List ℕ)) : Type 0 where
   pub callers : ℕ
-  pub callers_given : IsGiven met (codes "callers") 2 8 callers
+  pub callers_given : IsGiven met (codes "callers") 2 callers
   pub cut : ℕ
-  pub cut_given : IsGiven met (codes "cut") 64 16 cut
-  pub printed : IsPrinted (IsBenched callers cut plain_script) input before after
-
--- the same, by the matches of the subcommand
-pub record PrintsBenchBy (found : Found) (input before after : Option (List ℕ)) : Type 0 where
-  pub callers : ℕ
-  pub callers_given : IsNumberOf 2 8 (one_text found (codes "callers")) callers
-  pub cut : ℕ
-  pub cut_given : IsNumberOf 64 16 (one_text found (codes "cut")) cut
+  pub cut_given : IsGiven met (codes "cut") 64 cut
   pub printed : IsPrinted (IsBenched callers cut plain_script) input before after

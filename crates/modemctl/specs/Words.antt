@@ -1,6 +1,6 @@
 -- The words of the program.
-use Rattle.std.specs.Prelude.{◌≡◌, ◌<◌, ◌^◌, ℕ, pos, true, List, [], ◌∷◌, Option, None, Some, option_and_then, option_map, codes}
-use Rattle.std.specs.Str.Parse.{IsNumeral, digits_value, without_leading_plus}
+use Rattle.std.specs.Prelude.{◌≡◌, ◌⊎◌, ℕ, pos, true, List, [], ◌∷◌, Option, None, Some, option_and_then, option_map, codes}
+use Rattle.std.specs.Fmt.{decimal}
 use Rattle.clap.specs.Words.{App, IsAmong, Kinds, Row, Rule, Text, one_of, fault_of, new_app, new_rule, subcommand_of, with_rule, with_subcommand}
 use Rattle.clap.specs.declared.builder.ArgAction.TheVariants.{Set}
 use Rattle.clap.specs.declared.error.ErrorKind.TheVariants.{DisplayHelp, DisplayVersion}
@@ -82,21 +82,25 @@ AreFor name words = (fault_in words ≡ []) × (named_in words ≡ Some name)
 
 -- ## Numbers
 
--- the text writes a number of so many bits in decimal digits; a plus may stand before them
-abbrev pub WritesNumber : (bits : ℕ) → Text → Type 0
-WritesNumber bits t =
-    IsNumeral 10 (without_leading_plus t) × (digits_value 10 (without_leading_plus t) < 2 ^ bits)
+-- the number that the text of an option is in decimal, without a sign and leading zeros; the default where there is no text
+abbrev pub IsNumberOf : (default : ℕ) → Option Text → ℕ → Type 0
+IsNumberOf default None n = n ≡ default
+IsNumberOf default (Some t) n = t ≡ decimal n
 
--- the number that it writes; or the default, where there is no text or it writes none
-abbrev pub IsNumberOf : (default bits : ℕ) → Option Text → ℕ → Type 0
-IsNumberOf default bits None n = n ≡ default
-IsNumberOf default bits (Some t) n =
-    (WritesNumber bits t → n ≡ digits_value 10 (without_leading_plus t)) × (¬ WritesNumber bits t → n ≡ default)
+-- there is a text, and it is no number in decimal: it has a sign, leading zeros or other characters, or is empty
+abbrev pub IsNoNumber : Option Text → Type 0
+IsNoNumber None = ⊥
+IsNoNumber (Some t) = (n : ℕ) → t ≡ decimal n → ⊥
 
 -- the text of an option of the subcommand that was met
 abbrev pub text_in : Option (Text × List Row) → (option : Text) → Option Text
 text_in met option = option_and_then (λ p. one_of option p.1) met
 
 -- the number that the words give for it
-abbrev pub IsGiven : Option (Text × List Row) → (option : Text) → (default bits : ℕ) → ℕ → Type 0
-IsGiven met option default bits n = IsNumberOf default bits (text_in met option) n
+abbrev pub IsGiven : Option (Text × List Row) → (option : Text) → (default : ℕ) → ℕ → Type 0
+IsGiven met option default n = IsNumberOf default (text_in met option) n
+
+-- what the words give for N1, the callers or the cut is no number
+abbrev pub HasNoNumber : Option (Text × List Row) → Type 0
+HasNoNumber met =
+    IsNoNumber (text_in met (codes "n1")) ⊎ (IsNoNumber (text_in met (codes "callers")) ⊎ IsNoNumber (text_in met (codes "cut")))

@@ -1,28 +1,24 @@
 //! The words of the program.
 ghost use Rattle.std.specs.Prelude.{◌≡◌, ◌≢◌, ◌<◌, ◌≤◌, [], map, Some, IfOk, false, codes};
 ghost use Rattle.std.specs.String.{string_bytes};
-ghost use Rattle.clap.specs.Words.{app_of, rule_of, kind_of, found_of, one_text, subcommand_name_of, subcommand_rows_of};
-ghost use Rattle.modemctl.specs.Benches.{PrintsBench, PrintsBenchBy, PrintsFrames, PrintsReplay};
-ghost use Rattle.modemctl.specs.Words.{callers_rule, cut_rule, n1_rule, program_app, fault_in, met_in, with_two, AreFor, AsksNoHelp, IsNumberOf};
+ghost use Rattle.clap.specs.Words.{app_of, rule_of, kind_of, subcommand_name_of, subcommand_rows_of};
+ghost use Rattle.modem_runs.specs.Printed.{IsBenched, IsPrinted};
+ghost use Rattle.modem_runs.specs.Stopping.{HasGivenUp};
+ghost use Rattle.modemctl.specs.Benches.{PrintsBench, PrintsFrames, PrintsReplay, plain_script};
+ghost use Rattle.modemctl.specs.Words.{callers_rule, cut_rule, n1_rule, program_app, fault_in, met_in, with_two, AreFor, AsksNoHelp, HasNoNumber};
+
+mod numbers;
 
 use clap::error::ErrorKind;
 use clap::{Arg, ArgAction, ArgMatches, Command, Error, value_parser};
 use modem_runs::{Stop, bench_run, frames_run, give_up, replay_run};
 use modem_sim::{Script, Steps};
+use numbers::{Numbers, numbers_of};
 use std::alloc::{AllocError, AllocGlobal, Global};
 use std::io::{Read, Write};
 use std::random::RandomSource;
 use std::sync::Wait;
 use std::thread::Threads;
-
-/// N1 where no word gives it.
-const DEFAULT_N1: u16 = 31;
-
-/// The callers of a bench where no word gives them.
-const DEFAULT_CALLERS: u8 = 2;
-
-/// The octets under way each way where no word gives them.
-const DEFAULT_CUT: u16 = 64;
 
 /// The option `--n1`.
 fn n1_option<'a>(alloc: Global) -> Arg<'a>
@@ -94,37 +90,42 @@ fn program<'a>(alloc: Global) -> Result<Command<'a>, AllocError>
     command.subcommand(bench)
 }
 
-fn n1_of(matches: &ArgMatches<'_>) -> u16
-    ensures { IsNumberOf 31 16 (one_text (found_of matches.now) (codes "n1")) result }
-{
-    matches.get_one::<u16>("n1").unwrap_or(DEFAULT_N1)
+/// Whether some character is one that moves the cursor or rings a bell, as a line feed.
+fn has_controls(text: &str) -> bool {
+    text.chars().any(|character| character.is_control())
 }
 
-fn callers_of(matches: &ArgMatches<'_>) -> u8
-    ensures { IsNumberOf 2 8 (one_text (found_of matches.now) (codes "callers")) result }
-{
-    matches.get_one::<u8>("callers").unwrap_or(DEFAULT_CALLERS)
-}
-
-fn cut_of(matches: &ArgMatches<'_>) -> u16
-    ensures { IsNumberOf 64 16 (one_text (found_of matches.now) (codes "cut")) result }
-{
-    matches.get_one::<u16>("cut").unwrap_or(DEFAULT_CUT)
+/// Says what is wrong with the words: the first that has control characters is shown with these escaped.
+fn complain<E: Write>(faults: &mut E, error: &Error, words: &[String]) {
+    for word in words.iter().skip(1) {
+        if has_controls(word.as_str()) {
+            let _ = writeln!(faults, "error: the word {word:?} has control characters");
+            return;
+        }
+    }
+    let _ = write!(faults, "{error}");
 }
 
 /// Says what is wrong with the words, or the help that they ask for; and gives the status.
-fn explain<W: Write, E: Write>(output: &mut W, faults: &mut E, error: &Error) -> u8
+fn explain<W: Write, E: Write>(
+    output: &mut W,
+    faults: &mut E,
+    error: &Error,
+    words: &[String],
+) -> u8
     ensures status { result ≤ 2 }
     ensures memory { kind_of error.now ≡ ErrorKind.OutOfMemory → result ≡ 1 }
     ensures wrong { kind_of error.now ≢ ErrorKind.DisplayHelp
         → kind_of error.now ≢ ErrorKind.DisplayVersion → 0 < result }
     ensures bad { result ≡ 2 → output.new ≡ output.old }
+    ensures nothing { result ≡ 1 → HasGivenUp output.old output.new (E.contents faults.old)
+        (E.contents faults.new) result }
 {
     if matches!(error.kind(), ErrorKind::OutOfMemory) {
         return give_up(faults, Stop::NoMemory);
     }
     if error.use_stderr() {
-        let _ = write!(faults, "{error}");
+        complain(faults, error, words);
         return 2;
     }
     match write!(output, "{error}") {
@@ -133,11 +134,22 @@ fn explain<W: Write, E: Write>(output: &mut W, faults: &mut E, error: &Error) ->
     }
 }
 
+/// Says of which option the number isn't one, and gives the status.
+fn refuse<E: Write>(faults: &mut E, option: &str) -> u8
+    ensures { result ≡ 2 }
+{
+    let _ = writeln!(
+        faults,
+        "error: --{option} takes a number in decimal, without a sign and leading zeros"
+    );
+    2
+}
+
 /// Runs a bench with a simulated modem that does nothing of its own accord.
 fn bench_plain<R, I: Read, W: Write, E: Write>(
     rt: &R,
     alloc: Global,
-    matches: &ArgMatches<'_>,
+    numbers: Numbers,
     input: &mut I,
     output: &mut W,
     faults: &mut E,
@@ -146,16 +158,26 @@ where
     R: Threads + Wait + RandomSource + AllocGlobal + Copy + Send + Drop + 'static,
     ensures status { result ≤ 2 }
     ensures bad { result ≡ 2 → output.new ≡ output.old }
-    ensures done { result ≡ 0 → PrintsBenchBy (found_of matches.now) (I.remaining input.old)
-        (W.contents output.old) (W.contents output.new) }
+    ensures done { result ≡ 0 → IsPrinted (IsBenched numbers.callers numbers.cut plain_script)
+        (I.remaining input.old) (W.contents output.old) (W.contents output.new) }
+    ensures nothing { result ≡ 1 → HasGivenUp output.old output.new (E.contents faults.old)
+        (E.contents faults.new) result }
 {
-    let callers = callers_of(matches);
-    let cut = usize::from(cut_of(matches));
     let script = Script {
         echo: false,
         steps: Steps::from(Vec::new(alloc)),
     };
-    bench_run(rt, alloc, input, output, faults, callers, cut, script)
+    let cut = usize::from(numbers.cut);
+    bench_run(
+        rt,
+        alloc,
+        input,
+        output,
+        faults,
+        numbers.callers,
+        cut,
+        script,
+    )
 }
 
 /// Runs the subcommand that a parse met.
@@ -171,6 +193,9 @@ where
     R: Threads + Wait + RandomSource + AllocGlobal + Copy + Send + Drop + 'static,
     ensures status { result ≤ 2 }
     ensures bad { result ≡ 2 → output.new ≡ output.old }
+    ensures unread { HasNoNumber (subcommand_rows_of matches.now) → input.new ≡ input.old }
+    ensures nothing { result ≡ 1 → HasGivenUp output.old output.new (E.contents faults.old)
+        (E.contents faults.new) result }
     ensures frames { result ≡ 0 → subcommand_name_of matches.now ≡ Some (codes "frames")
         → PrintsFrames (subcommand_rows_of matches.now) (I.remaining input.old) (W.contents output.old)
         (W.contents output.new) }
@@ -181,15 +206,18 @@ where
         → PrintsBench (subcommand_rows_of matches.now) (I.remaining input.old) (W.contents output.old)
         (W.contents output.new) }
 {
-    if let Some(matches) = matches.subcommand_matches("frames") {
-        return frames_run(alloc, input, output, faults, n1_of(matches));
-    }
-    if let Some(matches) = matches.subcommand_matches("replay") {
-        return replay_run(alloc, input, output, faults, n1_of(matches));
-    }
-    match matches.subcommand_matches("bench") {
-        Some(matches) => bench_plain(rt, alloc, matches, input, output, faults),
-        None => 2,
+    let Some((name, given)) = matches.subcommand() else {
+        return 2;
+    };
+    let numbers = match numbers_of(given) {
+        Ok(numbers) => numbers,
+        Err(option) => return refuse(faults, option),
+    };
+    match name {
+        "frames" => frames_run(alloc, input, output, faults, numbers.n1),
+        "replay" => replay_run(alloc, input, output, faults, numbers.n1),
+        "bench" => bench_plain(rt, alloc, numbers, input, output, faults),
+        _ => 2,
     }
 }
 
@@ -210,6 +238,10 @@ where
     ensures wrong { fault_in (map string_bytes words.now) ≢ []
         → AsksNoHelp (fault_in (map string_bytes words.now)) → 0 < result }
     ensures unread { fault_in (map string_bytes words.now) ≢ [] → input.new ≡ input.old }
+    ensures no_number { fault_in (map string_bytes words.now) ≡ []
+        → HasNoNumber (met_in (map string_bytes words.now)) → input.new ≡ input.old }
+    ensures nothing { result ≡ 1 → HasGivenUp output.old output.new (E.contents faults.old)
+        (E.contents faults.new) result }
     ensures frames { result ≡ 0 → AreFor (codes "frames") (map string_bytes words.now)
         → PrintsFrames (met_in (map string_bytes words.now)) (I.remaining input.old) (W.contents output.old)
         (W.contents output.new) }
@@ -226,6 +258,6 @@ where
     };
     match command.try_get_matches_from(words) {
         Ok(matches) => run_named(rt, alloc, &matches, input, output, faults),
-        Err(error) => explain(output, faults, &error),
+        Err(error) => explain(output, faults, &error, words),
     }
 }

@@ -1,10 +1,12 @@
-use Rattle.std.proofs.Common.{◌≡◌, ◌≢◌, ◌∙◌, ◌<◌, ◌⊎◌, ℕ, ⊎_elim, ap, arith, refl, subst, true, List, [], ◌∷◌, Option, None, Some, option_map, codes}
+use Rattle.std.proofs.Common.{◌≡◌, ◌≢◌, ◌∙◌, ◌<◌, ◌⊎◌, ℕ, ⊎_elim, ap, arith, refl, subst, sym, true, List, [], ◌∷◌, Option, None, Some, option_map, codes}
 use Rattle.clap.specs.Words.{App, HasKind, IsAmong, Kinds, Row, Text, fault_of, is_simple, is_simple_and_free, subcommand_of, subcommand_name_of, subcommand_rows_of}
 use Rattle.clap.specs.declared.ArgMatches.{ArgMatches}
 use Rattle.clap.specs.declared.error.ErrorKind.{ErrorKind}
 use Rattle.clap.specs.declared.error.ErrorKind.TheVariants.{DisplayHelp, DisplayVersion, OutOfMemory}
 use Rattle.clap.proofs.OnLiterals.{clap_on_literals}
-use Rattle.modemctl.specs.Words.{AsksNoHelp, program_app, fault_in, met_in, named_in, text_in}
+use Rattle.modemctl.specs.Words.{AsksNoHelp, HasNoNumber, program_app, fault_in, met_in, named_in, text_in}
+use Rattle.modem_runs.specs.declared.stop.Stop.TheVariants as Stop
+use Rattle.modem_runs.proofs.outputs.StoppedRuns.{gave_up}
 use Rattle.modemctl.specs.Benches.{PrintsBench, PrintsFrames, PrintsReplay}
 use Rattle.modemctl.proofs.words.run.Goals as goal
 
@@ -97,6 +99,14 @@ pub returns-in-Err-try_get_matches_from-clause-bench :
 returns-in-Err-try_get_matches_from-clause-bench g c zero for =
     absurd (is_memory _ _ _ (at_program (λ kinds. HasKind kinds c.in-Err-try_get_matches_from.error) _ _ c.in-Ok.ensures c.in-Err-try_get_matches_from.ensures.kinds) c.explain.ensures.memory zero for.0)
 
+pub returns-in-Ok-try_get_matches_from-clause-no_number :
+    goal.returns-in-Ok-try_get_matches_from-clause-no_number
+returns-in-Ok-try_get_matches_from-clause-no_number g c right none =
+    c.run_named.ensures.unread (subst HasNoNumber (sym (met c.in-Ok-try_get_matches_from.matches _ _ c.in-Ok.ensures (λ e. (c.in-Ok-try_get_matches_from.ensures.matches e).1))) none)
+
+pub returns-in-Err-clause-nothing : goal.returns-in-Err-clause-nothing
+returns-in-Err-clause-nothing g c one = gave_up Stop.NoMemory c.args.output.now _ _ _ _ c.give_up.ensures.status c.give_up.ensures.said (λ other. refl)
+
 -- ## Rows
 
 bench_alone : fault_in (codes "modemctl" ∷ codes "bench" ∷ []) ≡ []
@@ -138,3 +148,11 @@ n1_of_words = refl
 n1_by_default : text_in (met_in (codes "modemctl" ∷ codes "frames" ∷ [])) (codes "n1") ≡ Some (codes "31")
 unfolding clap_on_literals
 n1_by_default = refl
+
+with_a_plus : fault_in (codes "modemctl" ∷ codes "replay" ∷ codes "--n1" ∷ codes "+31" ∷ []) ≡ []
+unfolding clap_on_literals
+with_a_plus = refl
+
+text_with_a_plus : text_in (met_in (codes "modemctl" ∷ codes "replay" ∷ codes "--n1" ∷ codes "+31" ∷ [])) (codes "n1") ≡ Some (codes "+31")
+unfolding clap_on_literals
+text_with_a_plus = refl

@@ -1,43 +1,73 @@
 -- What was printed, by the numbers that the matches of the subcommand give.
-use Rattle.std.proofs.Common.{◌≡◌, ◌∙◌, ap, sym, subst, List, Option, None, Some, option_map, codes}
+use Rattle.std.proofs.Common.{◌≡◌, ◌∙◌, ◌⊎◌, ⊎_elim, ℕ, ap, sym, subst, List, Option, None, Some, option_map, codes}
 use Rattle.std.specs.Prelude.{option_and_then}
 use Rattle.clap.specs.Words.{Row, Text, found_of, one_of, one_text, rows_of, subcommand_rows_of}
 use Rattle.clap.specs.declared.ArgMatches.{ArgMatches}
 use Rattle.clap.proofs.WalkLemmas.{one_text-rows}
-use Rattle.modemctl.specs.Words.{IsNumberOf, text_in}
+use Rattle.modemctl.specs.Words.{HasNoNumber, IsGiven, IsNoNumber, IsNumberOf, text_in}
 use Rattle.modemctl.proofs.words.run_named.Goals as goal
 
-of_rows : (met : Option (Text × List Row)) (rows : List Row) (option : Text) → option_map (λ p. p.1) met ≡ Some rows → one_of option rows ≡ text_in met option
+of_rows : (met : Option (Text × List Row)) (rows : List Row) (option : Text) → Some rows ≡ option_map (λ p. p.1) met → one_of option rows ≡ text_in met option
 of_rows None rows option e = cc
-of_rows (Some p) rows option e = let same : Some p.1 ≡ Some rows = e in let rows_are : p.1 ≡ rows = cc in ap (one_of option) (sym rows_are)
+of_rows (Some p) rows option e = let same : Some rows ≡ Some p.1 = e in let rows_are : rows ≡ p.1 = cc in ap (one_of option) rows_are
 
 -- what the matches of the subcommand have for an option
-given_in : (top m : ArgMatches) (option : Text) → option_map (λ p. p.1) (subcommand_rows_of top) ≡ Some (rows_of (found_of m)) → one_text (found_of m) option ≡ text_in (subcommand_rows_of top) option
+given_in : (top m : ArgMatches) (option : Text) → Some (rows_of (found_of m)) ≡ option_map (λ p. p.1) (subcommand_rows_of top) → one_text (found_of m) option ≡ text_in (subcommand_rows_of top) option
 given_in top m option e = one_text-rows (found_of m) option ∙ of_rows (subcommand_rows_of top) (rows_of (found_of m)) option e
 
-pub returns-in-Some-clause-frames : goal.returns-in-Some-clause-frames
-returns-in-Some-clause-frames g c zero named = record {
-  n1 = c.n1_of.result;
-  given = subst (λ (t : Option Text). IsNumberOf 31 16 t c.n1_of.result) (given_in c.args.matches.now c.in-Some.matches.now (codes "n1") c.in-Some.ensures.rows) c.n1_of.ensures;
+-- the number that they give for it
+number_in : (top m : ArgMatches) (option : Text) (default n : ℕ) → Some (rows_of (found_of m)) ≡ option_map (λ p. p.1) (subcommand_rows_of top) → IsNumberOf default (one_text (found_of m) option) n
+    → IsGiven (subcommand_rows_of top) option default n
+number_in top m option default n e is = subst (λ (t : Option Text). IsNumberOf default t n) (given_in top m option e) is
+
+some_number : (t : Option Text) (default n : ℕ) → IsNumberOf default t n → IsNoNumber t → ⊥
+some_number None default n is none = none
+some_number (Some t) default n is none = none n is
+
+-- numbers were read, so each text is one
+all_numbers : (top m : ArgMatches) (n1 callers cut : ℕ) → Some (rows_of (found_of m)) ≡ option_map (λ p. p.1) (subcommand_rows_of top) → IsNumberOf 31 (one_text (found_of m) (codes "n1")) n1
+    → IsNumberOf 2 (one_text (found_of m) (codes "callers")) callers
+    → IsNumberOf 64 (one_text (found_of m) (codes "cut")) cut
+    → HasNoNumber (subcommand_rows_of top)
+    → ⊥
+all_numbers top m n1 callers cut e one two three none =
+    ⊎_elim (some_number (text_in (subcommand_rows_of top) (codes "n1")) 31 n1 (number_in top m (codes "n1") 31 n1 e one))
+    (λ (more : IsNoNumber (text_in (subcommand_rows_of top) (codes "callers")) ⊎ IsNoNumber (text_in (subcommand_rows_of top) (codes "cut"))).
+    ⊎_elim (some_number (text_in (subcommand_rows_of top) (codes "callers")) 2 callers (number_in top m (codes "callers") 2 callers e two))
+    (some_number (text_in (subcommand_rows_of top) (codes "cut")) 64 cut (number_in top m (codes "cut") 64 cut e three)) more)
+    none
+
+pub returns-in-frames-clause-unread : goal.returns-in-frames-clause-unread
+returns-in-frames-clause-unread g c none =
+    absurd (all_numbers c.args.matches.now c.in-Some.given.now c.in-Ok.numbers.n1 c.in-Ok.numbers.callers c.in-Ok.numbers.cut c.in-Some.ensures.rows c.in-Ok.ensures.n1 c.in-Ok.ensures.callers c.in-Ok.ensures.cut none)
+
+pub returns-in-replay-clause-unread : goal.returns-in-replay-clause-unread
+returns-in-replay-clause-unread g c none =
+    absurd (all_numbers c.args.matches.now c.in-Some.given.now c.in-Ok.numbers.n1 c.in-Ok.numbers.callers c.in-Ok.numbers.cut c.in-Some.ensures.rows c.in-Ok.ensures.n1 c.in-Ok.ensures.callers c.in-Ok.ensures.cut none)
+
+pub returns-in-bench-clause-unread : goal.returns-in-bench-clause-unread
+returns-in-bench-clause-unread g c none =
+    absurd (all_numbers c.args.matches.now c.in-Some.given.now c.in-Ok.numbers.n1 c.in-Ok.numbers.callers c.in-Ok.numbers.cut c.in-Some.ensures.rows c.in-Ok.ensures.n1 c.in-Ok.ensures.callers c.in-Ok.ensures.cut none)
+
+pub returns-in-frames-clause-frames : goal.returns-in-frames-clause-frames
+returns-in-frames-clause-frames g c zero named = record {
+  n1 = c.in-Ok.numbers.n1;
+  given = number_in c.args.matches.now c.in-Some.given.now (codes "n1") 31 c.in-Ok.numbers.n1 c.in-Some.ensures.rows c.in-Ok.ensures.n1;
   printed = c.frames_run.ensures.done zero;
 }
 
-pub returns-in-Some-subcommand_matches-clause-replay :
-    goal.returns-in-Some-subcommand_matches-clause-replay
-returns-in-Some-subcommand_matches-clause-replay g c zero named = record {
-  n1 = c.n1_of-in-Some-subcommand_matches.result;
-  given = subst (λ (t : Option Text). IsNumberOf 31 16 t c.n1_of-in-Some-subcommand_matches.result) (given_in c.args.matches.now c.in-Some-subcommand_matches.matches.now (codes "n1") c.in-Some-subcommand_matches.ensures.rows) c.n1_of-in-Some-subcommand_matches.ensures;
+pub returns-in-replay-clause-replay : goal.returns-in-replay-clause-replay
+returns-in-replay-clause-replay g c zero named = record {
+  n1 = c.in-Ok.numbers.n1;
+  given = number_in c.args.matches.now c.in-Some.given.now (codes "n1") 31 c.in-Ok.numbers.n1 c.in-Some.ensures.rows c.in-Ok.ensures.n1;
   printed = c.replay_run.ensures.done zero;
 }
 
-pub returns-in-Some-subcommand_matches-2-clause-bench :
-    goal.returns-in-Some-subcommand_matches-2-clause-bench
-returns-in-Some-subcommand_matches-2-clause-bench g c zero named =
-    let p = c.bench_plain.ensures.done zero in
-    record {
-      callers = p.callers;
-      callers_given = subst (λ (t : Option Text). IsNumberOf 2 8 t p.callers) (given_in c.args.matches.now c.in-Some-subcommand_matches-2.matches.now (codes "callers") c.in-Some-subcommand_matches-2.ensures.rows) p.callers_given;
-      cut = p.cut;
-      cut_given = subst (λ (t : Option Text). IsNumberOf 64 16 t p.cut) (given_in c.args.matches.now c.in-Some-subcommand_matches-2.matches.now (codes "cut") c.in-Some-subcommand_matches-2.ensures.rows) p.cut_given;
-      printed = p.printed;
-    }
+pub returns-in-bench-clause-bench : goal.returns-in-bench-clause-bench
+returns-in-bench-clause-bench g c zero named = record {
+  callers = c.in-Ok.numbers.callers;
+  callers_given = number_in c.args.matches.now c.in-Some.given.now (codes "callers") 2 c.in-Ok.numbers.callers c.in-Some.ensures.rows c.in-Ok.ensures.callers;
+  cut = c.in-Ok.numbers.cut;
+  cut_given = number_in c.args.matches.now c.in-Some.given.now (codes "cut") 64 c.in-Ok.numbers.cut c.in-Some.ensures.rows c.in-Ok.ensures.cut;
+  printed = c.bench_plain.ensures.done zero;
+}

@@ -6,7 +6,7 @@ use Rattle.std.specs.declared.vec.Vec.{Vec}
 use Rattle.modem_desk.specs.declared.request.Outcome.{Outcome}
 use Rattle.modem_bench.specs.Running.{Ran, RanFor, look_at, sight_of}
 use Rattle.modem_bench.proofs.CallerThreads.{ok_on}
-use Rattle.modem_bench.proofs.running.run_bench.Goals as goal
+use Rattle.modem_bench.proofs.running.run_bench_within.Goals as goal
 
 pub returns : goal.returns
 returns g c =

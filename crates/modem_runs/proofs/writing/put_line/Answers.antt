@@ -1,0 +1,14 @@
+use Rattle.std.proofs.Common.{◌++◌, ◌∷◌, []}
+use Rattle.modem_runs.proofs.outputs.WrittenTexts.{appends_more, begun_after, begun_first}
+use Rattle.modem_runs.proofs.writing.put_line.Goals as goal
+
+pub returns-then-not-write_text-2 : goal.returns-then-not-write_text-2
+returns-then-not-write_text-2 g c =
+    begun_first _ _ (c.args.first.now ++ c.args.second.now) (10 ∷ [])
+    (begun_after _ (g.W.Write.contents c.write_text.new.output) _ c.args.first.now c.args.second.now (c.write_text.ensures.whole cc) c.write_text-2.ensures.part)
+
+pub returns : goal.returns
+returns g c =
+    begun_after _ (g.W.Write.contents c.write_text-2.new.output) _ (c.args.first.now ++ c.args.second.now) (10 ∷ [])
+    (appends_more _ (g.W.Write.contents c.write_text.new.output) _ c.args.first.now c.args.second.now (c.write_text.ensures.whole cc) (c.write_text-2.ensures.whole cc))
+    c.write_text-3.ensures.part

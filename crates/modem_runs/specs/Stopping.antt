@@ -1,0 +1,66 @@
+-- How a run ends without its whole output: for which cause, what stands on the output then, and what is said beside it.
+use Rattle.std.specs.Prelude.{◌≡◌, ◌≢◌, ◌⊎◌, ◌<◌, ℕ, List, ◌++◌, Option, IfSome}
+use Rattle.std.specs.Io.KnownBytes.{Appends}
+use Rattle.modem_runs.specs.Bench.{IsNoSubmission}
+use Rattle.modem_runs.specs.Input.{IsFirstBad, input_lines}
+use Rattle.modem_runs.specs.Statuses.{status_of, stop_line}
+use Rattle.modem_runs.specs.declared.stop.Stop.{Stop}
+
+-- a beginning of the text stands behind what stood there before, and nothing else: the whole, some octets of it, or none
+pub record IsBegun (before after : Option (List ℕ)) (text : List ℕ) : Type 0 where
+  pub part : List ℕ
+  pub left : List ℕ
+  pub split : text ≡ part ++ left
+  pub appended : Appends before after part
+
+-- for this cause, with its status: nothing was written to the output, unless that is what failed; and what is said of the cause,
+-- or a beginning of it, stands beside the output
+pub record GivesUp {O : Type 0} (old new : O) (before after : Option (List ℕ)) (status : ℕ) (stop : Stop) : Type 0 where
+  pub has_status : status ≡ status_of stop
+  pub nothing : stop ≢ Stop.Output → new ≡ old
+  pub said : IsBegun before after (stop_line stop)
+
+-- for one of the causes that there are
+pub record HasGivenUp {O : Type 0} (old new : O) (before after : Option (List ℕ)) (status : ℕ) : Type 0 where
+  pub stop : Stop
+  pub gives_up : GivesUp old new before after status stop
+
+-- this was made of the input, where that is known, and a beginning of it stands on the output
+pub record IsBegunOf (Makes : List ℕ → List ℕ → Type 0) (input before after : Option (List ℕ)) : Type 0 where
+  pub shown : List ℕ
+  pub made : IfSome input (λ text. Makes text shown)
+  pub begun : IsBegun before after shown
+
+-- for a cause that is one of the input, the settings or the writers; where the output failed, a beginning of what was to be written
+-- stands on it, and nothing else
+pub record HasStopped {O : Type 0} (Makes : List ℕ → List ℕ → Type 0) (IsCause : Stop → Type 0) (input : Option (List ℕ)) (contents : O → Option (List ℕ)) (old new : O) (before after : Option (List ℕ)) (status : ℕ) :
+    Type 0 where
+  pub stop : Stop
+  pub gives_up : GivesUp old new before after status stop
+  pub cause : IsCause stop
+  pub begun : stop ≡ Stop.Output → IsBegunOf Makes input (contents old) (contents new)
+
+-- the causes for which a run over its input alone stops: this line is the first bad one; N1 isn't 31 to 32767
+abbrev pub IsRunStop : (n1 : ℕ) (IsBad : List ℕ → Type 0) (input : Option (List ℕ)) → Stop → Type 0
+IsRunStop n1 IsBad input Stop.NoMemory = Unit {0}
+IsRunStop n1 IsBad input Stop.Input = Unit {0}
+IsRunStop n1 IsBad input Stop.Output = Unit {0}
+IsRunStop n1 IsBad input Stop.Line = ⊥
+IsRunStop n1 IsBad input Stop.GaveUp = ⊥
+IsRunStop n1 IsBad input Stop.BadN1 = (n1 < 31) ⊎ (32767 < n1)
+IsRunStop n1 IsBad input Stop.BadCallers = ⊥
+IsRunStop n1 IsBad input Stop.BadCut = ⊥
+IsRunStop n1 IsBad input (Stop.BadLine place) = IfSome input (λ text. IsFirstBad IsBad (input_lines text) place)
+
+-- those of a bench: its line failed, or it didn't come to its end; callers aren't 1 to 8, the cut isn't 1 to 4096
+abbrev pub IsBenchStop : (callers cut : ℕ) (input : Option (List ℕ)) → Stop → Type 0
+IsBenchStop callers cut input Stop.NoMemory = Unit {0}
+IsBenchStop callers cut input Stop.Input = Unit {0}
+IsBenchStop callers cut input Stop.Output = Unit {0}
+IsBenchStop callers cut input Stop.Line = Unit {0}
+IsBenchStop callers cut input Stop.GaveUp = Unit {0}
+IsBenchStop callers cut input Stop.BadN1 = ⊥
+IsBenchStop callers cut input Stop.BadCallers = (callers < 1) ⊎ (8 < callers)
+IsBenchStop callers cut input Stop.BadCut = (cut < 1) ⊎ (4096 < cut)
+IsBenchStop callers cut input (Stop.BadLine place) =
+    IfSome input (λ text. IsFirstBad (IsNoSubmission callers) (input_lines text) place)

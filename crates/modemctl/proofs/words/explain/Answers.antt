@@ -1,0 +1,11 @@
+use Rattle.std.specs.Prelude.{refl}
+use Rattle.modem_runs.specs.declared.stop.Stop.TheVariants as Stop
+use Rattle.modem_runs.proofs.outputs.StoppedRuns.{gave_up}
+use Rattle.modemctl.proofs.words.explain.Goals as goal
+
+pub returns-then-matches-clause-nothing : goal.returns-then-matches-clause-nothing
+returns-then-matches-clause-nothing g c one = gave_up Stop.NoMemory c.args.output.now _ _ _ _ c.give_up.ensures.status c.give_up.ensures.said (λ other. refl)
+
+pub returns-in-Err-clause-nothing : goal.returns-in-Err-clause-nothing
+returns-in-Err-clause-nothing g c one =
+    gave_up Stop.Output c.args.output.now _ _ _ _ c.give_up-in-Err.ensures.status c.give_up-in-Err.ensures.said (λ other. absurd (other refl))
