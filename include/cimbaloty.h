@@ -269,7 +269,9 @@ static inline uint8_t cimbaloty_finish(struct cimbaloty *c, struct cimbaloty_lef
  *
  *  1. A struct cimbaloty begins as CIMBALOTY_NONE, and these functions alone touch it. Where one was copied
  *     or moved, the other copy isn't used any more.
- *  2. One call at a time on one driver, each on the thread that made it. Two drivers share nothing.
+ *  2. One call at a time on one driver. Calls may come from different threads where your lock, the start or
+ *     join of a thread, or a sequentially consistent atomic puts each behind the one before it. Two drivers
+ *     share nothing.
  *  3. A pointer isn't null, but beside a length of 0 above, is aligned for its type, and points to as many
  *     values as the length says, which have been written; where the call writes, nothing else that the call
  *     is given lies there. Lengths are at most PTRDIFF_MAX.
@@ -293,7 +295,8 @@ static inline uint8_t cimbaloty_finish(struct cimbaloty *c, struct cimbaloty_lef
  *     those of the history, each once and in order: of a command just the lines of its own answer;
  *   - of each kind the unsolicited lines polled, and then those that wait, are those of the history, each once
  *     and in order, and none is part of an answer.
- *  The text of an outcome or a line is at the front of the room as it was kept.
+ *  The text of an outcome or a line is at the front of the room as it was kept. A driver says the same to every
+ *  thread: it may be passed from one to another.
  *
  *  Not proved, and tested: that a call succeeds where there is memory; that memory is given back. Not claimed:
  *  any time or speed, that a modem answers, and anything about code in C. */

@@ -165,12 +165,14 @@ static size_t read_frame(struct fake *f, const uint8_t *octets, size_t length)
 
 static size_t read_plain(struct fake *f)
 {
-	uint8_t *end = memchr(f->in, '\r', f->in_length);
+	uint8_t *end = memchr(f->in, '\r', f->in_length), *at = f->in;
 
 	if (!end)
 		return 0;
 	*end = 0;
-	f->is_multiplexed = !strcmp((char *)f->in, "AT+CMUX=0");
+	while (*at && *at != 'A')               /* V.250, 5.2.1: what comes before AT is passed over */
+		at++;
+	f->is_multiplexed = !strcmp((char *)at, "AT+CMUX=0");
 	put_plain(f, f->is_multiplexed ? "AT+CMUX=0\r\r\nOK\r\n" : "\r\nERROR\r\n");
 	return (size_t)(end - f->in) + 1;
 }

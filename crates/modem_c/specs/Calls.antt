@@ -5,6 +5,7 @@ use Rattle.modem_desk.specs.declared.request.Ask.{Ask}
 use Rattle.modem_desk.specs.Ends.{DriverView}
 use Rattle.modem_history.specs.Sessions.{LineView}
 use Rattle.modem_driver.specs.Endpoints.{EndpointState, GivesOctets, Numbers, TakesOctets}
+use Rattle.modem_driver.specs.EndpointLaws.{Calls}
 use Rattle.modem_driver.specs.EndpointSteps.{with_sent}
 use Rattle.modem_driver.specs.declared.endpoint.Blocked.{Blocked}
 use Rattle.modem_c.specs.declared.driver.Cimbaloty.{Cimbaloty}
@@ -45,3 +46,10 @@ pub data GivesOn : LineView → DriverView → EndpointState → EndpointState �
       → GivesOn l d e f before → GivesOctets (with_sent l before) d f g octets → GivesOn l d e g (before ++ octets)
   handled : (l : LineView) (d : DriverView) (e f g : EndpointState) (before : List ℕ) (blocked : Option Blocked)
       → GivesOn l d e f before → TakesOctets (with_sent l before) d f g [] blocked → GivesOn l d e g before
+
+-- what an output does is calls of an endpoint, over a line that took its octets
+unfoldable pub OutputsAreCalls : Type 0
+OutputsAreCalls =
+    (l : LineView) (d : DriverView) (e f : EndpointState) (octets : List ℕ) → GivesOn l d e f octets
+    → Calls (record { line = l; driver = d; endpoint = e })
+    (record { line = with_sent l octets; driver = d; endpoint = f })

@@ -22,6 +22,8 @@ impl Model for Handle {
     ghost also_owns = { λ h. holds h.alloc h.at h.held };
 }
 
+unsafe impl Send for Handle {}
+
 impl Handle {
     /// No endpoint.
     pub(crate) fn none(alloc: Global) -> Handle

@@ -6,6 +6,7 @@ mod driver;
 mod ending;
 mod handle;
 mod kinds;
+pub mod laws;
 mod lines;
 mod making;
 mod numbers;

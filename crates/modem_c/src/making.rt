@@ -1,14 +1,21 @@
 //! A driver is made and freed.
-ghost use Rattle.std.specs.Prelude.{◌≡◌, ◌≢◌, ◌<◌, ◌≤◌, ◌⊎◌, ◌↔◌, None};
+ghost use Rattle.std.specs.Prelude.{◌≡◌, ◌≢◌, ◌<◌, ◌≤◌, ◌⊎◌, ◌↔◌, false, None};
 ghost use Rattle.modem_driver.specs.Endpoints.{Begins, new_endpoint};
 ghost use Rattle.modem_c.specs.Calls.{Holds, endpoint_of};
 ghost use Rattle.modem_c.specs.Numbers.{kinds_in};
 
 use crate::driver::Cimbaloty;
 use crate::kinds::kinds_in;
-use crate::numbers::{BAD_KINDS, HAS_DRIVER, NO_MEMORY, OK};
+use crate::numbers::{BAD_KINDS, BAD_N1, HAS_DRIVER, NO_MEMORY, OK};
 use modem_driver::{Endpoint, SessionError};
 use std::alloc::Global;
+
+/// Whether it is an N1, 31 to 32767.
+fn is_n1(n1: u16) -> bool
+    ensures { (result ≡ false) ↔ ((n1 < 31) ⊎ (32767 < n1)) }
+{
+    (31..=32767).contains(&n1)
+}
 
 /// Makes a driver where there is none.
 #[unsafe(no_mangle)]
@@ -23,8 +30,8 @@ pub extern "C" fn cimbaloty_new(
     ensures begins { result ≡ OK → Holds c.new (λ e. Begins n1 (kinds_in kinds) e) }
     ensures has_driver { (result ≡ HAS_DRIVER) ↔ (endpoint_of c.old ≢ None) }
     ensures bad_kinds { endpoint_of c.old ≡ None → ((result ≡ BAD_KINDS) ↔ (127 < kinds)) }
-    ensures bad_n1 { endpoint_of c.old ≡ None → kinds ≤ 127 → result ≡ 2 → (n1 < 31) ⊎ (32767 < n1) }
-    ensures good_n1 { (n1 < 31) ⊎ (32767 < n1) → result ≢ OK }
+    ensures bad_n1 { endpoint_of c.old ≡ None → kinds ≤ 127
+        → ((result ≡ BAD_N1) ↔ ((n1 < 31) ⊎ (32767 < n1))) }
     ensures refused { result ≢ OK → endpoint_of c.new ≡ endpoint_of c.old }
 {
     if c.is_open() {
@@ -32,6 +39,9 @@ pub extern "C" fn cimbaloty_new(
     }
     if kinds > 127 {
         return BAD_KINDS;
+    }
+    if !is_n1(n1) {
+        return BAD_N1;
     }
     let Ok(kinds) = kinds_in(alloc, kinds) else {
         return NO_MEMORY;

@@ -1,0 +1,19 @@
+//! What the calls of C are of an endpoint's.
+ghost use Rattle.modem_c.specs.Calls.{OutputsAreCalls};
+
+use crate::driver::Cimbaloty;
+
+/// What an output does is a sequence of an endpoint's calls, over a line that took just its octets. So of any sequence of
+/// calls from C what `modem_driver::laws::endpoints` says of an endpoint's holds.
+#[tactic(auto, using(crate::proofs::GivenParts::outputs_are_calls))]
+pub fn outputs()
+    ensures { OutputsAreCalls }
+{}
+
+/// Takes what may pass from one thread to another.
+fn crosses<T: Send>(_value: &T) {}
+
+/// A driver may pass from one thread to another, since it is `Send`: all that it owns says the same to each.
+pub fn threads(driver: &Cimbaloty) {
+    crosses(driver);
+}
