@@ -1,0 +1,3 @@
+pub mod Requests
+pub mod Plain
+pub mod Serving

@@ -1,0 +1,94 @@
+-- What a command line asks of the multiplexer (27.007, 5.7).
+use Rattle.std.specs.Prelude.{ℕ, ◌+◌, ◌-◌, ◌*◌, ◌==◌, ◌&&◌, nat_lt, nat_le, Bool, true, false, List, [], ◌∷◌, take, drop, fold, Option, Some, None, if◌then◌else◌, codes}
+use Rattle.std.specs.Str.{bytes_eq}
+use Rattle.at_text.specs.Octets.{is_comma, is_digit}
+use Rattle.modem_sim.specs.CommandLines.{commands_in}
+use Rattle.modem_sim.specs.Reading.{lowered}
+use Rattle.modem_serve.specs.declared.requests.MuxRequest.{MuxRequest}
+use Rattle.modem_serve.specs.declared.requests.MuxRequest.TheVariants.{Ranges, Enter}
+
+-- a parameter is left out or between these
+abbrev pub is_between : ℕ → ℕ → Option ℕ → Bool
+is_between low high None = true
+is_between low high (Some n) = nat_le low n && nat_le n high
+
+-- the mode is the basic option, and isn't left out
+abbrev pub is_basic : Option ℕ → Bool
+is_basic None = false
+is_basic (Some n) = n == 0
+
+-- mode, subset (UIH frames), port speed, N1, T1, N2, T2, T3 and k, which is for another mode
+abbrev pub is_good : ℕ → Option ℕ → Bool
+is_good place n =
+    if place == 0 then is_basic n
+    else if place == 1 then is_between 0 0 n
+    else if place == 2 then is_between 1 8 n
+    else if place == 3 then is_between 31 32767 n
+    else if place == 4 then is_between 1 255 n
+    else if place == 5 then is_between 0 100 n
+    else if place == 6 then is_between 2 255 n
+    else if place == 7 then is_between 1 255 n
+    else if place == 8 then is_between 1 7 n
+    else false
+
+-- parameters so far: which one this is, its digits so far, N1, and whether all are good
+pub record Read : Type 0 where
+  pub place : ℕ
+  pub digits : Option ℕ
+  pub n1 : ℕ
+  pub good : Bool
+
+-- N1 is the fourth
+abbrev pub n1_of : Option ℕ → ℕ → ℕ
+n1_of None n1 = n1
+n1_of (Some n) n1 = if nat_le n 32767 then n else n1
+
+abbrev pub parameter_ended : Read → Read
+parameter_ended r = record {
+  place = if nat_lt r.place 9 then r.place + 1 else r.place;
+  digits = None;
+  n1 = if r.place == 3 then n1_of r.digits r.n1 else r.n1;
+  good = r.good && is_good r.place r.digits;
+}
+
+abbrev pub number_so_far : Option ℕ → ℕ
+number_so_far None = 0
+number_so_far (Some n) = n
+
+-- one more digit; no parameter has more than five
+abbrev pub digit_read : Read → ℕ → Read
+digit_read r digit =
+    if nat_lt (number_so_far r.digits) 10000 then record r { digits = Some (number_so_far r.digits * 10 + digit) }
+    else record r { good = false }
+
+abbrev pub parameter_octet : Read → ℕ → Read
+parameter_octet r c =
+    if is_comma c then parameter_ended r
+    else if is_digit c then digit_read r (c - 48)
+    else record r { good = false }
+
+-- where N1 is left out it is this
+abbrev pub none_read : ℕ → Read
+none_read n1 = record { place = 0; digits = None; n1 = n1; good = true }
+
+abbrev pub entered_with : Read → Option MuxRequest
+entered_with r = if r.good then Some (Enter r.n1) else None
+
+-- parameters that enter the basic option
+unfoldable pub entering : ℕ → List ℕ → Option MuxRequest
+entering n1 text = entered_with (parameter_ended (fold parameter_octet (none_read n1) text))
+
+-- what one command asks, its letters in either case
+abbrev pub request_in : ℕ → List ℕ → Option MuxRequest
+request_in n1 command =
+    if bytes_eq (lowered command) (codes "at+cmux=?") then Some Ranges
+    else if bytes_eq (lowered (take 8 command)) (codes "at+cmux=") then entering n1 (drop 8 command)
+    else None
+
+-- a line asks it whose only command does
+abbrev pub asked_by : ℕ → Option (List (List ℕ)) → Option MuxRequest
+asked_by n1 (Some (command ∷ [])) = request_in n1 command
+asked_by n1 _ = None
+
+abbrev pub mux_request : ℕ → List ℕ → Option MuxRequest
+mux_request n1 line = asked_by n1 (commands_in line)

@@ -1,0 +1,14 @@
+//! A modem for any client: plain command lines until one enters the multiplexer (27.007, 5.7), then the multiplexer until it is closed
+//! down, by a CLD or by a DISC on 0, then plain lines again.
+#![tactic(auto)]
+
+mod fault;
+mod mux;
+mod plain;
+mod requests;
+mod serving;
+
+pub use fault::{BadOption, ServeFault};
+pub use plain::PlainMode;
+pub use requests::{MuxRequest, mux_request};
+pub use serving::{SimOptions, sim_run};

@@ -1,0 +1,159 @@
+//! What a command line asks of the multiplexer (27.007, 5.7).
+ghost use Rattle.std.specs.Prelude.{◌≡◌, ◌≤◌, IfOk};
+ghost use Rattle.modem_serve.specs.Requests.{Read, digit_read, entered_with, entering, is_basic, is_between, is_good, mux_request, n1_of, none_read, number_so_far, parameter_ended, parameter_octet, request_in};
+
+use modem_sim::commands_in;
+use std::alloc::{AllocError, Global};
+use std::marker::Model;
+
+/// What a command line asks of the multiplexer.
+#[derive(Clone, Copy, PartialEq, Eq, Debug)]
+pub enum MuxRequest {
+    /// `AT+CMUX=?`: what values its parameters take.
+    Ranges,
+    /// `AT+CMUX=0` with or without further parameters: enters the basic option, with this N1.
+    Enter(u16),
+}
+
+/// Whether a parameter is left out, or between these.
+fn is_between(low: u32, high: u32, number: Option<u32>) -> bool
+    ensures { result ≡ is_between low high number }
+{
+    match number {
+        None => true,
+        Some(number) => low <= number && number <= high,
+    }
+}
+
+/// Whether a parameter of this place may be this number.
+fn is_good(place: u8, number: Option<u32>) -> bool
+    ensures { result ≡ is_good place number }
+{
+    match place {
+        0 => number == Some(0),
+        1 => is_between(0, 0, number),
+        2 => is_between(1, 8, number),
+        3 => is_between(31, 32767, number),
+        4 => is_between(1, 255, number),
+        5 => is_between(0, 100, number),
+        6 => is_between(2, 255, number),
+        7 => is_between(1, 255, number),
+        8 => is_between(1, 7, number),
+        _ => false,
+    }
+}
+
+/// Parameters so far.
+#[derive(Drop, Debug)]
+struct Parameters {
+    place: u8,
+    digits: Option<u32>,
+    n1: u16,
+    good: bool,
+}
+
+impl Model for Parameters {
+    ghost Value = { Read };
+
+    ghost view = { λ p. record { place = p.place; digits = p.digits; n1 = p.n1; good = p.good } };
+}
+
+impl Parameters {
+    /// A parameter ends.
+    fn end(&mut self)
+        ensures { self.new ≡ parameter_ended self.old }
+    {
+        self.good = self.good && is_good(self.place, self.digits);
+        if self.place == 3 {
+            self.take_n1();
+        }
+        if self.place < 9 {
+            self.place += 1;
+        }
+        self.digits = None;
+    }
+
+    /// N1 is the number that was read, if one was.
+    fn take_n1(&mut self)
+        ensures { self.new ≡ record self.old { n1 = n1_of self.old.digits self.old.n1 } }
+    {
+        if let Some(number) = self.digits {
+            if number <= 32767 {
+                self.n1 = number as u16;
+            }
+        }
+    }
+
+    /// One more digit.
+    fn push_digit(&mut self, digit: u8)
+        requires { digit ≤ 9 }
+        ensures { self.new ≡ digit_read self.old digit }
+    {
+        let number = self.digits.unwrap_or(0);
+        if number < 10000 {
+            self.digits = Some(number * 10 + u32::from(digit));
+        } else {
+            self.good = false;
+        }
+    }
+
+    /// One more octet.
+    fn push(&mut self, octet: u8)
+        ensures { self.new ≡ parameter_octet self.old octet }
+    {
+        match octet {
+            b',' => self.end(),
+            b'0'..=b'9' => self.push_digit(octet - b'0'),
+            _ => self.good = false,
+        }
+    }
+}
+
+/// What parameters ask that enter the multiplexer; N1 is this where they leave it out.
+#[tactic(auto, unfolding(crate::specs::Requests::entering))]
+fn entering(n1: u16, text: &[u8]) -> Option<MuxRequest>
+    ensures { result ≡ entering n1 text.now }
+{
+    let mut parameters = Parameters {
+        place: 0,
+        digits: None,
+        n1,
+        good: true,
+    };
+    for octet in text {
+        parameters.push(*octet);
+    }
+    parameters.end();
+    if parameters.good {
+        Some(MuxRequest::Enter(parameters.n1))
+    } else {
+        None
+    }
+}
+
+/// What one command asks.
+fn request_in(n1: u16, command: &[u8]) -> Option<MuxRequest>
+    ensures { result ≡ request_in n1 command.now }
+{
+    if command.eq_ignore_ascii_case(b"AT+CMUX=?") {
+        return Some(MuxRequest::Ranges);
+    }
+    let (head, parameters) = command.split_at_checked(8)?;
+    if !head.eq_ignore_ascii_case(b"AT+CMUX=") {
+        return None;
+    }
+    entering(n1, parameters)
+}
+
+/// What a command line asks of the multiplexer, if its only command asks something; N1 is this where it isn't named.
+pub fn mux_request(alloc: Global, n1: u16, line: &[u8]) -> Result<Option<MuxRequest>, AllocError>
+    ensures { IfOk result (λ asked. asked ≡ mux_request n1 line.now) }
+{
+    let Some(commands) = commands_in(alloc, line)? else {
+        return Ok(None);
+    };
+    match commands.as_slice() {
+        [command] => Ok(request_in(n1, command.as_slice())),
+        _ => Ok(None),
+    }
+}
