@@ -95,7 +95,7 @@ enum cimbaloty_kind {
 #define CIMBALOTY_ALL_KINDS ((uint8_t)0x7F)
 
 /* How a connection stands. */
-enum cimbaloty_state {
+enum cimbaloty_channel_state {
 	CIMBALOTY_IS_SHUT = 1, CIMBALOTY_IS_OPENING = 2, CIMBALOTY_IS_OPENED = 3,
 	CIMBALOTY_IS_CLOSING = 4, CIMBALOTY_IS_STOPPING = 5
 };
@@ -157,7 +157,7 @@ bool cimbaloty_wants_tick(struct cimbaloty *c);
  * Refused: NO_DRIVER; LINE_LOST; NO_MEMORY, after which the line isn't lost: call again. */
 uint8_t cimbaloty_line_lost(struct cimbaloty *c);
 
-/* How a connection stands; 0 where there is no driver or no such connection. */
+/* How a connection stands (enum cimbaloty_channel_state); 0 where there is no driver or no such connection. */
 uint8_t cimbaloty_state(struct cimbaloty *c, uint8_t dlci);
 
 /* ---- Requests ------------------------------------------------------------------------------------- */

@@ -1,5 +1,5 @@
 /* library.c - the library against the fake modem in one program: refusals, rooms, cuts, losses, two drivers in
- * two threads, and each allocation refused in turn. Link with -Wl,--wrap=malloc,--wrap=realloc. */
+ * two threads, one driver in four, and each allocation refused in turn. Link with -Wl,--wrap=malloc,--wrap=realloc. */
 #define _POSIX_C_SOURCE 200809L
 #include "cimbaloty.h"
 #include "fake.h"
@@ -324,6 +324,43 @@ static void threads(void)
 	}
 }
 
+/* One driver that four threads pass from one to another under a lock. */
+static pthread_mutex_t turn = PTHREAD_MUTEX_INITIALIZER;
+
+static void *in_turn(void *pair)
+{
+	struct pair *p = pair;
+	char text[256], line[32], want[64];
+
+	for (unsigned long i = 1; i <= 100; i += i % 7 == 6 ? 2 : 1) {
+		snprintf(line, sizeof line, "AT+N=%lu", i);
+		snprintf(want, sizeof want, "+N: %lu\nOK\n", fake_number(i, 1));
+		CHECK(!pthread_mutex_lock(&turn));
+		uint64_t n = asked(p, 1, line);
+		pump(p);
+		told(p, n, CIMBALOTY_DONE, text, sizeof text);
+		CHECK(!strcmp(text, want));
+		CHECK(!pthread_mutex_unlock(&turn));
+	}
+	return NULL;
+}
+
+static void passed(void)
+{
+	struct pair *p = begin(64, 64);
+	pthread_t ids[4];
+	char text[8];
+
+	told(p, 1, CIMBALOTY_OPENED, text, sizeof text);
+	opened(p, 1, 2);
+	for (int i = 0; i < 4; i++)
+		CHECK(!pthread_create(&ids[i], NULL, in_turn, p));
+	for (int i = 0; i < 4; i++)
+		CHECK(!pthread_join(ids[i], NULL));
+	CHECK(p->f.commands == 4 * 86 && p->f.rings == 0);
+	end(p);
+}
+
 /* A run in which the allocation at this place is refused, and what was refused is called again. */
 static bool one_refused(long place, unsigned long *refused)
 {
@@ -377,6 +414,7 @@ int main(void)
 	ticks();
 	backlog();
 	threads();
+	passed();
 	while (one_refused(place, &refused))
 		place++;
 	printf("library: well; %ld allocations refused in turn, %lu calls refused for it\n", place, refused);

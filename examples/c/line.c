@@ -76,11 +76,14 @@ static int read_final(int fd, long until)
 
 int line_enter(int fd)
 {
-	static const char ask[] = "AT+CMUX=0\r";
+	/* a CLD command (27.010, 5.4.6.3.3), for a modem that was left in the multiplexer, and then the text */
+	static const char ask[] = "\xF9\x03\xEF\x05\xC3\x01\xF2\xF9" "AT+CMUX=0\r";
 
 	for (int tries = 0; tries < 3; tries++) {
+		const char *from = ask + (tries == 0 ? 8 : 0);
+
 		tcflush(fd, TCIFLUSH);
-		if (write(fd, ask, sizeof ask - 1) != (ssize_t)(sizeof ask - 1))
+		if (write(fd, from, strlen(from)) != (ssize_t)strlen(from))
 			return -1;
 		int said = read_final(fd, milliseconds() + 1000);
 		if (said <= 0)

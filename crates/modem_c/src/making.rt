@@ -33,6 +33,8 @@ pub extern "C" fn cimbaloty_new(
     ensures bad_n1 { endpoint_of c.old ≡ None → kinds ≤ 127
         → ((result ≡ BAD_N1) ↔ ((n1 < 31) ⊎ (32767 < n1))) }
     ensures refused { result ≢ OK → endpoint_of c.new ≡ endpoint_of c.old }
+    ensures others { result ≢ OK → result ≢ NO_MEMORY → result ≢ BAD_N1 → result ≢ HAS_DRIVER
+        → result ≡ BAD_KINDS }
 {
     if c.is_open() {
         return HAS_DRIVER;

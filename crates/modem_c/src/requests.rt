@@ -170,6 +170,8 @@ pub extern "C" fn cimbaloty_command_at(
     ensures good_text { refusal_of text.now ≡ None → result < TEXT }
     ensures stays { NO_DRIVER ≤ result → endpoint_of c.new ≡ endpoint_of c.old }
     ensures same { result ≢ OK → number.new ≡ number.old }
+    ensures others { result < TEXT → result ≢ OK → result ≢ NO_MEMORY → result ≢ FULL → result ≢ NO_DRIVER
+        → result ≡ BAD_DLCI }
 {
     if !c.is_open() {
         return NO_DRIVER;
