@@ -1,18 +1,18 @@
 -- The frames that the tables, the control messages, ticks and flow call for are such as this N1 reads, where those that came are.
-use Rattle.std.proofs.Common.{ap, sym, ◌∙◌, subst, arith, eqb-true, lit<, inl, inr}
-use Rattle.std.proofs.lemmas.Bool.{and_from, and_parts, le-leb, leb-true, lt-ltb, ltb-true, or_cases}
+use Rattle.std.proofs.Common.{ap, subst, arith, eqb-true}
+use Rattle.std.proofs.lemmas.Bool.{and_from, and_parts, le-leb, leb-true, lt-ltb, ltb-true}
 use Rattle.std.proofs.lemmas.List.{length-take}
-use Rattle.std.specs.Prelude.{◌≡◌, ◌⊎◌, ℕ, zero, suc, ◌+◌, ◌*◌, ◌/◌, ◌≤◌, ◌<◌, ◌==◌, ◌%◌, ◌&&◌, ◌||◌, not, min, nat_le, nat_lt, Bool, true, false, List, [], ◌∷◌, ◌++◌, length, take, Option, Some, None, refl, if◌then◌else◌}
+use Rattle.std.specs.Prelude.{◌≡◌, ℕ, zero, suc, ◌+◌, ◌*◌, ◌/◌, ◌≤◌, ◌<◌, ◌==◌, ◌%◌, ◌&&◌, ◌||◌, not, nat_le, nat_lt, Bool, true, false, List, [], ◌∷◌, ◌++◌, length, take, Option, Some, None, refl, if◌then◌else◌}
 use Rattle.std.specs.List.{list_all}
 use Rattle.mux_frame.specs.Frames.{Frame}
 use Rattle.mux_frame.specs.declared.frame.Kind.{Kind}
 use Rattle.mux_frame.specs.declared.frame.Kind.TheVariants.{Sabm, Ua, Dm, Disc, Uih}
 use Rattle.mux_station.specs.declared.role.Role.{Role}
 use Rattle.mux_station.specs.declared.role.Role.TheVariants.{Initiator, Responder}
-use Rattle.mux_station.specs.Acts.{Act, Call, Called, Open, Close, Probe, Stop, Flow, Offer, Got, Sent, Given, Tick, Lost}
+use Rattle.mux_station.specs.Acts.{Act, Called, Got, Sent, Given, Tick, Lost}
 use Rattle.mux_station.specs.Opening.{ends, is_open, opens, standings}
 use Rattle.mux_station.specs.Written.{is_kind, is_on, written}
-use Rattle.mux_station.specs.Messages.{Message, message_in, message_of, is_command, is_good_msc, is_msc, if_good, msc, nsc, cld, test, brings_command, response_of}
+use Rattle.mux_station.specs.Messages.{Message, message_in, message_of, is_command, is_good_msc, is_msc, if_good, msc, nsc, cld, brings_command, response_of}
 use Rattle.mux_station.specs.States.{State, IsShut, IsOpening, IsOpened, IsClosing, IsStopping, is_opened}
 use Rattle.mux_station.specs.Tables.{by_frame, by_message, by_table, by_flow, response_to, is_supported, ua_or_dm, msc_after_opening, is_opening, ticked, if_room, again, has_room, octets_of, msc_frame, message_frame, ready}
 use Rattle.mux_station.proofs.law_proofs.ControlFrames.{all_both, all_if, all_more, is_plain}

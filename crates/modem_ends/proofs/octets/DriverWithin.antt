@@ -1,8 +1,8 @@
 -- The frames that a driver sends are such as its N1 reads.
-use Rattle.std.proofs.Common.{ap, sym, ◌∙◌, subst, arith}
+use Rattle.std.proofs.Common.{ap, sym, ◌∙◌, arith}
 use Rattle.std.proofs.lemmas.Bool.{and_from, and_parts}
 use Rattle.std.proofs.lemmas.List.Folds.{list_all-append, list_all-map}
-use Rattle.std.specs.Prelude.{◌≡◌, ℕ, ◌+◌, ◌≤◌, ◌<◌, nat_le, not, Bool, true, false, List, [], ◌∷◌, ◌++◌, length, map, drop, refl, is_none, if◌then◌else◌}
+use Rattle.std.specs.Prelude.{◌≡◌, ℕ, ◌≤◌, not, Bool, true, false, List, [], ◌∷◌, ◌++◌, length, map, drop, refl, is_none, if◌then◌else◌}
 use Rattle.std.specs.List.{list_all}
 use Rattle.mux_frame.specs.Frames.{Frame}
 use Rattle.mux_frame.specs.declared.frame.Kind.TheVariants.{Sabm, Disc}
@@ -15,10 +15,10 @@ use Rattle.modem_desk.specs.declared.request.Ask.{Ask}
 use Rattle.modem_desk.specs.declared.request.Ask.TheVariants.{OpenChannel, CloseChannel, Command, Probe, Stop}
 use Rattle.modem_history.specs.Acts.{Act, Took, Got, Sent, Told, Heard, Tick, Lost, Held, Freed, Given, wire}
 use Rattle.modem_history.specs.Calls.{Setting, HistoryView, asking, at_once, calls_behind, calls_seeing, frames, frames_by, lines_said, said_at_once, seen_behind, states_now, tolds}
-use Rattle.modem_history.specs.Lawful.{Allows, Gated, IsNext, Lawful, When, owed, unsent}
+use Rattle.modem_history.specs.Lawful.{Gated, IsNext, Lawful, When, owed, unsent}
 use Rattle.modem_history.specs.Sessions.{gots, sents}
 use Rattle.modem_history.specs.TwoEnds.{frames_got}
-use Rattle.modem_history.proofs.calls.CalledActs.{Deliveries, is_delivery, spoken}
+use Rattle.modem_history.proofs.calls.CalledActs.{Deliveries, spoken}
 use Rattle.modem_ends.proofs.octets.WithinFrames.{Within, is_within}
 use Rattle.modem_ends.proofs.octets.CalledWithin.{data_within, flow_within, frame_within, last_within, message_within, mode_within, tick_within}
 

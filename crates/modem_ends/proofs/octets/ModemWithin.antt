@@ -1,7 +1,7 @@
 -- The frames that a simulated modem sends are such as its N1 reads.
 use Rattle.std.proofs.Common.{ap, sym, ◌∙◌, subst, arith}
 use Rattle.std.proofs.lemmas.Bool.{and_from, and_parts}
-use Rattle.std.specs.Prelude.{◌≡◌, ℕ, ◌+◌, ◌≤◌, ◌<◌, ◌==◌, Bool, true, false, List, [], ◌∷◌, ◌++◌, length, drop, Option, Some, None, refl, is_none, if◌then◌else◌}
+use Rattle.std.specs.Prelude.{◌≡◌, ℕ, ◌≤◌, ◌<◌, ◌==◌, Bool, true, false, List, [], ◌∷◌, length, drop, Option, Some, None, refl, is_none, if◌then◌else◌}
 use Rattle.std.specs.List.{list_all, list_any}
 use Rattle.mux_frame.specs.Frames.{Frame}
 use Rattle.mux_frame.specs.declared.frame.Kind.TheVariants.{Sabm, Disc}
@@ -9,7 +9,7 @@ use Rattle.mux_station.specs.declared.role.Role.{Role}
 use Rattle.mux_station.specs.Acts as station
 use Rattle.mux_station.specs.Acts.{Call}
 use Rattle.mux_station.specs.Messages.{cld, test}
-use Rattle.mux_station.specs.Sending.{Controlled, Sends, StationGated, StationLawful, StationSetting, StationView, called_frames, frames_asked, frames_seeing, is_loss, owed_frames, refused, station_view}
+use Rattle.mux_station.specs.Sending.{Sends, StationLawful, StationSetting, called_frames, frames_asked, frames_seeing, is_loss, owed_frames, refused, station_view}
 use Rattle.mux_station.specs.Tables.{held_up, message_frame, msc_frame, ready}
 use Rattle.mux_station.specs.Written.{is_data_frame, written}
 use Rattle.mux_station.proofs.law_proofs.ControlFrames.{all_both, all_if, all_more}

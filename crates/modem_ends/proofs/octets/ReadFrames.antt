@@ -1,8 +1,8 @@
 -- What is read of the beginning of spelled frames is the beginning of those frames.
-use Rattle.std.proofs.Common.{sym, subst, append_assoc, append-nil, lit<}
+use Rattle.std.proofs.Common.{sym, subst, lit<}
 use Rattle.std.proofs.lemmas.List.Elements.{All-cons, All-nil}
 use Rattle.std.proofs.lemmas.Bool.{and_from, and_parts}
-use Rattle.std.specs.Prelude.{◌≡◌, ℕ, ◌≤◌, Bool, true, List, [], ◌∷◌, ◌++◌, length, flat_map, All, refl}
+use Rattle.std.specs.Prelude.{◌≡◌, ℕ, ◌≤◌, List, [], ◌∷◌, ◌++◌, flat_map, All, refl}
 use Rattle.std.specs.List.{list_all}
 use Rattle.mux_frame.specs.Frames.{Frame}
 use Rattle.mux_frame.specs.Deframing.{Deframes, Deframing}
