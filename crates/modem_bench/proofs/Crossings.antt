@@ -2,9 +2,9 @@
 -- doesn't.
 use Rattle.std.proofs.Common.{◌∙◌, ap, sym, append_assoc, arith}
 use Rattle.std.proofs.lemmas.List.{length-append, length-take}
-use Rattle.std.specs.Prelude.{◌≡◌, ℕ, ◌+◌, ◌<◌, List, [], ◌∷◌, ◌++◌, length, min, take}
+use Rattle.std.specs.Prelude.{◌≡◌, ℕ, ◌<◌, List, [], ◌∷◌, ◌++◌, length, take}
 use Rattle.serial_line.specs.CutLine.{CutState, after_carry, carried, unmoved}
-use Rattle.modem_bench.specs.OneLine.{AreCrossed, RightCrossings, WrongCrossings, given_more}
+use Rattle.modem_bench.specs.OneLine.{AreCrossed, RightCrossings, WrongCrossings}
 use Rattle.modem_bench.proofs.OneLine.{carried_one}
 
 -- behind what was given nothing more can stand

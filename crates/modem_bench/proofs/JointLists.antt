@@ -4,13 +4,12 @@ use Rattle.std.specs.Prelude.{◌≡◌, ℕ, nat_lt, ◌+◌, ◌||◌, List, [
 use Rattle.serial_line.specs.CutLine.{CutState, after_carry, carried}
 use Rattle.modem_history.specs.Acts as driver
 use Rattle.modem_history.specs.Acts.{after}
-use Rattle.modem_history.specs.Sessions.{Beginning}
 use Rattle.modem_driver.specs.Polls.{SessionGoesOn}
 use Rattle.modem_driver.specs.SessionStates.{FitsAll, SessionState}
 use Rattle.modem_sim.specs.Acts as modem
 use Rattle.modem_sim.specs.Acts.{End}
-use Rattle.modem_sim.specs.Sims.{FitsSim, LineAt, SimGoes, SimState}
-use Rattle.modem_ends.specs.OneModem.{AtDriver, AtModem, EndAct, driver_past, modem_past}
+use Rattle.modem_sim.specs.Sims.{FitsSim, SimGoes, SimState}
+use Rattle.modem_ends.specs.OneModem.{AtDriver, EndAct, driver_past, modem_past}
 use Rattle.modem_ends.proofs.octets.LineGoesOn.{after_near, at_far}
 use Rattle.modem_bench.specs.Rounds.{AreJoined, IsFull, IsLastRound, IsRound, JoinsOn, Pair, Says, carried_between, is_full, judged, look_in, moved_in, pair, sight_in}
 use Rattle.modem_bench.specs.declared.rounds.Rest.{Rest}

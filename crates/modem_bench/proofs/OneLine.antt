@@ -2,9 +2,9 @@
 use Rattle.std.proofs.Common.{◌∙◌, append_assoc, append-nil, sym, subst, ap, take-append-drop}
 use Rattle.std.proofs.Math.Seq.{take-add}
 use Rattle.std.proofs.lemmas.List.{append_cancel_left}
-use Rattle.std.specs.Prelude.{◌≡◌, ℕ, ◌+◌, ◌≤◌, true, false, List, [], ◌∷◌, ◌++◌, length, drop, take, Option, option_to_list, None, min, refl}
+use Rattle.std.specs.Prelude.{◌≡◌, ℕ, ◌+◌, true, false, List, [], ◌∷◌, ◌++◌, drop, take, option_to_list, None, min, refl}
 use Rattle.mux_frame.specs.Laws.{AreOctets}
-use Rattle.serial_line.specs.CutLine.{CutState, after_carry, carried, new_line, other_side_of, unmoved}
+use Rattle.serial_line.specs.CutLine.{CutState, after_carry, carried, other_side_of, unmoved}
 use Rattle.serial_line.specs.OtherSide.{OtherSide}
 use Rattle.at_text.specs.Commands.{refusal_of}
 use Rattle.modem_desk.specs.Ends.{DriverView}
@@ -14,23 +14,23 @@ use Rattle.modem_desk.specs.declared.request.Request.{Request}
 use Rattle.modem_history.specs.Acts as driver
 use Rattle.modem_history.specs.Acts.{Took, Got, Sent, Told, Heard, Tick, Lost, Held, Freed, Given, after, wire}
 use Rattle.modem_history.specs.Information.{command_on, line_in}
-use Rattle.modem_history.specs.Sessions.{Beginning, SessionFits, driving}
+use Rattle.modem_history.specs.Sessions.{Beginning, driving}
 use Rattle.modem_history.specs.TwoEnds.{AsksOnce, ComesInOrder, TakesCommandLines}
 use Rattle.modem_history.specs.Wholes.{taken_requests}
 use Rattle.modem_driver.specs.Polls.{SessionGoesOn}
-use Rattle.modem_driver.specs.SessionStates.{AreFormed, FitsAll, IsFormedAsk, SessionState, TakesMore, beginning_of, session_view}
+use Rattle.modem_driver.specs.SessionStates.{AreFormed, FitsAll, IsFormedAsk, SessionState, TakesMore, session_view}
 use Rattle.modem_driver.proofs.sessions.CoreCalls.{is_run}
 use Rattle.modem_sim.specs.Acts as modem
 use Rattle.modem_sim.specs.Acts.{End}
 use Rattle.modem_sim.specs.Replied.{AnnouncesUnsolicited}
 use Rattle.modem_sim.specs.Sims.{FitsSim, LineAt, SimGoes, SimState}
-use Rattle.modem_ends.specs.OneModem.{AtDriver, AtModem, EndAct, IsOneLine, IsOneModem, TellsModem, driver_past, driver_wire, modem_past, modem_wire}
+use Rattle.modem_ends.specs.OneModem.{EndAct, IsOneModem, TellsModem, driver_past, driver_wire, modem_past}
 use Rattle.modem_ends.proofs.law_proofs.OneModem.{tells_modem}
 use Rattle.modem_ends.proofs.octets.DriverWithin.{IsShortAsk, TakesShort}
 use Rattle.modem_ends.proofs.octets.FramesInOrder.{driver_gets, modem_gets}
 use Rattle.modem_ends.proofs.octets.LineGoesOn.{after_near, at_far, far_line, near_line}
-use Rattle.modem_bench.specs.OneLine.{AreCrossed, AreOnOneLine, BeganFresh, BeginsOnOneLine, OnOneLineFrom, StaysOneLine, TellsModemTo, TookFormed}
-use Rattle.modem_bench.specs.Rounds.{AreJoined, Pair, carried_between, look_in, pair, sight_in}
+use Rattle.modem_bench.specs.OneLine.{AreOnOneLine, BeginsOnOneLine, StaysOneLine, TellsModemTo, TookFormed}
+use Rattle.modem_bench.specs.Rounds.{Pair, carried_between, look_in, pair, sight_in}
 use Rattle.modem_bench.proofs.JointLists.{far_other, far_past, near_joins, near_other, near_past}
 
 -- ## Requests have their form
