@@ -1,0 +1,5 @@
+pub mod Cuts
+pub mod Lines
+pub mod Drives
+pub mod Ends
+pub mod Begins

@@ -1,0 +1,191 @@
+//! The loop of a drive: it asks, polls the session, prints what came, and waits.
+ghost use Rattle.std.specs.Prelude.{◌≡◌, IfOk, OnOk};
+ghost use Rattle.modem_driver.specs.SessionStates.{line_by};
+ghost use Rattle.modem_drive.specs.Driving.{DrivesOn};
+ghost use Rattle.modem_drive.specs.Showing.{GoOn};
+
+use crate::fault::DriveFault;
+use crate::plan::Plan;
+use crate::users::Users;
+use bell::Bell;
+use modem_driver::{Ended, Progress, Session, SessionFault};
+use serial_line::SerialLine;
+use std::alloc::Global;
+use std::io::{Read, Write};
+use std::rt::Clock;
+use std::sync::Wait;
+use std::time::{Duration, Instant};
+
+/// The longest wait: after it all is looked at again without any ring.
+const LOOK_SECONDS: u64 = 1;
+
+/// When ticks are due: none where the session wants none.
+#[derive(Drop)]
+pub struct Ticks {
+    period: Duration,
+    last: Option<Instant>,
+}
+
+impl Ticks {
+    /// One each so much time.
+    pub fn new(period: Duration) -> Ticks {
+        Ticks { period, last: None }
+    }
+
+    /// Whether one is due now. The first is due a period after they were first wanted.
+    fn are_due<K: Clock>(&mut self, clock: &K, wanted: bool) -> bool {
+        if !wanted {
+            self.last = None;
+            return false;
+        }
+        let Ok(now) = Instant::now(clock) else {
+            return false;
+        };
+        match self.last {
+            Some(last) if now.saturating_duration_since(last) < self.period => false,
+            Some(_) => {
+                self.last = Some(now);
+                true
+            }
+            None => {
+                self.last = Some(now);
+                false
+            }
+        }
+    }
+
+    /// How long it is to the next.
+    fn time_left<K: Clock>(&self, clock: &K, wanted: bool, most: Duration) -> Duration {
+        if !wanted {
+            return most;
+        }
+        let passed = self.last.and_then(|last| last.elapsed(clock).ok());
+        match passed {
+            Some(passed) => most.min(self.period.saturating_sub(passed)),
+            None => most.min(self.period),
+        }
+    }
+}
+
+/// A tick where one is due, unless it is refused.
+#[tactic(auto, using(crate::proofs::Drives::drives_none, crate::proofs::Drives::ticked))]
+fn tick_if<L: SerialLine, R: Wait + Drop>(session: &mut Session<L, R>, due: bool)
+    ensures { DrivesOn (line_by L.received L.sent L.calls L.failures L.empty_reads L.stalled_writes) session.old session.new }
+{
+    if due {
+        let _ = session.tick();
+    }
+}
+
+/// A tick where one is due, and a poll.
+#[tactic(auto, using(crate::proofs::Drives::drives_by, crate::proofs::Drives::drives_then))]
+fn poll<L: SerialLine, R: Wait + Drop, K: Clock>(
+    clock: &K,
+    session: &mut Session<L, R>,
+    ticks: &mut Ticks,
+) -> Progress
+    ensures { DrivesOn (line_by L.received L.sent L.calls L.failures L.empty_reads L.stalled_writes) session.old session.new }
+{
+    let wanted = session.wants_tick();
+    tick_if(session, ticks.are_due(clock, wanted));
+    session.advance()
+}
+
+#[tactic(auto, using(crate::proofs::Lines::goes_then))]
+/// Prints all that came, and says whether anything did.
+pub fn show<I: Read, W: Write, K: Clock>(
+    clock: &K,
+    alloc: Global,
+    users: &mut Users,
+    plan: &mut Plan<I>,
+    output: &mut W,
+) -> Result<bool, DriveFault>
+    ensures goes { OnOk result (GoOn (W.contents output.old) (W.contents output.new) users.old users.new) }
+{
+    let lines = users.show_lines(alloc, output)?;
+    match users.show_outcome(alloc, output)? {
+        Some((line, outcome)) => {
+            plan.note_told(clock, line, &outcome);
+            Ok(true)
+        }
+        None => Ok(lines),
+    }
+}
+
+/// What a round came to.
+#[derive(Clone, Copy, PartialEq, Eq)]
+enum Went {
+    /// There may be more to do at once.
+    More,
+    /// There is nothing to do until something comes, or a time has passed.
+    Rests,
+    /// The multiplexer has ended, or the drive ends by this fault.
+    Ends(Option<DriveFault>),
+}
+
+/// What a poll says of the round: `moved` says whether anything else was done.
+fn judge(said: Progress, moved: bool) -> Went {
+    match said {
+        Progress::Ended(Ok(Ended::Stopped)) => Went::Ends(None),
+        Progress::Ended(Err(SessionFault::NoMemory)) => Went::Ends(Some(DriveFault::NoMemory)),
+        Progress::Ended(Err(_)) => Went::Ends(Some(DriveFault::HungUp)),
+        Progress::More => Went::More,
+        Progress::Idle if moved => Went::More,
+        Progress::Idle => Went::Rests,
+    }
+}
+
+#[tactic(auto, using(crate::proofs::Lines::goes_then, crate::proofs::Drives::drives_none))]
+/// One round: it asks, polls the session and prints what came.
+fn round<L: SerialLine, R: Wait + Clock + Drop, I: Read, W: Write, E: Write>(
+    rt: &R,
+    alloc: Global,
+    session: &mut Session<L, R>,
+    ticks: &mut Ticks,
+    users: &mut Users,
+    plan: &mut Plan<I>,
+    output: &mut W,
+    faults: &mut E,
+) -> Result<Went, DriveFault>
+    ensures drives { DrivesOn (line_by L.received L.sent L.calls L.failures L.empty_reads L.stalled_writes) session.old session.new }
+    ensures goes { OnOk result (GoOn (W.contents output.old) (W.contents output.new) users.old users.new) }
+{
+    let asked = plan.go_on(rt, alloc, users, faults)?;
+    let said = poll(rt, session, ticks);
+    let shown = show(rt, alloc, users, plan, output)?;
+    match plan.take_told(users) {
+        Some(fault) => Ok(Went::Ends(Some(fault))),
+        None => Ok(judge(said, asked || shown)),
+    }
+}
+
+#[tactic(auto, using(crate::proofs::Lines::stays, crate::proofs::Lines::goes_then, crate::proofs::Drives::drives_none, crate::proofs::Drives::drives_then))]
+/// Goes on until the multiplexer has ended, or the drive ends by a fault: that fault, after which all that came was printed. Refused
+/// where it can't be: NoMemory, Output and GaveUp.
+pub fn drive_on<L: SerialLine, R: Wait + Clock + Drop, I: Read, W: Write, E: Write>(
+    rt: &R,
+    alloc: Global,
+    bell: &Bell,
+    session: &mut Session<L, R>,
+    ticks: &mut Ticks,
+    users: &mut Users,
+    plan: &mut Plan<I>,
+    output: &mut W,
+    faults: &mut E,
+) -> Result<Option<DriveFault>, DriveFault>
+    ensures drives { DrivesOn (line_by L.received L.sent L.calls L.failures L.empty_reads L.stalled_writes) session.old session.new }
+    ensures goes { OnOk result (GoOn (W.contents output.old) (W.contents output.new) users.old users.new) }
+{
+    let most = Duration::from_secs(LOOK_SECONDS);
+    for _ in rt.forever() {
+        match round(rt, alloc, session, ticks, users, plan, output, faults)? {
+            Went::More => {}
+            Went::Ends(end) => return Ok(end),
+            Went::Rests => {
+                let time = ticks.time_left(rt, session.wants_tick(), plan.time_left(rt, most));
+                bell.wait(rt, time);
+            }
+        }
+    }
+    unreachable!()
+}

@@ -1,0 +1,134 @@
+//! How a drive ends: everyone is told, and the desk is settled.
+ghost use Rattle.std.specs.Prelude.{◌≡◌, [], ◌∷◌, IfOk, OnOk, map, vec_items};
+ghost use Rattle.modem_desk.specs.Books.{DeskBooks};
+ghost use Rattle.modem_desk.specs.Ends.{AreSubscribed, IsWhole, place_of, subscription_of};
+ghost use Rattle.modem_driver.specs.SessionStates.{line_by};
+ghost use Rattle.modem_driver.specs.TurningAway.{offline_from};
+ghost use Rattle.modem_drive.specs.Ending.{EndsDrive, TurnsSome};
+ghost use Rattle.modem_drive.specs.Showing.{GoOn};
+
+use crate::driving::show;
+use crate::fault::DriveFault;
+use crate::plan::Plan;
+use crate::results::beside;
+use crate::users::Users;
+use modem_desk::{DriverEnd, Outcome, Request, Settled, Urc, settle};
+use modem_driver::{Finished, Offline, Session, Turn};
+use serial_line::SerialLine;
+use std::alloc::Global;
+use std::io::{Read, Write};
+use std::rt::Clock;
+use std::sync::Wait;
+
+/// How many passes a desk without a line makes at most: more than it needs for all that may wait.
+const PASSES: u32 = 100_000;
+
+/// Tells everyone who isn't told yet LineLost, and prints it, until no line of the input is under way.
+#[tactic(auto, using(crate::proofs::Ends::turns_none, crate::proofs::Ends::turns_more, crate::proofs::Lines::stays, crate::proofs::Lines::goes_then))]
+fn turn_away<R: Wait + Clock, I: Read, W: Write>(
+    rt: &R,
+    alloc: Global,
+    offline: &mut Offline,
+    driver: &mut DriverEnd,
+    users: &mut Users,
+    plan: &mut Plan<I>,
+    output: &mut W,
+) -> Result<(), DriveFault>
+    ensures turns { OnOk result (TurnsSome offline.old offline.new driver.old driver.new) }
+    ensures goes { OnOk result (GoOn (W.contents output.old) (W.contents output.new) users.old users.new) }
+    ensures none { OnOk result (users.new.under_way.items ≡ []) }
+{
+    for _ in 0..PASSES {
+        let said = offline.turn_away(rt, driver);
+        let _ = plan.take_told(users);
+        let shown = show(rt, alloc, users, plan, output)?;
+        if said == Turn::Idle && !shown && users.under_way.is_empty() {
+            return Ok(());
+        }
+    }
+    Err(DriveFault::GaveUp)
+}
+
+/// The desk in the place of a session that left these.
+fn make_offline(
+    alloc: Global,
+    in_hand: Vec<Request>,
+    unplaced: Vec<Outcome>,
+    unannounced: Vec<Urc>,
+) -> Result<Offline, DriveFault>
+    ensures { IfOk result (λ o. o ≡ offline_from in_hand.items unplaced.items unannounced.items) }
+{
+    match Offline::new(alloc, in_hand, unplaced, unannounced) {
+        Ok(offline) => Ok(offline),
+        Err(_) => Err(DriveFault::NoMemory),
+    }
+}
+
+/// Settles the desk with all who used it.
+fn settle_all<R: Wait>(
+    rt: &R,
+    alloc: Global,
+    driver: DriverEnd,
+    users: Users,
+) -> Result<Settled, DriveFault>
+    requires whole { IsWhole driver.desk (map place_of (users.lines ∷ users.control ∷ [])) }
+    requires subscribed { AreSubscribed driver.desk (map subscription_of users.listeners.items) }
+    ensures { IfOk result (λ s. DeskBooks driver (users.lines ∷ users.control ∷ []) users.listeners.items s.left.items
+        (map vec_items s.untaken.items) (map vec_items s.unheard.items)) }
+{
+    let (callers, (driver, users)) = beside(Vec::with_capacity(alloc, 2), (driver, users))?;
+    let mut callers = callers;
+    let Users {
+        lines,
+        control,
+        listeners,
+        under_way: _,
+        counts: _,
+    } = users;
+    callers.push_reserved(lines);
+    callers.push_reserved(control);
+    match settle(rt, alloc, driver, callers, listeners) {
+        Ok(settled) => Ok(settled),
+        Err(_) => Err(DriveFault::NoMemory),
+    }
+}
+
+/// Ends a session: everyone is told, all that comes is printed, and the desk is settled, which gives what it still held.
+pub fn end_drive<L: SerialLine + Drop, R: Wait + Clock + Drop, I: Read, W: Write>(
+    rt: &R,
+    alloc: Global,
+    session: Session<L, R>,
+    users: Users,
+    plan: &mut Plan<I>,
+    output: &mut W,
+) -> Result<Settled, DriveFault>
+    requires whole { IsWhole session.driver.desk (map place_of (users.lines ∷ users.control ∷ [])) }
+    requires subscribed { AreSubscribed session.driver.desk (map subscription_of users.listeners.items) }
+    ensures { IfOk result (EndsDrive (line_by L.received L.sent L.calls L.failures L.empty_reads L.stalled_writes) session
+        users (W.contents output.old) (W.contents output.new)) }
+{
+    let Finished {
+        line,
+        driver,
+        in_hand,
+        unplaced,
+        unannounced,
+    } = session.finish();
+    drop(line);
+    let offline = make_offline(alloc, in_hand, unplaced, unannounced);
+    let (offline, (driver, users)) = beside(offline, (driver, users))?;
+    let mut offline = offline;
+    let mut driver = driver;
+    let mut users = users;
+    let turned = turn_away(
+        rt,
+        alloc,
+        &mut offline,
+        &mut driver,
+        &mut users,
+        plan,
+        output,
+    );
+    let (_, (_, driver, users)) = beside(turned, (offline, driver, users))?;
+    settle_all(rt, alloc, driver, users)
+}

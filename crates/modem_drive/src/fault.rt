@@ -1,0 +1,80 @@
+//! Why a drive ends with a fault.
+ghost use Rattle.std.specs.Prelude.{◌≡◌};
+ghost use Rattle.modem_drive.specs.declared.fault.DriveFault.TheVariants.{NoMemory};
+ghost use Rattle.modem_drive.specs.Faults.{entry_fault};
+
+use modem_driver::EntryError;
+use std::alloc::{AllocError, AllocFailed};
+use std::thread::SpawnError;
+use thiserror::Error;
+
+/// Why a drive ends with a fault.
+#[derive(Clone, Copy, PartialEq, Eq, Debug, Error)]
+pub enum DriveFault {
+    /// A growth was refused, or a thread.
+    #[error("fault: no memory")]
+    NoMemory,
+    /// The writer failed.
+    #[error("fault: output")]
+    Output,
+    /// The device can't be opened.
+    #[error("fault: no such device")]
+    NoDevice,
+    /// The device failed or ended before the multiplexer was entered.
+    #[error("fault: not a terminal that is set up, as by: stty -F DEVICE raw -echo min 0 time 1 -crtscts clocal -hupcl")]
+    NotSetUp,
+    /// The modem refused to enter the multiplexer.
+    #[error("fault: refused")]
+    Refused,
+    /// The modem didn't answer.
+    #[error("fault: no answer")]
+    NoAnswer,
+    /// The modem didn't open connection 0.
+    #[error("fault: connection 0 isn't open")]
+    NotOpened,
+    /// The modem ended the multiplexer by itself.
+    #[error("fault: the modem ended the multiplexer")]
+    Closed,
+    /// The line was lost.
+    #[error("fault: hung up")]
+    HungUp,
+    /// It didn't come to its end.
+    #[error("fault: gave up")]
+    GaveUp,
+}
+
+impl From<AllocError> for DriveFault {
+    ghost from_gives = { λ _ fault. fault ≡ NoMemory };
+
+    fn from(_error: AllocError) -> DriveFault {
+        DriveFault::NoMemory
+    }
+}
+
+impl<T: Drop> From<AllocFailed<T>> for DriveFault {
+    ghost from_gives = { λ _ fault. fault ≡ NoMemory };
+
+    fn from(_error: AllocFailed<T>) -> DriveFault {
+        DriveFault::NoMemory
+    }
+}
+
+impl<F: Drop> From<SpawnError<F>> for DriveFault {
+    ghost from_gives = { λ _ fault. fault ≡ NoMemory };
+
+    fn from(_error: SpawnError<F>) -> DriveFault {
+        DriveFault::NoMemory
+    }
+}
+
+impl From<EntryError> for DriveFault {
+    ghost from_gives = { λ error fault. fault ≡ entry_fault error };
+
+    fn from(error: EntryError) -> DriveFault {
+        match error {
+            EntryError::Refused => DriveFault::Refused,
+            EntryError::NoAnswer => DriveFault::NoAnswer,
+            EntryError::Line => DriveFault::NotSetUp,
+        }
+    }
+}

@@ -1,0 +1,27 @@
+//! Drives a modem on a device: the lines of an input go to it as commands, and what it answers and announces is printed as it comes.
+//!
+//! The device is read by one thread and written by another, with rings between (`device_line`), and the input is read by a third.
+//! All else is one loop in one thread: it submits lines, polls the session, prints outcomes and lines, and waits on a bell that those
+//! threads ring, or until a tick is due. So nothing is done while nothing comes.
+#![tactic(auto)]
+
+mod channels;
+mod device;
+mod driving;
+mod ending;
+mod fault;
+mod input;
+mod orders;
+mod patience;
+mod pieces;
+mod plan;
+mod results;
+mod running;
+mod settings;
+mod showing;
+mod texts;
+mod users;
+
+pub use fault::DriveFault;
+pub use running::{Driven, drive_over, drive_run};
+pub use settings::Settings;

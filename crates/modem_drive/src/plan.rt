@@ -1,0 +1,281 @@
+//! What is asked of the desk next: the lines of the input as commands, and what they need.
+ghost use Rattle.std.specs.Prelude.{ℕ, List, Option, OnOk};
+ghost use Rattle.modem_drive.specs.Showing.{GoOn};
+
+use crate::channels::{ChannelState, Channels};
+use crate::fault::DriveFault;
+use crate::input::Lines;
+use crate::orders::{Refusal, command_of};
+use crate::users::{UnderWay, Users};
+use modem_desk::{Answer, Ask, Outcome};
+use modem_driver::CommandLine;
+use mux_frame::Dlci;
+use std::alloc::Global;
+use std::io::{Read, Write};
+use std::rt::Clock;
+use std::sync::Wait;
+use std::time::Duration;
+
+/// How many steps are made before the session is polled.
+const STEPS: u32 = 16;
+
+/// What is asked beside commands, one at a time.
+#[derive(Clone, Copy, PartialEq, Eq)]
+enum Control {
+    Open(Dlci),
+    Close(Dlci),
+    Stop,
+}
+
+/// How far a drive has come.
+#[derive(Clone, Copy, PartialEq, Eq)]
+enum Phase {
+    /// Connection 0 isn't open yet.
+    Opening,
+    /// Lines are submitted.
+    Going,
+    /// All were told, and the multiplexer is to end.
+    Stopping,
+}
+
+/// The next line: its connection, its command, and whether opening that connection was tried for it.
+#[derive(Drop)]
+struct Next {
+    dlci: Dlci,
+    line: CommandLine,
+    tried: bool,
+}
+
+/// What is to be asked: the rest of the input, and what is known of the connections.
+#[derive(Drop)]
+pub struct Plan<I: Read> {
+    input: Lines<I>,
+    next: Option<Next>,
+    channels: Channels,
+    asked: Option<Control>,
+    phase: Phase,
+    number: u64,
+    bad: bool,
+}
+
+impl<I: Read> Plan<I> {
+    /// To open connection 0, and then what this input says. A connection whose commands wait for longer than that is closed.
+    pub fn new(input: Lines<I>, quiet_for: Option<Duration>) -> Plan<I> {
+        Plan {
+            input,
+            next: None,
+            channels: Channels::new(quiet_for),
+            asked: None,
+            phase: Phase::Opening,
+            number: 0,
+            bad: false,
+        }
+    }
+
+    /// Whether a line of the input was bad.
+    pub fn was_bad(&self) -> bool {
+        self.bad
+    }
+
+    /// How long it is at least until a connection has to be closed.
+    pub fn time_left<K: Clock>(&self, clock: &K, most: Duration) -> Duration {
+        self.channels.time_left(clock, most)
+    }
+
+    /// What a line of the input says. One that is bad is told by its number, and passed over.
+    fn read_line<E: Write>(
+        &mut self,
+        alloc: Global,
+        line: &[u8],
+        faults: &mut E,
+    ) -> Result<(), DriveFault> {
+        self.number = self.number.saturating_add(1);
+        if line.is_empty() {
+            return Ok(());
+        }
+        match command_of(alloc, line) {
+            Ok((dlci, line)) => {
+                self.next = Some(Next {
+                    dlci,
+                    line,
+                    tried: false,
+                });
+            }
+            Err(Refusal::Bad) => {
+                self.bad = true;
+                let number = self.number;
+                let _ = writeln!(faults, "bad line {number}");
+            }
+            Err(Refusal::NoMemory) => return Err(DriveFault::NoMemory),
+        }
+        Ok(())
+    }
+
+    /// Reads the next line of the input, if there is none and one is there, and says whether it read one.
+    fn read_on<E: Write>(&mut self, alloc: Global, faults: &mut E) -> Result<bool, DriveFault> {
+        if self.phase != Phase::Going || self.next.is_some() {
+            return Ok(false);
+        }
+        match self.input.next()? {
+            Some(line) => {
+                self.read_line(alloc, line.as_slice(), faults)?;
+                Ok(true)
+            }
+            None => Ok(false),
+        }
+    }
+
+    /// What is to be asked beside commands now, if anything is.
+    fn control<K: Clock>(&self, clock: &K, users: &Users) -> Option<Control> {
+        match self.phase {
+            Phase::Opening => return Dlci::new(0).map(Control::Open),
+            Phase::Stopping => return None,
+            Phase::Going => {}
+        }
+        if let Some(dlci) = self.channels.find_quiet(clock) {
+            return Some(Control::Close(dlci));
+        }
+        match &self.next {
+            Some(next) if !next.tried && !self.channels.is_open(next.dlci) => {
+                Some(Control::Open(next.dlci))
+            }
+            None if self.input.has_ended() && users.under_way.is_empty() => Some(Control::Stop),
+            _ => None,
+        }
+    }
+
+    /// It was asked.
+    fn note_asked(&mut self, control: Control) {
+        self.asked = Some(control);
+        match control {
+            Control::Open(dlci) => match &mut self.next {
+                Some(next) if next.dlci == dlci => next.tried = true,
+                _ => {}
+            },
+            Control::Close(dlci) => self.channels.set(dlci, ChannelState::Shut),
+            Control::Stop => self.phase = Phase::Stopping,
+        }
+    }
+
+    #[tactic(auto, using(crate::proofs::Lines::stays, crate::proofs::Lines::controls_alone))]
+    /// Asks what is to be asked beside commands, where nothing such is under way, and says whether it asked.
+    fn ask_on<R: Wait + Clock>(&mut self, rt: &R, users: &mut Users) -> bool
+        ensures { (out : Option (List ℕ)) → GoOn out out users.old users.new }
+    {
+        if self.asked.is_some() {
+            return false;
+        }
+        let Some(control) = self.control(rt, users) else {
+            return false;
+        };
+        let ask = match control {
+            Control::Open(dlci) => Ask::OpenChannel(dlci),
+            Control::Close(dlci) => Ask::CloseChannel(dlci),
+            Control::Stop => Ask::Stop,
+        };
+        if users.control.submit(rt, ask).is_err() {
+            return false;
+        }
+        self.note_asked(control);
+        true
+    }
+
+    /// Whether the next line may be submitted: its connection is open, or couldn't be opened.
+    fn is_next_ready(&self) -> bool {
+        match &self.next {
+            Some(next) => {
+                self.channels.is_open(next.dlci) || (next.tried && self.asked.is_none())
+            }
+            None => false,
+        }
+    }
+
+    #[tactic(auto, using(crate::proofs::Lines::stays))]
+    /// Submits the next line, if it may be and can be, and says whether it did.
+    fn submit_on<R: Wait + Clock>(&mut self, rt: &R, users: &mut Users) -> Result<bool, DriveFault>
+        ensures { OnOk result ((out : Option (List ℕ)) → GoOn out out users.old users.new) }
+    {
+        if !self.is_next_ready() {
+            return Ok(false);
+        }
+        let Some(next) = self.next.take() else {
+            return Ok(false);
+        };
+        let Next { dlci, line, tried } = next;
+        match users.submit(rt, dlci, line)? {
+            Some(line) => {
+                self.next = Some(Next { dlci, line, tried });
+                Ok(false)
+            }
+            None => {
+                self.channels.note_submitted(rt, dlci);
+                Ok(true)
+            }
+        }
+    }
+
+    #[tactic(auto, using(crate::proofs::Lines::stays, crate::proofs::Lines::goes_then))]
+    /// Asks what is to be asked now, and says whether it asked or read anything.
+    pub fn go_on<R: Wait + Clock, E: Write>(
+        &mut self,
+        rt: &R,
+        alloc: Global,
+        users: &mut Users,
+        faults: &mut E,
+    ) -> Result<bool, DriveFault>
+        ensures { OnOk result ((out : Option (List ℕ)) → GoOn out out users.old users.new) }
+    {
+        let mut any = false;
+        for _ in 0..STEPS {
+            let read = self.read_on(alloc, faults)?;
+            let asked = self.ask_on(rt, users);
+            let submitted = self.submit_on(rt, users)?;
+            if !read && !asked && !submitted {
+                return Ok(any);
+            }
+            any = true;
+        }
+        Ok(any)
+    }
+
+    /// A line was told this.
+    pub fn note_told<K: Clock>(&mut self, clock: &K, line: UnderWay, outcome: &Outcome) {
+        self.channels.note_told(clock, line.dlci, &outcome.answer);
+    }
+
+    /// What an opening was told: the fault by which the drive ends, if it does.
+    fn judge_opening(&mut self, dlci: Dlci, answer: &Answer) -> Option<DriveFault> {
+        match answer {
+            Answer::Opened | Answer::AlreadyOpen => {
+                self.channels.set(dlci, ChannelState::Open);
+                if self.phase == Phase::Opening {
+                    self.phase = Phase::Going;
+                }
+                None
+            }
+            Answer::LineLost => None,
+            _ if dlci.number() == 0 => Some(DriveFault::NotOpened),
+            Answer::NotOpen => Some(DriveFault::Closed),
+            _ => None,
+        }
+    }
+
+    /// What was asked beside commands was told this: the fault by which the drive ends, if it does.
+    fn judge(&mut self, control: Control, answer: &Answer) -> Option<DriveFault> {
+        match control {
+            Control::Open(dlci) => self.judge_opening(dlci, answer),
+            Control::Stop if matches!(answer, Answer::NotOpen) => Some(DriveFault::Closed),
+            Control::Stop | Control::Close(_) => None,
+        }
+    }
+
+    #[tactic(auto, using(crate::proofs::Lines::controls_alone))]
+    /// Takes what the caller that opens, closes and stops was told, if anything: the fault by which the drive ends, if it does.
+    pub fn take_told(&mut self, users: &mut Users) -> Option<DriveFault>
+        ensures { (out : Option (List ℕ)) → GoOn out out users.old users.new }
+    {
+        let outcome = users.control.take()?;
+        let control = self.asked.take()?;
+        self.judge(control, &outcome.answer)
+    }
+}

@@ -1,0 +1,55 @@
+//! How a device is driven.
+ghost use Rattle.std.specs.Prelude.{◌≡◌, ◌++◌, IfOk, codes};
+ghost use Rattle.std.specs.String.{string_bytes};
+ghost use Rattle.modem_drive.specs.Entry.{entry_text};
+
+use std::alloc::{AllocError, Global};
+use std::fmt::Write;
+use std::time::Duration;
+
+/// N1 where the modem is told none (27.007, 5.7).
+const DEFAULT_N1: u16 = 31;
+
+/// How a device is driven.
+#[derive(Clone, Copy)]
+pub struct Settings<'a> {
+    /// Octets of information that a frame may have, 31 to 32767.
+    pub n1: u16,
+    /// What enters the multiplexer, without CR. Where it is `None`: `AT+CMUX=0`, and `AT+CMUX=0,0,,N1` where N1 isn't 31.
+    pub entry: Option<&'a str>,
+    /// The time from tick to tick, while something waits for one: T1 (27.010, 5.7.1).
+    pub tick: Duration,
+    /// After so long without an answer to its command a connection is closed. Where it is `None` none is.
+    pub quiet_for: Option<Duration>,
+}
+
+/// What enters the multiplexer where no text is given, and CR.
+fn usual_entry(alloc: Global, n1: u16) -> Result<String, AllocError>
+    ensures { IfOk result (λ text. string_bytes text ≡ entry_text n1) }
+{
+    let mut text = String::new(alloc);
+    text.push_str("AT+CMUX=0")?;
+    if n1 != DEFAULT_N1 {
+        write!(text, ",0,,{n1}")?;
+    }
+    text.push_str("\r")?;
+    Ok(text)
+}
+
+/// A text that was given, and CR.
+fn given_entry(alloc: Global, given: &str) -> Result<String, AllocError>
+    ensures { IfOk result (λ text. string_bytes text ≡ given.now ++ codes "\r") }
+{
+    let mut text = String::new(alloc);
+    text.push_str(given)?;
+    text.push_str("\r")?;
+    Ok(text)
+}
+
+/// What enters the multiplexer: the text that was given, or where there is none that of this N1, and CR.
+pub fn entry_of(alloc: Global, settings: &Settings<'_>) -> Result<String, AllocError> {
+    match settings.entry {
+        Some(given) => given_entry(alloc, given),
+        None => usual_entry(alloc, settings.n1),
+    }
+}
