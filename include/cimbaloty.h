@@ -100,7 +100,7 @@ enum cimbaloty_channel_state {
 	CIMBALOTY_IS_CLOSING = 4, CIMBALOTY_IS_STOPPING = 5
 };
 
-/* The most that is in hand at a time, and the longest unsolicited line. */
+/* The most that is in hand at a time, and the most octets of a line, of an answer too: a longer line is cut. */
 #define CIMBALOTY_REQUESTS 128
 #define CIMBALOTY_LINE_LENGTH 512
 
