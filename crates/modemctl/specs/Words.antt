@@ -2,7 +2,7 @@
 use Rattle.std.specs.Prelude.{◌≡◌, ◌⊎◌, ℕ, pos, true, List, [], ◌∷◌, Option, None, Some, option_and_then, option_map, codes}
 use Rattle.std.specs.Fmt.{decimal}
 use Rattle.clap.specs.Words.{App, IsAmong, Kinds, Row, Rule, Text, one_of, fault_of, new_app, new_rule, subcommand_of, with_rule, with_subcommand}
-use Rattle.clap.specs.declared.builder.ArgAction.TheVariants.{Set}
+use Rattle.clap.specs.declared.builder.ArgAction.TheVariants.{Set, SetTrue}
 use Rattle.clap.specs.declared.error.ErrorKind.TheVariants.{DisplayHelp, DisplayVersion}
 use Rattle.clap.specs.declared.builder.ValueParser.TheVariants.{Signed}
 
@@ -56,9 +56,25 @@ with_two =
     with_subcommand (with_subcommand wanting_one (subcommand_app (codes "frames")).top)
     (subcommand_app (codes "replay")).top
 
--- the program, with its three subcommands
+-- the same with a bench
+abbrev pub with_three : App
+with_three = with_subcommand with_two bench_app.top
+
+-- the option `--pin`: a text
+abbrev pub pin_rule : Rule
+pin_rule = record (new_rule (codes "pin")) { long = Some (codes "pin"); action = Some Set; value_names = 1 }
+
+-- the option `--echo`, which has no value
+abbrev pub echo_rule : Rule
+echo_rule = record (new_rule (codes "echo")) { long = Some (codes "echo"); action = Some SetTrue }
+
+-- the subcommand with these options and `--n1`
+abbrev pub sim_app : App
+sim_app = with_rule (with_rule (with_rule (new_app (codes "sim")) n1_rule) pin_rule) echo_rule
+
+-- the program, with its four subcommands
 abbrev pub program_app : App
-program_app = with_subcommand with_two bench_app.top
+program_app = with_subcommand with_three sim_app.top
 
 -- what is wrong with words, or the help that they ask for; nothing where they name a subcommand to run
 abbrev pub fault_in : List Text → Kinds

@@ -7,6 +7,7 @@ mod words;
 
 pub use modem_runs::{bench_run, frames_run, replay_run};
 use modem_runs::{Stop, give_up};
+pub use modem_serve::sim_run;
 use std::env;
 use std::io::ErrorKind;
 use std::process::ExitCode;

@@ -5,13 +5,15 @@ ghost use Rattle.clap.specs.Words.{app_of, rule_of, kind_of, subcommand_name_of,
 ghost use Rattle.modem_runs.specs.Printed.{IsBenched, IsPrinted};
 ghost use Rattle.modem_runs.specs.Stopping.{HasGivenUp};
 ghost use Rattle.modemctl.specs.Benches.{PrintsBench, PrintsFrames, PrintsReplay, plain_script};
-ghost use Rattle.modemctl.specs.Words.{callers_rule, cut_rule, n1_rule, program_app, fault_in, met_in, with_two, AreFor, AsksNoHelp, HasNoNumber};
+ghost use Rattle.modemctl.specs.Words.{callers_rule, cut_rule, echo_rule, n1_rule, pin_rule, program_app, fault_in, met_in, named_in, with_three, with_two, AreFor, AsksNoHelp, HasNoNumber};
 
 mod numbers;
 
+use at_cmds::Pin;
 use clap::error::ErrorKind;
 use clap::{Arg, ArgAction, ArgMatches, Command, Error, value_parser};
 use modem_runs::{Stop, bench_run, frames_run, give_up, replay_run};
+use modem_serve::{SimOptions, sim_run};
 use modem_sim::{Script, Steps};
 use numbers::{Numbers, numbers_of};
 use std::alloc::{AllocError, AllocGlobal, Global};
@@ -62,6 +64,29 @@ fn cut_option<'a>(alloc: Global) -> Arg<'a>
         .value_parser(value_parser!(u16).range(1..=4096))
 }
 
+/// The option `--pin`.
+fn pin_option<'a>(alloc: Global) -> Arg<'a>
+    ensures rule { rule_of result ≡ pin_rule }
+    ensures own { result.global ≡ false }
+{
+    Arg::new(alloc, "pin")
+        .long("pin")
+        .value_name("PIN")
+        .help("The PIN that its SIM wants, 4 to 8 digits")
+        .action(ArgAction::Set)
+}
+
+/// The option `--echo`.
+fn echo_option<'a>(alloc: Global) -> Arg<'a>
+    ensures rule { rule_of result ≡ echo_rule }
+    ensures own { result.global ≡ false }
+{
+    Arg::new(alloc, "echo")
+        .long("echo")
+        .help("Repeat commands, until an ATE0")
+        .action(ArgAction::SetTrue)
+}
+
 /// The program with the subcommands that play what its input says.
 fn two_commands<'a>(alloc: Global) -> Result<Command<'a>, AllocError>
     ensures { IfOk result (λ c. app_of c ≡ with_two) }
@@ -79,8 +104,9 @@ fn two_commands<'a>(alloc: Global) -> Result<Command<'a>, AllocError>
         .subcommand(replay)
 }
 
-fn program<'a>(alloc: Global) -> Result<Command<'a>, AllocError>
-    ensures { IfOk result (λ c. app_of c ≡ program_app) }
+/// The same with a bench.
+fn three_commands<'a>(alloc: Global) -> Result<Command<'a>, AllocError>
+    ensures { IfOk result (λ c. app_of c ≡ with_three) }
 {
     let command = two_commands(alloc)?;
     let bench = Command::new(alloc, "bench")
@@ -88,6 +114,18 @@ fn program<'a>(alloc: Global) -> Result<Command<'a>, AllocError>
         .arg(callers_option(alloc))?
         .arg(cut_option(alloc))?;
     command.subcommand(bench)
+}
+
+fn program<'a>(alloc: Global) -> Result<Command<'a>, AllocError>
+    ensures { IfOk result (λ c. app_of c ≡ program_app) }
+{
+    let command = three_commands(alloc)?;
+    let sim = Command::new(alloc, "sim")
+        .about("Is a modem on standard input and output, for any client")
+        .arg(n1_option(alloc))?
+        .arg(pin_option(alloc))?
+        .arg(echo_option(alloc))?;
+    command.subcommand(sim)
 }
 
 /// Whether some character is one that moves the cursor or rings a bell, as a line feed.
@@ -180,6 +218,37 @@ where
     )
 }
 
+/// The PIN that the words give, if they give one.
+fn pin_of(alloc: Global, matches: &ArgMatches<'_>) -> Result<Option<Pin>, AllocError> {
+    match matches.get_str("pin") {
+        Some(pin) => Ok(Some(Pin::from(Vec::from_slice(alloc, pin.as_bytes())?))),
+        None => Ok(None),
+    }
+}
+
+/// Is a modem for a client.
+fn sim_words<I: Read, W: Write, E: Write>(
+    alloc: Global,
+    matches: &ArgMatches<'_>,
+    n1: u16,
+    input: &mut I,
+    output: &mut W,
+    faults: &mut E,
+) -> u8
+    ensures status { result ≤ 2 }
+    ensures bad { result ≡ 2 → output.new ≡ output.old }
+{
+    let Ok(pin) = pin_of(alloc, matches) else {
+        return give_up(faults, Stop::NoMemory);
+    };
+    let options = SimOptions {
+        n1,
+        pin,
+        echo: matches.get_flag("echo"),
+    };
+    sim_run(alloc, input, output, faults, options)
+}
+
 /// Runs the subcommand that a parse met.
 fn run_named<R, I: Read, W: Write, E: Write>(
     rt: &R,
@@ -194,8 +263,8 @@ where
     ensures status { result ≤ 2 }
     ensures bad { result ≡ 2 → output.new ≡ output.old }
     ensures unread { HasNoNumber (subcommand_rows_of matches.now) → input.new ≡ input.old }
-    ensures nothing { result ≡ 1 → HasGivenUp output.old output.new (E.contents faults.old)
-        (E.contents faults.new) result }
+    ensures nothing { result ≡ 1 → subcommand_name_of matches.now ≢ Some (codes "sim")
+        → HasGivenUp output.old output.new (E.contents faults.old) (E.contents faults.new) result }
     ensures frames { result ≡ 0 → subcommand_name_of matches.now ≡ Some (codes "frames")
         → PrintsFrames (subcommand_rows_of matches.now) (I.remaining input.old) (W.contents output.old)
         (W.contents output.new) }
@@ -217,6 +286,7 @@ where
         "frames" => frames_run(alloc, input, output, faults, numbers.n1),
         "replay" => replay_run(alloc, input, output, faults, numbers.n1),
         "bench" => bench_plain(rt, alloc, numbers, input, output, faults),
+        "sim" => sim_words(alloc, given, numbers.n1, input, output, faults),
         _ => 2,
     }
 }
@@ -240,8 +310,8 @@ where
     ensures unread { fault_in (map string_bytes words.now) ≢ [] → input.new ≡ input.old }
     ensures no_number { fault_in (map string_bytes words.now) ≡ []
         → HasNoNumber (met_in (map string_bytes words.now)) → input.new ≡ input.old }
-    ensures nothing { result ≡ 1 → HasGivenUp output.old output.new (E.contents faults.old)
-        (E.contents faults.new) result }
+    ensures nothing { result ≡ 1 → named_in (map string_bytes words.now) ≢ Some (codes "sim")
+        → HasGivenUp output.old output.new (E.contents faults.old) (E.contents faults.new) result }
     ensures frames { result ≡ 0 → AreFor (codes "frames") (map string_bytes words.now)
         → PrintsFrames (met_in (map string_bytes words.now)) (I.remaining input.old) (W.contents output.old)
         (W.contents output.new) }
