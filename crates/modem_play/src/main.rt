@@ -1,10 +1,10 @@
-//! Plays scripts for tests, line by line, and prints what comes of each: a session on a line in memory, an endpoint, a simulated modem at its
-//! end of one, both on one line in one thread, a modem's answers, typed commands and their replies, lines of text, how frames are
-//! spelled, or the entry into the multiplexer.
+//! Plays scripts for tests, line by line, and prints what comes of each: a session on a line in memory, an endpoint, a simulated
+//! modem at its end of a line, both on one line in one thread, both at two lines in memory in rounds, a modem's answers, typed
+//! commands and their replies, lines of text, how frames are spelled, or the entry into the multiplexer.
 //!
-//! The first lines say what the line and its ends are (see `Setup`), and end with one that says what is played: `session`, `endpoint`, `sim`,
-//! `pair`, `modem`, `typed`, `texts`, `frames` or `enter CALLS`. A line that isn't read as one of these ends it with `bad line N`
-//! and status 2.
+//! The first lines say what the line and its ends are (see `Setup`), and end with one that says what is played: `session`,
+//! `endpoint`, `sim`, `pair`, `rounds`, `modem`, `typed`, `texts`, `frames` or `enter CALLS`. A line that isn't read as one of
+//! these ends it with `bad line N` and status 2.
 #![tactic(auto)]
 
 mod endpoints;
@@ -12,6 +12,7 @@ mod frames;
 mod modems;
 mod near;
 mod pairs;
+mod rounds;
 mod sessions;
 mod setup;
 mod sims;
@@ -37,6 +38,7 @@ fn play<R: Host>(lines: &mut Lines<R>, setup: &mut Setup, what: &str) -> Result<
         "endpoint" => endpoints::play(lines, setup),
         "sim" => sims::play(lines, setup),
         "pair" => pairs::play(lines, setup),
+        "rounds" => rounds::play(lines, setup),
         "modem" => modems::play(lines, setup),
         "typed" => typed::play(lines),
         "texts" => texts::play(lines),

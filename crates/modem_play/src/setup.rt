@@ -16,7 +16,8 @@ use std::mem;
 /// - `in HEX`: octets that the line gives from the beginning.
 /// - `reads CUT..`, `writes CUT..`: how much each call of a line in memory gives and takes: so many octets, or `fault`; `7x100`
 ///   is a hundred times 7. Behind them as much as there is.
-/// - `room N`: how many octets the line in memory has room for, each way; of a pair's line how many may be under way, each way.
+/// - `room N`: how many octets the line in memory has room for, each way; of a pair's line how many may be under way, each way;
+///   in rounds how many are carried in one, each way.
 /// - `echo`: the modem echoes.
 /// - `pin`: its SIM wants the PIN 1234.
 /// - `signal RSSI BER`: the signal that it tells, 18 and 99 where it isn't said.
