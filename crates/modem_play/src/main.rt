@@ -1,12 +1,13 @@
 //! Plays scripts for tests, line by line, and prints what comes of each: a session on a line in memory, an endpoint, a simulated
 //! modem at its end of a line, both on one line in one thread, both at two lines in memory in rounds, a modem's answers, typed
-//! commands and their replies, lines of text, how frames are spelled, or the entry into the multiplexer.
+//! commands and their replies, lines of text, how frames are spelled, a desk by itself, or the entry into the multiplexer.
 //!
 //! The first lines say what the line and its ends are (see `Setup`), and end with one that says what is played: `session`,
-//! `endpoint`, `sim`, `pair`, `rounds`, `modem`, `typed`, `texts`, `frames` or `enter CALLS`. A line that isn't read as one of
+//! `endpoint`, `sim`, `pair`, `rounds`, `modem`, `typed`, `texts`, `frames`, `desk` or `enter CALLS`. A line that isn't read as one of
 //! these ends it with `bad line N` and status 2.
 #![tactic(auto)]
 
+mod desks;
 mod endpoints;
 mod frames;
 mod modems;
@@ -40,6 +41,7 @@ fn play<R: Host>(lines: &mut Lines<R>, setup: &mut Setup, what: &str) -> Result<
         "pair" => pairs::play(lines, setup),
         "rounds" => rounds::play(lines, setup),
         "modem" => modems::play(lines, setup),
+        "desk" => desks::play(lines, setup),
         "typed" => typed::play(lines),
         "texts" => texts::play(lines),
         "frames" => frames::play(lines, setup.n1),
