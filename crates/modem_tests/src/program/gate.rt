@@ -1,4 +1,6 @@
 //! Callers, connections and the driver side by side.
+use at_text::CommandLine;
+use modem_bench::{Fault, Submission, run_bench_within};
 use modem_runs::bench_run;
 use modem_sim::{Script, Step, StepAct, Steps};
 use mux_frame::Dlci;
@@ -74,13 +76,13 @@ fn a_modem_that_ends_the_multiplexer_is_given_up(rt: HostRuntime) -> Result<(), 
     Ok(())
 }
 
-// Each answer is held back until a command has come on the other connection.
-fn held_back(alloc: Global) -> Result<Script, Fail> {
-    let one = Dlci::new(1).ok_or("1 is a connection")?;
-    let two = Dlci::new(2).ok_or("2 is a connection")?;
+// An answer on the first connection of each of these is held back until a command has come on the second.
+fn held_back(alloc: Global, pairs: &[(u8, u8)]) -> Result<Script, Fail> {
     let mut steps = Vec::new(alloc);
-    for (held, awaited) in &[(one, two), (two, one)] {
-        let act = StepAct::Hold(*held, *awaited);
+    for (held, awaited) in pairs {
+        let held = Dlci::new(*held).ok_or("no connection")?;
+        let awaited = Dlci::new(*awaited).ok_or("no connection")?;
+        let act = StepAct::Hold(held, awaited);
         steps.push(Step { after: 0, act })?;
     }
     Ok(Script {
@@ -93,7 +95,32 @@ fn held_back(alloc: Global) -> Result<Script, Fail> {
 fn connections_and_callers_run_side_by_side(rt: HostRuntime) -> Result<(), Fail> {
     let alloc = rt.alloc();
     for cut in CUTS {
-        expect_two(&rt, alloc, cut, held_back(alloc)?, ALL_TOLD);
+        expect_two(
+            &rt,
+            alloc,
+            cut,
+            held_back(alloc, &[(1, 2), (2, 1)])?,
+            ALL_TOLD,
+        );
     }
+    Ok(())
+}
+
+// The answer is held back for good: no command comes on connection 2.
+#[test]
+fn a_bench_is_given_up_when_its_polls_are_used_up(rt: HostRuntime) -> Result<(), Fail> {
+    let alloc = rt.alloc();
+    let script = held_back(alloc, &[(1, 2)])?;
+    let dlci = Dlci::new(1).ok_or("no connection")?;
+    let line = CommandLine::new(alloc, b"AT+CSQ")?;
+    let submissions = vec![in alloc;
+        Submission {
+            caller: 0,
+            dlci,
+            line
+        },
+    ]?;
+    let ended = run_bench_within(&rt, alloc, submissions.as_slice(), 1, 64, script, 1_000);
+    assert!(rt; matches!(ended, Err(Fault::GaveUp)));
     Ok(())
 }
