@@ -104,8 +104,14 @@ pub returns-in-Ok-try_get_matches_from-clause-no_number :
 returns-in-Ok-try_get_matches_from-clause-no_number g c right none =
     c.run_named.ensures.unread (subst HasNoNumber (sym (met c.in-Ok-try_get_matches_from.matches _ _ c.in-Ok.ensures (λ e. (c.in-Ok-try_get_matches_from.ensures.matches e).1))) none)
 
+pub returns-in-Ok-try_get_matches_from-clause-nothing :
+    goal.returns-in-Ok-try_get_matches_from-clause-nothing
+returns-in-Ok-try_get_matches_from-clause-nothing g c one other_word =
+    c.run_named.ensures.nothing one
+    (λ is. other_word (sym (named c.in-Ok-try_get_matches_from.matches _ _ c.in-Ok.ensures (λ e. (c.in-Ok-try_get_matches_from.ensures.matches e).1)) ∙ is))
+
 pub returns-in-Err-clause-nothing : goal.returns-in-Err-clause-nothing
-returns-in-Err-clause-nothing g c one = gave_up Stop.NoMemory c.args.output.now _ _ _ _ c.give_up.ensures.status c.give_up.ensures.said (λ other. refl)
+returns-in-Err-clause-nothing g c one other_word = gave_up Stop.NoMemory c.args.output.now _ _ _ _ c.give_up.ensures.status c.give_up.ensures.said (λ other. refl)
 
 -- ## Rows
 

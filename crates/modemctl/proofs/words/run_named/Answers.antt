@@ -49,6 +49,10 @@ pub returns-in-bench-clause-unread : goal.returns-in-bench-clause-unread
 returns-in-bench-clause-unread g c none =
     absurd (all_numbers c.args.matches.now c.in-Some.given.now c.in-Ok.numbers.n1 c.in-Ok.numbers.callers c.in-Ok.numbers.cut c.in-Some.ensures.rows c.in-Ok.ensures.n1 c.in-Ok.ensures.callers c.in-Ok.ensures.cut none)
 
+pub returns-in-sim-clause-unread : goal.returns-in-sim-clause-unread
+returns-in-sim-clause-unread g c none =
+    absurd (all_numbers c.args.matches.now c.in-Some.given.now c.in-Ok.numbers.n1 c.in-Ok.numbers.callers c.in-Ok.numbers.cut c.in-Some.ensures.rows c.in-Ok.ensures.n1 c.in-Ok.ensures.callers c.in-Ok.ensures.cut none)
+
 pub returns-in-frames-clause-frames : goal.returns-in-frames-clause-frames
 returns-in-frames-clause-frames g c zero named = record {
   n1 = c.in-Ok.numbers.n1;
