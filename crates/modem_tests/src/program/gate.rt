@@ -106,11 +106,11 @@ fn connections_and_callers_run_side_by_side(rt: HostRuntime) -> Result<(), Fail>
     Ok(())
 }
 
-// The answer is held back for good: no command comes on connection 2.
+// One poll is too few: it makes 64 turns, each of which moves one octet each way at most, and an opening waits for its answer.
 #[test]
 fn a_bench_is_given_up_when_its_polls_are_used_up(rt: HostRuntime) -> Result<(), Fail> {
     let alloc = rt.alloc();
-    let script = held_back(alloc, &[(1, 2)])?;
+    let script = held_back(alloc, &[])?;
     let dlci = Dlci::new(1).ok_or("no connection")?;
     let line = CommandLine::new(alloc, b"AT+CSQ")?;
     let submissions = vec![in alloc;
@@ -120,7 +120,7 @@ fn a_bench_is_given_up_when_its_polls_are_used_up(rt: HostRuntime) -> Result<(),
             line
         },
     ]?;
-    let ended = run_bench_within(&rt, alloc, submissions.as_slice(), 1, 64, script, 1_000);
+    let ended = run_bench_within(&rt, alloc, submissions.as_slice(), 1, 1, script, 1);
     assert!(rt; matches!(ended, Err(Fault::GaveUp)));
     Ok(())
 }
