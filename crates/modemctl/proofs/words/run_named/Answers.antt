@@ -1,6 +1,5 @@
 -- What was printed, by the numbers that the matches of the subcommand give.
-use Rattle.std.proofs.Common.{◌≡◌, ◌∙◌, ◌⊎◌, ⊎_elim, ℕ, ap, sym, subst, List, Option, None, Some, option_map, codes}
-use Rattle.std.specs.Prelude.{option_and_then}
+use Rattle.std.proofs.Common.{◌≡◌, ◌∙◌, ◌⊎◌, ⊎_elim, ℕ, ap, subst, List, Option, None, Some, option_map, codes}
 use Rattle.clap.specs.Words.{Row, Text, found_of, one_of, one_text, rows_of, subcommand_rows_of}
 use Rattle.clap.specs.declared.ArgMatches.{ArgMatches}
 use Rattle.clap.proofs.WalkLemmas.{one_text-rows}
