@@ -3,6 +3,7 @@ use Rattle.std.specs.Prelude.{◌≡◌, ℕ, List, [], ◌++◌, Option, Some, 
 use Rattle.at_text.specs.declared.answer.AnswerLine.{AnswerLine}
 use Rattle.at_text.specs.declared.window.Seen.{Seen}
 use Rattle.at_text.specs.declared.window.Seen.TheVariants.{Done}
+use Rattle.at_text.specs.Dialects.{Dialect}
 use Rattle.at_text.specs.OpenWindow.{OpenWindow, seen_by, after_line}
 
 -- the lines that the answer has so far
@@ -26,9 +27,9 @@ led_seen ls (Done more) = Done (ls ++ more)
 led_seen ls seen = seen
 
 -- a line seen with the lines before kept apart is what it is among them all, and so is the window then
-pub record SeesApart (ls : List AnswerLine) (w : Option OpenWindow) (line : List ℕ) : Type 0 where
-  pub seen : seen_by (led_by ls w) line ≡ led_seen ls (seen_by w line)
-  pub after : after_line (led_by ls w) line ≡ led_by ls (after_line w line)
+pub record SeesApart (dialect : Dialect) (ls : List AnswerLine) (w : Option OpenWindow) (line : List ℕ) : Type 0 where
+  pub seen : seen_by dialect (led_by ls w) line ≡ led_seen ls (seen_by dialect w line)
+  pub after : after_line dialect (led_by ls w) line ≡ led_by ls (after_line dialect w line)
 
 -- a fork with the lines before is the window that it was made of
 abbrev pub IsWhole : Option OpenWindow → Type 0

@@ -3,6 +3,7 @@ pub mod Lines
 pub mod Reading
 pub mod Finals
 pub mod Unsolicited
+pub mod Dialects
 pub mod Commands
 pub mod Windows
 pub mod Seeing

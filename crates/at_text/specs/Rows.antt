@@ -4,6 +4,7 @@ use Rattle.at_text.specs.declared.finals.Final.TheVariants.{Good, Error, Cme}
 use Rattle.at_text.specs.declared.unsolicited.UrcKind.TheVariants.{Ring, Creg, Cgreg}
 use Rattle.at_text.specs.declared.window.Seen.{Seen}
 use Rattle.at_text.specs.declared.window.Seen.TheVariants.{Echo, Kept, Done, Unsolicited, Other}
+use Rattle.at_text.specs.Dialects.{standard}
 use Rattle.at_text.specs.Finals.{final_of}
 use Rattle.at_text.specs.Lines.{lines, unfinished}
 use Rattle.at_text.specs.Unsolicited.{unsolicited_of}
@@ -47,8 +48,8 @@ pub record AreReports : Type 0 where
 
 -- what the lines are, and what the commands' answers are
 pub record Reads (marks : List Mark) (seen : List Seen) (given : List (List (List ℕ))) : Type 0 where
-  pub each : seen_in marks ≡ seen
-  pub all : answers marks ≡ given
+  pub each : seen_in standard marks ≡ seen
+  pub all : answers standard marks ≡ given
 
 abbrev pub done : List (List ℕ) → Seen
 done ls = Done (answer_lines ls)

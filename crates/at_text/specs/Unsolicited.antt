@@ -1,5 +1,5 @@
 -- Unsolicited lines (27.007, 6.11, 7.2, 8.10, 10.1.19, 10.1.20; V.250, 6.3).
-use Rattle.std.specs.Prelude.{ℕ, nat_eq, Bool, true, ◌&&◌, List, length, drop, Option, Some, None, is_none, if◌then◌else◌, codes}
+use Rattle.std.specs.Prelude.{ℕ, nat_eq, Bool, true, ◌&&◌, List, length, drop, Option, Some, None, if◌then◌else◌, codes}
 use Rattle.std.specs.List.{starts_with}
 use Rattle.std.specs.Option.{option_map_or}
 use Rattle.std.specs.Str.{bytes_eq}
@@ -28,7 +28,3 @@ unsolicited_of line =
     else if starts_with nat_eq line (codes "+CGEV:") then Some Cgev
     else if starts_with nat_eq line (codes "+CIEV:") then Some Ciev
     else None
-
--- a line is of no such kind
-abbrev pub is_solicited : List ℕ → Bool
-is_solicited line = is_none (unsolicited_of line)

@@ -6,7 +6,7 @@ use Rattle.at_text.specs.declared.window.Seen.{Seen}
 use Rattle.at_text.specs.declared.window.Seen.TheVariants.{Echo, Kept, Done}
 use Rattle.at_text.specs.declared.unsolicited.UrcKind.{UrcKind}
 use Rattle.at_text.specs.declared.unsolicited.UrcKind.TheVariants.{Other as Uncalled}
-use Rattle.at_text.specs.Unsolicited.{unsolicited_of}
+use Rattle.at_text.specs.Dialects.{Dialect}
 use Rattle.at_text.specs.Windows.{Mark, lines_of, has_final, windows, answers, answered}
 use Rattle.at_text.specs.Seeing.{answer_lines, seen_in, kind_of}
 
@@ -35,8 +35,8 @@ abbrev pub announced : List (List ℕ) → List Seen → List (UrcKind × List �
 announced ls seen = filter_map (λ p. option_map (λ kind. (kind, p.0)) (kind_of p.1)) (zip ls seen)
 
 -- the lines that are unsolicited, each with its kind
-abbrev pub unsolicited_in : List (List ℕ) → List (UrcKind × List ℕ)
-unsolicited_in ls = filter_map (λ l. option_map (λ kind. (kind, l)) (unsolicited_of l)) ls
+abbrev pub unsolicited_in : Dialect → List (List ℕ) → List (UrcKind × List ℕ)
+unsolicited_in dialect ls = filter_map (λ l. option_map (λ kind. (kind, l)) (dialect.kind_of l)) ls
 
 -- it is of a kind other than Other
 abbrev pub is_of_kind : UrcKind × List ℕ → Bool
@@ -44,19 +44,19 @@ is_of_kind (Uncalled, l) = false
 is_of_kind (kind, l) = true
 
 -- where each command begins with no window open, no line is lost or counted twice
-pub record NoneLost (ms : List Mark) : Type 0 where
+pub record NoneLost (dialect : Dialect) (ms : List Mark) : Type 0 where
   -- each line is seen once, as part of an answer, as an echo, or announced
-  pub each : length (seen_in ms) ≡ length (lines_of ms)
+  pub each : length (seen_in dialect ms) ≡ length (lines_of ms)
   pub once :
       length (lines_of ms)
-      ≡ length (parts (lines_of ms) (seen_in ms))
-      + (length (filter is_repeat (seen_in ms)) + length (announced (lines_of ms) (seen_in ms)))
+      ≡ length (parts (lines_of ms) (seen_in dialect ms))
+      + (length (filter is_repeat (seen_in dialect ms)) + length (announced (lines_of ms) (seen_in dialect ms)))
   -- the parts are the lines of all answers, in order
-  pub joined : parts (lines_of ms) (seen_in ms) ≡ flat_map (λ ls. ls) (answers ms)
+  pub joined : parts (lines_of ms) (seen_in dialect ms) ≡ flat_map (λ ls. ls) (answers dialect ms)
   -- the answers given whole are those with their final code, in order: those of the first commands
-  pub whole : filter_map done_lines (seen_in ms) ≡ map answer_lines (filter has_final (answers ms))
-  pub in_order : filter has_final (answers ms) ≡ take (answered ms) (answers ms)
+  pub whole : filter_map done_lines (seen_in dialect ms) ≡ map answer_lines (filter (has_final dialect) (answers dialect ms))
+  pub in_order : filter (has_final dialect) (answers dialect ms) ≡ take (answered dialect ms) (answers dialect ms)
   -- there are at most as many echoes as commands
-  pub echoes : length (filter is_repeat (seen_in ms)) ≤ length (windows ms)
+  pub echoes : length (filter is_repeat (seen_in dialect ms)) ≤ length (windows ms)
   -- what is announced as a kind other than Other are the unsolicited lines, in order
-  pub of_kinds : filter is_of_kind (announced (lines_of ms) (seen_in ms)) ≡ unsolicited_in (lines_of ms)
+  pub of_kinds : filter is_of_kind (announced (lines_of ms) (seen_in dialect ms)) ≡ unsolicited_in dialect (lines_of ms)

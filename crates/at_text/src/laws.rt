@@ -2,6 +2,7 @@
 ghost use Rattle.std.specs.Prelude.{ℕ, List, Option};
 ghost use Rattle.at_text.specs.declared.answer.AnswerLine.{AnswerLine};
 ghost use Rattle.at_text.specs.Lines.{ReadsOn};
+ghost use Rattle.at_text.specs.Dialects.{Dialect};
 ghost use Rattle.at_text.specs.Windows.{Mark, IsInTurn};
 ghost use Rattle.at_text.specs.OpenWindow.{OpenWindow};
 ghost use Rattle.at_text.specs.Forks.{IsWhole, SeesApart};
@@ -30,7 +31,7 @@ pub fn reading_on()
 
 /// Where each command begins with no window open, no line is lost or counted twice.
 pub fn windows()
-    ensures { (marks : List Mark) → IsInTurn marks → NoneLost marks }
+    ensures { (dialect : Dialect) (marks : List Mark) → IsInTurn dialect marks → NoneLost dialect marks }
 {}
 
 /// The lines that are placed are those of all octets, and where octets are cut changes no line's place.
@@ -40,6 +41,7 @@ pub fn placing()
 
 /// A line that is seen on a fork of a window is what it is on the window, whose lines come before the fork's.
 pub fn forks()
-    ensures apart { (ls : List AnswerLine) (w : Option OpenWindow) (line : List ℕ) → SeesApart ls w line }
+    ensures apart { (dialect : Dialect) (ls : List AnswerLine) (w : Option OpenWindow) (line : List ℕ)
+        → SeesApart dialect ls w line }
     ensures whole { (w : Option OpenWindow) → IsWhole w }
 {}

@@ -1,5 +1,6 @@
 //! Windows: which lines answer a command, by their place (V.250, 5.2.3 and 5.7.1).
 ghost use Rattle.std.specs.Prelude.{◌≡◌, List, [], ◌∷◌, ◌++◌, ◌↔◌, IsTrue, IsNone, is_none, is_some, IfOk, IfErr, OnOk, OnErr, if◌then◌else◌};
+ghost use Rattle.at_text.specs.Dialects.{Dialect, standard};
 ghost use Rattle.at_text.specs.Windows.{Mark, Begun};
 ghost use Rattle.at_text.specs.Seeing.{by_kind};
 ghost use Rattle.at_text.specs.OpenWindow.{opened, FitsMarks, Sees, is_echo, with_line, solicited_by, after_solicited, seen_by, after_line};
@@ -122,12 +123,11 @@ impl Model for Window {
     ghost view = { λ w. w.open };
 }
 
-#[tactic(auto, using(crate::proofs::windows::AnswerWindows::fits_nothing))]
 impl Window {
     /// No command is under way.
     pub fn new(alloc: Global) -> Window
         ensures none { result ≡ None }
-        ensures past { FitsMarks result [] }
+        ensures past { (dialect : Dialect) → FitsMarks dialect result [] }
     {
         Window {
             open: None,
@@ -147,8 +147,8 @@ impl Window {
     pub fn begin(&mut self, line: &CommandLine)
         requires { IsNone self.old }
         ensures opens { self.new ≡ Some (opened line.now) }
-        ensures past { (past : List Mark) → FitsMarks self.old past
-            → FitsMarks self.new (past ++ Begun line.now ∷ []) }
+        ensures past { (dialect : Dialect) (past : List Mark) → FitsMarks dialect self.old past
+            → FitsMarks dialect self.new (past ++ Begun line.now ∷ []) }
     {
         self.open = Some(Open::begun(self.alloc, line));
     }
@@ -156,17 +156,18 @@ impl Window {
     /// Forgets the command and what came of its answer.
     pub fn drop_command(&mut self)
         ensures none { self.new ≡ None }
-        ensures past { FitsMarks self.new [] }
+        ensures past { (dialect : Dialect) → FitsMarks dialect self.new [] }
     {
         self.open = None;
     }
 
     /// Says what the next line is, where it ends. 4 NoMemory leaves the window as it was, so that the same line can be shown again.
     pub fn see(&mut self, line: &[u8]) -> Result<Seen, TextError>
-        ensures seen { IfOk result (λ seen. seen ≡ seen_by self.old line.now) }
-        ensures after { OnOk result (self.new ≡ after_line self.old line.now) }
+        ensures seen { IfOk result (λ seen. seen ≡ seen_by standard self.old line.now) }
+        ensures after { OnOk result (self.new ≡ after_line standard self.old line.now) }
         ensures past { IfOk result
-            (λ seen. (past : List Mark) → FitsMarks self.old past → Sees past line.now seen self.new) }
+            (λ seen. (past : List Mark) → FitsMarks standard self.old past
+                → Sees standard past line.now seen self.new) }
         ensures refused { IfErr result (λ why. why ≡ TextError.NoMemory) }
         ensures err { OnErr result (self.new ≡ self.old) }
     {
@@ -247,8 +248,8 @@ impl Window {
     }
 
     fn place(&mut self, line: &[u8]) -> Result<Seen, AllocError>
-        ensures seen { IfOk result (λ seen. seen ≡ seen_by self.old line.now) }
-        ensures after { OnOk result (self.new ≡ after_line self.old line.now) }
+        ensures seen { IfOk result (λ seen. seen ≡ seen_by standard self.old line.now) }
+        ensures after { OnOk result (self.new ≡ after_line standard self.old line.now) }
         ensures err { OnErr result (self.new ≡ self.old) }
     {
         self.place_by(unsolicited_of(line), line)
@@ -256,9 +257,9 @@ impl Window {
 
     /// What a line of this kind is, or of none.
     fn place_by(&mut self, kind: Option<UrcKind>, line: &[u8]) -> Result<Seen, AllocError>
-        ensures seen { IfOk result (λ seen. seen ≡ by_kind kind (solicited_by self.old line.now)) }
+        ensures seen { IfOk result (λ seen. seen ≡ by_kind kind (solicited_by standard self.old line.now)) }
         ensures after { OnOk result (
-            self.new ≡ (if is_none kind then after_solicited self.old line.now else self.old)) }
+            self.new ≡ (if is_none kind then after_solicited standard self.old line.now else self.old)) }
         ensures err { OnErr result (self.new ≡ self.old) }
     {
         match kind {
@@ -269,8 +270,8 @@ impl Window {
 
     /// What a line of no kind is.
     fn place_solicited(&mut self, line: &[u8]) -> Result<Seen, AllocError>
-        ensures seen { IfOk result (λ seen. seen ≡ solicited_by self.old line.now) }
-        ensures after { OnOk result (self.new ≡ after_solicited self.old line.now) }
+        ensures seen { IfOk result (λ seen. seen ≡ solicited_by standard self.old line.now) }
+        ensures after { OnOk result (self.new ≡ after_solicited standard self.old line.now) }
         ensures err { OnErr result (self.new ≡ self.old) }
     {
         let Some(open) = &mut self.open else {

@@ -9,51 +9,50 @@ use Rattle.std.proofs.lemmas.List.Folds.{list_any-append}
 use Rattle.at_text.specs.declared.answer.AnswerLine.{AnswerLine}
 use Rattle.at_text.specs.declared.unsolicited.UrcKind.{UrcKind}
 use Rattle.at_text.specs.declared.window.Seen.{Seen}
-use Rattle.at_text.specs.Finals.{is_final}
-use Rattle.at_text.specs.Unsolicited.{unsolicited_of, is_solicited}
+use Rattle.at_text.specs.Dialects.{Dialect, is_solicited}
 use Rattle.at_text.specs.Windows.{Mark, Line, Begun, lines_of, without_echo, up_to_final, answer, has_final, Window, windows, last_window, is_answered, more_of, window_more, open_of, open_window, IsInTurn}
 use Rattle.at_text.specs.Seeing.{answer_lines, is_empty, is_fresh, solicited_in, by_kind, seen_after, seen_from}
 use Rattle.at_text.specs.OpenWindow.{OpenWindow, opened, shown, FitsMarks, Sees, is_echo, solicited_by, seen_by, after_solicited, after_line}
 
 -- ## Up to the final code
 
-up_to_final-done : (ls more : List (List ℕ)) → has_final ls ≡ true → up_to_final (ls ++ more) ≡ up_to_final ls
-up_to_final-done [] more done = cc
-up_to_final-done (l ∷ ls) more done = at (is_final l) l ls more (up_to_final-done ls more) done
+up_to_final-done : (dialect : Dialect) (ls more : List (List ℕ)) → has_final dialect ls ≡ true → up_to_final dialect (ls ++ more) ≡ up_to_final dialect ls
+up_to_final-done dialect [] more done = cc
+up_to_final-done dialect (l ∷ ls) more done = at (dialect.is_final l) l ls more (up_to_final-done dialect ls more) done
   where
-    at : (b : Bool) (l : List ℕ) (ls more : List (List ℕ)) → (has_final ls ≡ true → up_to_final (ls ++ more) ≡ up_to_final ls) → (b || has_final ls) ≡ true
-        → (if b then l ∷ [] else l ∷ up_to_final (ls ++ more)) ≡ (if b then l ∷ [] else l ∷ up_to_final ls)
+    at : (b : Bool) (l : List ℕ) (ls more : List (List ℕ)) → (has_final dialect ls ≡ true → up_to_final dialect (ls ++ more) ≡ up_to_final dialect ls) → (b || has_final dialect ls) ≡ true
+        → (if b then l ∷ [] else l ∷ up_to_final dialect (ls ++ more)) ≡ (if b then l ∷ [] else l ∷ up_to_final dialect ls)
     at true l ls more h done = refl
     at false l ls more h done = ap (λ (v : List (List ℕ)). l ∷ v) (h done)
 
-up_to_final-on : (ls more : List (List ℕ)) → has_final ls ≡ false → up_to_final (ls ++ more) ≡ ls ++ up_to_final more
-up_to_final-on [] more none = refl
-up_to_final-on (l ∷ ls) more none = at (is_final l) l ls more (up_to_final-on ls more) none
+up_to_final-on : (dialect : Dialect) (ls more : List (List ℕ)) → has_final dialect ls ≡ false → up_to_final dialect (ls ++ more) ≡ ls ++ up_to_final dialect more
+up_to_final-on dialect [] more none = refl
+up_to_final-on dialect (l ∷ ls) more none = at (dialect.is_final l) l ls more (up_to_final-on dialect ls more) none
   where
-    at : (b : Bool) (l : List ℕ) (ls more : List (List ℕ)) → (has_final ls ≡ false → up_to_final (ls ++ more) ≡ ls ++ up_to_final more) → (b || has_final ls) ≡ false
-        → (if b then l ∷ [] else l ∷ up_to_final (ls ++ more)) ≡ (l ∷ ls) ++ up_to_final more
+    at : (b : Bool) (l : List ℕ) (ls more : List (List ℕ)) → (has_final dialect ls ≡ false → up_to_final dialect (ls ++ more) ≡ ls ++ up_to_final dialect more) → (b || has_final dialect ls) ≡ false
+        → (if b then l ∷ [] else l ∷ up_to_final dialect (ls ++ more)) ≡ (l ∷ ls) ++ up_to_final dialect more
     at true l ls more h none = cc
     at false l ls more h none = ap (λ (v : List (List ℕ)). l ∷ v) (h none)
 
-up_to_final-one : (l : List ℕ) → up_to_final (l ∷ []) ≡ l ∷ []
-up_to_final-one l = at (is_final l) l
+up_to_final-one : (dialect : Dialect) (l : List ℕ) → up_to_final dialect (l ∷ []) ≡ l ∷ []
+up_to_final-one dialect l = at (dialect.is_final l) l
   where
     at : (b : Bool) (l : List ℕ) → (if b then l ∷ [] else l ∷ []) ≡ l ∷ []
     at true l = refl
     at false l = refl
 
-has_final-up_to : (ls : List (List ℕ)) → has_final (up_to_final ls) ≡ has_final ls
-has_final-up_to [] = refl
-has_final-up_to (l ∷ ls) = at (is_final l) l ls refl (has_final-up_to ls)
+has_final-up_to : (dialect : Dialect) (ls : List (List ℕ)) → has_final dialect (up_to_final dialect ls) ≡ has_final dialect ls
+has_final-up_to dialect [] = refl
+has_final-up_to dialect (l ∷ ls) = at (dialect.is_final l) l ls refl (has_final-up_to dialect ls)
   where
-    at : (b : Bool) (l : List ℕ) (ls : List (List ℕ)) → is_final l ≡ b → has_final (up_to_final ls) ≡ has_final ls → has_final (if b then l ∷ [] else l ∷ up_to_final ls) ≡ (b || has_final ls)
+    at : (b : Bool) (l : List ℕ) (ls : List (List ℕ)) → dialect.is_final l ≡ b → has_final dialect (up_to_final dialect ls) ≡ has_final dialect ls → has_final dialect (if b then l ∷ [] else l ∷ up_to_final dialect ls) ≡ (b || has_final dialect ls)
     at true l ls e h = rw e refl
     at false l ls e h = rw e h
 
 -- ## The answer with one more line
 
-solicited-more : (ls : List (List ℕ)) (l : List ℕ) (b : Bool) → is_solicited l ≡ b → filter is_solicited (ls ++ l ∷ []) ≡ filter is_solicited ls ++ (if b then l ∷ [] else [])
-solicited-more ls l b e = filter-append is_solicited ls (l ∷ []) ∙ rw e refl
+solicited-more : (dialect : Dialect) (ls : List (List ℕ)) (l : List ℕ) (b : Bool) → is_solicited dialect l ≡ b → filter (is_solicited dialect) (ls ++ l ∷ []) ≡ filter (is_solicited dialect) ls ++ (if b then l ∷ [] else [])
+solicited-more dialect ls l b e = filter-append (is_solicited dialect) ls (l ∷ []) ∙ rw e refl
 
 without_echo-more : (command s : List ℕ) (ls more : List (List ℕ)) → without_echo command ((s ∷ ls) ++ more) ≡ without_echo command (s ∷ ls) ++ more
 without_echo-more command s ls more = at (bytes_eq s command) s ls more
@@ -63,54 +62,54 @@ without_echo-more command s ls more = at (bytes_eq s command) s ls more
     at false s ls more = refl
 
 -- an unsolicited line changes no answer
-pub answer-unsolicited : (command : List ℕ) (ls : List (List ℕ)) (l : List ℕ) → is_solicited l ≡ false → answer command (ls ++ l ∷ []) ≡ answer command ls
-answer-unsolicited command ls l e = rw (solicited-more ls l false e, append-nil) refl
+pub answer-unsolicited : (dialect : Dialect) (command : List ℕ) (ls : List (List ℕ)) (l : List ℕ) → is_solicited dialect l ≡ false → answer dialect command (ls ++ l ∷ []) ≡ answer dialect command ls
+answer-unsolicited dialect command ls l e = rw (solicited-more dialect ls l false e, append-nil) refl
 
-pub is_fresh-unsolicited : (ls : List (List ℕ)) (l : List ℕ) → is_solicited l ≡ false
-    → is_empty (filter is_solicited (ls ++ l ∷ [])) ≡ is_empty (filter is_solicited ls)
-is_fresh-unsolicited ls l e = rw (solicited-more ls l false e, append-nil) refl
+pub is_fresh-unsolicited : (dialect : Dialect) (ls : List (List ℕ)) (l : List ℕ) → is_solicited dialect l ≡ false
+    → is_empty (filter (is_solicited dialect) (ls ++ l ∷ [])) ≡ is_empty (filter (is_solicited dialect) ls)
+is_fresh-unsolicited dialect ls l e = rw (solicited-more dialect ls l false e, append-nil) refl
 
 is_empty-push : (xs : List (List ℕ)) (x : List ℕ) → is_empty (xs ++ x ∷ []) ≡ false
 is_empty-push [] x = refl
 is_empty-push (y ∷ xs) x = refl
 
-pub is_fresh-solicited : (ls : List (List ℕ)) (l : List ℕ) → is_solicited l ≡ true → is_empty (filter is_solicited (ls ++ l ∷ [])) ≡ false
-is_fresh-solicited ls l e = rw (solicited-more ls l true e) (is_empty-push (filter is_solicited ls) l)
+pub is_fresh-solicited : (dialect : Dialect) (ls : List (List ℕ)) (l : List ℕ) → is_solicited dialect l ≡ true → is_empty (filter (is_solicited dialect) (ls ++ l ∷ [])) ≡ false
+is_fresh-solicited dialect ls l e = rw (solicited-more dialect ls l true e) (is_empty-push (filter (is_solicited dialect) ls) l)
 
 -- nor does a line after the final code
-with_final : (command : List ℕ) (xs more : List (List ℕ)) → has_final (up_to_final (without_echo command xs)) ≡ true → up_to_final (without_echo command (xs ++ more)) ≡ up_to_final (without_echo command xs)
-with_final command [] more done = cc
-with_final command (s ∷ xs) more done =
-    rw (without_echo-more command s xs more) (up_to_final-done (without_echo command (s ∷ xs)) more (sym (has_final-up_to (without_echo command (s ∷ xs))) ∙ done))
+with_final : (dialect : Dialect) (command : List ℕ) (xs more : List (List ℕ)) → has_final dialect (up_to_final dialect (without_echo command xs)) ≡ true → up_to_final dialect (without_echo command (xs ++ more)) ≡ up_to_final dialect (without_echo command xs)
+with_final dialect command [] more done = cc
+with_final dialect command (s ∷ xs) more done =
+    rw (without_echo-more command s xs more) (up_to_final-done dialect (without_echo command (s ∷ xs)) more (sym (has_final-up_to dialect (without_echo command (s ∷ xs))) ∙ done))
 
-pub answer-done : (command : List ℕ) (ls : List (List ℕ)) (l : List ℕ) → has_final (answer command ls) ≡ true → answer command (ls ++ l ∷ []) ≡ answer command ls
-answer-done command ls l done = rw (filter-append is_solicited ls (l ∷ [])) (with_final command (filter is_solicited ls) (filter is_solicited (l ∷ [])) done)
+pub answer-done : (dialect : Dialect) (command : List ℕ) (ls : List (List ℕ)) (l : List ℕ) → has_final dialect (answer dialect command ls) ≡ true → answer dialect command (ls ++ l ∷ []) ≡ answer dialect command ls
+answer-done dialect command ls l done = rw (filter-append (is_solicited dialect) ls (l ∷ [])) (with_final dialect command (filter (is_solicited dialect) ls) (filter (is_solicited dialect) (l ∷ [])) done)
 
 -- nor does the echo
-by_echo : (command l : List ℕ) (xs : List (List ℕ)) → (is_empty xs && bytes_eq l command) ≡ true → up_to_final (without_echo command (xs ++ l ∷ [])) ≡ up_to_final (without_echo command xs)
-by_echo command l [] e = rw e refl
-by_echo command l (x ∷ xs) e = cc
+by_echo : (dialect : Dialect) (command l : List ℕ) (xs : List (List ℕ)) → (is_empty xs && bytes_eq l command) ≡ true → up_to_final dialect (without_echo command (xs ++ l ∷ [])) ≡ up_to_final dialect (without_echo command xs)
+by_echo dialect command l [] e = rw e refl
+by_echo dialect command l (x ∷ xs) e = cc
 
-pub answer-echo : (command : List ℕ) (ls : List (List ℕ)) (l : List ℕ) → is_solicited l ≡ true → (is_empty (filter is_solicited ls) && bytes_eq l command) ≡ true → answer command (ls ++ l ∷ []) ≡ answer command ls
-answer-echo command ls l s e = rw (solicited-more ls l true s) (by_echo command l (filter is_solicited ls) e)
+pub answer-echo : (dialect : Dialect) (command : List ℕ) (ls : List (List ℕ)) (l : List ℕ) → is_solicited dialect l ≡ true → (is_empty (filter (is_solicited dialect) ls) && bytes_eq l command) ≡ true → answer dialect command (ls ++ l ∷ []) ≡ answer dialect command ls
+answer-echo dialect command ls l s e = rw (solicited-more dialect ls l true s) (by_echo dialect command l (filter (is_solicited dialect) ls) e)
 
 -- any other line goes to its end
-by_line : (command l : List ℕ) (xs : List (List ℕ)) → has_final (up_to_final (without_echo command xs)) ≡ false → (is_empty xs && bytes_eq l command) ≡ false
-    → up_to_final (without_echo command (xs ++ l ∷ [])) ≡ up_to_final (without_echo command xs) ++ l ∷ []
-by_line command l [] none e = rw e (up_to_final-one l)
-by_line command l (x ∷ xs) none e =
-    let unended : has_final (without_echo command (x ∷ xs)) ≡ false = sym (has_final-up_to (without_echo command (x ∷ xs))) ∙ none in
-    let all : up_to_final (without_echo command (x ∷ xs) ++ []) ≡ without_echo command (x ∷ xs) ++ [] = up_to_final-on (without_echo command (x ∷ xs)) [] unended in
-    rw (without_echo-more command x xs (l ∷ []), up_to_final-on (without_echo command (x ∷ xs)) (l ∷ []) unended, up_to_final-one l)
+by_line : (dialect : Dialect) (command l : List ℕ) (xs : List (List ℕ)) → has_final dialect (up_to_final dialect (without_echo command xs)) ≡ false → (is_empty xs && bytes_eq l command) ≡ false
+    → up_to_final dialect (without_echo command (xs ++ l ∷ [])) ≡ up_to_final dialect (without_echo command xs) ++ l ∷ []
+by_line dialect command l [] none e = rw e (up_to_final-one dialect l)
+by_line dialect command l (x ∷ xs) none e =
+    let unended : has_final dialect (without_echo command (x ∷ xs)) ≡ false = sym (has_final-up_to dialect (without_echo command (x ∷ xs))) ∙ none in
+    let all : up_to_final dialect (without_echo command (x ∷ xs) ++ []) ≡ without_echo command (x ∷ xs) ++ [] = up_to_final-on dialect (without_echo command (x ∷ xs)) [] unended in
+    rw (without_echo-more command x xs (l ∷ []), up_to_final-on dialect (without_echo command (x ∷ xs)) (l ∷ []) unended, up_to_final-one dialect l)
     (ap (λ (v : List (List ℕ)). v ++ l ∷ []) (sym (rw append-nil at all)))
 
-pub answer-more : (command : List ℕ) (ls : List (List ℕ)) (l : List ℕ) → is_solicited l ≡ true → has_final (answer command ls) ≡ false
-    → (is_empty (filter is_solicited ls) && bytes_eq l command) ≡ false → answer command (ls ++ l ∷ []) ≡ answer command ls ++ l ∷ []
-answer-more command ls l s none e = rw (solicited-more ls l true s) (by_line command l (filter is_solicited ls) none e)
+pub answer-more : (dialect : Dialect) (command : List ℕ) (ls : List (List ℕ)) (l : List ℕ) → is_solicited dialect l ≡ true → has_final dialect (answer dialect command ls) ≡ false
+    → (is_empty (filter (is_solicited dialect) ls) && bytes_eq l command) ≡ false → answer dialect command (ls ++ l ∷ []) ≡ answer dialect command ls ++ l ∷ []
+answer-more dialect command ls l s none e = rw (solicited-more dialect ls l true s) (by_line dialect command l (filter (is_solicited dialect) ls) none e)
 
 -- with which it is whole, if it is a final code
-pub has_final-more : (ls : List (List ℕ)) (l : List ℕ) → has_final ls ≡ false → has_final (ls ++ l ∷ []) ≡ is_final l
-has_final-more ls l none = list_any-append is_final ls (l ∷ []) ∙ rw none (at (is_final l))
+pub has_final-more : (dialect : Dialect) (ls : List (List ℕ)) (l : List ℕ) → has_final dialect ls ≡ false → has_final dialect (ls ++ l ∷ []) ≡ dialect.is_final l
+has_final-more dialect ls l none = list_any-append dialect.is_final ls (l ∷ []) ∙ rw none (at (dialect.is_final l))
   where
     at : (b : Bool) → (b || false) ≡ b
     at true = refl
@@ -150,85 +149,85 @@ last_window-begun ms c = rw (windows-begun ms c) (last_or-push None (windows ms)
 
 -- ## What a window shows with one more mark
 
-pub shows_begun : (past : List Mark) (c : List ℕ) → Some (opened c) ≡ option_map shown (open_window (past ++ Begun c ∷ []))
-shows_begun past c = rw (last_window-begun past c) refl
+pub shows_begun : (dialect : Dialect) (past : List Mark) (c : List ℕ) → Some (opened c) ≡ option_map (shown dialect) (open_window dialect (past ++ Begun c ∷ []))
+shows_begun dialect past c = rw (last_window-begun past c) refl
 
 answer_lines-push : (ls : List (List ℕ)) (l : List ℕ) → answer_lines (ls ++ l ∷ []) ≡ answer_lines ls ++ record { text = l } ∷ []
 answer_lines-push [] l = refl
 answer_lines-push (k ∷ ls) l = ap (λ (v : List AnswerLine). record { text = k } ∷ v) (answer_lines-push ls l)
 
-abbrev Shows : Option Window → Option OpenWindow → Type 0
-Shows w o = option_map shown (open_of w) ≡ o
+abbrev Shows : Dialect → Option Window → Option OpenWindow → Type 0
+Shows dialect w o = option_map (shown dialect) (open_of dialect w) ≡ o
 
-shows_answered : (w : Window) → is_answered w ≡ true → Shows (Some w) None
-shows_answered w e = rw e refl
+shows_answered : (dialect : Dialect) (w : Window) → is_answered dialect w ≡ true → Shows dialect (Some w) None
+shows_answered dialect w e = rw e refl
 
-shows_open : (w : Window) (lines : List (List ℕ)) (fresh : Bool) → has_final lines ≡ false → answer w.command w.after ≡ lines → is_fresh w ≡ fresh
-    → Shows (Some w) (Some (record { command = w.command; lines = answer_lines lines; fresh = fresh }))
-shows_open w lines fresh none a f = rw (a, none, a, f) refl
+shows_open : (dialect : Dialect) (w : Window) (lines : List (List ℕ)) (fresh : Bool) → has_final dialect lines ≡ false → answer dialect w.command w.after ≡ lines → is_fresh dialect w ≡ fresh
+    → Shows dialect (Some w) (Some (record { command = w.command; lines = answer_lines lines; fresh = fresh }))
+shows_open dialect w lines fresh none a f = rw (a, none, a, f) refl
 
 -- a window that isn't whole yet, with a line that isn't unsolicited
-more_solicited : (w : Window) (l : List ℕ) (e f : Bool) → is_answered w ≡ false → is_solicited l ≡ true → is_echo (shown w) l ≡ e → is_final l ≡ f
-    → Shows (Some (more_of w l)) (after_solicited (Some (shown w)) l)
-more_solicited w l true f none s e g =
-    rw e (shows_open (more_of w l) (answer w.command w.after) false none (answer-echo w.command w.after l s e) (is_fresh-solicited w.after l s))
-more_solicited w l false true none s e g =
-    let more : answer w.command (w.after ++ l ∷ []) ≡ answer w.command w.after ++ l ∷ [] = answer-more w.command w.after l s none e in
-    rw (e, g) (shows_answered (more_of w l) (ap has_final more ∙ (has_final-more (answer w.command w.after) l none ∙ g)))
-more_solicited w l false false none s e g =
-    let more : answer w.command (w.after ++ l ∷ []) ≡ answer w.command w.after ++ l ∷ [] = answer-more w.command w.after l s none e in
-    rw (e, g) (rw (← answer_lines-push (answer w.command w.after) l)
-    (shows_open (more_of w l) (answer w.command w.after ++ l ∷ []) false (has_final-more (answer w.command w.after) l none ∙ g) more (is_fresh-solicited w.after l s)))
+more_solicited : (dialect : Dialect) (w : Window) (l : List ℕ) (e f : Bool) → is_answered dialect w ≡ false → is_solicited dialect l ≡ true → is_echo (shown dialect w) l ≡ e → dialect.is_final l ≡ f
+    → Shows dialect (Some (more_of w l)) (after_solicited dialect (Some (shown dialect w)) l)
+more_solicited dialect w l true f none s e g =
+    rw e (shows_open dialect (more_of w l) (answer dialect w.command w.after) false none (answer-echo dialect w.command w.after l s e) (is_fresh-solicited dialect w.after l s))
+more_solicited dialect w l false true none s e g =
+    let more : answer dialect w.command (w.after ++ l ∷ []) ≡ answer dialect w.command w.after ++ l ∷ [] = answer-more dialect w.command w.after l s none e in
+    rw (e, g) (shows_answered dialect (more_of w l) (ap (has_final dialect) more ∙ (has_final-more dialect (answer dialect w.command w.after) l none ∙ g)))
+more_solicited dialect w l false false none s e g =
+    let more : answer dialect w.command (w.after ++ l ∷ []) ≡ answer dialect w.command w.after ++ l ∷ [] = answer-more dialect w.command w.after l s none e in
+    rw (e, g) (rw (← answer_lines-push (answer dialect w.command w.after) l)
+    (shows_open dialect (more_of w l) (answer dialect w.command w.after ++ l ∷ []) false (has_final-more dialect (answer dialect w.command w.after) l none ∙ g) more (is_fresh-solicited dialect w.after l s)))
 
-more_by : (w : Window) (l : List ℕ) (a s : Bool) → is_answered w ≡ a → is_solicited l ≡ s
-    → Shows (Some (more_of w l)) (if s then after_solicited (option_map shown (if a then None else Some w)) l else option_map shown (if a then None else Some w))
-more_by w l true true e s = shows_answered (more_of w l) (ap has_final (answer-done w.command w.after l e) ∙ e)
-more_by w l true false e s = shows_answered (more_of w l) (ap has_final (answer-done w.command w.after l e) ∙ e)
-more_by w l false true e s = more_solicited w l (is_echo (shown w) l) (is_final l) e s refl refl
-more_by w l false false e s =
-    shows_open (more_of w l) (answer w.command w.after) (is_fresh w) e (answer-unsolicited w.command w.after l s) (is_fresh-unsolicited w.after l s)
+more_by : (dialect : Dialect) (w : Window) (l : List ℕ) (a s : Bool) → is_answered dialect w ≡ a → is_solicited dialect l ≡ s
+    → Shows dialect (Some (more_of w l)) (if s then after_solicited dialect (option_map (shown dialect) (if a then None else Some w)) l else option_map (shown dialect) (if a then None else Some w))
+more_by dialect w l true true e s = shows_answered dialect (more_of w l) (ap (has_final dialect) (answer-done dialect w.command w.after l e) ∙ e)
+more_by dialect w l true false e s = shows_answered dialect (more_of w l) (ap (has_final dialect) (answer-done dialect w.command w.after l e) ∙ e)
+more_by dialect w l false true e s = more_solicited dialect w l (is_echo (shown dialect w) l) (dialect.is_final l) e s refl refl
+more_by dialect w l false false e s =
+    shows_open dialect (more_of w l) (answer dialect w.command w.after) (is_fresh dialect w) e (answer-unsolicited dialect w.command w.after l s) (is_fresh-unsolicited dialect w.after l s)
 
 -- what a window shows goes on with a line by what it shows alone
-shows_more : (o : Option Window) (l : List ℕ) → Shows (window_more o l) (after_line (option_map shown (open_of o)) l)
-shows_more None l = at (is_solicited l)
+shows_more : (dialect : Dialect) (o : Option Window) (l : List ℕ) → Shows dialect (window_more o l) (after_line dialect (option_map (shown dialect) (open_of dialect o)) l)
+shows_more dialect None l = at (is_solicited dialect l)
   where
-    at : (b : Bool) → Shows None (if b then None else None)
+    at : (b : Bool) → Shows dialect None (if b then None else None)
     at true = refl
     at false = refl
-shows_more (Some w) l = more_by w l (is_answered w) (is_solicited l) refl refl
+shows_more dialect (Some w) l = more_by dialect w l (is_answered dialect w) (is_solicited dialect l) refl refl
 
-pub shows_line : (past : List Mark) (l : List ℕ) → after_line (option_map shown (open_window past)) l ≡ option_map shown (open_window (past ++ Line l ∷ []))
-shows_line past l = sym (rw (last_window-line past l) (shows_more (last_window past) l))
+pub shows_line : (dialect : Dialect) (past : List Mark) (l : List ℕ) → after_line dialect (option_map (shown dialect) (open_window dialect past)) l ≡ option_map (shown dialect) (open_window dialect (past ++ Line l ∷ []))
+shows_line dialect past l = sym (rw (last_window-line past l) (shows_more dialect (last_window past) l))
 
 -- ## What a line is
 
-abbrev IsSeen : Option Window → List ℕ → Seen → Type 0
-IsSeen o l seen = solicited_in (open_of o) l ≡ seen
+abbrev IsSeen : Dialect → Option Window → List ℕ → Seen → Type 0
+IsSeen dialect o l seen = solicited_in dialect (open_of dialect o) l ≡ seen
 
-seen_open : (w : Window) (l : List ℕ) (e f : Bool) → is_answered w ≡ false → is_solicited l ≡ true → is_echo (shown w) l ≡ e → is_final l ≡ f
-    → IsSeen (Some w) l (solicited_by (Some (shown w)) l)
-seen_open w l true f none s e g = rw (none, e) refl
-seen_open w l false f none s e g =
-    let more : answer w.command (w.after ++ l ∷ []) ≡ answer w.command w.after ++ l ∷ [] = answer-more w.command w.after l s none e in
-    rw (none, e) (rw (more, has_final-more (answer w.command w.after) l none, answer_lines-push (answer w.command w.after) l) refl)
+seen_open : (dialect : Dialect) (w : Window) (l : List ℕ) (e f : Bool) → is_answered dialect w ≡ false → is_solicited dialect l ≡ true → is_echo (shown dialect w) l ≡ e → dialect.is_final l ≡ f
+    → IsSeen dialect (Some w) l (solicited_by dialect (Some (shown dialect w)) l)
+seen_open dialect w l true f none s e g = rw (none, e) refl
+seen_open dialect w l false f none s e g =
+    let more : answer dialect w.command (w.after ++ l ∷ []) ≡ answer dialect w.command w.after ++ l ∷ [] = answer-more dialect w.command w.after l s none e in
+    rw (none, e) (rw (more, has_final-more dialect (answer dialect w.command w.after) l none, answer_lines-push (answer dialect w.command w.after) l) refl)
 
 -- without a window, or in one that is whole
-seen_by_answer : (w : Window) (l : List ℕ) (a : Bool) → is_answered w ≡ a → is_solicited l ≡ true
-    → IsSeen (Some w) l (solicited_by (option_map shown (if a then None else Some w)) l)
-seen_by_answer w l true e s = rw e refl
-seen_by_answer w l false e s = seen_open w l (is_echo (shown w) l) (is_final l) e s refl refl
+seen_by_answer : (dialect : Dialect) (w : Window) (l : List ℕ) (a : Bool) → is_answered dialect w ≡ a → is_solicited dialect l ≡ true
+    → IsSeen dialect (Some w) l (solicited_by dialect (option_map (shown dialect) (if a then None else Some w)) l)
+seen_by_answer dialect w l true e s = rw e refl
+seen_by_answer dialect w l false e s = seen_open dialect w l (is_echo (shown dialect w) l) (dialect.is_final l) e s refl refl
 
-seen_solicited : (o : Option Window) (l : List ℕ) → is_solicited l ≡ true → IsSeen o l (solicited_by (option_map shown (open_of o)) l)
-seen_solicited None l s = refl
-seen_solicited (Some w) l s = seen_by_answer w l (is_answered w) refl s
+seen_solicited : (dialect : Dialect) (o : Option Window) (l : List ℕ) → is_solicited dialect l ≡ true → IsSeen dialect o l (solicited_by dialect (option_map (shown dialect) (open_of dialect o)) l)
+seen_solicited dialect None l s = refl
+seen_solicited dialect (Some w) l s = seen_by_answer dialect w l (is_answered dialect w) refl s
 
-seen_by_kind : (k : Option UrcKind) (o : Option Window) (l : List ℕ) → unsolicited_of l ≡ k
-    → by_kind k (solicited_in (open_of o) l) ≡ by_kind k (solicited_by (option_map shown (open_of o)) l)
-seen_by_kind None o l e = seen_solicited o l (rw e refl)
-seen_by_kind (Some k) o l e = refl
+seen_by_kind : (dialect : Dialect) (k : Option UrcKind) (o : Option Window) (l : List ℕ) → dialect.kind_of l ≡ k
+    → by_kind k (solicited_in dialect (open_of dialect o) l) ≡ by_kind k (solicited_by dialect (option_map (shown dialect) (open_of dialect o)) l)
+seen_by_kind dialect None o l e = seen_solicited dialect o l (rw e refl)
+seen_by_kind dialect (Some k) o l e = refl
 
-pub seen_line : (past : List Mark) (l : List ℕ) → seen_by (option_map shown (open_window past)) l ≡ seen_after past l
-seen_line past l = sym (seen_by_kind (unsolicited_of l) (last_window past) l refl)
+pub seen_line : (dialect : Dialect) (past : List Mark) (l : List ℕ) → seen_by dialect (option_map (shown dialect) (open_window dialect past)) l ≡ seen_after dialect past l
+seen_line dialect past l = sym (seen_by_kind dialect (dialect.kind_of l) (last_window past) l refl)
 
 -- ## Commands in turn
 
@@ -246,52 +245,52 @@ split_last (z ∷ zs) (y ∷ ys) after m x e =
       | inr h ↦ let same : zs ≡ ys ++ x ∷ h.0 = h.1 in inr (h.0, cc)
     ]
 
-in_turn-line : (ms : List Mark) (l : List ℕ) → IsInTurn ms → IsInTurn (ms ++ Line l ∷ [])
-in_turn-line ms l turn before after c e =
+in_turn-line : (dialect : Dialect) (ms : List Mark) (l : List ℕ) → IsInTurn dialect ms → IsInTurn dialect (ms ++ Line l ∷ [])
+in_turn-line dialect ms l turn before after c e =
     elim (split_last ms before after (Line l) (Begun c) e) [
       | inl h ↦ let differ : Line l ≡ Begun c = h.0 in cc
       | inr h ↦ turn before h.0 c h.1
     ]
 
-in_turn-begun : (ms : List Mark) (d : List ℕ) → IsInTurn ms → open_window ms ≡ None → IsInTurn (ms ++ Begun d ∷ [])
-in_turn-begun ms d turn none before after c e =
+in_turn-begun : (dialect : Dialect) (ms : List Mark) (d : List ℕ) → IsInTurn dialect ms → open_window dialect ms ≡ None → IsInTurn dialect (ms ++ Begun d ∷ [])
+in_turn-begun dialect ms d turn none before after c e =
     elim (split_last ms before after (Begun d) (Begun c) e) [
       | inl h ↦ rw (← h.1) none
       | inr h ↦ turn before h.0 c h.1
     ]
 
-in_turn-none : IsInTurn []
-in_turn-none [] after c e = cc
-in_turn-none (m ∷ before) after c e = cc
+in_turn-none : (dialect : Dialect) → IsInTurn dialect []
+in_turn-none dialect [] after c e = cc
+in_turn-none dialect (m ∷ before) after c e = cc
 
 is_none-none : (o : Option OpenWindow) → IsNone o → o ≡ None
 is_none-none None e = refl
 is_none-none (Some w) e = cc
 
-none_shown : (o : Option Window) → option_map shown o ≡ None → o ≡ None
-none_shown None e = refl
-none_shown (Some w) e = cc
+none_shown : (dialect : Dialect) (o : Option Window) → option_map (shown dialect) o ≡ None → o ≡ None
+none_shown dialect None e = refl
+none_shown dialect (Some w) e = cc
 
 -- ## As a window's calls say it
 
-pub fits_nothing : (window : Option OpenWindow) → window ≡ None → FitsMarks window []
-fits_nothing window none = record { in_turn = in_turn-none; shows = none }
+pub fits_nothing : (dialect : Dialect) (window : Option OpenWindow) → window ≡ None → FitsMarks dialect window []
+fits_nothing dialect window none = record { in_turn = in_turn-none dialect; shows = none }
 
-pub sees : (window new : Option OpenWindow) (past : List Mark) (l : List ℕ) (seen : Seen) → FitsMarks window past → seen ≡ seen_by window l → new ≡ after_line window l → Sees past l seen new
-sees window new past l seen fits said after = record {
-  said = rw (said, fits.shows) (seen_line past l);
-  fits = record { in_turn = in_turn-line past l fits.in_turn; shows = rw (after, fits.shows) (shows_line past l) };
+pub sees : (dialect : Dialect) (window new : Option OpenWindow) (past : List Mark) (l : List ℕ) (seen : Seen) → FitsMarks dialect window past → seen ≡ seen_by dialect window l → new ≡ after_line dialect window l → Sees dialect past l seen new
+sees dialect window new past l seen fits said after = record {
+  said = rw (said, fits.shows) (seen_line dialect past l);
+  fits = record { in_turn = in_turn-line dialect past l fits.in_turn; shows = rw (after, fits.shows) (shows_line dialect past l) };
 }
 
-pub begins : (window new : Option OpenWindow) (past : List Mark) (c : List ℕ) → FitsMarks window past → IsNone window → new ≡ Some (opened c) → FitsMarks new (past ++ Begun c ∷ [])
-begins window new past c fits none opens = record {
-  in_turn = in_turn-begun past c fits.in_turn (none_shown (open_window past) (sym fits.shows ∙ is_none-none window none));
-  shows = rw opens (shows_begun past c);
+pub begins : (dialect : Dialect) (window new : Option OpenWindow) (past : List Mark) (c : List ℕ) → FitsMarks dialect window past → IsNone window → new ≡ Some (opened c) → FitsMarks dialect new (past ++ Begun c ∷ [])
+begins dialect window new past c fits none opens = record {
+  in_turn = in_turn-begun dialect past c fits.in_turn (none_shown dialect (open_window dialect past) (sym fits.shows ∙ is_none-none window none));
+  shows = rw opens (shows_begun dialect past c);
 }
 
 -- for callers: what lines are goes on with more marks
-pub seen_from-append : (past xs ys : List Mark) → seen_from past (xs ++ ys) ≡ seen_from past xs ++ seen_from (past ++ xs) ys
-seen_from-append past [] ys = rw append-nil refl
-seen_from-append past (Line l ∷ xs) ys =
-    rw (← append_assoc past (Line l ∷ []) xs) (ap (λ (v : List Seen). seen_after past l ∷ v) (seen_from-append (past ++ Line l ∷ []) xs ys))
-seen_from-append past (Begun c ∷ xs) ys = rw (← append_assoc past (Begun c ∷ []) xs) (seen_from-append (past ++ Begun c ∷ []) xs ys)
+pub seen_from-append : (dialect : Dialect) (past xs ys : List Mark) → seen_from dialect past (xs ++ ys) ≡ seen_from dialect past xs ++ seen_from dialect (past ++ xs) ys
+seen_from-append dialect past [] ys = rw append-nil refl
+seen_from-append dialect past (Line l ∷ xs) ys =
+    rw (← append_assoc past (Line l ∷ []) xs) (ap (λ (v : List Seen). seen_after dialect past l ∷ v) (seen_from-append dialect (past ++ Line l ∷ []) xs ys))
+seen_from-append dialect past (Begun c ∷ xs) ys = rw (← append_assoc past (Begun c ∷ []) xs) (seen_from-append dialect (past ++ Begun c ∷ []) xs ys)

@@ -6,8 +6,7 @@ use Rattle.at_text.specs.declared.answer.AnswerLine.{AnswerLine}
 use Rattle.at_text.specs.declared.unsolicited.UrcKind.{UrcKind}
 use Rattle.at_text.specs.declared.window.Seen.{Seen}
 use Rattle.at_text.specs.declared.window.Seen.TheVariants.{Echo, Kept, Done}
-use Rattle.at_text.specs.Finals.{is_final}
-use Rattle.at_text.specs.Unsolicited.{unsolicited_of, is_solicited}
+use Rattle.at_text.specs.Dialects.{Dialect, is_solicited}
 use Rattle.at_text.specs.Seeing.{by_kind}
 use Rattle.at_text.specs.OpenWindow.{OpenWindow, is_echo, with_line, solicited_by, after_solicited}
 use Rattle.at_text.specs.Forks.{led_by, led_seen, SeesApart, IsWhole}
@@ -15,9 +14,9 @@ use Rattle.at_text.specs.Forks.{led_by, led_seen, SeesApart, IsWhole}
 led : List AnswerLine → OpenWindow → OpenWindow
 led ls o = record o { lines = ls ++ o.lines }
 
-solicited_apart : (ls : List AnswerLine) (w : Option OpenWindow) (line : List ℕ) → solicited_by (led_by ls w) line ≡ led_seen ls (solicited_by w line)
-solicited_apart ls None line = refl
-solicited_apart ls (Some o) line = by_tests (is_echo o line) (is_final line)
+solicited_apart : (dialect : Dialect) (ls : List AnswerLine) (w : Option OpenWindow) (line : List ℕ) → solicited_by dialect (led_by ls w) line ≡ led_seen ls (solicited_by dialect w line)
+solicited_apart dialect ls None line = refl
+solicited_apart dialect ls (Some o) line = by_tests (is_echo o line) (dialect.is_final line)
   where
     more : List AnswerLine
     more = record { text = line } ∷ []
@@ -28,9 +27,9 @@ solicited_apart ls (Some o) line = by_tests (is_echo o line) (is_final line)
     by_tests false true = ap (λ (x : List AnswerLine). Done x) (append_assoc ls o.lines more)
     by_tests false false = refl
 
-after_apart : (ls : List AnswerLine) (w : Option OpenWindow) (line : List ℕ) → after_solicited (led_by ls w) line ≡ led_by ls (after_solicited w line)
-after_apart ls None line = refl
-after_apart ls (Some o) line = by_tests (is_echo o line) (is_final line)
+after_apart : (dialect : Dialect) (ls : List AnswerLine) (w : Option OpenWindow) (line : List ℕ) → after_solicited dialect (led_by ls w) line ≡ led_by ls (after_solicited dialect w line)
+after_apart dialect ls None line = refl
+after_apart dialect ls (Some o) line = by_tests (is_echo o line) (dialect.is_final line)
   where
     more : List AnswerLine
     more = record { text = line } ∷ []
@@ -46,14 +45,14 @@ kind_apart : (ls : List AnswerLine) (kind : Option UrcKind) (seen : Seen) → by
 kind_apart ls None seen = refl
 kind_apart ls (Some kind) seen = refl
 
-pub sees_apart : (ls : List AnswerLine) (w : Option OpenWindow) (line : List ℕ) → SeesApart ls w line
-sees_apart ls w line = record {
-  seen = ap (by_kind (unsolicited_of line)) (solicited_apart ls w line) ∙ kind_apart ls (unsolicited_of line) (solicited_by w line);
-  after = by_kind_of (is_solicited line);
+pub sees_apart : (dialect : Dialect) (ls : List AnswerLine) (w : Option OpenWindow) (line : List ℕ) → SeesApart dialect ls w line
+sees_apart dialect ls w line = record {
+  seen = ap (by_kind (dialect.kind_of line)) (solicited_apart dialect ls w line) ∙ kind_apart ls (dialect.kind_of line) (solicited_by dialect w line);
+  after = by_kind_of (is_solicited dialect line);
 }
   where
-    by_kind_of : (b : Bool) → (if b then after_solicited (led_by ls w) line else led_by ls w) ≡ led_by ls (if b then after_solicited w line else w)
-    by_kind_of true = after_apart ls w line
+    by_kind_of : (b : Bool) → (if b then after_solicited dialect (led_by ls w) line else led_by ls w) ≡ led_by ls (if b then after_solicited dialect w line else w)
+    by_kind_of true = after_apart dialect ls w line
     by_kind_of false = refl
 
 pub whole_again : (w : Option OpenWindow) → IsWhole w

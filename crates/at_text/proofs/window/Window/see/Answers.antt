@@ -1,5 +1,6 @@
+use Rattle.at_text.specs.Dialects.{standard}
 use Rattle.at_text.proofs.windows.AnswerWindows.{sees}
 use Rattle.at_text.proofs.window.Window.see.Goals as goal
 
 pub returns-clause-past : goal.returns-clause-past
-returns-clause-past c = λ past fits. sees c.args.self.now c.place.new.self past c.args.line.now c.in_ok-seen.seen fits c.in_ok-seen.ensures.seen c.in_ok-seen.ensures.after
+returns-clause-past c = λ past fits. sees standard c.args.self.now c.place.new.self past c.args.line.now c.in_ok-seen.seen fits c.in_ok-seen.ensures.seen c.in_ok-seen.ensures.after

@@ -1,0 +1,6 @@
+use Rattle.std.specs.Prelude.{refl, None}
+use Rattle.at_text.proofs.windows.AnswerWindows.{fits_nothing}
+use Rattle.at_text.proofs.window.Window.drop_command.Goals as goal
+
+pub returns-clause-past : goal.returns-clause-past
+returns-clause-past c = λ dialect. fits_nothing dialect None refl
