@@ -17,6 +17,7 @@ use Rattle.at_text.specs.declared.answer.AnswerLine.{AnswerLine}
 use Rattle.at_text.specs.declared.window.Seen as line_is
 use Rattle.at_text.specs.declared.window.Seen.TheVariants.{Echo, Kept, Unsolicited}
 use Rattle.at_text.specs.Lines.{lines}
+use Rattle.at_text.specs.Dialects.{Dialect, standard}
 use Rattle.at_text.specs.Windows.{Mark, Line}
 use Rattle.at_text.specs.Seeing.{seen_after}
 use Rattle.modem_desk.specs.declared.request.Ask.{Ask}
@@ -28,15 +29,16 @@ use Rattle.modem_history.specs.Acts.{Act, Took, Got, Sent, Told, Heard, Tick, Lo
 use Rattle.modem_history.specs.Information.{command_on}
 use Rattle.modem_history.specs.Placing.{marks, run_on}
 
--- whose history it is: the role, N1, and the kinds that are listened to
+-- whose history it is: the role, N1, the codes of the modem, and the kinds that are listened to
 pub record Setting : Type 0 where
   pub role : Role
   pub n1 : ℕ
+  pub dialect : Dialect
   pub listens : UrcKind → Bool
 
--- a replay's history: an initiator that listens to every kind
+-- a replay's history: an initiator of a standard modem that listens to every kind
 abbrev pub replaying : ℕ → Setting
-replaying n1 = record { role = Initiator; n1 = n1; listens = λ _. true }
+replaying n1 = record { role = Initiator; n1 = n1; dialect = standard; listens = λ _. true }
 
 -- ## Requests
 
@@ -241,7 +243,7 @@ by_seen s d owner line line_is.TheVariants.Other = heard s d Other line
 abbrev pub by_lines : Setting → ℕ → Option Request → List Mark → List (List ℕ) → List Act
 by_lines s d owner ms [] = []
 by_lines s d owner ms (line ∷ rest) =
-    by_seen s d owner line (seen_after ms line) ++ by_lines s d owner (ms ++ Line line ∷ []) rest
+    by_seen s d owner line (seen_after s.dialect ms line) ++ by_lines s d owner (ms ++ Line line ∷ []) rest
 
 abbrev pub lines_said : Setting → HistoryView → Act → List Act
 lines_said s v (Got f) =

@@ -10,6 +10,7 @@ use Rattle.mux_station.specs.Stopping.{is_stopped}
 use Rattle.mux_station.specs.Offering.{last_sender}
 use Rattle.mux_station.specs.Sending.{queue}
 use Rattle.mux_station.specs.GivenFrames.{Outgoing, with_freshness}
+use Rattle.at_text.specs.Dialects.{Dialect}
 use Rattle.at_text.specs.Windows.{answered}
 use Rattle.modem_history.specs.Acts.{Act, Sent, Given, wire}
 use Rattle.modem_history.specs.Information.{accepted, texts, information_out}
@@ -20,17 +21,17 @@ use Rattle.modem_history.specs.Lawful.{OnData}
 -- ## Data
 
 -- what may leave d: the accepted commands, joined as far as the first whose answer isn't whole
-abbrev pub may_leave : Role → ℕ → List Act → List ℕ
-may_leave r d past = concat (texts (take (answered (marks r d past) + 1) (accepted r d past)))
+abbrev pub may_leave : Dialect → Role → ℕ → List Act → List ℕ
+may_leave dialect r d past = concat (texts (take (answered dialect (marks r d past) + 1) (accepted r d past)))
 
 -- what waits on d: that without what left already
-abbrev pub waits_on : Role → ℕ → List Act → List ℕ
-waits_on r d past = drop (length (information_out r d past)) (may_leave r d past)
+abbrev pub waits_on : Dialect → Role → ℕ → List Act → List ℕ
+waits_on dialect r d past = drop (length (information_out r d past)) (may_leave dialect r d past)
 
 -- d is open and not stopped, and octets wait on it
-abbrev pub may_send : Role → List Act → ℕ → Bool
-may_send r past d =
-    is_open r d (wire past) && (not (is_stopped r d (wire past)) && not (length (waits_on r d past) == 0))
+abbrev pub may_send : Dialect → Role → List Act → ℕ → Bool
+may_send dialect r past d =
+    is_open r d (wire past) && (not (is_stopped r d (wire past)) && not (length (waits_on dialect r d past) == 0))
 
 -- the connections from d on, in rising order
 abbrev pub from_on : ℕ → List ℕ
@@ -41,21 +42,21 @@ else_by (Some d) o = Some d
 else_by None o = o
 
 -- whose turn it is: of those that are ready the least above the one that last sent data, else the least
-abbrev pub next_to_send : Role → List Act → Option ℕ
-next_to_send r past =
-    else_by (find (may_send r past) (from_on (last_sender (wire past) + 1)))
-    (find (may_send r past) (from_on 1))
+abbrev pub next_to_send : Dialect → Role → List Act → Option ℕ
+next_to_send dialect r past =
+    else_by (find (may_send dialect r past) (from_on (last_sender (wire past) + 1)))
+    (find (may_send dialect r past) (from_on 1))
 
 -- its frame: as many octets as wait, at most N1
 abbrev pub data_of : Setting → List Act → ℕ → Frame
-data_of s past d = written s.role Uih d (take s.n1 (waits_on s.role d past))
+data_of s past d = written s.role Uih d (take s.n1 (waits_on s.dialect s.role d past))
 
 -- ## What goes out
 
 -- the frame, fresh if it is data
 abbrev pub out_by : Setting → List Act → List Frame → Option Outgoing
 out_by s past (f ∷ fs) = Some (with_freshness false f)
-out_by s past [] = option_map (λ (d : ℕ). with_freshness true (data_of s past d)) (next_to_send s.role past)
+out_by s past [] = option_map (λ (d : ℕ). with_freshness true (data_of s past d)) (next_to_send s.dialect s.role past)
 
 -- nothing after a loss
 abbrev pub next_out : Setting → List Act → Option Outgoing

@@ -4,6 +4,7 @@ use Rattle.std.specs.Prelude.{◌≡◌, ℕ, ◌==◌, List, [], ◌∷◌, ◌
 use Rattle.std.specs.List.{flat_map}
 use Rattle.mux_station.specs.declared.role.Role.{Role}
 use Rattle.at_text.specs.declared.unsolicited.UrcKind.{UrcKind}
+use Rattle.at_text.specs.Dialects.{Dialect}
 use Rattle.at_text.specs.Windows.{Mark, lines_of}
 use Rattle.at_text.specs.Seeing.{seen_in}
 use Rattle.at_text.specs.Whole.{announced, NoneLost}
@@ -38,8 +39,8 @@ abbrev pub all_marks : Role → ℕ → List Act → List (List Mark)
 all_marks r d past = earlier_marks r d past ++ marks r d past ∷ []
 
 -- the lines of some marks that no answer holds and that are no echo, each with its kind, Other among them
-abbrev pub announced_in : List Mark → List (UrcKind × List ℕ)
-announced_in ms = announced (lines_of ms) (seen_in ms)
+abbrev pub announced_in : Dialect → List Mark → List (UrcKind × List ℕ)
+announced_in dialect ms = announced (lines_of ms) (seen_in dialect ms)
 
 -- those of a listened kind
 abbrev pub listened : Setting → List (UrcKind × List ℕ) → List (UrcKind × List ℕ)
@@ -47,18 +48,18 @@ listened s lines = filter (λ (p : UrcKind × List ℕ). s.listens p.0) lines
 
 -- all that is announced on d to a listener, over all its openings in turn
 abbrev pub listened_on : Setting → ℕ → List Act → List (UrcKind × List ℕ)
-listened_on s d past = listened s (flat_map announced_in (all_marks s.role d past))
+listened_on s d past = listened s (flat_map (announced_in s.dialect) (all_marks s.role d past))
 
 -- no line is lost or counted twice in any opening
-abbrev pub AreNoneLost : List (List Mark) → Type 0
-AreNoneLost [] = Unit {0}
-AreNoneLost (ms ∷ rest) = NoneLost ms × AreNoneLost rest
+abbrev pub AreNoneLost : Dialect → List (List Mark) → Type 0
+AreNoneLost dialect [] = Unit {0}
+AreNoneLost dialect (ms ∷ rest) = NoneLost dialect ms × AreNoneLost dialect rest
 
 -- what was heard on d is the beginning of all that is announced there, and the rest is owed; and what is
 -- announced are just the lines that are part of no answer and no echo, each once
 pub record Hears (s : Setting) (d : ℕ) (past : List Act) : Type 0 where
   pub in_order : was_heard d past ++ to_be_heard d (owed s past) ≡ listened_on s d past
-  pub each_once : AreNoneLost (all_marks s.role d past)
+  pub each_once : AreNoneLost s.dialect (all_marks s.role d past)
 
 unfoldable pub HearsInOrder : Setting → List Act → Type 0
 HearsInOrder s past = (d : ℕ) → Hears s d past

@@ -58,7 +58,7 @@ Once s past f =
 abbrev pub InTurn : Setting → List Act → Frame → Type 0
 InTurn s past f =
     IsTrue (nat_le (reached_in (length (information_out s.role f.dlci past ++ f.info))
-    (texts (accepted s.role f.dlci past))) (answered (marks s.role f.dlci past) + 1))
+    (texts (accepted s.role f.dlci past))) (answered s.dialect (marks s.role f.dlci past) + 1))
 
 -- ## The laws of an act
 
@@ -140,7 +140,7 @@ Complete s past = owed s past ≡ []
 abbrev pub is_quiet_on : Setting → ℕ → List Act → Bool
 is_quiet_on s d past =
     let ts = texts (accepted s.role d past) in
-    let given = answered (marks s.role d past) in
+    let given = answered s.dialect (marks s.role d past) in
     (length ts == given) || (whole_in (length (information_out s.role d past)) ts == given + 1)
 
 unfoldable pub Quiet : Setting → List Act → Type 0

@@ -3,6 +3,7 @@
 use Rattle.std.specs.Prelude.{ℕ, List, [], ◌∷◌, ◌++◌, None, codes}
 use Rattle.at_text.specs.declared.unsolicited.UrcKind.{UrcKind}
 use Rattle.at_text.specs.declared.unsolicited.UrcKind.TheVariants.{Ring, Creg}
+use Rattle.at_text.specs.Dialects.{standard}
 use Rattle.modem_desk.specs.declared.request.Ask.TheVariants.{OpenChannel, Command}
 use Rattle.modem_desk.specs.declared.request.Request.{Request}
 use Rattle.modem_desk.specs.declared.request.Answer.{Answer}
@@ -24,6 +25,7 @@ entry_answer = entry_text ++ codes "\r\nOK\r"
 abbrev pub beginning : Beginning
 beginning = record {
   n1 = 31;
+  dialect = standard;
   callers = 2;
   kinds = Ring ∷ Creg ∷ [];
   line = record { received = entry_answer; sent = entry_text; calls = 20; failures = 0; empty_reads = 0; stalled_writes = 0 };

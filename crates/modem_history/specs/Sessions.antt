@@ -11,6 +11,7 @@ use Rattle.mux_station.specs.declared.role.Role.TheVariants.{Initiator}
 use Rattle.mux_station.specs.Written.{is_data_frame}
 use Rattle.mux_station.specs.Sending.{queue}
 use Rattle.at_text.specs.declared.unsolicited.UrcKind.{UrcKind}
+use Rattle.at_text.specs.Dialects.{Dialect}
 use Rattle.modem_desk.specs.declared.request.Request.{Request}
 use Rattle.modem_desk.specs.declared.request.Outcome.{Outcome}
 use Rattle.modem_desk.specs.declared.request.Urc.{Urc}
@@ -44,10 +45,11 @@ pub record EndView : Type 0 where
   pub told_back : List ℕ
   pub announced_back : List ℕ
 
--- how a session began: its N1, how many callers its desk has and which kinds of lines it listens to, and what
--- its line and its desk's end had by then
+-- how a session began: its N1, the codes of its modem, how many callers its desk has and which kinds of lines it
+-- listens to, and what its line and its desk's end had by then
 pub record Beginning : Type 0 where
   pub n1 : ℕ
+  pub dialect : Dialect
   pub callers : ℕ
   pub kinds : List UrcKind
   pub line : LineView
@@ -70,7 +72,7 @@ pub record SessionView : Type 0 where
 
 -- its history is an initiator's, which listens to these kinds
 abbrev pub driving : Beginning → Setting
-driving b = record { role = Initiator; n1 = b.n1; listens = is_listened b.kinds }
+driving b = record { role = Initiator; n1 = b.n1; dialect = b.dialect; listens = is_listened b.kinds }
 
 -- ## Words for a history
 

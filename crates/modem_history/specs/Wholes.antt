@@ -86,7 +86,7 @@ LeavesOnce s past =
 -- the commands that began since d opened are those of the accepted that are wholly sent, each where no window
 -- is open
 pub record AreInTurn (s : Setting) (d : ℕ) (past : List Act) : Type 0 where
-  pub in_turn : IsInTurn (marks s.role d past)
+  pub in_turn : IsInTurn s.dialect (marks s.role d past)
   pub first : begun_in (marks s.role d past)
       ≡ map line_of (whole_after (length (information_out s.role d past)) (accepted s.role d past))
 
@@ -133,8 +133,8 @@ pub record EndsWindow (s : Setting) (past : List Act) (f : Frame) (ls : List Ans
   pub window : Window
   pub is_last : last_window (marks s.role f.dlci past ++
       map Line (take count (lines (run_on s.role f.dlci past ++ f.info)))) ≡ Some window
-  pub ended : is_answered window ≡ true
-  pub answer : ls ≡ answer_lines (answer_of window)
+  pub ended : is_answered s.dialect window ≡ true
+  pub answer : ls ≡ answer_lines (answer_of s.dialect window)
 
 -- a frame that came ended a window with this answer
 pub record HasAnswer (s : Setting) (past : List Act) (ls : List AnswerLine) : Type 0 where
@@ -166,7 +166,7 @@ commands_for d qs = filter (λ (q : Request). command_on d q.ask) qs
 pub record InStep (s : Setting) (d : ℕ) (past : List Act) : Type 0 where
   pub before : List Request
   pub accepted_are : accepted s.role d past ≡ before ++ commands_for d (in_hand past)
-  pub answered_are : answered (marks s.role d past) ≡ length before
+  pub answered_are : answered s.dialect (marks s.role d past) ≡ length before
 
 -- while d isn't open no command on it is in hand
 pub record OnChannel (s : Setting) (d : ℕ) (past : List Act) : Type 0 where
@@ -187,9 +187,9 @@ pub record IsOwnAnswer (s : Setting) (past : List Act) (f : Frame) (r : Request)
   pub before : List Request
   pub later : List Request
   pub accepted_are : accepted s.role f.dlci past ≡ before ++ r ∷ later
-  pub answered_are : answered (marks s.role f.dlci past) ≡ length before
+  pub answered_are : answered s.dialect (marks s.role f.dlci past) ≡ length before
   pub begun_are : begun_in (marks s.role f.dlci past) ≡ map line_of before ++ line_of r ∷ []
-  pub was_open : is_some (open_window (marks s.role f.dlci past)) ≡ true
+  pub was_open : is_some (open_window s.dialect (marks s.role f.dlci past)) ≡ true
   pub brings : (carries f.dlci f && is_open s.role f.dlci (wire past)) ≡ true
   pub ends : EndsWindow s past f ls
   pub own : ends.window.command ≡ line_of r

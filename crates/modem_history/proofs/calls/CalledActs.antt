@@ -106,8 +106,8 @@ line_said s d owner line line_is.TheVariants.Other = heard_said s d Other line
 lines_each_said : (s : Setting) (d : ℕ) (owner : Option Request) (ms : List Mark) (ls : List (List ℕ)) → Deliveries (by_lines s d owner ms ls)
 lines_each_said s d owner ms [] = refl
 lines_each_said s d owner ms (line ∷ rest) =
-    deliveries_both (by_seen s d owner line (seen_after ms line)) (by_lines s d owner (ms ++ Line line ∷ []) rest)
-    (line_said s d owner line (seen_after ms line)) (lines_each_said s d owner (ms ++ Line line ∷ []) rest)
+    deliveries_both (by_seen s d owner line (seen_after s.dialect ms line)) (by_lines s d owner (ms ++ Line line ∷ []) rest)
+    (line_said s d owner line (seen_after s.dialect ms line)) (lines_each_said s d owner (ms ++ Line line ∷ []) rest)
 
 lines_all_said : (s : Setting) (v : HistoryView) (a : Act) → Deliveries (lines_said s v a)
 lines_all_said s v (Got f) =

@@ -12,6 +12,7 @@ use Rattle.mux_station.specs.Acts as station
 use Rattle.mux_station.specs.Written.{is_kind, is_on, is_data_frame}
 use Rattle.mux_station.specs.Messages.{cld, brings_command}
 use Rattle.mux_station.specs.Opening.{since, since_after, opens, ends, opens_now, belongs, is_open}
+use Rattle.at_text.specs.Dialects.{Dialect}
 use Rattle.at_text.specs.Lines.{lines}
 use Rattle.at_text.specs.Windows.{Mark, Line, Begun, Window, IsInTurn, answered, open_window}
 use Rattle.at_text.specs.OpenWindow.{shown, opened, FitsMarks, seen_by, after_line}
@@ -55,56 +56,56 @@ begun_counted (Line l ∷ ms) = begun_counted ms
 begun_counted (Begun c ∷ ms) = let h = begun_counted ms in omega (arith, h)
 
 -- marks in turn, in both forms
-pub record Turns (ms : List Mark) : Type 0 where
-  pub in_turn : IsInTurn ms
-  pub order : IsInOrder ms
+pub record Turns (dialect : Dialect) (ms : List Mark) : Type 0 where
+  pub in_turn : IsInTurn dialect ms
+  pub order : IsInOrder dialect ms
 
-turns_none : Turns []
-turns_none = record { in_turn = (fits_nothing None refl).in_turn; order = tt }
+turns_none : (dialect : Dialect) → Turns dialect []
+turns_none dialect = record { in_turn = (fits_nothing dialect None refl).in_turn; order = tt }
 
-fits_itself : (ms : List Mark) → Turns ms → FitsMarks (option_map shown (open_window ms)) ms
-fits_itself ms t = record { in_turn = t.in_turn; shows = refl }
+fits_itself : (dialect : Dialect) (ms : List Mark) → Turns dialect ms → FitsMarks dialect (option_map (shown dialect) (open_window dialect ms)) ms
+fits_itself dialect ms t = record { in_turn = t.in_turn; shows = refl }
 
-turns_line : (ms : List Mark) (l : List ℕ) → Turns ms → Turns (ms ++ Line l ∷ [])
-turns_line ms l t =
-    let w = option_map shown (open_window ms) in
-    record { in_turn = (sees w (after_line w l) ms l (seen_by w l) (fits_itself ms t) refl refl).fits.in_turn; order = order_line ms l t.order }
+turns_line : (dialect : Dialect) (ms : List Mark) (l : List ℕ) → Turns dialect ms → Turns dialect (ms ++ Line l ∷ [])
+turns_line dialect ms l t =
+    let w = option_map (shown dialect) (open_window dialect ms) in
+    record { in_turn = (sees dialect w (after_line dialect w l) ms l (seen_by dialect w l) (fits_itself dialect ms t) refl refl).fits.in_turn; order = order_line dialect ms l t.order }
 
-pub turns_lines : (ls : List (List ℕ)) (ms : List Mark) → Turns ms → Turns (ms ++ map Line ls)
-turns_lines [] ms t = subst Turns (sym (append-nil ms)) t
-turns_lines (l ∷ ls) ms t = subst Turns (append_assoc ms (Line l ∷ []) (map Line ls)) (turns_lines ls (ms ++ Line l ∷ []) (turns_line ms l t))
+pub turns_lines : (dialect : Dialect) (ls : List (List ℕ)) (ms : List Mark) → Turns dialect ms → Turns dialect (ms ++ map Line ls)
+turns_lines dialect [] ms t = subst (Turns dialect) (sym (append-nil ms)) t
+turns_lines dialect (l ∷ ls) ms t = subst (Turns dialect) (append_assoc ms (Line l ∷ []) (map Line ls)) (turns_lines dialect ls (ms ++ Line l ∷ []) (turns_line dialect ms l t))
 
-turns_begun : (ms : List Mark) (c : List ℕ) → open_window ms ≡ None → Turns ms → Turns (ms ++ Begun c ∷ [])
-turns_begun ms c none t =
-    let w = option_map shown (open_window ms) in
-    let closed : IsNone w = subst (λ (o : Option Window). IsNone (option_map shown o)) (sym none) refl in
-    record { in_turn = (begins w (Some (opened c)) ms c (fits_itself ms t) closed refl).in_turn; order = order_begun ms c none t.order }
+turns_begun : (dialect : Dialect) (ms : List Mark) (c : List ℕ) → open_window dialect ms ≡ None → Turns dialect ms → Turns dialect (ms ++ Begun c ∷ [])
+turns_begun dialect ms c none t =
+    let w = option_map (shown dialect) (open_window dialect ms) in
+    let closed : IsNone w = subst (λ (o : Option Window). IsNone (option_map (shown dialect) o)) (sym none) refl in
+    record { in_turn = (begins dialect w (Some (opened c)) ms c (fits_itself dialect ms t) closed refl).in_turn; order = order_begun dialect ms c none t.order }
 
 pub none_open : (o : Option Window) → open_count o ≡ 0 → o ≡ None
 none_open None e = refl
 none_open (Some w) e = cc
 
 -- commands begin, one at most, and only where all before are answered
-turns_few : (ms : List Mark) (qs : List Request) → Turns ms → begun_count ms + length qs ≤ answered ms + 1 → Turns (ms ++ marks_of qs)
-turns_few ms [] t h = subst Turns (sym (append-nil ms)) t
-turns_few ms (q ∷ []) t h =
-    let all = counts ms t.order in
-    let none : open_count (open_window ms) ≡ 0 = omega (arith, all, h) in
-    turns_begun ms (line_of q) (none_open (open_window ms) none) t
-turns_few ms (q ∷ r ∷ qs) t h = absurd (let all = counts ms t.order in omega (arith, all, h))
+turns_few : (dialect : Dialect) (ms : List Mark) (qs : List Request) → Turns dialect ms → begun_count ms + length qs ≤ answered dialect ms + 1 → Turns dialect (ms ++ marks_of qs)
+turns_few dialect ms [] t h = subst (Turns dialect) (sym (append-nil ms)) t
+turns_few dialect ms (q ∷ []) t h =
+    let all = counts dialect ms t.order in
+    let none : open_count (open_window dialect ms) ≡ 0 = omega (arith, all, h) in
+    turns_begun dialect ms (line_of q) (none_open (open_window dialect ms) none) t
+turns_few dialect ms (q ∷ r ∷ qs) t h = absurd (let all = counts dialect ms t.order in omega (arith, all, h))
 
 -- ## What is kept
 
-pub record Kept (ms : List Mark) (out : List ℕ) (qs : List Request) : Type 0 where
-  pub turns : Turns ms
+pub record Kept (dialect : Dialect) (ms : List Mark) (out : List ℕ) (qs : List Request) : Type 0 where
+  pub turns : Turns dialect ms
   pub first : begun_in ms ≡ map line_of (whole_after (length out) qs)
 
-kept_none : Kept [] [] []
-kept_none = record { turns = turns_none; first = refl }
+kept_none : (dialect : Dialect) → Kept dialect [] [] []
+kept_none dialect = record { turns = turns_none dialect; first = refl }
 
-kept_lines : (ms : List Mark) (out : List ℕ) (qs : List Request) (ls : List (List ℕ)) → Kept ms out qs → Kept (ms ++ map Line ls) out qs
-kept_lines ms out qs ls k = record {
-  turns = turns_lines ls ms k.turns;
+kept_lines : (dialect : Dialect) (ms : List Mark) (out : List ℕ) (qs : List Request) (ls : List (List ℕ)) → Kept dialect ms out qs → Kept dialect (ms ++ map Line ls) out qs
+kept_lines dialect ms out qs ls k = record {
+  turns = turns_lines dialect ls ms k.turns;
   first = begun_append ms (map Line ls) ∙ (ap (λ (v : List (List ℕ)). begun_in ms ++ v) (begun_lines ls) ∙ (append-nil (begun_in ms) ∙ k.first));
 }
 
@@ -115,8 +116,8 @@ pub texts_counted : (qs : List Request) → length (texts qs) ≡ length qs
 texts_counted [] = refl
 texts_counted (q ∷ qs) = ap suc (texts_counted qs)
 
-kept_accepted : (ms : List Mark) (out : List ℕ) (qs : List Request) (q : Request) → IsPrefixOf out (concat (texts qs)) → Kept ms out qs → Kept ms out (qs ++ q ∷ [])
-kept_accepted ms out qs q p k =
+kept_accepted : (dialect : Dialect) (ms : List Mark) (out : List ℕ) (qs : List Request) (q : Request) → IsPrefixOf out (concat (texts qs)) → Kept dialect ms out qs → Kept dialect ms out (qs ++ q ∷ [])
+kept_accepted dialect ms out qs q p k =
     let n = length out in
     let text = line_of q ++ 13 ∷ [] in
     let long : 0 < length text = omega (arith, length-append (line_of q) (13 ∷ [])) in
@@ -127,9 +128,9 @@ kept_accepted ms out qs q p k =
     let whole : whole_after n (qs ++ q ∷ []) ≡ whole_after n qs = ap (λ (m : ℕ). take m (qs ++ q ∷ [])) same ∙ take-append-le (whole_in n (texts qs)) qs (q ∷ []) few in
     record { turns = k.turns; first = k.first ∙ sym (ap (map line_of) whole) }
 
-kept_sent : (ms : List Mark) (out chunk : List ℕ) (qs : List Request) → reached_in (length (out ++ chunk)) (texts qs) ≤ answered ms + 1 → Kept ms out qs
-    → Kept (ms ++ marks_of (drop (whole_in (length out) (texts qs)) (whole_after (length out + length chunk) qs))) (out ++ chunk) qs
-kept_sent ms out chunk qs turn k =
+kept_sent : (dialect : Dialect) (ms : List Mark) (out chunk : List ℕ) (qs : List Request) → reached_in (length (out ++ chunk)) (texts qs) ≤ answered dialect ms + 1 → Kept dialect ms out qs
+    → Kept dialect (ms ++ marks_of (drop (whole_in (length out) (texts qs)) (whole_after (length out + length chunk) qs))) (out ++ chunk) qs
+kept_sent dialect ms out chunk qs turn k =
     let n = length out in
     let m = length out + length chunk in
     let size : length (out ++ chunk) ≡ m = length-append out chunk in
@@ -149,13 +150,13 @@ kept_sent ms out chunk qs turn k =
     let begun : begun_count ms ≡ before =
     sym (begun_counted ms) ∙ (ap length k.first ∙ (length-map (whole_after n qs) line_of ∙ length-take-le before qs (omega (arith, more, few)))) in
     let reached : after ≤ reached_in m (texts qs) = whole_reached m (texts qs) (texts_filled qs) in
-    let turn_now : reached_in m (texts qs) ≤ answered ms + 1 = subst (λ (x : ℕ). reached_in x (texts qs) ≤ answered ms + 1) size turn in
+    let turn_now : reached_in m (texts qs) ≤ answered dialect ms + 1 = subst (λ (x : ℕ). reached_in x (texts qs) ≤ answered dialect ms + 1) size turn in
     let placed : begun_in (ms ++ marks_of new) ≡ map line_of (whole_after m qs) =
     begun_append ms (marks_of new) ∙ (ap (λ (v : List (List ℕ)). v ++ begun_in (marks_of new)) k.first
     ∙ (ap (λ (v : List (List ℕ)). map line_of (whole_after n qs) ++ v) (begun_commands new)
     ∙ (sym (map-append line_of (whole_after n qs) new) ∙ ap (map line_of) (ap (λ (v : List Request). v ++ new) (sym old) ∙ split)))) in
     record {
-      turns = turns_few ms new k.turns (omega (arith, counted, begun, reached, turn_now));
+      turns = turns_few dialect ms new k.turns (omega (arith, counted, begun, reached, turn_now));
       first = placed ∙ ap (λ (x : ℕ). map line_of (whole_after x qs)) (sym size);
     }
 
@@ -178,32 +179,32 @@ opens_by_mark Initiator z k d = refl
 opens_by_mark Responder z k d = refl
 
 -- an act by which nothing opens, and nothing leaves
-kept_idle : (o b : Bool) (d : ℕ) (a : station.Act) (rest : List station.Act) (ms : List Mark) (qs : List Request) → o ≡ false → info_sent d (a ∷ rest) ≡ info_sent d rest
-    → Kept ms (info_sent d rest) qs → Kept ms (info_sent d (since_after o b a rest)) (if o then [] else qs)
-kept_idle true b d a rest ms qs e h k = cc
-kept_idle false true d a rest ms qs e h k = subst (λ (v : List ℕ). Kept ms v qs) (sym h) k
-kept_idle false false d a rest ms qs e h k = k
+kept_idle : (dialect : Dialect) (o b : Bool) (d : ℕ) (a : station.Act) (rest : List station.Act) (ms : List Mark) (qs : List Request) → o ≡ false → info_sent d (a ∷ rest) ≡ info_sent d rest
+    → Kept dialect ms (info_sent d rest) qs → Kept dialect ms (info_sent d (since_after o b a rest)) (if o then [] else qs)
+kept_idle dialect true b d a rest ms qs e h k = cc
+kept_idle dialect false true d a rest ms qs e h k = subst (λ (v : List ℕ). Kept dialect ms v qs) (sym h) k
+kept_idle dialect false false d a rest ms qs e h k = k
 
 -- a frame that comes
-kept_got : (o b c : Bool) (d : ℕ) (f : Frame) (rest : List station.Act) (ms : List Mark) (qs : List Request) (ls : List (List ℕ)) → Kept ms (info_sent d rest) qs
-    → Kept (if o then [] else (if c then ms ++ map Line ls else ms)) (info_sent d (since_after o b (station.Got f) rest)) (if o then [] else qs)
-kept_got true b c d f rest ms qs ls k = kept_none
-kept_got false true true d f rest ms qs ls k = kept_lines ms (info_sent d rest) qs ls k
-kept_got false false true d f rest ms qs ls k = kept_lines ms (info_sent d rest) qs ls k
-kept_got false true false d f rest ms qs ls k = k
-kept_got false false false d f rest ms qs ls k = k
+kept_got : (dialect : Dialect) (o b c : Bool) (d : ℕ) (f : Frame) (rest : List station.Act) (ms : List Mark) (qs : List Request) (ls : List (List ℕ)) → Kept dialect ms (info_sent d rest) qs
+    → Kept dialect (if o then [] else (if c then ms ++ map Line ls else ms)) (info_sent d (since_after o b (station.Got f) rest)) (if o then [] else qs)
+kept_got dialect true b c d f rest ms qs ls k = kept_none dialect
+kept_got dialect false true true d f rest ms qs ls k = kept_lines dialect ms (info_sent d rest) qs ls k
+kept_got dialect false false true d f rest ms qs ls k = kept_lines dialect ms (info_sent d rest) qs ls k
+kept_got dialect false true false d f rest ms qs ls k = k
+kept_got dialect false false false d f rest ms qs ls k = k
 
 -- a frame that leaves
-kept_leaves : (o b c i : Bool) (d : ℕ) (f : Frame) (rest : List station.Act) (ms more : List Mark) (qs : List Request) → o ≡ false → carries d f ≡ c → (c ≡ true → (b ≡ true) × (i ≡ true))
-    → Kept ms (info_sent d rest) qs → (c ≡ true → Kept (ms ++ more) (info_sent d rest ++ f.info) qs)
-    → Kept (if c && i then ms ++ more else ms) (info_sent d (since_after o b (station.Sent f) rest)) (if o then [] else qs)
-kept_leaves true b c i d f rest ms more qs e h w k l = cc
-kept_leaves false true true true d f rest ms more qs e h w k l = subst (λ (x : Bool). Kept (ms ++ more) (info_sent d rest ++ (if x then f.info else [])) qs) (sym h) (l refl)
-kept_leaves false b true false d f rest ms more qs e h w k l = absurd (let g : false ≡ true = (w refl).1 in cc)
-kept_leaves false false true true d f rest ms more qs e h w k l = absurd (let g : false ≡ true = (w refl).0 in cc)
-kept_leaves false true false i d f rest ms more qs e h w k l =
-    subst (λ (x : Bool). Kept ms (info_sent d rest ++ (if x then f.info else [])) qs) (sym h) (subst (λ (v : List ℕ). Kept ms v qs) (sym (append-nil (info_sent d rest))) k)
-kept_leaves false false false i d f rest ms more qs e h w k l = k
+kept_leaves : (dialect : Dialect) (o b c i : Bool) (d : ℕ) (f : Frame) (rest : List station.Act) (ms more : List Mark) (qs : List Request) → o ≡ false → carries d f ≡ c → (c ≡ true → (b ≡ true) × (i ≡ true))
+    → Kept dialect ms (info_sent d rest) qs → (c ≡ true → Kept dialect (ms ++ more) (info_sent d rest ++ f.info) qs)
+    → Kept dialect (if c && i then ms ++ more else ms) (info_sent d (since_after o b (station.Sent f) rest)) (if o then [] else qs)
+kept_leaves dialect true b c i d f rest ms more qs e h w k l = cc
+kept_leaves dialect false true true true d f rest ms more qs e h w k l = subst (λ (x : Bool). Kept dialect (ms ++ more) (info_sent d rest ++ (if x then f.info else [])) qs) (sym h) (l refl)
+kept_leaves dialect false b true false d f rest ms more qs e h w k l = absurd (let g : false ≡ true = (w refl).1 in cc)
+kept_leaves dialect false false true true d f rest ms more qs e h w k l = absurd (let g : false ≡ true = (w refl).0 in cc)
+kept_leaves dialect false true false i d f rest ms more qs e h w k l =
+    subst (λ (x : Bool). Kept dialect ms (info_sent d rest ++ (if x then f.info else [])) qs) (sym h) (subst (λ (v : List ℕ). Kept dialect ms v qs) (sym (append-nil (info_sent d rest))) k)
+kept_leaves dialect false false false i d f rest ms more qs e h w k l = k
 
 -- ## Whole histories
 
@@ -244,48 +245,48 @@ data_belongs s d past f c h =
     let as_data : f ≡ data_on d f = is_data f c.is_data ∙ ap (λ (e : ℕ). data_on e f) c.same in
     belongs_by (is_open s.role d (wire past)) (ends z d (station.Sent f)) h (ap (λ (g : Frame). ends z d (station.Sent g)) as_data ∙ data_ends_none z d d f c.apart)
 
-kept_taken : (b : Bool) (ms : List Mark) (out : List ℕ) (qs : List Request) (q : Request) → IsPrefixOf out (concat (texts qs)) → Kept ms out qs → Kept ms out (if b then qs ++ q ∷ [] else qs)
-kept_taken true ms out qs q p k = kept_accepted ms out qs q p k
-kept_taken false ms out qs q p k = k
+kept_taken : (dialect : Dialect) (b : Bool) (ms : List Mark) (out : List ℕ) (qs : List Request) (q : Request) → IsPrefixOf out (concat (texts qs)) → Kept dialect ms out qs → Kept dialect ms out (if b then qs ++ q ∷ [] else qs)
+kept_taken dialect true ms out qs q p k = kept_accepted dialect ms out qs q p k
+kept_taken dialect false ms out qs q p k = k
 
 -- a data frame is gated, and in its turn
 gated_open : (s : Setting) (past owing : List Act) (d : ℕ) (f : Frame) → When (is_data_frame f) (Gated s past owing f) → Carried d f → is_open s.role d (wire past) ≡ true
 gated_open s past owing d f w c = subst (λ (m : ℕ). is_open s.role m (wire past) ≡ true) c.same (when_true (is_data_frame f) c.is_data w).is_open
 
 turn_on : (s : Setting) (past : List Act) (d : ℕ) (f : Frame) → When (is_data_frame f) (InTurn s past f) → Carried d f
-    → reached_in (length (information_out s.role d past ++ f.info)) (texts (accepted s.role d past)) ≤ answered (marks s.role d past) + 1
+    → reached_in (length (information_out s.role d past ++ f.info)) (texts (accepted s.role d past)) ≤ answered s.dialect (marks s.role d past) + 1
 turn_on s past d f w c =
-    subst (λ (m : ℕ). reached_in (length (information_out s.role m past ++ f.info)) (texts (accepted s.role m past)) ≤ answered (marks s.role m past) + 1) c.same
+    subst (λ (m : ℕ). reached_in (length (information_out s.role m past ++ f.info)) (texts (accepted s.role m past)) ≤ answered s.dialect (marks s.role m past) + 1) c.same
     (le_of _ _ (when_true (is_data_frame f) c.is_data w))
 
-pub kept : (s : Setting) (past : List Act) → Lawful s past → (d : ℕ) → Kept (marks s.role d past) (information_out s.role d past) (accepted s.role d past)
+pub kept : (s : Setting) (past : List Act) → Lawful s past → (d : ℕ) → Kept s.dialect (marks s.role d past) (information_out s.role d past) (accepted s.role d past)
 unfolding Lawful
-kept s [] l d = kept_none
+kept s [] l d = kept_none s.dialect
 kept s (Took q ∷ past) l d =
-    kept_taken (is_accepted s.role d past q) (marks s.role d past) (information_out s.role d past) (accepted s.role d past) q (leaves_once s past l.1 d) (kept s past l.1 d)
+    kept_taken s.dialect (is_accepted s.role d past q) (marks s.role d past) (information_out s.role d past) (accepted s.role d past) q (leaves_once s past l.1 d) (kept s past l.1 d)
 kept s (Told o ∷ past) l d = kept s past l.1 d
 kept s (Heard kind e line ∷ past) l d = kept s past l.1 d
 kept s (Held e ∷ past) l d = kept s past l.1 d
 kept s (Freed e ∷ past) l d = kept s past l.1 d
 kept s (Got f ∷ past) l d =
-    kept_got (opens_now s.role d (wire past) (station.Got f)) (belongs s.role d (wire past) (station.Got f)) (carries d f && is_open s.role d (wire past)) d f (since s.role d (wire past))
+    kept_got s.dialect (opens_now s.role d (wire past) (station.Got f)) (belongs s.role d (wire past) (station.Got f)) (carries d f && is_open s.role d (wire past)) d f (since s.role d (wire past))
     (marks s.role d past) (accepted s.role d past) (lines (run_on s.role d past ++ f.info)) (kept s past l.1 d)
 kept s (Tick ∷ past) l d =
-    kept_idle (opens_now s.role d (wire past) station.Tick) (belongs s.role d (wire past) station.Tick) d station.Tick (since s.role d (wire past))
+    kept_idle s.dialect (opens_now s.role d (wire past) station.Tick) (belongs s.role d (wire past) station.Tick) d station.Tick (since s.role d (wire past))
     (marks s.role d past) (accepted s.role d past) (opens_by_tick s.role _ _ d) refl (kept s past l.1 d)
 kept s (Lost ∷ past) l d =
-    kept_idle (opens_now s.role d (wire past) station.Lost) (belongs s.role d (wire past) station.Lost) d station.Lost (since s.role d (wire past))
+    kept_idle s.dialect (opens_now s.role d (wire past) station.Lost) (belongs s.role d (wire past) station.Lost) d station.Lost (since s.role d (wire past))
     (marks s.role d past) (accepted s.role d past) (opens_by_loss s.role _ _ d) refl (kept s past l.1 d)
 kept s (Given ∷ past) l d =
-    kept_idle (opens_now s.role d (wire past) station.Given) (belongs s.role d (wire past) station.Given) d station.Given (since s.role d (wire past))
+    kept_idle s.dialect (opens_now s.role d (wire past) station.Given) (belongs s.role d (wire past) station.Given) d station.Given (since s.role d (wire past))
     (marks s.role d past) (accepted s.role d past) (opens_by_mark s.role _ _ d) refl (kept s past l.1 d)
 kept s (Sent f ∷ past) l d =
     let before = kept s past l.1 d in
     let gone : carries d f ≡ true → is_open s.role d (wire past) ≡ true = λ e. gated_open s past (owed s past) d f l.0.gated (carried d f e) in
-    kept_leaves (opens_now s.role d (wire past) (station.Sent f)) (belongs s.role d (wire past) (station.Sent f)) (carries d f) (is_open s.role d (wire past)) d f (since s.role d (wire past))
+    kept_leaves s.dialect (opens_now s.role d (wire past) (station.Sent f)) (belongs s.role d (wire past) (station.Sent f)) (carries d f) (is_open s.role d (wire past)) d f (since s.role d (wire past))
     (marks s.role d past) (begun_placed s.role d past f) (accepted s.role d past) (opens_by_sent s.role _ _ d f) refl
     (λ e. (data_belongs s d past f (carried d f e) (gone e), gone e)) before
-    (λ e. kept_sent (marks s.role d past) (information_out s.role d past) f.info (accepted s.role d past) (turn_on s past d f l.0.in_turn (carried d f e)) before)
+    (λ e. kept_sent s.dialect (marks s.role d past) (information_out s.role d past) f.info (accepted s.role d past) (turn_on s past d f l.0.in_turn (carried d f e)) before)
 
 pub begins_in_turn : (s : Setting) (past : List Act) → Lawful s past → BeginsInTurn s past
 unfolding BeginsInTurn

@@ -9,6 +9,7 @@ use Rattle.at_text.specs.declared.unsolicited.UrcKind.{UrcKind}
 use Rattle.at_text.specs.declared.unsolicited.UrcKind.TheVariants.{Other}
 use Rattle.at_text.specs.declared.window.Seen as line_is
 use Rattle.at_text.specs.declared.window.Seen.TheVariants.{Echo, Kept, Unsolicited}
+use Rattle.at_text.specs.Dialects.{Dialect}
 use Rattle.at_text.specs.Windows.{Mark, Line, Begun, lines_of}
 use Rattle.at_text.specs.Seeing.{seen_after, seen_from, kind_of}
 use Rattle.at_text.specs.Whole.{announced}
@@ -25,28 +26,28 @@ abbrev pub announced_one : line_is.Seen → List ℕ → List (UrcKind × List �
 announced_one x line rest = cons_option (option_map (λ (kind : UrcKind). (kind, line)) (kind_of x)) rest
 
 -- what later marks announce, after earlier ones
-abbrev pub announced_from : List Mark → List Mark → List (UrcKind × List ℕ)
-announced_from past ms = announced (lines_of ms) (seen_from past ms)
+abbrev pub announced_from : Dialect → List Mark → List Mark → List (UrcKind × List ℕ)
+announced_from dialect past ms = announced (lines_of ms) (seen_from dialect past ms)
 
 one_before : (o : Option (UrcKind × List ℕ)) (xs ys : List (UrcKind × List ℕ)) → cons_option o (xs ++ ys) ≡ cons_option o xs ++ ys
 one_before None xs ys = refl
 one_before (Some p) xs ys = refl
 
-pub announced_both : (past xs ys : List Mark) → announced_from past (xs ++ ys) ≡ announced_from past xs ++ announced_from (past ++ xs) ys
-announced_both past [] ys = ap (λ (v : List Mark). announced_from v ys) (sym (append-nil past))
-announced_both past (Line l ∷ xs) ys =
+pub announced_both : (dialect : Dialect) (past xs ys : List Mark) → announced_from dialect past (xs ++ ys) ≡ announced_from dialect past xs ++ announced_from dialect (past ++ xs) ys
+announced_both dialect past [] ys = ap (λ (v : List Mark). announced_from dialect v ys) (sym (append-nil past))
+announced_both dialect past (Line l ∷ xs) ys =
     let next = past ++ Line l ∷ [] in
-    let x = seen_after past l in
-    ap (announced_one x l) (announced_both next xs ys ∙ ap (λ (v : List Mark). announced_from next xs ++ announced_from v ys) (append_assoc past (Line l ∷ []) xs))
-    ∙ one_before (option_map (λ (kind : UrcKind). (kind, l)) (kind_of x)) (announced_from next xs) (announced_from (past ++ Line l ∷ xs) ys)
-announced_both past (Begun c ∷ xs) ys =
+    let x = seen_after dialect past l in
+    ap (announced_one x l) (announced_both dialect next xs ys ∙ ap (λ (v : List Mark). announced_from dialect next xs ++ announced_from dialect v ys) (append_assoc past (Line l ∷ []) xs))
+    ∙ one_before (option_map (λ (kind : UrcKind). (kind, l)) (kind_of x)) (announced_from dialect next xs) (announced_from dialect (past ++ Line l ∷ xs) ys)
+announced_both dialect past (Begun c ∷ xs) ys =
     let next = past ++ Begun c ∷ [] in
-    announced_both next xs ys ∙ ap (λ (v : List Mark). announced_from next xs ++ announced_from v ys) (append_assoc past (Begun c ∷ []) xs)
+    announced_both dialect next xs ys ∙ ap (λ (v : List Mark). announced_from dialect next xs ++ announced_from dialect v ys) (append_assoc past (Begun c ∷ []) xs)
 
 -- commands announce nothing
-pub announced_commands : (past : List Mark) (qs : List Request) → announced_from past (map (λ (q : Request). Begun (line_of q)) qs) ≡ []
-announced_commands past [] = refl
-announced_commands past (q ∷ qs) = announced_commands (past ++ Begun (line_of q) ∷ []) qs
+pub announced_commands : (dialect : Dialect) (past : List Mark) (qs : List Request) → announced_from dialect past (map (λ (q : Request). Begun (line_of q)) qs) ≡ []
+announced_commands dialect past [] = refl
+announced_commands dialect past (q ∷ qs) = announced_commands dialect (past ++ Begun (line_of q) ∷ []) qs
 
 -- ## What is to be heard
 
@@ -96,12 +97,12 @@ one_first None rest = refl
 one_first (Some p) rest = refl
 
 -- what lines call for on their connection is what they announce
-pub lines_heard : (s : Setting) (d : ℕ) (owner : Option Request) (ms : List Mark) (ls : List (List ℕ)) → to_be_heard d (by_lines s d owner ms ls) ≡ listened s (announced_from ms (map Line ls))
+pub lines_heard : (s : Setting) (d : ℕ) (owner : Option Request) (ms : List Mark) (ls : List (List ℕ)) → to_be_heard d (by_lines s d owner ms ls) ≡ listened s (announced_from s.dialect ms (map Line ls))
 lines_heard s d owner ms [] = refl
 lines_heard s d owner ms (l ∷ ls) =
-    let x = seen_after ms l in
+    let x = seen_after s.dialect ms l in
     let next = ms ++ Line l ∷ [] in
-    let rest = announced_from next (map Line ls) in
+    let rest = announced_from s.dialect next (map Line ls) in
     heard_both d (by_seen s d owner l x) (by_lines s d owner next ls)
     ∙ (ap (λ (v : List (UrcKind × List ℕ)). v ++ to_be_heard d (by_lines s d owner next ls)) (line_heard s d owner l x)
     ∙ (ap (λ (v : List (UrcKind × List ℕ)). listened s (announced_one x l []) ++ v) (lines_heard s d owner next ls)
@@ -131,7 +132,7 @@ none_both (x ∷ xs) ys e f = cc
 pub lines_elsewhere : (s : Setting) (d e : ℕ) (owner : Option Request) (ms : List Mark) (ls : List (List ℕ)) → (e == d) ≡ false → to_be_heard d (by_lines s e owner ms ls) ≡ []
 lines_elsewhere s d e owner ms [] h = refl
 lines_elsewhere s d e owner ms (l ∷ ls) h =
-    let x = seen_after ms l in
+    let x = seen_after s.dialect ms l in
     let rest = by_lines s e owner (ms ++ Line l ∷ []) ls in
     heard_both d (by_seen s e owner l x) rest
     ∙ none_both (to_be_heard d (by_seen s e owner l x)) (to_be_heard d rest) (line_elsewhere s d e owner l x h) (lines_elsewhere s d e owner (ms ++ Line l ∷ []) ls h)

@@ -14,6 +14,7 @@ use Rattle.mux_station.specs.Opening.{is_open, opens}
 use Rattle.mux_station.specs.States.{State, is_opened, state_of}
 use Rattle.mux_station.proofs.states.OpenedStates.{opened_is_open}
 use Rattle.at_text.specs.declared.unsolicited.UrcKind.{UrcKind}
+use Rattle.at_text.specs.Dialects.{Dialect}
 use Rattle.at_text.specs.Lines.{lines}
 use Rattle.at_text.specs.Windows.{Mark, Line}
 use Rattle.at_text.proofs.windows.AllLines.{none_lost}
@@ -97,8 +98,8 @@ none_if d true said h = h
 none_if d false said h = refl
 
 -- information on an open connection announces its lines, any other frame nothing
-lines_if : (d : ℕ) (o k z : Bool) (s : Setting) (said : List Act) (ms new : List Mark) → to_be_heard d said ≡ listened s (announced_from ms new)
-    → to_be_heard d (if o && (k && not z) then said else []) ≡ listened s (announced_from ms (placed_if ((not z && (k && true)) && o) new))
+lines_if : (d : ℕ) (o k z : Bool) (s : Setting) (said : List Act) (ms new : List Mark) → to_be_heard d said ≡ listened s (announced_from s.dialect ms new)
+    → to_be_heard d (if o && (k && not z) then said else []) ≡ listened s (announced_from s.dialect ms (placed_if ((not z && (k && true)) && o) new))
 lines_if d true true false s said ms new h = h
 lines_if d false true false s said ms new h = refl
 lines_if d true false false s said ms new h = refl
@@ -116,7 +117,7 @@ said_on s past owing f e =
     then by_lines s e (first_on e v.waiting) (marks s.role e past) (lines (run_on s.role e past ++ f.info)) else []
 
 frame_here : (s : Setting) (past owing : List Act) (f : Frame) (d : ℕ) → (f.dlci == d) ≡ true
-    → to_be_heard d (said_on s past owing f d) ≡ listened s (announced_from (marks s.role d past) (placed_if (carries d f && is_open s.role d (wire past)) (lines_placed s.role d past f)))
+    → to_be_heard d (said_on s past owing f d) ≡ listened s (announced_from s.dialect (marks s.role d past) (placed_if (carries d f && is_open s.role d (wire past)) (lines_placed s.role d past f)))
 frame_here s past owing f d h =
     let v = seen_behind s past owing in
     let ms = marks s.role d past in
@@ -127,10 +128,10 @@ frame_here s past owing f d h =
     let o = is_open s.role d (wire past) in
     ap (λ (b : Bool). to_be_heard d (if b && (k && not z) then said else [])) (opened_is_open s.role (wire past) d)
     ∙ (lines_if d o k z s said ms (map Line ls) (lines_heard s d (first_on d v.waiting) ms ls)
-    ∙ ap (λ (b : Bool). listened s (announced_from ms (placed_if ((not z && (k && b)) && o) (map Line ls)))) (sym h))
+    ∙ ap (λ (b : Bool). listened s (announced_from s.dialect ms (placed_if ((not z && (k && b)) && o) (map Line ls)))) (sym h))
 
 frame_by : (s : Setting) (past owing : List Act) (f : Frame) (d : ℕ) (b : Bool) → (f.dlci == d) ≡ b
-    → to_be_heard d (said_on s past owing f f.dlci) ≡ listened s (announced_from (marks s.role d past) (placed_if (carries d f && is_open s.role d (wire past)) (lines_placed s.role d past f)))
+    → to_be_heard d (said_on s past owing f f.dlci) ≡ listened s (announced_from s.dialect (marks s.role d past) (placed_if (carries d f && is_open s.role d (wire past)) (lines_placed s.role d past f)))
 frame_by s past owing f d true h =
     ap (λ (e : ℕ). to_be_heard d (said_on s past owing f e)) (eqb-true f.dlci d h) ∙ frame_here s past owing f d h
 frame_by s past owing f d false h =
@@ -139,10 +140,10 @@ frame_by s past owing f d false h =
     let ls = lines (run_on s.role f.dlci past ++ f.info) in
     let c = is_opened (state_of s.role f.dlci (wire past)) && (is_kind f.kind Uih && not (f.dlci == 0)) in
     none_if d c (by_lines s f.dlci (first_on f.dlci v.waiting) ms ls) (lines_elsewhere s d f.dlci (first_on f.dlci v.waiting) ms ls h)
-    ∙ ap (λ (b : Bool). listened s (announced_from (marks s.role d past) (placed_if (b && is_open s.role d (wire past)) (lines_placed s.role d past f)))) (sym (not_carried (d == 0) (is_kind f.kind Uih) (f.dlci == d) h))
+    ∙ ap (λ (b : Bool). listened s (announced_from s.dialect (marks s.role d past) (placed_if (b && is_open s.role d (wire past)) (lines_placed s.role d past f)))) (sym (not_carried (d == 0) (is_kind f.kind Uih) (f.dlci == d) h))
 
 frame_heard : (s : Setting) (past owing : List Act) (f : Frame) (d : ℕ)
-    → to_be_heard d (calls_behind s past owing (Got f)) ≡ listened s (announced_from (marks s.role d past) (placed_if (carries d f && is_open s.role d (wire past)) (lines_placed s.role d past f)))
+    → to_be_heard d (calls_behind s past owing (Got f)) ≡ listened s (announced_from s.dialect (marks s.role d past) (placed_if (carries d f && is_open s.role d (wire past)) (lines_placed s.role d past f)))
 frame_heard s past owing f d = calls_heard d s past owing (Got f) ∙ frame_by s past owing f d (f.dlci == d) refl
 
 -- a frame that opens carries nothing
@@ -192,43 +193,43 @@ heard_next d e k line xs owing n =
 
 -- ## All that is announced
 
-on_both : (s : Setting) (before : List (List Mark)) (ms : List Mark) → listened s (flat_map announced_in (before ++ ms ∷ [])) ≡ listened s (flat_map announced_in before) ++ listened s (announced_in ms)
+on_both : (s : Setting) (before : List (List Mark)) (ms : List Mark) → listened s (flat_map (announced_in s.dialect) (before ++ ms ∷ [])) ≡ listened s (flat_map (announced_in s.dialect) before) ++ listened s (announced_in s.dialect ms)
 on_both s before ms =
-    ap (listened s) (flat_map-append announced_in before (ms ∷ []))
-    ∙ (listened_both s (flat_map announced_in before) (announced_in ms ++ [])
-    ∙ ap (λ (v : Heards). listened s (flat_map announced_in before) ++ listened s v) (append-nil (announced_in ms)))
+    ap (listened s) (flat_map-append (announced_in s.dialect) before (ms ∷ []))
+    ∙ (listened_both s (flat_map (announced_in s.dialect) before) (announced_in s.dialect ms ++ [])
+    ∙ ap (λ (v : Heards). listened s (flat_map (announced_in s.dialect) before) ++ listened s v) (append-nil (announced_in s.dialect ms)))
 
 -- more marks are placed
 on_more : (s : Setting) (before : List (List Mark)) (ms new : List Mark)
-    → listened s (flat_map announced_in (before ++ (ms ++ new) ∷ [])) ≡ listened s (flat_map announced_in (before ++ ms ∷ [])) ++ listened s (announced_from ms new)
+    → listened s (flat_map (announced_in s.dialect) (before ++ (ms ++ new) ∷ [])) ≡ listened s (flat_map (announced_in s.dialect) (before ++ ms ∷ [])) ++ listened s (announced_from s.dialect ms new)
 on_more s before ms new =
-    let old = listened s (flat_map announced_in before) in
+    let old = listened s (flat_map (announced_in s.dialect) before) in
     on_both s before (ms ++ new)
-    ∙ (ap (λ (v : Heards). old ++ listened s v) (announced_both [] ms new)
-    ∙ (ap (λ (v : Heards). old ++ v) (listened_both s (announced_in ms) (announced_from ms new))
-    ∙ (sym (append_assoc old (listened s (announced_in ms)) (listened s (announced_from ms new)))
-    ∙ ap (λ (v : Heards). v ++ listened s (announced_from ms new)) (sym (on_both s before ms)))))
+    ∙ (ap (λ (v : Heards). old ++ listened s v) (announced_both s.dialect [] ms new)
+    ∙ (ap (λ (v : Heards). old ++ v) (listened_both s (announced_in s.dialect ms) (announced_from s.dialect ms new))
+    ∙ (sym (append_assoc old (listened s (announced_in s.dialect ms)) (listened s (announced_from s.dialect ms new)))
+    ∙ ap (λ (v : Heards). v ++ listened s (announced_from s.dialect ms new)) (sym (on_both s before ms)))))
 
 -- an opening begins with nothing
-on_next : (s : Setting) (before : List (List Mark)) → listened s (flat_map announced_in (before ++ [] ∷ [])) ≡ listened s (flat_map announced_in before)
-on_next s before = on_both s before [] ∙ append-nil (listened s (flat_map announced_in before))
+on_next : (s : Setting) (before : List (List Mark)) → listened s (flat_map (announced_in s.dialect) (before ++ [] ∷ [])) ≡ listened s (flat_map (announced_in s.dialect) before)
+on_next s before = on_both s before [] ∙ append-nil (listened s (flat_map (announced_in s.dialect) before))
 
 -- a frame opens d, carries information, or neither
 got_on : (s : Setting) (o c : Bool) (before : List (List Mark)) (ms new : List Mark) → (o ≡ true → c ≡ false)
-    → listened s (flat_map announced_in ((before ++ (if o then ms ∷ [] else [])) ++ (if o then [] else (if c then ms ++ new else ms)) ∷ []))
-    ≡ listened s (flat_map announced_in (before ++ ms ∷ [])) ++ listened s (announced_from ms (placed_if c new))
+    → listened s (flat_map (announced_in s.dialect) ((before ++ (if o then ms ∷ [] else [])) ++ (if o then [] else (if c then ms ++ new else ms)) ∷ []))
+    ≡ listened s (flat_map (announced_in s.dialect) (before ++ ms ∷ [])) ++ listened s (announced_from s.dialect ms (placed_if c new))
 got_on s true true before ms new h = absurd (let e : true ≡ false = h refl in cc)
-got_on s true false before ms new h = on_next s (before ++ ms ∷ []) ∙ sym (append-nil (listened s (flat_map announced_in (before ++ ms ∷ []))))
+got_on s true false before ms new h = on_next s (before ++ ms ∷ []) ∙ sym (append-nil (listened s (flat_map (announced_in s.dialect) (before ++ ms ∷ []))))
 got_on s false true before ms new h =
-    ap (λ (v : List (List Mark)). listened s (flat_map announced_in (v ++ (ms ++ new) ∷ []))) (append-nil before) ∙ on_more s before ms new
+    ap (λ (v : List (List Mark)). listened s (flat_map (announced_in s.dialect) (v ++ (ms ++ new) ∷ []))) (append-nil before) ∙ on_more s before ms new
 got_on s false false before ms new h =
-    ap (λ (v : List (List Mark)). listened s (flat_map announced_in (v ++ ms ∷ []))) (append-nil before)
-    ∙ sym (append-nil (listened s (flat_map announced_in (before ++ ms ∷ []))))
+    ap (λ (v : List (List Mark)). listened s (flat_map (announced_in s.dialect) (v ++ ms ∷ []))) (append-nil before)
+    ∙ sym (append-nil (listened s (flat_map (announced_in s.dialect) (before ++ ms ∷ []))))
 
 -- commands that go out
-sent_on : (s : Setting) (c : Bool) (before : List (List Mark)) (ms new : List Mark) → announced_from ms new ≡ []
-    → listened s (flat_map announced_in (before ++ (if c then ms ++ new else ms) ∷ [])) ≡ listened s (flat_map announced_in (before ++ ms ∷ []))
-sent_on s true before ms new h = on_more s before ms new ∙ (ap (λ (v : Heards). listened s (flat_map announced_in (before ++ ms ∷ [])) ++ listened s v) h ∙ append-nil (listened s (flat_map announced_in (before ++ ms ∷ []))))
+sent_on : (s : Setting) (c : Bool) (before : List (List Mark)) (ms new : List Mark) → announced_from s.dialect ms new ≡ []
+    → listened s (flat_map (announced_in s.dialect) (before ++ (if c then ms ++ new else ms) ∷ [])) ≡ listened s (flat_map (announced_in s.dialect) (before ++ ms ∷ []))
+sent_on s true before ms new h = on_more s before ms new ∙ (ap (λ (v : Heards). listened s (flat_map (announced_in s.dialect) (before ++ ms ∷ [])) ++ listened s v) h ∙ append-nil (listened s (flat_map (announced_in s.dialect) (before ++ ms ∷ []))))
 sent_on s false before ms new h = refl
 
 -- ## Whole histories
@@ -251,11 +252,11 @@ sent_by : (d : ℕ) (b : Bool) (owing : List Act) (f : Frame) → When (not b) (
 sent_by d true owing f n = refl
 sent_by d false owing f n = silent_next d owing (Sent f) n (λ later. refl)
 
-begun_silent : (r : Role) (d : ℕ) (past : List Act) (f : Frame) → announced_from (marks r d past) (begun_placed r d past f) ≡ []
-begun_silent r d past f =
+begun_silent : (dialect : Dialect) (r : Role) (d : ℕ) (past : List Act) (f : Frame) → announced_from dialect (marks r d past) (begun_placed r d past f) ≡ []
+begun_silent dialect r d past f =
     let out = length (information_out r d past) in
     let qs = accepted r d past in
-    announced_commands (marks r d past) (drop (whole_in out (texts qs)) (whole_after (out + length f.info) qs))
+    announced_commands dialect (marks r d past) (drop (whole_in out (texts qs)) (whole_after (out + length f.info) qs))
 
 both_false : (a b : Bool) → a ≡ false → (a && b) ≡ false
 both_false true b e = cc
@@ -277,30 +278,30 @@ hears s (Heard k e line ∷ past) l d = heard_next d e k line (was_heard d past)
 hears s (Sent f ∷ past) l d =
     ap (λ (v : Heards). was_heard d past ++ v) (sent_by d (is_data_frame f) (owed s past) f l.0.controlled)
     ∙ (hears s past l.1 d
-    ∙ sym (sent_on s (carries d f && is_open s.role d (wire past)) (earlier_marks s.role d past) (marks s.role d past) (begun_placed s.role d past f) (begun_silent s.role d past f)))
+    ∙ sym (sent_on s (carries d f && is_open s.role d (wire past)) (earlier_marks s.role d past) (marks s.role d past) (begun_placed s.role d past f) (begun_silent s.dialect s.role d past f)))
 hears s (Got f ∷ past) l d =
     let c = carries d f && is_open s.role d (wire past) in
     let new = lines_placed s.role d past f in
-    more_owed d (was_heard d past) (listened_on s d past) (listened s (announced_from (marks s.role d past) (placed_if c new))) (owed s past) (calls_behind s past (owed s past) (Got f))
+    more_owed d (was_heard d past) (listened_on s d past) (listened s (announced_from s.dialect (marks s.role d past) (placed_if c new))) (owed s past) (calls_behind s past (owed s past) (Got f))
     (hears s past l.1 d) (frame_heard s past (owed s past) f d)
     ∙ sym (got_on s (opens_here s.role d past (Got f)) c (earlier_marks s.role d past) (marks s.role d past) new
     (λ h. both_false (carries d f) (is_open s.role d (wire past)) (opens_bare s.role _ _ d f h)))
 
 -- no line is lost in any opening
-none_lost_more : (xs : List (List Mark)) (ms : List Mark) → AreNoneLost xs → AreNoneLost (ms ∷ []) → AreNoneLost (xs ++ ms ∷ [])
-none_lost_more [] ms h k = k
-none_lost_more (x ∷ xs) ms h k = (h.0, none_lost_more xs ms h.1 k)
+none_lost_more : (dialect : Dialect) (xs : List (List Mark)) (ms : List Mark) → AreNoneLost dialect xs → AreNoneLost dialect (ms ∷ []) → AreNoneLost dialect (xs ++ ms ∷ [])
+none_lost_more dialect [] ms h k = k
+none_lost_more dialect (x ∷ xs) ms h k = (h.0, none_lost_more dialect xs ms h.1 k)
 
-earlier_if : (b : Bool) (xs : List (List Mark)) (ms : List Mark) → AreNoneLost xs → AreNoneLost (ms ∷ []) → AreNoneLost (xs ++ (if b then ms ∷ [] else []))
-earlier_if true xs ms h k = none_lost_more xs ms h k
-earlier_if false xs ms h k = subst AreNoneLost (sym (append-nil xs)) h
+earlier_if : (dialect : Dialect) (b : Bool) (xs : List (List Mark)) (ms : List Mark) → AreNoneLost dialect xs → AreNoneLost dialect (ms ∷ []) → AreNoneLost dialect (xs ++ (if b then ms ∷ [] else []))
+earlier_if dialect true xs ms h k = none_lost_more dialect xs ms h k
+earlier_if dialect false xs ms h k = subst (AreNoneLost dialect) (sym (append-nil xs)) h
 
-earlier_kept : (s : Setting) (past : List Act) → Lawful s past → (d : ℕ) → AreNoneLost (earlier_marks s.role d past)
+earlier_kept : (s : Setting) (past : List Act) → Lawful s past → (d : ℕ) → AreNoneLost s.dialect (earlier_marks s.role d past)
 unfolding Lawful
 earlier_kept s [] l d = tt
 earlier_kept s (Got f ∷ past) l d =
-    earlier_if (opens_here s.role d past (Got f)) (earlier_marks s.role d past) (marks s.role d past)
-    (earlier_kept s past l.1 d) (none_lost (marks s.role d past) (kept s past l.1 d).turns.in_turn, tt)
+    earlier_if s.dialect (opens_here s.role d past (Got f)) (earlier_marks s.role d past) (marks s.role d past)
+    (earlier_kept s past l.1 d) (none_lost s.dialect (marks s.role d past) (kept s past l.1 d).turns.in_turn, tt)
 earlier_kept s (Took r ∷ past) l d = earlier_kept s past l.1 d
 earlier_kept s (Sent f ∷ past) l d = earlier_kept s past l.1 d
 earlier_kept s (Told o ∷ past) l d = earlier_kept s past l.1 d
@@ -311,10 +312,10 @@ earlier_kept s (Held e ∷ past) l d = earlier_kept s past l.1 d
 earlier_kept s (Freed e ∷ past) l d = earlier_kept s past l.1 d
 earlier_kept s (Given ∷ past) l d = earlier_kept s past l.1 d
 
-each_once : (s : Setting) (past : List Act) → Lawful s past → (d : ℕ) → AreNoneLost (all_marks s.role d past)
+each_once : (s : Setting) (past : List Act) → Lawful s past → (d : ℕ) → AreNoneLost s.dialect (all_marks s.role d past)
 each_once s past l d =
-    none_lost_more (earlier_marks s.role d past) (marks s.role d past) (earlier_kept s past l d)
-    (none_lost (marks s.role d past) (kept s past l d).turns.in_turn, tt)
+    none_lost_more s.dialect (earlier_marks s.role d past) (marks s.role d past) (earlier_kept s past l d)
+    (none_lost s.dialect (marks s.role d past) (kept s past l d).turns.in_turn, tt)
 
 pub hears_in_order : (s : Setting) (past : List Act) → Lawful s past → HearsInOrder s past
 unfolding HearsInOrder

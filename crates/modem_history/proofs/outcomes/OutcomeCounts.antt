@@ -18,12 +18,11 @@ use Rattle.at_text.specs.declared.unsolicited.UrcKind.TheVariants.{Other}
 use Rattle.at_text.specs.declared.answer.AnswerLine.{AnswerLine}
 use Rattle.at_text.specs.declared.window.Seen as line_is
 use Rattle.at_text.specs.declared.window.Seen.TheVariants.{Echo, Kept, Done, Unsolicited}
-use Rattle.at_text.specs.Unsolicited.{unsolicited_of}
+use Rattle.at_text.specs.Dialects.{Dialect}
 use Rattle.at_text.specs.Lines.{lines}
 use Rattle.at_text.specs.Windows.{Mark, Line, Window, open_window}
 use Rattle.at_text.specs.Seeing.{by_kind, seen_after}
 use Rattle.at_text.specs.OpenWindow.{OpenWindow, shown, is_echo, seen_by, after_line}
-use Rattle.at_text.specs.Finals.{is_final}
 use Rattle.at_text.proofs.windows.AnswerWindows.{shows_line, seen_line}
 use Rattle.modem_desk.specs.declared.request.Ask.{Ask}
 use Rattle.modem_desk.specs.declared.request.Ask.TheVariants.{OpenChannel, CloseChannel, Command, Probe, Stop}
@@ -171,32 +170,32 @@ pub no_final : (k : Option UrcKind) (ls : List AnswerLine) → by_kind k line_is
 no_final None ls e = let g : line_is.TheVariants.Other ≡ Done ls = e in cc
 no_final (Some k) ls e = let g : Unsolicited k ≡ Done ls = e in cc
 
-closed_by : (w : Option OpenWindow) (l : List ℕ) (ls : List AnswerLine) → seen_by w l ≡ Done ls → after_line w l ≡ None
-closed_by None l ls e = absurd (no_final (unsolicited_of l) ls e)
-closed_by (Some o) l ls e =
-    final_closes (unsolicited_of l) (is_echo o l) (is_final l) o _ _ _ ls e
+closed_by : (dialect : Dialect) (w : Option OpenWindow) (l : List ℕ) (ls : List AnswerLine) → seen_by dialect w l ≡ Done ls → after_line dialect w l ≡ None
+closed_by dialect None l ls e = absurd (no_final (dialect.kind_of l) ls e)
+closed_by dialect (Some o) l ls e =
+    final_closes (dialect.kind_of l) (is_echo o l) (dialect.is_final l) o _ _ _ ls e
 
-none_shown : (o : Option Window) → option_map shown o ≡ None → o ≡ None
-none_shown None e = refl
-none_shown (Some w) e = cc
+none_shown : (dialect : Dialect) (o : Option Window) → option_map (shown dialect) o ≡ None → o ≡ None
+none_shown dialect None e = refl
+none_shown dialect (Some w) e = cc
 
-pub done_closes : (ms : List Mark) (l : List ℕ) (ls : List AnswerLine) → seen_after ms l ≡ Done ls → open_window (ms ++ Line l ∷ []) ≡ None
-done_closes ms l ls e =
-    let seen : seen_by (option_map shown (open_window ms)) l ≡ Done ls = seen_line ms l ∙ e in
-    none_shown (open_window (ms ++ Line l ∷ [])) (sym (shows_line ms l) ∙ closed_by (option_map shown (open_window ms)) l ls seen)
+pub done_closes : (dialect : Dialect) (ms : List Mark) (l : List ℕ) (ls : List AnswerLine) → seen_after dialect ms l ≡ Done ls → open_window dialect (ms ++ Line l ∷ []) ≡ None
+done_closes dialect ms l ls e =
+    let seen : seen_by dialect (option_map (shown dialect) (open_window dialect ms)) l ≡ Done ls = seen_line dialect ms l ∙ e in
+    none_shown dialect (open_window dialect (ms ++ Line l ∷ [])) (sym (shows_line dialect ms l) ∙ closed_by dialect (option_map (shown dialect) (open_window dialect ms)) l ls seen)
 
 closed_after : (b : Bool) (x y : Option OpenWindow) → x ≡ None → y ≡ None → (if b then x else y) ≡ None
 closed_after true x y e h = e
 closed_after false x y e h = h
 
-pub stays_closed : (ms : List Mark) (l : List ℕ) → open_window ms ≡ None → open_window (ms ++ Line l ∷ []) ≡ None
-stays_closed ms l e =
-    none_shown (open_window (ms ++ Line l ∷ []))
-    (sym (shows_line ms l) ∙ (ap (λ (w : Option Window). after_line (option_map shown w) l) e ∙ closed_after (is_none (unsolicited_of l)) None None refl refl))
+pub stays_closed : (dialect : Dialect) (ms : List Mark) (l : List ℕ) → open_window dialect ms ≡ None → open_window dialect (ms ++ Line l ∷ []) ≡ None
+stays_closed dialect ms l e =
+    none_shown dialect (open_window dialect (ms ++ Line l ∷ []))
+    (sym (shows_line dialect ms l) ∙ (ap (λ (w : Option Window). after_line dialect (option_map (shown dialect) w) l) e ∙ closed_after (is_none (dialect.kind_of l)) None None refl refl))
 
-pub closed_tells_none : (ms : List Mark) (l : List ℕ) (ls : List AnswerLine) → open_window ms ≡ None → seen_after ms l ≡ Done ls → ⊥
-closed_tells_none ms l ls e h =
-    no_final (unsolicited_of l) ls (ap (λ (w : Option Window). seen_by (option_map shown w) l) (sym e) ∙ (seen_line ms l ∙ h))
+pub closed_tells_none : (dialect : Dialect) (ms : List Mark) (l : List ℕ) (ls : List AnswerLine) → open_window dialect ms ≡ None → seen_after dialect ms l ≡ Done ls → ⊥
+closed_tells_none dialect ms l ls e h =
+    no_final (dialect.kind_of l) ls (ap (λ (w : Option Window). seen_by dialect (option_map (shown dialect) w) l) (sym e) ∙ (seen_line dialect ms l ∙ h))
 
 heard_tells_none : (r : Request) (b : Bool) (d : ℕ) (kind : UrcKind) (l : List ℕ) → told_to r (if b then Heard kind d l ∷ [] else []) ≡ 0
 heard_tells_none r true d kind l = refl
@@ -219,20 +218,20 @@ other_tells_none s d owner r l (Done ls) never = absurd (never ls refl)
 other_tells_none s d owner r l (Unsolicited kind) never = heard_tells_none r (s.listens kind) d kind l
 other_tells_none s d owner r l line_is.TheVariants.Other never = heard_tells_none r (s.listens Other) d Other l
 
-closed_lines : (s : Setting) (d : ℕ) (owner : Option Request) (r : Request) (ms : List Mark) (ls : List (List ℕ)) → open_window ms ≡ None → told_to r (by_lines s d owner ms ls) ≡ 0
+closed_lines : (s : Setting) (d : ℕ) (owner : Option Request) (r : Request) (ms : List Mark) (ls : List (List ℕ)) → open_window s.dialect ms ≡ None → told_to r (by_lines s d owner ms ls) ≡ 0
 closed_lines s d owner r ms [] e = refl
 closed_lines s d owner r ms (l ∷ ls) e =
-    let here = other_tells_none s d owner r l (seen_after ms l) (λ (x : List AnswerLine). closed_tells_none ms l x e) in
-    let rest = closed_lines s d owner r (ms ++ Line l ∷ []) ls (stays_closed ms l e) in
-    told_append r (by_seen s d owner l (seen_after ms l)) (by_lines s d owner (ms ++ Line l ∷ []) ls) ∙ omega (arith, here, rest)
+    let here = other_tells_none s d owner r l (seen_after s.dialect ms l) (λ (x : List AnswerLine). closed_tells_none s.dialect ms l x e) in
+    let rest = closed_lines s d owner r (ms ++ Line l ∷ []) ls (stays_closed s.dialect ms l e) in
+    told_append r (by_seen s d owner l (seen_after s.dialect ms l)) (by_lines s d owner (ms ++ Line l ∷ []) ls) ∙ omega (arith, here, rest)
 
 -- of the lines from here on at most one is Done
-line_first : (s : Setting) (d : ℕ) (owner : Option Request) (r : Request) (ms : List Mark) (l : List ℕ) (ls : List (List ℕ)) (x : line_is.Seen) → seen_after ms l ≡ x
+line_first : (s : Setting) (d : ℕ) (owner : Option Request) (r : Request) (ms : List Mark) (l : List ℕ) (ls : List (List ℕ)) (x : line_is.Seen) → seen_after s.dialect ms l ≡ x
     → told_to r (by_lines s d owner (ms ++ Line l ∷ []) ls) ≤ many r (as_list owner)
     → told_to r (by_seen s d owner l x) + told_to r (by_lines s d owner (ms ++ Line l ∷ []) ls) ≤ many r (as_list owner)
 line_first s d owner r ms l ls (Done got) e h =
     let here = line_tells s d owner r l (Done got) in
-    let rest = closed_lines s d owner r (ms ++ Line l ∷ []) ls (done_closes ms l got e) in
+    let rest = closed_lines s d owner r (ms ++ Line l ∷ []) ls (done_closes s.dialect ms l got e) in
     omega (arith, here, rest)
 line_first s d owner r ms l ls Echo e h = omega (arith, h)
 line_first s d owner r ms l ls Kept e h = omega (arith, h)
@@ -242,8 +241,8 @@ line_first s d owner r ms l ls line_is.TheVariants.Other e h = let here = heard_
 lines_within : (s : Setting) (d : ℕ) (owner : Option Request) (r : Request) (ms : List Mark) (ls : List (List ℕ)) → told_to r (by_lines s d owner ms ls) ≤ many r (as_list owner)
 lines_within s d owner r ms [] = omega arith
 lines_within s d owner r ms (l ∷ ls) =
-    let both = told_append r (by_seen s d owner l (seen_after ms l)) (by_lines s d owner (ms ++ Line l ∷ []) ls) in
-    let parts = line_first s d owner r ms l ls (seen_after ms l) refl (lines_within s d owner r (ms ++ Line l ∷ []) ls) in
+    let both = told_append r (by_seen s d owner l (seen_after s.dialect ms l)) (by_lines s d owner (ms ++ Line l ∷ []) ls) in
+    let parts = line_first s d owner r ms l ls (seen_after s.dialect ms l) refl (lines_within s d owner r (ms ++ Line l ∷ []) ls) in
     omega (arith, both, parts)
 
 -- ## A data frame

@@ -55,15 +55,15 @@ record Next (s : Setting) (d : ℕ) (past : List Act) (r : Request) : Type 0 whe
   before : List Request
   later : List Request
   accepted_are : accepted s.role d past ≡ before ++ r ∷ later
-  answered_are : answered (marks s.role d past) ≡ length before
+  answered_are : answered s.dialect (marks s.role d past) ≡ length before
   begun : begun_in (marks s.role d past) ≡ map line_of before ++ line_of r ∷ []
-  was_open : is_some (open_window (marks s.role d past)) ≡ true
+  was_open : is_some (open_window s.dialect (marks s.role d past)) ≡ true
 
 tail_of : (cs : List Request) (r : Request) → Some r ≡ head_of cs → (later : List Request) × (cs ≡ r ∷ later)
 tail_of [] r e = cc
 tail_of (q ∷ qs) r e = let same : r ≡ q = cc in (qs, ap (λ (x : Request). x ∷ qs) (sym same))
 
-next_by : (s : Setting) (d : ℕ) (past : List Act) (r : Request) (w : Window) → Lawful s past → Kept s d past → is_open s.role d (wire past) ≡ true → open_window (marks s.role d past) ≡ Some w
+next_by : (s : Setting) (d : ℕ) (past : List Act) (r : Request) (w : Window) → Lawful s past → Kept s d past → is_open s.role d (wire past) ≡ true → open_window s.dialect (marks s.role d past) ≡ Some w
     → first_on d (in_hand past) ≡ Some r → Next s d past r
 next_by s d past r w l k o e h =
     let i = k.on.while_open o in
@@ -75,8 +75,8 @@ next_by s d past r w l k o e h =
     let n = whole_in (length out) (texts acc) in
     let few : n ≤ length acc = omega (arith, whole_few (length out) (texts acc), texts_counted acc) in
     let size : begun_count ms ≡ n = sym (begun_counted ms) ∙ (ap length b.first ∙ (length-map (whole_after (length out) acc) line_of ∙ length-take-le n acc few)) in
-    let one : open_count (open_window ms) ≡ 1 = ap open_count e in
-    let all = counts ms b.turns.order in
+    let one : open_count (open_window s.dialect ms) ≡ 1 = ap open_count e in
+    let all = counts s.dialect ms b.turns.order in
     let ans = i.answered_are in
     let count : n ≡ length i.before + 1 = omega (arith, size, one, all, ans) in
     let accepts : acc ≡ i.before ++ r ∷ tail.0 = i.accepted_are ∙ ap (λ (v : List Request). i.before ++ v) tail.1 in
@@ -94,7 +94,7 @@ begun_still : (ms : List Mark) (ls : List (List ℕ)) → begun_in (ms ++ map Li
 begun_still ms ls = begun_append ms (map Line ls) ∙ (ap (λ (v : List (List ℕ)). begun_in ms ++ v) (begun_lines ls) ∙ append-nil (begun_in ms))
 
 -- what ends the window is its answer
-owns : (s : Setting) (past : List Act) (f : Frame) (r : Request) (ls : List AnswerLine) → (carries f.dlci f && is_open s.role f.dlci (wire past)) ≡ true → Next s f.dlci past r → EndsAt (marks s.role f.dlci past) (lines (run_on s.role f.dlci past ++ f.info)) ls → IsOwnAnswer s past f r ls
+owns : (s : Setting) (past : List Act) (f : Frame) (r : Request) (ls : List AnswerLine) → (carries f.dlci f && is_open s.role f.dlci (wire past)) ≡ true → Next s f.dlci past r → EndsAt s.dialect (marks s.role f.dlci past) (lines (run_on s.role f.dlci past ++ f.info)) ls → IsOwnAnswer s past f r ls
 owns s past f r ls come n h =
     let ms = marks s.role f.dlci past in
     let all = lines (run_on s.role f.dlci past ++ f.info) in
@@ -111,12 +111,12 @@ owns s past f r ls come n h =
     }
 
 -- outside of a window nothing is told
-closed_tell : (P : Outcome → List AnswerLine → Type 0) (s : Setting) (d : ℕ) (owner : Option Request) (ms : List Mark) (ls : List (List ℕ)) → open_window ms ≡ None → AllTell P (by_lines s d owner ms ls)
+closed_tell : (P : Outcome → List AnswerLine → Type 0) (s : Setting) (d : ℕ) (owner : Option Request) (ms : List Mark) (ls : List (List ℕ)) → open_window s.dialect ms ≡ None → AllTell P (by_lines s d owner ms ls)
 closed_tell P s d owner ms [] e = tt
 closed_tell P s d owner ms (l ∷ ls) e =
-    tell_both P (by_seen s d owner l (seen_after ms l)) (by_lines s d owner (ms ++ Line l ∷ []) ls)
-    (line_tells P s d owner l (seen_after ms l) (λ q got o h. absurd (closed_tells_none ms l got e h)))
-    (closed_tell P s d owner (ms ++ Line l ∷ []) ls (stays_closed ms l e))
+    tell_both P (by_seen s d owner l (seen_after s.dialect ms l)) (by_lines s d owner (ms ++ Line l ∷ []) ls)
+    (line_tells P s d owner l (seen_after s.dialect ms l) (λ q got o h. absurd (closed_tells_none s.dialect ms l got e h)))
+    (closed_tell P s d owner (ms ++ Line l ∷ []) ls (stays_closed s.dialect ms l e))
 
 abbrev Owned : Setting → List Act → Outcome → List AnswerLine → Type 0
 Owned s past o ls = HasOwnAnswer s past o ls
@@ -130,7 +130,7 @@ frame_owned s past f l k = by_case (is_opened ((seen s past).state f.dlci) && is
     all : List (List ℕ)
     all = lines (run_on s.role f.dlci past ++ f.info)
 
-    by_window : is_data_frame f ≡ true → is_open s.role f.dlci (wire past) ≡ true → (o : Option Window) → open_window ms ≡ o → AllTell (Owned s (Got f ∷ past)) (by_lines s f.dlci (first_on f.dlci (in_hand past)) ms all)
+    by_window : is_data_frame f ≡ true → is_open s.role f.dlci (wire past) ≡ true → (o : Option Window) → open_window s.dialect ms ≡ o → AllTell (Owned s (Got f ∷ past)) (by_lines s f.dlci (first_on f.dlci (in_hand past)) ms all)
     by_window come g None e = closed_tell (Owned s (Got f ∷ past)) s f.dlci (first_on f.dlci (in_hand past)) ms all e
     by_window come g (Some w) e =
         lines_tell (Owned s (Got f ∷ past)) s f.dlci (first_on f.dlci (in_hand past)) ms all [] all ms
@@ -147,7 +147,7 @@ frame_owned s past f l k = by_case (is_opened ((seen s past).state f.dlci) && is
     by_case : (b : Bool) → (is_opened ((seen s past).state f.dlci) && is_data_frame f) ≡ b → AllTell (Owned s (Got f ∷ past)) (if b then by_lines s f.dlci (first_on f.dlci (in_hand past)) ms all else [])
     by_case true e =
         let parts = and_parts (is_opened ((seen s past).state f.dlci)) (is_data_frame f) e in
-        by_window parts.1 (sym (opened_is_open s.role (wire past) f.dlci) ∙ parts.0) (open_window ms) refl
+        by_window parts.1 (sym (opened_is_open s.role (wire past) f.dlci) ∙ parts.0) (open_window s.dialect ms) refl
     by_case false e = tt
 
 -- ## Whole histories

@@ -14,7 +14,7 @@ use Rattle.at_text.specs.declared.unsolicited.UrcKind.{UrcKind}
 use Rattle.at_text.specs.declared.unsolicited.UrcKind.TheVariants.{Other}
 use Rattle.at_text.specs.declared.window.Seen as line_is
 use Rattle.at_text.specs.declared.window.Seen.TheVariants.{Echo, Kept, Unsolicited}
-use Rattle.at_text.specs.Unsolicited.{unsolicited_of}
+use Rattle.at_text.specs.Dialects.{Dialect}
 use Rattle.at_text.specs.Lines.{lines}
 use Rattle.at_text.specs.Windows.{Mark, Line, Window, answer_of, is_answered, more_of, open_of, last_window, window_more}
 use Rattle.at_text.specs.Seeing.{answer_lines, is_fresh, by_kind, solicited_in, seen_after}
@@ -205,48 +205,48 @@ at_once_tells P s v Given = tt
 -- ## Lines
 
 -- the window of these marks is whole, and this is its answer
-pub record Ends (ms : List Mark) (ls : List AnswerLine) : Type 0 where
+pub record Ends (dialect : Dialect) (ms : List Mark) (ls : List AnswerLine) : Type 0 where
   pub window : Window
   pub is_last : last_window ms ≡ Some window
-  pub ended : is_answered window ≡ true
-  pub answer : ls ≡ answer_lines (answer_of window)
+  pub ended : is_answered dialect window ≡ true
+  pub answer : ls ≡ answer_lines (answer_of dialect window)
 
 done_same : (xs ls : List AnswerLine) → line_is.TheVariants.Done xs ≡ line_is.TheVariants.Done ls → xs ≡ ls
 done_same xs ls e = cc
 
-ended_by : (ms : List Mark) (w : Window) (l : List ℕ) (ls : List AnswerLine) (k : Option UrcKind) (whole echo final : Bool) → last_window ms ≡ Some w
-    → is_answered w ≡ whole → (is_fresh w && bytes_eq l w.command) ≡ echo → is_answered (more_of w l) ≡ final
-    → by_kind k (solicited_in (if whole then None else Some w) l) ≡ line_is.TheVariants.Done ls → Ends (ms ++ Line l ∷ []) ls
-ended_by ms w l ls (Some kind) whole echo final e a b c h = absurd (let g : Unsolicited kind ≡ line_is.TheVariants.Done ls = h in cc)
-ended_by ms w l ls None true echo final e a b c h = absurd (let g : line_is.TheVariants.Other ≡ line_is.TheVariants.Done ls = h in cc)
-ended_by ms w l ls None false true final e a b c h = absurd (let g : Echo ≡ line_is.TheVariants.Done ls = ap (λ (x : Bool). if x then Echo else (if is_answered (more_of w l) then line_is.TheVariants.Done (answer_lines (answer_of (more_of w l))) else Kept)) (sym b) ∙ h in cc)
-ended_by ms w l ls None false false false e a b c h =
+ended_by : (dialect : Dialect) (ms : List Mark) (w : Window) (l : List ℕ) (ls : List AnswerLine) (k : Option UrcKind) (whole echo final : Bool) → last_window ms ≡ Some w
+    → is_answered dialect w ≡ whole → (is_fresh dialect w && bytes_eq l w.command) ≡ echo → is_answered dialect (more_of w l) ≡ final
+    → by_kind k (solicited_in dialect (if whole then None else Some w) l) ≡ line_is.TheVariants.Done ls → Ends dialect (ms ++ Line l ∷ []) ls
+ended_by dialect ms w l ls (Some kind) whole echo final e a b c h = absurd (let g : Unsolicited kind ≡ line_is.TheVariants.Done ls = h in cc)
+ended_by dialect ms w l ls None true echo final e a b c h = absurd (let g : line_is.TheVariants.Other ≡ line_is.TheVariants.Done ls = h in cc)
+ended_by dialect ms w l ls None false true final e a b c h = absurd (let g : Echo ≡ line_is.TheVariants.Done ls = ap (λ (x : Bool). if x then Echo else (if is_answered dialect (more_of w l) then line_is.TheVariants.Done (answer_lines (answer_of dialect (more_of w l))) else Kept)) (sym b) ∙ h in cc)
+ended_by dialect ms w l ls None false false false e a b c h =
     absurd (let g : Kept ≡ line_is.TheVariants.Done ls =
-    ap (λ (x : Bool). if x then line_is.TheVariants.Done (answer_lines (answer_of (more_of w l))) else Kept) (sym c)
-    ∙ (ap (λ (x : Bool). if x then Echo else (if is_answered (more_of w l) then line_is.TheVariants.Done (answer_lines (answer_of (more_of w l))) else Kept)) (sym b) ∙ h) in cc)
-ended_by ms w l ls None false false true e a b c h =
-    let g : line_is.TheVariants.Done (answer_lines (answer_of (more_of w l))) ≡ line_is.TheVariants.Done ls =
-    ap (λ (x : Bool). if x then line_is.TheVariants.Done (answer_lines (answer_of (more_of w l))) else Kept) (sym c)
-    ∙ (ap (λ (x : Bool). if x then Echo else (if is_answered (more_of w l) then line_is.TheVariants.Done (answer_lines (answer_of (more_of w l))) else Kept)) (sym b) ∙ h) in
+    ap (λ (x : Bool). if x then line_is.TheVariants.Done (answer_lines (answer_of dialect (more_of w l))) else Kept) (sym c)
+    ∙ (ap (λ (x : Bool). if x then Echo else (if is_answered dialect (more_of w l) then line_is.TheVariants.Done (answer_lines (answer_of dialect (more_of w l))) else Kept)) (sym b) ∙ h) in cc)
+ended_by dialect ms w l ls None false false true e a b c h =
+    let g : line_is.TheVariants.Done (answer_lines (answer_of dialect (more_of w l))) ≡ line_is.TheVariants.Done ls =
+    ap (λ (x : Bool). if x then line_is.TheVariants.Done (answer_lines (answer_of dialect (more_of w l))) else Kept) (sym c)
+    ∙ (ap (λ (x : Bool). if x then Echo else (if is_answered dialect (more_of w l) then line_is.TheVariants.Done (answer_lines (answer_of dialect (more_of w l))) else Kept)) (sym b) ∙ h) in
     record {
       window = more_of w l;
       is_last = last_window-line ms l ∙ ap (λ (o : Option Window). window_more o l) e;
       ended = c;
-      answer = sym (done_same (answer_lines (answer_of (more_of w l))) ls g);
+      answer = sym (done_same (answer_lines (answer_of dialect (more_of w l))) ls g);
     }
 
-no_window : (k : Option UrcKind) (l : List ℕ) (ls : List AnswerLine) → by_kind k (solicited_in None l) ≡ line_is.TheVariants.Done ls → ⊥
-no_window None l ls h = let g : line_is.TheVariants.Other ≡ line_is.TheVariants.Done ls = h in cc
-no_window (Some kind) l ls h = let g : Unsolicited kind ≡ line_is.TheVariants.Done ls = h in cc
+no_window : (dialect : Dialect) (k : Option UrcKind) (l : List ℕ) (ls : List AnswerLine) → by_kind k (solicited_in dialect None l) ≡ line_is.TheVariants.Done ls → ⊥
+no_window dialect None l ls h = let g : line_is.TheVariants.Other ≡ line_is.TheVariants.Done ls = h in cc
+no_window dialect (Some kind) l ls h = let g : Unsolicited kind ≡ line_is.TheVariants.Done ls = h in cc
 
-done_ends : (ms : List Mark) (l : List ℕ) (ls : List AnswerLine) → seen_after ms l ≡ line_is.TheVariants.Done ls → Ends (ms ++ Line l ∷ []) ls
-done_ends ms l ls h = by_last (last_window ms) refl
+done_ends : (dialect : Dialect) (ms : List Mark) (l : List ℕ) (ls : List AnswerLine) → seen_after dialect ms l ≡ line_is.TheVariants.Done ls → Ends dialect (ms ++ Line l ∷ []) ls
+done_ends dialect ms l ls h = by_last (last_window ms) refl
   where
-    by_last : (o : Option Window) → last_window ms ≡ o → Ends (ms ++ Line l ∷ []) ls
-    by_last None e = absurd (no_window (unsolicited_of l) l ls (ap (λ (o : Option Window). by_kind (unsolicited_of l) (solicited_in (open_of o) l)) (sym e) ∙ h))
+    by_last : (o : Option Window) → last_window ms ≡ o → Ends dialect (ms ++ Line l ∷ []) ls
+    by_last None e = absurd (no_window dialect (dialect.kind_of l) l ls (ap (λ (o : Option Window). by_kind (dialect.kind_of l) (solicited_in dialect (open_of dialect o) l)) (sym e) ∙ h))
     by_last (Some w) e =
-        ended_by ms w l ls (unsolicited_of l) (is_answered w) (is_fresh w && bytes_eq l w.command) (is_answered (more_of w l)) e refl refl refl
-        (ap (λ (o : Option Window). by_kind (unsolicited_of l) (solicited_in (open_of o) l)) (sym e) ∙ h)
+        ended_by dialect ms w l ls (dialect.kind_of l) (is_answered dialect w) (is_fresh dialect w && bytes_eq l w.command) (is_answered dialect (more_of w l)) e refl refl refl
+        (ap (λ (o : Option Window). by_kind (dialect.kind_of l) (solicited_in dialect (open_of dialect o) l)) (sym e) ∙ h)
 
 heard_tells : (P : Outcome → List AnswerLine → Type 0) (b : Bool) (kind : UrcKind) (d : ℕ) (l : List ℕ) → AllTell P (if b then Heard kind d l ∷ [] else [])
 heard_tells P true kind d l = (tt, tt)
@@ -268,9 +268,9 @@ line_tells P s d owner l (Unsolicited kind) p = heard_tells P (s.listens kind) k
 line_tells P s d owner l line_is.TheVariants.Other p = heard_tells P (s.listens Other) Other d l
 
 -- the window of so many of the lines is whole, behind these marks
-pub record EndsAt (base : List Mark) (all : List (List ℕ)) (ls : List AnswerLine) : Type 0 where
+pub record EndsAt (dialect : Dialect) (base : List Mark) (all : List (List ℕ)) (ls : List AnswerLine) : Type 0 where
   pub count : ℕ
-  pub ends : Ends (base ++ map Line (take count all)) ls
+  pub ends : Ends dialect (base ++ map Line (take count all)) ls
 
 map_last : (before : List (List ℕ)) (l : List ℕ) → map Line (before ++ l ∷ []) ≡ map Line before ++ Line l ∷ []
 map_last [] l = refl
@@ -279,23 +279,23 @@ map_last (x ∷ before) l = ap (λ (ms : List Mark). Line x ∷ ms) (map_last be
 placed_last : (base : List Mark) (before : List (List ℕ)) (l : List ℕ) → (base ++ map Line before) ++ Line l ∷ [] ≡ base ++ map Line (before ++ l ∷ [])
 placed_last base before l = append_assoc base (map Line before) (Line l ∷ []) ∙ ap (λ (ms : List Mark). base ++ ms) (sym (map_last before l))
 
-ends_here : (base : List Mark) (before rest all : List (List ℕ)) (l : List ℕ) (ls : List AnswerLine) → before ++ l ∷ rest ≡ all → Ends ((base ++ map Line before) ++ Line l ∷ []) ls → EndsAt base all ls
-ends_here base before rest all l ls e h =
+ends_here : (dialect : Dialect) (base : List Mark) (before rest all : List (List ℕ)) (l : List ℕ) (ls : List AnswerLine) → before ++ l ∷ rest ≡ all → Ends dialect ((base ++ map Line before) ++ Line l ∷ []) ls → EndsAt dialect base all ls
+ends_here dialect base before rest all l ls e h =
     let joined : (before ++ l ∷ []) ++ rest ≡ all = append_assoc before (l ∷ []) rest ∙ e in
     let first : take (length (before ++ l ∷ [])) all ≡ before ++ l ∷ [] = ap (λ (xs : List (List ℕ)). take (length (before ++ l ∷ [])) xs) (sym joined) ∙ take-append_seam (before ++ l ∷ []) rest in
     record {
       count = length (before ++ l ∷ []);
-      ends = subst (λ (ms : List Mark). Ends ms ls) (placed_last base before l ∙ ap (λ (xs : List (List ℕ)). base ++ map Line xs) (sym first)) h;
+      ends = subst (λ (ms : List Mark). Ends dialect ms ls) (placed_last base before l ∙ ap (λ (xs : List (List ℕ)). base ++ map Line xs) (sym first)) h;
     }
 
 pub lines_tell : (P : Outcome → List AnswerLine → Type 0) (s : Setting) (d : ℕ) (owner : Option Request) (base : List Mark) (all before rest : List (List ℕ)) (ms : List Mark)
-    → ((q : Request) (ls : List AnswerLine) → owner ≡ Some q → EndsAt base all ls → P (outcome_of q (Done ls)) ls) → before ++ rest ≡ all → ms ≡ base ++ map Line before → AllTell P (by_lines s d owner ms rest)
+    → ((q : Request) (ls : List AnswerLine) → owner ≡ Some q → EndsAt s.dialect base all ls → P (outcome_of q (Done ls)) ls) → before ++ rest ≡ all → ms ≡ base ++ map Line before → AllTell P (by_lines s d owner ms rest)
 lines_tell P s d owner base all before [] ms p e m = tt
 lines_tell P s d owner base all before (l ∷ rest) ms p e m =
-    let here : (q : Request) (ls : List AnswerLine) → owner ≡ Some q → seen_after ms l ≡ line_is.TheVariants.Done ls → P (outcome_of q (Done ls)) ls =
-    λ q ls o h. p q ls o (ends_here base before rest all l ls e (subst (λ (marks_so : List Mark). Ends (marks_so ++ Line l ∷ []) ls) m (done_ends ms l ls h))) in
-    tell_both P (by_seen s d owner l (seen_after ms l)) (by_lines s d owner (ms ++ Line l ∷ []) rest)
-    (line_tells P s d owner l (seen_after ms l) here)
+    let here : (q : Request) (ls : List AnswerLine) → owner ≡ Some q → seen_after s.dialect ms l ≡ line_is.TheVariants.Done ls → P (outcome_of q (Done ls)) ls =
+    λ q ls o h. p q ls o (ends_here s.dialect base before rest all l ls e (subst (λ (marks_so : List Mark). Ends s.dialect (marks_so ++ Line l ∷ []) ls) m (done_ends s.dialect ms l ls h))) in
+    tell_both P (by_seen s d owner l (seen_after s.dialect ms l)) (by_lines s d owner (ms ++ Line l ∷ []) rest)
+    (line_tells P s d owner l (seen_after s.dialect ms l) here)
     (lines_tell P s d owner base all (before ++ l ∷ []) rest (ms ++ Line l ∷ []) p (append_assoc before (l ∷ []) rest ∙ e)
     (ap (λ (xs : List Mark). xs ++ Line l ∷ []) m ∙ placed_last base before l))
 
@@ -304,7 +304,7 @@ lines_tell P s d owner base all before (l ∷ rest) ms p e m =
 abbrev Answered : Setting → List Act → Outcome → List AnswerLine → Type 0
 Answered s past o ls = HasAnswer s past ls
 
-pub window_ends : (s : Setting) (past : List Act) (f : Frame) (ls : List AnswerLine) → EndsAt (marks s.role f.dlci past) (lines (run_on s.role f.dlci past ++ f.info)) ls → EndsWindow s past f ls
+pub window_ends : (s : Setting) (past : List Act) (f : Frame) (ls : List AnswerLine) → EndsAt s.dialect (marks s.role f.dlci past) (lines (run_on s.role f.dlci past ++ f.info)) ls → EndsWindow s past f ls
 window_ends s past f ls h = record { count = h.count; window = h.ends.window; is_last = h.ends.is_last; ended = h.ends.ended; answer = h.ends.answer }
 
 frame_tells : (s : Setting) (past owing : List Act) (a : Act) → AllTell (Answered s (a ∷ past)) (lines_said s (seen_behind s past owing) a)

@@ -48,7 +48,7 @@ pub in_step : (s : Setting) (d : ℕ) (past later : List Act) → InStep s d pas
 in_step s d past later i a m h = record {
   before = i.before;
   accepted_are = a ∙ (i.accepted_are ∙ ap (λ (v : List Request). i.before ++ v) (sym h));
-  answered_are = ap answered m ∙ i.answered_are;
+  answered_are = ap (answered s.dialect) m ∙ i.answered_are;
 }
 
 -- the hand at the end, without the requests that are told

@@ -12,6 +12,7 @@ use Rattle.mux_frame.specs.declared.frame.Kind.TheVariants.{Uih}
 use Rattle.mux_station.specs.Written.{is_kind, is_data_frame}
 use Rattle.mux_station.specs.Opening.{standings, opens, opens_now, ends, is_open}
 use Rattle.mux_station.specs.States.{is_opened}
+use Rattle.at_text.specs.Dialects.{Dialect}
 use Rattle.at_text.specs.Lines.{lines}
 use Rattle.at_text.specs.Windows.{Mark, Line, Window, answered, open_window}
 use Rattle.modem_desk.specs.declared.request.Request.{Request}
@@ -40,22 +41,22 @@ use Rattle.modem_history.proofs.requests.CommandsInStep.{Kept, told_off_all, lef
 -- ## Lines and requests
 
 -- the lines of the frame close a window
-abbrev pub closes : List Mark → List (List ℕ) → Bool
-closes ms ls = is_some (open_window ms) && not (is_some (open_window (ms ++ map Line ls)))
+abbrev pub closes : Dialect → List Mark → List (List ℕ) → Bool
+closes dialect ms ls = is_some (open_window dialect ms) && not (is_some (open_window dialect (ms ++ map Line ls)))
 
 abbrev pub left_by : Bool → Option Request → List Request → List Request
 left_by c owner hand = if c then minus owner hand else hand
 
-lines_off : (s : Setting) (d : ℕ) (owner : Option Request) (ms : List Mark) (ls : List (List ℕ)) (hand : List Request) → taken_off (by_lines s d owner ms ls) hand ≡ left_by (closes ms ls) owner hand
-lines_off s d owner ms ls hand = by_window (open_window ms) refl
+lines_off : (s : Setting) (d : ℕ) (owner : Option Request) (ms : List Mark) (ls : List (List ℕ)) (hand : List Request) → taken_off (by_lines s d owner ms ls) hand ≡ left_by (closes s.dialect ms ls) owner hand
+lines_off s d owner ms ls hand = by_window (open_window s.dialect ms) refl
   where
     turned : (b : Bool) → (if b then hand else minus owner hand) ≡ left_by (not b) owner hand
     turned true = refl
     turned false = refl
 
-    by_window : (o : Option Window) → open_window ms ≡ o → taken_off (by_lines s d owner ms ls) hand ≡ left_by (is_some o && not (is_some (open_window (ms ++ map Line ls)))) owner hand
+    by_window : (o : Option Window) → open_window s.dialect ms ≡ o → taken_off (by_lines s d owner ms ls) hand ≡ left_by (is_some o && not (is_some (open_window s.dialect (ms ++ map Line ls)))) owner hand
     by_window None e = closed_off s d owner ms ls hand e
-    by_window (Some w) e = open_off s d owner ms ls hand w e ∙ turned (is_some (open_window (ms ++ map Line ls)))
+    by_window (Some w) e = open_off s d owner ms ls hand w e ∙ turned (is_some (open_window s.dialect (ms ++ map Line ls)))
 
 left_swap : (acts : List Act) (c : Bool) (owner : Option Request) (hand : List Request) → taken_off acts (left_by c owner hand) ≡ left_by c owner (taken_off acts hand)
 left_swap acts false owner hand = refl
@@ -67,7 +68,7 @@ owner_of past d = first_on d (in_hand past)
 
 -- the requests in hand at the end, where the frame carries data
 pub data_hand : (s : Setting) (past : List Act) (f : Frame) → is_opened ((seen s past).state f.dlci) && is_data_frame f ≡ true → are_distinct (in_hand past) ≡ true
-    → in_hand (ended s past (Got f)) ≡ left_by (closes (marks s.role f.dlci past) (lines (run_on s.role f.dlci past ++ f.info))) (owner_of past f.dlci) (left_in s past (Got f))
+    → in_hand (ended s past (Got f)) ≡ left_by (closes s.dialect (marks s.role f.dlci past) (lines (run_on s.role f.dlci past ++ f.info))) (owner_of past f.dlci) (left_in s past (Got f))
 data_hand s past f b h =
     let a = Got f in
     let d = f.dlci in
@@ -81,7 +82,7 @@ data_hand s past f b h =
     (end_of s past a 0).hand_is
     ∙ (ap (λ (acts : List Act). taken_off later (taken_off acts hand)) said
     ∙ (ap (taken_off later) (lines_off s d owner ms ls hand)
-    ∙ (left_swap later (closes ms ls) owner hand ∙ ap (left_by (closes ms ls) owner) (told_off_all s past a h))))
+    ∙ (left_swap later (closes s.dialect ms ls) owner hand ∙ ap (left_by (closes s.dialect ms ls) owner) (told_off_all s past a h))))
 
 -- the commands on d that are left
 left_commands : (d : ℕ) (r : Request) (hand : List Request) → commands_for d (minus (Some r) hand) ≡ minus (Some r) (commands_for d hand)
@@ -131,52 +132,52 @@ begun_same ms ls =
     sym (begun_counted (ms ++ map Line ls))
     ∙ (ap length (begun_append ms (map Line ls) ∙ (ap (λ (v : List (List ℕ)). begun_in ms ++ v) (begun_lines ls) ∙ append-nil (begun_in ms))) ∙ begun_counted ms)
 
-begun_few : (ms : List Mark) (out : List ℕ) (qs : List Request) → begins.Kept ms out qs → begun_count ms ≤ length qs
-begun_few ms out qs k =
+begun_few : (dialect : Dialect) (ms : List Mark) (out : List ℕ) (qs : List Request) → begins.Kept dialect ms out qs → begun_count ms ≤ length qs
+begun_few dialect ms out qs k =
     let n = whole_in (length out) (texts qs) in
     let few : n ≤ length qs = omega (arith, whole_few (length out) (texts qs), texts_counted qs) in
     let size : begun_count ms ≡ n = sym (begun_counted ms) ∙ (ap length k.first ∙ (length-map (whole_after (length out) qs) line_of ∙ length-take-le n qs few)) in
     omega (arith, size, few)
 
 data_answers : (s : Setting) (d : ℕ) (past : List Act) (ls : List (List ℕ)) (before cs left : List Request) → Lawful s past → are_distinct cs ≡ true
-    → accepted s.role d past ≡ before ++ cs → answered (marks s.role d past) ≡ length before
-    → left ≡ (if closes (marks s.role d past) ls then minus (head_of cs) cs else cs) → Answers before cs left (answered (marks s.role d past ++ map Line ls))
-data_answers s d past ls before cs left l h acc ans e = by_windows (open_window ms) (open_window (ms ++ map Line ls)) refl refl
+    → accepted s.role d past ≡ before ++ cs → answered s.dialect (marks s.role d past) ≡ length before
+    → left ≡ (if closes s.dialect (marks s.role d past) ls then minus (head_of cs) cs else cs) → Answers before cs left (answered s.dialect (marks s.role d past ++ map Line ls))
+data_answers s d past ls before cs left l h acc ans e = by_windows (open_window s.dialect ms) (open_window s.dialect (ms ++ map Line ls)) refl refl
   where
     ms : List Mark
     ms = marks s.role d past
 
-    kept : begins.Kept ms (information_out s.role d past) (accepted s.role d past)
+    kept : begins.Kept s.dialect ms (information_out s.role d past) (accepted s.role d past)
     kept = begins.kept s past l d
 
-    by_windows : (o p : Option Window) → open_window ms ≡ o → open_window (ms ++ map Line ls) ≡ p → Answers before cs left (answered (ms ++ map Line ls))
+    by_windows : (o p : Option Window) → open_window s.dialect ms ≡ o → open_window s.dialect (ms ++ map Line ls) ≡ p → Answers before cs left (answered s.dialect (ms ++ map Line ls))
     by_windows o p x y =
-        let c = counts ms kept.turns.order in
-        let c' = counts (ms ++ map Line ls) (turns_lines ls ms kept.turns).order in
+        let c = counts s.dialect ms kept.turns.order in
+        let c' = counts s.dialect (ms ++ map Line ls) (turns_lines s.dialect ls ms kept.turns).order in
         let b = begun_same ms ls in
-        let few = begun_few ms (information_out s.role d past) (accepted s.role d past) kept in
+        let few = begun_few s.dialect ms (information_out s.role d past) (accepted s.role d past) kept in
         let size : length (accepted s.role d past) ≡ length before + length cs = ap length acc ∙ length-append before cs in
-        by_cases o p (ap open_count x) (ap open_count y) (ap is_some x) (ap is_some y) (closed_stays ms ls) c c' b few size
+        by_cases o p (ap open_count x) (ap open_count y) (ap is_some x) (ap is_some y) (closed_stays s.dialect ms ls) c c' b few size
       where
-        by_cases : (o p : Option Window) → open_count (open_window ms) ≡ open_count o → open_count (open_window (ms ++ map Line ls)) ≡ open_count p
-            → is_some (open_window ms) ≡ is_some o → is_some (open_window (ms ++ map Line ls)) ≡ is_some p → (open_window ms ≡ None → open_window (ms ++ map Line ls) ≡ None)
-            → answered ms + open_count (open_window ms) ≡ begun_count ms → answered (ms ++ map Line ls) + open_count (open_window (ms ++ map Line ls)) ≡ begun_count (ms ++ map Line ls)
+        by_cases : (o p : Option Window) → open_count (open_window s.dialect ms) ≡ open_count o → open_count (open_window s.dialect (ms ++ map Line ls)) ≡ open_count p
+            → is_some (open_window s.dialect ms) ≡ is_some o → is_some (open_window s.dialect (ms ++ map Line ls)) ≡ is_some p → (open_window s.dialect ms ≡ None → open_window s.dialect (ms ++ map Line ls) ≡ None)
+            → answered s.dialect ms + open_count (open_window s.dialect ms) ≡ begun_count ms → answered s.dialect (ms ++ map Line ls) + open_count (open_window s.dialect (ms ++ map Line ls)) ≡ begun_count (ms ++ map Line ls)
             → begun_count (ms ++ map Line ls) ≡ begun_count ms → begun_count ms ≤ length (accepted s.role d past) → length (accepted s.role d past) ≡ length before + length cs
-            → Answers before cs left (answered (ms ++ map Line ls))
+            → Answers before cs left (answered s.dialect (ms ++ map Line ls))
         by_cases None None a b x y z c c' m few size =
-            none_answers before cs left (answered ms) (answered (ms ++ map Line ls)) ans (omega (arith, a, b, c, c', m))
-            (e ∙ ap (λ (q : Bool). if q && not (is_some (open_window (ms ++ map Line ls))) then minus (head_of cs) cs else cs) x)
+            none_answers before cs left (answered s.dialect ms) (answered s.dialect (ms ++ map Line ls)) ans (omega (arith, a, b, c, c', m))
+            (e ∙ ap (λ (q : Bool). if q && not (is_some (open_window s.dialect (ms ++ map Line ls))) then minus (head_of cs) cs else cs) x)
         by_cases (Some w) (Some w') a b x y z c c' m few size =
-            none_answers before cs left (answered ms) (answered (ms ++ map Line ls)) ans (omega (arith, a, b, c, c', m))
-            (e ∙ (ap (λ (q : Bool). if q && not (is_some (open_window (ms ++ map Line ls))) then minus (head_of cs) cs else cs) x
+            none_answers before cs left (answered s.dialect ms) (answered s.dialect (ms ++ map Line ls)) ans (omega (arith, a, b, c, c', m))
+            (e ∙ (ap (λ (q : Bool). if q && not (is_some (open_window s.dialect (ms ++ map Line ls))) then minus (head_of cs) cs else cs) x
             ∙ ap (λ (q : Bool). if not q then minus (head_of cs) cs else cs) y))
         by_cases (Some w) None a b x y z c c' m few size =
-            first_answers before cs left (answered ms) (answered (ms ++ map Line ls)) 0 h ans (omega (arith, a, b, c, c', m)) (omega (arith, a, c, few, size))
-            (e ∙ (ap (λ (q : Bool). if q && not (is_some (open_window (ms ++ map Line ls))) then minus (head_of cs) cs else cs) x
+            first_answers before cs left (answered s.dialect ms) (answered s.dialect (ms ++ map Line ls)) 0 h ans (omega (arith, a, b, c, c', m)) (omega (arith, a, c, few, size))
+            (e ∙ (ap (λ (q : Bool). if q && not (is_some (open_window s.dialect (ms ++ map Line ls))) then minus (head_of cs) cs else cs) x
             ∙ ap (λ (q : Bool). if not q then minus (head_of cs) cs else cs) y))
-        by_cases None (Some w) a b x y z c c' m few size = absurd (omega (arith, none_count (open_window ms) a z, b))
+        by_cases None (Some w) a b x y z c c' m few size = absurd (omega (arith, none_count (open_window s.dialect ms) a z, b))
           where
-            none_count : (g : Option Window) → open_count g ≡ 0 → (g ≡ None → open_window (ms ++ map Line ls) ≡ None) → open_count (open_window (ms ++ map Line ls)) ≡ 0
+            none_count : (g : Option Window) → open_count g ≡ 0 → (g ≡ None → open_window s.dialect (ms ++ map Line ls) ≡ None) → open_count (open_window s.dialect (ms ++ map Line ls)) ≡ 0
             none_count None i j = ap open_count (j refl)
             none_count (Some g) i j = absurd (omega (arith, i))
 
@@ -264,7 +265,7 @@ unread_open s d past f r n h k true e o =
     record {
       before = [];
       accepted_are = g.accepted_is ∙ (ap (λ (x : Bool). if x then [] else accepted s.role d past) e ∙ sym none);
-      answered_are = ap answered (g.marks_are ∙ ap (λ (x : Bool). if x then [] else (if carries d f && is_open s.role d (wire past) then more else ms)) e);
+      answered_are = ap (answered s.dialect) (g.marks_are ∙ ap (λ (x : Bool). if x then [] else (if carries d f && is_open s.role d (wire past) then more else ms)) e);
     }
 
 -- data on the connection itself
@@ -282,15 +283,15 @@ read_here s d past f r l n z h k same o =
     let carried_on : (carries d f && is_open s.role d (wire past)) ≡ true = and_from (carries d f) (is_open s.role d (wire past)) (data_carries d f parts.1 z same) was in
     let placed : marks s.role d (ended s past a) ≡ marks s.role d past ++ map Line ls = g.marks_are ∙ got_marks s d past f true e carried_on in
     let stay : commands_for d (left_in s past a) ≡ cs = commands_stay (seen s past) (now_in s past a) a d (in_hand past) (sym g.open_is ∙ o) in
-    let hand : in_hand (ended s past a) ≡ left_by (closes (marks s.role d past) ls) (owner_of past d) (left_in s past a) =
-    subst (λ (m : ℕ). in_hand (ended s past a) ≡ left_by (closes (marks s.role m past) (lines (run_on s.role m past ++ f.info))) (owner_of past m) (left_in s past a)) same (data_hand s past f n h) in
-    let left : commands_for d (in_hand (ended s past a)) ≡ (if closes (marks s.role d past) ls then minus (head_of cs) cs else cs) =
-    ap (commands_for d) hand ∙ commands_left d (closes (marks s.role d past) ls) (in_hand past) (left_in s past a) stay in
+    let hand : in_hand (ended s past a) ≡ left_by (closes s.dialect (marks s.role d past) ls) (owner_of past d) (left_in s past a) =
+    subst (λ (m : ℕ). in_hand (ended s past a) ≡ left_by (closes s.dialect (marks s.role m past) (lines (run_on s.role m past ++ f.info))) (owner_of past m) (left_in s past a)) same (data_hand s past f n h) in
+    let left : commands_for d (in_hand (ended s past a)) ≡ (if closes s.dialect (marks s.role d past) ls then minus (head_of cs) cs else cs) =
+    ap (commands_for d) hand ∙ commands_left d (closes s.dialect (marks s.role d past) ls) (in_hand past) (left_in s past a) stay in
     let done = data_answers s d past ls i.before cs (commands_for d (in_hand (ended s past a))) l (distinct_filter (commands_on d) (in_hand past) h) i.accepted_are i.answered_are left in
     record {
       before = done.done;
       accepted_are = g.accepted_is ∙ (got_accepted s d past f e ∙ (i.accepted_are ∙ done.same));
-      answered_are = ap answered placed ∙ done.counted;
+      answered_are = ap (answered s.dialect) placed ∙ done.counted;
     }
 
 -- data on another connection
@@ -303,7 +304,7 @@ read_there s d past f r n h k apart o =
     let parts = and_parts (is_opened ((seen s past).state f.dlci)) (is_data_frame f) n in
     let e : opens_now s.role d (wire past) (station.Got f) ≡ false = opens_none s.role r _ _ d f parts.1 in
     let stay : commands_for d (left_in s past a) ≡ commands_for d (in_hand past) = commands_stay (seen s past) (now_in s past a) a d (in_hand past) (sym g.open_is ∙ o) in
-    let c = closes (marks s.role e' past) (lines (run_on s.role e' past ++ f.info)) in
+    let c = closes s.dialect (marks s.role e' past) (lines (run_on s.role e' past ++ f.info)) in
     in_step s d past (ended s past a) (k.on.while_open (got_was s d past f e o)) (g.accepted_is ∙ got_accepted s d past f e)
     (g.marks_are ∙ got_marks s d past f false e (carries_apart d f (is_open s.role d (wire past)) apart))
     (ap (commands_for d) (data_hand s past f n h) ∙ others_left d e' c (in_hand past) (left_in s past a) (owner_of past e') apart h refl stay)

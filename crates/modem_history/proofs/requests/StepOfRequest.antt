@@ -138,7 +138,7 @@ taken_open s d past q live z h k o was =
           ∙ (more_is d q once (is_open s.role d (wire past)) (command_on d q.ask) full (accepted s.role d past) i.before (commands_for d hand) was refl
           (λ c. command_once s v q d live z (seen_open s d past was) q.ask refl c) i.accepted_are
           ∙ ap (λ (x : List Request). i.before ++ x) (sym commands)));
-      answered_are = ap answered e.marks_are ∙ i.answered_are;
+      answered_are = ap (answered s.dialect) e.marks_are ∙ i.answered_are;
     }
 
 -- ## Where d is shut at the end

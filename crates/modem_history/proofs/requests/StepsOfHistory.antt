@@ -11,6 +11,7 @@ use Rattle.mux_station.specs.declared.role.Role.TheVariants.{Initiator}
 use Rattle.mux_station.specs.Acts as station
 use Rattle.mux_station.specs.Written.{is_data_frame}
 use Rattle.mux_station.specs.Opening.{standings, opens, opens_now, ends, is_open}
+use Rattle.at_text.specs.Dialects.{Dialect}
 use Rattle.at_text.specs.Windows.{Mark, Begun, Window, answers, answer_of, answered, has_final, windows}
 use Rattle.at_text.proofs.windows.AnswerWindows.{windows-begun}
 use Rattle.modem_desk.specs.declared.request.Request.{Request}
@@ -116,7 +117,7 @@ given_asked r d w =
 
 -- what stands as it stood keeps the commands in step
 kept_same : (s : Setting) (d : ℕ) (past later : List Act) → is_open s.role d (wire later) ≡ is_open s.role d (wire past) → is_asked s.role d (wire later) ≡ is_asked s.role d (wire past)
-    → accepted s.role d later ≡ accepted s.role d past → in_hand later ≡ in_hand past → answered (marks s.role d later) ≡ answered (marks s.role d past) → Kept s d past → Kept s d later
+    → accepted s.role d later ≡ accepted s.role d past → in_hand later ≡ in_hand past → answered s.dialect (marks s.role d later) ≡ answered s.dialect (marks s.role d past) → Kept s d past → Kept s d later
 kept_same s d past later o k a h m kept =
     let hand : commands_for d (in_hand later) ≡ commands_for d (in_hand past) = ap (commands_for d) h in
     record {
@@ -135,20 +136,20 @@ kept_given s d past k =
     (if_false (opens_now s.role d (wire past) station.Given) [] (accepted s.role d past) (opens_by_mark s.role _ _ d)) refl refl k
 
 -- a command that begins has no answer yet
-pub answered_begun : (ms : List Mark) (c : List ℕ) → answered (ms ++ Begun c ∷ []) ≡ answered ms
-answered_begun ms c =
-    ap (λ (ws : List Window). length (filter has_final (map answer_of ws))) (windows-begun ms c)
-    ∙ (ap (λ (v : List (List (List ℕ))). length (filter has_final v)) (map-append answer_of (windows ms) (record { command = c; after = [] } ∷ []))
-    ∙ ap length (filter-append has_final (answers ms) ([] ∷ []) ∙ append-nil (filter has_final (answers ms))))
+pub answered_begun : (dialect : Dialect) (ms : List Mark) (c : List ℕ) → answered dialect (ms ++ Begun c ∷ []) ≡ answered dialect ms
+answered_begun dialect ms c =
+    ap (λ (ws : List Window). length (filter (has_final dialect) (map (answer_of dialect) ws))) (windows-begun ms c)
+    ∙ (ap (λ (v : List (List (List ℕ))). length (filter (has_final dialect) v)) (map-append (answer_of dialect) (windows ms) (record { command = c; after = [] } ∷ []))
+    ∙ ap length (filter-append (has_final dialect) (answers dialect ms) ([] ∷ []) ∙ append-nil (filter (has_final dialect) (answers dialect ms))))
 
-pub answered_commands : (ms : List Mark) (qs : List Request) → answered (ms ++ marks_of qs) ≡ answered ms
-answered_commands ms [] = ap answered (append-nil ms)
-answered_commands ms (q ∷ qs) =
-    ap answered (sym (append_assoc ms (Begun (line_of q) ∷ []) (marks_of qs))) ∙ (answered_commands (ms ++ Begun (line_of q) ∷ []) qs ∙ answered_begun ms (line_of q))
+pub answered_commands : (dialect : Dialect) (ms : List Mark) (qs : List Request) → answered dialect (ms ++ marks_of qs) ≡ answered dialect ms
+answered_commands dialect ms [] = ap (answered dialect) (append-nil ms)
+answered_commands dialect ms (q ∷ qs) =
+    ap (answered dialect) (sym (append_assoc ms (Begun (line_of q) ∷ []) (marks_of qs))) ∙ (answered_commands dialect (ms ++ Begun (line_of q) ∷ []) qs ∙ answered_begun dialect ms (line_of q))
 
-sent_answered : (r : Role) (d : ℕ) (past : List Act) (f : Frame) (b : Bool) → answered (if b then marks r d past ++ begun_placed r d past f else marks r d past) ≡ answered (marks r d past)
-sent_answered r d past f true = answered_commands (marks r d past) _
-sent_answered r d past f false = refl
+sent_answered : (dialect : Dialect) (r : Role) (d : ℕ) (past : List Act) (f : Frame) (b : Bool) → answered dialect (if b then marks r d past ++ begun_placed r d past f else marks r d past) ≡ answered dialect (marks r d past)
+sent_answered dialect r d past f true = answered_commands dialect (marks r d past) _
+sent_answered dialect r d past f false = refl
 
 pub data_open : (r : Role) (d e : ℕ) (f : Frame) (w : List station.Act) → (e == 0) ≡ false → is_open r d (station.Sent (data_on e f) ∷ w) ≡ is_open r d w
 data_open r d e f w z =
@@ -172,7 +173,7 @@ kept_data s d past f h k =
     (ap (λ (g : Frame). is_open s.role d (station.Sent g ∷ wire past)) e ∙ data_open s.role d f.dlci f (wire past) z)
     (ap (λ (g : Frame). is_asked s.role d (station.Sent g ∷ wire past)) e ∙ data_asked s.role d f.dlci f (wire past) z)
     (if_false (opens_now s.role d (wire past) (station.Sent f)) [] (accepted s.role d past) (opens_by_sent s.role _ _ d f)) refl
-    (sent_answered s.role d past f (carries d f && is_open s.role d (wire past))) k
+    (sent_answered s.dialect s.role d past f (carries d f && is_open s.role d (wire past))) k
 
 -- ## Whole histories
 

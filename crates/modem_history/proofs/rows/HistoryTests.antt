@@ -45,7 +45,7 @@ data_test s past d info =
     && (is_nil (owed s past)
     && (is_nil (queue (wire past))
     && (starts_with nat_eq (concat (texts (accepted s.role d past))) (information_out s.role d past ++ info)
-    && nat_le (reached_in (length (information_out s.role d past ++ info)) (texts (accepted s.role d past))) (answered (marks s.role d past) + 1))))))))
+    && nat_le (reached_in (length (information_out s.role d past ++ info)) (texts (accepted s.role d past))) (answered s.dialect (marks s.role d past) + 1))))))))
 
 abbrev pub held_test : Setting → List Act → Act → Bool
 held_test s past (Held d) = may_hold s.role d past
@@ -329,7 +329,7 @@ nil_is (x ∷ xs) h = cc
 
 data_tests : (s : Setting) (past : List Act) (f : Frame) → Gated s past (owed s past) f
     → starts_with nat_eq (concat (texts (accepted s.role f.dlci past))) (information_out s.role f.dlci past ++ f.info) ≡ true
-    → nat_le (reached_in (length (information_out s.role f.dlci past ++ f.info)) (texts (accepted s.role f.dlci past))) (answered (marks s.role f.dlci past) + 1) ≡ true
+    → nat_le (reached_in (length (information_out s.role f.dlci past ++ f.info)) (texts (accepted s.role f.dlci past))) (answered s.dialect (marks s.role f.dlci past) + 1) ≡ true
     → data_test s past f.dlci f.info ≡ true
 data_tests s past f g o t =
     both _ _ (negated _ g.live) (both _ _ g.is_open (both _ _ (negated _ g.goes) (both _ _ g.some (both _ _ g.fits
