@@ -240,6 +240,7 @@ begins_on_one_line n1 near_room far_room near_reads near_writes far_reads far_wr
     low = low;
     high = high;
     same = refl;
+    codes = refl;
     modem_is = record { start = start; before = []; is_start = is_start; is = refl };
   };
   joined = record { near = near_fits; far = far_fits };
@@ -258,6 +259,7 @@ is_one_modem p b at e line on once announced =
     let run = is_run b (look_in p.near.line) p.near.driver p.near.kept (driver_past line) on.joined.near in
     record {
       is_initiator = refl;
+      codes = on.began.codes;
       driver_lawful = run.lawful;
       calls = run.whole;
       numbers = run.numbers;

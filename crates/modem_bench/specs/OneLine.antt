@@ -4,6 +4,7 @@ use Rattle.std.specs.Prelude.{◌≡◌, ℕ, ◌<◌, ◌≤◌, List, [], ◌�
 use Rattle.serial_line.specs.CutLine.{CutState, after_carry, carried, new_line, unmoved}
 use Rattle.serial_line.specs.declared.cuts.Cut.{Cut}
 use Rattle.at_text.specs.declared.answer.AnswerLine.{AnswerLine}
+use Rattle.at_text.specs.Dialects.{standard}
 use Rattle.modem_desk.specs.Ends.{DriverView}
 use Rattle.modem_desk.specs.declared.request.Answer.TheVariants.{Done}
 use Rattle.modem_desk.specs.declared.request.Outcome.{Outcome}
@@ -31,7 +32,7 @@ pub record AreCrossed (near far : CutState) : Type 0 where
   pub to_far : far.received ++ far.waiting ≡ take near.moved near.sent
   pub to_near : near.received ++ near.waiting ≡ take far.moved far.sent
 
--- both began where nothing had been received or sent, with one N1, and the modem had a start
+-- both began where nothing had been received or sent, with one N1 and the standard codes, and the modem had a start
 pub record BeganFresh (b : Beginning) (at : LineAt) (e : End) : Type 0 where
   pub near_received : b.line.received ≡ []
   pub near_sent : b.line.sent ≡ []
@@ -40,6 +41,7 @@ pub record BeganFresh (b : Beginning) (at : LineAt) (e : End) : Type 0 where
   pub low : 31 ≤ b.n1
   pub high : b.n1 ≤ 32767
   pub same : e.n1 ≡ b.n1
+  pub codes : b.dialect ≡ standard
   pub modem_is : IsModem e.modem
 
 -- the commands and probes among the requests that it took since it began have their form

@@ -2,6 +2,8 @@
 use Rattle.std.specs.Prelude.{◌≡◌, ℕ, ◌+◌, ◌<◌, ◌==◌, ◌↔◌, Bool, true, false, List, [], ◌∷◌, take, Option, None, Some, if◌then◌else◌, slice_index_or, replicate}
 use Rattle.std.specs.List.{list_all, concat, Contains}
 use Rattle.at_text.specs.declared.unsolicited.UrcKind.{UrcKind}
+use Rattle.at_text.specs.Dialects.{Dialect}
+use Rattle.at_text.specs.Rules.{Rules, dialect_of}
 use Rattle.at_text.specs.OpenWindow.{FitsMarks}
 use Rattle.at_text.specs.Windows.{answered}
 use Rattle.mux_station.specs.declared.role.Role.TheVariants.{Initiator}
@@ -28,20 +30,26 @@ use Rattle.modem_history.specs.Wholes.{CompleteCalls, UsesOnce, taken_requests}
 
 -- ## What is kept
 
--- the station, the lanes of the connections 0 to 61, the requests in hand, the kinds that are listened to,
--- and whether the line is lost
+-- the station, the lanes of the connections 0 to 61, the requests in hand, the rules of one's own by which lines
+-- are seen, the kinds that are listened to, and whether the line is lost
 pub record Core : Type 0 where
   pub station : Station
   pub lanes : List Lane
   pub hand : List Request
+  pub rules : Rules
   pub kinds : List UrcKind
   pub lost : Bool
 
-abbrev pub new_core : ℕ → List UrcKind → Core
-new_core n1 kinds = record {
+-- the codes of the modem: the standard's, and the rules'
+abbrev pub dialect_in : Core → Dialect
+dialect_in v = dialect_of v.rules
+
+abbrev pub new_core : Rules → ℕ → List UrcKind → Core
+new_core rules n1 kinds = record {
   station = new_station Initiator n1;
   lanes = replicate 62 new_lane;
   hand = [];
+  rules = rules;
   kinds = kinds;
   lost = false;
 }
@@ -90,11 +98,11 @@ probe_in past (r ∷ rs) = probe_or past r r.ask (probe_in past rs)
 
 -- an open connection: what is kept of its unfinished line and of its window is what the past says, and its
 -- accepted commands were put into the station's ring as far as the first one whose answer isn't whole
-pub record LaneFits (d : ℕ) (seen : List station.Act) (past : List Act) (lane : Lane) : Type 0 where
+pub record LaneFits (dialect : Dialect) (d : ℕ) (seen : List station.Act) (past : List Act) (lane : Lane) : Type 0 where
   pub kept_is : run_on Initiator d past ≡ lane.kept
-  pub window_fits : FitsMarks lane.window (marks Initiator d past)
+  pub window_fits : FitsMarks dialect lane.window (marks Initiator d past)
   pub offered_is : offered Initiator d seen
-      ≡ concat (texts (take (answered (marks Initiator d past) + 1) (accepted Initiator d past)))
+      ≡ concat (texts (take (answered dialect (marks Initiator d past) + 1) (accepted Initiator d past)))
 
 -- the line isn't lost: the station has seen the same, and the calls that the core made of it
 pub record Runs (v : Core) (past : List Act) : Type 0 where
@@ -104,7 +112,7 @@ pub record Runs (v : Core) (past : List Act) : Type 0 where
   pub waits : list_all (λ (r : Request). may_wait (state_shown v.station false) r.ask) v.hand ≡ true
   pub probe_is : probe_in past v.hand ≡ v.station.probe
   pub lanes_fit : (d : ℕ) → d < 62 → (d == 0) ≡ false → is_open Initiator d (wire past) ≡ true
-      → LaneFits d seen past (lane_at v d)
+      → LaneFits (dialect_in v) d seen past (lane_at v d)
 
 abbrev pub RunsUnless : Bool → Core → List Act → Type 0
 RunsUnless true v past = v.hand ≡ []
@@ -124,10 +132,11 @@ pub record IsRun (s : Setting) (past : List Act) : Type 0 where
   pub whole : CompleteCalls s past
   pub numbers : UsesOnce (taken_requests past)
 
--- whose history it is: an initiator with the core's N1, which listens to its kinds
+-- whose history it is: an initiator with the core's N1 and its modem's codes, which listens to its kinds
 pub record IsSettingOf (s : Setting) (v : Core) : Type 0 where
   pub role_is : s.role ≡ Initiator
   pub n1_is : s.n1 ≡ v.station.n1
+  pub dialect_is : s.dialect ≡ (dialect_in v)
   pub listens_are : (kind : UrcKind) → (s.listens kind ≡ true) ↔ Contains v.kinds kind
 
 -- a call that begins with this act may come after a past

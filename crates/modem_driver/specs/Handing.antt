@@ -11,7 +11,7 @@ use Rattle.modem_history.specs.Information.{line_of}
 use Rattle.modem_history.specs.Calls.{first_on}
 use Rattle.modem_history.specs.Requests.{commands_on, without_first}
 use Rattle.modem_driver.specs.Lanes.{Lane}
-use Rattle.modem_driver.specs.Cores.{Core, lane_at}
+use Rattle.modem_driver.specs.Cores.{dialect_in, Core, lane_at}
 use Rattle.modem_driver.specs.Reports.{Listens, read_each, owner_of}
 
 -- octets are offered on d: the station takes them where it doesn't refuse them
@@ -48,7 +48,7 @@ unfoldable pub ReadsFrame : Core → Frame → Lane → List Act → Type 0
 ReadsFrame v f lane acts =
     (listens : UrcKind → Bool) → Listens listens v.kinds
     → record { kept = lane.kept; window = lane.window; acts = acts }
-    ≡ read_each listens f.dlci (option_map owner_of (first_on f.dlci v.hand))
+    ≡ read_each (dialect_in v) listens f.dlci (option_map owner_of (first_on f.dlci v.hand))
     (record { kept = (lane_at v f.dlci).kept; window = (lane_at v f.dlci).window; acts = Got f ∷ [] }) f.info
 
 -- and where it is read on a fork of that lane's window
@@ -56,6 +56,6 @@ unfoldable pub ReadsApart : Core → Frame → Lane → List Act → Type 0
 ReadsApart v f lane acts =
     (listens : UrcKind → Bool) → Listens listens v.kinds
     → record { kept = lane.kept; window = lane.window; acts = acts }
-    ≡ read_each listens f.dlci (option_map owner_of (first_on f.dlci v.hand))
+    ≡ read_each (dialect_in v) listens f.dlci (option_map owner_of (first_on f.dlci v.hand))
     (record { kept = (lane_at v f.dlci).kept; window = forked (lane_at v f.dlci).window; acts = Got f ∷ [] })
     f.info

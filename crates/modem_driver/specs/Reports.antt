@@ -6,6 +6,7 @@ use Rattle.at_text.specs.declared.unsolicited.UrcKind.{UrcKind}
 use Rattle.at_text.specs.declared.unsolicited.UrcKind.TheVariants.{Other}
 use Rattle.at_text.specs.declared.window.Seen as line_is
 use Rattle.at_text.specs.declared.window.Seen.TheVariants.{Echo, Kept, Unsolicited}
+use Rattle.at_text.specs.Dialects.{Dialect}
 use Rattle.at_text.specs.Lines.{lines, kept_run}
 use Rattle.at_text.specs.OpenWindow.{OpenWindow, seen_by, after_line}
 use Rattle.modem_desk.specs.declared.request.Request.{Request}
@@ -38,10 +39,10 @@ said_as listens d owner line (Unsolicited kind) = heard_by listens d kind line
 said_as listens d owner line line_is.TheVariants.Other = heard_by listens d Other line
 
 -- and of lines, one after the other
-abbrev pub said_lines : (UrcKind → Bool) → ℕ → Option Owner → Option OpenWindow → List (List ℕ) → List Act
-said_lines listens d owner w [] = []
-said_lines listens d owner w (l ∷ ls) =
-    said_as listens d owner l (seen_by w l) ++ said_lines listens d owner (after_line w l) ls
+abbrev pub said_lines : Dialect → (UrcKind → Bool) → ℕ → Option Owner → Option OpenWindow → List (List ℕ) → List Act
+said_lines dialect listens d owner w [] = []
+said_lines dialect listens d owner w (l ∷ ls) =
+    said_as listens d owner l (seen_by dialect w l) ++ said_lines dialect listens d owner (after_line dialect w l) ls
 
 -- what is read so far: what is kept of the unfinished line, the window, and what was said
 pub record Read : Type 0 where
@@ -50,34 +51,34 @@ pub record Read : Type 0 where
   pub acts : List Act
 
 -- the window after lines
-abbrev pub after_all : Option OpenWindow → List (List ℕ) → Option OpenWindow
-after_all w [] = w
-after_all w (l ∷ ls) = after_all (after_line w l) ls
+abbrev pub after_all : Dialect → Option OpenWindow → List (List ℕ) → Option OpenWindow
+after_all dialect w [] = w
+after_all dialect w (l ∷ ls) = after_all dialect (after_line dialect w l) ls
 
 -- some octets more
-abbrev pub read_on : (UrcKind → Bool) → ℕ → Option Owner → Read → List ℕ → Read
-read_on listens d owner v octets = record {
+abbrev pub read_on : Dialect → (UrcKind → Bool) → ℕ → Option Owner → Read → List ℕ → Read
+read_on dialect listens d owner v octets = record {
   kept = kept_run (v.kept ++ octets);
-  window = after_all v.window (lines (v.kept ++ octets));
-  acts = v.acts ++ said_lines listens d owner v.window (lines (v.kept ++ octets));
+  window = after_all dialect v.window (lines (v.kept ++ octets));
+  acts = v.acts ++ said_lines dialect listens d owner v.window (lines (v.kept ++ octets));
 }
 
 -- one after the other
-abbrev pub read_each : (UrcKind → Bool) → ℕ → Option Owner → Read → List ℕ → Read
-read_each listens d owner v [] = v
-read_each listens d owner v (c ∷ octets) =
-    read_each listens d owner (read_on listens d owner v (c ∷ [])) octets
+abbrev pub read_each : Dialect → (UrcKind → Bool) → ℕ → Option Owner → Read → List ℕ → Read
+read_each dialect listens d owner v [] = v
+read_each dialect listens d owner v (c ∷ octets) =
+    read_each dialect listens d owner (read_on dialect listens d owner v (c ∷ [])) octets
 
 -- whatever is listened to
-unfoldable pub ReadsOctet : List UrcKind → code.Reading → ℕ → Read → Read → Type 0
-ReadsOctet kinds r c old new =
+unfoldable pub ReadsOctet : (dialect : Dialect) → List UrcKind → code.Reading → ℕ → Read → Read → Type 0
+ReadsOctet dialect kinds r c old new =
     (listens : UrcKind → Bool) → Listens listens kinds
-    → new ≡ read_on listens r.dlci.number r.owner old (c ∷ [])
+    → new ≡ read_on dialect listens r.dlci.number r.owner old (c ∷ [])
 
-unfoldable pub ReadsAll : List UrcKind → code.Reading → List ℕ → Read → Read → Type 0
-ReadsAll kinds r octets old new =
+unfoldable pub ReadsAll : (dialect : Dialect) → List UrcKind → code.Reading → List ℕ → Read → Read → Type 0
+ReadsAll dialect kinds r octets old new =
     (listens : UrcKind → Bool) → Listens listens kinds
-    → new ≡ read_each listens r.dlci.number r.owner old octets
+    → new ≡ read_each dialect listens r.dlci.number r.owner old octets
 
 -- so much was said
 unfoldable pub ReportSays : List UrcKind → code.Reading → ((UrcKind → Bool) → List Act) → List Act → List Act

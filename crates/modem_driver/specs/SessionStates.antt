@@ -2,6 +2,7 @@
 use Rattle.std.specs.Prelude.{◌≡◌, ℕ, ◌<◌, ◌≤◌, ◌++◌, filter, map, Bool, true, false, List, [], ◌∷◌, length, Option, None, nat_lt}
 use Rattle.std.specs.List.{list_all}
 use Rattle.mux_frame.specs.Deframing.{Deframing}
+use Rattle.at_text.specs.Dialects.{standard}
 use Rattle.at_text.specs.declared.unsolicited.UrcKind.{UrcKind}
 use Rattle.at_text.specs.Commands.{refusal_of}
 use Rattle.modem_desk.specs.declared.request.Ask.{Ask}
@@ -128,10 +129,11 @@ FitsInside b look s past = KeptFits b (look s.line) s.driver s.kept past
 abbrev pub FitsAll : {X : Type 0} → Beginning → (X → LineView) → SessionState X → List Act → Type 0
 FitsAll b look s past = FitsWith b (session_view look s) (FitsInside b look s) past
 
--- a session that begins over a line and a desk's end
+-- a session with a standard modem that begins over a line and a desk's end
 abbrev pub beginning_of : ℕ → LineView → DriverView → Beginning
 beginning_of n1 l d = record {
   n1 = n1;
+  dialect = standard;
   callers = length d.desk.rings;
   kinds = d.desk.kinds;
   line = l;

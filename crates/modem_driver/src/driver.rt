@@ -35,6 +35,7 @@ pub struct Core {
 }
 
 impl Model for Core {
+    ghost use Rattle.at_text.specs.Dialects.{standard};
     ghost use Rattle.modem_driver.specs.Cores.{Core};
     ghost use Rattle.modem_driver.specs.CoreKeeping.{IsKept};
 
@@ -44,6 +45,7 @@ impl Model for Core {
       station = c.station;
       lanes = c.lanes;
       hand = c.hand;
+      dialect = standard;
       kinds = c.kinds.items;
       lost = c.lost;
     } };

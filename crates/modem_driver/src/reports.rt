@@ -2,6 +2,7 @@
 ghost use Rattle.std.specs.Prelude.{◌≡◌, ◌↔◌, ℕ, List, [], ◌∷◌, ◌++◌, true, map, Some, None, OnOk, IfOk};
 ghost use Rattle.std.specs.List.{Contains};
 ghost use Rattle.modem_history.specs.Acts.{act_of};
+ghost use Rattle.at_text.specs.Dialects.{standard};
 ghost use Rattle.modem_driver.specs.Reports.{done_by, heard_by, said_as, ReportSays, ReadsOctet, ReadsAll};
 
 use at_text::{AnswerLines, LineReader, Seen, Text, UrcKind, Window};
@@ -101,7 +102,7 @@ fn read_octet(
     window: &mut Window,
     acts: &mut Vec<Act>,
 ) -> Result<(), AllocError>
-    ensures { OnOk result (ReadsOctet kinds.now reading octet (record {
+    ensures { OnOk result (ReadsOctet standard kinds.now reading octet (record {
       kept = reader.old;
       window = window.old;
       acts = map act_of acts.old.items;
@@ -130,7 +131,7 @@ pub(crate) fn read_octets(
     window: &mut Window,
     acts: &mut Vec<Act>,
 ) -> Result<(), AllocError>
-    ensures { OnOk result (ReadsAll kinds.now reading octets.now (record {
+    ensures { OnOk result (ReadsAll standard kinds.now reading octets.now (record {
       kept = reader.old;
       window = window.old;
       acts = map act_of acts.old.items;

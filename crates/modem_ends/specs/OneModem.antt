@@ -4,6 +4,7 @@ use Rattle.std.specs.Prelude.{◌≡◌, ℕ, List, [], ◌∷◌, ◌++◌, len
 use Rattle.mux_station.specs.Acts as station
 use Rattle.mux_station.specs.declared.role.Role.TheVariants.{Initiator}
 use Rattle.at_text.specs.declared.answer.AnswerLine.{AnswerLine}
+use Rattle.at_text.specs.Dialects.{standard}
 use Rattle.modem_desk.specs.declared.request.Answer.TheVariants.{Done}
 use Rattle.modem_desk.specs.declared.request.Outcome.{Outcome}
 use Rattle.modem_history.specs.Acts as driver
@@ -56,11 +57,12 @@ abbrev pub IsOneLine : List EndAct → Type 0
 IsOneLine [] = Unit {0}
 IsOneLine (a ∷ line) = ComesBothWays (a ∷ line) × IsOneLine line
 
--- A driver that keeps its laws, whose calls are complete, which takes command lines, and of whose callers
+-- A driver of a standard modem that keeps its laws, whose calls are complete, which takes command lines, and of whose callers
 -- none uses a number twice; a modem that keeps its laws, and announces unsolicited lines alone; one line
 -- between them, on which each connection is asked for once at most.
 pub record IsOneModem (s : Setting) (e : End) (line : List EndAct) : Type 0 where
   pub is_initiator : s.role ≡ Initiator
+  pub codes : s.dialect ≡ standard
   pub driver_lawful : driver_laws.Lawful s (driver_past line)
   pub calls : CompleteCalls s (driver_past line)
   pub numbers : UsesOnce (taken_requests (driver_past line))

@@ -3,8 +3,8 @@ use Rattle.std.specs.Prelude.{◌≡◌, ℕ, ◌<◌, ◌==◌, true, false, Li
 use Rattle.std.specs.List.{list_all, list_any}
 use Rattle.std.specs.List.Sorted.{IsStrictlyIncreasing}
 use Rattle.at_text.specs.declared.answer.AnswerLine.{AnswerLine}
+use Rattle.at_text.specs.Dialects.{standard, is_solicited}
 use Rattle.at_text.specs.Finals.{is_final}
-use Rattle.at_text.specs.Unsolicited.{is_solicited}
 use Rattle.at_cmds.specs.declared.command.Command.{Command}
 use Rattle.at_cmds.specs.Commands.{IsTextOf}
 use Rattle.at_cmds.specs.Replies.{reply_of}
@@ -41,7 +41,7 @@ pub record EndsOnce (answer : List AnswerLine) : Type 0 where
 -- it is read back as the reply that the state says
 pub record AnswersWell (s : ModemState) (line : List ℕ) : Type 0 where
   pub ends : EndsOnce (step s line).answer
-  pub solicited : list_all (λ answer. is_solicited answer.text) (step s line).answer ≡ true
+  pub solicited : list_all (λ answer. is_solicited standard answer.text) (step s line).answer ≡ true
   pub read_back : (c : Command) → IsTextOf line c → reply_of c (step s line).answer ≡ meant s c
 
 -- whatever lines a modem was given since it started so, it answers the next one well

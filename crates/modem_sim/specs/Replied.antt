@@ -7,9 +7,9 @@ use Rattle.mux_station.specs.declared.role.Role.TheVariants.{Responder}
 use Rattle.mux_station.specs.Written.{is_on}
 use Rattle.mux_station.specs.Offering.{data_out}
 use Rattle.at_text.specs.declared.answer.AnswerLine.{AnswerLine}
+use Rattle.at_text.specs.Dialects.{standard, is_solicited}
 use Rattle.at_text.specs.Commands.{has_at}
 use Rattle.at_text.specs.Lines.{lines}
-use Rattle.at_text.specs.Unsolicited.{is_solicited}
 use Rattle.modem_history.specs.TwoEnds.{frames_got}
 use Rattle.modem_sim.specs.declared.modem.ModemStart.{ModemStart}
 use Rattle.modem_sim.specs.declared.script.StepAct.TheVariants.{Announce}
@@ -55,7 +55,7 @@ pub record IsModem (m : ModemState) : Type 0 where
 -- each line that was announced is unsolicited
 abbrev pub AnnouncesUnsolicited : List Act → Type 0
 AnnouncesUnsolicited [] = Unit {0}
-AnnouncesUnsolicited (Did (Announce d line) ∷ past) = (is_solicited line ≡ false) × AnnouncesUnsolicited past
+AnnouncesUnsolicited (Did (Announce d line) ∷ past) = (is_solicited standard line ≡ false) × AnnouncesUnsolicited past
 AnnouncesUnsolicited (_ ∷ past) = AnnouncesUnsolicited past
 
 -- it is asked for d once at most
@@ -83,5 +83,5 @@ AnswersInLines start =
 unfoldable pub SendsReplies : End → List Act → Type 0
 SendsReplies e past =
     SimLawful e past → IsModem e.modem → AnnouncesUnsolicited past → (d : ℕ) → IsAskedOnce d past
-    → IsFirstOf (filter is_solicited (lines (data_out Responder d (wire past))))
-    (filter is_solicited (all_of (replied_on e.echo d e.modem (heard past))))
+    → IsFirstOf (filter (is_solicited standard) (lines (data_out Responder d (wire past))))
+    (filter (is_solicited standard) (all_of (replied_on e.echo d e.modem (heard past))))

@@ -16,6 +16,7 @@ use Rattle.mux_station.specs.Stations.{channel_at}
 use Rattle.mux_station.specs.Traces.{without_calls}
 use Rattle.mux_station.proofs.states.OpenedStates.{opened_is_open}
 use Rattle.mux_station.proofs.law_proofs.PastsWithoutCalls.{same_given}
+use Rattle.at_text.specs.Dialects.{Dialect}
 use Rattle.at_text.specs.Windows.{Mark, answers, answer_of, answered, has_final, windows}
 use Rattle.modem_desk.specs.declared.request.Request.{Request}
 use Rattle.modem_history.specs.Acts.{Act, wire, in_hand}
@@ -85,10 +86,10 @@ few_passed p (x ∷ xs) = by_test (p x) (few_passed p xs)
 windows_begun : (ms : List Mark) → length (windows ms) ≡ length (begun_in ms)
 windows_begun ms = sym (length-map (windows ms) (λ w. w.command))
 
-answered_few : (ms : List Mark) → answered ms ≤ length (begun_in ms)
-answered_few ms =
-    let a = few_passed has_final (answers ms) in
-    let b : length (answers ms) ≡ length (windows ms) = length-map (windows ms) answer_of in
+answered_few : (dialect : Dialect) (ms : List Mark) → answered dialect ms ≤ length (begun_in ms)
+answered_few dialect ms =
+    let a = few_passed (has_final dialect) (answers dialect ms) in
+    let b : length (answers dialect ms) ≡ length (windows ms) = length-map (windows ms) (answer_of dialect) in
     let c = windows_begun ms in
     omega (arith, a, b, c)
 
@@ -96,9 +97,9 @@ take_few : {X : Type 0} → (n : ℕ) (xs : List X) (m : ℕ) → m ≤ length (
 take_few n xs m h = let e = length-take n xs in omega (arith, h, e)
 
 -- nothing of what was accepted is left to be sent
-all_out : (n : ℕ) (qs : List Request) (ms : List Mark) → begun_in ms ≡ map line_of (whole_after n qs) → length qs ≤ answered ms → length (concat (texts qs)) ≤ n
-all_out n qs ms h l =
-    let a = answered_few ms in
+all_out : (dialect : Dialect) (n : ℕ) (qs : List Request) (ms : List Mark) → begun_in ms ≡ map line_of (whole_after n qs) → length qs ≤ answered dialect ms → length (concat (texts qs)) ≤ n
+all_out dialect n qs ms h l =
+    let a = answered_few dialect ms in
     let b : length (begun_in ms) ≡ length (whole_after n qs) = ap length h ∙ length-map (whole_after n qs) line_of in
     let few : length qs ≤ length (whole_after n qs) = omega (arith, a, b, l) in
     let c = texts_counted qs in
@@ -123,15 +124,15 @@ ring_empty s v past d l r b z o none =
     let fits = l.runs.fits.channels_are d b in
     let opened : is_opened (channel_at v.station d).state ≡ true = ap is_opened (sym (l.states_are d b)) ∙ (opened_is_open s.role (wire past) d ∙ o) in
     let all_before : acc ≡ i.before = i.accepted_are ∙ (ap (λ (qs : List Request). i.before ++ qs) none ∙ append-nil i.before) in
-    let count : answered ms ≡ length acc = i.answered_are ∙ ap length (sym all_before) in
-    let sent : length (concat (texts acc)) ≤ length out = all_out (length out) acc ms (begins_in_turn s past r.lawful d).first (omega (arith, count)) in
+    let count : answered s.dialect ms ≡ length acc = i.answered_are ∙ ap length (sym all_before) in
+    let sent : length (concat (texts acc)) ≤ length out = all_out s.dialect (length out) acc ms (begins_in_turn s past r.lawful d).first (omega (arith, count)) in
     let given_is : data_out s.role d l.runs.seen ≡ out = given_out s.role d l.runs.seen past l.runs.same z in
     let ring : offered s.role d l.runs.seen ≡ data_out s.role d l.runs.seen ++ (channel_at v.station d).waiting
     = subst (λ (x : Role). offered x d l.runs.seen ≡ data_out x d l.runs.seen ++ (channel_at v.station d).waiting) (sym l.same_role) (fits.ring_is opened) in
     let lane = l.runs.lanes_fit d b z (subst (λ (x : Role). is_open x d (wire past) ≡ true) l.role_is o) in
-    let offers : offered s.role d l.runs.seen ≡ concat (texts (take (answered ms + 1) acc))
-    = subst (λ (x : Role). offered x d l.runs.seen ≡ concat (texts (take (answered (marks x d past) + 1) (accepted x d past)))) (sym l.role_is) lane.offered_is in
-    let all : offered s.role d l.runs.seen ≡ concat (texts acc) = offers ∙ ap (λ (qs : List Request). concat (texts qs)) (take_all (answered ms + 1) acc (omega (arith, count))) in
+    let offers : offered s.role d l.runs.seen ≡ concat (texts (take (answered s.dialect ms + 1) acc))
+    = subst (λ (x : Role). offered x d l.runs.seen ≡ concat (texts (take (answered s.dialect (marks x d past) + 1) (accepted x d past)))) (sym l.role_is) lane.offered_is in
+    let all : offered s.role d l.runs.seen ≡ concat (texts acc) = offers ∙ ap (λ (qs : List Request). concat (texts qs)) (take_all (answered s.dialect ms + 1) acc (omega (arith, count))) in
     let size : length (concat (texts acc)) ≡ length out + length (channel_at v.station d).waiting
     = ap length (sym all ∙ (ring ∙ ap (λ (x : List ℕ). x ++ (channel_at v.station d).waiting) given_is)) ∙ length-append out (channel_at v.station d).waiting in
     nil_from_length (channel_at v.station d).waiting (omega (arith, size, sent))

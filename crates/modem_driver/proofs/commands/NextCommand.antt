@@ -6,6 +6,7 @@ use Rattle.std.proofs.Math.Seq.{take-append-add}
 use Rattle.std.proofs.lemmas.Bool.Decides.{nat_tests}
 use Rattle.std.proofs.lemmas.List.{take-append-drop, length-take, length-take-le, length-map}
 use Rattle.std.proofs.lemmas.List.Folds.{concat-append}
+use Rattle.at_text.specs.Dialects.{Dialect}
 use Rattle.at_text.specs.Windows.{Mark, Begun, answered, open_window}
 use Rattle.modem_desk.specs.declared.request.Request.{Request}
 use Rattle.modem_history.specs.Information.{line_of, texts}
@@ -51,11 +52,11 @@ whole_short n (t ∷ ts) h =
 
 -- ## The command that is under way
 
-pub record NextIs (before cmds : List Request) (ms : List Mark) (out w : List ℕ) : Type 0 where
+pub record NextIs (dialect : Dialect) (before cmds : List Request) (ms : List Mark) (out w : List ℕ) : Type 0 where
   pub first : Request
   pub rest : List Request
   pub split : cmds ≡ first ∷ rest
-  pub idle : open_window ms ≡ None
+  pub idle : open_window dialect ms ≡ None
   -- so many octets of it left, and the others wait
   pub front : ℕ
   pub out_is : length out ≡ out_of before + front
@@ -63,8 +64,8 @@ pub record NextIs (before cmds : List Request) (ms : List Mark) (out w : List �
   pub joins : out ++ w ≡ concat (texts before) ++ text_of first
 
 -- the commands that began are those wholly sent
-pub began : (ms : List Mark) (out : List ℕ) (qs : List Request) → Kept ms out qs → begun_count ms ≡ whole_in (length out) (texts qs)
-began ms out qs k =
+pub began : (dialect : Dialect) (ms : List Mark) (out : List ℕ) (qs : List Request) → Kept dialect ms out qs → begun_count ms ≡ whole_in (length out) (texts qs)
+began dialect ms out qs k =
     let few : whole_in (length out) (texts qs) ≤ length qs = let f = whole_few (length out) (texts qs) in let l = length_texts qs in omega (arith, f, l) in
     sym (begun_counted ms) ∙ (ap length k.first ∙ (length-map (whole_after (length out) qs) line_of ∙ length-take-le (whole_in (length out) (texts qs)) qs few))
 
@@ -74,25 +75,25 @@ take_one before rest c = take-append-add before (c ∷ rest) 1
 pub take_all : (before : List Request) → take (length before + 1) (before ++ []) ≡ before
 take_all before = take-append-add before [] 1 ∙ append-nil before
 
-pub next_is : (before cmds : List Request) (ms : List Mark) (out w : List ℕ) → Kept ms out (before ++ cmds) → answered ms ≡ length before
-    → out ++ w ≡ concat (texts (take (answered ms + 1) (before ++ cmds))) → 0 < length w → NextIs before cmds ms out w
-next_is before [] ms out w k a e l =
+pub next_is : (dialect : Dialect) (before cmds : List Request) (ms : List Mark) (out w : List ℕ) → Kept dialect ms out (before ++ cmds) → answered dialect ms ≡ length before
+    → out ++ w ≡ concat (texts (take (answered dialect ms + 1) (before ++ cmds))) → 0 < length w → NextIs dialect before cmds ms out w
+next_is dialect before [] ms out w k a e l =
     absurd (
     let same : out ++ w ≡ concat (texts before) = e ∙ (ap (λ (n : ℕ). concat (texts (take (n + 1) (before ++ [])))) a ∙ ap (λ (qs : List Request). concat (texts qs)) (take_all before)) in
     let long : length out + length w ≡ length (concat (texts before)) = sym (length-append out w) ∙ ap length same in
     let short = whole_short (length out) (texts before) (omega (arith, long, l)) in
     let size = length_texts before in
-    let all = counts ms k.turns.order in
-    let some : begun_count ms ≡ whole_in (length out) (texts before) = began ms out (before ++ []) k ∙ ap (λ (qs : List Request). whole_in (length out) (texts qs)) (append-nil before) in
+    let all = counts dialect ms k.turns.order in
+    let some : begun_count ms ≡ whole_in (length out) (texts before) = began dialect ms out (before ++ []) k ∙ ap (λ (qs : List Request). whole_in (length out) (texts qs)) (append-nil before) in
     omega (arith, short, size, all, some, a))
-next_is before (c ∷ rest) ms out w k a e l =
+next_is dialect before (c ∷ rest) ms out w k a e l =
     let same : out ++ w ≡ concat (texts before) ++ text_of c
     = e ∙ (ap (λ (n : ℕ). concat (texts (take (n + 1) (before ++ c ∷ rest)))) a
     ∙ (ap (λ (qs : List Request). concat (texts qs)) (take_one before rest c)
     ∙ (ap concat (texts_both before (c ∷ [])) ∙ (concat-append (texts before) (text_of c ∷ []) ∙ ap (λ (v : List ℕ). concat (texts before) ++ v) (append-nil (text_of c)))))) in
     let long : length out + length w ≡ out_of before + length (text_of c) = sym (length-append out w) ∙ (ap length same ∙ length-append (concat (texts before)) (text_of c)) in
-    let all = counts ms k.turns.order in
-    let some = began ms out (before ++ c ∷ rest) k in
+    let all = counts dialect ms k.turns.order in
+    let some = began dialect ms out (before ++ c ∷ rest) k in
     let size = length_texts before in
     let apart : whole_in (length out) (texts (before ++ c ∷ rest)) ≡ whole_in (length out) (texts before ++ texts (c ∷ rest)) = ap (whole_in (length out)) (texts_both before (c ∷ rest)) in
     let least : out_of before ≤ length out = whole_least (length out) (texts before) (texts (c ∷ rest)) (omega (arith, all, some, size, a, apart)) in
@@ -105,7 +106,7 @@ next_is before (c ∷ rest) ms out w k a e l =
       first = c;
       rest = rest;
       split = refl;
-      idle = none_open (open_window ms) (omega (arith, all, some, here, a));
+      idle = none_open (open_window dialect ms) (omega (arith, all, some, here, a));
       front = front;
       out_is = out_is;
       all_is = all_is;

@@ -40,7 +40,7 @@ use Rattle.modem_history.specs.Requests.{are_distinct, commands_on, without_firs
 use Rattle.modem_history.proofs.requests.ClosedWindows.{minus}
 use Rattle.modem_driver.specs.Telling.{told_by, probe_noted}
 use Rattle.modem_driver.specs.Cores as cores
-use Rattle.modem_driver.specs.Cores.{Core, LaneFits, Runs, RunsUnless, Fits, IsRun, IsSettingOf, MayCome, GoesOn, Handles, state_shown, may_wait, probe_or, probe_in, lane_at}
+use Rattle.modem_driver.specs.Cores.{dialect_in, Core, LaneFits, Runs, RunsUnless, Fits, IsRun, IsSettingOf, MayCome, GoesOn, Handles, state_shown, may_wait, probe_or, probe_in, lane_at}
 use Rattle.modem_driver.specs.Receiving.{reads_data}
 use Rattle.modem_driver.specs.Reports.{Listens, Read, after_all, owner_of}
 use Rattle.modem_driver.specs.Handing.{HandsOn, EndedBy, ReadsFrame}
@@ -96,10 +96,10 @@ finished kept new d false e = record { station = kept.station; new_is = e; next 
 
 record LaneRead (s : Setting) (past : List Act) (f : Frame) (old : Lane) (owner : Option Request) (lane : Lane) (acts : List Act) : Type 0 where
   kept_is : lane.kept ≡ kept_run (old.kept ++ f.info)
-  window_is : lane.window ≡ after_all old.window (lines (old.kept ++ f.info))
+  window_is : lane.window ≡ after_all s.dialect old.window (lines (old.kept ++ f.info))
   acts_are : acts ≡ Got f ∷ by_lines s f.dlci owner (marks s.role f.dlci past) (lines (old.kept ++ f.info))
 
-lane_read : (v : Core) (s : Setting) (past : List Act) (seen : List station.Act) (f : Frame) (lane : Lane) (acts : List Act) → s.role ≡ Initiator → IsSettingOf s v → ReadsFrame v f lane acts → LaneFits f.dlci seen past (lane_at v f.dlci)
+lane_read : (v : Core) (s : Setting) (past : List Act) (seen : List station.Act) (f : Frame) (lane : Lane) (acts : List Act) → s.role ≡ Initiator → IsSettingOf s v → ReadsFrame v f lane acts → LaneFits s.dialect f.dlci seen past (lane_at v f.dlci)
     → LaneRead s past f (lane_at v f.dlci) (first_on f.dlci v.hand) lane acts
 unfolding ReadsFrame Listens
 lane_read v s past seen f lane acts role h reads k =
@@ -107,8 +107,8 @@ lane_read v s past seen f lane acts role h reads k =
     let owner = first_on f.dlci v.hand in
     let first : Read = record { kept = old.kept; window = old.window; acts = Got f ∷ [] } in
     let each = reads s.listens h.listens_are in
-    let all = each ∙ each_is s.listens f.dlci (option_map owner_of owner) first (information_in Initiator f.dlci past) f.info reads_on (sym k.kept_is) in
-    let shows = subst (λ (x : Role). old.window ≡ option_map shown (open_window (marks x f.dlci past))) (sym role) k.window_fits.shows in
+    let all = each ∙ each_is s.dialect s.listens f.dlci (option_map owner_of owner) first (information_in Initiator f.dlci past) f.info reads_on (sym k.kept_is) in
+    let shows = subst (λ (x : Role). old.window ≡ option_map (shown s.dialect) (open_window s.dialect (marks x f.dlci past))) (sym role) k.window_fits.shows in
     record {
       kept_is = ap (λ (x : Read). x.kept) all;
       window_is = ap (λ (x : Read). x.window) all;
@@ -213,23 +213,23 @@ open_on v l past r f i live k h =
 
 -- what is kept of each connection
 data_lanes : (old : Core) (l : UrcKind → Bool) (past : List Act) (r : Runs old past) (f : Frame) (lane : Lane) (seen : List station.Act) (own_text : List ℕ) → IsSound old → f.dlci < 62 → is_lost past ≡ false → OpenOn old l past r f
-    → DataKept old l past r f (lane_at old f.dlci) → lane.kept ≡ kept_run ((lane_at old f.dlci).kept ++ f.info) → lane.window ≡ after_all (lane_at old f.dlci).window (lines ((lane_at old f.dlci).kept ++ f.info))
-    → offered Initiator f.dlci seen ≡ concat (texts (take (answered (marks Initiator f.dlci (ended (own old l) past (Got f))) + 1) (accepted Initiator f.dlci (ended (own old l) past (Got f)))))
+    → DataKept old l past r f (lane_at old f.dlci) → lane.kept ≡ kept_run ((lane_at old f.dlci).kept ++ f.info) → lane.window ≡ after_all (dialect_in old) (lane_at old f.dlci).window (lines ((lane_at old f.dlci).kept ++ f.info))
+    → offered Initiator f.dlci seen ≡ concat (texts (take (answered (dialect_in old) (marks Initiator f.dlci (ended (own old l) past (Got f))) + 1) (accepted Initiator f.dlci (ended (own old l) past (Got f)))))
     → ((e : ℕ) → (f.dlci == e) ≡ false → offered Initiator e seen ≡ offered Initiator e (seen_then old r.seen f))
     → (e : ℕ) → e < 62 → (e == 0) ≡ false → is_open Initiator e (wire (ended (own old l) past (Got f))) ≡ true
-    → LaneFits e seen (ended (own old l) past (Got f)) (slice_index_or (slice_set old.lanes f.dlci lane) e new_lane)
+    → LaneFits (dialect_in old) e seen (ended (own old l) past (Got f)) (slice_index_or (slice_set old.lanes f.dlci lane) e new_lane)
 data_lanes old l past r f lane seen own_text i k live o c kept window own_is others e m z on = by_same (f.dlci == e) refl
   where
-    by_same : (b : Bool) → (f.dlci == e) ≡ b → LaneFits e seen (ended (own old l) past (Got f)) (slice_index_or (slice_set old.lanes f.dlci lane) e new_lane)
+    by_same : (b : Bool) → (f.dlci == e) ≡ b → LaneFits (dialect_in old) e seen (ended (own old l) past (Got f)) (slice_index_or (slice_set old.lanes f.dlci lane) e new_lane)
     by_same true g =
         let here : slice_index_or (slice_set old.lanes f.dlci lane) f.dlci new_lane ≡ lane = get_or-set_same old.lanes f.dlci lane new_lane (subst (λ (x : ℕ). f.dlci < x) (sym i.all) k) in
-        let fits : LaneFits f.dlci seen (ended (own old l) past (Got f)) lane = record {
+        let fits : LaneFits (dialect_in old) f.dlci seen (ended (own old l) past (Got f)) lane = record {
           kept_is = c.run_is ∙ sym kept;
-          window_fits = subst (λ (w : Option OpenWindow). FitsMarks w (marks Initiator f.dlci (ended (own old l) past (Got f)))) (sym window) c.window_fits;
+          window_fits = subst (λ (w : Option OpenWindow). FitsMarks (dialect_in old) w (marks Initiator f.dlci (ended (own old l) past (Got f)))) (sym window) c.window_fits;
           offered_is = own_is;
         } in
-        subst (λ (x : ℕ). LaneFits x seen (ended (own old l) past (Got f)) (slice_index_or (slice_set old.lanes f.dlci lane) x new_lane)) (eqb-true f.dlci e g)
-        (subst (λ (x : Lane). LaneFits f.dlci seen (ended (own old l) past (Got f)) x) (sym here) fits)
+        subst (λ (x : ℕ). LaneFits (dialect_in old) x seen (ended (own old l) past (Got f)) (slice_index_or (slice_set old.lanes f.dlci lane) x new_lane)) (eqb-true f.dlci e g)
+        (subst (λ (x : Lane). LaneFits (dialect_in old) f.dlci seen (ended (own old l) past (Got f)) x) (sym here) fits)
     by_same false g =
         let there : slice_index_or (slice_set old.lanes f.dlci lane) e new_lane ≡ lane_at old e = get_or-set_other old.lanes f.dlci e lane new_lane (λ (x : e ≡ f.dlci). eqb-false f.dlci e g (sym x)) in
         let t = standings Initiator e (wire past) in
@@ -237,7 +237,7 @@ data_lanes old l past r f lane seen own_text i k live o c kept window own_is oth
         let was = got_was (own old l) e past f never on in
         let apart : (e == f.dlci) ≡ false = ne_eqb e f.dlci (λ (x : e ≡ f.dlci). eqb-false f.dlci e g (sym x)) in
         let plain = plain_lane old l past r f e (lane_at old e) (carries_apart e f (is_open Initiator e (wire past)) apart) never was (r.lanes_fit e m z was) in
-        subst (λ (x : Lane). LaneFits e seen (ended (own old l) past (Got f)) x) (sym there)
+        subst (λ (x : Lane). LaneFits (dialect_in old) e seen (ended (own old l) past (Got f)) x) (sym there)
         (record { kept_is = plain.kept_is; window_fits = plain.window_fits; offered_is = others e g ∙ plain.offered_is })
 
 data_own : (old new : Core) (l : UrcKind → Bool) (past : List Act) (f : Frame) (n : Noted) (lane : Lane) (st : Station) (acts : List Act) → IsSound old → DataCame old new f n lane st acts
@@ -262,16 +262,16 @@ data_own old new l past f n lane st acts i w m =
     let ls = lines (before.kept ++ f.info) in
     let ms = marks Initiator d past in
     let done = is_some before.window && is_none lane.window in
-    let closed : done ≡ closes ms ls
-    = closes_shown before.window lane.window ms (ms ++ map Line ls) fits_lane.window_fits.shows (lr.window_is ∙ shows_after ls before.window ms fits_lane.window_fits.shows) in
+    let closed : done ≡ closes (dialect_in old) ms ls
+    = closes_shown (dialect_in old) before.window lane.window ms (ms ++ map Line ls) fits_lane.window_fits.shows (lr.window_is ∙ shows_after (dialect_in old) ls before.window ms fits_lane.window_fits.shows) in
     let quiet_noted : probe_noted n ≡ None
     = ap probe_noted (w.noted_is r.seen r.fits ∙ ap (λ (x : Role). noted_of x (station_seen (setting_of old.station) r.seen) f) i.role_is) ∙ data_noted (station_seen (setting_of old.station) r.seen) f o.data_is in
-    let shown : ℕ → ChannelState = λ e. state_shown st false e in
+    let (shown (dialect_in old)) : ℕ → ChannelState = λ e. state_shown st false e in
     let b = has_ended v now in
-    let says = told_by (happened.Got n) b shown in
+    let says = told_by (happened.Got n) b (shown (dialect_in old)) in
     let same_shown : (e : ℕ) → e < 62 → state_shown st false e ≡ state_shown old.station false e = shown_data old l past r f st (seen_then old r.seen f) i live o.data_is role there refl in
-    let waits : list_all (λ (q : Request). may_wait shown q.ask) old.hand ≡ true = waits_same shown (state_shown old.station false) same_shown old.hand ∙ r.waits in
-    let quiet : Quiet says old.hand = all_quiet n b shown old.hand quiet_noted waits in
+    let waits : list_all (λ (q : Request). may_wait (shown (dialect_in old)) q.ask) old.hand ≡ true = waits_same (shown (dialect_in old)) (state_shown old.station false) same_shown old.hand ∙ r.waits in
+    let quiet : Quiet says old.hand = all_quiet n b (shown (dialect_in old)) old.hand quiet_noted waits in
     let all : AllSay v now (Got f) says old.hand = all_told old l past r f n st i live m.fits.hand_is m.run role there w.noted_is in
     let told : tolds v now (Got f) ≡ []
     = ap (filter_map (told_later v now (Got f))) m.fits.hand_is ∙ (tolds_are v now (Got f) says old.hand all ∙ ap (map act_of) quiet.untold) in
@@ -293,7 +293,7 @@ data_own old new l past f n lane st acts i w m =
     let fin = finished (record old { station = st; lanes = slice_set old.lanes d lane }) new d done w.ends in
     let hand : in_hand (ended s past (Got f)) ≡ hand_then done d old.hand
     = data_hand s past f read (hand_distinct s past m.run)
-    ∙ (ap (λ (x : List ℕ). owning.left_by (closes ms (lines (x ++ f.info))) (first_on d (in_hand past)) (filter (stays v now (Got f)) (in_hand past))) fits_lane.kept_is
+    ∙ (ap (λ (x : List ℕ). owning.left_by (closes (dialect_in old) ms (lines (x ++ f.info))) (first_on d (in_hand past)) (filter (stays v now (Got f)) (in_hand past))) fits_lane.kept_is
     ∙ (ap (λ (x : Bool). owning.left_by x (first_on d (in_hand past)) (filter (stays v now (Got f)) (in_hand past))) (sym closed)
     ∙ (ap (λ (q : List Request). owning.left_by done (first_on d q) (filter (stays v now (Got f)) (in_hand past))) m.fits.hand_is
     ∙ hand_is done d old.hand (filter (stays v now (Got f)) (in_hand past)) left distinct))) in
@@ -301,7 +301,7 @@ data_own old new l past f n lane st acts i w m =
     = λ e. ring_empty old l past r f before st i live o.no_zero w.in_range run o.ended_now o.now fits_lane c (sym closed ∙ e) role there in
     let given = handed_by st fin.station d done (first_on d (hand_then done d old.hand)) (seen_then old r.seen f) role there w.in_range o.no_zero o.now empty fin.next in
     let final : fin.station.role ≡ Initiator = ap (λ x. x.role) given.setting ∙ role in
-    let more : offered Initiator d given.seen ≡ concat (texts (take (answered (marks Initiator d (ended s past (Got f))) + 1) (accepted Initiator d (ended s past (Got f)))))
+    let more : offered Initiator d given.seen ≡ concat (texts (take (answered (dialect_in old) (marks Initiator d (ended s past (Got f))) + 1) (accepted Initiator d (ended s past (Got f)))))
     = given.own
     ∙ (ap (λ (q : List Request). offered Initiator d (seen_then old r.seen f) ++ (if done then text_next (first_on d q) else [])) (sym hand)
     ∙ offered_then old l past r f before done lost_then o.no_zero run o.ended_now fits_lane c (sym closed)) in

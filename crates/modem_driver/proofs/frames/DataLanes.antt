@@ -19,6 +19,7 @@ use Rattle.mux_station.specs.Stations.{Station, channel_at, setting_of}
 use Rattle.mux_station.specs.Fitting as station_fits
 use Rattle.mux_station.proofs.states.StatesAfterActs.{since_goes_on}
 use Rattle.mux_station.proofs.states.StationPasts.{open_fits}
+use Rattle.at_text.specs.Dialects.{Dialect}
 use Rattle.at_text.specs.Lines.{lines, kept_run}
 use Rattle.at_text.proofs.lines.UnfinishedLines.{reads_on}
 use Rattle.at_text.specs.Windows.{Mark, Line, Window, answered, open_window}
@@ -33,7 +34,7 @@ use Rattle.modem_history.specs.Calls.{Setting, first_on, is_lost}
 use Rattle.modem_driver.specs.SentTexts.{text_of}
 use Rattle.modem_history.specs.Begun.{begun_count}
 use Rattle.modem_history.specs.Wholes.{commands_for, InStep}
-use Rattle.modem_driver.specs.Cores.{Core, LaneFits, Runs, IsRun}
+use Rattle.modem_driver.specs.Cores.{dialect_in, Core, LaneFits, Runs, IsRun}
 use Rattle.modem_driver.specs.Reports.{after_all}
 use Rattle.modem_history.proofs.requests.RequestsAfterCalls.{first_head, head_of}
 use Rattle.modem_history.proofs.requests.ClosedWindows.{closed_stays}
@@ -66,10 +67,10 @@ counted false None (Some v) k k' n n' e s a b m = absurd (let x : Some v ≡ Non
 counted false (Some w) None k k' n n' e s a b m = cc
 
 -- a window more has its answer where the lines close one
-answered_then : (ms : List Mark) (ls : List (List ℕ)) (out : List ℕ) (qs : List Request) → begins.Kept ms out qs → answered (ms ++ map Line ls) ≡ answered ms + (if closes ms ls then 1 else 0)
-answered_then ms ls out qs k =
-    counted (closes ms ls) (open_window ms) (open_window (ms ++ map Line ls)) (answered ms) (answered (ms ++ map Line ls)) (begun_count ms) (begun_count (ms ++ map Line ls)) refl (closed_stays ms ls)
-    (counts ms k.turns.order) (counts (ms ++ map Line ls) (turns_lines ls ms k.turns).order) (begun_same ms ls)
+answered_then : (dialect : Dialect) (ms : List Mark) (ls : List (List ℕ)) (out : List ℕ) (qs : List Request) → begins.Kept dialect ms out qs → answered dialect (ms ++ map Line ls) ≡ answered dialect ms + (if closes dialect ms ls then 1 else 0)
+answered_then dialect ms ls out qs k =
+    counted (closes dialect ms ls) (open_window dialect ms) (open_window dialect (ms ++ map Line ls)) (answered dialect ms) (answered dialect (ms ++ map Line ls)) (begun_count ms) (begun_count (ms ++ map Line ls)) refl (closed_stays dialect ms ls)
+    (counts dialect ms k.turns.order) (counts dialect (ms ++ map Line ls) (turns_lines dialect ls ms k.turns).order) (begun_same ms ls)
 
 -- ## What is known after the frame
 
@@ -77,12 +78,12 @@ pub record DataKept (v : Core) (l : UrcKind → Bool) (past : List Act) (r : Run
   pub marks_are : marks Initiator f.dlci (ended (own v l) past (Got f)) ≡ marks Initiator f.dlci past ++ map Line (lines (lane.kept ++ f.info))
   pub accepted_are : accepted Initiator f.dlci (ended (own v l) past (Got f)) ≡ accepted Initiator f.dlci past
   pub run_is : run_on Initiator f.dlci (ended (own v l) past (Got f)) ≡ kept_run (lane.kept ++ f.info)
-  pub window_fits : FitsMarks (after_all lane.window (lines (lane.kept ++ f.info))) (marks Initiator f.dlci (ended (own v l) past (Got f)))
+  pub window_fits : FitsMarks (dialect_in v) (after_all (dialect_in v) lane.window (lines (lane.kept ++ f.info))) (marks Initiator f.dlci (ended (own v l) past (Got f)))
   pub offered_same : offered Initiator f.dlci (seen_then v r.seen f) ≡ offered Initiator f.dlci r.seen
-  pub answered_are : answered (marks Initiator f.dlci (ended (own v l) past (Got f))) ≡ answered (marks Initiator f.dlci past) + (if closes (marks Initiator f.dlci past) (lines (lane.kept ++ f.info)) then 1 else 0)
+  pub answered_are : answered (dialect_in v) (marks Initiator f.dlci (ended (own v l) past (Got f))) ≡ answered (dialect_in v) (marks Initiator f.dlci past) + (if closes (dialect_in v) (marks Initiator f.dlci past) (lines (lane.kept ++ f.info)) then 1 else 0)
 
 pub data_kept : (v : Core) (l : UrcKind → Bool) (past : List Act) (r : Runs v past) (f : Frame) (lane : Lane) → is_data_frame f ≡ true → (f.dlci == 0) ≡ false → IsRun (own v l) past
-    → is_open Initiator f.dlci (wire past) ≡ true → is_open Initiator f.dlci (wire (ended (own v l) past (Got f))) ≡ true → LaneFits f.dlci r.seen past lane → DataKept v l past r f lane
+    → is_open Initiator f.dlci (wire past) ≡ true → is_open Initiator f.dlci (wire (ended (own v l) past (Got f))) ≡ true → LaneFits (dialect_in v) f.dlci r.seen past lane → DataKept v l past r f lane
 data_kept v l past r f lane h z run was o k =
     let s = own v l in
     let d = f.dlci in
@@ -108,13 +109,13 @@ data_kept v l past r f lane h z run was o k =
       marks_are = placed;
       accepted_are = g.accepted_is ∙ got_accepted s d past f never;
       run_is = run_is;
-      window_fits = subst (λ (w : List Mark). FitsMarks (after_all lane.window ls) w) (sym placed)
-          (record { in_turn = (turns_lines ls ms kept.turns).in_turn; shows = shows_after ls lane.window ms k.window_fits.shows });
+      window_fits = subst (λ (w : List Mark). FitsMarks (dialect_in v) (after_all (dialect_in v) lane.window ls) w) (sym placed)
+          (record { in_turn = (turns_lines (dialect_in v) ls ms kept.turns).in_turn; shows = shows_after (dialect_in v) ls lane.window ms k.window_fits.shows });
       offered_same =
           offered_sent d (station_calls (setting_of v.station) r.seen (station.Got f)) (station.Got f ∷ r.seen)
           ∙ (ap (λ (b : Bool). joined_octets (octets_offered d) (since_by b d (station.Got f) r.seen)) (opens_seen d r.seen past (station.Got f) r.same ∙ never)
           ∙ offered_after (belongs Initiator d r.seen (station.Got f)) (station.Got f) d (since Initiator d r.seen) refl);
-      answered_are = ap answered placed ∙ answered_then ms ls (information_out Initiator d past) (accepted Initiator d past) kept;
+      answered_are = ap (answered (dialect_in v)) placed ∙ answered_then (dialect_in v) ms ls (information_out Initiator d past) (accepted Initiator d past) kept;
     }
 
 -- ## The ring
@@ -138,27 +139,27 @@ closed_now None p h = cc
 
 -- where a command has its answer, nothing of it waits
 pub ring_empty : (v : Core) (l : UrcKind → Bool) (past : List Act) (r : Runs v past) (f : Frame) (lane : Lane) (st : Station) → IsSound v → is_lost past ≡ false → (f.dlci == 0) ≡ false → f.dlci < 62
-    → IsRun (own v l) (ended (own v l) past (Got f)) → is_open Initiator f.dlci (wire (ended (own v l) past (Got f))) ≡ true → is_open Initiator f.dlci (seen_then v r.seen f) ≡ true → LaneFits f.dlci r.seen past lane
-    → DataKept v l past r f lane → closes (marks Initiator f.dlci past) (lines (lane.kept ++ f.info)) ≡ true → st.role ≡ Initiator → station_fits.StationFits st (seen_then v r.seen f) → (channel_at st f.dlci).waiting ≡ []
+    → IsRun (own v l) (ended (own v l) past (Got f)) → is_open Initiator f.dlci (wire (ended (own v l) past (Got f))) ≡ true → is_open Initiator f.dlci (seen_then v r.seen f) ≡ true → LaneFits (dialect_in v) f.dlci r.seen past lane
+    → DataKept v l past r f lane → closes (dialect_in v) (marks Initiator f.dlci past) (lines (lane.kept ++ f.info)) ≡ true → st.role ≡ Initiator → station_fits.StationFits st (seen_then v r.seen f) → (channel_at st f.dlci).waiting ≡ []
 ring_empty v l past r f lane st i live z range run o seen_open k c done role h =
     let s = own v l in
     let d = f.dlci in
     let w = (channel_at st d).waiting in
     let out = information_out Initiator d (ended s past (Got f)) in
     let qs = accepted Initiator d past in
-    let n = answered (marks Initiator d past) in
+    let n = answered (dialect_in v) (marks Initiator d past) in
     let opened : is_opened (channel_at st d).state ≡ true = sym (subst (λ (x : Role). is_open x d (seen_then v r.seen f) ≡ is_opened (channel_at st d).state) role (open_fits st (seen_then v r.seen f) d h range)) ∙ seen_open in
     let ring : offered Initiator d (seen_then v r.seen f) ≡ data_out Initiator d (seen_then v r.seen f) ++ w
     = subst (λ (x : Role). offered x d (seen_then v r.seen f) ≡ data_out x d (seen_then v r.seen f) ++ w) role ((h.channels_are d range).ring_is opened) in
     let gone : data_out Initiator d (seen_then v r.seen f) ≡ out = given_seen Initiator d (seen_then v r.seen f) (ended s past (Got f)) (same_then v l past r f i live) z in
     let all : concat (texts (take (n + 1) qs)) ≡ out ++ w = sym (c.offered_same ∙ k.offered_is) ∙ (ring ∙ ap (λ (x : List ℕ). x ++ w) gone) in
     let sizes = ap length all ∙ length-append out w in
-    let kept = subst (λ (q : List Request). begins.Kept (marks Initiator d (ended s past (Got f))) out q) c.accepted_are (begins.kept s (ended s past (Got f)) run.lawful d) in
-    let whole = began (marks Initiator d (ended s past (Got f))) out qs kept in
-    let all_counted = counts (marks Initiator d (ended s past (Got f))) kept.turns.order in
-    let none : open_count (open_window (marks Initiator d (ended s past (Got f)))) ≡ 0
-    = ap (λ (x : List Mark). open_count (open_window x)) c.marks_are ∙ closed_now (open_window (marks Initiator d past)) (open_window (marks Initiator d past ++ map Line (lines (lane.kept ++ f.info)))) done in
-    let count = c.answered_are ∙ one_more (closes (marks Initiator d past) (lines (lane.kept ++ f.info))) n done in
+    let kept = subst (λ (q : List Request). begins.Kept (dialect_in v) (marks Initiator d (ended s past (Got f))) out q) c.accepted_are (begins.kept s (ended s past (Got f)) run.lawful d) in
+    let whole = began (dialect_in v) (marks Initiator d (ended s past (Got f))) out qs kept in
+    let all_counted = counts (dialect_in v) (marks Initiator d (ended s past (Got f))) kept.turns.order in
+    let none : open_count (open_window (dialect_in v) (marks Initiator d (ended s past (Got f)))) ≡ 0
+    = ap (λ (x : List Mark). open_count (open_window (dialect_in v) x)) c.marks_are ∙ closed_now (open_window (dialect_in v) (marks Initiator d past)) (open_window (dialect_in v) (marks Initiator d past ++ map Line (lines (lane.kept ++ f.info)))) done in
+    let count = c.answered_are ∙ one_more (closes (dialect_in v) (marks Initiator d past) (lines (lane.kept ++ f.info))) n done in
     let split : texts qs ≡ texts (take (n + 1) qs) ++ texts (drop (n + 1) qs) = ap texts (sym (take-append-drop (n + 1) qs)) ∙ texts_both (take (n + 1) qs) (drop (n + 1) qs) in
     let parts : whole_in (length out) (texts qs) ≡ whole_in (length out) (texts (take (n + 1) qs) ++ texts (drop (n + 1) qs)) = ap (whole_in (length out)) split in
     let few : length (texts (take (n + 1) qs)) ≡ min (n + 1) (length qs) = length_texts (take (n + 1) qs) ∙ length-take (n + 1) qs in
@@ -184,16 +185,16 @@ unfolding StaysInStep
 step_of s past d r run live z o = (stays_in_step s past run.lawful r run.whole run.numbers live run.complete d z).while_open o
 
 pub offered_then : (v : Core) (l : UrcKind → Bool) (past : List Act) (r : Runs v past) (f : Frame) (lane : Lane) (done : Bool) → is_lost (ended (own v l) past (Got f)) ≡ false → (f.dlci == 0) ≡ false
-    → IsRun (own v l) (ended (own v l) past (Got f)) → is_open Initiator f.dlci (wire (ended (own v l) past (Got f))) ≡ true → LaneFits f.dlci r.seen past lane → DataKept v l past r f lane
-    → closes (marks Initiator f.dlci past) (lines (lane.kept ++ f.info)) ≡ done
+    → IsRun (own v l) (ended (own v l) past (Got f)) → is_open Initiator f.dlci (wire (ended (own v l) past (Got f))) ≡ true → LaneFits (dialect_in v) f.dlci r.seen past lane → DataKept v l past r f lane
+    → closes (dialect_in v) (marks Initiator f.dlci past) (lines (lane.kept ++ f.info)) ≡ done
     → offered Initiator f.dlci (seen_then v r.seen f) ++ (if done then text_next (first_on f.dlci (in_hand (ended (own v l) past (Got f)))) else [])
-    ≡ concat (texts (take (answered (marks Initiator f.dlci (ended (own v l) past (Got f))) + 1) (accepted Initiator f.dlci (ended (own v l) past (Got f)))))
+    ≡ concat (texts (take (answered (dialect_in v) (marks Initiator f.dlci (ended (own v l) past (Got f))) + 1) (accepted Initiator f.dlci (ended (own v l) past (Got f)))))
 offered_then v l past r f lane false live z run o k c e =
     let d = f.dlci in
     append-nil (offered Initiator d (seen_then v r.seen f))
     ∙ (c.offered_same ∙ (k.offered_is
-    ∙ (ap (λ (n : ℕ). concat (texts (take (n + 1) (accepted Initiator d past)))) (sym (c.answered_are ∙ none_more (closes (marks Initiator d past) (lines (lane.kept ++ f.info))) (answered (marks Initiator d past)) e))
-    ∙ ap (λ (qs : List Request). concat (texts (take (answered (marks Initiator d (ended (own v l) past (Got f))) + 1) qs))) (sym c.accepted_are))))
+    ∙ (ap (λ (n : ℕ). concat (texts (take (n + 1) (accepted Initiator d past)))) (sym (c.answered_are ∙ none_more (closes (dialect_in v) (marks Initiator d past) (lines (lane.kept ++ f.info))) (answered (dialect_in v) (marks Initiator d past)) e))
+    ∙ ap (λ (qs : List Request). concat (texts (take (answered (dialect_in v) (marks Initiator d (ended (own v l) past (Got f))) + 1) qs))) (sym c.accepted_are))))
 offered_then v l past r f lane true live z run o k c e = by_step in_step_then
   where
     in_step_then : InStep (own v l) f.dlci (ended (own v l) past (Got f))
@@ -201,14 +202,14 @@ offered_then v l past r f lane true live z run o k c e = by_step in_step_then
 
     by_step : InStep (own v l) f.dlci (ended (own v l) past (Got f))
         → offered Initiator f.dlci (seen_then v r.seen f) ++ text_next (first_on f.dlci (in_hand (ended (own v l) past (Got f))))
-        ≡ concat (texts (take (answered (marks Initiator f.dlci (ended (own v l) past (Got f))) + 1) (accepted Initiator f.dlci (ended (own v l) past (Got f)))))
+        ≡ concat (texts (take (answered (dialect_in v) (marks Initiator f.dlci (ended (own v l) past (Got f))) + 1) (accepted Initiator f.dlci (ended (own v l) past (Got f)))))
     by_step i =
         let d = f.dlci in
         let later = ended (own v l) past (Got f) in
         let cs = commands_for d (in_hand later) in
-        let count : answered (marks Initiator d past) + 1 ≡ length i.before
-        = sym (c.answered_are ∙ one_more (closes (marks Initiator d past) (lines (lane.kept ++ f.info))) (answered (marks Initiator d past)) e) ∙ i.answered_are in
-        let first : take (answered (marks Initiator d past) + 1) (accepted Initiator d past) ≡ i.before
+        let count : answered (dialect_in v) (marks Initiator d past) + 1 ≡ length i.before
+        = sym (c.answered_are ∙ one_more (closes (dialect_in v) (marks Initiator d past) (lines (lane.kept ++ f.info))) (answered (dialect_in v) (marks Initiator d past)) e) ∙ i.answered_are in
+        let first : take (answered (dialect_in v) (marks Initiator d past) + 1) (accepted Initiator d past) ≡ i.before
         = ap (λ (n : ℕ). take n (accepted Initiator d past)) count ∙ (ap (take (length i.before)) (sym c.accepted_are ∙ i.accepted_are) ∙ take-append_seam i.before cs) in
         ap (λ (x : List ℕ). x ++ text_next (first_on d (in_hand later))) (c.offered_same ∙ (k.offered_is ∙ ap (λ (qs : List Request). concat (texts qs)) first))
         ∙ (ap (λ (q : Option Request). concat (texts i.before) ++ text_next q) (first_head d (in_hand later))

@@ -20,6 +20,7 @@ use Rattle.mux_station.proofs.received.StatesAfterFrames.{state_own, state_other
 use Rattle.at_text.specs.declared.answer.AnswerLine.{AnswerLine}
 use Rattle.at_text.specs.declared.window.Seen as line_is
 use Rattle.at_text.specs.declared.window.Seen.TheVariants.{Echo, Kept, Unsolicited}
+use Rattle.at_text.specs.Dialects.{Dialect}
 use Rattle.at_text.specs.Windows.{Mark, Line, Window, open_window}
 use Rattle.at_text.specs.OpenWindow.{OpenWindow, shown, seen_by, after_line}
 use Rattle.at_text.specs.Seeing.{seen_after}
@@ -58,39 +59,39 @@ same_said s d owner line (line_is.TheVariants.Done ls) = same_done owner ls
 same_said s d owner line (Unsolicited kind) = refl
 same_said s d owner line line_is.TheVariants.Other = refl
 
-abbrev Shows : Option OpenWindow → List Mark → Type 0
-Shows w ms = w ≡ option_map shown (open_window ms)
+abbrev Shows : Dialect → Option OpenWindow → List Mark → Type 0
+Shows dialect w ms = w ≡ option_map (shown dialect) (open_window dialect ms)
 
 -- what is said by the window is what is said by what was placed
-pub said_is : (s : Setting) (d : ℕ) (owner : Option Request) (ls : List (List ℕ)) (w : Option OpenWindow) (ms : List Mark) → w ≡ option_map shown (open_window ms)
-    → said_lines s.listens d (option_map owner_of owner) w ls ≡ by_lines s d owner ms ls
+pub said_is : (s : Setting) (d : ℕ) (owner : Option Request) (ls : List (List ℕ)) (w : Option OpenWindow) (ms : List Mark) → w ≡ option_map (shown s.dialect) (open_window s.dialect ms)
+    → said_lines s.dialect s.listens d (option_map owner_of owner) w ls ≡ by_lines s d owner ms ls
 said_is s d owner [] w ms f = refl
 said_is s d owner (l ∷ ls) w ms f =
-    let sees : seen_by w l ≡ seen_after ms l = ap (λ (v : Option OpenWindow). seen_by v l) f ∙ seen_line ms l in
-    let fits : Shows (after_line w l) (ms ++ Line l ∷ []) = ap (λ (v : Option OpenWindow). after_line v l) f ∙ shows_line ms l in
-    ap (λ (v : line_is.Seen). said_as s.listens d (option_map owner_of owner) l v ++ said_lines s.listens d (option_map owner_of owner) (after_line w l) ls) sees
-    ∙ (ap (λ (v : List Act). v ++ said_lines s.listens d (option_map owner_of owner) (after_line w l) ls) (same_said s d owner l (seen_after ms l))
-    ∙ ap (λ (v : List Act). by_seen s d owner l (seen_after ms l) ++ v) (said_is s d owner ls (after_line w l) (ms ++ Line l ∷ []) fits))
+    let sees : seen_by s.dialect w l ≡ seen_after s.dialect ms l = ap (λ (v : Option OpenWindow). seen_by s.dialect v l) f ∙ seen_line s.dialect ms l in
+    let fits : Shows s.dialect (after_line s.dialect w l) (ms ++ Line l ∷ []) = ap (λ (v : Option OpenWindow). after_line s.dialect v l) f ∙ shows_line s.dialect ms l in
+    ap (λ (v : line_is.Seen). said_as s.listens d (option_map owner_of owner) l v ++ said_lines s.dialect s.listens d (option_map owner_of owner) (after_line s.dialect w l) ls) sees
+    ∙ (ap (λ (v : List Act). v ++ said_lines s.dialect s.listens d (option_map owner_of owner) (after_line s.dialect w l) ls) (same_said s d owner l (seen_after s.dialect ms l))
+    ∙ ap (λ (v : List Act). by_seen s d owner l (seen_after s.dialect ms l) ++ v) (said_is s d owner ls (after_line s.dialect w l) (ms ++ Line l ∷ []) fits))
 
-pub shows_after : (ls : List (List ℕ)) (w : Option OpenWindow) (ms : List Mark) → w ≡ option_map shown (open_window ms) → after_all w ls ≡ option_map shown (open_window (ms ++ map Line ls))
-shows_after [] w ms f = f ∙ ap (λ (v : List Mark). option_map shown (open_window v)) (sym (append-nil ms))
-shows_after (l ∷ ls) w ms f =
-    let fits : Shows (after_line w l) (ms ++ Line l ∷ []) = ap (λ (v : Option OpenWindow). after_line v l) f ∙ shows_line ms l in
-    shows_after ls (after_line w l) (ms ++ Line l ∷ []) fits ∙ ap (λ (v : List Mark). option_map shown (open_window v)) (append_assoc ms (Line l ∷ []) (map Line ls))
+pub shows_after : (dialect : Dialect) (ls : List (List ℕ)) (w : Option OpenWindow) (ms : List Mark) → w ≡ option_map (shown dialect) (open_window dialect ms) → after_all dialect w ls ≡ option_map (shown dialect) (open_window dialect (ms ++ map Line ls))
+shows_after dialect [] w ms f = f ∙ ap (λ (v : List Mark). option_map (shown dialect) (open_window dialect v)) (sym (append-nil ms))
+shows_after dialect (l ∷ ls) w ms f =
+    let fits : Shows dialect (after_line dialect w l) (ms ++ Line l ∷ []) = ap (λ (v : Option OpenWindow). after_line dialect v l) f ∙ shows_line dialect ms l in
+    shows_after dialect ls (after_line dialect w l) (ms ++ Line l ∷ []) fits ∙ ap (λ (v : List Mark). option_map (shown dialect) (open_window dialect v)) (append_assoc ms (Line l ∷ []) (map Line ls))
 
-some_shown : (o : Option Window) → is_some (option_map shown o) ≡ is_some o
-some_shown None = refl
-some_shown (Some w) = refl
+some_shown : (dialect : Dialect) (o : Option Window) → is_some (option_map (shown dialect) o) ≡ is_some o
+some_shown dialect None = refl
+some_shown dialect (Some w) = refl
 
-none_shown : (o : Option Window) → is_none (option_map shown o) ≡ not (is_some o)
-none_shown None = refl
-none_shown (Some w) = refl
+none_shown : (dialect : Dialect) (o : Option Window) → is_none (option_map (shown dialect) o) ≡ not (is_some o)
+none_shown dialect None = refl
+none_shown dialect (Some w) = refl
 
 -- the window closes where it shows so
-pub closes_shown : (w v : Option OpenWindow) (ms more : List Mark) → w ≡ option_map shown (open_window ms) → v ≡ option_map shown (open_window more)
-    → (is_some w && is_none v) ≡ (is_some (open_window ms) && not (is_some (open_window more)))
-closes_shown w v ms more e g =
-    ap (λ (b : Bool). b && is_none v) (ap is_some e ∙ some_shown (open_window ms)) ∙ ap (λ (b : Bool). is_some (open_window ms) && b) (ap is_none g ∙ none_shown (open_window more))
+pub closes_shown : (dialect : Dialect) (w v : Option OpenWindow) (ms more : List Mark) → w ≡ option_map (shown dialect) (open_window dialect ms) → v ≡ option_map (shown dialect) (open_window dialect more)
+    → (is_some w && is_none v) ≡ (is_some (open_window dialect ms) && not (is_some (open_window dialect more)))
+closes_shown dialect w v ms more e g =
+    ap (λ (b : Bool). b && is_none v) (ap is_some e ∙ some_shown dialect (open_window dialect ms)) ∙ ap (λ (b : Bool). is_some (open_window dialect ms) && b) (ap is_none g ∙ none_shown dialect (open_window dialect more))
 
 -- ## Data changes no state, and calls for no frame
 

@@ -34,7 +34,7 @@ use Rattle.modem_driver.specs.Lanes.{Lane, new_lane}
 use Rattle.modem_history.specs.Acts.{Act, Got, wire}
 use Rattle.modem_history.specs.Information.{carries, info_got, accepted, texts}
 use Rattle.modem_history.specs.Placing.{marks, run_on, lines_placed}
-use Rattle.modem_driver.specs.Cores.{Core, LaneFits, Runs, lane_at}
+use Rattle.modem_driver.specs.Cores.{dialect_in, Core, LaneFits, Runs, lane_at}
 use Rattle.modem_driver.specs.Receiving.{afresh_if}
 use Rattle.modem_history.proofs.calls.CallEnds.{ended, end_of, frames_in}
 use Rattle.modem_history.proofs.requests.StepOfFrame.{is_read, unread_marks, got_accepted, got_marks, got_was}
@@ -156,7 +156,7 @@ take_none (suc n) = refl
 
 -- a connection that the frame opens
 opened_lane : (v : Core) (l : UrcKind → Bool) (past : List Act) (r : Runs v past) (f : Frame) (d : ℕ) → opens_now Initiator d (wire past) (station.Got f) ≡ true
-    → LaneFits d (seen_then v r.seen f) (ended (own v l) past (Got f)) new_lane
+    → LaneFits (dialect_in v) d (seen_then v r.seen f) (ended (own v l) past (Got f)) new_lane
 opened_lane v l past r f d o =
     let s = own v l in
     let e = end_of s past (Got f) d in
@@ -164,16 +164,16 @@ opened_lane v l past r f d o =
     let accepts : accepted Initiator d (ended s past (Got f)) ≡ [] = e.accepted_is ∙ ap (λ (b : Bool). if b then [] else accepted Initiator d past) o in
     let fresh : offered Initiator d (seen_then v r.seen f) ≡ []
     = offered_sent d (station_calls (setting_of v.station) r.seen (station.Got f)) (station.Got f ∷ r.seen) ∙ ap (λ (b : Bool). joined_octets (octets_offered d) (since_by b d (station.Got f) r.seen)) (opens_seen d r.seen past (station.Got f) r.same ∙ o) in
-    let given = answered (marks Initiator d (ended s past (Got f))) + 1 in
+    let given = answered (dialect_in v) (marks Initiator d (ended s past (Got f))) + 1 in
     record {
       kept_is = run_end v l past f d ∙ ap (λ (b : Bool). kept_run (info_got d (since_by b d (station.Got f) (wire past)))) o;
-      window_fits = subst (λ (ms : List Mark). FitsMarks None ms) (sym none) (fits_nothing None refl);
+      window_fits = subst (λ (ms : List Mark). FitsMarks (dialect_in v) None ms) (sym none) (fits_nothing (dialect_in v) None refl);
       offered_is = fresh ∙ sym (ap (λ (qs : List Request). concat (texts (take given qs))) accepts ∙ ap (λ (qs : List Request). concat (texts qs)) (take_none given));
     }
 
 -- any other that is open, and on which the frame brings no data
 pub plain_lane : (v : Core) (l : UrcKind → Bool) (past : List Act) (r : Runs v past) (f : Frame) (d : ℕ) (lane : Lane) → (carries d f && is_open Initiator d (wire past)) ≡ false → opens_now Initiator d (wire past) (station.Got f) ≡ false
-    → is_open Initiator d (wire past) ≡ true → LaneFits d r.seen past lane → LaneFits d (seen_then v r.seen f) (ended (own v l) past (Got f)) lane
+    → is_open Initiator d (wire past) ≡ true → LaneFits (dialect_in v) d r.seen past lane → LaneFits (dialect_in v) d (seen_then v r.seen f) (ended (own v l) past (Got f)) lane
 plain_lane v l past r f d lane unread o was k =
     let s = own v l in
     let e = end_of s past (Got f) d in
@@ -190,15 +190,15 @@ plain_lane v l past r f d lane unread o was k =
     ∙ offered_after (belongs Initiator d r.seen (station.Got f)) (station.Got f) d (since Initiator d r.seen) refl) in
     record {
       kept_is = run_end v l past f d ∙ (run ∙ k.kept_is);
-      window_fits = subst (λ (ms : List Mark). FitsMarks lane.window ms) (sym placed) k.window_fits;
+      window_fits = subst (λ (ms : List Mark). FitsMarks (dialect_in v) lane.window ms) (sym placed) k.window_fits;
       offered_is =
           same
-          ∙ (k.offered_is ∙ (ap (λ (ms : List Mark). concat (texts (take (answered ms + 1) (accepted Initiator d past)))) (sym placed)
-          ∙ ap (λ (qs : List Request). concat (texts (take (answered (marks Initiator d (ended s past (Got f))) + 1) qs))) (sym accepts)));
+          ∙ (k.offered_is ∙ (ap (λ (ms : List Mark). concat (texts (take (answered (dialect_in v) ms + 1) (accepted Initiator d past)))) (sym placed)
+          ∙ ap (λ (qs : List Request). concat (texts (take (answered (dialect_in v) (marks Initiator d (ended s past (Got f))) + 1) qs))) (sym accepts)));
     }
 
 other_lane : (v : Core) (l : UrcKind → Bool) (past : List Act) (r : Runs v past) (f : Frame) (d : ℕ) (lane : Lane) → is_read (own v l) past f ≡ false → opens_now Initiator d (wire past) (station.Got f) ≡ false
-    → is_open Initiator d (wire past) ≡ true → LaneFits d r.seen past lane → LaneFits d (seen_then v r.seen f) (ended (own v l) past (Got f)) lane
+    → is_open Initiator d (wire past) ≡ true → LaneFits (dialect_in v) d r.seen past lane → LaneFits (dialect_in v) d (seen_then v r.seen f) (ended (own v l) past (Got f)) lane
 other_lane v l past r f d lane n o was k =
     plain_lane v l past r f d lane (unread_marks (own v l) d past f n (carries d f) (is_open Initiator d (wire past)) refl refl) o was k
 
@@ -217,26 +217,26 @@ afresh_same true d e lanes h = by_same (d == e) refl
 
 pub other_lanes : (v : Core) (l : UrcKind → Bool) (past : List Act) (r : Runs v past) (f : Frame) (opens : Bool) → IsSound v → f.dlci < 62 → is_read (own v l) past f ≡ false
     → opens ≡ opens_now Initiator f.dlci r.seen (station.Got f) → (d : ℕ) → d < 62 → (d == 0) ≡ false → is_open Initiator d (wire (ended (own v l) past (Got f))) ≡ true
-    → LaneFits d (seen_then v r.seen f) (ended (own v l) past (Got f)) (slice_index_or (afresh_if opens f.dlci v.lanes) d new_lane)
+    → LaneFits (dialect_in v) d (seen_then v r.seen f) (ended (own v l) past (Got f)) (slice_index_or (afresh_if opens f.dlci v.lanes) d new_lane)
 other_lanes v l past r f opens i k n e d m z o = by_open (opens_now Initiator d (wire past) (station.Got f)) refl
   where
     noted_is : opens ≡ opens_now Initiator f.dlci (wire past) (station.Got f)
     noted_is = e ∙ opens_seen f.dlci r.seen past (station.Got f) r.same
 
     by_open : (b : Bool) → opens_now Initiator d (wire past) (station.Got f) ≡ b
-        → LaneFits d (seen_then v r.seen f) (ended (own v l) past (Got f)) (slice_index_or (afresh_if opens f.dlci v.lanes) d new_lane)
+        → LaneFits (dialect_in v) d (seen_then v r.seen f) (ended (own v l) past (Got f)) (slice_index_or (afresh_if opens f.dlci v.lanes) d new_lane)
     by_open true g = by_same (f.dlci == d) refl
       where
-        by_same : (b : Bool) → (f.dlci == d) ≡ b → LaneFits d (seen_then v r.seen f) (ended (own v l) past (Got f)) (slice_index_or (afresh_if opens f.dlci v.lanes) d new_lane)
+        by_same : (b : Bool) → (f.dlci == d) ≡ b → LaneFits (dialect_in v) d (seen_then v r.seen f) (ended (own v l) past (Got f)) (slice_index_or (afresh_if opens f.dlci v.lanes) d new_lane)
         by_same false h = absurd (let x : true ≡ false = sym g ∙ opens_elsewhere Initiator d (wire past) f h in cc)
         by_same true h =
             let same : f.dlci ≡ d = eqb-true f.dlci d h in
             let here : slice_index_or (afresh_if opens f.dlci v.lanes) f.dlci new_lane ≡ new_lane
             = afresh_here opens f.dlci v.lanes (noted_is ∙ subst (λ (x : ℕ). opens_now Initiator x (wire past) (station.Got f) ≡ true) (sym same) g) (subst (λ (x : ℕ). f.dlci < x) (sym i.all) k) in
             let there : slice_index_or (afresh_if opens f.dlci v.lanes) d new_lane ≡ new_lane = subst (λ (x : ℕ). slice_index_or (afresh_if opens f.dlci v.lanes) x new_lane ≡ new_lane) same here in
-            subst (λ (x : Lane). LaneFits d (seen_then v r.seen f) (ended (own v l) past (Got f)) x) (sym there) (opened_lane v l past r f d g)
+            subst (λ (x : Lane). LaneFits (dialect_in v) d (seen_then v r.seen f) (ended (own v l) past (Got f)) x) (sym there) (opened_lane v l past r f d g)
     by_open false g =
         let was = got_was (own v l) d past f g o in
         let there : slice_index_or (afresh_if opens f.dlci v.lanes) d new_lane ≡ lane_at v d
         = afresh_same opens f.dlci d v.lanes (λ h. noted_is ∙ subst (λ (x : ℕ). opens_now Initiator x (wire past) (station.Got f) ≡ false) (sym (eqb-true f.dlci d h)) g) in
-        subst (λ (x : Lane). LaneFits d (seen_then v r.seen f) (ended (own v l) past (Got f)) x) (sym there) (other_lane v l past r f d (lane_at v d) n g was (r.lanes_fit d m z was))
+        subst (λ (x : Lane). LaneFits (dialect_in v) d (seen_then v r.seen f) (ended (own v l) past (Got f)) x) (sym there) (other_lane v l past r f d (lane_at v d) n g was (r.lanes_fit d m z was))

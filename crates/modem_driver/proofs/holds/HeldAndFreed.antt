@@ -244,7 +244,7 @@ lane_same v d go size b e = by_place (d == e) refl
 
 turn_lane : (s : Setting) (v : Core) (past : List Act) (w : Station) (d : ℕ) (go : Bool) → (l : Live s v past) → (e : ℕ) → e < 62 → (e == 0) ≡ false → (lane : Lane) → SameLane lane (lane_at v e)
     → wire (ended s past (flow_act d go)) ≡ station.Sent (flow_frame d go s.role) ∷ wire past → without_calls (flow_seen s v past l d go) ≡ station.Sent (flow_frame d go s.role) ∷ wire past
-    → is_open Initiator e (wire (ended s past (flow_act d go))) ≡ true → LaneFits e (flow_seen s v past l d go) (ended s past (flow_act d go)) lane
+    → is_open Initiator e (wire (ended s past (flow_act d go))) ≡ true → LaneFits s.dialect e (flow_seen s v past l d go) (ended s past (flow_act d go)) lane
 turn_lane s v past w d go l e b z lane ls wires same h =
     let a = flow_act d go in
     let f = flow_frame d go s.role in
@@ -258,12 +258,12 @@ turn_lane s v past w d go l e b z lane ls wires same h =
     let called : is_open Initiator e (station.Called (station.Flow d go) ∷ l.runs.seen) ≡ true = all_was Initiator e (flow_frame d go v.station.role ∷ []) (station.Called (station.Flow d go) ∷ l.runs.seen) there in
     record {
       kept_is = ap (λ (x : List station.Act). kept_run (info_got e (since Initiator e x))) wires ∙ (ap kept_run (info_same Initiator e (f ∷ []) (wire past) here) ∙ (was.kept_is ∙ sym ls.kept_same));
-      window_fits = subst (λ (x : _). FitsMarks x (marks Initiator e past')) (sym ls.window_same) (subst (FitsMarks (lane_at v e).window) (sym marked) was.window_fits);
+      window_fits = subst (λ (x : _). FitsMarks s.dialect x (marks Initiator e past')) (sym ls.window_same) (subst (FitsMarks s.dialect (lane_at v e).window) (sym marked) was.window_fits);
       offered_is = offered_same Initiator e (flow_frame d go v.station.role ∷ []) (station.Called (station.Flow d go) ∷ l.runs.seen) there
           ∙ (offered_called Initiator e (station.Flow d go) l.runs.seen called
           ∙ (append-nil (offered Initiator e l.runs.seen)
-          ∙ (was.offered_is ∙ (ap (λ (n : ℕ). concat (texts (take (n + 1) (accepted Initiator e past)))) (ap answered (sym marked))
-          ∙ ap (λ (qs : List Request). concat (texts (take (answered (marks Initiator e past') + 1) qs))) (sym taken_on)))));
+          ∙ (was.offered_is ∙ (ap (λ (n : ℕ). concat (texts (take (n + 1) (accepted Initiator e past)))) (ap (answered s.dialect) (sym marked))
+          ∙ ap (λ (qs : List Request). concat (texts (take (answered s.dialect (marks Initiator e past') + 1) qs))) (sym taken_on)))));
     }
 
 -- and the act may come: it may be held, or is held

@@ -5,6 +5,7 @@ use Rattle.std.proofs.Common.{ap, sym, ◌∙◌, subst, arith, append-nil, appe
 use Rattle.at_text.specs.declared.answer.AnswerLine.{AnswerLine}
 use Rattle.at_text.specs.declared.unsolicited.UrcKind.{UrcKind}
 use Rattle.at_text.specs.declared.window.Seen as line_is
+use Rattle.at_text.specs.Dialects.{Dialect}
 use Rattle.at_text.specs.Lines.{lines, kept_run, ReadsOn}
 use Rattle.at_text.specs.OpenWindow.{OpenWindow, seen_by, after_line}
 use Rattle.at_text.specs.Forks.{forked}
@@ -13,7 +14,7 @@ use Rattle.modem_driver.specs.declared.reports.Reading.{Reading}
 use Rattle.mux_frame.specs.Frames.{Frame}
 use Rattle.modem_history.specs.Acts.{Act, Got, Heard}
 use Rattle.modem_history.specs.Calls.{first_on}
-use Rattle.modem_driver.specs.Cores.{Core, lane_at}
+use Rattle.modem_driver.specs.Cores.{dialect_in, Core, lane_at}
 use Rattle.modem_driver.specs.Handing.{ReadsApart}
 use Rattle.modem_driver.specs.Reports.{owner_of, Listens, heard_by, done_by, said_as, said_lines, Read, after_all, read_on, read_each, ReadsOctet, ReadsAll, ReportSays}
 
@@ -42,89 +43,89 @@ heard kinds r kind line old new b t e g listens h =
 
 -- ## Octets
 
-one_line : (listens : UrcKind → Bool) (d : ℕ) (owner : Option Owner) (old : Read) (c : ℕ) (l : List ℕ) (new : Read) → lines (old.kept ++ c ∷ []) ≡ l ∷ [] → new.kept ≡ kept_run (old.kept ++ c ∷ []) → new.window ≡ after_line old.window l
-    → new.acts ≡ old.acts ++ said_as listens d owner l (seen_by old.window l) → new ≡ read_on listens d owner old (c ∷ [])
-one_line listens d owner old c l new e k w a =
+one_line : (dialect : Dialect) (listens : UrcKind → Bool) (d : ℕ) (owner : Option Owner) (old : Read) (c : ℕ) (l : List ℕ) (new : Read) → lines (old.kept ++ c ∷ []) ≡ l ∷ [] → new.kept ≡ kept_run (old.kept ++ c ∷ []) → new.window ≡ after_line dialect old.window l
+    → new.acts ≡ old.acts ++ said_as listens d owner l (seen_by dialect old.window l) → new ≡ read_on dialect listens d owner old (c ∷ [])
+one_line dialect listens d owner old c l new e k w a =
     ap (λ (x : List ℕ). let v : Read = record { kept = x; window = new.window; acts = new.acts } in v) k
-    ∙ (ap (λ (x : Option OpenWindow). let v : Read = record { kept = kept_run (old.kept ++ c ∷ []); window = x; acts = new.acts } in v) (w ∙ ap (after_all old.window) (sym e))
-    ∙ ap (λ (x : List Act). let v : Read = record { kept = kept_run (old.kept ++ c ∷ []); window = after_all old.window (lines (old.kept ++ c ∷ [])); acts = x } in v)
-    (a ∙ (ap (λ (x : List Act). old.acts ++ x) (sym (append-nil (said_as listens d owner l (seen_by old.window l)))) ∙ ap (λ (ls : List (List ℕ)). old.acts ++ said_lines listens d owner old.window ls) (sym e))))
+    ∙ (ap (λ (x : Option OpenWindow). let v : Read = record { kept = kept_run (old.kept ++ c ∷ []); window = x; acts = new.acts } in v) (w ∙ ap (after_all dialect old.window) (sym e))
+    ∙ ap (λ (x : List Act). let v : Read = record { kept = kept_run (old.kept ++ c ∷ []); window = after_all dialect old.window (lines (old.kept ++ c ∷ [])); acts = x } in v)
+    (a ∙ (ap (λ (x : List Act). old.acts ++ x) (sym (append-nil (said_as listens d owner l (seen_by dialect old.window l)))) ∙ ap (λ (ls : List (List ℕ)). old.acts ++ said_lines dialect listens d owner old.window ls) (sym e))))
 
-pub octet_ends : (kinds : List UrcKind) (r : Reading) (old new : Read) (c : ℕ) (l : List ℕ) → lines (old.kept ++ c ∷ []) ≡ l ∷ [] → new.kept ≡ kept_run (old.kept ++ c ∷ []) → new.window ≡ after_line old.window l
-    → ReportSays kinds r (λ listens. said_as listens r.dlci.number r.owner l (seen_by old.window l)) old.acts new.acts → ReadsOctet kinds r c old new
+pub octet_ends : (dialect : Dialect) (kinds : List UrcKind) (r : Reading) (old new : Read) (c : ℕ) (l : List ℕ) → lines (old.kept ++ c ∷ []) ≡ l ∷ [] → new.kept ≡ kept_run (old.kept ++ c ∷ []) → new.window ≡ after_line dialect old.window l
+    → ReportSays kinds r (λ listens. said_as listens r.dlci.number r.owner l (seen_by dialect old.window l)) old.acts new.acts → ReadsOctet dialect kinds r c old new
 unfolding ReportSays ReadsOctet
-octet_ends kinds r old new c l e k w a listens h = one_line listens r.dlci.number r.owner old c l new e k w (a listens h)
+octet_ends dialect kinds r old new c l e k w a listens h = one_line dialect listens r.dlci.number r.owner old c l new e k w (a listens h)
 
-pub octet_none : (kinds : List UrcKind) (r : Reading) (old new : Read) (c : ℕ) → [] ≡ lines (old.kept ++ c ∷ []) → new.kept ≡ kept_run (old.kept ++ c ∷ []) → new.window ≡ old.window → new.acts ≡ old.acts → ReadsOctet kinds r c old new
+pub octet_none : (dialect : Dialect) (kinds : List UrcKind) (r : Reading) (old new : Read) (c : ℕ) → [] ≡ lines (old.kept ++ c ∷ []) → new.kept ≡ kept_run (old.kept ++ c ∷ []) → new.window ≡ old.window → new.acts ≡ old.acts → ReadsOctet dialect kinds r c old new
 unfolding ReadsOctet
-octet_none kinds r old new c e k w a listens h =
+octet_none dialect kinds r old new c e k w a listens h =
     ap (λ (x : List ℕ). let v : Read = record { kept = x; window = new.window; acts = new.acts } in v) k
-    ∙ (ap (λ (x : Option OpenWindow). let v : Read = record { kept = kept_run (old.kept ++ c ∷ []); window = x; acts = new.acts } in v) (w ∙ ap (after_all old.window) e)
-    ∙ ap (λ (x : List Act). let v : Read = record { kept = kept_run (old.kept ++ c ∷ []); window = after_all old.window (lines (old.kept ++ c ∷ [])); acts = x } in v)
-    (a ∙ (sym (append-nil old.acts) ∙ ap (λ (ls : List (List ℕ)). old.acts ++ said_lines listens r.dlci.number r.owner old.window ls) e)))
+    ∙ (ap (λ (x : Option OpenWindow). let v : Read = record { kept = kept_run (old.kept ++ c ∷ []); window = x; acts = new.acts } in v) (w ∙ ap (after_all dialect old.window) e)
+    ∙ ap (λ (x : List Act). let v : Read = record { kept = kept_run (old.kept ++ c ∷ []); window = after_all dialect old.window (lines (old.kept ++ c ∷ [])); acts = x } in v)
+    (a ∙ (sym (append-nil old.acts) ∙ ap (λ (ls : List (List ℕ)). old.acts ++ said_lines dialect listens r.dlci.number r.owner old.window ls) e)))
 
 -- so many of them are read
-unfoldable pub ReadSoFar : List UrcKind → Reading → Read → List ℕ → Read → List ℕ → Type 0
-ReadSoFar kinds r now rest first all = (listens : UrcKind → Bool) → Listens listens kinds → read_each listens r.dlci.number r.owner now rest ≡ read_each listens r.dlci.number r.owner first all
+unfoldable pub ReadSoFar : (dialect : Dialect) → List UrcKind → Reading → Read → List ℕ → Read → List ℕ → Type 0
+ReadSoFar dialect kinds r now rest first all = (listens : UrcKind → Bool) → Listens listens kinds → read_each dialect listens r.dlci.number r.owner now rest ≡ read_each dialect listens r.dlci.number r.owner first all
 
-pub reads_first : (kinds : List UrcKind) (r : Reading) (v : Read) (all : List ℕ) → ReadSoFar kinds r v all v all
+pub reads_first : (dialect : Dialect) (kinds : List UrcKind) (r : Reading) (v : Read) (all : List ℕ) → ReadSoFar dialect kinds r v all v all
 unfolding ReadSoFar
-reads_first kinds r v all listens h = refl
+reads_first dialect kinds r v all listens h = refl
 
-pub reads_next : (kinds : List UrcKind) (r : Reading) (now next first : Read) (c : ℕ) (rest left all : List ℕ) → rest ≡ c ∷ left → ReadsOctet kinds r c now next → ReadSoFar kinds r now rest first all → ReadSoFar kinds r next left first all
+pub reads_next : (dialect : Dialect) (kinds : List UrcKind) (r : Reading) (now next first : Read) (c : ℕ) (rest left all : List ℕ) → rest ≡ c ∷ left → ReadsOctet dialect kinds r c now next → ReadSoFar dialect kinds r now rest first all → ReadSoFar dialect kinds r next left first all
 unfolding ReadSoFar ReadsOctet
-reads_next kinds r now next first c rest left all e o s listens h =
-    ap (λ (v : Read). read_each listens r.dlci.number r.owner v left) (o listens h)
-    ∙ (ap (λ (w : List ℕ). read_each listens r.dlci.number r.owner now w) (sym e) ∙ s listens h)
+reads_next dialect kinds r now next first c rest left all e o s listens h =
+    ap (λ (v : Read). read_each dialect listens r.dlci.number r.owner v left) (o listens h)
+    ∙ (ap (λ (w : List ℕ). read_each dialect listens r.dlci.number r.owner now w) (sym e) ∙ s listens h)
 
-pub reads_last : (kinds : List UrcKind) (r : Reading) (now first : Read) (rest all : List ℕ) → rest ≡ [] → ReadSoFar kinds r now rest first all → ReadsAll kinds r all first now
+pub reads_last : (dialect : Dialect) (kinds : List UrcKind) (r : Reading) (now first : Read) (rest all : List ℕ) → rest ≡ [] → ReadSoFar dialect kinds r now rest first all → ReadsAll dialect kinds r all first now
 unfolding ReadSoFar ReadsAll
-reads_last kinds r now first rest all e s listens h = ap (λ (w : List ℕ). read_each listens r.dlci.number r.owner now w) (sym e) ∙ s listens h
+reads_last dialect kinds r now first rest all e s listens h = ap (λ (w : List ℕ). read_each dialect listens r.dlci.number r.owner now w) (sym e) ∙ s listens h
 
 -- ## All of them at once
 
-after_both : (w : Option OpenWindow) (xs ys : List (List ℕ)) → after_all w (xs ++ ys) ≡ after_all (after_all w xs) ys
-after_both w [] ys = refl
-after_both w (x ∷ xs) ys = after_both (after_line w x) xs ys
+after_both : (dialect : Dialect) (w : Option OpenWindow) (xs ys : List (List ℕ)) → after_all dialect w (xs ++ ys) ≡ after_all dialect (after_all dialect w xs) ys
+after_both dialect w [] ys = refl
+after_both dialect w (x ∷ xs) ys = after_both dialect (after_line dialect w x) xs ys
 
-said_both : (listens : UrcKind → Bool) (d : ℕ) (owner : Option Owner) (w : Option OpenWindow) (xs ys : List (List ℕ))
-    → said_lines listens d owner w (xs ++ ys) ≡ said_lines listens d owner w xs ++ said_lines listens d owner (after_all w xs) ys
-said_both listens d owner w [] ys = refl
-said_both listens d owner w (x ∷ xs) ys =
-    ap (λ (v : List Act). said_as listens d owner x (seen_by w x) ++ v) (said_both listens d owner (after_line w x) xs ys)
-    ∙ sym (append_assoc (said_as listens d owner x (seen_by w x)) (said_lines listens d owner (after_line w x) xs) (said_lines listens d owner (after_all (after_line w x) xs) ys))
+said_both : (dialect : Dialect) (listens : UrcKind → Bool) (d : ℕ) (owner : Option Owner) (w : Option OpenWindow) (xs ys : List (List ℕ))
+    → said_lines dialect listens d owner w (xs ++ ys) ≡ said_lines dialect listens d owner w xs ++ said_lines dialect listens d owner (after_all dialect w xs) ys
+said_both dialect listens d owner w [] ys = refl
+said_both dialect listens d owner w (x ∷ xs) ys =
+    ap (λ (v : List Act). said_as listens d owner x (seen_by dialect w x) ++ v) (said_both dialect listens d owner (after_line dialect w x) xs ys)
+    ∙ sym (append_assoc (said_as listens d owner x (seen_by dialect w x)) (said_lines dialect listens d owner (after_line dialect w x) xs) (said_lines dialect listens d owner (after_all dialect (after_line dialect w x) xs) ys))
 
 none_more : (xs ys : List (List ℕ)) → xs ≡ xs ++ ys → ys ≡ []
 none_more xs [] h = refl
 none_more xs (y ∷ ys) h = absurd (let n : length xs ≡ length xs + suc (length ys) = ap length h ∙ length-append xs (y ∷ ys) in omega (arith, n))
 
 -- from what is kept of some text, reading octets one by one is reading them all
-pub each_is : (listens : UrcKind → Bool) (d : ℕ) (owner : Option Owner) (v : Read) (x octets : List ℕ) → ((x y : List ℕ) → ReadsOn x y) → v.kept ≡ kept_run x → read_each listens d owner v octets ≡ read_on listens d owner v octets
-each_is listens d owner v x [] on k =
+pub each_is : (dialect : Dialect) (listens : UrcKind → Bool) (d : ℕ) (owner : Option Owner) (v : Read) (x octets : List ℕ) → ((x y : List ℕ) → ReadsOn x y) → v.kept ≡ kept_run x → read_each dialect listens d owner v octets ≡ read_on dialect listens d owner v octets
+each_is dialect listens d owner v x [] on k =
     let e = on x [] in
     let same : kept_run (v.kept ++ []) ≡ v.kept = ap (λ (w : List ℕ). kept_run (w ++ [])) k ∙ (sym e.keeps ∙ (ap kept_run (append-nil x) ∙ sym k)) in
     let none : lines (v.kept ++ []) ≡ [] = ap (λ (w : List ℕ). lines (w ++ [])) k ∙ none_more (lines x) (lines (kept_run x ++ [])) (sym (ap lines (append-nil x)) ∙ e.reads_kept) in
     sym (
-    ap (λ (w : List ℕ). let r : Read = record { kept = w; window = after_all v.window (lines (v.kept ++ [])); acts = v.acts ++ said_lines listens d owner v.window (lines (v.kept ++ [])) } in r) same
-    ∙ (ap (λ (ls : List (List ℕ)). let r : Read = record { kept = v.kept; window = after_all v.window ls; acts = v.acts ++ said_lines listens d owner v.window ls } in r) none
+    ap (λ (w : List ℕ). let r : Read = record { kept = w; window = after_all dialect v.window (lines (v.kept ++ [])); acts = v.acts ++ said_lines dialect listens d owner v.window (lines (v.kept ++ [])) } in r) same
+    ∙ (ap (λ (ls : List (List ℕ)). let r : Read = record { kept = v.kept; window = after_all dialect v.window ls; acts = v.acts ++ said_lines dialect listens d owner v.window ls } in r) none
     ∙ ap (λ (acts : List Act). let r : Read = record { kept = v.kept; window = v.window; acts = acts } in r) (append-nil v.acts)))
-each_is listens d owner v x (c ∷ octets) on k =
-    let one = read_on listens d owner v (c ∷ []) in
+each_is dialect listens d owner v x (c ∷ octets) on k =
+    let one = read_on dialect listens d owner v (c ∷ []) in
     let y = x ++ c ∷ [] in
     let kept : one.kept ≡ kept_run y = ap (λ (w : List ℕ). kept_run (w ++ c ∷ [])) k ∙ sym (on x (c ∷ [])).keeps in
-    let more = each_is listens d owner one y octets on kept in
+    let more = each_is dialect listens d owner one y octets on kept in
     let split = on (v.kept ++ c ∷ []) octets in
     let join : (v.kept ++ c ∷ []) ++ octets ≡ v.kept ++ c ∷ octets = append_assoc v.kept (c ∷ []) octets in
     let all_lines : lines (v.kept ++ c ∷ octets) ≡ lines (v.kept ++ c ∷ []) ++ lines (one.kept ++ octets) = ap lines (sym join) ∙ split.reads_kept in
     let kept_all : kept_run (one.kept ++ octets) ≡ kept_run (v.kept ++ c ∷ octets) = sym split.keeps ∙ ap kept_run join in
     more
-    ∙ (ap (λ (w : List ℕ). let r : Read = record { kept = w; window = after_all one.window (lines (one.kept ++ octets)); acts = one.acts ++ said_lines listens d owner one.window (lines (one.kept ++ octets)) } in r) kept_all
-    ∙ (ap (λ (w : Option OpenWindow). let r : Read = record { kept = kept_run (v.kept ++ c ∷ octets); window = w; acts = one.acts ++ said_lines listens d owner one.window (lines (one.kept ++ octets)) } in r)
-    (sym (after_both v.window (lines (v.kept ++ c ∷ [])) (lines (one.kept ++ octets))) ∙ ap (after_all v.window) (sym all_lines))
-    ∙ ap (λ (acts : List Act). let r : Read = record { kept = kept_run (v.kept ++ c ∷ octets); window = after_all v.window (lines (v.kept ++ c ∷ octets)); acts = acts } in r)
-    (append_assoc v.acts (said_lines listens d owner v.window (lines (v.kept ++ c ∷ []))) (said_lines listens d owner one.window (lines (one.kept ++ octets)))
-    ∙ (ap (λ (w : List Act). v.acts ++ w) (sym (said_both listens d owner v.window (lines (v.kept ++ c ∷ [])) (lines (one.kept ++ octets))))
-    ∙ ap (λ (ls : List (List ℕ)). v.acts ++ said_lines listens d owner v.window ls) (sym all_lines)))))
+    ∙ (ap (λ (w : List ℕ). let r : Read = record { kept = w; window = after_all dialect one.window (lines (one.kept ++ octets)); acts = one.acts ++ said_lines dialect listens d owner one.window (lines (one.kept ++ octets)) } in r) kept_all
+    ∙ (ap (λ (w : Option OpenWindow). let r : Read = record { kept = kept_run (v.kept ++ c ∷ octets); window = w; acts = one.acts ++ said_lines dialect listens d owner one.window (lines (one.kept ++ octets)) } in r)
+    (sym (after_both dialect v.window (lines (v.kept ++ c ∷ [])) (lines (one.kept ++ octets))) ∙ ap (after_all dialect v.window) (sym all_lines))
+    ∙ ap (λ (acts : List Act). let r : Read = record { kept = kept_run (v.kept ++ c ∷ octets); window = after_all dialect v.window (lines (v.kept ++ c ∷ octets)); acts = acts } in r)
+    (append_assoc v.acts (said_lines dialect listens d owner v.window (lines (v.kept ++ c ∷ []))) (said_lines dialect listens d owner one.window (lines (one.kept ++ octets)))
+    ∙ (ap (λ (w : List Act). v.acts ++ w) (sym (said_both dialect listens d owner v.window (lines (v.kept ++ c ∷ [])) (lines (one.kept ++ octets))))
+    ∙ ap (λ (ls : List (List ℕ)). v.acts ++ said_lines dialect listens d owner v.window ls) (sym all_lines)))))
 
 -- ## What the calls say
 
@@ -149,10 +150,10 @@ all_dropped (suc n) (x ∷ xs) h = all_dropped n xs (let e : suc (length xs) ≤
 
 -- a frame is read from what is kept of its connection, on a fork of its window
 pub reads_apart : (v : Core) (f : Frame) (kinds : List UrcKind) (r : Reading) (first last : Read) (held : Bool) → kinds ≡ v.kinds → r.dlci.number ≡ f.dlci → r.owner ≡ option_map owner_of (first_on f.dlci v.hand)
-    → first ≡ record { kept = (lane_at v f.dlci).kept; window = forked (lane_at v f.dlci).window; acts = Got f ∷ [] } → ReadsAll kinds r f.info first last
+    → first ≡ record { kept = (lane_at v f.dlci).kept; window = forked (lane_at v f.dlci).window; acts = Got f ∷ [] } → ReadsAll (dialect_in v) kinds r f.info first last
     → ReadsApart v f (record { kept = last.kept; window = last.window; held = held }) last.acts
 unfolding ReadsAll ReadsApart
 reads_apart v f kinds r first last held k d o e reads listens h =
     reads listens (subst (λ (x : List UrcKind). Listens listens x) (sym k) h)
-    ∙ (ap (λ (n : ℕ). read_each listens n r.owner first f.info) d
-    ∙ (ap (λ (x : Option Owner). read_each listens f.dlci x first f.info) o ∙ ap (λ (x : Read). read_each listens f.dlci (option_map owner_of (first_on f.dlci v.hand)) x f.info) e))
+    ∙ (ap (λ (n : ℕ). read_each (dialect_in v) listens n r.owner first f.info) d
+    ∙ (ap (λ (x : Option Owner). read_each (dialect_in v) listens f.dlci x first f.info) o ∙ ap (λ (x : Read). read_each (dialect_in v) listens f.dlci (option_map owner_of (first_on f.dlci v.hand)) x f.info) e))

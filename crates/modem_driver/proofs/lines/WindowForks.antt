@@ -9,9 +9,8 @@ use Rattle.at_text.specs.declared.unsolicited.UrcKind.{UrcKind}
 use Rattle.at_text.specs.declared.unsolicited.UrcKind.TheVariants.{Other}
 use Rattle.at_text.specs.declared.window.Seen as line_is
 use Rattle.at_text.specs.declared.window.Seen.TheVariants.{Echo, Kept, Unsolicited}
-use Rattle.at_text.specs.Finals.{is_final}
+use Rattle.at_text.specs.Dialects.{Dialect}
 use Rattle.at_text.specs.Lines.{lines, kept_run}
-use Rattle.at_text.specs.Unsolicited.{unsolicited_of}
 use Rattle.at_text.specs.Seeing.{by_kind}
 use Rattle.at_text.specs.OpenWindow.{OpenWindow, is_echo, with_line, solicited_by, seen_by, after_line, after_solicited}
 use Rattle.at_text.specs.Forks.{lines_so_far, forked, led_by, led_seen}
@@ -30,7 +29,7 @@ use Rattle.modem_history.specs.Acts.{act_of, Act, Got, Told, Heard}
 use Rattle.modem_history.specs.Calls.{first_on}
 use Rattle.modem_driver.specs.declared.reports.Owner.{Owner}
 use Rattle.modem_driver.specs.Lanes.{Lane}
-use Rattle.modem_driver.specs.Cores.{Core, lane_at}
+use Rattle.modem_driver.specs.Cores.{dialect_in, Core, lane_at}
 use Rattle.modem_driver.specs.Reports.{owner_of, done_by, said_as, said_lines, Read, after_all, read_on, read_each}
 use Rattle.modem_driver.specs.Receiving.{reads_data}
 use Rattle.modem_driver.specs.Handing.{EndedBy, ReadsFrame, ReadsApart}
@@ -55,37 +54,37 @@ said_led ls listens d owner line (line_is.TheVariants.Done more) = done_led ls m
 said_led ls listens d owner line (Unsolicited kind) = heard_led ls (listens kind) kind d line
 said_led ls listens d owner line line_is.TheVariants.Other = heard_led ls (listens Other) Other d line
 
-after_led : (ls : List AnswerLine) (w : Option OpenWindow) (xs : List (List ℕ)) → after_all (led_by ls w) xs ≡ led_by ls (after_all w xs)
-after_led ls w [] = refl
-after_led ls w (x ∷ xs) = ap (λ (v : Option OpenWindow). after_all v xs) (sees_apart ls w x).after ∙ after_led ls (after_line w x) xs
+after_led : (dialect : Dialect) (ls : List AnswerLine) (w : Option OpenWindow) (xs : List (List ℕ)) → after_all dialect (led_by ls w) xs ≡ led_by ls (after_all dialect w xs)
+after_led dialect ls w [] = refl
+after_led dialect ls w (x ∷ xs) = ap (λ (v : Option OpenWindow). after_all dialect v xs) (sees_apart dialect ls w x).after ∙ after_led dialect ls (after_line dialect w x) xs
 
-lines_led : (ls : List AnswerLine) (listens : UrcKind → Bool) (d : ℕ) (owner : Option Owner) (w : Option OpenWindow) (xs : List (List ℕ))
-    → said_lines listens d owner (led_by ls w) xs ≡ map (led ls) (said_lines listens d owner w xs)
-lines_led ls listens d owner w [] = refl
-lines_led ls listens d owner w (x ∷ xs) =
-    let s = sees_apart ls w x in
-    ap (λ (v : line_is.Seen). said_as listens d owner x v ++ said_lines listens d owner (after_line (led_by ls w) x) xs) s.seen
-    ∙ (ap (λ (v : Option OpenWindow). said_as listens d owner x (led_seen ls (seen_by w x)) ++ said_lines listens d owner v xs) s.after
-    ∙ (ap (λ (acts : List Act). acts ++ said_lines listens d owner (led_by ls (after_line w x)) xs) (said_led ls listens d owner x (seen_by w x))
-    ∙ (ap (λ (acts : List Act). map (led ls) (said_as listens d owner x (seen_by w x)) ++ acts) (lines_led ls listens d owner (after_line w x) xs)
-    ∙ sym (map-append (led ls) (said_as listens d owner x (seen_by w x)) (said_lines listens d owner (after_line w x) xs)))))
+lines_led : (dialect : Dialect) (ls : List AnswerLine) (listens : UrcKind → Bool) (d : ℕ) (owner : Option Owner) (w : Option OpenWindow) (xs : List (List ℕ))
+    → said_lines dialect listens d owner (led_by ls w) xs ≡ map (led ls) (said_lines dialect listens d owner w xs)
+lines_led dialect ls listens d owner w [] = refl
+lines_led dialect ls listens d owner w (x ∷ xs) =
+    let s = sees_apart dialect ls w x in
+    ap (λ (v : line_is.Seen). said_as listens d owner x v ++ said_lines dialect listens d owner (after_line dialect (led_by ls w) x) xs) s.seen
+    ∙ (ap (λ (v : Option OpenWindow). said_as listens d owner x (led_seen ls (seen_by dialect w x)) ++ said_lines dialect listens d owner v xs) s.after
+    ∙ (ap (λ (acts : List Act). acts ++ said_lines dialect listens d owner (led_by ls (after_line dialect w x)) xs) (said_led ls listens d owner x (seen_by dialect w x))
+    ∙ (ap (λ (acts : List Act). map (led ls) (said_as listens d owner x (seen_by dialect w x)) ++ acts) (lines_led dialect ls listens d owner (after_line dialect w x) xs)
+    ∙ sym (map-append (led ls) (said_as listens d owner x (seen_by dialect w x)) (said_lines dialect listens d owner (after_line dialect w x) xs)))))
 
 led_read : List AnswerLine → Read → Read
 led_read ls r = record { kept = r.kept; window = led_by ls r.window; acts = map (led ls) r.acts }
 
-on_led : (ls : List AnswerLine) (listens : UrcKind → Bool) (d : ℕ) (owner : Option Owner) (r : Read) (octets : List ℕ) → read_on listens d owner (led_read ls r) octets ≡ led_read ls (read_on listens d owner r octets)
+on_led : (dialect : Dialect) (ls : List AnswerLine) (listens : UrcKind → Bool) (d : ℕ) (owner : Option Owner) (r : Read) (octets : List ℕ) → read_on dialect listens d owner (led_read ls r) octets ≡ led_read ls (read_on dialect listens d owner r octets)
 unfolding led_read
-on_led ls listens d owner r octets =
+on_led dialect ls listens d owner r octets =
     let kept = kept_run (r.kept ++ octets) in
     let xs = lines (r.kept ++ octets) in
-    ap (λ (w : Option OpenWindow). let v : Read = record { kept = kept; window = w; acts = map (led ls) r.acts ++ said_lines listens d owner (led_by ls r.window) xs } in v) (after_led ls r.window xs)
-    ∙ ap (λ (acts : List Act). let v : Read = record { kept = kept; window = led_by ls (after_all r.window xs); acts = acts } in v)
-    (ap (λ (acts : List Act). map (led ls) r.acts ++ acts) (lines_led ls listens d owner r.window xs) ∙ sym (map-append (led ls) r.acts (said_lines listens d owner r.window xs)))
+    ap (λ (w : Option OpenWindow). let v : Read = record { kept = kept; window = w; acts = map (led ls) r.acts ++ said_lines dialect listens d owner (led_by ls r.window) xs } in v) (after_led dialect ls r.window xs)
+    ∙ ap (λ (acts : List Act). let v : Read = record { kept = kept; window = led_by ls (after_all dialect r.window xs); acts = acts } in v)
+    (ap (λ (acts : List Act). map (led ls) r.acts ++ acts) (lines_led dialect ls listens d owner r.window xs) ∙ sym (map-append (led ls) r.acts (said_lines dialect listens d owner r.window xs)))
 
-each_led : (ls : List AnswerLine) (listens : UrcKind → Bool) (d : ℕ) (owner : Option Owner) (r : Read) (octets : List ℕ) → read_each listens d owner (led_read ls r) octets ≡ led_read ls (read_each listens d owner r octets)
-each_led ls listens d owner r [] = refl
-each_led ls listens d owner r (c ∷ octets) =
-    ap (λ (v : Read). read_each listens d owner v octets) (on_led ls listens d owner r (c ∷ [])) ∙ each_led ls listens d owner (read_on listens d owner r (c ∷ [])) octets
+each_led : (dialect : Dialect) (ls : List AnswerLine) (listens : UrcKind → Bool) (d : ℕ) (owner : Option Owner) (r : Read) (octets : List ℕ) → read_each dialect listens d owner (led_read ls r) octets ≡ led_read ls (read_each dialect listens d owner r octets)
+each_led dialect ls listens d owner r [] = refl
+each_led dialect ls listens d owner r (c ∷ octets) =
+    ap (λ (v : Read). read_each dialect listens d owner v octets) (on_led dialect ls listens d owner r (c ∷ [])) ∙ each_led dialect ls listens d owner (read_on dialect listens d owner r (c ∷ [])) octets
 
 -- ## One answer is told at most, and none while the command is under way
 
@@ -112,9 +111,9 @@ unfolding many
 done_one None ls = omega arith
 done_one (Some o) ls = omega arith
 
-said_one : (listens : UrcKind → Bool) (d : ℕ) (owner : Option Owner) (w : Option OpenWindow) (line : List ℕ) → many (said_as listens d owner line (seen_by w line)) + under_way (after_line w line) ≤ under_way w
+said_one : (dialect : Dialect) (listens : UrcKind → Bool) (d : ℕ) (owner : Option Owner) (w : Option OpenWindow) (line : List ℕ) → many (said_as listens d owner line (seen_by dialect w line)) + under_way (after_line dialect w line) ≤ under_way w
 unfolding many under_way
-said_one listens d owner w line = by_kinds (unsolicited_of line) w
+said_one dialect listens d owner w line = by_kinds (dialect.kind_of line) w
   where
     by_tests : (o : OpenWindow) (echo final : Bool)
         → many (said_as listens d owner line (if echo then Echo else if final then line_is.TheVariants.Done (with_line o line).lines else Kept))
@@ -123,34 +122,34 @@ said_one listens d owner w line = by_kinds (unsolicited_of line) w
     by_tests o false true = let one = done_one owner (with_line o line).lines in omega (arith, one)
     by_tests o false false = omega arith
 
-    by_kinds : (u : Option UrcKind) (v : Option OpenWindow) → many (said_as listens d owner line (by_kind u (solicited_by v line))) + under_way (if is_none u then after_solicited v line else v) ≤ under_way v
+    by_kinds : (u : Option UrcKind) (v : Option OpenWindow) → many (said_as listens d owner line (by_kind u (solicited_by dialect v line))) + under_way (if is_none u then after_solicited dialect v line else v) ≤ under_way v
     by_kinds (Some kind) v = let none = heard_none (listens kind) kind d line in omega (arith, none)
     by_kinds None None = let none = heard_none (listens Other) Other d line in omega (arith, none)
-    by_kinds None (Some o) = by_tests o (is_echo o line) (is_final line)
+    by_kinds None (Some o) = by_tests o (is_echo o line) (dialect.is_final line)
 
-lines_one : (listens : UrcKind → Bool) (d : ℕ) (owner : Option Owner) (w : Option OpenWindow) (xs : List (List ℕ)) → many (said_lines listens d owner w xs) + under_way (after_all w xs) ≤ under_way w
+lines_one : (dialect : Dialect) (listens : UrcKind → Bool) (d : ℕ) (owner : Option Owner) (w : Option OpenWindow) (xs : List (List ℕ)) → many (said_lines dialect listens d owner w xs) + under_way (after_all dialect w xs) ≤ under_way w
 unfolding many
-lines_one listens d owner w [] = omega arith
-lines_one listens d owner w (x ∷ xs) =
-    let here = said_one listens d owner w x in
-    let more = lines_one listens d owner (after_line w x) xs in
-    let both = many_both (said_as listens d owner x (seen_by w x)) (said_lines listens d owner (after_line w x) xs) in
+lines_one dialect listens d owner w [] = omega arith
+lines_one dialect listens d owner w (x ∷ xs) =
+    let here = said_one dialect listens d owner w x in
+    let more = lines_one dialect listens d owner (after_line dialect w x) xs in
+    let both = many_both (said_as listens d owner x (seen_by dialect w x)) (said_lines dialect listens d owner (after_line dialect w x) xs) in
     omega (arith, here, more, both)
 
-on_one : (listens : UrcKind → Bool) (d : ℕ) (owner : Option Owner) (r : Read) (octets : List ℕ)
-    → many (read_on listens d owner r octets).acts + under_way (read_on listens d owner r octets).window ≤ many r.acts + under_way r.window
-on_one listens d owner r octets =
+on_one : (dialect : Dialect) (listens : UrcKind → Bool) (d : ℕ) (owner : Option Owner) (r : Read) (octets : List ℕ)
+    → many (read_on dialect listens d owner r octets).acts + under_way (read_on dialect listens d owner r octets).window ≤ many r.acts + under_way r.window
+on_one dialect listens d owner r octets =
     let xs = lines (r.kept ++ octets) in
-    let more = lines_one listens d owner r.window xs in
-    let both = many_both r.acts (said_lines listens d owner r.window xs) in
+    let more = lines_one dialect listens d owner r.window xs in
+    let both = many_both r.acts (said_lines dialect listens d owner r.window xs) in
     omega (arith, more, both)
 
-each_one : (listens : UrcKind → Bool) (d : ℕ) (owner : Option Owner) (r : Read) (octets : List ℕ)
-    → many (read_each listens d owner r octets).acts + under_way (read_each listens d owner r octets).window ≤ many r.acts + under_way r.window
-each_one listens d owner r [] = omega arith
-each_one listens d owner r (c ∷ octets) =
-    let here = on_one listens d owner r (c ∷ []) in
-    let more = each_one listens d owner (read_on listens d owner r (c ∷ [])) octets in
+each_one : (dialect : Dialect) (listens : UrcKind → Bool) (d : ℕ) (owner : Option Owner) (r : Read) (octets : List ℕ)
+    → many (read_each dialect listens d owner r octets).acts + under_way (read_each dialect listens d owner r octets).window ≤ many r.acts + under_way r.window
+each_one dialect listens d owner r [] = omega arith
+each_one dialect listens d owner r (c ∷ octets) =
+    let here = on_one dialect listens d owner r (c ∷ []) in
+    let more = each_one dialect listens d owner (read_on dialect listens d owner r (c ∷ [])) octets in
     omega (arith, here, more)
 
 -- so the first that is told is all of them
@@ -204,11 +203,11 @@ reads_joined v f fork acts apart listens h =
     let start : Read = record { kept = before.kept; window = forked before.window; acts = Got f ∷ [] } in
     let first : Read = record { kept = before.kept; window = before.window; acts = Got f ∷ [] } in
     let last : Read = record { kept = fork.kept; window = fork.window; acts = acts } in
-    let same : last ≡ read_each listens d owner start f.info = apart listens h in
+    let same : last ≡ read_each (dialect_in v) listens d owner start f.info = apart listens h in
     let begins : led_read ls start ≡ first = ap (λ (w : Option OpenWindow). let r : Read = record { kept = before.kept; window = w; acts = Got f ∷ [] } in r) (whole_again before.window) in
-    let reads : led_read ls last ≡ read_each listens d owner first f.info
-    = ap (led_read ls) same ∙ (sym (each_led ls listens d owner start f.info) ∙ ap (λ (r : Read). read_each listens d owner r f.info) begins) in
-    let most = each_one listens d owner start f.info in
+    let reads : led_read ls last ≡ read_each (dialect_in v) listens d owner first f.info
+    = ap (led_read ls) same ∙ (sym (each_led (dialect_in v) ls listens d owner start f.info) ∙ ap (λ (r : Read). read_each (dialect_in v) listens d owner r f.info) begins) in
+    let most = each_one (dialect_in v) listens d owner start f.info in
     let began = start_one f (forked before.window) in
     let told : many acts + under_way fork.window ≤ 1
     = subst (λ (r : Read). many r.acts + under_way r.window ≤ 1) (sym same) (omega (arith, most, began)) in

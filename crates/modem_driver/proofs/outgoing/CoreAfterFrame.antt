@@ -36,7 +36,7 @@ use Rattle.modem_history.specs.Placing.{marks, reached_in}
 use Rattle.modem_history.specs.Calls.{Setting, first_on, is_lost}
 use Rattle.modem_history.specs.Lawful.{Lawful, Complete, Allows, Gated, Once, InTurn, IsNext, When, owed}
 use Rattle.modem_history.specs.Wholes.{InStep, commands_for, StaysInStep}
-use Rattle.modem_driver.specs.Cores.{Core, LaneFits, Runs, RunsUnless, Fits, IsRun, IsSettingOf, lane_at, state_shown}
+use Rattle.modem_driver.specs.Cores.{dialect_in, Core, LaneFits, Runs, RunsUnless, Fits, IsRun, IsSettingOf, lane_at, state_shown}
 use Rattle.modem_driver.specs.CoreGoing.{StandsIn, begun_by, begun_on, begun_next, gone_on, GoesOut, CoreGoesOn, SendsTruly}
 use Rattle.modem_history.specs.GoingOut.{may_leave, waits_on, data_of, out_by, next_out, with_out, after_out}
 use Rattle.modem_history.proofs.commands.BegunCommands.{Kept, kept}
@@ -66,7 +66,7 @@ pub record IsSound (v : Core) : Type 0 where
 pub running : (v : Core) (past : List Act) → v.lost ≡ false → Fits v past → Runs v past
 running v past n h = subst (λ (b : Bool). RunsUnless b v past) n h.runs
 
-fits_lanes : (v : Core) (past : List Act) (r : Runs v past) → IsSound v → Lanes_fit v.station r.seen past (λ d. lane_at v d)
+fits_lanes : (v : Core) (past : List Act) (r : Runs v past) → IsSound v → Lanes_fit (dialect_in v) v.station r.seen past (λ d. lane_at v d)
 fits_lanes v past r i = record { role_is = i.role_is; fits = r.fits; same = r.same; lanes_fit = r.lanes_fit }
 
 -- ## A control frame
@@ -88,7 +88,7 @@ given_runs v past f fs r h = record {
   same = ap (λ (acts : List station.Act). station.Given ∷ acts) r.same;
   waits = r.waits;
   probe_is = probe_same Given past (λ q. refl) v.hand ∙ r.probe_is;
-  lanes_fit = λ d l z o. lane_given d r.seen past (lane_at v d) (r.lanes_fit d l z (sym (given_open Initiator d (wire past)) ∙ o));
+  lanes_fit = λ d l z o. lane_given (dialect_in v) d r.seen past (lane_at v d) (r.lanes_fit d l z (sym (given_open Initiator d (wire past)) ∙ o));
 }
 
 given_stands : (s : Setting) (v : Core) (past : List Act) (f : Frame) (fs : List Frame) (r : Runs v past) → v.station.queue ≡ f ∷ fs → v.lost ≡ false → StandsIn s v past → station_fits.StationFits (record v.station { queue = fs }) (station.Given ∷ r.seen)
@@ -119,9 +119,9 @@ record Under (v : Core) (past : List Act) (d : ℕ) : Type 0 where
   cmds : List Request
   cmds_are : cmds ≡ commands_for d v.hand
   accepted_are : accepted Initiator d past ≡ before ++ cmds
-  answered_are : answered (marks Initiator d past) ≡ length before
-  next : NextIs before cmds (marks Initiator d past) (information_out Initiator d past) (channel_at v.station d).waiting
-  rest_is : may_leave Initiator d past ≡ information_out Initiator d past ++ (channel_at v.station d).waiting
+  answered_are : answered (dialect_in v) (marks Initiator d past) ≡ length before
+  next : NextIs (dialect_in v) before cmds (marks Initiator d past) (information_out Initiator d past) (channel_at v.station d).waiting
+  rest_is : may_leave (dialect_in v) Initiator d past ≡ information_out Initiator d past ++ (channel_at v.station d).waiting
 
 under : (v : Core) (l : UrcKind → Bool) (past : List Act) (r : Runs v past) (d : ℕ) → IsSound v → v.lost ≡ false → Fits v past → IsRun (own v l) past → SendsNext Initiator d r.seen → 0 < length (channel_at v.station d).waiting → Under v past d
 unfolding StaysInStep
@@ -131,8 +131,8 @@ under v l past r d i n h run next some =
     let live : is_lost past ≡ false = h.lost_is ∙ n in
     let step : InStep s d past = (stays_in_step s past run.lawful refl run.whole run.numbers live run.complete d next.no_zero).while_open o in
     let lane = r.lanes_fit d next.in_range next.no_zero o in
-    let rest : may_leave Initiator d past ≡ information_out Initiator d past ++ (channel_at v.station d).waiting
-    = ring_rest v.station d r.seen past (lane_at v d) i.role_is r.fits r.same next.in_range next.no_zero o lane in
+    let rest : may_leave (dialect_in v) Initiator d past ≡ information_out Initiator d past ++ (channel_at v.station d).waiting
+    = ring_rest (dialect_in v) v.station d r.seen past (lane_at v d) i.role_is r.fits r.same next.in_range next.no_zero o lane in
     let cmds = commands_for d (in_hand past) in
     record {
       before = step.before;
@@ -140,9 +140,9 @@ under v l past r d i n h run next some =
       cmds_are = ap (commands_for d) h.hand_is;
       accepted_are = step.accepted_are;
       answered_are = step.answered_are;
-      next = next_is step.before cmds (marks Initiator d past) (information_out Initiator d past) (channel_at v.station d).waiting
-          (subst (λ (qs : List Request). Kept (marks Initiator d past) (information_out Initiator d past) qs) step.accepted_are (kept s past run.lawful d)) step.answered_are
-          (sym rest ∙ ap (λ (qs : List Request). concat (texts (take (answered (marks Initiator d past) + 1) qs))) step.accepted_are) some;
+      next = next_is (dialect_in v) step.before cmds (marks Initiator d past) (information_out Initiator d past) (channel_at v.station d).waiting
+          (subst (λ (qs : List Request). Kept (dialect_in v) (marks Initiator d past) (information_out Initiator d past) qs) step.accepted_are (kept s past run.lawful d)) step.answered_are
+          (sym rest ∙ ap (λ (qs : List Request). concat (texts (take (answered (dialect_in v) (marks Initiator d past) + 1) qs))) step.accepted_are) some;
       rest_is = rest;
     }
 
@@ -195,7 +195,7 @@ data_allowed v l past r d i n h run next some u goes =
     let at_least : 1 ≤ length chunk = omega (arith, size, some, low) in
     let at_most : length chunk ≤ v.station.n1 = omega (arith, size) in
     let qs : accepted Initiator d past ≡ u.before ++ u.next.first ∷ u.next.rest = u.accepted_are ∙ ap (λ (v : List Request). u.before ++ v) u.next.split in
-    let reached : reached_in (length (information_out Initiator d past ++ chunk)) (texts (accepted Initiator d past)) ≡ answered (marks Initiator d past) + 1
+    let reached : reached_in (length (information_out Initiator d past ++ chunk)) (texts (accepted Initiator d past)) ≡ answered (dialect_in v) (marks Initiator d past) + 1
     = ap (λ (v : List Request). reached_in (length (information_out Initiator d past ++ chunk)) (texts v)) qs ∙ (goes.in_turn ∙ ap (λ (m : ℕ). m + 1) (sym u.answered_are)) in
     record {
       gated = record {
@@ -209,7 +209,7 @@ data_allowed v l past r d i n h run next some u goes =
         alone = sym (queue_seen r.seen past r.same) ∙ next.alone;
       };
       once = ap (λ (v : List Request). starts_with nat_eq (concat (texts v)) (information_out Initiator d past ++ chunk)) qs ∙ goes.once;
-      in_turn = le-leb _ (answered (marks Initiator d past) + 1) (let e = reached in omega (arith, e));
+      in_turn = le-leb _ (answered (dialect_in v) (marks Initiator d past) + 1) (let e = reached in omega (arith, e));
     }
 
 -- ## Data: what the core keeps
@@ -259,36 +259,36 @@ pub state_in : (v : Station) (past : List station.Act) (e : ℕ) → v.role ≡ 
 state_in v past e r h l = sym (subst (λ (x : Role). state_of x e past ≡ (channel_at v e).state) r (h.channels_are e l).state_is)
 
 data_runs : (v : Core) (past : List Act) (r : Runs v past) (d : ℕ) (b : Bool) (c : Request) (begun : BegunAt v d b c) (station : Station) → IsSound v → station.role ≡ Initiator → station.probe ≡ v.station.probe
-    → SendsNext Initiator d r.seen → open_window (marks Initiator d past) ≡ None
+    → SendsNext Initiator d r.seen → open_window (dialect_in v) (marks Initiator d past) ≡ None
     → (info : List ℕ) → begun_of past d (length info) ≡ begins_at b c
     → station_fits.StationFits station (sent d info ∷ r.seen)
     → Runs (record v { lanes = begun.lanes; station = station }) (Sent (written Initiator Uih d info) ∷ past)
 data_runs v past r d b c begun station i role probe next none info marks_are h =
     let new : Core = record v { lanes = begun.lanes; station = station } in
     let f = written Initiator Uih d info in
-    let shown : (e : ℕ) → e < 62 → state_shown station false e ≡ state_shown v.station false e
+    let (shown (dialect_in v)) : (e : ℕ) → e < 62 → state_shown station false e ≡ state_shown v.station false e
     = λ e l. ap as_shown (state_in station (sent d info ∷ r.seen) e role h l ∙ (data_state d e info r.seen next.no_zero ∙ sym (state_in v.station r.seen e i.role_is r.fits l))) in
     let was : (e : ℕ) → is_open Initiator e (wire (Sent f ∷ past)) ≡ is_open Initiator e (wire past) = λ e. data_open Initiator e d f (wire past) next.no_zero in
     record {
       seen = sent d info ∷ r.seen;
       fits = h;
       same = ap (λ (acts : List wired). sent d info ∷ acts) r.same;
-      waits = waits_same (state_shown station false) (state_shown v.station false) shown v.hand ∙ r.waits;
+      waits = waits_same (state_shown station false) (state_shown v.station false) (shown (dialect_in v)) v.hand ∙ r.waits;
       probe_is = probe_same (Sent f) past (λ q. refl) v.hand ∙ (r.probe_is ∙ sym probe);
       lanes_fit = λ e l z o. by_lane e l z (sym (was e) ∙ o) (d == e) refl;
     }
   where
     by_lane : (e : ℕ) → e < 62 → (e == 0) ≡ false → is_open Initiator e (wire past) ≡ true → (x : Bool) → (d == e) ≡ x
-        → LaneFits e (sent d info ∷ r.seen) (Sent (written Initiator Uih d info) ∷ past) (slice_index_or begun.lanes e new_lane)
+        → LaneFits (dialect_in v) e (sent d info ∷ r.seen) (Sent (written Initiator Uih d info) ∷ past) (slice_index_or begun.lanes e new_lane)
     by_lane e l z o true same =
         let there = eqb-true d e same in
-        subst (λ (m : ℕ). LaneFits m (sent d info ∷ r.seen) (Sent (written Initiator Uih d info) ∷ past) (slice_index_or begun.lanes m new_lane)) there
-        (subst (λ (lane : Lane). LaneFits d (sent d info ∷ r.seen) (Sent (written Initiator Uih d info) ∷ past) lane) (sym begun.here)
-        (lane_own d info b c r.seen past (lane_at v d) next.no_zero (subst (λ (m : ℕ). is_open Initiator m (wire past) ≡ true) (sym there) o) none marks_are
+        subst (λ (m : ℕ). LaneFits (dialect_in v) m (sent d info ∷ r.seen) (Sent (written Initiator Uih d info) ∷ past) (slice_index_or begun.lanes m new_lane)) there
+        (subst (λ (lane : Lane). LaneFits (dialect_in v) d (sent d info ∷ r.seen) (Sent (written Initiator Uih d info) ∷ past) lane) (sym begun.here)
+        (lane_own (dialect_in v) d info b c r.seen past (lane_at v d) next.no_zero (subst (λ (m : ℕ). is_open Initiator m (wire past) ≡ true) (sym there) o) none marks_are
         (r.lanes_fit d next.in_range next.no_zero (subst (λ (m : ℕ). is_open Initiator m (wire past) ≡ true) (sym there) o))))
     by_lane e l z o false apart =
-        subst (λ (lane : Lane). LaneFits e (sent d info ∷ r.seen) (Sent (written Initiator Uih d info) ∷ past) lane) (sym (begun.there e apart))
-        (lane_other e d info r.seen past (lane_at v e) apart (r.lanes_fit e l z o))
+        subst (λ (lane : Lane). LaneFits (dialect_in v) e (sent d info ∷ r.seen) (Sent (written Initiator Uih d info) ∷ past) lane) (sym (begun.there e apart))
+        (lane_other (dialect_in v) e d info r.seen past (lane_at v e) apart (r.lanes_fit e l z o))
 
 data_stands : (v : Core) (l : UrcKind → Bool) (past : List Act) (r : Runs v past) (d : ℕ) → IsSound v → v.lost ≡ false → StandsIn (own v l) v past → SendsNext Initiator d r.seen
     → station_fits.StationFits (data_given v.station (Some d)) (station.Sent (data_frame v.station d) ∷ r.seen)
@@ -308,7 +308,7 @@ data_stands v l past r d i n m next h =
     let info = take n1 w in
     let f = written Initiator Uih d info in
     let first : first_on d v.hand ≡ Some c = first_head d v.hand ∙ ap head_of (sym u.cmds_are ∙ u.next.split) in
-    let none : (lane_at v d).window ≡ None = lane.window_fits.shows ∙ ap (option_map shown) u.next.idle in
+    let none : (lane_at v d).window ≡ None = lane.window_fits.shows ∙ ap (option_map (shown (dialect_in v))) u.next.idle in
     let begun = begun_at v d c first none (subst (λ (k : ℕ). d < k) (sym i.all) next.in_range) in
     let marks_are : begun_of past d (length info) ≡ begins_at (nat_le (length w) n1) c
     = ap (λ (qs : List Request). begun_between qs (length out) (length out + length info)) (u.accepted_are ∙ ap (λ (qs : List Request). u.before ++ qs) u.next.split) ∙ goes.begun in
@@ -321,7 +321,7 @@ data_stands v l past r d i n m next h =
       fits = record { hand_is = m.fits.hand_is; lost_is = m.fits.lost_is; runs = subst (λ (b : Bool). RunsUnless b new (Sent f ∷ past)) (sym n) runs };
       run = data_run s past f (ap not next.no_zero) m.run (data_allowed v l past r d i n m.fits m.run next some u goes);
     } in
-    let waits : waits_on Initiator d past ≡ w = waits_in v.station d r.seen past (lane_at v d) i.role_is r.fits r.same next.in_range next.no_zero o lane in
+    let waits : waits_on (dialect_in v) Initiator d past ≡ w = waits_in (dialect_in v) v.station d r.seen past (lane_at v d) i.role_is r.fits r.same next.in_range next.no_zero o lane in
     subst (λ (x : Core). StandsIn s (record x { station = data_given v.station (Some d) }) (Sent (data_of s past d) ∷ past)) (sym begun.is)
     (subst (λ (x : List ℕ). StandsIn s new (Sent (written Initiator Uih d (take n1 x)) ∷ past)) (sym waits) there)
 
@@ -347,7 +347,7 @@ by_queue : (v : Core) (l : UrcKind → Bool) (past : List Act) (r : Runs v past)
 by_queue v l past r i t n m (f ∷ fs) q h = given_stands (own v l) v past f fs r q n m h
 by_queue v l past r i t n m [] q h =
     subst (λ (o : Option ℕ). StandsIn (own v l) (record (begun_on v (giving.next_turn v.station)) { station = data_given v.station (giving.next_turn v.station) }) (with_out (option_map (λ (d : ℕ). with_freshness true (data_of (own v l) past d)) o) past))
-    (turn_same v.station r.seen past (λ d. lane_at v d) (fits_lanes v past r i)) (by_turn v l past r i t n m q h (giving.next_turn v.station) refl)
+    (turn_same (dialect_in v) v.station r.seen past (λ d. lane_at v d) (fits_lanes v past r i)) (by_turn v l past r i t n m q h (giving.next_turn v.station) refl)
 
 queue_is : (v : Core) (past : List Act) (r : Runs v past) → queue (wire past) ≡ v.station.queue
 queue_is v past r = sym (queue_seen r.seen past r.same) ∙ r.fits.queue_is
@@ -386,8 +386,8 @@ out_data v l past r i t q None e = refl
 out_data v l past r i t q (Some d) e =
     let next = sends_as v.station d r.seen i.role_is t q e r.fits in
     let o : is_open Initiator d (wire past) ≡ true = sym (open_seen Initiator d r.seen past r.same) ∙ next.is_open in
-    let waits : waits_on Initiator d past ≡ (channel_at v.station d).waiting
-    = waits_in v.station d r.seen past (lane_at v d) i.role_is r.fits r.same next.in_range next.no_zero o (r.lanes_fit d next.in_range next.no_zero o) in
+    let waits : waits_on (dialect_in v) Initiator d past ≡ (channel_at v.station d).waiting
+    = waits_in (dialect_in v) v.station d r.seen past (lane_at v d) i.role_is r.fits r.same next.in_range next.no_zero o (r.lanes_fit d next.in_range next.no_zero o) in
     ap (λ (x : Role). Some (with_freshness true (written x Uih d (take v.station.n1 (channel_at v.station d).waiting)))) i.role_is
     ∙ ap (λ (x : List ℕ). Some (with_freshness true (written Initiator Uih d (take v.station.n1 x)))) (sym waits)
 
@@ -396,7 +396,7 @@ out_queue : (v : Core) (l : UrcKind → Bool) (past : List Act) (r : Runs v past
 out_queue v l past r i t (f ∷ fs) q = ap (λ (b : Bool). Some (with_freshness b f)) (not_none (length fs))
 out_queue v l past r i t [] q =
     out_data v l past r i t q (giving.next_turn v.station) refl
-    ∙ ap (λ (o : Option ℕ). option_map (λ (d : ℕ). with_freshness true (data_of (own v l) past d)) o) (turn_same v.station r.seen past (λ d. lane_at v d) (fits_lanes v past r i))
+    ∙ ap (λ (o : Option ℕ). option_map (λ (d : ℕ). with_freshness true (data_of (own v l) past d)) o) (turn_same (dialect_in v) v.station r.seen past (λ d. lane_at v d) (fits_lanes v past r i))
 
 pub goes_out : (v : Core) (o : Option Outgoing) → IsSound v → SendsTruly v.station → v.lost ≡ false → o ≡ option_map (with_freshness (length v.station.queue == 0)) (giving.next_given v.station v.station.queue) → GoesOut v o
 unfolding GoesOut

@@ -11,6 +11,7 @@ use Rattle.mux_station.specs.Written.{written}
 use Rattle.mux_station.specs.Opening.{since, since_after, belongs, is_open}
 use Rattle.mux_station.specs.Offering.{octets_offered, joined_octets}
 use Rattle.mux_station.specs.Sending.{Waiting}
+use Rattle.at_text.specs.Dialects.{Dialect}
 use Rattle.at_text.specs.Windows.{Mark, answered, open_window}
 use Rattle.at_text.specs.OpenWindow.{OpenWindow, opened, shown, FitsMarks}
 use Rattle.at_text.proofs.windows.AnswerWindows.{begins}
@@ -64,8 +65,8 @@ pub offered_after : (b : Bool) (a : station.Act) (d : ℕ) (rest : List station.
 offered_after true a d rest h = ap (λ (v : List ℕ). joined_octets (octets_offered d) rest ++ v) h ∙ append-nil (joined_octets (octets_offered d) rest)
 offered_after false a d rest h = refl
 
-pub lane_given : (d : ℕ) (seen : List station.Act) (past : List Act) (lane : Lane) → LaneFits d seen past lane → LaneFits d (station.Given ∷ seen) (Given ∷ past) lane
-lane_given d seen past lane f = record {
+pub lane_given : (dialect : Dialect) (d : ℕ) (seen : List station.Act) (past : List Act) (lane : Lane) → LaneFits dialect d seen past lane → LaneFits dialect d (station.Given ∷ seen) (Given ∷ past) lane
+lane_given dialect d seen past lane f = record {
   kept_is = ap kept_run (got_after (belongs Initiator d (wire past) station.Given) station.Given d (since Initiator d (wire past)) refl) ∙ f.kept_is;
   window_fits = f.window_fits;
   offered_is = offered_after (belongs Initiator d seen station.Given) station.Given d (since Initiator d seen) refl ∙ f.offered_is;
@@ -86,19 +87,19 @@ if_so true x y h = refl
 if_so false x y h = cc
 
 -- what is kept of another connection
-pub lane_other : (d e : ℕ) (info : List ℕ) (seen : List station.Act) (past : List Act) (lane : Lane) → (e == d) ≡ false → LaneFits d seen past lane
-    → LaneFits d (station.Sent (written Initiator Uih e info) ∷ seen) (Sent (written Initiator Uih e info) ∷ past) lane
-lane_other d e info seen past lane n f =
+pub lane_other : (dialect : Dialect) (d e : ℕ) (info : List ℕ) (seen : List station.Act) (past : List Act) (lane : Lane) → (e == d) ≡ false → LaneFits dialect d seen past lane
+    → LaneFits dialect d (station.Sent (written Initiator Uih e info) ∷ seen) (Sent (written Initiator Uih e info) ∷ past) lane
+lane_other dialect d e info seen past lane n f =
     let g = written Initiator Uih e info in
     let none : (carries d g && is_open Initiator d (wire past)) ≡ false
     = ap (λ (b : Bool). (not (d == 0) && b) && is_open Initiator d (wire past)) n ∙ ap (λ (b : Bool). b && is_open Initiator d (wire past)) (and_off (not (d == 0))) in
     let same : marks Initiator d (Sent g ∷ past) ≡ marks Initiator d past = if_not (carries d g && is_open Initiator d (wire past)) (marks Initiator d past ++ begun_placed Initiator d past g) (marks Initiator d past) none in
     record {
       kept_is = ap kept_run (got_after (belongs Initiator d (wire past) (station.Sent g)) (station.Sent g) d (since Initiator d (wire past)) refl) ∙ f.kept_is;
-      window_fits = subst (λ (ms : List Mark). FitsMarks lane.window ms) (sym same) f.window_fits;
+      window_fits = subst (λ (ms : List Mark). FitsMarks dialect lane.window ms) (sym same) f.window_fits;
       offered_is =
           offered_after (belongs Initiator d seen (station.Sent g)) (station.Sent g) d (since Initiator d seen) refl
-          ∙ (f.offered_is ∙ ap (λ (ms : List Mark). concat (texts (take (answered ms + 1) (accepted Initiator d past)))) (sym same));
+          ∙ (f.offered_is ∙ ap (λ (ms : List Mark). concat (texts (take (answered dialect ms + 1) (accepted Initiator d past)))) (sym same));
     }
 
 -- a window that begins, or not
@@ -106,20 +107,20 @@ abbrev pub window_then : Bool → Request → Option OpenWindow → Option OpenW
 window_then true c w = Some (opened (line_of c))
 window_then false c w = w
 
-window_fits : (b : Bool) (c : Request) (w : Option OpenWindow) (ms : List Mark) → open_window ms ≡ None → FitsMarks w ms → FitsMarks (window_then b c w) (ms ++ begins_at b c)
-window_fits true c w ms none f = begins w (Some (opened (line_of c))) ms (line_of c) f (ap is_some (f.shows ∙ ap (option_map shown) none)) refl
-window_fits false c w ms none f = subst (λ (v : List Mark). FitsMarks w v) (sym (append-nil ms)) f
+window_fits : (dialect : Dialect) (b : Bool) (c : Request) (w : Option OpenWindow) (ms : List Mark) → open_window dialect ms ≡ None → FitsMarks dialect w ms → FitsMarks dialect (window_then b c w) (ms ++ begins_at b c)
+window_fits dialect true c w ms none f = begins dialect w (Some (opened (line_of c))) ms (line_of c) f (ap is_some (f.shows ∙ ap (option_map (shown dialect)) none)) refl
+window_fits dialect false c w ms none f = subst (λ (v : List Mark). FitsMarks dialect w v) (sym (append-nil ms)) f
 
-answered_same : (b : Bool) (c : Request) (ms : List Mark) → answered (ms ++ begins_at b c) ≡ answered ms
-answered_same true c ms = answered_begun ms (line_of c)
-answered_same false c ms = ap answered (append-nil ms)
+answered_same : (dialect : Dialect) (b : Bool) (c : Request) (ms : List Mark) → answered dialect (ms ++ begins_at b c) ≡ answered dialect ms
+answered_same dialect true c ms = answered_begun dialect ms (line_of c)
+answered_same dialect false c ms = ap (answered dialect) (append-nil ms)
 
 -- and of its own: with the last octets the command's window begins
-pub lane_own : (d : ℕ) (info : List ℕ) (b : Bool) (c : Request) (seen : List station.Act) (past : List Act) (lane : Lane) → (d == 0) ≡ false → is_open Initiator d (wire past) ≡ true
-    → open_window (marks Initiator d past) ≡ None
-    → begun_between (accepted Initiator d past) (length (information_out Initiator d past)) (length (information_out Initiator d past) + length info) ≡ begins_at b c → LaneFits d seen past lane
-    → LaneFits d (station.Sent (written Initiator Uih d info) ∷ seen) (Sent (written Initiator Uih d info) ∷ past) (record lane { window = window_then b c lane.window })
-lane_own d info b c seen past lane z o none begun f =
+pub lane_own : (dialect : Dialect) (d : ℕ) (info : List ℕ) (b : Bool) (c : Request) (seen : List station.Act) (past : List Act) (lane : Lane) → (d == 0) ≡ false → is_open Initiator d (wire past) ≡ true
+    → open_window dialect (marks Initiator d past) ≡ None
+    → begun_between (accepted Initiator d past) (length (information_out Initiator d past)) (length (information_out Initiator d past) + length info) ≡ begins_at b c → LaneFits dialect d seen past lane
+    → LaneFits dialect d (station.Sent (written Initiator Uih d info) ∷ seen) (Sent (written Initiator Uih d info) ∷ past) (record lane { window = window_then b c lane.window })
+lane_own dialect d info b c seen past lane z o none begun f =
     let g = written Initiator Uih d info in
     let ms = marks Initiator d past in
     let here : (carries d g && is_open Initiator d (wire past)) ≡ true
@@ -128,9 +129,9 @@ lane_own d info b c seen past lane z o none begun f =
     = if_so (carries d g && is_open Initiator d (wire past)) (ms ++ begun_placed Initiator d past g) ms here ∙ ap (λ (v : List Mark). ms ++ v) begun in
     record {
       kept_is = ap kept_run (got_after (belongs Initiator d (wire past) (station.Sent g)) (station.Sent g) d (since Initiator d (wire past)) refl) ∙ f.kept_is;
-      window_fits = subst (λ (v : List Mark). FitsMarks (window_then b c lane.window) v) (sym more) (window_fits b c lane.window ms none f.window_fits);
+      window_fits = subst (λ (v : List Mark). FitsMarks dialect (window_then b c lane.window) v) (sym more) (window_fits dialect b c lane.window ms none f.window_fits);
       offered_is =
           offered_after (belongs Initiator d seen (station.Sent g)) (station.Sent g) d (since Initiator d seen) refl
-          ∙ (f.offered_is ∙ (ap (λ (n : ℕ). concat (texts (take (n + 1) (accepted Initiator d past)))) (sym (answered_same b c ms))
-          ∙ ap (λ (v : List Mark). concat (texts (take (answered v + 1) (accepted Initiator d past)))) (sym more)));
+          ∙ (f.offered_is ∙ (ap (λ (n : ℕ). concat (texts (take (n + 1) (accepted Initiator d past)))) (sym (answered_same dialect b c ms))
+          ∙ ap (λ (v : List Mark). concat (texts (take (answered dialect v + 1) (accepted Initiator d past)))) (sym more)));
     }

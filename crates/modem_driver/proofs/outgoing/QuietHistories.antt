@@ -14,6 +14,7 @@ use Rattle.mux_station.specs.Stopping.{is_stopped}
 use Rattle.mux_station.specs.Offering.{last_sender}
 use Rattle.mux_station.specs.Sending.{queue}
 use Rattle.mux_station.specs.GivenFrames.{with_freshness}
+use Rattle.at_text.specs.Dialects.{Dialect}
 use Rattle.at_text.specs.Windows.{Window, answered, open_window}
 use Rattle.modem_desk.specs.declared.request.Request.{Request}
 use Rattle.modem_history.specs.Acts.{Act, wire, in_hand}
@@ -51,9 +52,9 @@ else_none : (a b : Option ℕ) → else_by a b ≡ None → b ≡ None
 else_none None b h = h
 else_none (Some d) b h = cc
 
-no_turn : (r : Role) (past : List Act) (d : ℕ) → next_to_send r past ≡ None → 1 ≤ d → d < 62 → may_send r past d ≡ false
-no_turn r past d h low high =
-    find_none (may_send r past) 1 61 d (else_none (find (may_send r past) (from_on (last_sender (wire past) + 1))) (find (may_send r past) (from_on 1)) h) low (omega arith)
+no_turn : (dialect : Dialect) (r : Role) (past : List Act) (d : ℕ) → next_to_send dialect r past ≡ None → 1 ≤ d → d < 62 → may_send dialect r past d ≡ false
+no_turn dialect r past d h low high =
+    find_none (may_send dialect r past) 1 61 d (else_none (find (may_send dialect r past) (from_on (last_sender (wire past) + 1))) (find (may_send dialect r past) (from_on 1)) h) low (omega arith)
 
 -- an open connection that goes has nothing that waits
 waits_none : (a b c : Bool) → (a && (not b && not c)) ≡ false → a ≡ true → b ≡ false → c ≡ true
@@ -91,15 +92,15 @@ few_open : (o : Option Window) → open_count o ≤ 1
 few_open None = omega arith
 few_open (Some w) = omega arith
 
-quiet_command : (s : Setting) (past : List Act) (d : ℕ) → Lawful s past → (i : InStep s d past) → waits_on s.role d past ≡ [] → (c : Request) (later : List Request) → commands_for d (in_hand past) ≡ c ∷ later
-    → whole_in (length (information_out s.role d past)) (texts (accepted s.role d past)) ≡ answered (marks s.role d past) + 1
+quiet_command : (s : Setting) (past : List Act) (d : ℕ) → Lawful s past → (i : InStep s d past) → waits_on s.dialect s.role d past ≡ [] → (c : Request) (later : List Request) → commands_for d (in_hand past) ≡ c ∷ later
+    → whole_in (length (information_out s.role d past)) (texts (accepted s.role d past)) ≡ answered s.dialect (marks s.role d past) + 1
 quiet_command s past d l i w c later e =
     let k = kept s past l d in
     let ms = marks s.role d past in
     let out = information_out s.role d past in
     let acc = accepted s.role d past in
     let qs : acc ≡ i.before ++ c ∷ later = i.accepted_are ∙ ap (λ (v : List Request). i.before ++ v) e in
-    let front : take (answered ms + 1) acc ≡ i.before ++ c ∷ [] = ap (λ (n : ℕ). take (n + 1) acc) i.answered_are ∙ (ap (take (length i.before + 1)) qs ∙ take-append-add i.before (c ∷ later) 1) in
+    let front : take (answered s.dialect ms + 1) acc ≡ i.before ++ c ∷ [] = ap (λ (n : ℕ). take (n + 1) acc) i.answered_are ∙ (ap (take (length i.before + 1)) qs ∙ take-append-add i.before (c ∷ later) 1) in
     let none : drop (length out) (concat (texts (i.before ++ c ∷ []))) ≡ [] = ap (λ (v : List Request). drop (length out) (concat (texts v))) (sym front) ∙ w in
     let size = sym (length-drop (length out) (concat (texts (i.before ++ c ∷ [])))) ∙ ap length none in
     let least : length i.before + 1 ≤ whole_in (length out) (texts acc)
@@ -107,22 +108,22 @@ quiet_command s past d l i w c later e =
     let few : whole_in (length out) (texts acc) ≤ length acc = let f = whole_few (length out) (texts acc) in let t = texts_counted acc in omega (arith, f, t) in
     let began : begun_count ms ≡ whole_in (length out) (texts acc)
     = sym (begun_counted ms) ∙ (ap length k.first ∙ (length-map (whole_after (length out) acc) line_of ∙ length-take-le (whole_in (length out) (texts acc)) acc few)) in
-    let all = counts ms k.turns.order in
-    let one = few_open (open_window ms) in
+    let all = counts s.dialect ms k.turns.order in
+    let one = few_open (open_window s.dialect ms) in
     let given = i.answered_are in
     omega (arith, least, began, all, one, given)
 
-quiet_here : (s : Setting) (past : List Act) (d : ℕ) → Lawful s past → (i : InStep s d past) → waits_on s.role d past ≡ [] → (cs : List Request) → commands_for d (in_hand past) ≡ cs → is_quiet_on s d past ≡ true
+quiet_here : (s : Setting) (past : List Act) (d : ℕ) → Lawful s past → (i : InStep s d past) → waits_on s.dialect s.role d past ≡ [] → (cs : List Request) → commands_for d (in_hand past) ≡ cs → is_quiet_on s d past ≡ true
 quiet_here s past d l i w [] e =
     let qs : accepted s.role d past ≡ i.before = i.accepted_are ∙ (ap (λ (v : List Request). i.before ++ v) e ∙ append-nil i.before) in
-    let count : length (texts (accepted s.role d past)) ≡ answered (marks s.role d past) = texts_counted (accepted s.role d past) ∙ (ap length qs ∙ sym i.answered_are) in
-    one_or_all (length (texts (accepted s.role d past)) == answered (marks s.role d past)) _ (inl (eq-eqb _ _ count))
+    let count : length (texts (accepted s.role d past)) ≡ answered s.dialect (marks s.role d past) = texts_counted (accepted s.role d past) ∙ (ap length qs ∙ sym i.answered_are) in
+    one_or_all (length (texts (accepted s.role d past)) == answered s.dialect (marks s.role d past)) _ (inl (eq-eqb _ _ count))
 quiet_here s past d l i w (c ∷ later) e =
-    one_or_all (length (texts (accepted s.role d past)) == answered (marks s.role d past)) _ (inr (eq-eqb _ _ (quiet_command s past d l i w c later e)))
+    one_or_all (length (texts (accepted s.role d past)) == answered s.dialect (marks s.role d past)) _ (inr (eq-eqb _ _ (quiet_command s past d l i w c later e)))
 
-queue_none : (s : Setting) (past : List Act) (fs : List Frame) → out_by s past fs ≡ None → next_to_send s.role past ≡ None
+queue_none : (s : Setting) (past : List Act) (fs : List Frame) → out_by s past fs ≡ None → next_to_send s.dialect s.role past ≡ None
 queue_none s past (f ∷ fs) h = cc
-queue_none s past [] h = by_turn (next_to_send s.role past) h
+queue_none s past [] h = by_turn (next_to_send s.dialect s.role past) h
   where
     by_turn : (o : Option ℕ) → option_map (λ (d : ℕ). with_freshness true (data_of s past d)) o ≡ None → o ≡ None
     by_turn None h = refl
@@ -139,7 +140,7 @@ drained_quiet s past r run h d small z o stopped = by_loss (is_lost past) refl
         let none : out_by s past (queue (wire past)) ≡ None = ap (λ (b : Bool). if b then None else out_by s past (queue (wire past))) (sym n) ∙ h in
         let turn = queue_none s past (queue (wire past)) none in
         let x = eqb-false d 0 z in
-        let unready = no_turn s.role past d turn (omega arith) small in
-        let empty = waits_none (is_open s.role d (wire past)) (is_stopped s.role d (wire past)) (length (waits_on s.role d past) == 0) unready o stopped in
+        let unready = no_turn s.dialect s.role past d turn (omega arith) small in
+        let empty = waits_none (is_open s.role d (wire past)) (is_stopped s.role d (wire past)) (length (waits_on s.dialect s.role d past) == 0) unready o stopped in
         let i = (stays_in_step s past run.lawful r run.whole run.numbers n run.complete d z).while_open o in
-        quiet_here s past d run.lawful i (nil_from_length (waits_on s.role d past) (eqb-true (length (waits_on s.role d past)) 0 empty)) (commands_for d (in_hand past)) refl
+        quiet_here s past d run.lawful i (nil_from_length (waits_on s.dialect s.role d past) (eqb-true (length (waits_on s.dialect s.role d past)) 0 empty)) (commands_for d (in_hand past)) refl

@@ -4,6 +4,7 @@ use Rattle.std.specs.List.{range_with_len}
 use Rattle.std.proofs.Common.{ap, sym, ◌∙◌, subst, arith, append-nil, eqb-true}
 use Rattle.std.proofs.Math.Seq.{drop-append_seam}
 use Rattle.std.proofs.lemmas.Bool.{ne_eqb}
+use Rattle.at_text.specs.Dialects.{Dialect}
 use Rattle.mux_frame.specs.Frames.{Frame}
 use Rattle.mux_frame.specs.declared.frame.Kind.TheVariants.{Uih}
 use Rattle.mux_station.specs.declared.role.Role.{Role}
@@ -63,43 +64,43 @@ pub open_here : (v : Station) (d : ℕ) (seen : List station.Act) (past : List A
 open_here v d seen past r h k l = sym (open_seen Initiator d seen past k) ∙ subst (λ (x : Role). is_open x d seen ≡ is_opened (channel_at v d).state) r (open_fits v seen d h l)
 
 -- of what may leave the beginning left, and the ring holds the rest
-pub ring_rest : (v : Station) (d : ℕ) (seen : List station.Act) (past : List Act) (lane : Lane) → v.role ≡ Initiator → station_fits.StationFits v seen → IsSeen seen past → d < 62 → (d == 0) ≡ false
-    → is_open Initiator d (wire past) ≡ true → LaneFits d seen past lane → may_leave Initiator d past ≡ information_out Initiator d past ++ (channel_at v d).waiting
-ring_rest v d seen past lane r h k l z o f =
+pub ring_rest : (dialect : Dialect) (v : Station) (d : ℕ) (seen : List station.Act) (past : List Act) (lane : Lane) → v.role ≡ Initiator → station_fits.StationFits v seen → IsSeen seen past → d < 62 → (d == 0) ≡ false
+    → is_open Initiator d (wire past) ≡ true → LaneFits dialect d seen past lane → may_leave dialect Initiator d past ≡ information_out Initiator d past ++ (channel_at v d).waiting
+ring_rest dialect v d seen past lane r h k l z o f =
     let opened : is_opened (channel_at v d).state ≡ true = sym (open_here v d seen past r h k l) ∙ o in
     let ring : offered Initiator d seen ≡ data_out Initiator d seen ++ (channel_at v d).waiting = subst (λ (x : Role). offered x d seen ≡ data_out x d seen ++ (channel_at v d).waiting) r ((h.channels_are d l).ring_is opened) in
     sym f.offered_is ∙ (ring ∙ ap (λ (w : List ℕ). w ++ (channel_at v d).waiting) (given_seen Initiator d seen past k z))
 
-pub waits_in : (v : Station) (d : ℕ) (seen : List station.Act) (past : List Act) (lane : Lane) → v.role ≡ Initiator → station_fits.StationFits v seen → IsSeen seen past → d < 62 → (d == 0) ≡ false
-    → is_open Initiator d (wire past) ≡ true → LaneFits d seen past lane → waits_on Initiator d past ≡ (channel_at v d).waiting
-waits_in v d seen past lane r h k l z o f =
+pub waits_in : (dialect : Dialect) (v : Station) (d : ℕ) (seen : List station.Act) (past : List Act) (lane : Lane) → v.role ≡ Initiator → station_fits.StationFits v seen → IsSeen seen past → d < 62 → (d == 0) ≡ false
+    → is_open Initiator d (wire past) ≡ true → LaneFits dialect d seen past lane → waits_on dialect Initiator d past ≡ (channel_at v d).waiting
+waits_in dialect v d seen past lane r h k l z o f =
     let out = information_out Initiator d past in
-    ap (drop (length out)) (ring_rest v d seen past lane r h k l z o f) ∙ drop-append_seam out (channel_at v d).waiting
+    ap (drop (length out)) (ring_rest dialect v d seen past lane r h k l z o f) ∙ drop-append_seam out (channel_at v d).waiting
 
 -- ## Whose turn it is
 
 -- a station that fits, and the lanes of all connections
-pub record Lanes_fit (v : Station) (seen : List station.Act) (past : List Act) (lane : ℕ → Lane) : Type 0 where
+pub record Lanes_fit (dialect : Dialect) (v : Station) (seen : List station.Act) (past : List Act) (lane : ℕ → Lane) : Type 0 where
   pub role_is : v.role ≡ Initiator
   pub fits : station_fits.StationFits v seen
   pub same : IsSeen seen past
-  pub lanes_fit : (d : ℕ) → d < 62 → (d == 0) ≡ false → is_open Initiator d (wire past) ≡ true → LaneFits d seen past (lane d)
+  pub lanes_fit : (d : ℕ) → d < 62 → (d == 0) ≡ false → is_open Initiator d (wire past) ≡ true → LaneFits dialect d seen past (lane d)
 
 and_same : (b x y y' : Bool) → (b ≡ true → y ≡ y') → (b && (x && y)) ≡ (b && (x && y'))
 and_same true true y y' h = h refl
 and_same true false y y' h = refl
 and_same false x y y' h = refl
 
-ready_same : (v : Station) (seen : List station.Act) (past : List Act) (lane : ℕ → Lane) → Lanes_fit v seen past lane → (d : ℕ) → 1 ≤ d → d < 62 → giving.is_ready v d ≡ may_send Initiator past d
-ready_same v seen past lane h d n l =
+ready_same : (dialect : Dialect) (v : Station) (seen : List station.Act) (past : List Act) (lane : ℕ → Lane) → Lanes_fit dialect v seen past lane → (d : ℕ) → 1 ≤ d → d < 62 → giving.is_ready v d ≡ may_send dialect Initiator past d
+ready_same dialect v seen past lane h d n l =
     let z : (d == 0) ≡ false = ne_eqb d 0 (λ (e : d ≡ 0). omega (arith, e, n)) in
     let o = open_here v d seen past h.role_is h.fits h.same l in
     let stops : stopped_in v d ≡ is_stopped Initiator d (wire past)
     = subst (λ (x : Role). stopped_in v d ≡ is_stopped x d seen) h.role_is (stopped_fits v seen d h.fits l) ∙ stopped_seen Initiator d seen past h.same in
-    and_same (is_opened (channel_at v d).state) (not (stopped_in v d)) (not (length (channel_at v d).waiting == 0)) (not (length (waits_on Initiator d past) == 0))
-    (λ e. ap (λ (w : List ℕ). not (length w == 0)) (sym (waits_in v d seen past (lane d) h.role_is h.fits h.same l z (o ∙ e) (h.lanes_fit d l z (o ∙ e)))))
-    ∙ (ap (λ (b : Bool). b && (not (stopped_in v d) && not (length (waits_on Initiator d past) == 0))) (sym o)
-    ∙ ap (λ (b : Bool). is_open Initiator d (wire past) && (not b && not (length (waits_on Initiator d past) == 0))) stops)
+    and_same (is_opened (channel_at v d).state) (not (stopped_in v d)) (not (length (channel_at v d).waiting == 0)) (not (length (waits_on dialect Initiator d past) == 0))
+    (λ e. ap (λ (w : List ℕ). not (length w == 0)) (sym (waits_in dialect v d seen past (lane d) h.role_is h.fits h.same l z (o ∙ e) (h.lanes_fit d l z (o ∙ e)))))
+    ∙ (ap (λ (b : Bool). b && (not (stopped_in v d) && not (length (waits_on dialect Initiator d past) == 0))) (sym o)
+    ∙ ap (λ (b : Bool). is_open Initiator d (wire past) && (not b && not (length (waits_on dialect Initiator d past) == 0))) stops)
 
 first_by : (b c : Bool) (d : ℕ) (x y : Option ℕ) → b ≡ c → x ≡ y → (if b then Some d else x) ≡ cond c (Some d) y
 first_by true true d x y e h = refl
@@ -113,8 +114,8 @@ first_same v ready d (suc count) h =
     first_by (giving.is_ready v d) (ready d) d (giving.first_ready v (d + 1) count) (find ready (range_with_len (d + 1) count)) (h d (omega arith) (omega arith))
     (first_same v ready (d + 1) count (λ e a b. h e (omega (arith, a)) (omega (arith, b))))
 
-from_same : (v : Station) (seen : List station.Act) (past : List Act) (lane : ℕ → Lane) → Lanes_fit v seen past lane → (d : ℕ) → 1 ≤ d → giving.ready_from v d ≡ find (may_send Initiator past) (from_on d)
-from_same v seen past lane h d n = first_same v (may_send Initiator past) d (62 - d) (λ e a b. ready_same v seen past lane h e (omega (arith, a, n)) (omega (arith, a, b)))
+from_same : (dialect : Dialect) (v : Station) (seen : List station.Act) (past : List Act) (lane : ℕ → Lane) → Lanes_fit dialect v seen past lane → (d : ℕ) → 1 ≤ d → giving.ready_from v d ≡ find (may_send dialect Initiator past) (from_on d)
+from_same dialect v seen past lane h d n = first_same v (may_send dialect Initiator past) d (62 - d) (λ e a b. ready_same dialect v seen past lane h e (omega (arith, a, n)) (omega (arith, a, b)))
 
 last_same : (acts : List station.Act) → last_sender (without_calls acts) ≡ last_sender acts
 last_same [] = refl
@@ -129,12 +130,12 @@ else_same : (x y : Option ℕ) → giving.else_first x y ≡ else_by x y
 else_same (Some d) y = refl
 else_same None y = refl
 
-pub turn_same : (v : Station) (seen : List station.Act) (past : List Act) (lane : ℕ → Lane) → Lanes_fit v seen past lane → giving.next_turn v ≡ next_to_send Initiator past
-turn_same v seen past lane h =
+pub turn_same : (dialect : Dialect) (v : Station) (seen : List station.Act) (past : List Act) (lane : ℕ → Lane) → Lanes_fit dialect v seen past lane → giving.next_turn v ≡ next_to_send dialect Initiator past
+turn_same dialect v seen past lane h =
     let last : v.last ≡ last_sender (wire past) = sym h.fits.last_is ∙ (sym (last_same seen) ∙ ap last_sender h.same) in
-    let above : giving.ready_from v (v.last + 1) ≡ find (may_send Initiator past) (from_on (last_sender (wire past) + 1))
-    = from_same v seen past lane h (v.last + 1) (omega arith) ∙ ap (λ (n : ℕ). find (may_send Initiator past) (from_on (n + 1))) last in
-    let least : giving.ready_from v 1 ≡ find (may_send Initiator past) (from_on 1) = from_same v seen past lane h 1 (omega arith) in
+    let above : giving.ready_from v (v.last + 1) ≡ find (may_send dialect Initiator past) (from_on (last_sender (wire past) + 1))
+    = from_same dialect v seen past lane h (v.last + 1) (omega arith) ∙ ap (λ (n : ℕ). find (may_send dialect Initiator past) (from_on (n + 1))) last in
+    let least : giving.ready_from v 1 ≡ find (may_send dialect Initiator past) (from_on 1) = from_same dialect v seen past lane h 1 (omega arith) in
     ap (λ (o : Option ℕ). giving.else_first o (giving.ready_from v 1)) above
-    ∙ (ap (λ (o : Option ℕ). giving.else_first (find (may_send Initiator past) (from_on (last_sender (wire past) + 1))) o) least
-    ∙ else_same (find (may_send Initiator past) (from_on (last_sender (wire past) + 1))) (find (may_send Initiator past) (from_on 1)))
+    ∙ (ap (λ (o : Option ℕ). giving.else_first (find (may_send dialect Initiator past) (from_on (last_sender (wire past) + 1))) o) least
+    ∙ else_same (find (may_send dialect Initiator past) (from_on (last_sender (wire past) + 1))) (find (may_send dialect Initiator past) (from_on 1)))

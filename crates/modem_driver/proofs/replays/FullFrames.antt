@@ -12,6 +12,7 @@ use Rattle.mux_station.specs.Stopping.{is_stopped}
 use Rattle.mux_station.specs.Offering.{last_sender}
 use Rattle.mux_station.specs.Sending.{queue}
 use Rattle.mux_station.specs.GivenFrames.{with_freshness}
+use Rattle.at_text.specs.Dialects.{Dialect}
 use Rattle.at_text.specs.Windows.{answered}
 use Rattle.modem_desk.specs.declared.request.Request.{Request}
 use Rattle.modem_history.specs.Acts.{Act, Took, Got, Sent, Told, Heard, Tick, Lost, Held, Freed, Given, wire}
@@ -57,8 +58,8 @@ left_of : (k : ℕ) (qs : List Request) → (drop k (concat (texts qs)) ≡ []) 
 left_of k [] = inl (dropped_none k)
 left_of k (q ∷ qs) = left k (concat (texts (q ∷ qs))) (all_end q qs)
 
-waits_end : (r : Role) (d : ℕ) (past : List Act) → (waits_on r d past ≡ []) ⊎ (ends_command (waits_on r d past) ≡ true)
-waits_end r d past = left_of (length (information_out r d past)) (take (answered (marks r d past) + 1) (accepted r d past))
+waits_end : (dialect : Dialect) (r : Role) (d : ℕ) (past : List Act) → (waits_on dialect r d past ≡ []) ⊎ (ends_command (waits_on dialect r d past) ≡ true)
+waits_end dialect r d past = left_of (length (information_out r d past)) (take (answered dialect (marks r d past) + 1) (accepted r d past))
 
 -- ## The frame that goes out
 
@@ -95,31 +96,31 @@ found test (e ∷ ds) d h = by_test (test e) refl (found test ds d) h
     by_test true t k h = let same : e ≡ d = cc in subst (λ (x : ℕ). test x ≡ true) same t
     by_test false t k h = k h
 
-turn_ready : (r : Role) (past : List Act) (d : ℕ) → next_to_send r past ≡ Some d → may_send r past d ≡ true
-turn_ready r past d h = by_case (turn_found (find (may_send r past) (from_on (last_sender (wire past) + 1))) (find (may_send r past) (from_on 1)) d h)
+turn_ready : (dialect : Dialect) (r : Role) (past : List Act) (d : ℕ) → next_to_send dialect r past ≡ Some d → may_send dialect r past d ≡ true
+turn_ready dialect r past d h = by_case (turn_found (find (may_send dialect r past) (from_on (last_sender (wire past) + 1))) (find (may_send dialect r past) (from_on 1)) d h)
   where
-    by_case : (find (may_send r past) (from_on (last_sender (wire past) + 1)) ≡ Some d) ⊎ (find (may_send r past) (from_on 1) ≡ Some d) → may_send r past d ≡ true
-    by_case (inl k) = found (may_send r past) (from_on (last_sender (wire past) + 1)) d k
-    by_case (inr k) = found (may_send r past) (from_on 1) d k
+    by_case : (find (may_send dialect r past) (from_on (last_sender (wire past) + 1)) ≡ Some d) ⊎ (find (may_send dialect r past) (from_on 1) ≡ Some d) → may_send dialect r past d ≡ true
+    by_case (inl k) = found (may_send dialect r past) (from_on (last_sender (wire past) + 1)) d k
+    by_case (inr k) = found (may_send dialect r past) (from_on 1) d k
 
-data_full : (s : Setting) (past : List Act) (d : ℕ) → may_send s.role past d ≡ true → is_full s.n1 (Sent (data_of s past d)) ≡ true
+data_full : (s : Setting) (past : List Act) (d : ℕ) → may_send s.dialect s.role past d ≡ true → is_full s.n1 (Sent (data_of s past d)) ≡ true
 data_full s past d h =
-    let w = waits_on s.role d past in
+    let w = waits_on s.dialect s.role d past in
     let open_parts = and_parts (is_open s.role d (wire past)) (not (is_stopped s.role d (wire past)) && not (length w == 0)) h in
     let some = (and_parts (not (is_stopped s.role d (wire past))) (not (length w == 0)) open_parts.1).1 in
-    or_second (not (is_data_frame (data_of s past d))) ((length (take s.n1 w) == s.n1) || ends_command (take s.n1 w)) (some_full s.n1 w some (waits_end s.role d past))
+    or_second (not (is_data_frame (data_of s past d))) ((length (take s.n1 w) == s.n1) || ends_command (take s.n1 w)) (some_full s.n1 w some (waits_end s.dialect s.role d past))
 
 sent_full : (s : Setting) (past : List Act) (f : Frame) → next_out s past ≡ Some (with_freshness true f) → is_full s.n1 (Sent f) ≡ true
 sent_full s past f h =
     let now = next_live s past (with_freshness true f) h in
     let none = (data_next s past (queue (wire past)) f now.1).0 in
-    by_turn (next_to_send s.role past) refl (ap (λ (fs : List Frame). out_by s past fs) (sym none) ∙ now.1)
+    by_turn (next_to_send s.dialect s.role past) refl (ap (λ (fs : List Frame). out_by s past fs) (sym none) ∙ now.1)
   where
-    by_turn : (o : Option ℕ) → next_to_send s.role past ≡ o → option_map (λ (d : ℕ). with_freshness true (data_of s past d)) o ≡ Some (with_freshness true f) → is_full s.n1 (Sent f) ≡ true
+    by_turn : (o : Option ℕ) → next_to_send s.dialect s.role past ≡ o → option_map (λ (d : ℕ). with_freshness true (data_of s past d)) o ≡ Some (with_freshness true f) → is_full s.n1 (Sent f) ≡ true
     by_turn None e k = cc
     by_turn (Some d) e k =
         let same : data_of s past d ≡ f = ap (frame_out f) k in
-        subst (λ (g : Frame). is_full s.n1 (Sent g) ≡ true) same (data_full s past d (turn_ready s.role past d e))
+        subst (λ (g : Frame). is_full s.n1 (Sent g) ≡ true) same (data_full s past d (turn_ready s.dialect s.role past d e))
 
 -- ## Pieces
 

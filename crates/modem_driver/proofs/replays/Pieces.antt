@@ -3,6 +3,7 @@ use Rattle.std.specs.Prelude.{zero, suc, ◌≡◌, ℕ, ◌+◌, ◌-◌, ◌�
 use Rattle.std.specs.List.{list_all, range_with_len}
 use Rattle.std.proofs.Common.{inl, inr, ap, sym, ◌∙◌, subst, arith, append-nil, append_assoc}
 use Rattle.std.proofs.lemmas.Bool.{and_parts, ne_eqb}
+use Rattle.at_text.specs.Dialects.{Dialect}
 use Rattle.mux_frame.specs.Frames.{Frame}
 use Rattle.mux_station.specs.declared.role.Role.{Role}
 use Rattle.mux_station.specs.Written.{is_data_frame}
@@ -130,12 +131,12 @@ pub turn_found : (a b : Option ℕ) (d : ℕ) → else_by a b ≡ Some d → (a 
 turn_found (Some e) b d h = inl h
 turn_found None b d h = inr h
 
-turn_no_zero : (r : Role) (past : List Act) (d : ℕ) → next_to_send r past ≡ Some d → 1 ≤ d
-turn_no_zero r past d h = by_case (turn_found (find (may_send r past) (from_on (last_sender (wire past) + 1))) (find (may_send r past) (from_on 1)) d h)
+turn_no_zero : (dialect : Dialect) (r : Role) (past : List Act) (d : ℕ) → next_to_send dialect r past ≡ Some d → 1 ≤ d
+turn_no_zero dialect r past d h = by_case (turn_found (find (may_send dialect r past) (from_on (last_sender (wire past) + 1))) (find (may_send dialect r past) (from_on 1)) d h)
   where
-    by_case : (find (may_send r past) (from_on (last_sender (wire past) + 1)) ≡ Some d) ⊎ (find (may_send r past) (from_on 1) ≡ Some d) → 1 ≤ d
-    by_case (inl k) = let x = found_from (may_send r past) (last_sender (wire past) + 1) (62 - (last_sender (wire past) + 1)) d k in omega (arith, x)
-    by_case (inr k) = found_from (may_send r past) 1 61 d k
+    by_case : (find (may_send dialect r past) (from_on (last_sender (wire past) + 1)) ≡ Some d) ⊎ (find (may_send dialect r past) (from_on 1) ≡ Some d) → 1 ≤ d
+    by_case (inl k) = let x = found_from (may_send dialect r past) (last_sender (wire past) + 1) (62 - (last_sender (wire past) + 1)) d k in omega (arith, x)
+    by_case (inr k) = found_from (may_send dialect r past) 1 61 d k
 
 -- which frame it is
 record NextIs (s : Setting) (past : List Act) (f : Frame) : Type 0 where
@@ -159,7 +160,7 @@ is_fresh (Some o) = o.fresh
 
 control_next : (s : Setting) (past : List Act) (q : List Frame) (f : Frame) → out_by s past q ≡ Some (with_freshness false f) → (rest : List Frame) × (q ≡ f ∷ rest)
 control_next s past (g ∷ q) f h = let same : g ≡ f = ap (frame_out f) h in (q, ap (λ (x : Frame). x ∷ q) same)
-control_next s past [] f h = absurd (no_control (next_to_send s.role past) h)
+control_next s past [] f h = absurd (no_control (next_to_send s.dialect s.role past) h)
   where
     no_control : (o : Option ℕ) → option_map (λ (d : ℕ). with_freshness true (data_of s past d)) o ≡ Some (with_freshness false f) → ⊥
     no_control None h = cc
@@ -167,13 +168,13 @@ control_next s past [] f h = absurd (no_control (next_to_send s.role past) h)
 
 pub data_next : (s : Setting) (past : List Act) (q : List Frame) (f : Frame) → out_by s past q ≡ Some (with_freshness true f) → (q ≡ []) × (is_data_frame f ≡ true)
 data_next s past (g ∷ q) f h = absurd (let x : false ≡ true = ap is_fresh h in cc)
-data_next s past [] f h = (refl, by_turn (next_to_send s.role past) refl h)
+data_next s past [] f h = (refl, by_turn (next_to_send s.dialect s.role past) refl h)
   where
-    by_turn : (o : Option ℕ) → next_to_send s.role past ≡ o → option_map (λ (d : ℕ). with_freshness true (data_of s past d)) o ≡ Some (with_freshness true f) → is_data_frame f ≡ true
+    by_turn : (o : Option ℕ) → next_to_send s.dialect s.role past ≡ o → option_map (λ (d : ℕ). with_freshness true (data_of s past d)) o ≡ Some (with_freshness true f) → is_data_frame f ≡ true
     by_turn None e h = cc
     by_turn (Some d) e h =
         let same : data_of s past d ≡ f = ap (frame_out f) h in
-        let one = turn_no_zero s.role past d e in
+        let one = turn_no_zero s.dialect s.role past d e in
         let no : (d == 0) ≡ false = ne_eqb d 0 (omega (arith, one)) in
         subst (λ (g : Frame). is_data_frame g ≡ true) same (ap not no)
 

@@ -126,7 +126,7 @@ seen_none s d owner line line_is.TheVariants.Other = by_kind (s.listens Other)
 lines_none : (s : Setting) (d : ℕ) (owner : Option Request) (ms : List Mark) (ls : List (List ℕ)) → list_any tells_busy (by_lines s d owner ms ls) ≡ false
 lines_none s d owner ms [] = refl
 lines_none s d owner ms (line ∷ rest) =
-    both_none (by_seen s d owner line (seen_after ms line)) (by_lines s d owner (ms ++ Line line ∷ []) rest) (seen_none s d owner line (seen_after ms line)) (lines_none s d owner (ms ++ Line line ∷ []) rest)
+    both_none (by_seen s d owner line (seen_after s.dialect ms line)) (by_lines s d owner (ms ++ Line line ∷ []) rest) (seen_none s d owner line (seen_after s.dialect ms line)) (lines_none s d owner (ms ++ Line line ∷ []) rest)
 
 said_lines_none : (s : Setting) (v : HistoryView) (a : Act) → list_any tells_busy (lines_said s v a) ≡ false
 said_lines_none s v (Got f) = by_test (is_opened (v.state f.dlci) && is_data_frame f)

@@ -105,7 +105,7 @@ pub record Accepts (s : Setting) (v : Core) (past : List Act) (q : Request) (w :
   pub waits : may_wait (state_shown w false) q.ask ≡ true
   pub probe_is : probe_in (ended s past (Took q)) (left_by (told_by happened.Took e (state_shown w false)) v.hand ++ q ∷ []) ≡ w.probe
   pub offered_are : (d : ℕ) → d < 62 → (d == 0) ≡ false → is_open Initiator d (sent_after (asking s.role q.ask) (wire past)) ≡ true
-      → offered Initiator d acts_seen ≡ concat (texts (take (answered (marks Initiator d past) + 1) (accepted Initiator d (Took q ∷ past))))
+      → offered Initiator d acts_seen ≡ concat (texts (take (answered s.dialect (marks Initiator d past) + 1) (accepted Initiator d (Took q ∷ past))))
 
 -- the states that there are at the end of the call
 pub state_then : (s : Setting) (past : List Act) (q : Request) (fs : List Frame) (d : ℕ) → frames_in s past (Took q) ≡ fs → now_in s past (Took q) d ≡ state_of s.role d (sent_after fs (wire past))
@@ -193,7 +193,7 @@ unaccepted_by false false room acc more h = refl
 pub plain_offered : (s : Setting) (v : Core) (past : List Act) (q : Request) (c : station.Call) (fs : List Frame) (d : ℕ) → (live : Live s v past) → d < 62 → (d == 0) ≡ false
     → without_calls (sent_after fs (station.Called c ∷ live.runs.seen)) ≡ sent_after (asking s.role q.ask) (wire past) → is_open Initiator d (sent_after (asking s.role q.ask) (wire past)) ≡ true
     → octets_offered d (station.Called c) ≡ [] → command_on d q.ask ≡ false
-    → offered Initiator d (sent_after fs (station.Called c ∷ live.runs.seen)) ≡ concat (texts (take (answered (marks Initiator d past) + 1) (accepted Initiator d (Took q ∷ past))))
+    → offered Initiator d (sent_after fs (station.Called c ∷ live.runs.seen)) ≡ concat (texts (take (answered s.dialect (marks Initiator d past) + 1) (accepted Initiator d (Took q ∷ past))))
 plain_offered s v past q c fs d live b z same o none off =
     let before = live.runs.seen in
     let here : is_open Initiator d (sent_after fs (station.Called c ∷ before)) ≡ true = open_plain Initiator d (sent_after fs (station.Called c ∷ before)) ∙ (ap (is_open Initiator d) same ∙ o) in
@@ -204,7 +204,7 @@ plain_offered s v past q c fs d live b z same o none off =
     ∙ (ap (λ (x : List ℕ). offered Initiator d before ++ x) none
     ∙ (append-nil (offered Initiator d before)
     ∙ (lane.offered_is
-    ∙ ap (λ (qs : List Request). concat (texts (take (answered (marks Initiator d past) + 1) qs)))
+    ∙ ap (λ (qs : List Request). concat (texts (take (answered s.dialect (marks Initiator d past) + 1) qs)))
     (sym (unaccepted_by (is_open Initiator d (wire past)) (command_on d q.ask) (nat_lt (length (in_hand past)) 128) (accepted Initiator d past) (accepted Initiator d past ++ q ∷ []) off))))))
 
 -- ## The acts as they are put together

@@ -254,8 +254,8 @@ probe_kept s v past q m =
 -- an open connection goes on
 pub lane_on : (s : Setting) (past : List Act) (q : Request) (d : ℕ) (lane : Lane) (old new : List station.Act) (fs : List Frame) → s.role ≡ Initiator → frames_in s past (Took q) ≡ fs
     → is_open Initiator d (sent_after fs (wire past)) ≡ true
-    → LaneFits d old past lane → offered Initiator d new ≡ concat (texts (take (answered (marks Initiator d past) + 1) (accepted Initiator d (Took q ∷ past))))
-    → LaneFits d new (ended s past (Took q)) lane
+    → LaneFits s.dialect d old past lane → offered Initiator d new ≡ concat (texts (take (answered s.dialect (marks Initiator d past) + 1) (accepted Initiator d (Took q ∷ past))))
+    → LaneFits s.dialect d new (ended s past (Took q)) lane
 lane_on s past q d lane old new fs r f o l h =
     let e = end_of s past (Took q) d in
     let wires : wire (ended s past (Took q)) ≡ sent_after fs (wire past) = e.wire_is ∙ (ap (λ (gs : List Frame). wire (after (Took q ∷ past) (map Sent gs))) f ∙ wire_sent fs (Took q ∷ past)) in
@@ -263,9 +263,9 @@ lane_on s past q d lane old new fs r f o l h =
     let taken_on : accepted Initiator d (ended s past (Took q)) ≡ accepted Initiator d (Took q ∷ past) = subst (λ (x : Role). accepted x d (ended s past (Took q)) ≡ accepted x d (Took q ∷ past)) r e.accepted_is in
     record {
       kept_is = ap (λ (w : List station.Act). kept_run (info_got d (since Initiator d w))) wires ∙ (ap kept_run (info_same Initiator d fs (wire past) o) ∙ l.kept_is);
-      window_fits = subst (FitsMarks lane.window) (sym marked) l.window_fits;
-      offered_is = h ∙ (ap (λ (n : ℕ). concat (texts (take (n + 1) (accepted Initiator d (Took q ∷ past))))) (ap answered (sym marked))
-          ∙ ap (λ (qs : List Request). concat (texts (take (answered (marks Initiator d (ended s past (Took q))) + 1) qs))) (sym taken_on));
+      window_fits = subst (FitsMarks s.dialect lane.window) (sym marked) l.window_fits;
+      offered_is = h ∙ (ap (λ (n : ℕ). concat (texts (take (n + 1) (accepted Initiator d (Took q ∷ past))))) (ap (answered s.dialect) (sym marked))
+          ∙ ap (λ (qs : List Request). concat (texts (take (answered s.dialect (marks Initiator d (ended s past (Took q))) + 1) qs))) (sym taken_on));
     }
 
 not_more : {X : Type 0} → (io on full : Bool) (o : Option Answer) (why : Answer) (acc more : X) → o ≡ Some why → (on ≡ true → o ≡ (if full then Some Busy else None)) → (if io && (on && not full) then more else acc) ≡ acc
@@ -356,7 +356,7 @@ once_live s v past q why e l m h =
           let open_there : is_open s.role d (wire past) ≡ true = ap (λ (x : Role). is_open x d (wire past)) live.role_is ∙ was in
           let same : accepted Initiator d (Took q ∷ past) ≡ accepted Initiator d past
           = subst (λ (x : Role). accepted x d (Took q ∷ past) ≡ accepted x d past) live.role_is (once_unaccepted s v past q why d live z open_there h) in
-          lane_on s past q d (lane_at v d) r.seen r.seen [] live.role_is none was l (l.offered_is ∙ ap (λ (qs : List Request). concat (texts (take (answered (marks Initiator d past) + 1) qs))) (sym same));
+          lane_on s past q d (lane_at v d) r.seen r.seen [] live.role_is none was l (l.offered_is ∙ ap (λ (qs : List Request). concat (texts (take (answered s.dialect (marks Initiator d past) + 1) qs))) (sym same));
     } in
     once_by s v past q why m h (all_quiet s past q (state_shown v.station false) shown v.hand r.waits) (subst (λ (b : Bool). RunsUnless b v (ended s past (Took q))) (sym l) runs)
 

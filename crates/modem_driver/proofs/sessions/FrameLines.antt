@@ -93,9 +93,9 @@ one_seen s d owner line line_is.TheVariants.Other = one_if s d Other line
 few_heard : (s : Setting) (d : ℕ) (owner : Option Request) (ms : List Mark) (ls : List (List ℕ)) → length (lines_heard (by_lines s d owner ms ls)) ≤ length ls
 few_heard s d owner ms [] = omega arith
 few_heard s d owner ms (line ∷ rest) =
-    let here = by_seen s d owner line (seen_after ms line) in
+    let here = by_seen s d owner line (seen_after s.dialect ms line) in
     let more = by_lines s d owner (ms ++ Line line ∷ []) rest in
-    let one = one_seen s d owner line (seen_after ms line) in
+    let one = one_seen s d owner line (seen_after s.dialect ms line) in
     let few = few_heard s d owner (ms ++ Line line ∷ []) rest in
     let both = ap length (heard_both here more) ∙ length-append (lines_heard here) (lines_heard more) in
     omega (arith, one, few, both)

@@ -85,7 +85,7 @@ hear_seen s d owner line line_is.TheVariants.Other = hear_if s d Other line
 hear_lines : (s : Setting) (d : ℕ) (owner : Option Request) (ms : List Mark) (ls : List (List ℕ)) → Hear s (by_lines s d owner ms ls)
 hear_lines s d owner ms [] = refl
 hear_lines s d owner ms (line ∷ rest) =
-    hear_both s (by_seen s d owner line (seen_after ms line)) (by_lines s d owner (ms ++ Line line ∷ []) rest) (hear_seen s d owner line (seen_after ms line)) (hear_lines s d owner (ms ++ Line line ∷ []) rest)
+    hear_both s (by_seen s d owner line (seen_after s.dialect ms line)) (by_lines s d owner (ms ++ Line line ∷ []) rest) (hear_seen s d owner line (seen_after s.dialect ms line)) (hear_lines s d owner (ms ++ Line line ∷ []) rest)
 
 hear_got : (s : Setting) (v : HistoryView) (a : Act) → Hear s (lines_said s v a)
 hear_got s v (Got f) = by_test (is_opened (v.state f.dlci) && is_data_frame f)

@@ -60,7 +60,7 @@ unsound e = cc
 
 first_out : (s : Setting) (past : List Act) (f : Frame) (fs : List Frame) → queue (wire past) ≡ fs → out_by s past fs ≡ Some (with_freshness false f) → IsFirst past f
 first_out s past f (g ∷ fs) e h = record { later = fs; first = e ∙ ap (λ (o : Option Outgoing). frame_in f o ∷ fs) h }
-first_out s past f [] e h = by_turn (next_to_send s.role past) h
+first_out s past f [] e h = by_turn (next_to_send s.dialect s.role past) h
   where
     by_turn : (o : Option ℕ) → option_map (λ (d : ℕ). with_freshness true (data_of s past d)) o ≡ Some (with_freshness false f) → IsFirst past f
     by_turn None k = absurd (let x : None ≡ Some (with_freshness false f) = k in cc)

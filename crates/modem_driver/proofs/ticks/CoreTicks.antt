@@ -299,7 +299,7 @@ probe_then s v past w ups g e l t c = by_probe v.station.probe refl
 -- an open connection goes on
 tick_lane : (s : Setting) (v : Core) (past : List Act) (w : Station) (d : ℕ) → (l : Live s v past) → Comes s v past w l → wire (ended s past Tick) ≡ sent_after (tick_frames v.station) (station.Tick ∷ wire past)
     → without_calls (sent_after (tick_frames v.station) (station.Tick ∷ l.runs.seen)) ≡ sent_after (tick_frames v.station) (station.Tick ∷ wire past)
-    → d < 62 → (d == 0) ≡ false → is_open Initiator d (wire (ended s past Tick)) ≡ true → LaneFits d (sent_after (tick_frames v.station) (station.Tick ∷ l.runs.seen)) (ended s past Tick) (lane_at v d)
+    → d < 62 → (d == 0) ≡ false → is_open Initiator d (wire (ended s past Tick)) ≡ true → LaneFits s.dialect d (sent_after (tick_frames v.station) (station.Tick ∷ l.runs.seen)) (ended s past Tick) (lane_at v d)
 tick_lane s v past w d l c wires same b z o =
     let fs = tick_frames v.station in
     let e = end_of s past Tick d in
@@ -313,11 +313,11 @@ tick_lane s v past w d l c wires same b z o =
     record {
       kept_is = ap (λ (x : List station.Act). kept_run (info_got d (since Initiator d x))) wires
           ∙ (ap kept_run (info_same Initiator d fs (station.Tick ∷ wire past) here ∙ info_tick Initiator d (wire past) ticked) ∙ lane.kept_is);
-      window_fits = subst (FitsMarks (lane_at v d).window) (sym marked) lane.window_fits;
+      window_fits = subst (FitsMarks s.dialect (lane_at v d).window) (sym marked) lane.window_fits;
       offered_is = offered_same Initiator d fs (station.Tick ∷ l.runs.seen) there
           ∙ (offered_tick Initiator d l.runs.seen (all_was Initiator d fs (station.Tick ∷ l.runs.seen) there)
-          ∙ (lane.offered_is ∙ (ap (λ (n : ℕ). concat (texts (take (n + 1) (accepted Initiator d past)))) (ap answered (sym marked))
-          ∙ ap (λ (qs : List Request). concat (texts (take (answered (marks Initiator d (ended s past Tick)) + 1) qs))) (sym taken_on))));
+          ∙ (lane.offered_is ∙ (ap (λ (n : ℕ). concat (texts (take (n + 1) (accepted Initiator d past)))) (ap (answered s.dialect) (sym marked))
+          ∙ ap (λ (qs : List Request). concat (texts (take (answered s.dialect (marks Initiator d (ended s past Tick)) + 1) qs))) (sym taken_on))));
     }
 
 tick_on : (s : Setting) (v : Core) (past : List Act) (w : Station) (ups : List GivenUp) (g e : Bool) → (l : Live s v past) → MayCome s v past Tick → Ticks v w ups g e → v.lost ≡ false

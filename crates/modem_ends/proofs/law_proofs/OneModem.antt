@@ -8,9 +8,9 @@ use Rattle.mux_frame.specs.Frames.{Frame}
 use Rattle.mux_station.specs.Acts as station
 use Rattle.mux_station.specs.Opening.{is_open, opens_now}
 use Rattle.at_text.specs.declared.answer.AnswerLine.{AnswerLine}
+use Rattle.at_text.specs.Dialects.{standard, is_solicited}
 use Rattle.at_text.specs.Lines.{lines}
 use Rattle.at_text.specs.Seeing.{answer_lines}
-use Rattle.at_text.specs.Unsolicited.{is_solicited}
 use Rattle.at_text.specs.Windows.{Line, Begun, Window, IsInTurn, answer_of, is_answered, last_window, lines_of}
 use Rattle.at_text.proofs.windows.AnswerWindows.{lines_of-append}
 use Rattle.modem_desk.specs.declared.request.Request.{Request}
@@ -103,19 +103,19 @@ not_opening : (s : Setting) (past : List driver.Act) (f : Frame) (b : Bool) → 
 not_opening s past f true e come = let bare = opens_bare s.role _ _ f.dlci f e in absurd (let g : true ≡ false = sym come ∙ bare in cc)
 not_opening s past f false e come = e
 
-gives : (s : Setting) (e : End) (line : List EndAct) (f : Frame) (before : List Request) (c : List ℕ) (count : ℕ) (w : Window) (ans : List AnswerLine) → Along s e (AtDriver (Got f) ∷ line)
+gives : (s : Setting) (e : End) (line : List EndAct) (f : Frame) (before : List Request) (c : List ℕ) (count : ℕ) (w : Window) (ans : List AnswerLine) → s.dialect ≡ standard → Along s e (AtDriver (Got f) ∷ line)
     → (carries f.dlci f && is_open s.role f.dlci (driver.wire (driver_past line))) ≡ true → begun_in (marks_at s f.dlci line) ≡ map line_of before ++ c ∷ []
-    → last_window (marks_at s f.dlci line ++ map Line (take count (lines (run_on s.role f.dlci (driver_past line) ++ f.info)))) ≡ Some w → is_answered w ≡ true → ans ≡ answer_lines (answer_of w)
+    → last_window (marks_at s f.dlci line ++ map Line (take count (lines (run_on s.role f.dlci (driver_past line) ++ f.info)))) ≡ Some w → is_answered standard w ≡ true → ans ≡ answer_lines (answer_of standard w)
     → IsAnswerAt e (heard (modem_past line)) f.dlci (length before) c ans
 unfolding BeginsInTurn
-gives s e line f before c count w ans p come begun last ended is =
+gives s e line f before c count w ans codes p come begun last ended is =
     let d = f.dlci in
     let past = driver_past line in
     let q = driver_earlier s e (Got f) line p in
     let all = lines (run_on s.role d past ++ f.info) in
     let parts = and_parts (carries d f) (is_open s.role d (driver.wire past)) come in
     let lb = last_begun (marks_at s d line) (map line_of before) c begun in
-    let turns = subst (λ z. IsInTurn z) lb.joins (begins_in_turn s past q.driver_lawful d).in_turn in
+    let turns = subst (λ z. IsInTurn standard z) lb.joins (subst (λ z. IsInTurn z (marks_at s d line)) codes (begins_in_turn s past q.driver_lawful d).in_turn) in
     let own = turn_before lb.before (Begun c ∷ map Line lb.behind) turns in
     let now : marks_at s d (AtDriver (Got f) ∷ line) ≡ lb.before ++ Begun c ∷ map Line (lb.behind ++ all) =
     got_marks s d past f true (not_opening s past f _ refl parts.0) come
@@ -125,11 +125,11 @@ gives s e line f before c count w ans p come begun last ended is =
     let lines_so : lines_of (marks_at s d (AtDriver (Got f) ∷ line)) ≡ lines_of lb.before ++ (lb.behind ++ all) =
     ap lines_of now ∙ (lines_of-append lb.before (Begun c ∷ map Line (lb.behind ++ all)) ∙ ap (λ z. lines_of lb.before ++ z) (lines_placed_are (lb.behind ++ all))) in
     let cut : (lb.behind ++ take count all) ++ drop count all ≡ lb.behind ++ all = append_assoc lb.behind (take count all) (drop count all) ∙ ap (λ z. lb.behind ++ z) (take-append-drop count all) in
-    let came : filter is_solicited (lines_of lb.before) ++ filter is_solicited ((lb.behind ++ take count all) ++ drop count all) ≡ filter is_solicited (lines_of (marks_at s d (AtDriver (Got f) ∷ line))) =
-    sym (filter-append is_solicited (lines_of lb.before) ((lb.behind ++ take count all) ++ drop count all)) ∙ ap (filter is_solicited) (ap (λ z. lines_of lb.before ++ z) cut ∙ sym lines_so) in
+    let came : filter (is_solicited standard) (lines_of lb.before) ++ filter (is_solicited standard) ((lb.behind ++ take count all) ++ drop count all) ≡ filter (is_solicited standard) (lines_of (marks_at s d (AtDriver (Got f) ∷ line))) =
+    sym (filter-append (is_solicited standard) (lines_of lb.before) ((lb.behind ++ take count all) ++ drop count all)) ∙ ap (filter (is_solicited standard)) (ap (λ z. lines_of lb.before ++ z) cut ∙ sym lines_so) in
     finishes s e d line q before c lb.before (lb.behind ++ take count all) (drop count all) ans begun lb.begun
     (answered_before lb.before c (map Line lb.behind) turns) own (before_begun s e d line q lb.before (map Line lb.behind) c lb.joins)
-    (first_same _ (filter is_solicited (lines_of (marks_at s d (AtDriver (Got f) ∷ line)))) _ (filter is_solicited (all_of (replies_at e d line))) came refl (replied_first s e (AtDriver (Got f) ∷ line) p d))
+    (first_same _ (filter (is_solicited standard) (lines_of (marks_at s d (AtDriver (Got f) ∷ line)))) _ (filter (is_solicited standard) (all_of (replies_at e d line))) came refl (replied_first s e (AtDriver (Got f) ∷ line) p d))
     (ended_by lb.before c lb.behind (take count all) w ans (marks_at s d line) lb.joins last ended is)
 
 -- ## The law
@@ -145,11 +145,12 @@ tells_modem s e line p newer older o ans joins done =
     let here = along_later s e at.later (AtDriver (Got f) ∷ at.earlier) (subst (λ z. Along s e z) at.joins (along s e line p)) in
     let past = at.past_is in
     let r = line_of own.request in
-    let gave = gives s e at.earlier f own.owns.before r own.owns.ends.count own.owns.ends.window ans here
+    let gave = gives s e at.earlier f own.owns.before r own.owns.ends.count own.owns.ends.window ans p.codes here
     (ap (λ z. carries f.dlci f && is_open s.role f.dlci (driver.wire z)) past ∙ own.owns.brings)
     (ap (λ z. begun_in (marks s.role f.dlci z)) past ∙ own.owns.begun_are)
     (ap (λ z. last_window (marks s.role f.dlci z ++ map Line (take own.owns.ends.count (lines (run_on s.role f.dlci z ++ f.info))))) past ∙ own.owns.ends.is_last)
-    own.owns.ends.ended own.owns.ends.answer in
+    (subst (λ z. is_answered z own.owns.ends.window ≡ true) p.codes own.owns.ends.ended)
+    (subst (λ z. ans ≡ answer_lines (answer_of z own.owns.ends.window)) p.codes own.owns.ends.answer) in
     record {
       own = own;
       modem_gave = subst (λ z. IsAnswerAt e (heard (modem_past z)) f.dlci (length own.owns.before) r ans) (sym at.joins)

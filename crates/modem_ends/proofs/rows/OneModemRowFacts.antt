@@ -174,6 +174,7 @@ pub right_line : RightLine
 unfolding driver_acts calls_test is_none
 right_line = record {
   is_initiator = refl;
+  codes = refl;
   driver_lawful = (good (replaying 31) driver_acts refl refl refl).lawful;
   calls = calls_complete (replaying 31) (driver_past (after [] two_commands)) refl;
   numbers = uses_once (taken_requests (driver_past (after [] two_commands))) refl;

@@ -9,8 +9,9 @@ use Rattle.std.proofs.lemmas.List.Elements.{filter-append}
 use Rattle.at_text.specs.declared.unsolicited.UrcKind.{UrcKind}
 use Rattle.at_text.specs.declared.window.Seen.{Seen}
 use Rattle.at_text.specs.declared.window.Seen.TheVariants.{Echo, Kept, Done, Unsolicited, Other}
+use Rattle.at_text.specs.Dialects.{standard, is_solicited}
 use Rattle.at_text.specs.Finals.{is_final}
-use Rattle.at_text.specs.Unsolicited.{unsolicited_of, is_solicited}
+use Rattle.at_text.specs.Unsolicited.{unsolicited_of}
 use Rattle.at_text.specs.Windows.{Mark, Line, Begun, IsInTurn, lines_of, without_echo, up_to_final, answer, answers, answered, has_final, open_window}
 use Rattle.at_text.specs.Seeing.{by_kind, seen_from, solicited_in}
 use Rattle.at_text.specs.Whole.{parts}
@@ -42,10 +43,10 @@ head_part l None (Done a) ls some ss h = let more = one_line l some in let less 
 head_part l None (Unsolicited k) ls some ss h = let more = one_line l some in omega arith
 head_part l None Other ls some ss h = let more = one_line l some in omega arith
 
-fewer_parts : (past ms : List Mark) → finals (parts (lines_of ms) (seen_from past ms)) ≤ finals (filter is_solicited (lines_of ms))
+fewer_parts : (past ms : List Mark) → finals (parts (lines_of ms) (seen_from standard past ms)) ≤ finals (filter (is_solicited standard) (lines_of ms))
 fewer_parts past [] = omega arith
 fewer_parts past (Line l ∷ ms) =
-    head_part l (unsolicited_of l) (solicited_in (open_window past) l) (lines_of ms) (filter is_solicited (lines_of ms)) (seen_from (past ++ Line l ∷ []) ms) (fewer_parts (past ++ Line l ∷ []) ms)
+    head_part l (unsolicited_of l) (solicited_in standard (open_window standard past) l) (lines_of ms) (filter (is_solicited standard) (lines_of ms)) (seen_from standard (past ++ Line l ∷ []) ms) (fewer_parts (past ++ Line l ∷ []) ms)
 fewer_parts past (Begun c ∷ ms) = fewer_parts (past ++ Begun c ∷ []) ms
 
 pub some_final : (ls : List (List ℕ)) → list_any is_final ls ≡ true → 1 ≤ finals ls
@@ -56,23 +57,23 @@ some_final (l ∷ ls) is = by_final (is_final l) refl (some_final ls)
     by_final true e rest = let more = counted true l (filter is_final ls) in omega arith
     by_final false e rest = rest (let same : list_any is_final (l ∷ ls) ≡ list_any is_final ls = rw e refl in sym same ∙ is)
 
-answered_finals : (given : List (List (List ℕ))) → length (filter has_final given) ≤ finals (flat_map (λ ls. ls) given)
+answered_finals : (given : List (List (List ℕ))) → length (filter (has_final standard) given) ≤ finals (flat_map (λ ls. ls) given)
 answered_finals [] = omega arith
 answered_finals (a ∷ given) =
     let both = finals-append a (flat_map (λ (ls : List (List ℕ)). ls) given) in
-    by_final (has_final a) refl both (answered_finals given)
+    by_final (has_final standard a) refl both (answered_finals given)
   where
-    by_final : (b : Bool) → has_final a ≡ b → finals (a ++ flat_map (λ (ls : List (List ℕ)). ls) given) ≡ finals a + finals (flat_map (λ ls. ls) given) → length (filter has_final given) ≤ finals (flat_map (λ (ls : List (List ℕ)). ls) given)
-        → length (if b then a ∷ filter has_final given else filter has_final given) ≤ finals (a ++ flat_map (λ (ls : List (List ℕ)). ls) given)
+    by_final : (b : Bool) → has_final standard a ≡ b → finals (a ++ flat_map (λ (ls : List (List ℕ)). ls) given) ≡ finals a + finals (flat_map (λ ls. ls) given) → length (filter (has_final standard) given) ≤ finals (flat_map (λ (ls : List (List ℕ)). ls) given)
+        → length (if b then a ∷ filter (has_final standard) given else filter (has_final standard) given) ≤ finals (a ++ flat_map (λ (ls : List (List ℕ)). ls) given)
     by_final true e both rest = let some = some_final a e in omega arith
     by_final false e both rest = omega arith
 
 -- each answer that has come has its final code among the lines that aren't unsolicited
-pub answered_few : (ms : List Mark) → IsInTurn ms → answered ms ≤ finals (filter is_solicited (lines_of ms))
+pub answered_few : (ms : List Mark) → IsInTurn standard ms → answered standard ms ≤ finals (filter (is_solicited standard) (lines_of ms))
 answered_few ms turns =
-    let whole = none_lost ms turns in
-    let few = answered_finals (answers ms) in
-    let same : finals (parts (lines_of ms) (seen_from [] ms)) ≡ finals (flat_map (λ (ls : List (List ℕ)). ls) (answers ms)) = ap finals whole.joined in
+    let whole = none_lost standard ms turns in
+    let few = answered_finals (answers standard ms) in
+    let same : finals (parts (lines_of ms) (seen_from standard [] ms)) ≡ finals (flat_map (λ (ls : List (List ℕ)). ls) (answers standard ms)) = ap finals whole.joined in
     let less = fewer_parts [] ms in
     omega arith
 
@@ -173,23 +174,23 @@ whole_by_count s (r ∷ rs) first end enough = by_reach (reach s first.later r (
 
 -- ## An answer
 
-up_to_code : (front : List (List ℕ)) (code : List ℕ) → list_any is_final front ≡ false → is_final code ≡ true → up_to_final (front ++ code ∷ []) ≡ front ++ code ∷ []
+up_to_code : (front : List (List ℕ)) (code : List ℕ) → list_any is_final front ≡ false → is_final code ≡ true → up_to_final standard (front ++ code ∷ []) ≡ front ++ code ∷ []
 up_to_code [] code none last = ap (λ (b : Bool). if b then code ∷ [] else code ∷ []) last
 up_to_code (x ∷ front) code none last =
     let split = or_parts (is_final x) (list_any is_final front) none in
-    ap (λ (b : Bool). if b then x ∷ [] else x ∷ up_to_final (front ++ code ∷ [])) split.0 ∙ ap (λ z. x ∷ z) (up_to_code front code split.1 last)
+    ap (λ (b : Bool). if b then x ∷ [] else x ∷ up_to_final standard (front ++ code ∷ [])) split.0 ∙ ap (λ z. x ∷ z) (up_to_code front code split.1 last)
 
-pub ended_whole : (ls : List (List ℕ)) → Ends ls → up_to_final ls ≡ ls
-ended_whole ls e = ap up_to_final e.parts ∙ up_to_code e.front e.code e.before e.last ∙ sym e.parts
+pub ended_whole : (ls : List (List ℕ)) → Ends ls → up_to_final standard ls ≡ ls
+ended_whole ls e = ap (up_to_final standard) e.parts ∙ up_to_code e.front e.code e.before e.last ∙ sym e.parts
 
 -- a final code of an answer is among the lines
-final_before : (ls : List (List ℕ)) → list_any is_final (up_to_final ls) ≡ true → list_any is_final ls ≡ true
+final_before : (ls : List (List ℕ)) → list_any is_final (up_to_final standard ls) ≡ true → list_any is_final ls ≡ true
 final_before [] is = is
 final_before (l ∷ ls) is = by_final (is_final l) refl is (final_before ls)
   where
-    by_final : (b : Bool) → is_final l ≡ b → list_any is_final (if b then l ∷ [] else l ∷ up_to_final ls) ≡ true → (list_any is_final (up_to_final ls) ≡ true → list_any is_final ls ≡ true) → list_any is_final (l ∷ ls) ≡ true
+    by_final : (b : Bool) → is_final l ≡ b → list_any is_final (if b then l ∷ [] else l ∷ up_to_final standard ls) ≡ true → (list_any is_final (up_to_final standard ls) ≡ true → list_any is_final ls ≡ true) → list_any is_final (l ∷ ls) ≡ true
     by_final true e h rest = rw e refl
-    by_final false e h rest = let same : list_any is_final (l ∷ up_to_final ls) ≡ list_any is_final (up_to_final ls) = rw e refl in rw e (rest (sym same ∙ h))
+    by_final false e h rest = let same : list_any is_final (l ∷ up_to_final standard ls) ≡ list_any is_final (up_to_final standard ls) = rw e refl in rw e (rest (sym same ∙ h))
 
 final_in_all : (c : List ℕ) (ls : List (List ℕ)) → list_any is_final (without_echo c ls) ≡ true → list_any is_final ls ≡ true
 final_in_all c [] is = is
@@ -204,14 +205,14 @@ final_in_all c (l ∷ ls) is = by_echo (bytes_eq l c) is
     by_echo false h = h
 
 -- so an answer that has come has one among the lines behind its command
-pub some_answered : (c : List ℕ) (after : List (List ℕ)) → has_final (answer c after) ≡ true → 1 ≤ finals (filter is_solicited after)
+pub some_answered : (c : List ℕ) (after : List (List ℕ)) → has_final standard (answer standard c after) ≡ true → 1 ≤ finals (filter (is_solicited standard) after)
 some_answered c after has =
-    some_final (filter is_solicited after) (final_in_all c (filter is_solicited after) (final_before (without_echo c (filter is_solicited after)) has))
+    some_final (filter (is_solicited standard) after) (final_in_all c (filter (is_solicited standard) after) (final_before (without_echo c (filter (is_solicited standard) after)) has))
 
 -- where what came behind a command is a beginning of its reply, an answer that has come is that of the whole reply
-pub answer_whole : (c : List ℕ) (after r : List (List ℕ)) → IsFirstOf (filter is_solicited after) r → Ends r → has_final (answer c after) ≡ true → answer c after ≡ up_to_final (without_echo c r)
+pub answer_whole : (c : List ℕ) (after r : List (List ℕ)) → IsFirstOf (filter (is_solicited standard) after) r → Ends r → has_final standard (answer standard c after) ≡ true → answer standard c after ≡ up_to_final standard (without_echo c r)
 answer_whole c after r first end has =
     let some = some_answered c after has in
     let all : all_of (r ∷ []) ≡ r = append-nil r in
-    let same = whole_by_count (filter is_solicited after) (r ∷ []) (record { later = first.later; joins = first.joins ∙ sym all }) (end, tt) some in
-    ap (λ x. up_to_final (without_echo c x)) (same ∙ all)
+    let same = whole_by_count (filter (is_solicited standard) after) (r ∷ []) (record { later = first.later; joins = first.joins ∙ sym all }) (end, tt) some in
+    ap (λ x. up_to_final standard (without_echo c x)) (same ∙ all)

@@ -10,8 +10,8 @@ use Rattle.mux_station.specs.Offering.{data_out}
 use Rattle.mux_station.specs.Opening.{is_open, opens_now, standings}
 use Rattle.mux_station.specs.Sending as sending
 use Rattle.mux_station.specs.Written.{is_on}
+use Rattle.at_text.specs.Dialects.{standard, is_solicited}
 use Rattle.at_text.specs.Lines.{lines, kept_run}
-use Rattle.at_text.specs.Unsolicited.{is_solicited}
 use Rattle.at_text.specs.Windows.{Mark, lines_of}
 use Rattle.at_text.proofs.lines.UnfinishedLines.{reads_on}
 use Rattle.modem_history.specs.Acts as driver
@@ -348,7 +348,7 @@ read_first s e line p d =
     (lines_heard d (modem_wire line) one behind) began (lines_first _ _ came)
 
 -- of the lines that are placed on d those that aren't unsolicited are the first of the replies
-pub replied_first : (s : Setting) (e : End) (line : List EndAct) → Along s e line → (d : ℕ) → IsFirstOf (filter is_solicited (lines_of (marks_at s d line))) (filter is_solicited (all_of (replies_at e d line)))
+pub replied_first : (s : Setting) (e : End) (line : List EndAct) → Along s e line → (d : ℕ) → IsFirstOf (filter (is_solicited standard) (lines_of (marks_at s d line))) (filter (is_solicited standard) (all_of (replies_at e d line)))
 unfolding SendsReplies AreMarksPlaced PlacesAll
 replied_first s e line p d =
     let past = driver_past line in
@@ -361,6 +361,6 @@ replied_first s e line p d =
     same_prefix _ _ (information_got Initiator d (near (stations line))) (data_out Responder d (far (stations line))) (ap (information_got Initiator d) (sym (near_is line))) (ap (data_out Responder d) (sym (far_is line))) back in
     let first = lines_first _ _ came in
     let lawful : modem_laws.SimLawful e (modem_past line) = record { at_station = p.station_lawful; acts = p.allowed } in
-    let solicited : IsFirstOf (filter is_solicited (lines_of (marks_at s d line))) (filter is_solicited (lines (data_out Responder d (modem_wire line)))) =
-    record { later = filter is_solicited first.later; joins = ap (λ z. filter is_solicited z ++ filter is_solicited first.later) lines_so ∙ (sym (filter-append is_solicited (lines (information_got Initiator d (driver_wire line))) first.later) ∙ ap (filter is_solicited) first.joins) } in
+    let solicited : IsFirstOf (filter (is_solicited standard) (lines_of (marks_at s d line))) (filter (is_solicited standard) (lines (data_out Responder d (modem_wire line)))) =
+    record { later = filter (is_solicited standard) first.later; joins = ap (λ z. filter (is_solicited standard) z ++ filter (is_solicited standard) first.later) lines_so ∙ (sym (filter-append (is_solicited standard) (lines (information_got Initiator d (driver_wire line))) first.later) ∙ ap (filter (is_solicited standard)) first.joins) } in
     first_then _ _ _ solicited (sends_replies e (modem_past line) lawful p.modem_is p.announced d one)

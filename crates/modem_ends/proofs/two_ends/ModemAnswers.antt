@@ -8,9 +8,9 @@ use Rattle.mux_frame.specs.Frames.{Frame}
 use Rattle.mux_station.specs.Acts as station
 use Rattle.mux_station.specs.Opening.{is_open}
 use Rattle.at_text.specs.declared.answer.AnswerLine.{AnswerLine}
+use Rattle.at_text.specs.Dialects.{standard, is_solicited}
 use Rattle.at_text.specs.Commands.{has_at}
 use Rattle.at_text.specs.Seeing.{answer_lines}
-use Rattle.at_text.specs.Unsolicited.{is_solicited}
 use Rattle.at_text.specs.Windows.{Mark, Line, Begun, Window, IsInTurn, answer, answer_of, answered, has_final, is_answered, last_window, lines_of}
 use Rattle.at_text.proofs.windows.AnswerWindows.{lines_of-append}
 use Rattle.modem_desk.specs.declared.request.Request.{Request}
@@ -44,7 +44,7 @@ use Rattle.modem_ends.proofs.two_ends.ReplyPlaces.{AllAt, RepliesAt, all_end, al
 pub record Before (s : Setting) (e : End) (d : ℕ) (line : List EndAct) (ms : List Mark) : Type 0 where
   replies : List (List (List ℕ))
   so_far : IsFirstOf replies (replies_at e d line)
-  first : IsFirstOf (filter is_solicited (lines_of ms)) (filter is_solicited (all_of replies))
+  first : IsFirstOf (filter (is_solicited standard) (lines_of ms)) (filter (is_solicited standard) (all_of replies))
   few : length replies ≤ length (begun_in ms)
 
 pub self_first : {A : Type 0} (xs : List A) → IsFirstOf xs xs
@@ -114,7 +114,7 @@ sent_marks s e d line a qs ms rest c p same joins before = by_place (place (mark
         record {
           replies = replies_at e d line;
           so_far = self_first (replies_at e d line);
-          first = first_same _ (filter is_solicited (lines_of (marks_at s d line))) _ (filter is_solicited (all_of (replies_at e d line))) (ap (filter is_solicited) all) refl (replied_first s e line p d);
+          first = first_same _ (filter (is_solicited standard) (lines_of (marks_at s d line))) _ (filter (is_solicited standard) (all_of (replies_at e d line))) (ap (filter (is_solicited standard)) all) refl (replied_first s e line p d);
           few = omega (arith, size, count, replied);
         }
 
@@ -248,19 +248,19 @@ read_at s e d line p earlier c begun n r h size =
 
 -- the lines behind a command, where its window ends in them
 pub record Ended (c : List ℕ) (after : List (List ℕ)) (ans : List AnswerLine) : Type 0 where
-  has : has_final (answer c after) ≡ true
-  is : ans ≡ answer_lines (answer c after)
+  has : has_final standard (answer standard c after) ≡ true
+  is : ans ≡ answer_lines (answer standard c after)
 
 some_same : {A : Type 0} (a b : A) → Some a ≡ Some b → a ≡ b
 some_same a b e = cc
 
 pub ended_by : (ms : List Mark) (c : List ℕ) (behind more : List (List ℕ)) (w : Window) (ans : List AnswerLine) (all : List Mark) → all ≡ ms ++ Begun c ∷ map Line behind
-    → last_window (all ++ map Line more) ≡ Some w → is_answered w ≡ true → ans ≡ answer_lines (answer_of w) → Ended c (behind ++ more) ans
+    → last_window (all ++ map Line more) ≡ Some w → is_answered standard w ≡ true → ans ≡ answer_lines (answer_of standard w) → Ended c (behind ++ more) ans
 ended_by ms c behind more w ans all joins last ended is =
     let whole : all ++ map Line more ≡ ms ++ Begun c ∷ map Line (behind ++ more) =
     ap (λ z. z ++ map Line more) joins ∙ (append_assoc ms (Begun c ∷ map Line behind) (map Line more) ∙ ap (λ z. ms ++ Begun c ∷ z) (sym (map-append Line behind more))) in
     let same : w ≡ record { command = c; after = behind ++ more } = some_same w _ (sym last ∙ (ap last_window whole ∙ last_at ms c (behind ++ more))) in
-    record { has = ap is_answered (sym same) ∙ ended; is = is ∙ ap (λ v. answer_lines (answer_of v)) same }
+    record { has = ap (is_answered standard) (sym same) ∙ ended; is = is ∙ ap (λ v. answer_lines (answer_of standard v)) same }
 
 none_left : (xs ys : List (List ℕ)) → xs ++ ys ≡ [] → xs ≡ []
 none_left [] ys e = refl
@@ -270,7 +270,7 @@ none_left (x ∷ xs) ys e = cc
 answered_by : (s : Setting) (e : End) (d : ℕ) (line : List EndAct) → Along s e line → (before : List Request) (c : List ℕ) (after : List (List ℕ)) (ans : List AnswerLine)
     → begun_in (marks_at s d line) ≡ map line_of before ++ c ∷ [] → Ended c after ans → (n : ℕ) → n ≡ length before → (r : List (List ℕ)) (rs : List (List (List ℕ)))
     → RepliesAt e.echo d e.modem (heard (modem_past line)) n r → n + suc (length rs) ≡ length (replies_at e d line)
-    → IsFirstOf (filter is_solicited after) (all_of (solicited_in (r ∷ rs))) → IsAnswerAt e (heard (modem_past line)) d (length before) c ans
+    → IsFirstOf (filter (is_solicited standard) after) (all_of (solicited_in (r ∷ rs))) → IsAnswerAt e (heard (modem_past line)) d (length before) c ans
 answered_by s e d line p before c after ans begun ended n count r rs h total came =
     let m = p.modem_is in
     let X = heard (modem_past line) in
@@ -285,10 +285,10 @@ answered_by s e d line p before c after ans begun ended n count r rs h total cam
     let texts = m.before ++ texts_of h.before in
     let state : after_lines e.modem (texts_of h.before) ≡ reached m.start texts = ap (λ x. after_lines x (texts_of h.before)) m.is ∙ sym (after_lines-append _ m.before (texts_of h.before)) in
     let reply : r ≡ written_for e.echo (reached m.start texts) c = h.is ∙ (ap (λ x. written_for e.echo x h.line) state ∙ ap (written_for e.echo (reached m.start texts)) own) in
-    let one : all_of (solicited_in (r ∷ rs)) ≡ filter is_solicited (written_for e.echo (reached m.start texts) c) =
-    ap (λ z. all_of (solicited_in (r ∷ z))) alone ∙ (append-nil (filter is_solicited r) ∙ ap (filter is_solicited) reply) in
-    let first = first_same _ (filter is_solicited after) _ (all_of (solicited_in (r ∷ rs))) refl (sym one) came in
-    let given = answer_whole c after (filter is_solicited (written_for e.echo (reached m.start texts) c)) first (reply_ends m.start m.is_start texts e.echo c at) ended.has in
+    let one : all_of (solicited_in (r ∷ rs)) ≡ filter (is_solicited standard) (written_for e.echo (reached m.start texts) c) =
+    ap (λ z. all_of (solicited_in (r ∷ z))) alone ∙ (append-nil (filter (is_solicited standard) r) ∙ ap (filter (is_solicited standard)) reply) in
+    let first = first_same _ (filter (is_solicited standard) after) _ (all_of (solicited_in (r ∷ rs))) refl (sym one) came in
+    let given = answer_whole c after (filter (is_solicited standard) (written_for e.echo (reached m.start texts) c)) first (reply_ends m.start m.is_start texts e.echo c at) ended.has in
     record {
       before = h.before;
       later = h.later;
@@ -299,8 +299,8 @@ answered_by s e d line p before c after ans begun ended n count r rs h total cam
 
 -- all replies so far came before the command, and what came behind it is the beginning of its reply
 pub finishes : (s : Setting) (e : End) (d : ℕ) (line : List EndAct) → Along s e line → (before : List Request) (c : List ℕ) (ms : List Mark) (after rest : List (List ℕ)) (ans : List AnswerLine)
-    → begun_in (marks_at s d line) ≡ map line_of before ++ c ∷ [] → begun_in ms ≡ map line_of before → answered ms ≡ length (begun_in ms) → IsInTurn ms → Before s e d line ms
-    → IsFirstOf (filter is_solicited (lines_of ms) ++ filter is_solicited (after ++ rest)) (filter is_solicited (all_of (replies_at e d line)))
+    → begun_in (marks_at s d line) ≡ map line_of before ++ c ∷ [] → begun_in ms ≡ map line_of before → answered standard ms ≡ length (begun_in ms) → IsInTurn standard ms → Before s e d line ms
+    → IsFirstOf (filter (is_solicited standard) (lines_of ms) ++ filter (is_solicited standard) (after ++ rest)) (filter (is_solicited standard) (all_of (replies_at e d line)))
     → Ended c after ans → IsAnswerAt e (heard (modem_past line)) d (length before) c ans
 finishes s e d line p before c ms after rest ans begun earlier whole turns h first ended =
     by_more h.so_far.later h.so_far.joins
@@ -324,44 +324,44 @@ finishes s e d line p before c ms after rest ans begun earlier whole turns h fir
     old_ends = ends_front h.replies h.so_far.later (subst (λ z. AllEnd (solicited_in z)) (sym h.so_far.joins) ends)
 
     old_count : length old ≡ length h.replies
-    old_count = length-map h.replies (λ (r : List (List ℕ)). filter is_solicited r)
+    old_count = length-map h.replies (λ (r : List (List ℕ)). filter (is_solicited standard) r)
 
-    all_old : filter is_solicited (lines_of ms) ≡ all_of old
+    all_old : filter (is_solicited standard) (lines_of ms) ≡ all_of old
     all_old =
         let enough = answered_few ms turns in
         let few = h.few in
-        whole_by_count (filter is_solicited (lines_of ms)) old (first_same _ (filter is_solicited (lines_of ms)) _ (filter is_solicited (all_of h.replies)) refl (sym (all_solicited_in h.replies)) h.first) old_ends (omega (arith, enough, few, whole, old_count))
+        whole_by_count (filter (is_solicited standard) (lines_of ms)) old (first_same _ (filter (is_solicited standard) (lines_of ms)) _ (filter (is_solicited standard) (all_of h.replies)) refl (sym (all_solicited_in h.replies)) h.first) old_ends (omega (arith, enough, few, whole, old_count))
 
     count : length h.replies ≡ length before
     count =
         let enough = answered_few ms turns in
         let few = h.few in
-        let codes : finals (filter is_solicited (lines_of ms)) ≡ length h.replies = ap finals all_old ∙ (all_finals old old_ends ∙ old_count) in
+        let codes : finals (filter (is_solicited standard) (lines_of ms)) ≡ length h.replies = ap finals all_old ∙ (all_finals old old_ends ∙ old_count) in
         omega (arith, enough, few, codes, whole, size)
 
     by_more : (more : List (List (List ℕ))) → h.replies ++ more ≡ replies_at e d line → IsAnswerAt e X d (length before) c ans
     by_more more joins = by_reply more joins behind
       where
-        behind : IsFirstOf (filter is_solicited after) (all_of (solicited_in more))
+        behind : IsFirstOf (filter (is_solicited standard) after) (all_of (solicited_in more))
         behind =
-            let parts : filter is_solicited (all_of (replies_at e d line)) ≡ all_of old ++ all_of (solicited_in more) =
+            let parts : filter (is_solicited standard) (all_of (replies_at e d line)) ≡ all_of old ++ all_of (solicited_in more) =
             all_solicited_in (replies_at e d line)
             ∙ (ap (λ z. all_of (solicited_in z)) (sym joins)
-            ∙ (ap all_of (map-append (λ (r : List (List ℕ)). filter is_solicited r) h.replies more)
+            ∙ (ap all_of (map-append (λ (r : List (List ℕ)). filter (is_solicited standard) r) h.replies more)
             ∙ all-append old (solicited_in more))) in
-            let left : all_of old ++ (filter is_solicited (after ++ rest) ++ first.later) ≡ all_of old ++ all_of (solicited_in more) =
-            sym (append_assoc (all_of old) (filter is_solicited (after ++ rest)) first.later)
-            ∙ (ap (λ z. (z ++ filter is_solicited (after ++ rest)) ++ first.later) (sym all_old) ∙ (first.joins ∙ parts)) in
-            let tail = append_cancel_left (all_of old) (filter is_solicited (after ++ rest) ++ first.later) (all_of (solicited_in more)) left in
+            let left : all_of old ++ (filter (is_solicited standard) (after ++ rest) ++ first.later) ≡ all_of old ++ all_of (solicited_in more) =
+            sym (append_assoc (all_of old) (filter (is_solicited standard) (after ++ rest)) first.later)
+            ∙ (ap (λ z. (z ++ filter (is_solicited standard) (after ++ rest)) ++ first.later) (sym all_old) ∙ (first.joins ∙ parts)) in
+            let tail = append_cancel_left (all_of old) (filter (is_solicited standard) (after ++ rest) ++ first.later) (all_of (solicited_in more)) left in
             record {
-              later = filter is_solicited rest ++ first.later;
-              joins = sym (append_assoc (filter is_solicited after) (filter is_solicited rest) first.later)
-                  ∙ (ap (λ z. z ++ first.later) (sym (filter-append is_solicited after rest)) ∙ tail);
+              later = filter (is_solicited standard) rest ++ first.later;
+              joins = sym (append_assoc (filter (is_solicited standard) after) (filter (is_solicited standard) rest) first.later)
+                  ∙ (ap (λ z. z ++ first.later) (sym (filter-append (is_solicited standard) after rest)) ∙ tail);
             }
 
-        by_reply : (rs : List (List (List ℕ))) → h.replies ++ rs ≡ replies_at e d line → IsFirstOf (filter is_solicited after) (all_of (solicited_in rs)) → IsAnswerAt e X d (length before) c ans
+        by_reply : (rs : List (List (List ℕ))) → h.replies ++ rs ≡ replies_at e d line → IsFirstOf (filter (is_solicited standard) after) (all_of (solicited_in rs)) → IsAnswerAt e X d (length before) c ans
         by_reply [] joined came =
             let some = some_answered c after ended.has in
-            let none : finals (filter is_solicited after) ≡ 0 = ap finals (none_left (filter is_solicited after) came.later came.joins) in
+            let none : finals (filter (is_solicited standard) after) ≡ 0 = ap finals (none_left (filter (is_solicited standard) after) came.later came.joins) in
             absurd (omega (arith, some, none))
         by_reply (r ∷ rs) joined came = answered_by s e d line p before c after ans begun ended (length h.replies) count r rs (replies_at_place e.echo d e.modem X h.replies r rs (sym joined)) (sym (length-append h.replies (r ∷ rs)) ∙ ap length joined) came

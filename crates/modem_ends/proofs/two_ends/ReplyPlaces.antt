@@ -9,10 +9,10 @@ use Rattle.std.proofs.lemmas.List.{map-append}
 use Rattle.std.proofs.lemmas.List.Elements.{filter-append}
 use Rattle.at_text.specs.declared.answer.AnswerLine.{AnswerLine}
 use Rattle.at_text.specs.declared.error.TextError.TheVariants.{NoAt}
+use Rattle.at_text.specs.Dialects.{standard, is_solicited}
 use Rattle.at_text.specs.Commands.{has_at, refusal_of}
 use Rattle.at_text.specs.Finals.{is_final}
 use Rattle.at_text.specs.Seeing.{answer_lines}
-use Rattle.at_text.specs.Unsolicited.{is_solicited}
 use Rattle.at_text.specs.Windows.{Mark, Line, Begun, Window, IsInTurn, answered, last_window, lines_of, open_window, up_to_final, windows, without_echo}
 use Rattle.at_cmds.proofs.command_texts.TextTable.{started}
 use Rattle.at_cmds.proofs.values_read.ValueForms.{same_octets}
@@ -80,25 +80,25 @@ window_at o (Begun b ∷ ms) c ls = window_at (Some (record { command = b; after
 pub last_at : (ms : List Mark) (c : List ℕ) (ls : List (List ℕ)) → last_window (ms ++ Begun c ∷ map Line ls) ≡ Some (record { command = c; after = ls })
 last_at ms c ls = window_at None ms c ls
 
-pub turn_before : (ms more : List Mark) → IsInTurn (ms ++ more) → IsInTurn ms
+pub turn_before : (ms more : List Mark) → IsInTurn standard (ms ++ more) → IsInTurn standard ms
 turn_before ms more t before after c e = t before (after ++ more) c (ap (λ z. z ++ more) e ∙ append_assoc before (Begun c ∷ after) more)
 
-ordered : (done rest : List Mark) → IsInTurn (done ++ rest) → IsInOrder done → IsInOrder (done ++ rest)
-ordered done [] t o = subst (λ z. IsInOrder z) (sym (append-nil done)) o
+ordered : (done rest : List Mark) → IsInTurn standard (done ++ rest) → IsInOrder standard done → IsInOrder standard (done ++ rest)
+ordered done [] t o = subst (λ z. IsInOrder standard z) (sym (append-nil done)) o
 ordered done (Line l ∷ rest) t o =
     let joins = append_assoc done (Line l ∷ []) rest in
-    subst (λ z. IsInOrder z) joins (ordered (done ++ Line l ∷ []) rest (subst (λ z. IsInTurn z) (sym joins) t) (order_line done l o))
+    subst (λ z. IsInOrder standard z) joins (ordered (done ++ Line l ∷ []) rest (subst (λ z. IsInTurn standard z) (sym joins) t) (order_line standard done l o))
 ordered done (Begun c ∷ rest) t o =
     let joins = append_assoc done (Begun c ∷ []) rest in
-    subst (λ z. IsInOrder z) joins (ordered (done ++ Begun c ∷ []) rest (subst (λ z. IsInTurn z) (sym joins) t) (order_begun done c (t done rest c refl) o))
+    subst (λ z. IsInOrder standard z) joins (ordered (done ++ Begun c ∷ []) rest (subst (λ z. IsInTurn standard z) (sym joins) t) (order_begun standard done c (t done rest c refl) o))
 
 -- where a command begins all before it have their answers
-pub answered_before : (ms : List Mark) (c : List ℕ) (more : List Mark) → IsInTurn (ms ++ Begun c ∷ more) → answered ms ≡ length (begun_in ms)
+pub answered_before : (ms : List Mark) (c : List ℕ) (more : List Mark) → IsInTurn standard (ms ++ Begun c ∷ more) → answered standard ms ≡ length (begun_in ms)
 answered_before ms c more t =
     let own = turn_before ms (Begun c ∷ more) t in
     let order = ordered [] ms own tt in
-    let none : open_count (open_window ms) ≡ 0 = ap open_count (t ms more c refl) in
-    let all = counts ms order in
+    let none : open_count (open_window standard ms) ≡ 0 = ap open_count (t ms more c refl) in
+    let all = counts standard ms order in
     let size = begun_counted ms in
     omega arith
 
@@ -110,7 +110,7 @@ AllAt (l ∷ ls) = (has_at l ≡ true) × AllAt ls
 
 -- a command line is neither unsolicited nor a final code
 pub record IsPlainCommand (line : List ℕ) : Type 0 where
-  pub solicited : is_solicited line ≡ true
+  pub solicited : is_solicited standard line ≡ true
   pub no_final : is_final line ≡ false
 
 either_way : (a b : Bool) → (a || b) ≡ true → (P : Type 0) → (a ≡ true → P) → (b ≡ true → P) → P
@@ -139,24 +139,24 @@ written_texts : (ls : List AnswerLine) → map text_of (answers ls) ≡ texts_in
 written_texts [] = refl
 written_texts (l ∷ ls) = ap (λ z. l.text ∷ z) (written_texts ls)
 
-all_solicited : (ls : List AnswerLine) → list_all (λ (l : AnswerLine). is_solicited l.text) ls ≡ true → filter is_solicited (texts_in ls) ≡ texts_in ls
+all_solicited : (ls : List AnswerLine) → list_all (λ (l : AnswerLine). is_solicited standard l.text) ls ≡ true → filter (is_solicited standard) (texts_in ls) ≡ texts_in ls
 all_solicited [] all = refl
 all_solicited (l ∷ ls) all =
-    let parts = and_parts (is_solicited l.text) (list_all (λ (x : AnswerLine). is_solicited x.text) ls) all in
-    ap (λ (b : Bool). if b then l.text ∷ filter is_solicited (texts_in ls) else filter is_solicited (texts_in ls)) parts.0 ∙ ap (λ z. l.text ∷ z) (all_solicited ls parts.1)
+    let parts = and_parts (is_solicited standard l.text) (list_all (λ (x : AnswerLine). is_solicited standard x.text) ls) all in
+    ap (λ (b : Bool). if b then l.text ∷ filter (is_solicited standard) (texts_in ls) else filter (is_solicited standard) (texts_in ls)) parts.0 ∙ ap (λ z. l.text ∷ z) (all_solicited ls parts.1)
 
 -- what is written for a command: it repeated, or not, and the answer
 pub solicited_reply : (start : ModemStart) → IsStart start → (before : List (List ℕ)) (echo : Bool) (line : List ℕ) → has_at line ≡ true
-    → filter is_solicited (written_for echo (reached start before) line) ≡ (if echo then line ∷ [] else []) ++ texts_in (step (reached start before) line).answer
+    → filter (is_solicited standard) (written_for echo (reached start before) line) ≡ (if echo then line ∷ [] else []) ++ texts_in (step (reached start before) line).answer
 solicited_reply start is before true line at =
     let ls = (step (reached start before) line).answer in
-    let rest = filter is_solicited (map text_of (answers ls)) in
+    let rest = filter (is_solicited standard) (map text_of (answers ls)) in
     ap (λ (b : Bool). if b then line ∷ rest else rest) (plain_command line at).solicited
-    ∙ ap (λ z. line ∷ z) (ap (filter is_solicited) (written_texts ls) ∙ all_solicited ls (reached_answers_well start is before line).solicited)
+    ∙ ap (λ z. line ∷ z) (ap (filter (is_solicited standard)) (written_texts ls) ∙ all_solicited ls (reached_answers_well start is before line).solicited)
 solicited_reply start is before false line at =
     let ls = (step (reached start before) line).answer in
-    ap (λ (b : Bool). filter is_solicited (map text_of (echoed b line ++ answers ls))) (echoes_standard start before)
-    ∙ ap (filter is_solicited) (written_texts ls) ∙ all_solicited ls (reached_answers_well start is before line).solicited
+    ap (λ (b : Bool). filter (is_solicited standard) (map text_of (echoed b line ++ answers ls))) (echoes_standard start before)
+    ∙ ap (filter (is_solicited standard)) (written_texts ls) ∙ all_solicited ls (reached_answers_well start is before line).solicited
 
 no_codes : (ls : List AnswerLine) → list_any is_final (texts_in ls) ≡ list_any (λ (l : AnswerLine). is_final l.text) ls
 no_codes [] = refl
@@ -181,7 +181,7 @@ echo_ends line ls off e = record {
 }
 
 -- a reply ends with its only final code
-pub reply_ends : (start : ModemStart) → IsStart start → (before : List (List ℕ)) (echo : Bool) (line : List ℕ) → has_at line ≡ true → Ends (filter is_solicited (written_for echo (reached start before) line))
+pub reply_ends : (start : ModemStart) → IsStart start → (before : List (List ℕ)) (echo : Bool) (line : List ℕ) → has_at line ≡ true → Ends (filter (is_solicited standard) (written_for echo (reached start before) line))
 reply_ends start is before echo line at = subst (λ z. Ends z) (sym (solicited_reply start is before echo line at)) (by_echo echo)
   where
     own : Ends (texts_in (step (reached start before) line).answer)
@@ -218,10 +218,10 @@ back_again (l ∷ ls) = ap (λ z. l ∷ z) (back_again ls)
 
 -- of the whole reply the answer is what the modem's step gives
 pub reply_answer : (start : ModemStart) → IsStart start → (before : List (List ℕ)) (echo : Bool) (line : List ℕ) → has_at line ≡ true
-    → answer_lines (up_to_final (without_echo line (filter is_solicited (written_for echo (reached start before) line)))) ≡ (step (reached start before) line).answer
+    → answer_lines (up_to_final standard (without_echo line (filter (is_solicited standard) (written_for echo (reached start before) line)))) ≡ (step (reached start before) line).answer
 reply_answer start is before echo line at =
-    ap (λ z. answer_lines (up_to_final (without_echo line z))) (solicited_reply start is before echo line at)
-    ∙ (ap (λ z. answer_lines (up_to_final z)) (by_echo echo)
+    ap (λ z. answer_lines (up_to_final standard (without_echo line z))) (solicited_reply start is before echo line at)
+    ∙ (ap (λ z. answer_lines (up_to_final standard z)) (by_echo echo)
     ∙ (ap answer_lines (ended_whole (texts_in ls) (answer_ends ls (reached_answers_well start is before line).ends))
     ∙ back_again ls))
   where
@@ -235,11 +235,11 @@ reply_answer start is before echo line at =
 -- ## All replies
 
 abbrev pub solicited_in : List (List (List ℕ)) → List (List (List ℕ))
-solicited_in rs = map (λ (r : List (List ℕ)). filter is_solicited r) rs
+solicited_in rs = map (λ (r : List (List ℕ)). filter (is_solicited standard) r) rs
 
-pub all_solicited_in : (rs : List (List (List ℕ))) → filter is_solicited (all_of rs) ≡ all_of (solicited_in rs)
+pub all_solicited_in : (rs : List (List (List ℕ))) → filter (is_solicited standard) (all_of rs) ≡ all_of (solicited_in rs)
 all_solicited_in [] = refl
-all_solicited_in (r ∷ rs) = filter-append is_solicited r (all_of rs) ∙ ap (λ z. filter is_solicited r ++ z) (all_solicited_in rs)
+all_solicited_in (r ∷ rs) = filter-append (is_solicited standard) r (all_of rs) ∙ ap (λ z. filter (is_solicited standard) r ++ z) (all_solicited_in rs)
 
 pub line_on : (d : ℕ) (p : ℕ × List ℕ) (ls : List (ℕ × List ℕ)) (b : Bool) → (p.0 == d) ≡ b → lines_on d (p ∷ ls) ≡ (if b then p.1 ∷ lines_on d ls else lines_on d ls)
 line_on d p ls true e = rw e refl
@@ -256,7 +256,7 @@ all_end start is echo d before m (p ∷ ls) same at =
     by_here : (b : Bool) → (p.0 == d) ≡ b → AllAt (lines_on d (p ∷ ls)) → (AllAt (lines_on d ls) → AllEnd (solicited_in (replied_on echo d (step m p.1).state ls))) → AllEnd (solicited_in ((if b then written_for echo m p.1 ∷ [] else []) ++ replied_on echo d (step m p.1).state ls))
     by_here true e h rest =
         let here = subst (λ z. AllAt z) (line_on d p ls true e) h in
-        (subst (λ x. Ends (filter is_solicited (written_for echo x p.1))) (sym same) (reply_ends start is before echo p.1 here.0), rest here.1)
+        (subst (λ x. Ends (filter (is_solicited standard) (written_for echo x p.1))) (sym same) (reply_ends start is before echo p.1 here.0), rest here.1)
     by_here false e h rest = rest (subst (λ z. AllAt z) (line_on d p ls false e) h)
 
 -- as many as lines on d

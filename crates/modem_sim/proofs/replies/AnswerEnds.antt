@@ -5,9 +5,9 @@ use Rattle.std.specs.List.{list_all, list_any}
 use Rattle.std.proofs.Common.{arith, sym, ap, ◌∙◌, subst}
 use Rattle.std.proofs.lemmas.Bool.Decides.{nat_tests}
 use Rattle.at_text.specs.declared.answer.AnswerLine.{AnswerLine}
+use Rattle.at_text.specs.Dialects.{standard, is_solicited}
 use Rattle.at_text.specs.Finals.{is_final}
 use Rattle.at_text.specs.Octets.{is_digit, is_comma, is_quote, begins, skip_blanks, after_comma}
-use Rattle.at_text.specs.Unsolicited.{is_solicited}
 use Rattle.at_cmds.specs.declared.command.Command.{Command}
 use Rattle.at_cmds.specs.declared.command.Command.TheVariants.{PinQuery, PinEnter, RegReport, RegQuery, Signal, OperQuery, OperChoose, ContextSet, ContextQuery, AttachSet, AttachQuery, ErrorMode, Multiplex}
 use Rattle.at_cmds.specs.declared.command.OperChoice.{OperChoice}
@@ -31,7 +31,7 @@ abbrev is_code : AnswerLine → Bool
 is_code line = is_final line.text
 
 abbrev is_asked : AnswerLine → Bool
-is_asked line = is_solicited line.text
+is_asked line = is_solicited standard line.text
 
 contexts_no_code : (contexts : List PdpContext) → list_any is_code (map line_of (map context_text contexts)) ≡ false
 contexts_no_code [] = refl
@@ -76,7 +76,7 @@ error_code_at true numbered digits words = refl
 error_code_at false true digits words = refl
 error_code_at false false digits words = refl
 
-error_asked_at : (plain numbered : Bool) (digits words : List ℕ) → is_solicited (if plain then codes "ERROR" else if numbered then codes "+CME ERROR: " ++ digits else codes "+CME ERROR: " ++ words) ≡ true
+error_asked_at : (plain numbered : Bool) (digits words : List ℕ) → is_solicited standard (if plain then codes "ERROR" else if numbered then codes "+CME ERROR: " ++ digits else codes "+CME ERROR: " ++ words) ≡ true
 error_asked_at true numbered digits words = refl
 error_asked_at false true digits words = refl
 error_asked_at false false digits words = refl
@@ -108,33 +108,33 @@ neither : (b : Bool) → (b && false) ≡ false
 neither true = refl
 neither false = refl
 
-stat_asked : (n : ℕ) (rest : List ℕ) → n < 256 → begins is_quote (skip_blanks rest) ≡ false → is_solicited (codes "+CREG: " ++ (decimal n ++ 44 ∷ rest)) ≡ true
+stat_asked : (n : ℕ) (rest : List ℕ) → n < 256 → begins is_quote (skip_blanks rest) ≡ false → is_solicited standard (codes "+CREG: " ++ (decimal n ++ 44 ∷ rest)) ≡ true
 stat_asked n rest small other =
     rw (comma_behind (decimal n) rest (decimal_digits n small), other, neither (begins is_digit (skip_blanks (decimal n ++ 44 ∷ rest)))) refl
 
-reg_asked : (n : ℕ) (registered : Bool) → n < 256 → is_solicited (reg_text n registered) ≡ true
+reg_asked : (n : ℕ) (registered : Bool) → n < 256 → is_solicited standard (reg_text n registered) ≡ true
 reg_asked n false small = stat_asked n (codes "0") small refl
-reg_asked n true small = ap is_solicited (sym (registered_text n true (cell_text n) refl refl)) ∙ stat_asked n (49 ∷ cell_text n) small refl
+reg_asked n true small = ap (is_solicited standard) (sym (registered_text n true (cell_text n) refl refl)) ∙ stat_asked n (49 ∷ cell_text n) small refl
 
 contexts_asked : (contexts : List PdpContext) → list_all is_asked (good_answer (map context_text contexts)) ≡ true
 contexts_asked [] = refl
 contexts_asked (c ∷ contexts) = contexts_asked contexts
 
-pin_asked : (lock : Lock) → is_solicited (pin_text lock) ≡ true
+pin_asked : (lock : Lock) → is_solicited standard (pin_text lock) ≡ true
 pin_asked Ready = refl
 pin_asked (NeedPin pin tries) = refl
 pin_asked NeedPuk = refl
 
-oper_asked : (oper : OperChoice) → is_solicited (oper_text oper) ≡ true
+oper_asked : (oper : OperChoice) → is_solicited standard (oper_text oper) ≡ true
 oper_asked Automatic = refl
 oper_asked Deregister = refl
 oper_asked (Manual oper) = refl
 
-attached_asked : (attached : Bool) → is_solicited (attached_text attached) ≡ true
+attached_asked : (attached : Bool) → is_solicited standard (attached_text attached) ≡ true
 attached_asked true = refl
 attached_asked false = refl
 
-one_asked : (text : List ℕ) → is_solicited text ≡ true → list_all is_asked (good_answer (text ∷ [])) ≡ true
+one_asked : (text : List ℕ) → is_solicited standard text ≡ true → list_all is_asked (good_answer (text ∷ [])) ≡ true
 one_asked text is = rw is refl
 
 told_asked : (s : ModemState) (c : Command) → IsKept s → list_all is_asked (good_answer (told_texts s c)) ≡ true
@@ -152,7 +152,7 @@ told_asked s AttachQuery kept = one_asked (attached_text s.attached) (attached_a
 told_asked s (ErrorMode n) kept = refl
 told_asked s Multiplex kept = refl
 
-code_asked : (text : List ℕ) → is_solicited text ≡ true → list_all is_asked (line_of text ∷ []) ≡ true
+code_asked : (text : List ℕ) → is_solicited standard text ≡ true → list_all is_asked (line_of text ∷ []) ≡ true
 code_asked text is = rw is refl
 
 obeyed_asked : (o : Option ℕ) (s : ModemState) (c : Command) → IsKept s → list_all is_asked (obeyed_unless o s c).answer ≡ true

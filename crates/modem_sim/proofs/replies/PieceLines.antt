@@ -10,8 +10,8 @@ use Rattle.mux_station.specs.Acts as station
 use Rattle.mux_station.specs.Opening.{opens_now, belongs}
 use Rattle.mux_station.specs.Written.{is_data_frame}
 use Rattle.at_text.specs.declared.answer.AnswerLine.{AnswerLine}
+use Rattle.at_text.specs.Dialects.{standard, is_solicited}
 use Rattle.at_text.specs.Lines.{is_line_end, ended_runs, onto_first, is_filled, cut, lines}
-use Rattle.at_text.specs.Unsolicited.{is_solicited}
 use Rattle.at_text.proofs.lines.UnfinishedLines.{has_end, has_end-take}
 use Rattle.modem_history.specs.Connections.{unfinished_on}
 use Rattle.modem_history.proofs.commands.ReadCommands.{IsLine, line_more}
@@ -38,7 +38,7 @@ use Rattle.modem_sim.proofs.modem_steps.StandardModems.{echoes_standard}
 abbrev pub IsSound : Piece → Type 0
 IsSound (Echo line) = is_line line ≡ true
 IsSound (Answer line) = is_line line ≡ true
-IsSound (Announced line) = (is_line line ≡ true) × (is_solicited line ≡ false)
+IsSound (Announced line) = (is_line line ≡ true) × (is_solicited standard line ≡ false)
 
 abbrev pub AreSound : List Piece → Type 0
 AreSound [] = Unit {0}
@@ -81,12 +81,12 @@ lines_said [] are = refl
 lines_said (p ∷ pieces) are = piece_before p (pieces_octets pieces) are.0 ∙ ap (λ x. text_of p ∷ x) (lines_said pieces are.1)
 
 -- without the unsolicited ones they are those that are asked for
-pub asked_lines : (pieces : List Piece) → AreSound pieces → filter is_solicited (map text_of pieces) ≡ filter is_solicited (map text_of (asked_for pieces))
+pub asked_lines : (pieces : List Piece) → AreSound pieces → filter (is_solicited standard) (map text_of pieces) ≡ filter (is_solicited standard) (map text_of (asked_for pieces))
 asked_lines [] are = refl
-asked_lines (Echo line ∷ pieces) are = ap (λ x. if is_solicited line then line ∷ x else x) (asked_lines pieces are.1)
-asked_lines (Answer line ∷ pieces) are = ap (λ x. if is_solicited line then line ∷ x else x) (asked_lines pieces are.1)
+asked_lines (Echo line ∷ pieces) are = ap (λ x. if is_solicited standard line then line ∷ x else x) (asked_lines pieces are.1)
+asked_lines (Answer line ∷ pieces) are = ap (λ x. if is_solicited standard line then line ∷ x else x) (asked_lines pieces are.1)
 asked_lines (Announced line ∷ pieces) are =
-    let rest = filter is_solicited (map text_of pieces) in
+    let rest = filter (is_solicited standard) (map text_of pieces) in
     ap (λ (b : Bool). if b then line ∷ rest else rest) are.0.1 ∙ asked_lines pieces are.1
 
 -- ## Lines of a text

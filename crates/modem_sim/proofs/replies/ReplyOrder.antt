@@ -12,8 +12,8 @@ use Rattle.mux_station.specs.Opening as opening
 use Rattle.mux_station.specs.Opening.{opens_now, belongs, ends, standings}
 use Rattle.mux_station.specs.Offering.{data_out}
 use Rattle.mux_station.specs.Written.{is_kind, is_on}
+use Rattle.at_text.specs.Dialects.{standard, is_solicited}
 use Rattle.at_text.specs.Lines.{lines, kept_run}
-use Rattle.at_text.specs.Unsolicited.{is_solicited}
 use Rattle.at_text.proofs.lines.UnfinishedLines.{reads_on}
 use Rattle.modem_history.specs.Connections.{carries, lines_ended, lines_with}
 use Rattle.modem_history.specs.TwoEnds.{frames_got}
@@ -219,8 +219,8 @@ since_are e d (Wire station.Given ∷ past) once = since_are e d past once
 
 -- ## All together
 
-filtered_first : (xs later ys : List (List ℕ)) → xs ++ later ≡ ys → IsFirstOf (filter is_solicited xs) (filter is_solicited ys)
-filtered_first xs later ys joins = record { later = filter is_solicited later; joins = sym (filter-append is_solicited xs later) ∙ ap (filter is_solicited) joins }
+filtered_first : (xs later ys : List (List ℕ)) → xs ++ later ≡ ys → IsFirstOf (filter (is_solicited standard) xs) (filter (is_solicited standard) ys)
+filtered_first xs later ys joins = record { later = filter (is_solicited standard) later; joins = sym (filter-append (is_solicited standard) xs later) ∙ ap (filter (is_solicited standard)) joins }
 
 pub sends_replies : (e : End) (past : List Act) → SendsReplies e past
 unfolding SendsReplies
@@ -237,7 +237,7 @@ sends_replies e past lawful modem un d once =
     let second = filtered_first (map text_of (asked_for said)) _ (all_of (replied_on e.echo d e.modem (heard past))) texts in
     record {
       later = first.later ++ second.later;
-      joins = sym (append_assoc (filter is_solicited (lines (data_out Responder d (wire past)))) first.later second.later)
+      joins = sym (append_assoc (filter (is_solicited standard) (lines (data_out Responder d (wire past)))) first.later second.later)
           ∙ ap (λ x. x ++ second.later) (first.joins ∙ asked_lines said sound)
           ∙ second.joins;
     }

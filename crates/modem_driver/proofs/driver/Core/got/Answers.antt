@@ -22,7 +22,7 @@ returns-then-self-clause-no_memory c h =
 
 pub returns-then-is_data-clause-no_memory : goal.returns-then-is_data-clause-no_memory
 returns-then-is_data-clause-no_memory c h =
-    let v : Core = record { station = c.self.inside.station; lanes = c.self.inside.lanes; hand = c.self.inside.hand; kinds = c.self.inside.kinds.items; lost = c.self.inside.lost } in
+    let v : Core = record { station = c.self.inside.station; lanes = c.self.inside.lanes; hand = c.self.inside.hand; rules = c.self.inside.dialect; kinds = c.self.inside.kinds.items; lost = c.self.inside.lost } in
     let f = frame_of c.args.frame in
     let state : ℕ → State = λ d. (channel_at v.station d).state in
     let reads : reads_data c.args.self.now f ≡ true = sym c.is_data.ensures ∙ c.if-is_data.true in

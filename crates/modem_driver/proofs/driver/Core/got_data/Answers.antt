@@ -21,7 +21,7 @@ use Rattle.modem_driver.proofs.driver.Core.got_data.Goals as goal
 pub returns-clause-past : goal.returns-clause-past
 returns-clause-past c =
     let old = c.args.self.now in
-    let mid : Core = record { station = c.self.inside.station; lanes = c.self.inside.lanes; hand = c.self.inside.hand; kinds = c.self.inside.kinds.items; lost = c.self.inside.lost } in
+    let mid : Core = record { station = c.self.inside.station; lanes = c.self.inside.lanes; hand = c.self.inside.hand; rules = c.self.inside.dialect; kinds = c.self.inside.kinds.items; lost = c.self.inside.lost } in
     let f = frame_of c.args.frame in
     let acts = map act_of c.join_lane.new.acts.items in
     let m : IsJoined old mid f.dlci c.in_ok-fork.fork
@@ -35,7 +35,7 @@ returns-clause-past c =
 pub returns-clause-room : goal.returns-clause-room
 returns-clause-room c =
     let old = c.args.self.now in
-    let mid : Core = record { station = c.self.inside.station; lanes = c.self.inside.lanes; hand = c.self.inside.hand; kinds = c.self.inside.kinds.items; lost = c.self.inside.lost } in
+    let mid : Core = record { station = c.self.inside.station; lanes = c.self.inside.lanes; hand = c.self.inside.hand; rules = c.self.inside.dialect; kinds = c.self.inside.kinds.items; lost = c.self.inside.lost } in
     let f = frame_of c.args.frame in
     let m : IsJoined old mid f.dlci c.in_ok-fork.fork
     = subst (λ (v : Core). IsJoined v mid f.dlci c.in_ok-fork.fork) c.read.ensures.same (c.self.view_is ∙ c.in_ok-done.ensures.after) in
@@ -51,7 +51,7 @@ returns-clause-n1 c =
 pub returns-clause-holds : goal.returns-clause-holds
 returns-clause-holds c =
     let old = c.args.self.now in
-    let mid : Core = record { station = c.self.inside.station; lanes = c.self.inside.lanes; hand = c.self.inside.hand; kinds = c.self.inside.kinds.items; lost = c.self.inside.lost } in
+    let mid : Core = record { station = c.self.inside.station; lanes = c.self.inside.lanes; hand = c.self.inside.hand; rules = c.self.inside.dialect; kinds = c.self.inside.kinds.items; lost = c.self.inside.lost } in
     let f = frame_of c.args.frame in
     let new = c.go_on.new.self in
     let lane = joined (lane_at old f.dlci) c.in_ok-fork.fork in

@@ -36,7 +36,7 @@ room_for v f = have_room v.station.n1 (octets_of v.station.queue) (by_frame v.st
 
 pub returns-then-not-has_room_for-clause-no_room : goal.returns-then-not-has_room_for-clause-no_room
 returns-then-not-has_room_for-clause-no_room c h =
-    let old : Core = record { station = c.self.inside.station; lanes = c.self.inside.lanes; hand = c.self.inside.hand; kinds = c.self.inside.kinds.items; lost = c.self.inside.lost } in
+    let old : Core = record { station = c.self.inside.station; lanes = c.self.inside.lanes; hand = c.self.inside.hand; rules = c.self.inside.dialect; kinds = c.self.inside.kinds.items; lost = c.self.inside.lost } in
     let f = frame_of c.args.frame in
     let none : room_for old f ≡ false = sym c.has_room_for.ensures ∙ c.if-not-has_room_for.true in
     subst (λ (v : Core). HasRoom v (Got f) false) c.self.view_is
@@ -44,7 +44,7 @@ returns-then-not-has_room_for-clause-no_room c h =
 
 pub returns-then-not-has_room_for-clause-never_full : goal.returns-then-not-has_room_for-clause-never_full
 returns-then-not-has_room_for-clause-never_full c h =
-    let old : Core = record { station = c.self.inside.station; lanes = c.self.inside.lanes; hand = c.self.inside.hand; kinds = c.self.inside.kinds.items; lost = c.self.inside.lost } in
+    let old : Core = record { station = c.self.inside.station; lanes = c.self.inside.lanes; hand = c.self.inside.hand; rules = c.self.inside.dialect; kinds = c.self.inside.kinds.items; lost = c.self.inside.lost } in
     let f = frame_of c.args.frame in
     let none : room_for old f ≡ false = sym c.has_room_for.ensures ∙ c.if-not-has_room_for.true in
     let refused : Some StationError.NoRoom ≡ got_refused (setting_of old.station) (seen_in old.station) f = ap (λ (b : Bool). if b then None else Some StationError.NoRoom) (sym none) in
@@ -54,7 +54,7 @@ returns-then-not-has_room_for-clause-never_full c h =
 
 pub returns-in_err-acts-clause-no_memory : goal.returns-in_err-acts-clause-no_memory
 returns-in_err-acts-clause-no_memory c h =
-    let old : Core = record { station = c.self.inside.station; lanes = c.self.inside.lanes; hand = c.self.inside.hand; kinds = c.self.inside.kinds.items; lost = c.self.inside.lost } in
+    let old : Core = record { station = c.self.inside.station; lanes = c.self.inside.lanes; hand = c.self.inside.hand; rules = c.self.inside.dialect; kinds = c.self.inside.kinds.items; lost = c.self.inside.lost } in
     let f = frame_of c.args.frame in
     let some : room_for old f ≡ true = sym c.has_room_for.ensures ∙ c.if-not-has_room_for.false in
     subst (λ (v : Core). HasRoom v (Got f) true) c.self.view_is
@@ -62,7 +62,7 @@ returns-in_err-acts-clause-no_memory c h =
 
 pub returns-in_err-spare-clause-no_memory : goal.returns-in_err-spare-clause-no_memory
 returns-in_err-spare-clause-no_memory c h =
-    let old : Core = record { station = c.self.inside.station; lanes = c.self.inside.lanes; hand = c.self.inside.hand; kinds = c.self.inside.kinds.items; lost = c.self.inside.lost } in
+    let old : Core = record { station = c.self.inside.station; lanes = c.self.inside.lanes; hand = c.self.inside.hand; rules = c.self.inside.dialect; kinds = c.self.inside.kinds.items; lost = c.self.inside.lost } in
     let f = frame_of c.args.frame in
     let some : room_for old f ≡ true = sym c.has_room_for.ensures ∙ c.if-not-has_room_for.false in
     subst (λ (v : Core). HasRoom v (Got f) true) c.self.view_is
@@ -70,7 +70,7 @@ returns-in_err-spare-clause-no_memory c h =
 
 pub returns-in_err-to_buf-clause-no_memory : goal.returns-in_err-to_buf-clause-no_memory
 returns-in_err-to_buf-clause-no_memory c h =
-    let old : Core = record { station = c.self.inside.station; lanes = c.self.inside.lanes; hand = c.self.inside.hand; kinds = c.self.inside.kinds.items; lost = c.self.inside.lost } in
+    let old : Core = record { station = c.self.inside.station; lanes = c.self.inside.lanes; hand = c.self.inside.hand; rules = c.self.inside.dialect; kinds = c.self.inside.kinds.items; lost = c.self.inside.lost } in
     let f = frame_of c.args.frame in
     let some : room_for old f ≡ true = sym c.has_room_for.ensures ∙ c.if-not-has_room_for.false in
     subst (λ (v : Core). HasRoom v (Got f) true) c.self.view_is
@@ -78,7 +78,7 @@ returns-in_err-to_buf-clause-no_memory c h =
 
 pub returns-clause-past : goal.returns-clause-past
 returns-clause-past c =
-    let old : Core = record { station = c.self.inside.station; lanes = c.self.inside.lanes; hand = c.self.inside.hand; kinds = c.self.inside.kinds.items; lost = c.self.inside.lost } in
+    let old : Core = record { station = c.self.inside.station; lanes = c.self.inside.lanes; hand = c.self.inside.hand; rules = c.self.inside.dialect; kinds = c.self.inside.kinds.items; lost = c.self.inside.lost } in
     let f = frame_of c.args.frame in
     let n = c.take-noted.result in
     let st : Station = c.push_sent.new.station in
@@ -127,7 +127,7 @@ returns-clause-past c =
 
 pub returns-clause-room : goal.returns-clause-room
 returns-clause-room c =
-    let old : Core = record { station = c.self.inside.station; lanes = c.self.inside.lanes; hand = c.self.inside.hand; kinds = c.self.inside.kinds.items; lost = c.self.inside.lost } in
+    let old : Core = record { station = c.self.inside.station; lanes = c.self.inside.lanes; hand = c.self.inside.hand; rules = c.self.inside.dialect; kinds = c.self.inside.kinds.items; lost = c.self.inside.lost } in
     let f = frame_of c.args.frame in
     let taken : None ≡ got_refused (setting_of old.station) (seen_in old.station) f = c.take-noted.ensures.taken in
     subst (λ (v : Core). HasRoom v (Got f) true) c.self.view_is
@@ -135,7 +135,7 @@ returns-clause-room c =
 
 pub returns-clause-holds : goal.returns-clause-holds
 returns-clause-holds c =
-    let old : Core = record { station = c.self.inside.station; lanes = c.self.inside.lanes; hand = c.self.inside.hand; kinds = c.self.inside.kinds.items; lost = c.self.inside.lost } in
+    let old : Core = record { station = c.self.inside.station; lanes = c.self.inside.lanes; hand = c.self.inside.hand; rules = c.self.inside.dialect; kinds = c.self.inside.kinds.items; lost = c.self.inside.lost } in
     let f = frame_of c.args.frame in
     let n = c.take-noted.result in
     let new = c.start_lane.new.self in

@@ -18,7 +18,7 @@ returns-clause-past c =
     let station = c.self.inside.station in
     let hand = c.self.inside.hand in
     let says = told_by happened.Lost false (λ d. state_shown station true d) in
-    let old : Core = record { station = station; lanes = c.self.inside.lanes; hand = hand; kinds = c.self.inside.kinds.items; lost = c.self.inside.lost } in
+    let old : Core = record { station = station; lanes = c.self.inside.lanes; hand = hand; rules = c.self.inside.dialect; kinds = c.self.inside.kinds.items; lost = c.self.inside.lost } in
     let new : Core = record old { hand = c.tell.new.hand; lost = true } in
     let same : new ≡ record old { hand = left_by says hand; lost = true } = ap (λ (w : List Request). record old { hand = w; lost = true }) c.tell.ensures.hand in
     let pushed : c.push.new.self.acts ≡ code.Lost ∷ [] = ap (λ (v : ActList). v.acts) c.push.ensures ∙ ap (λ (v : ActList). v.acts ++ code.Lost ∷ []) c.in_ok-acts.ensures in

@@ -27,11 +27,11 @@ pub returns : goal.returns
 returns c =
     let old : Core = c.args.self.now in
     let station : Station = c.self-2.inside.station in
-    let begun : Core = record { station = station; lanes = c.self-2.inside.lanes; hand = c.self-2.inside.hand; kinds = c.self-2.inside.kinds.items; lost = c.self-2.inside.lost } in
+    let begun : Core = record { station = station; lanes = c.self-2.inside.lanes; hand = c.self-2.inside.hand; rules = c.self-2.inside.dialect; kinds = c.self-2.inside.kinds.items; lost = c.self-2.inside.lost } in
     let e : begun ≡ begun_next old = c.self-2.view_is ∙ c.begin_next.ensures.after in
     let live : old.lost ≡ false = sym (ap (λ (v : Core). v.lost) c.self.view_is) ∙ c.if-self.false in
     let same : station ≡ old.station = station_stays old begun e in
-    let is_sound : IsSound old = subst IsSound c.self.view_is (sound (record { station = c.self.inside.station; lanes = c.self.inside.lanes; hand = c.self.inside.hand; kinds = c.self.inside.kinds.items; lost = c.self.inside.lost }) c.self.inside.n1 c.self.invariant) in
+    let is_sound : IsSound old = subst IsSound c.self.view_is (sound (record { station = c.self.inside.station; lanes = c.self.inside.lanes; hand = c.self.inside.hand; rules = c.self.inside.dialect; kinds = c.self.inside.kinds.items; lost = c.self.inside.lost }) c.self.inside.n1 c.self.invariant) in
     let frame : option_map outgoing_of c.next_frame.result ≡ option_map (with_freshness (length old.station.queue == 0)) (next_given old.station old.station.queue)
     = c.next_frame.ensures.frame ∙ ap (λ (v : Station). option_map (with_freshness (length v.queue == 0)) (next_given v v.queue)) same in
     let gives : GivesOn old.station = subst GivesOn same c.givings.ensures in (

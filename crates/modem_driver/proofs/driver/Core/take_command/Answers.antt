@@ -17,7 +17,7 @@ use Rattle.modem_driver.proofs.driver.Core.take_command.Goals as goal
 pub returns-in-Some-clause-past : goal.returns-in-Some-clause-past
 returns-in-Some-clause-past c =
     let q = c.args.request in
-    let v : Core = record { station = c.self.inside.station; lanes = c.self.inside.lanes; hand = c.self.inside.hand; kinds = c.self.inside.kinds.items; lost = c.self.inside.lost } in
+    let v : Core = record { station = c.self.inside.station; lanes = c.self.inside.lanes; hand = c.self.inside.hand; rules = c.self.inside.dialect; kinds = c.self.inside.kinds.items; lost = c.self.inside.lost } in
     let told : c.told.result ≡ told_act q c.in-Some.why = c.told.ensures ∙ ap (λ (r : Request). told_act r c.in-Some.why) c.in_ok-acts.ensures.copy in
     let acts = pushed_on c.in_ok-acts.acts c.push.new.self (code.Took q ∷ []) c.into_vec.result.items c.told.result _ _ _ c.in_ok-acts.ensures.acts c.push.ensures told c.into_vec.ensures in
     subst (λ (x : Core). Handles x x (Took q) (map act_of c.into_vec.result.items)) c.self.view_is
@@ -29,7 +29,7 @@ returns-clause-past c =
     let q = c.args.request in
     let n = c.args.dlci.number in
     let w = c.offer_first.new.station in
-    let v : Core = record { station = c.self.inside.station; lanes = c.self.inside.lanes; hand = c.self.inside.hand; kinds = c.self.inside.kinds.items; lost = c.self.inside.lost } in
+    let v : Core = record { station = c.self.inside.station; lanes = c.self.inside.lanes; hand = c.self.inside.hand; rules = c.self.inside.dialect; kinds = c.self.inside.kinds.items; lost = c.self.inside.lost } in
     let new : Core = record v { station = w; hand = c.push-2.new.self } in
     let same : new ≡ record v { station = w; hand = v.hand ++ q ∷ [] }
     = ap (λ (rs : List Request). record v { station = w; hand = rs }) (c.push-2.ensures ∙ ap (λ (r : Request). v.hand ++ r ∷ []) c.in_ok-acts.ensures.copy) in

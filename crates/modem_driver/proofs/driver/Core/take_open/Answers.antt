@@ -15,7 +15,7 @@ use Rattle.modem_driver.proofs.driver.Core.take_open.Goals as goal
 pub returns-in-Err-clause-past : goal.returns-in-Err-clause-past
 returns-in-Err-clause-past c =
     let q = c.args.request in
-    let v : Core = record { station = c.self.inside.station; lanes = c.self.inside.lanes; hand = c.self.inside.hand; kinds = c.self.inside.kinds.items; lost = c.self.inside.lost } in
+    let v : Core = record { station = c.self.inside.station; lanes = c.self.inside.lanes; hand = c.self.inside.hand; rules = c.self.inside.dialect; kinds = c.self.inside.kinds.items; lost = c.self.inside.lost } in
     let new : Core = record v { station = c.open.new.self } in
     let same : new ≡ v = ap (λ (w : Station). record v { station = w }) c.in-Err.ensures.err in
     let told : c.told.result ≡ told_act q (refusal_answer c.in-Err.why)
@@ -30,7 +30,7 @@ pub returns-clause-past : goal.returns-clause-past
 returns-clause-past c =
     let q = c.args.request in
     let w = c.open.new.self in
-    let v : Core = record { station = c.self.inside.station; lanes = c.self.inside.lanes; hand = c.self.inside.hand; kinds = c.self.inside.kinds.items; lost = c.self.inside.lost } in
+    let v : Core = record { station = c.self.inside.station; lanes = c.self.inside.lanes; hand = c.self.inside.hand; rules = c.self.inside.dialect; kinds = c.self.inside.kinds.items; lost = c.self.inside.lost } in
     let new : Core = record v { station = w; hand = c.push-3.new.self } in
     let same : new ≡ record v { station = w; hand = v.hand ++ q ∷ [] }
     = ap (λ (rs : List Request). record v { station = w; hand = rs }) (c.push-3.ensures ∙ ap (λ (r : Request). v.hand ++ r ∷ []) c.in_ok-acts.ensures.copy) in

@@ -23,7 +23,7 @@ use Rattle.modem_driver.proofs.driver.Core.tick.Goals.{then-ran, else-ran}
 -- after a loss
 pub returns-then-self-clause-past : goal.returns-then-self-clause-past
 returns-then-self-clause-past c =
-    let v : Core = record { station = c.self.inside.station; lanes = c.self.inside.lanes; hand = c.self.inside.hand; kinds = c.self.inside.kinds.items; lost = c.self.inside.lost } in
+    let v : Core = record { station = c.self.inside.station; lanes = c.self.inside.lanes; hand = c.self.inside.hand; rules = c.self.inside.dialect; kinds = c.self.inside.kinds.items; lost = c.self.inside.lost } in
     let acts : c.into_vec.result.items ≡ code.Tick ∷ []
     = c.into_vec.ensures ∙ (ap (λ (a : ActList). a.acts) c.push.ensures ∙ ap (λ (a : ActList). a.acts ++ code.Tick ∷ []) c.in_ok-acts.ensures) in
     subst (λ (x : Core). Handles x x Tick (map act_of c.into_vec.result.items)) c.self.view_is (tick_lost v v c.into_vec.result.items c.if-self.true refl acts)
@@ -35,7 +35,7 @@ returns-clause-past c =
     let g = c.has_probe.result in
     let e = c.if-ran.ended in
     let says = told_by (happened.Tick g) e (state_shown w false) in
-    let v : Core = record { station = st; lanes = c.self.inside.lanes; hand = c.self.inside.hand; kinds = c.self.inside.kinds.items; lost = c.self.inside.lost } in
+    let v : Core = record { station = st; lanes = c.self.inside.lanes; hand = c.self.inside.hand; rules = c.self.inside.dialect; kinds = c.self.inside.kinds.items; lost = c.self.inside.lost } in
     let new : Core = record v { station = w; hand = c.tell.new.hand } in
     let same : new ≡ record v { station = w; hand = left_by says v.hand } = ap (λ (rs : List Request). record v { station = w; hand = rs }) c.tell.ensures.hand in
     let first : c.push.new.self.acts ≡ code.Tick ∷ [] = ap (λ (a : ActList). a.acts) c.push.ensures ∙ ap (λ (a : ActList). a.acts ++ code.Tick ∷ []) c.in_ok-acts.ensures in

@@ -15,7 +15,7 @@ use Rattle.modem_driver.proofs.driver.Core.took.Goals as goal
 pub returns-then-self-clause-past : goal.returns-then-self-clause-past
 returns-then-self-clause-past c =
     let q = c.args.request in
-    let v : Core = record { station = c.self.inside.station; lanes = c.self.inside.lanes; hand = c.self.inside.hand; kinds = c.self.inside.kinds.items; lost = c.self.inside.lost } in
+    let v : Core = record { station = c.self.inside.station; lanes = c.self.inside.lanes; hand = c.self.inside.hand; rules = c.self.inside.dialect; kinds = c.self.inside.kinds.items; lost = c.self.inside.lost } in
     subst (λ (x : Core). IfOk c.tell_once.result (λ acts. Handles x x (Took q) (map act_of acts.items))) c.self.view_is
     (ok_too (λ (acts : Vec Act). acts.items ≡ code.Took q ∷ told_act q LineLost ∷ []) (λ (acts : Vec Act). Handles v v (Took q) (map act_of acts.items)) c.tell_once.result
     (λ acts h. lost_told v v q acts.items c.if-self.true refl h) c.tell_once.ensures.acts)
@@ -23,7 +23,7 @@ returns-then-self-clause-past c =
 pub returns-then-is_full-clause-past : goal.returns-then-is_full-clause-past
 returns-then-is_full-clause-past c =
     let q = c.args.request in
-    let v : Core = record { station = c.self.inside.station; lanes = c.self.inside.lanes; hand = c.self.inside.hand; kinds = c.self.inside.kinds.items; lost = c.self.inside.lost } in
+    let v : Core = record { station = c.self.inside.station; lanes = c.self.inside.lanes; hand = c.self.inside.hand; rules = c.self.inside.dialect; kinds = c.self.inside.kinds.items; lost = c.self.inside.lost } in
     let full = sym c.is_full.ensures ∙ c.if-is_full.true in
     subst (λ (x : Core). IfOk c.tell_once-then-is_full.result (λ acts. Handles x x (Took q) (map act_of acts.items))) c.self.view_is
     (ok_too (λ (acts : Vec Act). acts.items ≡ code.Took q ∷ told_act q Busy ∷ []) (λ (acts : Vec Act). Handles v v (Took q) (map act_of acts.items)) c.tell_once-then-is_full.result

@@ -22,7 +22,7 @@ use Rattle.modem_driver.proofs.driver.Core.turn_flow.Goals as goal
 pub returns-then-not-has_room_to_flow-clause-no_room : goal.returns-then-not-has_room_to_flow-clause-no_room
 returns-then-not-has_room_to_flow-clause-no_room c = λ k.
     let d = c.args.dlci in
-    let v : Core = record { station = c.self.inside.station; lanes = c.self.inside.lanes; hand = c.self.inside.hand; kinds = c.self.inside.kinds.items; lost = c.self.inside.lost } in
+    let v : Core = record { station = c.self.inside.station; lanes = c.self.inside.lanes; hand = c.self.inside.hand; rules = c.self.inside.dialect; kinds = c.self.inside.kinds.items; lost = c.self.inside.lost } in
     subst (λ (x : Core). CannotTurn x d.number c.args.go) c.self.view_is
     (lacks_room v d.number c.args.go c.self.invariant.role_is (ap (λ (x : Core). x.lost) c.self.view_is ∙ c.requires.live) d.in_range c.requires.not_zero
     (subst (λ (x : Core). is_opened (channel_at x.station d.number).state ≡ true) (sym c.self.view_is) c.requires.opened) (sym c.has_room_to_flow.ensures ∙ c.if-not-has_room_to_flow.true))
@@ -30,7 +30,7 @@ returns-then-not-has_room_to_flow-clause-no_room c = λ k.
 pub returns-in_err-msc-clause-no_memory : goal.returns-in_err-msc-clause-no_memory
 returns-in_err-msc-clause-no_memory c = λ k.
     let d = c.args.dlci in
-    let v : Core = record { station = c.self.inside.station; lanes = c.self.inside.lanes; hand = c.self.inside.hand; kinds = c.self.inside.kinds.items; lost = c.self.inside.lost } in
+    let v : Core = record { station = c.self.inside.station; lanes = c.self.inside.lanes; hand = c.self.inside.hand; rules = c.self.inside.dialect; kinds = c.self.inside.kinds.items; lost = c.self.inside.lost } in
     subst (λ (x : Core). CanTurn x d.number c.args.go) c.self.view_is
     (finds_room v d.number c.args.go c.self.invariant.role_is (ap (λ (x : Core). x.lost) c.self.view_is ∙ c.requires.live) d.in_range c.requires.not_zero
     (subst (λ (x : Core). is_opened (channel_at x.station d.number).state ≡ true) (sym c.self.view_is) c.requires.opened) (sym c.has_room_to_flow.ensures ∙ c.if-not-has_room_to_flow.false))
@@ -38,7 +38,7 @@ returns-in_err-msc-clause-no_memory c = λ k.
 pub returns-in_err-acts-clause-no_memory : goal.returns-in_err-acts-clause-no_memory
 returns-in_err-acts-clause-no_memory c = λ k.
     let d = c.args.dlci in
-    let v : Core = record { station = c.self.inside.station; lanes = c.self.inside.lanes; hand = c.self.inside.hand; kinds = c.self.inside.kinds.items; lost = c.self.inside.lost } in
+    let v : Core = record { station = c.self.inside.station; lanes = c.self.inside.lanes; hand = c.self.inside.hand; rules = c.self.inside.dialect; kinds = c.self.inside.kinds.items; lost = c.self.inside.lost } in
     subst (λ (x : Core). CanTurn x d.number c.args.go) c.self.view_is
     (finds_room v d.number c.args.go c.self.invariant.role_is (ap (λ (x : Core). x.lost) c.self.view_is ∙ c.requires.live) d.in_range c.requires.not_zero
     (subst (λ (x : Core). is_opened (channel_at x.station d.number).state ≡ true) (sym c.self.view_is) c.requires.opened) (sym c.has_room_to_flow.ensures ∙ c.if-not-has_room_to_flow.false))
@@ -46,7 +46,7 @@ returns-in_err-acts-clause-no_memory c = λ k.
 pub returns-in-Err-clause-no_room : goal.returns-in-Err-clause-no_room
 returns-in-Err-clause-no_room c = λ k.
     let d = c.args.dlci in
-    let v : Core = record { station = c.self.inside.station; lanes = c.self.inside.lanes; hand = c.self.inside.hand; kinds = c.self.inside.kinds.items; lost = c.self.inside.lost } in
+    let v : Core = record { station = c.self.inside.station; lanes = c.self.inside.lanes; hand = c.self.inside.hand; rules = c.self.inside.dialect; kinds = c.self.inside.kinds.items; lost = c.self.inside.lost } in
     subst (λ (x : Core). CannotTurn x d.number c.args.go) c.self.view_is
     (cannot_turn v d.number c.args.go c.in-Err._why c.self.invariant.role_is (ap (λ (x : Core). x.lost) c.self.view_is ∙ c.requires.live) d.in_range c.requires.not_zero
     (subst (λ (x : Core). is_opened (channel_at x.station d.number).state ≡ true) (sym c.self.view_is) c.requires.opened) (sym c.in-Err.ensures.refusal))
@@ -56,7 +56,7 @@ returns-clause-past c =
     let d = c.args.dlci in
     let go = c.args.go in
     let w = c.flow.new.self in
-    let v : Core = record { station = c.self.inside.station; lanes = c.self.inside.lanes; hand = c.self.inside.hand; kinds = c.self.inside.kinds.items; lost = c.self.inside.lost } in
+    let v : Core = record { station = c.self.inside.station; lanes = c.self.inside.lanes; hand = c.self.inside.hand; rules = c.self.inside.dialect; kinds = c.self.inside.kinds.items; lost = c.self.inside.lost } in
     let new : Core = record v { station = w; lanes = c.turn.new.self } in
     let same : new ≡ record v { station = w; lanes = turned v.lanes d.number (not go) } = ap (λ (ls : List Lane). record v { station = w; lanes = ls }) c.turn.ensures in
     let frame : kept_frame c.in_ok-msc.msc ≡ flow_frame d.number go Initiator
