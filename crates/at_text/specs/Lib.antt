@@ -3,6 +3,9 @@ pub mod Lines
 pub mod Reading
 pub mod Finals
 pub mod Unsolicited
+pub mod Dialects
+pub mod Rules
+pub mod Refusals
 pub mod Commands
 pub mod Windows
 pub mod Seeing
