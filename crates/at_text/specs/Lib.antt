@@ -4,6 +4,8 @@ pub mod Reading
 pub mod Finals
 pub mod Unsolicited
 pub mod Dialects
+pub mod Rules
+pub mod Refusals
 pub mod Commands
 pub mod Windows
 pub mod Seeing

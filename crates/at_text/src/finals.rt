@@ -13,6 +13,8 @@ pub enum Final {
     Error,
     /// `+CME ERROR:`, with its number where after any blanks 1 to 9 digits follow and nothing else.
     Cme(Option<u32>),
+    /// A final code of a dialect's own: the place of its rule among the dialect's final rules, from 0.
+    Named(u8),
 }
 
 const CME: &[u8] = b"+CME ERROR:";

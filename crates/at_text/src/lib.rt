@@ -3,20 +3,24 @@
 
 mod answer;
 mod command;
+mod dialect_error;
 mod error;
 mod finals;
 pub mod laws;
 pub mod octets;
 mod reader;
+mod rules;
 mod text;
 mod unsolicited;
 mod window;
 
 pub use answer::{AnswerLine, AnswerLines};
 pub use command::CommandLine;
+pub use dialect_error::DialectError;
 pub use error::TextError;
 pub use finals::{Final, final_of};
 pub use reader::{Line, LineReader};
+pub use rules::Form;
 pub use text::Text;
 pub use unsolicited::{UrcKind, unsolicited_of};
 pub use window::{Seen, Window};

@@ -21,6 +21,8 @@ pub enum UrcKind {
     Cgev,
     /// `+CIEV:` (27.007, 8.10).
     Ciev,
+    /// A kind of a dialect's own: the place of the first of its rules among the dialect's unsolicited rules, from 0.
+    Own(u8),
     /// A line of none of these kinds, outside of every window.
     Other,
 }
@@ -53,7 +55,7 @@ fn is_report(name: &[u8], line: &[u8]) -> bool
     }
 }
 
-fn is_without_second(line: &[u8]) -> bool
+pub(crate) fn is_without_second(line: &[u8]) -> bool
     ensures { result ≡ is_without_second line.now }
 {
     match behind_comma(line) {
@@ -64,7 +66,7 @@ fn is_without_second(line: &[u8]) -> bool
 
 #[tactic(auto, using(crate::proofs::Commas::behind_none, crate::proofs::Commas::behind_some))]
 /// What follows the first comma.
-fn behind_comma(line: &[u8]) -> Option<&[u8]>
+pub(crate) fn behind_comma(line: &[u8]) -> Option<&[u8]>
     ensures { option_map (λ rest. rest.now) result ≡ after_comma line.now }
 {
     let comma = memchr(b',', line)?;

@@ -1,0 +1,77 @@
+-- Which rules a dialect refuses.
+use Rattle.std.specs.Prelude.{◌≡◌, ◌<◌, ◌≤◌, ◌+◌, ℕ, nat_le, nat_lt, Bool, true, false, not, ◌&&◌, ◌||◌, IsTrue, List, [], length, is_some}
+use Rattle.std.specs.List.{list_any, list_all}
+use Rattle.at_text.specs.declared.dialect_error.DialectError.{DialectError}
+use Rattle.at_text.specs.declared.dialect_error.DialectError.TheVariants.{TooManyRules, NoText, TextTooLong, LineEnd, BadName, Command, Ambiguous, NoMemory}
+use Rattle.at_text.specs.declared.rules.Pattern.{Pattern}
+use Rattle.at_text.specs.Commands.{has_at}
+use Rattle.at_text.specs.Lines.{is_line_end}
+use Rattle.at_text.specs.Dialects.{Dialect}
+use Rattle.at_text.specs.Rules.{Rules, Rule, FinalRule, UrcRule, pattern, takes, with_rule, dialect_of}
+
+-- how many rules there are
+abbrev pub count : Rules → ℕ
+count rules = length rules.finals + length rules.urcs
+
+abbrev pub text_of : Rule → List ℕ
+text_of (FinalRule form text) = text
+text_of (UrcRule form text name) = text
+
+abbrev pub pattern_of : Rule → Pattern
+pattern_of (FinalRule form text) = pattern form text
+pattern_of (UrcRule form text name) = pattern form text
+
+-- the octets 21 to 7E hex
+abbrev pub is_visible : ℕ → Bool
+is_visible c = nat_le 33 c && nat_le c 126
+
+-- a name is 1 to 64 visible octets
+abbrev pub is_name : List ℕ → Bool
+is_name name = (nat_le 1 (length name) && nat_le (length name) 64) && list_all is_visible name
+
+-- a rule has no name, or one that is a name
+abbrev pub is_well_named : Rule → Bool
+is_well_named (FinalRule form text) = true
+is_well_named (UrcRule form text name) = is_name name
+
+-- some text that begins as a command line does is a line of the rule
+pub record TakesCommand (p : Pattern) : Type 0 where
+  pub line : List ℕ
+  pub begins : has_at line ≡ true
+  pub taken : takes p line ≡ true
+
+-- some line ends an answer and is unsolicited
+pub record IsAmbiguous (d : Dialect) : Type 0 where
+  pub line : List ℕ
+  pub ends : d.is_final line ≡ true
+  pub unasked : is_some (d.kind_of line) ≡ true
+
+-- a reason to refuse one more rule
+abbrev pub Refuses : Rules → Rule → DialectError → Type 0
+Refuses rules rule TooManyRules = 64 ≤ count rules
+Refuses rules rule NoText = text_of rule ≡ []
+Refuses rules rule TextTooLong = 64 < length (text_of rule)
+Refuses rules rule LineEnd = list_any is_line_end (text_of rule) ≡ true
+Refuses rules rule BadName = is_well_named rule ≡ false
+Refuses rules rule Command = TakesCommand (pattern_of rule)
+Refuses rules rule Ambiguous = IsAmbiguous (dialect_of (with_rule rules rule))
+Refuses rules rule NoMemory = Unit {0}
+
+abbrev pub dialect_error_number : DialectError → ℕ
+dialect_error_number TooManyRules = 1
+dialect_error_number NoText = 2
+dialect_error_number TextTooLong = 3
+dialect_error_number LineEnd = 4
+dialect_error_number BadName = 5
+dialect_error_number Command = 6
+dialect_error_number Ambiguous = 7
+dialect_error_number NoMemory = 8
+
+-- no reason with a number below this one holds
+abbrev pub HasNoReasonBelow : ℕ → Rules → Rule → Type 0
+HasNoReasonBelow n rules rule = (why : DialectError) → dialect_error_number why < n → ¬ Refuses rules rule why
+
+-- the first reason that holds
+pub record IsRefused (rules : Rules) (rule : Rule) (why : DialectError) : Type 0 where
+  pub holds : Refuses rules rule why
+  pub first : HasNoReasonBelow (dialect_error_number why) rules rule
