@@ -224,6 +224,13 @@ impl DriverEnd {
         self.rings.len() as u8
     }
 
+    /// The kinds of line that the desk has a listener for, in the desk's order.
+    pub fn kinds(&self) -> &[UrcKind]
+        ensures { result.now ≡ self.now.desk.kinds }
+    {
+        self.kinds.as_slice()
+    }
+
     /// Whether the desk has a listener for lines of this kind.
     pub fn listens(&self, kind: UrcKind) -> bool
         ensures { IsTrue result ↔ Contains self.now.desk.kinds kind }

@@ -3,7 +3,7 @@ use Rattle.std.specs.Prelude.{◌≡◌, ℕ, ◌+◌, ◌<◌, ◌==◌, ◌↔
 use Rattle.std.specs.List.{list_all, concat, Contains}
 use Rattle.at_text.specs.declared.unsolicited.UrcKind.{UrcKind}
 use Rattle.at_text.specs.Dialects.{Dialect}
-use Rattle.at_text.specs.Rules.{Rules, dialect_of}
+use Rattle.at_text.specs.Rules.{Rules, no_rules, dialect_of}
 use Rattle.at_text.specs.OpenWindow.{FitsMarks}
 use Rattle.at_text.specs.Windows.{answered}
 use Rattle.mux_station.specs.declared.role.Role.TheVariants.{Initiator}
@@ -44,8 +44,9 @@ pub record Core : Type 0 where
 abbrev pub dialect_in : Core → Dialect
 dialect_in v = dialect_of v.rules
 
-abbrev pub new_core : Rules → ℕ → List UrcKind → Core
-new_core rules n1 kinds = record {
+-- nothing has happened yet
+abbrev pub core_by : Rules → ℕ → List UrcKind → Core
+core_by rules n1 kinds = record {
   station = new_station Initiator n1;
   lanes = replicate 62 new_lane;
   hand = [];
@@ -53,6 +54,10 @@ new_core rules n1 kinds = record {
   kinds = kinds;
   lost = false;
 }
+
+-- and at a standard modem
+abbrev pub new_core : ℕ → List UrcKind → Core
+new_core n1 kinds = core_by no_rules n1 kinds
 
 abbrev pub lane_at : Core → ℕ → Lane
 lane_at v d = slice_index_or v.lanes d new_lane
@@ -136,7 +141,7 @@ pub record IsRun (s : Setting) (past : List Act) : Type 0 where
 pub record IsSettingOf (s : Setting) (v : Core) : Type 0 where
   pub role_is : s.role ≡ Initiator
   pub n1_is : s.n1 ≡ v.station.n1
-  pub dialect_is : s.dialect ≡ (dialect_in v)
+  pub dialect_is : s.dialect ≡ dialect_in v
   pub listens_are : (kind : UrcKind) → (s.listens kind ≡ true) ↔ Contains v.kinds kind
 
 -- a call that begins with this act may come after a past

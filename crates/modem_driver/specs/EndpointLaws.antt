@@ -1,5 +1,6 @@
 -- What a sequence of an endpoint's calls comes to.
 use Rattle.std.specs.Prelude.{◌≡◌, ◌≤◌, ℕ, List, length, Option}
+use Rattle.at_text.specs.Dialects.{Dialect}
 use Rattle.at_text.specs.declared.unsolicited.UrcKind.{UrcKind}
 use Rattle.modem_desk.specs.declared.request.Ask.{Ask}
 use Rattle.modem_desk.specs.declared.request.Outcome.{Outcome}
@@ -7,9 +8,9 @@ use Rattle.modem_desk.specs.declared.request.Urc.{Urc}
 use Rattle.modem_desk.specs.Ends.{DriverView}
 use Rattle.modem_history.specs.Acts.{Act, after}
 use Rattle.modem_history.specs.Sessions.{Beginning, LineView, IsHistory, FitsRequests, FitsReceived, FitsSent, FitsTold, FitsHeard}
-use Rattle.modem_driver.specs.Endpoints.{EndpointState, EndpointFits, AnnouncesOne, Begins, GivesLine, GivesOctets, GivesOutcome, HandlesAlone, Loses, Numbers, TakesOctets, TellsOne, Ticks, with_failure, with_taken}
+use Rattle.modem_driver.specs.Endpoints.{EndpointState, EndpointFits, AnnouncesOne, BeginsBy, GivesLine, GivesOctets, GivesOutcome, HandlesAlone, Loses, Numbers, TakesOctets, TellsOne, Ticks, with_failure, with_taken}
 use Rattle.modem_driver.specs.EndpointSteps.{with_received, with_sent}
-use Rattle.modem_driver.specs.SessionStates.{beginning_of, seen_by, end_of}
+use Rattle.modem_driver.specs.SessionStates.{beginning_by, seen_by, end_of}
 use Rattle.modem_driver.specs.declared.endpoint.Blocked.{Blocked}
 
 -- ## A call
@@ -86,6 +87,6 @@ pub record HasAll (b : Beginning) (v : World) : Type 0 where
 -- kinds and has a caller 0.
 unfoldable pub TellsAll : Type 0
 TellsAll =
-    (n1 : ℕ) (kinds : List UrcKind) (w v : World) → w.driver.desk.kinds ≡ kinds
-    → 1 ≤ length w.driver.desk.rings → Begins n1 kinds w.endpoint → Calls w v
-    → HasAll (beginning_of n1 w.line w.driver) v
+    (dialect : Dialect) (n1 : ℕ) (kinds : List UrcKind) (w v : World) → w.driver.desk.kinds ≡ kinds
+    → 1 ≤ length w.driver.desk.rings → BeginsBy dialect n1 kinds w.endpoint → Calls w v
+    → HasAll (beginning_by dialect n1 w.line w.driver) v

@@ -2,6 +2,8 @@
 -- line and desk's end a history sees.
 use Rattle.std.specs.Prelude.{◌≡◌, ◌≢◌, ◌⊎◌, ◌&&◌, ◌==◌, ◌+◌, ◌-◌, ◌^◌, ◌≤◌, ℕ, Bool, true, false, List, [], ◌∷◌, ◌++◌, length, nat_lt, map, Option, None, Some}
 use Rattle.std.specs.List.{list_all}
+use Rattle.at_text.specs.Dialects.{Dialect, standard}
+use Rattle.at_text.specs.Rules.{Rules, no_rules}
 use Rattle.at_text.specs.declared.unsolicited.UrcKind.{UrcKind}
 use Rattle.modem_desk.specs.declared.request.Ask.{Ask}
 use Rattle.modem_desk.specs.declared.request.Ask.TheVariants.{Command}
@@ -15,7 +17,7 @@ use Rattle.modem_history.specs.Sessions.{Beginning, LineView, gots, taken_since}
 use Rattle.modem_history.specs.Turns.{HoldsWhereRoom, may_act, may_fail}
 use Rattle.modem_history.specs.Wholes.{is_said}
 use Rattle.modem_driver.specs.EndpointSteps.{HandLacksRoom, IsDrained, goes_out, with_received, with_sent}
-use Rattle.modem_driver.specs.SessionStates.{Kept, beginning_of, new_kept, seen_by, end_of}
+use Rattle.modem_driver.specs.SessionStates.{Kept, beginning_by, kept_by, seen_by, end_of}
 use Rattle.modem_driver.specs.TurnSteps.{StandingFits, turn_state, view_of}
 use Rattle.modem_driver.specs.declared.endpoint.Blocked.{Blocked}
 use Rattle.modem_driver.specs.declared.endpoint.Blocked.TheVariants.{OutputFirst, NoMemory}
@@ -28,8 +30,12 @@ pub record EndpointState : Type 0 where
   pub next : ℕ
 
 -- nothing has happened yet
+abbrev pub endpoint_by : Rules → ℕ → List UrcKind → ℕ → EndpointState
+endpoint_by rules n1 kinds first = record { kept = kept_by rules n1 kinds; next = first }
+
+-- and at a standard modem
 abbrev pub new_endpoint : ℕ → List UrcKind → ℕ → EndpointState
-new_endpoint n1 kinds first = record { kept = new_kept n1 kinds; next = first }
+new_endpoint n1 kinds first = endpoint_by no_rules n1 kinds first
 
 -- every octet that came is with the deframer, and no request is kept aside
 pub record HasNoneAside (k : Kept) : Type 0 where
@@ -56,10 +62,16 @@ LeadsOver before later here there old new acts =
     (b : Beginning) (past : List Act) → EndpointFits b before here old past
     → EndpointFits b later there new (after past acts)
 
--- it begins: over each line, and each desk's end that listens to these kinds, it fits the empty history
-unfoldable pub Begins : ℕ → List UrcKind → EndpointState → Type 0
-Begins n1 kinds e =
-    (l : LineView) (d : DriverView) → d.desk.kinds ≡ kinds → EndpointFits (beginning_of n1 l d) l d e []
+-- it begins at a modem with these codes: over each line, and each desk's end that listens to these kinds, it fits the
+-- empty history
+unfoldable pub BeginsBy : Dialect → ℕ → List UrcKind → EndpointState → Type 0
+BeginsBy dialect n1 kinds e =
+    (l : LineView) (d : DriverView) → d.desk.kinds ≡ kinds
+    → EndpointFits (beginning_by dialect n1 l d) l d e []
+
+-- and at a standard modem
+abbrev pub Begins : ℕ → List UrcKind → EndpointState → Type 0
+Begins n1 kinds e = BeginsBy standard n1 kinds e
 
 -- ## Octets for the line
 

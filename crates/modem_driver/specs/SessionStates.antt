@@ -2,7 +2,8 @@
 use Rattle.std.specs.Prelude.{◌≡◌, ℕ, ◌<◌, ◌≤◌, ◌++◌, filter, map, Bool, true, false, List, [], ◌∷◌, length, Option, None, nat_lt}
 use Rattle.std.specs.List.{list_all}
 use Rattle.mux_frame.specs.Deframing.{Deframing}
-use Rattle.at_text.specs.Dialects.{standard}
+use Rattle.at_text.specs.Dialects.{Dialect, standard}
+use Rattle.at_text.specs.Rules.{Rules, no_rules}
 use Rattle.at_text.specs.declared.unsolicited.UrcKind.{UrcKind}
 use Rattle.at_text.specs.Commands.{refusal_of}
 use Rattle.modem_desk.specs.declared.request.Ask.{Ask}
@@ -14,7 +15,7 @@ use Rattle.modem_desk.specs.Ends.{DriverView}
 use Rattle.modem_history.specs.Acts.{Act, in_hand}
 use Rattle.modem_history.specs.Sessions.{LineView, EndView, Beginning, SessionView, Leftovers, FitsWith, Finishes, GoesBy, driving, gots, heard_as}
 use Rattle.modem_history.specs.Turns.{GoesTick, IsTick, LosesLine, may_fail, outcomes_told, lines_heard}
-use Rattle.modem_driver.specs.Cores.{Core, Fits, IsSettingOf, new_core}
+use Rattle.modem_driver.specs.Cores.{Core, Fits, IsSettingOf, core_by}
 use Rattle.modem_driver.specs.Holding.{HoldsFit}
 use Rattle.modem_driver.specs.Endings.{HasCome, KeepsEnd, is_stop}
 use Rattle.modem_driver.specs.declared.session.ending.Course.{Course}
@@ -37,9 +38,9 @@ pub record Kept : Type 0 where
   pub course : Course
 
 -- nothing has happened yet
-abbrev pub new_kept : ℕ → List UrcKind → Kept
-new_kept n1 kinds = record {
-  core = new_core n1 kinds;
+abbrev pub kept_by : Rules → ℕ → List UrcKind → Kept
+kept_by rules n1 kinds = record {
+  core = core_by rules n1 kinds;
   aside = None;
   unfed = [];
   deframer = record { n1 = n1; undecided = []; next = None };
@@ -49,6 +50,10 @@ new_kept n1 kinds = record {
   faulty = false;
   course = GoesOn;
 }
+
+-- and at a standard modem
+abbrev pub new_kept : ℕ → List UrcKind → Kept
+new_kept n1 kinds = kept_by no_rules n1 kinds
 
 -- a session over a line of any type
 pub record SessionState (X : Type 0) : Type 0 where
@@ -129,16 +134,20 @@ FitsInside b look s past = KeptFits b (look s.line) s.driver s.kept past
 abbrev pub FitsAll : {X : Type 0} → Beginning → (X → LineView) → SessionState X → List Act → Type 0
 FitsAll b look s past = FitsWith b (session_view look s) (FitsInside b look s) past
 
--- a session with a standard modem that begins over a line and a desk's end
-abbrev pub beginning_of : ℕ → LineView → DriverView → Beginning
-beginning_of n1 l d = record {
+-- a session that begins over a line and a desk's end, at a modem with these codes
+abbrev pub beginning_by : Dialect → ℕ → LineView → DriverView → Beginning
+beginning_by dialect n1 l d = record {
   n1 = n1;
-  dialect = standard;
+  dialect = dialect;
   callers = length d.desk.rings;
   kinds = d.desk.kinds;
   line = l;
   desk = end_of d;
 }
+
+-- and at a standard modem
+abbrev pub beginning_of : ℕ → LineView → DriverView → Beginning
+beginning_of n1 l d = beginning_by standard n1 l d
 
 -- ## Calls
 

@@ -27,6 +27,7 @@ use Rattle.modem_desk.specs.declared.request.Answer.{Answer}
 use Rattle.modem_desk.specs.declared.request.Answer.TheVariants.{Done, Opened, Shut, ProbeBack, Stopped, NotOpen, AlreadyOpen, Refused, NoAnswer, Closed, ControlChannel, LineLost, Busy}
 use Rattle.modem_history.specs.Acts.{Act, Took, Got, Sent, Told, Heard, Tick, Lost, Held, Freed, told, in_hand, without, wire}
 use Rattle.modem_history.specs.Information.{command_on}
+use Rattle.modem_history.specs.Kinds.{is_listened, standard_kinds}
 use Rattle.modem_history.specs.Placing.{marks, run_on}
 
 -- whose history it is: the role, N1, the codes of the modem, and the kinds that are listened to
@@ -36,9 +37,9 @@ pub record Setting : Type 0 where
   pub dialect : Dialect
   pub listens : UrcKind → Bool
 
--- a replay's history: an initiator of a standard modem that listens to every kind
+-- a replay's history: an initiator of a standard modem that listens to every kind of the standards, and to Other
 abbrev pub replaying : ℕ → Setting
-replaying n1 = record { role = Initiator; n1 = n1; dialect = standard; listens = λ _. true }
+replaying n1 = record { role = Initiator; n1 = n1; dialect = standard; listens = is_listened standard_kinds }
 
 -- ## Requests
 

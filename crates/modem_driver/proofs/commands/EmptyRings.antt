@@ -24,7 +24,7 @@ use Rattle.modem_history.specs.Information.{info_of, info_sent, information_out,
 use Rattle.modem_history.specs.Placing.{marks, whole_in, whole_after}
 use Rattle.modem_history.specs.Calls.{Setting}
 use Rattle.modem_history.specs.Wholes.{begun_in, commands_for, BeginsInTurn, StaysInStep, InStep}
-use Rattle.modem_driver.specs.Cores.{Core, IsRun}
+use Rattle.modem_driver.specs.Cores.{dialect_in, Core, IsRun}
 use Rattle.modem_history.proofs.commands.BegunCommands.{begins_in_turn, texts_counted}
 use Rattle.modem_history.proofs.requests.StepsOfHistory.{stays_in_step}
 use Rattle.modem_driver.proofs.requests.TakenRequests.{Live}
@@ -124,15 +124,15 @@ ring_empty s v past d l r b z o none =
     let fits = l.runs.fits.channels_are d b in
     let opened : is_opened (channel_at v.station d).state ≡ true = ap is_opened (sym (l.states_are d b)) ∙ (opened_is_open s.role (wire past) d ∙ o) in
     let all_before : acc ≡ i.before = i.accepted_are ∙ (ap (λ (qs : List Request). i.before ++ qs) none ∙ append-nil i.before) in
-    let count : answered s.dialect ms ≡ length acc = i.answered_are ∙ ap length (sym all_before) in
-    let sent : length (concat (texts acc)) ≤ length out = all_out s.dialect (length out) acc ms (begins_in_turn s past r.lawful d).first (omega (arith, count)) in
+    let count : answered (dialect_in v) ms ≡ length acc = ap (λ (c : Dialect). answered c ms) (sym l.dialect_is) ∙ (i.answered_are ∙ ap length (sym all_before)) in
+    let sent : length (concat (texts acc)) ≤ length out = all_out (dialect_in v) (length out) acc ms (begins_in_turn s past r.lawful d).first (omega (arith, count)) in
     let given_is : data_out s.role d l.runs.seen ≡ out = given_out s.role d l.runs.seen past l.runs.same z in
     let ring : offered s.role d l.runs.seen ≡ data_out s.role d l.runs.seen ++ (channel_at v.station d).waiting
     = subst (λ (x : Role). offered x d l.runs.seen ≡ data_out x d l.runs.seen ++ (channel_at v.station d).waiting) (sym l.same_role) (fits.ring_is opened) in
     let lane = l.runs.lanes_fit d b z (subst (λ (x : Role). is_open x d (wire past) ≡ true) l.role_is o) in
-    let offers : offered s.role d l.runs.seen ≡ concat (texts (take (answered s.dialect ms + 1) acc))
-    = subst (λ (x : Role). offered x d l.runs.seen ≡ concat (texts (take (answered s.dialect (marks x d past) + 1) (accepted x d past)))) (sym l.role_is) lane.offered_is in
-    let all : offered s.role d l.runs.seen ≡ concat (texts acc) = offers ∙ ap (λ (qs : List Request). concat (texts qs)) (take_all (answered s.dialect ms + 1) acc (omega (arith, count))) in
+    let offers : offered s.role d l.runs.seen ≡ concat (texts (take (answered (dialect_in v) ms + 1) acc))
+    = subst (λ (x : Role). offered x d l.runs.seen ≡ concat (texts (take (answered (dialect_in v) (marks x d past) + 1) (accepted x d past)))) (sym l.role_is) lane.offered_is in
+    let all : offered s.role d l.runs.seen ≡ concat (texts acc) = offers ∙ ap (λ (qs : List Request). concat (texts qs)) (take_all (answered (dialect_in v) ms + 1) acc (omega (arith, count))) in
     let size : length (concat (texts acc)) ≡ length out + length (channel_at v.station d).waiting
     = ap length (sym all ∙ (ring ∙ ap (λ (x : List ℕ). x ++ (channel_at v.station d).waiting) given_is)) ∙ length-append out (channel_at v.station d).waiting in
     nil_from_length (channel_at v.station d).waiting (omega (arith, size, sent))

@@ -105,7 +105,7 @@ lost_handles old new e acts n h s past m =
     = record { hand_is = hand ∙ sym none; lost_is = lost_on s past Lost; runs = none } in
     record {
       called = called;
-      setting = subst (λ (v : Core). IsSettingOf s v) (sym n) (record { role_is = m.setting.role_is; n1_is = m.setting.n1_is; listens_are = m.setting.listens_are });
+      setting = subst (λ (v : Core). IsSettingOf s v) (sym n) (record { role_is = m.setting.role_is; n1_is = m.setting.n1_is; dialect_is = m.setting.dialect_is; listens_are = m.setting.listens_are });
       fits = subst (λ (v : Core). Fits v (after past (map act_of acts))) (sym n) (subst (λ (w : List Act). Fits (record old { hand = left_by says old.hand; lost = true }) (after past w)) (sym called) there);
       run = subst (λ (w : List Act). IsRun s (after past w)) (sym called) (run_on s past Lost refl tt m.run m.numbers);
     }

@@ -327,7 +327,7 @@ data_own old new l past f n lane st acts i w m =
       lanes_fit = lanes;
     } in
     let fits : Fits after_it (ended s past (Got f)) = record { hand_is = hand; lost_is = lost_on s past (Got f) ∙ m.fits.lost_is; runs = subst (λ (x : Bool). RunsUnless x after_it (ended s past (Got f))) (sym w.live) goes } in
-    let setting : IsSettingOf s after_it = record { role_is = refl; n1_is = ap (λ x. x.n1) (sym w.handles.setting) ∙ ap (λ x. x.n1) (sym given.setting); listens_are = m.setting.listens_are } in
+    let setting : IsSettingOf s after_it = record { role_is = refl; n1_is = ap (λ x. x.n1) (sym w.handles.setting) ∙ ap (λ x. x.n1) (sym given.setting); dialect_is = refl; listens_are = m.setting.listens_are } in
     record {
       called = called;
       setting = subst (λ (x : Core). IsSettingOf s x) (sym fin.new_is) setting;

@@ -179,7 +179,7 @@ other_own old new l past f n st ended_now acts i w m =
       lanes_fit = other_lanes old l past r f (says_open n) i w.in_range unread (opens_noted old.station r.seen f n i.role_is r.fits w.in_range (w.noted_is r.seen r.fits));
     } in
     let fits : Fits after_it (ended s past (Got f)) = record { hand_is = hand; lost_is = lost_on s past (Got f) ∙ m.fits.lost_is; runs = subst (λ (b : Bool). RunsUnless b after_it (ended s past (Got f))) (sym w.live) goes } in
-    let setting : IsSettingOf s after_it = record { role_is = refl; n1_is = ap (λ x. x.n1) (sym w.handles.setting); listens_are = m.setting.listens_are } in
+    let setting : IsSettingOf s after_it = record { role_is = refl; n1_is = ap (λ x. x.n1) (sym w.handles.setting); dialect_is = refl; listens_are = m.setting.listens_are } in
     record {
       called = called;
       setting = subst (λ (x : Core). IsSettingOf s x) (sym w.new_is) setting;

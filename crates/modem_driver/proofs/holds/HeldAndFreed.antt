@@ -42,7 +42,7 @@ use Rattle.modem_history.specs.Calls.{Setting, HistoryView, seen, is_lost, ticks
 use Rattle.modem_driver.specs.Lanes.{Lane, new_lane, turned}
 use Rattle.modem_driver.specs.Telling.{told_to, left_by}
 use Rattle.modem_history.specs.Wholes.{taken_requests, is_first, is_said, UsesOnce}
-use Rattle.modem_driver.specs.Cores.{Core, Fits, Runs, RunsUnless, LaneFits, IsRun, MayCome, GoesOn, lane_at, may_wait, state_shown, probe_or, probe_in}
+use Rattle.modem_driver.specs.Cores.{dialect_in, Core, Fits, Runs, RunsUnless, LaneFits, IsRun, MayCome, GoesOn, lane_at, may_wait, state_shown, probe_or, probe_in}
 use Rattle.modem_history.specs.Holding.{last_held, is_held, OnHeld}
 use Rattle.modem_driver.specs.Holding.{due_in, flow_due, flow_act, due_by, HoldsFit, MayAsk, FlowsOn, Flows, LacksRoom, HasPlace, HasNoRoom, FindsRoom, CallsForNothing, NeverDue, TurnsFlow, CannotTurn, CanTurn, has_flow_room}
 use Rattle.modem_history.proofs.calls.CalledActs.{calls_said}
@@ -244,7 +244,7 @@ lane_same v d go size b e = by_place (d == e) refl
 
 turn_lane : (s : Setting) (v : Core) (past : List Act) (w : Station) (d : ℕ) (go : Bool) → (l : Live s v past) → (e : ℕ) → e < 62 → (e == 0) ≡ false → (lane : Lane) → SameLane lane (lane_at v e)
     → wire (ended s past (flow_act d go)) ≡ station.Sent (flow_frame d go s.role) ∷ wire past → without_calls (flow_seen s v past l d go) ≡ station.Sent (flow_frame d go s.role) ∷ wire past
-    → is_open Initiator e (wire (ended s past (flow_act d go))) ≡ true → LaneFits s.dialect e (flow_seen s v past l d go) (ended s past (flow_act d go)) lane
+    → is_open Initiator e (wire (ended s past (flow_act d go))) ≡ true → LaneFits (dialect_in v) e (flow_seen s v past l d go) (ended s past (flow_act d go)) lane
 turn_lane s v past w d go l e b z lane ls wires same h =
     let a = flow_act d go in
     let f = flow_frame d go s.role in
@@ -258,12 +258,12 @@ turn_lane s v past w d go l e b z lane ls wires same h =
     let called : is_open Initiator e (station.Called (station.Flow d go) ∷ l.runs.seen) ≡ true = all_was Initiator e (flow_frame d go v.station.role ∷ []) (station.Called (station.Flow d go) ∷ l.runs.seen) there in
     record {
       kept_is = ap (λ (x : List station.Act). kept_run (info_got e (since Initiator e x))) wires ∙ (ap kept_run (info_same Initiator e (f ∷ []) (wire past) here) ∙ (was.kept_is ∙ sym ls.kept_same));
-      window_fits = subst (λ (x : _). FitsMarks s.dialect x (marks Initiator e past')) (sym ls.window_same) (subst (FitsMarks s.dialect (lane_at v e).window) (sym marked) was.window_fits);
+      window_fits = subst (λ (x : _). FitsMarks (dialect_in v) x (marks Initiator e past')) (sym ls.window_same) (subst (FitsMarks (dialect_in v) (lane_at v e).window) (sym marked) was.window_fits);
       offered_is = offered_same Initiator e (flow_frame d go v.station.role ∷ []) (station.Called (station.Flow d go) ∷ l.runs.seen) there
           ∙ (offered_called Initiator e (station.Flow d go) l.runs.seen called
           ∙ (append-nil (offered Initiator e l.runs.seen)
-          ∙ (was.offered_is ∙ (ap (λ (n : ℕ). concat (texts (take (n + 1) (accepted Initiator e past)))) (ap (answered s.dialect) (sym marked))
-          ∙ ap (λ (qs : List Request). concat (texts (take (answered s.dialect (marks Initiator e past') + 1) qs))) (sym taken_on)))));
+          ∙ (was.offered_is ∙ (ap (λ (n : ℕ). concat (texts (take (n + 1) (accepted Initiator e past)))) (ap (answered (dialect_in v)) (sym marked))
+          ∙ ap (λ (qs : List Request). concat (texts (take (answered (dialect_in v) (marks Initiator e past') + 1) qs))) (sym taken_on)))));
     }
 
 -- and the act may come: it may be held, or is held
@@ -345,7 +345,7 @@ turn_on s v new past w d go role lost size o m n =
     let result : GoesOn s turned_core past a (a ∷ calls s past a) × HoldsFit turned_core (ended s past a) = (
       record {
         called = refl;
-        setting = record { role_is = m.setting.role_is; n1_is = m.setting.n1_is ∙ sym (ap (λ (x : sending.StationSetting). x.n1) o.goes_on.setting); listens_are = m.setting.listens_are };
+        setting = record { role_is = m.setting.role_is; n1_is = m.setting.n1_is ∙ sym (ap (λ (x : sending.StationSetting). x.n1) o.goes_on.setting); dialect_is = m.setting.dialect_is; listens_are = m.setting.listens_are };
         fits = there;
         run = goes_on s past a (flow_first d go) (on_held s v past d go role l m o.in_range o.not_zero o.opened o.held_is) m.run (subst UsesOnce (sym (flow_taken d go past)) m.run.numbers);
       },

@@ -25,6 +25,7 @@ use Rattle.modem_driver.specs.CoreKeeping.{IsKept}
 use Rattle.mux_station.specs.Fitting as station_fits
 use Rattle.mux_station.proofs.user_calls.CallFrames.{state_sent_uih}
 use Rattle.mux_station.proofs.states.StationPasts.{open_fits}
+use Rattle.at_text.specs.Dialects.{Dialect}
 use Rattle.at_text.specs.declared.unsolicited.UrcKind.{UrcKind}
 use Rattle.at_text.specs.Windows.{Mark, answered, open_window}
 use Rattle.at_text.specs.OpenWindow.{opened, shown}
@@ -52,10 +53,13 @@ use Rattle.modem_history.specs.Lawful.{some_wait}
 
 -- the setting of a core's history
 abbrev pub own : Core → (UrcKind → Bool) → Setting
-own v listens = record { role = Initiator; n1 = v.station.n1; listens = listens }
+own v listens = record { role = Initiator; n1 = v.station.n1; dialect = dialect_in v; listens = listens }
 
 pub own_is : (s : Setting) (v : Core) → IsSettingOf s v → s ≡ own v s.listens
-own_is s v h = ap (λ (r : Role). let t : Setting = record { role = r; n1 = s.n1; listens = s.listens } in t) h.role_is ∙ ap (λ (n : ℕ). let t : Setting = record { role = Initiator; n1 = n; listens = s.listens } in t) h.n1_is
+own_is s v h =
+    ap (λ (r : Role). let t : Setting = record { role = r; n1 = s.n1; dialect = s.dialect; listens = s.listens } in t) h.role_is
+    ∙ (ap (λ (n : ℕ). let t : Setting = record { role = Initiator; n1 = n; dialect = s.dialect; listens = s.listens } in t) h.n1_is
+    ∙ ap (λ (c : Dialect). let t : Setting = record { role = Initiator; n1 = v.station.n1; dialect = c; listens = s.listens } in t) h.dialect_is)
 
 -- what is asked of the value
 pub record IsSound (v : Core) : Type 0 where
@@ -97,7 +101,7 @@ given_stands s v past f fs r q n m h =
     let waits : some_wait (queue (wire past)) ≡ true = ap some_wait (sym (queue_seen r.seen past r.same) ∙ (r.fits.queue_is ∙ q)) in
     let new : Core = record v { station = record v.station { queue = fs } } in
     record {
-      setting = record { role_is = m.setting.role_is; n1_is = m.setting.n1_is; listens_are = m.setting.listens_are };
+      setting = record { role_is = m.setting.role_is; n1_is = m.setting.n1_is; dialect_is = m.setting.dialect_is; listens_are = m.setting.listens_are };
       fits = record { hand_is = m.fits.hand_is; lost_is = m.fits.lost_is; runs = subst (λ (b : Bool). RunsUnless b new (Given ∷ past)) (sym n) (given_runs v past f fs r h) };
       run = given_run s past waits m.run;
     }
@@ -317,7 +321,7 @@ data_stands v l past r d i n m next h =
     let new : Core = record v { lanes = begun.lanes; station = data_given v.station (Some d) } in
     let runs : Runs new (Sent f ∷ past) = data_runs v past r d (nat_le (length w) n1) c begun (data_given v.station (Some d)) i i.role_is refl next u.next.idle info marks_are fits in
     let there : StandsIn s new (Sent f ∷ past) = record {
-      setting = record { role_is = refl; n1_is = refl; listens_are = m.setting.listens_are };
+      setting = record { role_is = refl; n1_is = refl; dialect_is = refl; listens_are = m.setting.listens_are };
       fits = record { hand_is = m.fits.hand_is; lost_is = m.fits.lost_is; runs = subst (λ (b : Bool). RunsUnless b new (Sent f ∷ past)) (sym n) runs };
       run = data_run s past f (ap not next.no_zero) m.run (data_allowed v l past r d i n m.fits m.run next some u goes);
     } in

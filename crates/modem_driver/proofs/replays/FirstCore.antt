@@ -35,7 +35,7 @@ new_fits n1 = new_past Initiator n1
 pub starts : (n1 : ℕ) (v : Core) → v ≡ new_core n1 every_kind → Drained (replaying n1) v []
 starts n1 v e = subst (λ (x : Core). Drained (replaying n1) x []) (sym e) (record {
   stands = record {
-    setting = record { role_is = refl; n1_is = refl; listens_are = λ kind. (λ h. listens kind, λ h. refl) };
+    setting = record { role_is = refl; n1_is = refl; dialect_is = sym no_rules_standard; listens_are = λ kind. (λ h. listens kind, λ h. refl) };
     fits = record {
       hand_is = refl;
       lost_is = refl;

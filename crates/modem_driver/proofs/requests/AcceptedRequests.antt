@@ -33,7 +33,7 @@ use Rattle.modem_history.specs.Calls.{Setting, seen, asking, at_once, refused_as
 use Rattle.modem_driver.specs.Telling.{told_by, told_to, left_by}
 use Rattle.modem_driver.specs.ActLists.{ActList}
 use Rattle.modem_driver.specs.Refusals.{told_act}
-use Rattle.modem_driver.specs.Cores.{Core, Fits, Runs, RunsUnless, IsRun, MayCome, GoesOn, Handles, lane_at, may_wait, state_shown, probe_in}
+use Rattle.modem_driver.specs.Cores.{dialect_in, Core, Fits, Runs, RunsUnless, IsRun, MayCome, GoesOn, Handles, lane_at, may_wait, state_shown, probe_in}
 use Rattle.modem_history.proofs.requests.RequestsAfterCalls.{stays}
 use Rattle.modem_history.proofs.calls.CallEnds.{frames_in, now_in, now_is, ended, end_of}
 use Rattle.modem_history.proofs.requests.CommandsInStep.{left_in}
@@ -105,7 +105,7 @@ pub record Accepts (s : Setting) (v : Core) (past : List Act) (q : Request) (w :
   pub waits : may_wait (state_shown w false) q.ask ≡ true
   pub probe_is : probe_in (ended s past (Took q)) (left_by (told_by happened.Took e (state_shown w false)) v.hand ++ q ∷ []) ≡ w.probe
   pub offered_are : (d : ℕ) → d < 62 → (d == 0) ≡ false → is_open Initiator d (sent_after (asking s.role q.ask) (wire past)) ≡ true
-      → offered Initiator d acts_seen ≡ concat (texts (take (answered s.dialect (marks Initiator d past) + 1) (accepted Initiator d (Took q ∷ past))))
+      → offered Initiator d acts_seen ≡ concat (texts (take (answered (dialect_in v) (marks Initiator d past) + 1) (accepted Initiator d (Took q ∷ past))))
 
 -- the states that there are at the end of the call
 pub state_then : (s : Setting) (past : List Act) (q : Request) (fs : List Frame) (d : ℕ) → frames_in s past (Took q) ≡ fs → now_in s past (Took q) d ≡ state_of s.role d (sent_after fs (wire past))
@@ -152,12 +152,12 @@ accept_on s v past q w e live m a lost =
       lanes_fit = λ d b z o.
           let here : is_open Initiator d (sent_after fs (wire past)) ≡ true = ap (is_open Initiator d) (sym wires) ∙ o in
           let was = live.runs.lanes_fit d b z (all_was Initiator d fs (wire past) here) in
-          lane_on s past q d (lane_at v d) live.runs.seen a.acts_seen fs live.role_is framed here was (a.offered_are d b z here);
+          lane_on (dialect_in v) s past q d (lane_at v d) live.runs.seen a.acts_seen fs live.role_is framed here was (a.offered_are d b z here);
     } in
     let there : Fits new (ended s past (Took q)) = record { hand_is = hand; lost_is = lost_on s past (Took q) ∙ m.fits.lost_is; runs = subst (λ (b : Bool). RunsUnless b new (ended s past (Took q))) (sym lost) runs } in
     record {
       called = called;
-      setting = record { role_is = m.setting.role_is; n1_is = m.setting.n1_is ∙ sym (ap (λ (x : sending.StationSetting). x.n1) a.setting); listens_are = m.setting.listens_are };
+      setting = record { role_is = m.setting.role_is; n1_is = m.setting.n1_is ∙ sym (ap (λ (x : sending.StationSetting). x.n1) a.setting); dialect_is = m.setting.dialect_is; listens_are = m.setting.listens_are };
       fits = subst (λ (x : List Act). Fits new (after past x)) (sym called) there;
       run = subst (λ (x : List Act). IsRun s (after past x)) (sym called) (run_on s past (Took q) refl tt m.run m.numbers);
     }
@@ -193,7 +193,7 @@ unaccepted_by false false room acc more h = refl
 pub plain_offered : (s : Setting) (v : Core) (past : List Act) (q : Request) (c : station.Call) (fs : List Frame) (d : ℕ) → (live : Live s v past) → d < 62 → (d == 0) ≡ false
     → without_calls (sent_after fs (station.Called c ∷ live.runs.seen)) ≡ sent_after (asking s.role q.ask) (wire past) → is_open Initiator d (sent_after (asking s.role q.ask) (wire past)) ≡ true
     → octets_offered d (station.Called c) ≡ [] → command_on d q.ask ≡ false
-    → offered Initiator d (sent_after fs (station.Called c ∷ live.runs.seen)) ≡ concat (texts (take (answered s.dialect (marks Initiator d past) + 1) (accepted Initiator d (Took q ∷ past))))
+    → offered Initiator d (sent_after fs (station.Called c ∷ live.runs.seen)) ≡ concat (texts (take (answered (dialect_in v) (marks Initiator d past) + 1) (accepted Initiator d (Took q ∷ past))))
 plain_offered s v past q c fs d live b z same o none off =
     let before = live.runs.seen in
     let here : is_open Initiator d (sent_after fs (station.Called c ∷ before)) ≡ true = open_plain Initiator d (sent_after fs (station.Called c ∷ before)) ∙ (ap (is_open Initiator d) same ∙ o) in
@@ -204,7 +204,7 @@ plain_offered s v past q c fs d live b z same o none off =
     ∙ (ap (λ (x : List ℕ). offered Initiator d before ++ x) none
     ∙ (append-nil (offered Initiator d before)
     ∙ (lane.offered_is
-    ∙ ap (λ (qs : List Request). concat (texts (take (answered s.dialect (marks Initiator d past) + 1) qs)))
+    ∙ ap (λ (qs : List Request). concat (texts (take (answered (dialect_in v) (marks Initiator d past) + 1) qs)))
     (sym (unaccepted_by (is_open Initiator d (wire past)) (command_on d q.ask) (nat_lt (length (in_hand past)) 128) (accepted Initiator d past) (accepted Initiator d past ++ q ∷ []) off))))))
 
 -- ## The acts as they are put together

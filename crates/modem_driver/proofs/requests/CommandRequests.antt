@@ -27,6 +27,7 @@ use Rattle.mux_station.specs.Traces.{without_calls}
 use Rattle.mux_station.proofs.states.OpenedStates.{opened_is_open}
 use Rattle.mux_station.proofs.states.StatesAfterActs.{since_goes_on}
 use Rattle.mux_station.proofs.user_calls.CallFrames.{state_called, opens_called, probe_called}
+use Rattle.at_text.specs.Dialects.{Dialect}
 use Rattle.at_text.specs.Windows.{answered}
 use Rattle.at_text.specs.declared.error.TextError.TheVariants.{TooLong, BadOctet, NoAt}
 use Rattle.at_text.specs.Commands.{refusal_of, has_at, is_printable}
@@ -44,7 +45,7 @@ use Rattle.modem_history.specs.Requests.{commands_on}
 use Rattle.modem_history.specs.Wholes.{commands_for, InStep}
 use Rattle.modem_driver.specs.Refusals.{told_act}
 use Rattle.modem_driver.specs.Offers.{refused_command, TakesLine, Enters, OffersFirstCommand}
-use Rattle.modem_driver.specs.Cores.{Core, MayCome, Handles, may_wait, shows_opened as channel_opened, state_shown, probe_in}
+use Rattle.modem_driver.specs.Cores.{dialect_in, Core, MayCome, Handles, may_wait, shows_opened as channel_opened, state_shown, probe_in}
 use Rattle.modem_history.proofs.calls.CallEnds.{now_in, ended}
 use Rattle.modem_driver.proofs.cores.UnchangedParts.{open_plain, called_was, offered_called, is_probe, probe_more}
 use Rattle.modem_driver.proofs.requests.TakenRequests.{Live, AllWait, none_told, all_left, asked_frames, probe_kept}
@@ -177,15 +178,15 @@ pub record Reaches (s : Setting) (v : Core) (past : List Act) (q : Request) (w :
   pub states : (e : ℕ) → e < 62 → (channel_at w e).state ≡ (channel_at v.station e).state
   pub probe : w.probe ≡ v.station.probe
   pub offered_are : (e : ℕ) → e < 62 → (e == 0) ≡ false → is_open Initiator e (wire past) ≡ true
-      → offered Initiator e acts_seen ≡ concat (texts (take (answered s.dialect (marks Initiator e past) + 1) (accepted Initiator e (Took q ∷ past))))
+      → offered Initiator e acts_seen ≡ concat (texts (take (answered (dialect_in v) (marks Initiator e past) + 1) (accepted Initiator e (Took q ∷ past))))
 
 -- ## Another command is in hand
 
 waits_so : (s : Setting) (v : Core) (past : List Act) (q : Request) (d : Dlci) → (l : Live s v past) → MayCome s v past (Took q) → length v.hand < 128 → q.ask ≡ Command d (line_of q)
     → list_any (commands_on d.number) v.hand ≡ true → (e : ℕ) → e < 62 → (e == 0) ≡ false → is_open Initiator e (wire past) ≡ true → (b : Bool) → (d.number == e) ≡ b
-    → offered Initiator e l.runs.seen ≡ concat (texts (take (answered s.dialect (marks Initiator e past) + 1) (accepted Initiator e (Took q ∷ past))))
+    → offered Initiator e l.runs.seen ≡ concat (texts (take (answered (dialect_in v) (marks Initiator e past) + 1) (accepted Initiator e (Took q ∷ past))))
 waits_so s v past q d l m few asks any e b z o false k =
-    (l.runs.lanes_fit e b z o).offered_is ∙ ap (λ (qs : List Request). concat (texts (take (answered s.dialect (marks Initiator e past) + 1) qs))) (sym (accepted_beside past q d e asks k))
+    (l.runs.lanes_fit e b z o).offered_is ∙ ap (λ (qs : List Request). concat (texts (take (answered (dialect_in v) (marks Initiator e past) + 1) qs))) (sym (accepted_beside past q d e asks k))
 waits_so s v past q d l m few asks any e b z o true k =
     let n = d.number in
     let place : n ≡ e = eqb-true n e k in
@@ -195,11 +196,11 @@ waits_so s v past q d l m few asks any e b z o true k =
     let acc = accepted Initiator e past in
     let count : length acc ≡ length i.before + length (commands_for e (in_hand past))
     = ap (λ (r : Role). length (accepted r e past)) (sym l.role_is) ∙ (ap length i.accepted_are ∙ length-append i.before (commands_for e (in_hand past))) in
-    let whole : answered s.dialect (marks Initiator e past) ≡ length i.before = ap (λ (r : Role). answered s.dialect (marks r e past)) (sym l.role_is) ∙ i.answered_are in
+    let whole : answered (dialect_in v) (marks Initiator e past) ≡ length i.before = ap (λ (r : Role). answered (dialect_in v) (marks r e past)) (sym l.role_is) ∙ (ap (λ (c : Dialect). answered c (marks s.role e past)) (sym l.dialect_is) ∙ i.answered_are) in
     let more : accepted Initiator e (Took q ∷ past) ≡ acc ++ q ∷ []
     = subst (λ (x : ℕ). accepted Initiator x (Took q ∷ past) ≡ accepted Initiator x past ++ q ∷ []) place (accepted_here s v past q d l few asks (ap (λ (x : ℕ). is_open Initiator x (wire past)) place ∙ o)) in
     (l.runs.lanes_fit e b z o).offered_is
-    ∙ ap (λ (qs : List Request). concat (texts qs)) (sym (ap (take (answered s.dialect (marks Initiator e past) + 1)) more ∙ take-append-le (answered s.dialect (marks Initiator e past) + 1) acc (q ∷ []) (omega (arith, some, count, whole))))
+    ∙ ap (λ (qs : List Request). concat (texts qs)) (sym (ap (take (answered (dialect_in v) (marks Initiator e past) + 1)) more ∙ take-append-le (answered (dialect_in v) (marks Initiator e past) + 1) acc (q ∷ []) (omega (arith, some, count, whole))))
 
 waits_reaches : (s : Setting) (v : Core) (past : List Act) (q : Request) (d : Dlci) → Live s v past → MayCome s v past (Took q) → length v.hand < 128 → q.ask ≡ Command d (line_of q)
     → list_any (commands_on d.number) v.hand ≡ true → Reaches s v past q v.station
@@ -259,7 +260,7 @@ offered_both e n text x o =
 
 enters_so : (s : Setting) (v : Core) (past : List Act) (q : Request) (d : Dlci) → (l : Live s v past) → MayCome s v past (Took q) → length v.hand < 128 → q.ask ≡ Command d (line_of q)
     → list_any (commands_on d.number) v.hand ≡ false → (e : ℕ) → e < 62 → (e == 0) ≡ false → is_open Initiator e (wire past) ≡ true → (b : Bool) → (d.number == e) ≡ b
-    → offered Initiator e (Called (Offer d.number (13 ∷ [])) ∷ Called (Offer d.number (line_of q)) ∷ l.runs.seen) ≡ concat (texts (take (answered s.dialect (marks Initiator e past) + 1) (accepted Initiator e (Took q ∷ past))))
+    → offered Initiator e (Called (Offer d.number (13 ∷ [])) ∷ Called (Offer d.number (line_of q)) ∷ l.runs.seen) ≡ concat (texts (take (answered (dialect_in v) (marks Initiator e past) + 1) (accepted Initiator e (Took q ∷ past))))
 enters_so s v past q d l m few asks any e b z o false k =
     let n = d.number in
     let text = line_of q in
@@ -269,7 +270,7 @@ enters_so s v past q d l m few asks any e b z o false k =
     offered_both e n text l.runs.seen here
     ∙ (ap (λ (x : Bool). (before ++ (if x then text else [])) ++ (if x then 13 ∷ [] else [])) k
     ∙ (append-nil (before ++ []) ∙ (append-nil before
-    ∙ ((l.runs.lanes_fit e b z o).offered_is ∙ ap (λ (qs : List Request). concat (texts (take (answered s.dialect (marks Initiator e past) + 1) qs))) (sym (accepted_beside past q d e asks k))))))
+    ∙ ((l.runs.lanes_fit e b z o).offered_is ∙ ap (λ (qs : List Request). concat (texts (take (answered (dialect_in v) (marks Initiator e past) + 1) qs))) (sym (accepted_beside past q d e asks k))))))
 enters_so s v past q d l m few asks any e b z o true k =
     let n = d.number in
     let text = line_of q in
@@ -283,12 +284,12 @@ enters_so s v past q d l m few asks any e b z o true k =
     let acc = accepted Initiator e past in
     let count : length acc ≡ length i.before
     = ap (λ (r : Role). length (accepted r e past)) (sym l.role_is) ∙ (ap length i.accepted_are ∙ (ap (λ (rs : List Request). length (i.before ++ rs)) none ∙ ap length (append-nil i.before))) in
-    let whole : answered s.dialect (marks Initiator e past) ≡ length i.before = ap (λ (r : Role). answered s.dialect (marks r e past)) (sym l.role_is) ∙ i.answered_are in
+    let whole : answered (dialect_in v) (marks Initiator e past) ≡ length i.before = ap (λ (r : Role). answered (dialect_in v) (marks r e past)) (sym l.role_is) ∙ (ap (λ (c : Dialect). answered c (marks s.role e past)) (sym l.dialect_is) ∙ i.answered_are) in
     let more : accepted Initiator e (Took q ∷ past) ≡ acc ++ q ∷ []
     = subst (λ (x : ℕ). accepted Initiator x (Took q ∷ past) ≡ accepted Initiator x past ++ q ∷ []) place (accepted_here s v past q d l few asks (ap (λ (x : ℕ). is_open Initiator x (wire past)) place ∙ o)) in
-    let all : take (answered s.dialect (marks Initiator e past) + 1) (accepted Initiator e (Took q ∷ past)) ≡ acc ++ q ∷ []
-    = ap (take (answered s.dialect (marks Initiator e past) + 1)) more ∙ take_all (answered s.dialect (marks Initiator e past) + 1) (acc ++ q ∷ []) (let a = length-append acc (q ∷ []) in omega (arith, a, count, whole)) in
-    let old : before ≡ concat (texts acc) = (l.runs.lanes_fit e b z o).offered_is ∙ ap (λ (qs : List Request). concat (texts qs)) (take_all (answered s.dialect (marks Initiator e past) + 1) acc (omega (arith, count, whole))) in
+    let all : take (answered (dialect_in v) (marks Initiator e past) + 1) (accepted Initiator e (Took q ∷ past)) ≡ acc ++ q ∷ []
+    = ap (take (answered (dialect_in v) (marks Initiator e past) + 1)) more ∙ take_all (answered (dialect_in v) (marks Initiator e past) + 1) (acc ++ q ∷ []) (let a = length-append acc (q ∷ []) in omega (arith, a, count, whole)) in
+    let old : before ≡ concat (texts acc) = (l.runs.lanes_fit e b z o).offered_is ∙ ap (λ (qs : List Request). concat (texts qs)) (take_all (answered (dialect_in v) (marks Initiator e past) + 1) acc (omega (arith, count, whole))) in
     offered_both e n text l.runs.seen here
     ∙ (ap (λ (x : Bool). (before ++ (if x then text else [])) ++ (if x then 13 ∷ [] else [])) k
     ∙ (append_assoc before text (13 ∷ [])

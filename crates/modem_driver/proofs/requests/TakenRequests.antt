@@ -5,6 +5,7 @@ use Rattle.std.proofs.Common.{ap, sym, ◌∙◌, subst, append-nil}
 use Rattle.std.proofs.lemmas.Bool.{and_parts, and_from}
 use Rattle.std.proofs.lemmas.List.Folds.{list_all-append}
 use Rattle.mux_frame.specs.Frames.{Frame}
+use Rattle.at_text.specs.Dialects.{Dialect}
 use Rattle.at_text.specs.Lines.{kept_run}
 use Rattle.at_text.specs.Windows.{answered}
 use Rattle.at_text.specs.OpenWindow.{FitsMarks}
@@ -34,7 +35,7 @@ use Rattle.modem_driver.specs.Telling.{told_by, said_to, told_to, left_by}
 use Rattle.modem_history.specs.Requests.{is_apart, are_distinct}
 use Rattle.modem_history.specs.Wholes.{taken_requests}
 use Rattle.modem_driver.specs.Lanes.{Lane}
-use Rattle.modem_driver.specs.Cores.{Core, Fits, Runs, RunsUnless, LaneFits, IsRun, MayCome, GoesOn, lane_at, may_wait, state_shown, probe_in}
+use Rattle.modem_driver.specs.Cores.{dialect_in, Core, Fits, Runs, RunsUnless, LaneFits, IsRun, MayCome, GoesOn, lane_at, may_wait, state_shown, probe_in}
 use Rattle.modem_history.proofs.calls.CalledActs.{calls_said}
 use Rattle.modem_history.proofs.requests.RequestsInHand.{all_swap_back}
 use Rattle.modem_history.proofs.requests.StepsOfHistory.{few_once, few_hand, distinct_few}
@@ -55,6 +56,7 @@ pub record Live (s : Setting) (v : Core) (past : List Act) : Type 0 where
   pub role_is : s.role ≡ Initiator
   pub same_role : s.role ≡ v.station.role
   pub n1_is : s.n1 ≡ v.station.n1
+  pub dialect_is : s.dialect ≡ dialect_in v
   pub states_are : (d : ℕ) → d < 62 → state_of s.role d (wire past) ≡ (channel_at v.station d).state
   pub queued_is : octets_of (queue (wire past)) ≡ octets_of v.station.queue
   pub lost_is : is_lost past ≡ false
@@ -69,6 +71,7 @@ live_of s v past a e l m =
       role_is = m.setting.role_is;
       same_role = role;
       n1_is = m.setting.n1_is;
+      dialect_is = m.setting.dialect_is;
       states_are = λ d b. sym (state_seen s.role d r.seen past r.same) ∙ (ap (λ (x : Role). state_of x d r.seen) role ∙ (r.fits.channels_are d b).state_is);
       queued_is = ap octets_of (sym (queue_seen r.seen past r.same) ∙ r.fits.queue_is);
       lost_is = m.fits.lost_is ∙ l;
@@ -252,20 +255,20 @@ probe_kept s v past q m =
 -- ## Lanes
 
 -- an open connection goes on
-pub lane_on : (s : Setting) (past : List Act) (q : Request) (d : ℕ) (lane : Lane) (old new : List station.Act) (fs : List Frame) → s.role ≡ Initiator → frames_in s past (Took q) ≡ fs
+pub lane_on : (dialect : Dialect) (s : Setting) (past : List Act) (q : Request) (d : ℕ) (lane : Lane) (old new : List station.Act) (fs : List Frame) → s.role ≡ Initiator → frames_in s past (Took q) ≡ fs
     → is_open Initiator d (sent_after fs (wire past)) ≡ true
-    → LaneFits s.dialect d old past lane → offered Initiator d new ≡ concat (texts (take (answered s.dialect (marks Initiator d past) + 1) (accepted Initiator d (Took q ∷ past))))
-    → LaneFits s.dialect d new (ended s past (Took q)) lane
-lane_on s past q d lane old new fs r f o l h =
+    → LaneFits dialect d old past lane → offered Initiator d new ≡ concat (texts (take (answered dialect (marks Initiator d past) + 1) (accepted Initiator d (Took q ∷ past))))
+    → LaneFits dialect d new (ended s past (Took q)) lane
+lane_on dialect s past q d lane old new fs r f o l h =
     let e = end_of s past (Took q) d in
     let wires : wire (ended s past (Took q)) ≡ sent_after fs (wire past) = e.wire_is ∙ (ap (λ (gs : List Frame). wire (after (Took q ∷ past) (map Sent gs))) f ∙ wire_sent fs (Took q ∷ past)) in
     let marked : marks Initiator d (ended s past (Took q)) ≡ marks Initiator d past = subst (λ (x : Role). marks x d (ended s past (Took q)) ≡ marks x d past) r e.marks_are in
     let taken_on : accepted Initiator d (ended s past (Took q)) ≡ accepted Initiator d (Took q ∷ past) = subst (λ (x : Role). accepted x d (ended s past (Took q)) ≡ accepted x d (Took q ∷ past)) r e.accepted_is in
     record {
       kept_is = ap (λ (w : List station.Act). kept_run (info_got d (since Initiator d w))) wires ∙ (ap kept_run (info_same Initiator d fs (wire past) o) ∙ l.kept_is);
-      window_fits = subst (FitsMarks s.dialect lane.window) (sym marked) l.window_fits;
-      offered_is = h ∙ (ap (λ (n : ℕ). concat (texts (take (n + 1) (accepted Initiator d (Took q ∷ past))))) (ap (answered s.dialect) (sym marked))
-          ∙ ap (λ (qs : List Request). concat (texts (take (answered s.dialect (marks Initiator d (ended s past (Took q))) + 1) qs))) (sym taken_on));
+      window_fits = subst (FitsMarks dialect lane.window) (sym marked) l.window_fits;
+      offered_is = h ∙ (ap (λ (n : ℕ). concat (texts (take (n + 1) (accepted Initiator d (Took q ∷ past))))) (ap (answered dialect) (sym marked))
+          ∙ ap (λ (qs : List Request). concat (texts (take (answered dialect (marks Initiator d (ended s past (Took q))) + 1) qs))) (sym taken_on));
     }
 
 not_more : {X : Type 0} → (io on full : Bool) (o : Option Answer) (why : Answer) (acc more : X) → o ≡ Some why → (on ≡ true → o ≡ (if full then Some Busy else None)) → (if io && (on && not full) then more else acc) ≡ acc
@@ -356,7 +359,7 @@ once_live s v past q why e l m h =
           let open_there : is_open s.role d (wire past) ≡ true = ap (λ (x : Role). is_open x d (wire past)) live.role_is ∙ was in
           let same : accepted Initiator d (Took q ∷ past) ≡ accepted Initiator d past
           = subst (λ (x : Role). accepted x d (Took q ∷ past) ≡ accepted x d past) live.role_is (once_unaccepted s v past q why d live z open_there h) in
-          lane_on s past q d (lane_at v d) r.seen r.seen [] live.role_is none was l (l.offered_is ∙ ap (λ (qs : List Request). concat (texts (take (answered s.dialect (marks Initiator d past) + 1) qs))) (sym same));
+          lane_on (dialect_in v) s past q d (lane_at v d) r.seen r.seen [] live.role_is none was l (l.offered_is ∙ ap (λ (qs : List Request). concat (texts (take (answered (dialect_in v) (marks Initiator d past) + 1) qs))) (sym same));
     } in
     once_by s v past q why m h (all_quiet s past q (state_shown v.station false) shown v.hand r.waits) (subst (λ (b : Bool). RunsUnless b v (ended s past (Took q))) (sym l) runs)
 

@@ -32,7 +32,7 @@ is_lost_session at = record {
     heard = record { each = λ i k at. record { since = []; announced_are = refl; lines_are = refl }; listened = refl; in_order = refl; nowhere_else = λ i far. refl };
   };
   inside = record {
-    setting = record { role_is = refl; n1_is = refl; listens_are = λ kind. (listened_in [] kind, in_listened [] kind) };
+    setting = record { role_is = refl; n1_is = refl; dialect_is = sym no_rules_standard; listens_are = λ kind. (listened_in [] kind, in_listened [] kind) };
     fits = record { hand_is = refl; lost_is = refl; runs = refl };
     holds = record { held_are = λ d small own asked. never asked };
     kinds_are = refl;

@@ -39,7 +39,7 @@ use Rattle.modem_history.specs.Placing.{marks}
 use Rattle.modem_history.specs.Calls.{Setting, HistoryView, seen, asks_probe, is_lost, ticks_since, calls, later, told_later, tolds}
 use Rattle.modem_driver.specs.Telling.{stop_told, told_by, told_to, left_by}
 use Rattle.modem_driver.specs.Ticked.{queued_from, asking_from, is_probe_given}
-use Rattle.modem_driver.specs.Cores.{Core, Fits, Runs, RunsUnless, LaneFits, IsRun, MayCome, GoesOn, Handles, lane_at, may_wait, state_shown, probe_or, probe_in}
+use Rattle.modem_driver.specs.Cores.{dialect_in, Core, Fits, Runs, RunsUnless, LaneFits, IsRun, MayCome, GoesOn, Handles, lane_at, may_wait, state_shown, probe_or, probe_in}
 use Rattle.modem_history.proofs.calls.CalledActs.{calls_said}
 use Rattle.modem_history.proofs.requests.RequestsAfterCalls.{stays}
 use Rattle.modem_history.proofs.calls.CallEnds.{frames_in, now_in, now_is, ended, end_of}
@@ -299,7 +299,7 @@ probe_then s v past w ups g e l t c = by_probe v.station.probe refl
 -- an open connection goes on
 tick_lane : (s : Setting) (v : Core) (past : List Act) (w : Station) (d : ℕ) → (l : Live s v past) → Comes s v past w l → wire (ended s past Tick) ≡ sent_after (tick_frames v.station) (station.Tick ∷ wire past)
     → without_calls (sent_after (tick_frames v.station) (station.Tick ∷ l.runs.seen)) ≡ sent_after (tick_frames v.station) (station.Tick ∷ wire past)
-    → d < 62 → (d == 0) ≡ false → is_open Initiator d (wire (ended s past Tick)) ≡ true → LaneFits s.dialect d (sent_after (tick_frames v.station) (station.Tick ∷ l.runs.seen)) (ended s past Tick) (lane_at v d)
+    → d < 62 → (d == 0) ≡ false → is_open Initiator d (wire (ended s past Tick)) ≡ true → LaneFits (dialect_in v) d (sent_after (tick_frames v.station) (station.Tick ∷ l.runs.seen)) (ended s past Tick) (lane_at v d)
 tick_lane s v past w d l c wires same b z o =
     let fs = tick_frames v.station in
     let e = end_of s past Tick d in
@@ -313,11 +313,11 @@ tick_lane s v past w d l c wires same b z o =
     record {
       kept_is = ap (λ (x : List station.Act). kept_run (info_got d (since Initiator d x))) wires
           ∙ (ap kept_run (info_same Initiator d fs (station.Tick ∷ wire past) here ∙ info_tick Initiator d (wire past) ticked) ∙ lane.kept_is);
-      window_fits = subst (FitsMarks s.dialect (lane_at v d).window) (sym marked) lane.window_fits;
+      window_fits = subst (FitsMarks (dialect_in v) (lane_at v d).window) (sym marked) lane.window_fits;
       offered_is = offered_same Initiator d fs (station.Tick ∷ l.runs.seen) there
           ∙ (offered_tick Initiator d l.runs.seen (all_was Initiator d fs (station.Tick ∷ l.runs.seen) there)
-          ∙ (lane.offered_is ∙ (ap (λ (n : ℕ). concat (texts (take (n + 1) (accepted Initiator d past)))) (ap (answered s.dialect) (sym marked))
-          ∙ ap (λ (qs : List Request). concat (texts (take (answered s.dialect (marks Initiator d (ended s past Tick)) + 1) qs))) (sym taken_on))));
+          ∙ (lane.offered_is ∙ (ap (λ (n : ℕ). concat (texts (take (n + 1) (accepted Initiator d past)))) (ap (answered (dialect_in v)) (sym marked))
+          ∙ ap (λ (qs : List Request). concat (texts (take (answered (dialect_in v) (marks Initiator d (ended s past Tick)) + 1) qs))) (sym taken_on))));
     }
 
 tick_on : (s : Setting) (v : Core) (past : List Act) (w : Station) (ups : List GivenUp) (g e : Bool) → (l : Live s v past) → MayCome s v past Tick → Ticks v w ups g e → v.lost ≡ false
@@ -366,7 +366,7 @@ tick_on s v past w ups g e l m t lost =
     let there : Fits new (ended s past Tick) = record { hand_is = hand; lost_is = lost_on s past Tick ∙ m.fits.lost_is; runs = subst (λ (b : Bool). RunsUnless b new (ended s past Tick)) (sym lost) runs } in
     record {
       called = called;
-      setting = record { role_is = m.setting.role_is; n1_is = m.setting.n1_is ∙ sym (ap (λ (x : sending.StationSetting). x.n1) t.goes_on.setting); listens_are = m.setting.listens_are };
+      setting = record { role_is = m.setting.role_is; n1_is = m.setting.n1_is ∙ sym (ap (λ (x : sending.StationSetting). x.n1) t.goes_on.setting); dialect_is = m.setting.dialect_is; listens_are = m.setting.listens_are };
       fits = subst (λ (x : List Act). Fits new (after past x)) (sym called) there;
       run = subst (λ (x : List Act). IsRun s (after past x)) (sym called) (goes_on s past Tick refl tt m.run m.numbers);
     }

@@ -380,7 +380,7 @@ looks_at_no_backlog_seems =
     let lines = replicate 256 ring in
     let t : Exchange = record (exchanged (offers last_flag 1) None) { still_heard = lines; heard_back = ring ∷ [] } in
     seems row t (turn_by row.old row.new t (after [] row.before) row.acts row.says refl refl refl refl (lit≤ tt) (all_offered _ _ (lit≤ tt) (lit≤ tt) refl)
-    (record { outcomes = λ c. refl; lines = of_kinds (λ k. of_kind k (ring ∷ []) ≡ take 1 (of_kind k lines)) (record { ring = refl; cring = refl; creg = refl; cgreg = refl; cgev = refl; ciev = refl; other = refl }) }) refl tt)
+    (record { outcomes = λ c. refl; lines = of_kinds (λ k. of_kind k (ring ∷ []) ≡ take 1 (of_kind k lines)) (record { ring = refl; cring = refl; creg = refl; cgreg = refl; cgev = refl; ciev = refl; other = refl; own = λ number. refl }) }) refl tt)
 
 puts_half_seems : SeemsATurn puts_half
 puts_half_seems =

@@ -213,7 +213,7 @@ ring_waits_turn = record {
   fitted = ring_waits_right;
   fits = still_fits 41 _ (after [] ring_came) ring_waits_right;
   turn = turn_by blocked_by_ring.old blocked_by_ring.new (lines_back (ring ∷ [])) (after [] blocked_by_ring.before) blocked_by_ring.acts blocked_by_ring.says refl refl refl refl (lit≤ tt)
-      refl (record { outcomes = λ c. refl; lines = of_kinds (λ k. of_kind k (ring ∷ []) ≡ take 1 (of_kind k (ring ∷ []))) (record { ring = refl; cring = refl; creg = refl; cgreg = refl; cgev = refl; ciev = refl; other = refl }) }) refl (record {
+      refl (record { outcomes = λ c. refl; lines = of_kinds (λ k. of_kind k (ring ∷ []) ≡ take 1 (of_kind k (ring ∷ []))) (record { ring = refl; cring = refl; creg = refl; cgreg = refl; cgev = refl; ciev = refl; other = refl; own = λ number. refl }) }) refl (record {
         written = refl;
         placed = refl;
         line = ring;
@@ -238,7 +238,7 @@ both_wait_right = record {
   fitted = two_lines_right;
   fits = still_fits 41 _ (after [] both_came) two_lines_right;
   turn = turn_by blocked_by_the_first.old blocked_by_the_first.new (lines_back (creg ∷ ring ∷ [])) (after [] blocked_by_the_first.before) blocked_by_the_first.acts blocked_by_the_first.says refl refl refl refl (lit≤ tt)
-      refl (record { outcomes = λ c. refl; lines = of_kinds (λ k. of_kind k (creg ∷ ring ∷ []) ≡ take 1 (of_kind k (creg ∷ ring ∷ []))) (record { ring = refl; cring = refl; creg = refl; cgreg = refl; cgev = refl; ciev = refl; other = refl }) }) refl (record {
+      refl (record { outcomes = λ c. refl; lines = of_kinds (λ k. of_kind k (creg ∷ ring ∷ []) ≡ take 1 (of_kind k (creg ∷ ring ∷ []))) (record { ring = refl; cring = refl; creg = refl; cgreg = refl; cgev = refl; ciev = refl; other = refl; own = λ number. refl }) }) refl (record {
         written = refl;
         placed = refl;
         line = creg;

@@ -16,7 +16,7 @@ use Rattle.mux_station.specs.Sending.{queue}
 use Rattle.at_text.specs.Windows.{answered}
 use Rattle.at_text.specs.declared.answer.AnswerLine.{AnswerLine}
 use Rattle.at_text.specs.declared.unsolicited.UrcKind.{UrcKind}
-use Rattle.at_text.specs.declared.unsolicited.UrcKind.TheVariants.{Ring, Cring, Creg, Cgreg, Cgev, Ciev, Other}
+use Rattle.at_text.specs.declared.unsolicited.UrcKind.TheVariants.{Ring, Cring, Creg, Cgreg, Cgev, Ciev, Other, Own}
 use Rattle.modem_desk.specs.declared.request.Answer.{Answer}
 use Rattle.modem_desk.specs.declared.request.Answer.TheVariants.{Done, Opened, Shut, ProbeBack, Stopped, NotOpen, AlreadyOpen, Refused, NoAnswer, Closed, ControlChannel, LineLost, Busy}
 use Rattle.modem_history.specs.Acts.{Act, Took, Got, Sent, Told, Heard, Tick, Lost, Held, Freed, Given, after, wire}
@@ -246,6 +246,7 @@ kind_code Cgreg = 3
 kind_code Cgev = 4
 kind_code Ciev = 5
 kind_code Other = 6
+kind_code (Own number) = 7 + number
 
 -- numbers of an act that may be owed
 abbrev pub act_code : Act → List ℕ

@@ -5,7 +5,7 @@ use Rattle.std.specs.List.{list_all}
 use Rattle.std.proofs.lemmas.Bool.{and_parts, eqb-false, ltb-true, leb-true}
 use Rattle.mux_station.specs.declared.role.Role.TheVariants.{Initiator}
 use Rattle.at_text.specs.declared.unsolicited.UrcKind.{UrcKind}
-use Rattle.at_text.specs.declared.unsolicited.UrcKind.TheVariants.{Ring, Cring, Creg, Cgreg, Cgev, Ciev, Other}
+use Rattle.at_text.specs.declared.unsolicited.UrcKind.TheVariants.{Ring, Cring, Creg, Cgreg, Cgev, Ciev, Other, Own}
 use Rattle.modem_desk.specs.declared.request.Request.{Request}
 use Rattle.modem_desk.specs.declared.request.Outcome.{Outcome}
 use Rattle.modem_desk.specs.declared.request.Urc.{Urc}
@@ -27,6 +27,7 @@ pub record OfKinds (P : UrcKind → Type 0) : Type 0 where
   pub cgev : P Cgev
   pub ciev : P Ciev
   pub other : P Other
+  pub own : (number : ℕ) → P (Own number)
 
 pub of_kinds : (P : UrcKind → Type 0) → OfKinds P → (k : UrcKind) → P k
 of_kinds P h Ring = h.ring
@@ -36,6 +37,7 @@ of_kinds P h Cgreg = h.cgreg
 of_kinds P h Cgev = h.cgev
 of_kinds P h Ciev = h.ciev
 of_kinds P h Other = h.other
+of_kinds P h (Own number) = h.own number
 
 one_taken : (b : Bool) (o : Outcome) → (if b then o ∷ [] else []) ≡ take 1 (if b then o ∷ [] else [])
 one_taken true o = refl
