@@ -4,3 +4,4 @@ pub mod ShortNumbers
 pub mod Commas
 pub mod lines
 pub mod windows
+pub mod dialects
