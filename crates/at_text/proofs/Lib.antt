@@ -5,3 +5,4 @@ pub mod Commas
 pub mod NoRules
 pub mod lines
 pub mod windows
+pub mod dialects

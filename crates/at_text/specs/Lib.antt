@@ -5,7 +5,9 @@ pub mod Finals
 pub mod Unsolicited
 pub mod Dialects
 pub mod Rules
+pub mod StandardRules
 pub mod Refusals
+pub mod Deciding
 pub mod Commands
 pub mod Windows
 pub mod Seeing

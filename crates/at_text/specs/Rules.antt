@@ -35,6 +35,9 @@ takes p line = starts_with nat_eq line p.text && goes_on p.form (drop (length p.
 abbrev pub pattern : Form → List ℕ → Pattern
 pattern form text = record { form = form; text = text }
 
+abbrev pub urc : ℕ → List ℕ → Pattern → Urc
+urc kind name p = record { kind = kind; name = name; pattern = p }
+
 -- the rules of one's own: which lines end an answer, and which are unsolicited
 pub record Rules : Type 0 where
   pub finals : List Pattern
@@ -90,6 +93,4 @@ pub data Rule : Type 0 where
 abbrev pub with_rule : Rules → Rule → Rules
 with_rule rules (FinalRule form text) = record rules { finals = rules.finals ++ pattern form text ∷ [] }
 with_rule rules (UrcRule form text name) =
-    record rules {
-      urcs = rules.urcs ++ record { kind = kind_named rules name; name = name; pattern = pattern form text } ∷ []
-    }
+    record rules { urcs = rules.urcs ++ urc (kind_named rules name) name (pattern form text) ∷ [] }

@@ -3,6 +3,7 @@
 
 mod answer;
 mod command;
+mod dialect;
 mod dialect_error;
 mod error;
 mod finals;
@@ -16,6 +17,7 @@ mod window;
 
 pub use answer::{AnswerLine, AnswerLines};
 pub use command::CommandLine;
+pub use dialect::Dialect;
 pub use dialect_error::DialectError;
 pub use error::TextError;
 pub use finals::{Final, final_of};

@@ -1,12 +1,22 @@
 //! Rules of lines: a form and a text.
-ghost use Rattle.std.specs.Prelude.{◌≡◌, IfOk};
+ghost use Rattle.std.specs.Prelude.{◌≡◌, ◌≤◌, ◌+◌, [], ◌∷◌, ◌++◌, length, OnOk, OnErr, option_copied};
+ghost use Rattle.std.specs.List.{list_any, find, position, position_or_len};
+ghost use Rattle.std.specs.Str.{bytes_eq};
 ghost use Rattle.at_text.specs.Octets.{is_digit, skip_blanks, begins};
-ghost use Rattle.at_text.specs.Rules.{goes_on, takes, pattern, is_without_number};
+ghost use Rattle.at_text.specs.Rules.{goes_on, takes, pattern, urc, is_without_number};
+ghost use Rattle.at_text.specs.Deciding.{lent, both_take, can_meet};
 
 use crate::octets::skip_blanks;
 use crate::text::Text;
 use crate::unsolicited::{behind_comma, is_without_second};
-use std::alloc::{AllocError, Global};
+use arrayvec::ArrayVec;
+use std::alloc::AllocError;
+
+/// How many octets the text of a rule has at most.
+pub(crate) const TEXT_LEN: usize = 64;
+
+/// How many octets a text and an ending have at most.
+const LINE_LEN: usize = TEXT_LEN + 1;
 
 /// Which lines with a rule's text at their front are lines of the rule.
 #[derive(Clone, Copy, PartialEq, Eq, Debug)]
@@ -40,14 +50,61 @@ impl Form {
     }
 }
 
-/// The lines of a rule.
+/// The lines of a rule: those with this text at their front that go on as the form says.
+#[derive(Clone, Copy, Debug)]
+pub(crate) struct PatternRef<'a> {
+    pub form: Form,
+    pub text: &'a [u8],
+}
+
+impl PatternRef<'_> {
+    /// Whether it is a line of the rule.
+    pub(crate) fn takes(self, line: &[u8]) -> bool
+        ensures { result ≡ takes (lent self.entry) line.now }
+    {
+        match line.strip_prefix(self.text) {
+            Some(rest) => self.form.goes_on(rest),
+            None => false,
+        }
+    }
+
+    #[tactic(auto, unfolding(crate::specs::Deciding::can_meet))]
+    /// Whether some line is of both rules, where their texts are short: the longer text is, or it with a quote or
+    /// a digit behind it.
+    pub(crate) fn meets(self, other: PatternRef<'_>) -> bool
+        ensures { result ≡ can_meet (lent self.entry) (lent other.entry) }
+    {
+        if self.text.len() > TEXT_LEN || other.text.len() > TEXT_LEN {
+            return false;
+        }
+        let longer = if self.text.len() < other.text.len() {
+            other.text
+        } else {
+            self.text
+        };
+        self.shares(other, longer, b"") || self.shares(other, longer, b"\"") || self.shares(other, longer, b"0")
+    }
+
+    /// Whether this text with this ending is a line of both rules.
+    fn shares(self, other: PatternRef<'_>, text: &[u8], ending: &[u8]) -> bool
+        requires { length text.now + length ending.now ≤ 65 }
+        ensures { result ≡ both_take (lent self.entry) (lent other.entry) (text.now ++ ending.now) }
+    {
+        let mut line = ArrayVec::<u8, LINE_LEN>::new();
+        let _ = line.try_extend_from_slice(text);
+        let _ = line.try_extend_from_slice(ending);
+        self.takes(line.as_slice()) && other.takes(line.as_slice())
+    }
+}
+
+/// The lines of a rule, in memory of its own.
 #[derive(Drop, Debug)]
 pub(crate) struct Pattern {
     pub form: Form,
     pub text: Text,
 }
 
-/// A rule of unsolicited lines, the name of their kind and its number.
+/// A rule of unsolicited lines, with the name and the number of their kind.
 #[derive(Drop, Debug)]
 pub(crate) struct Urc {
     pub kind: u8,
@@ -56,28 +113,94 @@ pub(crate) struct Urc {
 }
 
 impl Pattern {
-    pub(crate) fn new(alloc: Global, form: Form, text: &[u8]) -> Result<Pattern, AllocError>
-        ensures { IfOk result (λ p. p ≡ pattern form text.now) }
+    pub(crate) fn lend(&self) -> PatternRef<'_>
+        ensures { lent result ≡ self.now }
     {
-        let text = Text::from(Vec::from_slice(alloc, text)?);
-        Ok(Pattern { form, text })
+        PatternRef {
+            form: self.form,
+            text: self.text.as_slice(),
+        }
     }
 
+    /// Whether it is a line of the rule.
     pub(crate) fn takes(&self, line: &[u8]) -> bool
         ensures { result ≡ takes self.now line.now }
     {
-        takes(self.form, self.text.as_slice(), line)
+        self.lend().takes(line)
+    }
+
+    /// Whether some line is of both rules, where their texts are short.
+    pub(crate) fn meets(&self, other: PatternRef<'_>) -> bool
+        ensures { result ≡ can_meet (lent other.entry) self.now }
+    {
+        other.meets(self.lend())
     }
 }
 
-/// Whether it is a line of the rule of this form and text.
-pub(crate) fn takes(form: Form, text: &[u8], line: &[u8]) -> bool
-    ensures { result ≡ takes (pattern form text.now) line.now }
+/// One more rule behind these. Want of memory leaves them as they were.
+pub(crate) fn push_pattern(patterns: &mut Vec<Pattern>, form: Form, text: &[u8]) -> Result<(), AllocError>
+    ensures ok { OnOk result (patterns.new.items ≡ patterns.old.items ++ pattern form text.now ∷ []) }
+    ensures err { OnErr result (patterns.new.items ≡ patterns.old.items) }
 {
-    match line.strip_prefix(text) {
-        Some(rest) => form.goes_on(rest),
-        None => false,
-    }
+    let text = Text::from(Vec::from_slice(*patterns.allocator(), text)?);
+    patterns.push(Pattern { form, text })?;
+    Ok(())
+}
+
+/// One more rule behind these, of the kind of this number and name. Want of memory leaves them as they were.
+pub(crate) fn push_urc(
+    urcs: &mut Vec<Urc>,
+    kind: u8,
+    name: &[u8],
+    form: Form,
+    text: &[u8],
+) -> Result<(), AllocError>
+    ensures ok { OnOk result (urcs.new.items ≡ urcs.old.items ++ urc kind name.now (pattern form text.now) ∷ []) }
+    ensures err { OnErr result (urcs.new.items ≡ urcs.old.items) }
+{
+    let alloc = *urcs.allocator();
+    let name = Text::from(Vec::from_slice(alloc, name)?);
+    let text = Text::from(Vec::from_slice(alloc, text)?);
+    let pattern = Pattern { form, text };
+    urcs.push(Urc { kind, name, pattern })?;
+    Ok(())
+}
+
+/// The place of the first rule that takes the line.
+pub(crate) fn first_place(patterns: &[Pattern], line: &[u8]) -> Option<usize>
+    ensures { result ≡ position (λ p. takes p line.now) patterns.now }
+{
+    patterns.iter().position(|pattern| pattern.takes(line))
+}
+
+/// The first rule that takes the line.
+pub(crate) fn first_urc<'a>(urcs: &'a [Urc], line: &[u8]) -> Option<&'a Urc>
+    ensures { option_copied result ≡ find (λ u. takes u.pattern line.now) urcs.now }
+{
+    urcs.iter().find(|urc| urc.pattern.takes(line))
+}
+
+/// The place of the first rule of this name, or how many there are.
+pub(crate) fn place_named(urcs: &[Urc], name: &[u8]) -> usize
+    ensures place { result ≡ position_or_len (λ u. bytes_eq u.name name.now) urcs.now }
+    ensures within { result ≤ length urcs.now }
+{
+    let place = urcs.iter().position(|urc| urc.name.as_slice() == name);
+    place.unwrap_or(urcs.len())
+}
+
+/// Whether some line is of this rule and one of those.
+pub(crate) fn meets_pattern(rule: PatternRef<'_>, patterns: &[Pattern]) -> bool
+    ensures { result ≡ list_any (λ p. can_meet (lent rule.entry) p) patterns.now }
+{
+    patterns.iter().any(|pattern| pattern.meets(rule))
+}
+
+/// Whether some line is of this rule and one of those.
+pub(crate) fn meets_urc(rule: PatternRef<'_>, urcs: &[Urc]) -> bool
+    ensures { result ≡ list_any (λ u. can_meet (lent rule.entry) u.pattern) urcs.now }
+{
+    urcs.iter().any(|urc| urc.pattern.meets(rule))
 }
 
 fn begins_with_digit(rest: &[u8]) -> bool

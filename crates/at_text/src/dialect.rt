@@ -1,0 +1,272 @@
+//! Dialects: which lines end an answer, and which are unsolicited.
+ghost use Rattle.std.specs.Prelude.{◌≡◌, ◌≤◌, IfOk, IfErr, OnOk, OnErr, option_map};
+ghost use Rattle.std.specs.List.{list_any, list_all, position};
+ghost use Rattle.at_text.specs.Lines.{is_line_end};
+ghost use Rattle.at_text.specs.Rules.{FinalRule, UrcRule, pattern, takes, no_rules, with_rule, final_by, kind_by, kind_named, dialect_of};
+ghost use Rattle.at_text.specs.Refusals.{IsRefused, HasNoReasonBelow, IsSound, count, is_name, is_visible};
+ghost use Rattle.at_text.specs.Deciding.{lent, can_meet, can_take_command, can_be_ambiguous, text_refusal, room_refusal, rule_refusal, refusal_of};
+ghost use Rattle.at_text.specs.StandardRules.{standard_finals, standard_urcs};
+
+use crate::dialect_error::DialectError;
+use crate::finals::{Final, final_of};
+use crate::rules::{Form, Pattern, PatternRef, TEXT_LEN, Urc, first_place, first_urc, meets_pattern, meets_urc, place_named, push_pattern, push_urc};
+use crate::unsolicited::{UrcKind, unsolicited_of};
+use std::alloc::Global;
+use std::marker::Model;
+
+/// How many rules of its own a dialect has at most.
+const RULES: usize = 64;
+
+/// How many octets a name has at most.
+const NAME_LEN: usize = 64;
+
+/// Which lines end an answer and which are unsolicited: those of the standard, and those of rules of its own.
+/// Contracts see its own rules, in the order in which they were added.
+#[derive(Drop, Debug)]
+pub struct Dialect {
+    finals: Vec<Pattern>,
+    urcs: Vec<Urc>,
+}
+
+impl Model for Dialect {
+    ghost use Rattle.at_text.specs.Rules.{Rules};
+    ghost use Rattle.at_text.specs.Refusals.{IsSound};
+
+    ghost Value = { Rules };
+
+    ghost view = { λ d. record { finals = d.finals.items; urcs = d.urcs.items } };
+
+    ghost invariant = { λ d. IsSound (record { finals = d.finals.items; urcs = d.urcs.items }) };
+}
+
+#[tactic(auto, using(crate::proofs::dialects::Sound::sound_standard, crate::proofs::dialects::Refusing::refused))]
+impl Dialect {
+    /// The standard's final codes and unsolicited lines, and no rules of its own.
+    pub fn standard(alloc: Global) -> Dialect
+        ensures { result ≡ no_rules }
+    {
+        Dialect {
+            finals: Vec::new(alloc),
+            urcs: Vec::new(alloc),
+        }
+    }
+
+    /// How many rules of its own it has: at most 64. No line both ends an answer and is unsolicited by it, and no
+    /// line that begins with `AT` or `at` is either.
+    pub fn count(&self) -> usize
+        ensures count { result ≡ count self.now }
+        ensures sound { IsSound self.now }
+    {
+        self.finals.len() + self.urcs.len()
+    }
+
+    /// What a line says, if it is a final code: by the standard, else the place of the first of the dialect's final
+    /// rules that takes it.
+    pub fn final_of(&self, line: &[u8]) -> Option<Final>
+        ensures { result ≡ final_by self.now line.now }
+    {
+        match final_of(line) {
+            Some(code) => Some(code),
+            None => self.own_final_of(line),
+        }
+    }
+
+    /// What a line says by the dialect's own final rules.
+    fn own_final_of(&self, line: &[u8]) -> Option<Final>
+        ensures { result ≡ option_map Final.Named (position (λ p. takes p line.now) self.now.finals) }
+    {
+        let place = first_place(&self.finals, line)?;
+        Some(Final::Named(place as u8))
+    }
+
+    /// Whether a line is a final code, the last of an answer.
+    pub fn is_final(&self, line: &[u8]) -> bool
+        ensures { result ≡ (dialect_of self.now).is_final line.now }
+    {
+        self.final_of(line).is_some()
+    }
+
+    /// The kind of a line that no command asked for: by the standard, else that of the first of the dialect's
+    /// unsolicited rules that takes it. It is never Other.
+    pub fn unsolicited_of(&self, line: &[u8]) -> Option<UrcKind>
+        ensures { result ≡ (dialect_of self.now).kind_of line.now }
+    {
+        if let Some(kind) = unsolicited_of(line) {
+            return Some(kind);
+        }
+        let rule = first_urc(&self.urcs, line)?;
+        Some(UrcKind::Own(rule.kind))
+    }
+
+    /// One more final rule, behind those that there are. It is refused by the first of: 1 TooManyRules, 2 NoText,
+    /// 3 TextTooLong, 4 LineEnd, 6 Command, 7 Ambiguous, 8 NoMemory, and the dialect stays as it was.
+    pub fn add_final(&mut self, form: Form, text: &[u8]) -> Result<(), DialectError>
+        ensures added { OnOk result (self.new ≡ with_rule self.old (FinalRule form text.now)) }
+        ensures taken { OnOk result (HasNoReasonBelow 8 self.old (FinalRule form text.now)) }
+        ensures refused { IfErr result (IsRefused self.old (FinalRule form text.now)) }
+        ensures same { OnErr result (self.new ≡ self.old) }
+    {
+        match self.final_refusal(form, text) {
+            Some(why) => Err(why),
+            None => Ok(push_pattern(&mut self.finals, form, text)?),
+        }
+    }
+
+    /// One more rule of unsolicited lines, behind those that there are. Its kind is that of the first of them with
+    /// the same name, else one of its own. It is refused by the first of: 1 TooManyRules, 2 NoText, 3 TextTooLong,
+    /// 4 LineEnd, 5 BadName, 6 Command, 7 Ambiguous, 8 NoMemory, and the dialect stays as it was.
+    pub fn add_unsolicited(&mut self, form: Form, text: &[u8], name: &[u8]) -> Result<(), DialectError>
+        ensures added { OnOk result (self.new ≡ with_rule self.old (UrcRule form text.now name.now)) }
+        ensures taken { OnOk result (HasNoReasonBelow 8 self.old (UrcRule form text.now name.now)) }
+        ensures refused { IfErr result (IsRefused self.old (UrcRule form text.now name.now)) }
+        ensures same { OnErr result (self.new ≡ self.old) }
+    {
+        match self.urc_refusal(form, text, name) {
+            Some(why) => Err(why),
+            None => {
+                let kind = self.kind_number(name);
+                Ok(push_urc(&mut self.urcs, kind, name, form, text)?)
+            }
+        }
+    }
+
+    /// Why a final rule is refused.
+    fn final_refusal(&self, form: Form, text: &[u8]) -> Option<DialectError>
+        ensures { result ≡ refusal_of self.now (FinalRule form text.now) }
+    {
+        match self.room_refusal(text) {
+            Some(why) => Some(why),
+            None => self.final_rule_refusal(PatternRef { form, text }),
+        }
+    }
+
+    /// Why a final rule of a good text is refused.
+    fn final_rule_refusal(&self, rule: PatternRef<'_>) -> Option<DialectError>
+        ensures { result ≡ rule_refusal self.now (FinalRule rule.entry.form rule.entry.text.now) }
+    {
+        if takes_command(rule) {
+            return Some(DialectError::Command);
+        }
+        if meets_standard_urc(rule) {
+            return Some(DialectError::Ambiguous);
+        }
+        if meets_urc(rule, &self.urcs) {
+            return Some(DialectError::Ambiguous);
+        }
+        None
+    }
+
+    /// Why a rule of unsolicited lines is refused.
+    fn urc_refusal(&self, form: Form, text: &[u8], name: &[u8]) -> Option<DialectError>
+        ensures { result ≡ refusal_of self.now (UrcRule form text.now name.now) }
+    {
+        match self.room_refusal(text) {
+            Some(why) => Some(why),
+            None => self.urc_rule_refusal(PatternRef { form, text }, name),
+        }
+    }
+
+    /// Why a rule of unsolicited lines and a good text is refused.
+    fn urc_rule_refusal(&self, rule: PatternRef<'_>, name: &[u8]) -> Option<DialectError>
+        ensures { result ≡ rule_refusal self.now (UrcRule rule.entry.form rule.entry.text.now name.now) }
+    {
+        if !is_name(name) {
+            return Some(DialectError::BadName);
+        }
+        if takes_command(rule) {
+            return Some(DialectError::Command);
+        }
+        if meets_standard_final(rule) {
+            return Some(DialectError::Ambiguous);
+        }
+        if meets_pattern(rule, &self.finals) {
+            return Some(DialectError::Ambiguous);
+        }
+        None
+    }
+
+    /// Why any rule of this text is refused.
+    fn room_refusal(&self, text: &[u8]) -> Option<DialectError>
+        ensures { result ≡ room_refusal self.now text.now }
+    {
+        if self.count() >= RULES {
+            return Some(DialectError::TooManyRules);
+        }
+        text_refusal(text)
+    }
+
+    /// The number of the kind of this name, once a rule has it.
+    fn kind_number(&self, name: &[u8]) -> u8
+        ensures { result ≡ kind_named self.now name.now }
+    {
+        place_named(&self.urcs, name) as u8
+    }
+}
+
+/// Why a text is none of a rule.
+fn text_refusal(text: &[u8]) -> Option<DialectError>
+    ensures { result ≡ text_refusal text.now }
+{
+    if text.is_empty() {
+        return Some(DialectError::NoText);
+    }
+    if text.len() > TEXT_LEN {
+        return Some(DialectError::TextTooLong);
+    }
+    if has_line_end(text) {
+        return Some(DialectError::LineEnd);
+    }
+    None
+}
+
+fn has_line_end(text: &[u8]) -> bool
+    ensures { result ≡ list_any is_line_end text.now }
+{
+    text.iter().any(|octet| *octet == b'\r' || *octet == b'\n')
+}
+
+fn is_name(name: &[u8]) -> bool
+    ensures { result ≡ is_name name.now }
+{
+    !name.is_empty() && name.len() <= NAME_LEN && is_all_visible(name)
+}
+
+fn is_all_visible(name: &[u8]) -> bool
+    ensures { result ≡ list_all is_visible name.now }
+{
+    name.iter().all(|octet| octet.is_ascii_graphic())
+}
+
+/// Whether a line of the rule begins as a command line does.
+fn takes_command(rule: PatternRef<'_>) -> bool
+    ensures { result ≡ can_take_command (lent rule.entry) }
+{
+    meets_text(rule, Form::Prefix, b"AT") || meets_text(rule, Form::Prefix, b"at")
+}
+
+/// Whether a line of the rule is one of the standard's final codes.
+fn meets_standard_final(rule: PatternRef<'_>) -> bool
+    ensures { result ≡ list_any (λ r. can_meet (lent rule.entry) r.0) standard_finals }
+{
+    meets_text(rule, Form::Line, b"OK")
+        || meets_text(rule, Form::Line, b"ERROR")
+        || meets_text(rule, Form::Prefix, b"+CME ERROR:")
+}
+
+/// Whether a line of the rule is one of the standard's unsolicited lines.
+fn meets_standard_urc(rule: PatternRef<'_>) -> bool
+    ensures { result ≡ list_any (λ r. can_meet (lent rule.entry) r.0) standard_urcs }
+{
+    meets_text(rule, Form::Line, b"RING")
+        || meets_text(rule, Form::Prefix, b"+CRING:")
+        || meets_text(rule, Form::Report, b"+CREG:")
+        || meets_text(rule, Form::Report, b"+CGREG:")
+        || meets_text(rule, Form::Prefix, b"+CGEV:")
+        || meets_text(rule, Form::Prefix, b"+CIEV:")
+}
+
+fn meets_text(rule: PatternRef<'_>, form: Form, text: &[u8]) -> bool
+    ensures { result ≡ can_meet (lent rule.entry) (pattern form text.now) }
+{
+    rule.meets(PatternRef { form, text })
+}
