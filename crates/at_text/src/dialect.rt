@@ -9,7 +9,7 @@ ghost use Rattle.at_text.specs.StandardRules.{standard_finals, standard_urcs};
 
 use crate::dialect_error::DialectError;
 use crate::finals::{Final, final_of};
-use crate::rules::{Form, Pattern, PatternRef, TEXT_LEN, Urc, first_place, first_urc, meets_pattern, meets_urc, place_named, push_pattern, push_urc};
+use crate::rules::{copy_patterns, copy_urcs, Form, Pattern, PatternRef, TEXT_LEN, Urc, first_place, first_urc, meets_pattern, meets_urc, place_named, push_pattern, push_urc};
 use crate::unsolicited::{UrcKind, unsolicited_of};
 use std::alloc::Global;
 use std::marker::Model;
@@ -49,6 +49,16 @@ impl Dialect {
             finals: Vec::new(alloc),
             urcs: Vec::new(alloc),
         }
+    }
+
+    /// The same rules once more. 8 NoMemory.
+    pub fn copy(&self) -> Result<Dialect, DialectError>
+        ensures copy { IfOk result (λ copy. copy ≡ self.now) }
+        ensures refused { IfErr result (λ why. why ≡ DialectError.NoMemory) }
+    {
+        let finals = copy_patterns(&self.finals)?;
+        let urcs = copy_urcs(&self.urcs)?;
+        Ok(Dialect { finals, urcs })
     }
 
     /// How many rules of its own it has: at most 64. No line both ends an answer and is unsolicited by it, and no

@@ -1,5 +1,5 @@
 //! Rules of lines: a form and a text.
-ghost use Rattle.std.specs.Prelude.{◌≡◌, ◌≤◌, ◌+◌, [], ◌∷◌, ◌++◌, length, OnOk, OnErr, option_copied};
+ghost use Rattle.std.specs.Prelude.{IfOk, ◌≡◌, ◌≤◌, ◌+◌, [], ◌∷◌, ◌++◌, length, OnOk, OnErr, option_copied};
 ghost use Rattle.std.specs.List.{list_any, find, position, position_or_len};
 ghost use Rattle.std.specs.Str.{bytes_eq};
 ghost use Rattle.at_text.specs.Octets.{is_digit, skip_blanks, begins};
@@ -135,6 +135,52 @@ impl Pattern {
     {
         other.meets(self.lend())
     }
+
+    fn copy(&self) -> Result<Pattern, AllocError>
+        ensures { IfOk result (λ copy. copy ≡ self.now) }
+    {
+        let text = self.text.copy()?;
+        Ok(Pattern {
+            form: self.form,
+            text,
+        })
+    }
+}
+
+impl Urc {
+    fn copy(&self) -> Result<Urc, AllocError>
+        ensures { IfOk result (λ copy. copy ≡ self.now) }
+    {
+        let name = self.name.copy()?;
+        let pattern = self.pattern.copy()?;
+        Ok(Urc {
+            kind: self.kind,
+            name,
+            pattern,
+        })
+    }
+}
+
+/// The same rules once more.
+pub(crate) fn copy_patterns(patterns: &Vec<Pattern>) -> Result<Vec<Pattern>, AllocError>
+    ensures { IfOk result (λ copies. copies.items ≡ patterns.now.items) }
+{
+    let mut copies = Vec::with_capacity(*patterns.allocator(), patterns.len())?;
+    for pattern in patterns {
+        copies.push(pattern.copy()?)?;
+    }
+    Ok(copies)
+}
+
+/// The same rules once more.
+pub(crate) fn copy_urcs(urcs: &Vec<Urc>) -> Result<Vec<Urc>, AllocError>
+    ensures { IfOk result (λ copies. copies.items ≡ urcs.now.items) }
+{
+    let mut copies = Vec::with_capacity(*urcs.allocator(), urcs.len())?;
+    for urc in urcs {
+        copies.push(urc.copy()?)?;
+    }
+    Ok(copies)
 }
 
 /// One more rule behind these. Want of memory leaves them as they were.

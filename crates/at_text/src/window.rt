@@ -1,6 +1,7 @@
 //! Windows: which lines answer a command, by their place (V.250, 5.2.3 and 5.7.1).
 ghost use Rattle.std.specs.Prelude.{◌≡◌, List, [], ◌∷◌, ◌++◌, ◌↔◌, IsTrue, IsNone, is_none, is_some, IfOk, IfErr, OnOk, OnErr, if◌then◌else◌};
-ghost use Rattle.at_text.specs.Dialects.{Dialect, standard};
+ghost use Rattle.at_text.specs.Dialects.{Dialect as Codes, standard};
+ghost use Rattle.at_text.specs.Rules.{dialect_of};
 ghost use Rattle.at_text.specs.Windows.{Mark, Begun};
 ghost use Rattle.at_text.specs.Seeing.{by_kind};
 ghost use Rattle.at_text.specs.OpenWindow.{opened, FitsMarks, Sees, is_echo, with_line, solicited_by, after_solicited, seen_by, after_line};
@@ -8,10 +9,10 @@ ghost use Rattle.at_text.specs.Forks.{lines_so_far, forked, led_by};
 
 use crate::answer::{AnswerLine, AnswerLines};
 use crate::command::{COMMAND_LEN, CommandLine};
+use crate::dialect::Dialect;
 use crate::error::TextError;
-use crate::finals::final_of;
 use crate::text::Text;
-use crate::unsolicited::{UrcKind, unsolicited_of};
+use crate::unsolicited::UrcKind;
 use arrayvec::ArrayVec;
 use std::alloc::{AllocError, Global};
 use std::marker::Model;
@@ -127,7 +128,7 @@ impl Window {
     /// No command is under way.
     pub fn new(alloc: Global) -> Window
         ensures none { result ≡ None }
-        ensures past { (dialect : Dialect) → FitsMarks dialect result [] }
+        ensures past { (dialect : Codes) → FitsMarks dialect result [] }
     {
         Window {
             open: None,
@@ -147,7 +148,7 @@ impl Window {
     pub fn begin(&mut self, line: &CommandLine)
         requires { IsNone self.old }
         ensures opens { self.new ≡ Some (opened line.now) }
-        ensures past { (dialect : Dialect) (past : List Mark) → FitsMarks dialect self.old past
+        ensures past { (dialect : Codes) (past : List Mark) → FitsMarks dialect self.old past
             → FitsMarks dialect self.new (past ++ Begun line.now ∷ []) }
     {
         self.open = Some(Open::begun(self.alloc, line));
@@ -156,12 +157,12 @@ impl Window {
     /// Forgets the command and what came of its answer.
     pub fn drop_command(&mut self)
         ensures none { self.new ≡ None }
-        ensures past { (dialect : Dialect) → FitsMarks dialect self.new [] }
+        ensures past { (dialect : Codes) → FitsMarks dialect self.new [] }
     {
         self.open = None;
     }
 
-    /// Says what the next line is, where it ends. 4 NoMemory leaves the window as it was, so that the same line can be shown again.
+    /// Says what the next line is, where it ends, by the standard's codes. 4 NoMemory leaves the window as it was, so that the same line can be shown again.
     pub fn see(&mut self, line: &[u8]) -> Result<Seen, TextError>
         ensures seen { IfOk result (λ seen. seen ≡ seen_by standard self.old line.now) }
         ensures after { OnOk result (self.new ≡ after_line standard self.old line.now) }
@@ -171,7 +172,21 @@ impl Window {
         ensures refused { IfErr result (λ why. why ≡ TextError.NoMemory) }
         ensures err { OnErr result (self.new ≡ self.old) }
     {
-        let seen = self.place(line)?;
+        let standard = Dialect::standard(self.alloc);
+        self.see_by(&standard, line)
+    }
+
+    /// Says what the next line is by the codes of this dialect, as `see` does by the standard's.
+    pub fn see_by(&mut self, dialect: &Dialect, line: &[u8]) -> Result<Seen, TextError>
+        ensures seen { IfOk result (λ seen. seen ≡ seen_by (dialect_of dialect.now) self.old line.now) }
+        ensures after { OnOk result (self.new ≡ after_line (dialect_of dialect.now) self.old line.now) }
+        ensures past { IfOk result
+            (λ seen. (past : List Mark) → FitsMarks (dialect_of dialect.now) self.old past
+                → Sees (dialect_of dialect.now) past line.now seen self.new) }
+        ensures refused { IfErr result (λ why. why ≡ TextError.NoMemory) }
+        ensures err { OnErr result (self.new ≡ self.old) }
+    {
+        let seen = self.place(dialect, line)?;
         Ok(seen)
     }
 
@@ -247,31 +262,36 @@ impl Window {
         Ok(())
     }
 
-    fn place(&mut self, line: &[u8]) -> Result<Seen, AllocError>
-        ensures seen { IfOk result (λ seen. seen ≡ seen_by standard self.old line.now) }
-        ensures after { OnOk result (self.new ≡ after_line standard self.old line.now) }
+    fn place(&mut self, dialect: &Dialect, line: &[u8]) -> Result<Seen, AllocError>
+        ensures seen { IfOk result (λ seen. seen ≡ seen_by (dialect_of dialect.now) self.old line.now) }
+        ensures after { OnOk result (self.new ≡ after_line (dialect_of dialect.now) self.old line.now) }
         ensures err { OnErr result (self.new ≡ self.old) }
     {
-        self.place_by(unsolicited_of(line), line)
+        self.place_by(dialect.unsolicited_of(line), dialect, line)
     }
 
     /// What a line of this kind is, or of none.
-    fn place_by(&mut self, kind: Option<UrcKind>, line: &[u8]) -> Result<Seen, AllocError>
-        ensures seen { IfOk result (λ seen. seen ≡ by_kind kind (solicited_by standard self.old line.now)) }
+    fn place_by(
+        &mut self,
+        kind: Option<UrcKind>,
+        dialect: &Dialect,
+        line: &[u8],
+    ) -> Result<Seen, AllocError>
+        ensures seen { IfOk result (λ seen. seen ≡ by_kind kind (solicited_by (dialect_of dialect.now) self.old line.now)) }
         ensures after { OnOk result (
-            self.new ≡ (if is_none kind then after_solicited standard self.old line.now else self.old)) }
+            self.new ≡ (if is_none kind then after_solicited (dialect_of dialect.now) self.old line.now else self.old)) }
         ensures err { OnErr result (self.new ≡ self.old) }
     {
         match kind {
             Some(kind) => Ok(Seen::Unsolicited(kind)),
-            None => self.place_solicited(line),
+            None => self.place_solicited(dialect, line),
         }
     }
 
     /// What a line of no kind is.
-    fn place_solicited(&mut self, line: &[u8]) -> Result<Seen, AllocError>
-        ensures seen { IfOk result (λ seen. seen ≡ solicited_by standard self.old line.now) }
-        ensures after { OnOk result (self.new ≡ after_solicited standard self.old line.now) }
+    fn place_solicited(&mut self, dialect: &Dialect, line: &[u8]) -> Result<Seen, AllocError>
+        ensures seen { IfOk result (λ seen. seen ≡ solicited_by (dialect_of dialect.now) self.old line.now) }
+        ensures after { OnOk result (self.new ≡ after_solicited (dialect_of dialect.now) self.old line.now) }
         ensures err { OnErr result (self.new ≡ self.old) }
     {
         let Some(open) = &mut self.open else {
@@ -282,7 +302,7 @@ impl Window {
             return Ok(Seen::Echo);
         }
         open.keep(self.alloc, line)?;
-        if final_of(line).is_none() {
+        if !dialect.is_final(line) {
             return Ok(Seen::Kept);
         }
         match self.open.take() {

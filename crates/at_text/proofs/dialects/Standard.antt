@@ -21,6 +21,7 @@ use Rattle.at_text.specs.Dialects.{Dialect, standard}
 use Rattle.at_text.specs.Unsolicited.{unsolicited_of, is_report, is_without_second}
 use Rattle.at_text.specs.Rules.{takes, pattern, final_by, kind_by, no_rules, dialect_of}
 use Rattle.at_text.specs.StandardRules.{AreStandard, standard_finals, standard_urcs}
+use Rattle.at_text.proofs.NoRules.{no_rules_standard}
 use Rattle.at_text.proofs.dialects.Meeting.{Taken, taken, takes_front}
 
 pub takes_line : (text line : List ℕ) → takes (pattern Line text) line ≡ bytes_eq line text
@@ -107,16 +108,6 @@ kind_rules line =
     (by_report line (codes "+CGREG:") Cgreg (drop 4 standard_urcs) _ (λ rest. refl)
     (by_prefix line (codes "+CGEV:") Cgev (drop 5 standard_urcs) _
     (by_prefix line (codes "+CIEV:") Ciev [] None refl)))))
-
-or_none : {T : Type 0} (o : Option T) → option_or o None ≡ o
-or_none None = refl
-or_none (Some x) = refl
-
-no_rules_standard : dialect_of no_rules ≡ standard
-no_rules_standard =
-    let finals : (λ (line : List ℕ). is_some (final_by no_rules line)) ≡ is_final = fun_ext (λ line. ap is_some (or_none (final_of line))) in
-    let kinds : kind_by no_rules ≡ unsolicited_of = fun_ext (λ line. or_none (unsolicited_of line)) in
-    λ i. record { is_final = finals i; kind_of = kinds i }
 
 pub are_standard : AreStandard
 are_standard = record { finals = final_rules; kinds = kind_rules; none = no_rules_standard }
