@@ -4,7 +4,7 @@ use Rattle.std.specs.List.{starts_with, filter_map, position_from}
 use Rattle.std.specs.Str.{bytes_eq}
 use Rattle.at_text.specs.declared.answer.AnswerLine.{AnswerLine}
 use Rattle.at_text.specs.declared.finals.Final.{Final}
-use Rattle.at_text.specs.declared.finals.Final.TheVariants.{Good, Error, Cme as CmeCode}
+use Rattle.at_text.specs.declared.finals.Final.TheVariants.{Good, Error, Named, Cme as CmeCode}
 use Rattle.at_text.specs.Finals.{final_of}
 use Rattle.at_text.specs.Octets.{skip_blanks}
 use Rattle.at_cmds.specs.declared.command.Command.{Command}
@@ -168,6 +168,7 @@ fault_by (Some Good) text = None
 fault_by (Some Error) text = Some PlainError
 fault_by (Some (CmeCode (Some n))) text = Some (Cme n)
 fault_by (Some (CmeCode None)) text = Some (cme_fault (cme_number (skip_blanks (drop 11 text))))
+fault_by (Some (Named place)) text = Some Missing
 
 abbrev pub fault_at : Option AnswerLine → Option ReplyFault
 fault_at None = Some Missing

@@ -45,7 +45,7 @@ fn fault_by(text: &[u8]) -> Option<ReplyFault>
         Some(Final::Error) => Some(ReplyFault::PlainError),
         Some(Final::Cme(Some(number))) => Some(ReplyFault::Cme(number)),
         Some(Final::Cme(None)) => Some(words_fault(text)),
-        None => Some(ReplyFault::Missing),
+        Some(Final::Named(_)) | None => Some(ReplyFault::Missing),
     }
 }
 

@@ -14,6 +14,7 @@ kind_number UrcKind.Cgreg = 4
 kind_number UrcKind.Cgev = 5
 kind_number UrcKind.Ciev = 6
 kind_number UrcKind.Other = 7
+kind_number (UrcKind.Own number) = 8
 
 -- the bit of a kind in a set of kinds
 abbrev pub kind_bit : UrcKind → ℕ
@@ -24,6 +25,7 @@ kind_bit UrcKind.Cgreg = 8
 kind_bit UrcKind.Cgev = 16
 kind_bit UrcKind.Ciev = 32
 kind_bit UrcKind.Other = 64
+kind_bit (UrcKind.Own number) = 128
 
 abbrev pub all_kinds : List UrcKind
 all_kinds = UrcKind.Ring ∷ UrcKind.Cring ∷ UrcKind.Creg ∷ UrcKind.Cgreg ∷ UrcKind.Cgev ∷ UrcKind.Ciev ∷ UrcKind.Other ∷ []

@@ -27,6 +27,7 @@ pub(crate) fn kind_number(kind: UrcKind) -> u8
         UrcKind::Cgev => 5,
         UrcKind::Ciev => 6,
         UrcKind::Other => 7,
+        UrcKind::Own(_) => 8,
     }
 }
 
@@ -42,6 +43,7 @@ fn kind_bit(kind: UrcKind) -> u8
         UrcKind::Cgev => 16,
         UrcKind::Ciev => 32,
         UrcKind::Other => 64,
+        UrcKind::Own(_) => 128,
     }
 }
 

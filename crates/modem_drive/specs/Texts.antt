@@ -64,6 +64,7 @@ kind_text UrcKind.Cgreg = codes "CGREG"
 kind_text UrcKind.Cgev = codes "CGEV"
 kind_text UrcKind.Ciev = codes "CIEV"
 kind_text UrcKind.Other = codes "OTHER"
+kind_text (UrcKind.Own number) = codes "OWN"
 
 -- a line that was heard
 abbrev pub heard_text : Urc → List ℕ

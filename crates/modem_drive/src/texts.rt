@@ -69,6 +69,7 @@ fn kind_word(kind: UrcKind) -> &'static str
         UrcKind::Cgev => "CGEV",
         UrcKind::Ciev => "CIEV",
         UrcKind::Other => "OTHER",
+        UrcKind::Own(_) => "OWN",
     }
 }
 

@@ -13,7 +13,7 @@ use Rattle.at_text.specs.Finals.{is_final, final_of}
 use Rattle.at_text.specs.Lines.{lines}
 use Rattle.at_text.specs.Reading.{HasRead}
 use Rattle.at_text.specs.declared.finals.Final.{Final}
-use Rattle.at_text.specs.declared.finals.Final.TheVariants.{Good, Error, Cme}
+use Rattle.at_text.specs.declared.finals.Final.TheVariants.{Good, Error, Cme, Named}
 use Rattle.at_text.proofs.lines.KeptOctets.{has_read-push}
 use Rattle.serial_line.specs.Counts.{one_more, counted_if_none}
 use Rattle.modem_history.specs.Sessions.{LineView}
@@ -215,6 +215,7 @@ abbrev is_good : Option Final → Bool
 is_good (Some Good) = true
 is_good (Some Error) = false
 is_good (Some (Cme n)) = false
+is_good (Some (Named n)) = false
 is_good None = false
 
 good_by : (b : Bool) (behind : Option Final) → is_good behind ≡ false → is_good (if b then Some Good else behind) ≡ b
@@ -272,6 +273,10 @@ comes_by old new was now octet line (Some Error) e k made first h =
     (λ read q turns f. record { whole = refl; line = line; other = λ ok. true≢false (ap (λ (l : List ℕ). is_good (final_of l)) (sym ok) ∙ ap is_good e); ended = q })
     (λ f q. q) (ap is_some e) made first h
 comes_by old new was now octet line (Some (Cme n)) e k made first h =
+    over old new was now octet line Refused k
+    (λ read q turns f. record { whole = refl; line = line; other = λ ok. true≢false (ap (λ (l : List ℕ). is_good (final_of l)) (sym ok) ∙ ap is_good e); ended = q })
+    (λ f q. q) (ap is_some e) made first h
+comes_by old new was now octet line (Some (Named n)) e k made first h =
     over old new was now octet line Refused k
     (λ read q turns f. record { whole = refl; line = line; other = λ ok. true≢false (ap (λ (l : List ℕ). is_good (final_of l)) (sym ok) ∙ ap is_good e); ended = q })
     (λ f q. q) (ap is_some e) made first h

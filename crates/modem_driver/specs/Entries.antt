@@ -5,7 +5,7 @@ use Rattle.at_text.specs.Finals.{is_final, final_of}
 use Rattle.at_text.specs.Lines.{lines}
 use Rattle.at_text.specs.Reading.{HasRead}
 use Rattle.at_text.specs.declared.finals.Final.{Final}
-use Rattle.at_text.specs.declared.finals.Final.TheVariants.{Good, Error, Cme}
+use Rattle.at_text.specs.declared.finals.Final.TheVariants.{Good, Error, Cme, Named}
 use Rattle.modem_history.specs.Sessions.{LineView}
 use Rattle.modem_history.specs.Entering.{EntryAnswer, Entered, Refused, NoAnswer, LineFailed, IsEntry, calls_with_room, entry_text}
 use Rattle.modem_driver.specs.declared.entering.EntryError.{EntryError}
@@ -20,6 +20,7 @@ abbrev pub answer_by : Final → EntryAnswer
 answer_by Good = Entered
 answer_by Error = Refused
 answer_by (Cme number) = Refused
+answer_by (Named place) = Refused
 
 -- how many octets of the text were sent, and what is kept of the unfinished line
 pub record Entry : Type 0 where

@@ -2,7 +2,7 @@
 ghost use Rattle.std.specs.Prelude.{◌≡◌, ◌≢◌, ◌↔◌, ◌+◌, ◌<◌, ◌≤◌, ◌⊎◌, List, [], length, replicate, map, find, option_map, vec_capacity, true, IfOk, IsErrOf, OnOk, OnErr};
 ghost use Rattle.modem_history.specs.Acts.{Act as Happening, act_of, Lost};
 ghost use Rattle.modem_driver.specs.Endings.{asker_of, is_stop};
-ghost use Rattle.modem_driver.specs.Cores.{new_core, state_shown, Fits, Handles};
+ghost use Rattle.modem_driver.specs.Cores.{core_by, new_core, state_shown, Fits, Handles};
 ghost use Rattle.modem_driver.specs.Holding.{HoldsFit, KeepsHeld};
 ghost use Rattle.modem_driver.specs.declared.error.CoreError.TheVariants as CoreError;
 
@@ -12,7 +12,7 @@ use crate::hand::Hand;
 use crate::lanes::Lanes;
 use crate::session::Asker;
 use crate::telling::{Happened, state_of, tell};
-use at_text::UrcKind;
+use at_text::{Dialect, UrcKind};
 use modem_desk::Request;
 use modem_history::Act;
 use mux_frame::Dlci;
@@ -29,13 +29,14 @@ pub struct Core {
     pub(crate) lanes: Lanes,
     /// The requests that wait for their outcome, in the order taken.
     pub(crate) hand: Hand,
+    /// By which lines are seen.
+    pub(crate) dialect: Dialect,
     /// The kinds that are listened to.
     pub(crate) kinds: Vec<UrcKind>,
     pub(crate) lost: bool,
 }
 
 impl Model for Core {
-    ghost use Rattle.at_text.specs.Dialects.{standard};
     ghost use Rattle.modem_driver.specs.Cores.{Core};
     ghost use Rattle.modem_driver.specs.CoreKeeping.{IsKept};
 
@@ -45,7 +46,7 @@ impl Model for Core {
       station = c.station;
       lanes = c.lanes;
       hand = c.hand;
-      dialect = standard;
+      rules = c.dialect;
       kinds = c.kinds.items;
       lost = c.lost;
     } };
@@ -54,11 +55,29 @@ impl Model for Core {
 }
 
 impl Core {
-    /// A driver with nothing open that listens to these kinds. N1 is how many octets of information a
-    /// frame may have. Refusals: 2 BadN1 where it isn't 31 to 32767, checked first; 1 NoMemory.
+    /// A driver of a standard modem with nothing open that listens to these kinds. N1 is how many octets of
+    /// information a frame may have. Refusals: 2 BadN1 where it isn't 31 to 32767, checked first; 1 NoMemory.
     #[tactic(auto, using(crate::proofs::cores::NewCore::new_fits, crate::proofs::holds::OtherCalls::nothing_held))]
     pub fn new(alloc: Global, n1: u16, kinds: &[UrcKind]) -> Result<Core, CoreError>
         ensures ok { IfOk result (λ c. c ≡ new_core n1 kinds.now) }
+        ensures past { IfOk result (λ c. Fits c []) }
+        ensures held { IfOk result (λ c. HoldsFit c []) }
+        ensures bad_n1 { IsErrOf result CoreError.BadN1 ↔ ((n1 < 31) ⊎ (32767 < n1)) }
+        ensures others { result ≢ Err CoreError.NoRoom }
+    {
+        let standard = Dialect::standard(alloc);
+        Core::with_dialect(alloc, n1, &standard, kinds)
+    }
+
+    /// The same, of a modem whose codes are those of this dialect, of which it takes a copy.
+    #[tactic(auto, using(crate::proofs::cores::NewCore::new_fits, crate::proofs::holds::OtherCalls::nothing_held))]
+    pub fn with_dialect(
+        alloc: Global,
+        n1: u16,
+        dialect: &Dialect,
+        kinds: &[UrcKind],
+    ) -> Result<Core, CoreError>
+        ensures ok { IfOk result (λ c. c ≡ core_by dialect.now n1 kinds.now) }
         ensures past { IfOk result (λ c. Fits c []) }
         ensures held { IfOk result (λ c. HoldsFit c []) }
         ensures bad_n1 { IsErrOf result CoreError.BadN1 ↔ ((n1 < 31) ⊎ (32767 < n1)) }
@@ -71,6 +90,9 @@ impl Core {
         };
         let lanes = Lanes::new(alloc)?;
         let hand = Hand::new(alloc)?;
+        let Ok(dialect) = dialect.copy() else {
+            return Err(CoreError::NoMemory);
+        };
         let kinds = kinds.to_vec(alloc)?;
         Ok(Core {
             alloc,
@@ -78,6 +100,7 @@ impl Core {
             n1,
             lanes,
             hand,
+            dialect,
             kinds,
             lost: false,
         })

@@ -1,7 +1,8 @@
 //! A driver that its caller drives: octets in, octets out, answers polled. It has no line, no desk, no
 //! thread and no clock.
 ghost use Rattle.std.specs.Prelude.{◌≡◌, ◌↔◌, ◌<◌, ◌⊎◌, None, Some, IfOk, IsErrOf};
-ghost use Rattle.modem_driver.specs.Endpoints.{new_endpoint, Begins};
+ghost use Rattle.modem_driver.specs.Endpoints.{endpoint_by, new_endpoint, Begins, BeginsBy};
+ghost use Rattle.at_text.specs.Rules.{dialect_of};
 ghost use Rattle.modem_driver.specs.declared.session.error.SessionError.TheVariants as why;
 
 mod error;
@@ -13,7 +14,7 @@ mod time;
 
 use crate::session::SessionError;
 use crate::session::kept::Kept;
-use at_text::UrcKind;
+use at_text::{Dialect, UrcKind};
 pub use error::{RequestError, RequestRefused};
 pub use handing::Left;
 use std::alloc::Global;
@@ -76,11 +77,11 @@ impl Input {
 }
 
 impl Endpoint {
-    /// An endpoint that has done nothing yet. It listens to these kinds of unsolicited lines, and its
-    /// first request has this number. N1 is how many octets of information a frame may have. It takes
+    /// An endpoint at a standard modem that has done nothing yet. It listens to these kinds of unsolicited lines,
+    /// and its first request has this number. N1 is how many octets of information a frame may have. It takes
     /// room for 128 requests and 128 outcomes. Refusals: 2 BadN1 where N1 isn't 31 to 32767, checked
     /// first; 1 NoMemory.
-    #[tactic(auto, using(crate::proofs::endpoints::Requests::begins))]
+    #[tactic(auto, using(crate::proofs::endpoints::Requests::begins_standard))]
     pub fn new(
         alloc: Global,
         n1: u16,
@@ -92,6 +93,23 @@ impl Endpoint {
         ensures bad_n1 { IsErrOf result why.BadN1 ↔ ((n1 < 31) ⊎ (32767 < n1)) }
     {
         let kept = Kept::new(alloc, n1, kinds)?;
+        Ok(Endpoint { kept, next: first })
+    }
+
+    /// The same at a modem whose codes are those of this dialect, of which it takes a copy.
+    #[tactic(auto, using(crate::proofs::endpoints::Requests::begins))]
+    pub fn with_dialect(
+        alloc: Global,
+        n1: u16,
+        dialect: &Dialect,
+        kinds: &[UrcKind],
+        first: u64,
+    ) -> Result<Endpoint, SessionError>
+        ensures ok { IfOk result (λ e. e ≡ endpoint_by dialect.now n1 kinds.now first) }
+        ensures begins { IfOk result (λ e. BeginsBy (dialect_of dialect.now) n1 kinds.now e) }
+        ensures bad_n1 { IsErrOf result why.BadN1 ↔ ((n1 < 31) ⊎ (32767 < n1)) }
+    {
+        let kept = Kept::with_dialect(alloc, n1, dialect, kinds)?;
         Ok(Endpoint { kept, next: first })
     }
 }

@@ -197,6 +197,7 @@ impl Core {
         let mut acts = vec![in self.alloc; Act::Got(frame.to_buf(self.alloc)?)]?;
         read_octets(
             reading,
+            &self.dialect,
             self.kinds.as_slice(),
             frame.info,
             &mut fork.reader,

@@ -2,10 +2,10 @@
 ghost use Rattle.std.specs.Prelude.{◌≡◌, ◌↔◌, ℕ, List, [], ◌∷◌, ◌++◌, true, map, Some, None, OnOk, IfOk};
 ghost use Rattle.std.specs.List.{Contains};
 ghost use Rattle.modem_history.specs.Acts.{act_of};
-ghost use Rattle.at_text.specs.Dialects.{standard};
+ghost use Rattle.at_text.specs.Rules.{dialect_of};
 ghost use Rattle.modem_driver.specs.Reports.{done_by, heard_by, said_as, ReportSays, ReadsOctet, ReadsAll};
 
-use at_text::{AnswerLines, LineReader, Seen, Text, UrcKind, Window};
+use at_text::{AnswerLines, Dialect, LineReader, Seen, Text, UrcKind, Window};
 use modem_desk::{Answer, Outcome, Urc};
 use modem_history::Act;
 use mux_frame::Dlci;
@@ -96,13 +96,14 @@ fn say(
 /// Reads an octet.
 fn read_octet(
     reading: Reading,
+    dialect: &Dialect,
     kinds: &[UrcKind],
     octet: u8,
     reader: &mut LineReader,
     window: &mut Window,
     acts: &mut Vec<Act>,
 ) -> Result<(), AllocError>
-    ensures { OnOk result (ReadsOctet standard kinds.now reading octet (record {
+    ensures { OnOk result (ReadsOctet (dialect_of dialect.now) kinds.now reading octet (record {
       kept = reader.old;
       window = window.old;
       acts = map act_of acts.old.items;
@@ -115,7 +116,7 @@ fn read_octet(
     let Some(line) = reader.push(octet) else {
         return Ok(());
     };
-    let Ok(seen) = window.see(line.text) else {
+    let Ok(seen) = window.see_by(dialect, line.text) else {
         return Err(AllocError);
     };
     say(reading, kinds, line.text, seen, acts)
@@ -125,13 +126,14 @@ fn read_octet(
 /// Reads the octets that came.
 pub(crate) fn read_octets(
     reading: Reading,
+    dialect: &Dialect,
     kinds: &[UrcKind],
     octets: &[u8],
     reader: &mut LineReader,
     window: &mut Window,
     acts: &mut Vec<Act>,
 ) -> Result<(), AllocError>
-    ensures { OnOk result (ReadsAll standard kinds.now reading octets.now (record {
+    ensures { OnOk result (ReadsAll (dialect_of dialect.now) kinds.now reading octets.now (record {
       kept = reader.old;
       window = window.old;
       acts = map act_of acts.old.items;
@@ -142,7 +144,7 @@ pub(crate) fn read_octets(
     })) }
 {
     for octet in octets {
-        read_octet(reading, kinds, *octet, reader, window, acts)?;
+        read_octet(reading, dialect, kinds, *octet, reader, window, acts)?;
     }
     Ok(())
 }

@@ -18,8 +18,8 @@ use modem_history::Act;
 use mux_frame::{Deframer, FrameError, FrameView};
 use std::alloc::{AllocError, Global};
 
-/// Every kind of an unsolicited line.
-pub(crate) const KINDS: [UrcKind; 7] = [
+/// The kinds of the standards, and Other.
+const KINDS: [UrcKind; 7] = [
     UrcKind::Ring,
     UrcKind::Cring,
     UrcKind::Creg,

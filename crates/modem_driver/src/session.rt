@@ -1,9 +1,9 @@
 //! A driver at its line and its desk.
-ghost use Rattle.std.specs.Prelude.{◌≡◌, ◌≢◌, ◌↔◌, ◌<◌, ◌⊎◌, [], true, Contains, IfOk, IfErr, IsErr, IsErrOf, OnOk, OnErr};
+ghost use Rattle.std.specs.Prelude.{◌≡◌, ◌≢◌, ◌↔◌, ◌<◌, ◌⊎◌, [], true, IfOk, IfErr, IsErr, IsErrOf, OnOk, OnErr};
 ghost use Rattle.std.specs.Borrow.{Lends, sem};
 ghost use Rattle.modem_history.specs.Sessions.{LineView};
-ghost use Rattle.modem_driver.specs.SessionStates.{beginning_of, has_lost_line, new_kept, line_by, end_of, FitsAll, KeptFits, SessionEnds, KeepsItsEnd, Ticks};
-ghost use Rattle.at_text.specs.declared.unsolicited.UrcKind.{UrcKind};
+ghost use Rattle.modem_driver.specs.SessionStates.{beginning_by, beginning_of, has_lost_line, kept_by, line_by, end_of, FitsAll, KeptFits, SessionEnds, KeepsItsEnd, Ticks};
+ghost use Rattle.at_text.specs.Rules.{dialect_of};
 ghost use Rattle.modem_driver.specs.declared.session.error.SessionError.TheVariants as why;
 ghost use Rattle.modem_driver.specs.declared.session.error.SessionFault.TheVariants as fault;
 
@@ -22,8 +22,7 @@ mod time;
 mod turn;
 pub(crate) mod waiting;
 
-use crate::run::KINDS;
-use at_text::UrcKind;
+use at_text::Dialect;
 pub(crate) use ending::Asker;
 pub use ending::Ended;
 pub use error::{SessionError, SessionFault, SessionRefused};
@@ -32,7 +31,7 @@ use modem_desk::{DriverEnd, Outcome, Request, Urc};
 pub use offline::{Offline, OfflineRefused};
 pub use polling::Progress;
 use serial_line::SerialLine;
-use std::alloc::{AllocError, Global};
+use std::alloc::Global;
 use std::marker::Model;
 use std::sync::Wait;
 pub use turn::Turn;
@@ -66,38 +65,26 @@ pub struct Finished<L: SerialLine> {
     pub unannounced: Vec<Urc>,
 }
 
-/// The kinds that a desk listens to.
-fn listened(alloc: Global, driver: &DriverEnd) -> Result<Vec<UrcKind>, AllocError>
-    ensures { IfOk result (λ ks. (k : UrcKind) → Contains ks.items k ↔ Contains driver.now.desk.kinds k) }
-{
-    let mut kinds = Vec::with_capacity(alloc, KINDS.len())?;
-    for kind in KINDS {
-        if driver.listens(kind) {
-            kinds.push(kind)?;
-        }
-    }
-    Ok(kinds)
-}
-
-/// What a session over this desk's end keeps at first.
-fn begin(alloc: Global, driver: &DriverEnd, n1: u16) -> Result<Kept, SessionError>
+/// What a session over this desk's end keeps at first, at a modem with the codes of this dialect.
+fn begin(
+    alloc: Global,
+    driver: &DriverEnd,
+    n1: u16,
+    dialect: &Dialect,
+) -> Result<Kept, SessionError>
+    ensures fresh { IfOk result (λ k. k ≡ kept_by dialect.now n1 driver.now.desk.kinds) }
     ensures begins { IfOk result (λ k. (l : LineView)
-        → KeptFits (beginning_of n1 l driver.now) l driver.now k []) }
-    ensures fresh { IfOk result (λ k. k ≡ new_kept n1 k.core.kinds) }
+        → KeptFits (beginning_by (dialect_of dialect.now) n1 l driver.now) l driver.now k []) }
     ensures bad_n1 { IsErrOf result why.BadN1 ↔ ((n1 < 31) ⊎ (32767 < n1)) }
 {
-    if n1 < 31 || n1 > 32767 {
-        return Err(SessionError::BadN1);
-    }
-    let kinds = listened(alloc, driver)?;
-    Kept::new(alloc, n1, kinds.as_slice())
+    Kept::with_dialect(alloc, n1, dialect, driver.kinds())
 }
 
 impl<L: SerialLine, R: Wait + Drop> Session<L, R> {
     ghost use Rattle.modem_driver.specs.contracts.session.Session.{the_row};
 
-    /// A session that has done nothing yet, over a line and the driver's end of a desk, whatever they
-    /// did before. N1 is how many octets of information a frame may have. It keeps the right to wait
+    /// A session with a standard modem that has done nothing yet, over a line and the driver's end of a desk,
+    /// whatever they did before. N1 is how many octets of information a frame may have. It keeps the right to wait
     /// and the allocator, and takes room for 128 requests and 128 outcomes. Refusals, which hand the
     /// line and the desk's end back: 2 BadN1 where N1 isn't 31 to 32767, checked first; 1 NoMemory.
     pub fn new(
@@ -115,7 +102,28 @@ impl<L: SerialLine, R: Wait + Drop> Session<L, R> {
             × (((n1 < 31) ⊎ (32767 < n1)) → IsErr result × IfErr result (λ e. e.why ≡ why.BadN1)) }
         ensures back { IfErr result (λ e. (e.line ≡ line) × (e.driver ≡ driver)) }
     {
-        match begin(alloc, &driver, n1) {
+        let standard = Dialect::standard(alloc);
+        Session::with_dialect(rt, alloc, line, driver, n1, &standard)
+    }
+
+    /// The same with a modem whose codes are those of this dialect, of which it takes a copy.
+    pub fn with_dialect(
+        rt: R,
+        alloc: Global,
+        line: L,
+        driver: DriverEnd,
+        n1: u16,
+        dialect: &Dialect,
+    ) -> Result<Session<L, R>, SessionRefused<L>>
+        ensures begins { IfOk result (λ s.
+            FitsAll (beginning_by (dialect_of dialect.now) n1 (line_by L.received L.sent L.calls L.failures L.empty_reads L.stalled_writes line) driver)
+            (line_by L.received L.sent L.calls L.failures L.empty_reads L.stalled_writes) s []) }
+        ensures same { IfOk result (λ s. (s.line ≡ line) × (s.driver ≡ driver)) }
+        ensures bad_n1 { (IfErr result (λ e. e.why ≡ why.BadN1 → ((n1 < 31) ⊎ (32767 < n1))))
+            × (((n1 < 31) ⊎ (32767 < n1)) → IsErr result × IfErr result (λ e. e.why ≡ why.BadN1)) }
+        ensures back { IfErr result (λ e. (e.line ≡ line) × (e.driver ≡ driver)) }
+    {
+        match begin(alloc, &driver, n1, dialect) {
             Ok(kept) => Ok(Session {
                 rt,
                 line,

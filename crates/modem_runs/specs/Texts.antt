@@ -86,6 +86,7 @@ urc_text UrcKind.Cgreg = codes "CGREG"
 urc_text UrcKind.Cgev = codes "CGEV"
 urc_text UrcKind.Ciev = codes "CIEV"
 urc_text UrcKind.Other = codes "OTHER"
+urc_text (UrcKind.Own number) = codes "OWN"
 
 -- an act; `Given` isn't one
 abbrev pub act_text : Act → List ℕ

@@ -198,6 +198,7 @@ fn urc_word(kind: UrcKind) -> &'static str
         UrcKind::Cgev => "CGEV",
         UrcKind::Ciev => "CIEV",
         UrcKind::Other => "OTHER",
+        UrcKind::Own(_) => "OWN",
     }
 }
 

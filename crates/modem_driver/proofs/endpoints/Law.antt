@@ -6,8 +6,8 @@ use Rattle.modem_history.specs.Acts.{Act, after}
 use Rattle.modem_history.specs.Sessions.{Beginning, LineView}
 use Rattle.modem_history.proofs.calls.StatesAfterActs.{after_both}
 use Rattle.modem_driver.specs.EndpointLaws.{Call, Calls, World, WentOn, OneHistory, TellsAll, none_called, called_more, gave_octets, took_octets, took_request, refused, ticked, lost, gave_outcome, gave_line}
-use Rattle.modem_driver.specs.Endpoints.{EndpointState, EndpointFits, Begins, LeadsOver}
-use Rattle.modem_driver.specs.SessionStates.{beginning_of}
+use Rattle.modem_driver.specs.Endpoints.{EndpointState, EndpointFits, BeginsBy, LeadsOver}
+use Rattle.modem_driver.specs.SessionStates.{beginning_by}
 
 -- what a call adds, and that the desk stays
 record Adds (b : Beginning) (w v : World) : Type 0 where
@@ -46,9 +46,9 @@ unfolding OneHistory
 one_history b w v past some fit calls = (all_calls b w v calls).goes past some fit
 
 pub tells_all : TellsAll
-unfolding TellsAll Begins
-tells_all n1 kinds w v same some begins calls =
-    let b = beginning_of n1 w.line w.driver in
+unfolding TellsAll BeginsBy
+tells_all dialect n1 kinds w v same some begins calls =
+    let b = beginning_by dialect n1 w.line w.driver in
     let g = (all_calls b w v calls).goes [] some (begins w.line w.driver same) in
     let s = g.fits.stands.session in
     record {

@@ -6,6 +6,9 @@ use Rattle.std.proofs.lemmas.List.{append-nil}
 use Rattle.std.proofs.lemmas.List.Folds.{list_all-append}
 use Rattle.std.specs.Prelude.{◌≡◌, ℕ, ◌+◌, ◌<◌, ◌≤◌, true, List, [], ◌∷◌, ◌++◌, length, map, refl, option_to_list, Option, None, Some, Contains, Result, Ok, Err, OnErr}
 use Rattle.std.specs.List.{list_all}
+use Rattle.at_text.specs.Dialects.{Dialect, standard}
+use Rattle.at_text.specs.Rules.{Rules, no_rules, dialect_of}
+use Rattle.at_text.proofs.NoRules.{no_rules_standard}
 use Rattle.at_text.specs.declared.unsolicited.UrcKind.{UrcKind}
 use Rattle.modem_desk.specs.declared.request.Ask.{Ask}
 use Rattle.modem_desk.specs.declared.request.Request.{Request}
@@ -20,8 +23,8 @@ use Rattle.modem_history.proofs.law_proofs.SessionLaws.{since_more}
 use Rattle.modem_driver.specs.Cores.{Fits}
 use Rattle.modem_driver.specs.Holding.{HoldsFit}
 use Rattle.modem_driver.specs.EndpointSteps.{HandlesFrames}
-use Rattle.modem_driver.specs.Endpoints.{EndpointFits, Begins, HasNoneAside, LeadsOver, Numbers, Refuses, TakesRequest, is_numbered, with_taken}
-use Rattle.modem_driver.specs.SessionStates.{Kept, KeptGoes, new_kept, seen_by, end_of}
+use Rattle.modem_driver.specs.Endpoints.{EndpointFits, Begins, BeginsBy, HasNoneAside, LeadsOver, Numbers, Refuses, TakesRequest, is_numbered, with_taken}
+use Rattle.modem_driver.specs.SessionStates.{Kept, KeptGoes, kept_by, new_kept, seen_by, end_of}
 use Rattle.modem_driver.specs.TurnSteps.{StandingFits, Leads, turn_state}
 use Rattle.modem_driver.specs.TurnTakes.{TakesAside}
 use Rattle.modem_driver.proofs.endpoints.WholeCalls.{leads_over}
@@ -33,14 +36,21 @@ use Rattle.modem_driver.proofs.sessions.WaitingDeliveries.{told_part, heard_part
 
 -- ## The beginning
 
-pub begins : (n1 : ℕ) (ks : List UrcKind) (k : Kept) (next : ℕ) → k ≡ new_kept n1 ks → Fits k.core [] → HoldsFit k.core [] → Begins n1 ks (record { kept = k; next = next })
-unfolding Begins
-begins n1 ks k next e fits holds l d same =
-    let inside = kept_begins n1 ks k d e (λ m. ((λ c. subst (λ (xs : List UrcKind). Contains xs m) (sym same) c), (λ c. subst (λ (xs : List UrcKind). Contains xs m) same c))) fits holds l in
+begins_so : (rules : Rules) (dialect : Dialect) → dialect ≡ dialect_of rules → (n1 : ℕ) (ks : List UrcKind) (k : Kept) (next : ℕ) → k ≡ kept_by rules n1 ks → Fits k.core [] → HoldsFit k.core []
+    → BeginsBy dialect n1 ks (record { kept = k; next = next })
+unfolding BeginsBy
+begins_so rules dialect is n1 ks k next e fits holds l d same =
+    let inside = kept_begins rules dialect is n1 ks k d e (λ m. ((λ c. subst (λ (xs : List UrcKind). Contains xs m) (sym same) c), (λ c. subst (λ (xs : List UrcKind). Contains xs m) same c))) fits holds l in
     record {
-      stands = begins_over n1 ks k l d e inside;
+      stands = begins_over rules dialect n1 ks k l d e inside;
       numbers = ap (list_all (is_numbered next)) (drop-length d.taken);
     }
+
+pub begins : (rules : Rules) (n1 : ℕ) (ks : List UrcKind) (k : Kept) (next : ℕ) → k ≡ kept_by rules n1 ks → Fits k.core [] → HoldsFit k.core [] → BeginsBy (dialect_of rules) n1 ks (record { kept = k; next = next })
+begins rules n1 ks k next e fits holds = begins_so rules (dialect_of rules) refl n1 ks k next e fits holds
+
+pub begins_standard : (n1 : ℕ) (ks : List UrcKind) (k : Kept) (next : ℕ) → k ≡ new_kept n1 ks → Fits k.core [] → HoldsFit k.core [] → Begins n1 ks (record { kept = k; next = next })
+begins_standard n1 ks k next e fits holds = begins_so no_rules standard (sym no_rules_standard) n1 ks k next e fits holds
 
 -- ## Numbers
 

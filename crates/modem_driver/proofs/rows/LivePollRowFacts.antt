@@ -29,6 +29,9 @@ use Rattle.modem_driver.specs.PollRows.{bare_desk, first_line, lost_session}
 use Rattle.modem_driver.specs.LivePollRows.{AreNoLivePolls, AsksPerTurn, IsNewSession, NoTickInAPoll, NoTickIsAPoll, ReadsTheLine, after_flags, after_idle, lost_and_stopped, new_session, ticks_in}
 use Rattle.modem_driver.proofs.cores.NewCore.{new_fits}
 use Rattle.modem_driver.proofs.sessions.PollLaws.{no_loss_is_kept_back, no_loss_is_stopped}
+use Rattle.at_text.specs.Dialects.{standard}
+use Rattle.at_text.specs.Rules.{no_rules}
+use Rattle.at_text.proofs.NoRules.{no_rules_standard}
 use Rattle.modem_driver.proofs.sessions.StartAndTick.{kept_begins}
 
 never : {P : Type 0} → false ≡ true → P
@@ -325,8 +328,8 @@ pub is_new_session : IsNewSession
 unfolding IsNewSession BeginsFitting
 is_new_session at = record {
   session = begins_fitting (beginning_of 31 first_line (bare_desk at));
-  inside = kept_begins 31 [] (new_kept 31 []) (bare_desk at) refl (λ m. ((λ c. c), (λ c. c)))
-      (new_fits (new_kept 31 []).core 31 [] refl (stations.new_fits Initiator 31 (new_kept 31 []).core.station.channels [] refl refl))
+  inside = kept_begins no_rules standard (sym no_rules_standard) 31 [] (new_kept 31 []) (bare_desk at) refl (λ m. ((λ c. c), (λ c. c)))
+      (new_fits (new_kept 31 []).core no_rules 31 [] refl (stations.new_fits Initiator 31 (new_kept 31 []).core.station.channels [] refl refl))
       (record { held_are = λ d small own opened. never opened }) first_line;
 }
 

@@ -2,6 +2,8 @@
 use Rattle.std.proofs.Common.{ap, sym, ◌∙◌, subst, arith}
 use Rattle.std.specs.Prelude.{◌≡◌, ◌↔◌, ℕ, ◌≤◌, true, false, List, [], ◌∷◌, length, refl, find, option_map, Contains, Result, Ok, Err, IfOk}
 use Rattle.at_text.specs.declared.unsolicited.UrcKind.{UrcKind}
+use Rattle.at_text.specs.Dialects.{Dialect}
+use Rattle.at_text.specs.Rules.{Rules, dialect_of}
 use Rattle.modem_desk.specs.Ends.{DriverView}
 use Rattle.modem_history.specs.Acts.{Act, Tick, after}
 use Rattle.modem_history.specs.Calls.{calls, seen}
@@ -10,10 +12,10 @@ use Rattle.modem_history.specs.SessionLaws.{BeginsFitting}
 use Rattle.modem_history.specs.Turns.{lines_heard}
 use Rattle.modem_history.proofs.calls.CalledActs.{calls_said}
 use Rattle.modem_history.proofs.law_proofs.SessionLaws.{begins_fitting}
-use Rattle.modem_driver.specs.Cores.{Core, Fits, Handles, GoesOn}
+use Rattle.modem_driver.specs.Cores.{dialect_in, Core, Fits, Handles, GoesOn}
 use Rattle.modem_driver.specs.Holding.{HoldsFit, KeepsHeld}
 use Rattle.modem_driver.specs.Endings.{HasCome, asker_of, course_after, is_answered, is_stop}
-use Rattle.modem_driver.specs.SessionStates.{SessionState, Kept, KeptFits, KeptGoes, KeptTicks, Ticks, new_kept, beginning_of, seen_by, end_of}
+use Rattle.modem_driver.specs.SessionStates.{SessionState, Kept, KeptFits, KeptGoes, KeptTicks, Ticks, kept_by, beginning_by, seen_by, end_of}
 use Rattle.modem_driver.specs.declared.session.error.SessionError.{SessionError}
 use Rattle.modem_driver.specs.WaitingLists.{WaitingLists, Keeps}
 use Rattle.modem_driver.proofs.sessions.LongerHistories.{gots_after, losses_after, lost_after}
@@ -30,12 +32,13 @@ use Rattle.modem_history.specs.Lawful.{Lawful}
 unsound : {P : Type 0} → true ≡ false → P
 unsound e = cc
 
-pub kept_begins : (n1 : ℕ) (ks : List UrcKind) (k : Kept) (d : DriverView) → k ≡ new_kept n1 ks → ((m : UrcKind) → Contains ks m ↔ Contains d.desk.kinds m) → Fits k.core [] → HoldsFit k.core []
-    → (l : LineView) → KeptFits (beginning_of n1 l d) l d k []
-kept_begins n1 ks k d e same fits holds l = record {
+pub kept_begins : (rules : Rules) (dialect : Dialect) → dialect ≡ dialect_of rules → (n1 : ℕ) (ks : List UrcKind) (k : Kept) (d : DriverView) → k ≡ kept_by rules n1 ks → ((m : UrcKind) → Contains ks m ↔ Contains d.desk.kinds m) → Fits k.core [] → HoldsFit k.core []
+    → (l : LineView) → KeptFits (beginning_by dialect n1 l d) l d k []
+kept_begins rules dialect is n1 ks k d e same fits holds l = record {
   setting = record {
     role_is = refl;
     n1_is = sym (ap (λ (v : Kept). v.core.station.n1) e);
+    dialect_is = is ∙ sym (ap (λ (v : Kept). dialect_in v.core) e);
     listens_are = λ m.
         let known : k.core.kinds ≡ ks = ap (λ (v : Kept). v.core.kinds) e in (
           (λ h. subst (λ (xs : List UrcKind). Contains xs m) (sym known) ((same m).1 (listened_in d.desk.kinds m h))),
@@ -48,15 +51,15 @@ kept_begins n1 ks k d e same fits holds l = record {
   callers_are = refl;
   sound = λ h. refl;
   by_fault = λ h. unsound (sym h ∙ ap (λ (v : Kept). v.faulty) e);
-  come = subst (HasCome (beginning_of n1 l d) (seen_by l (end_of d) k) []) (sym (ap (λ (v : Kept). v.course) e)) refl;
+  come = subst (HasCome (beginning_by dialect n1 l d) (seen_by l (end_of d) k) []) (sym (ap (λ (v : Kept). v.course) e)) refl;
   one_stop = omega arith;
 }
 
-pub begins_over : (n1 : ℕ) (ks : List UrcKind) (k : Kept) (l : LineView) (d : DriverView) → k ≡ new_kept n1 ks → KeptFits (beginning_of n1 l d) l d k [] → FitsKept (beginning_of n1 l d) l d k []
+pub begins_over : (rules : Rules) (dialect : Dialect) (n1 : ℕ) (ks : List UrcKind) (k : Kept) (l : LineView) (d : DriverView) → k ≡ kept_by rules n1 ks → KeptFits (beginning_by dialect n1 l d) l d k [] → FitsKept (beginning_by dialect n1 l d) l d k []
 unfolding BeginsFitting
-begins_over n1 ks k l d e inside =
-    let b = beginning_of n1 l d in
-    let fresh : SessionFits b (seen_by l (end_of d) (new_kept n1 ks)) [] = begins_fitting b in
+begins_over rules dialect n1 ks k l d e inside =
+    let b = beginning_by dialect n1 l d in
+    let fresh : SessionFits b (seen_by l (end_of d) (kept_by rules n1 ks)) [] = begins_fitting b in
     record { session = subst (λ (v : Kept). SessionFits b (seen_by l (end_of d) v) []) (sym e) fresh; inside = inside }
 
 -- ## A tick
@@ -116,8 +119,10 @@ unfolding KeptGoes Ticks
 session_ticks {X} look x d s old new e h = subst (λ (v : SessionState X). Ticks look v (record { line = x; driver = d; kept = new })) e
     (record { acts = h.acts; goes = λ b. h.goes b (look x) d; tick = λ b. h.tick b (look x) d })
 
-pub all_begin : (n1 : ℕ) (ks lent : List UrcKind) (r : Result Kept SessionError) (d : DriverView) → lent ≡ ks → ((m : UrcKind) → Contains ks m ↔ Contains d.desk.kinds m)
-    → IfOk r (λ k. k ≡ new_kept n1 lent) → IfOk r (λ k. Fits k.core []) → IfOk r (λ k. HoldsFit k.core [])
-    → IfOk r (λ k. (l : LineView) → KeptFits (beginning_of n1 l d) l d k [])
-all_begin n1 ks lent (Ok k) d e same is fits holds = kept_begins n1 ks k d (is ∙ ap (new_kept n1) e) same fits holds
-all_begin n1 ks lent (Err why) d e same is fits holds = tt
+pub all_begin : (rules : Rules) (n1 : ℕ) (r : Result Kept SessionError) (d : DriverView) (ks : List UrcKind) → ks ≡ d.desk.kinds
+    → IfOk r (λ k. k ≡ kept_by rules n1 ks) → IfOk r (λ k. Fits k.core []) → IfOk r (λ k. HoldsFit k.core [])
+    → IfOk r (λ k. (l : LineView) → KeptFits (beginning_by (dialect_of rules) n1 l d) l d k [])
+all_begin rules n1 (Ok k) d ks e is fits holds =
+    kept_begins rules (dialect_of rules) refl n1 ks k d is
+    (λ m. (λ c. subst (λ (xs : List UrcKind). Contains xs m) e c, λ c. subst (λ (xs : List UrcKind). Contains xs m) (sym e) c)) fits holds
+all_begin rules n1 (Err why) d ks e is fits holds = tt

@@ -3,7 +3,7 @@ ghost use Rattle.std.specs.Prelude.{◌≡◌, ◌≢◌, ◌↔◌, ◌+◌, �
 ghost use Rattle.modem_driver.specs.Cores.{Fits};
 ghost use Rattle.modem_driver.specs.Endings.{KeepsEnd};
 ghost use Rattle.modem_driver.specs.Holding.{HoldsFit};
-ghost use Rattle.modem_driver.specs.SessionStates.{new_kept, KeptLoses, KeptTicks};
+ghost use Rattle.modem_driver.specs.SessionStates.{kept_by, new_kept, KeptLoses, KeptTicks};
 ghost use Rattle.modem_driver.specs.declared.session.error.SessionError.TheVariants as why;
 ghost use Rattle.modem_driver.specs.declared.session.error.SessionFault.TheVariants as fault;
 
@@ -12,7 +12,7 @@ use crate::error::CoreError;
 use crate::session::ending::Course;
 use crate::session::error::{SessionError, SessionFault};
 use crate::session::waiting::Waiting;
-use at_text::UrcKind;
+use at_text::{Dialect, UrcKind};
 use modem_desk::{Outcome, Request, Urc};
 use mux_frame::Deframer;
 use mux_station::WriteBuffer;
@@ -67,15 +67,31 @@ fn make_room(alloc: Global) -> Result<(ReadBuffer, WriteBuffer, Waiting), AllocE
 }
 
 impl Kept {
-    /// Nothing has happened yet; it listens to these kinds. It takes all the room that it needs but
-    /// for lines that wait. Refusals: 2 BadN1, checked first; 1 NoMemory.
+    /// Nothing has happened yet; it listens to these kinds, at a standard modem. It takes all the room that it needs
+    /// but for lines that wait. Refusals: 2 BadN1, checked first; 1 NoMemory.
     pub(crate) fn new(alloc: Global, n1: u16, kinds: &[UrcKind]) -> Result<Kept, SessionError>
         ensures ok { IfOk result (λ k. k ≡ new_kept n1 kinds.now) }
         ensures past { IfOk result (λ k. Fits k.core []) }
         ensures held { IfOk result (λ k. HoldsFit k.core []) }
         ensures bad_n1 { IsErrOf result why.BadN1 ↔ ((n1 < 31) ⊎ (32767 < n1)) }
     {
-        let core = match Core::new(alloc, n1, kinds) {
+        let standard = Dialect::standard(alloc);
+        Kept::with_dialect(alloc, n1, &standard, kinds)
+    }
+
+    /// The same at a modem whose codes are those of this dialect.
+    pub(crate) fn with_dialect(
+        alloc: Global,
+        n1: u16,
+        dialect: &Dialect,
+        kinds: &[UrcKind],
+    ) -> Result<Kept, SessionError>
+        ensures ok { IfOk result (λ k. k ≡ kept_by dialect.now n1 kinds.now) }
+        ensures past { IfOk result (λ k. Fits k.core []) }
+        ensures held { IfOk result (λ k. HoldsFit k.core []) }
+        ensures bad_n1 { IsErrOf result why.BadN1 ↔ ((n1 < 31) ⊎ (32767 < n1)) }
+    {
+        let core = match Core::with_dialect(alloc, n1, dialect, kinds) {
             Ok(core) => core,
             Err(CoreError::BadN1) => return Err(SessionError::BadN1),
             Err(_) => return Err(SessionError::NoMemory),

@@ -13,13 +13,13 @@ use modem_desk::DriverEnd;
 /// How many callers a number of 8 bits can name.
 const CALLERS: usize = 256;
 
-/// How many kinds of lines there are.
-const KINDS: usize = 7;
+/// How many kinds of lines there are: those of the standards, Other, and 256 of one's own.
+const KINDS: usize = 263;
 
-/// The place of a kind in their list.
+/// The place of a kind: first those of the standards, then those of one's own.
 fn place_of(kind: UrcKind) -> usize
     ensures place { result ≡ kind_place kind }
-    ensures few { result < 7 }
+    ensures few { result < 263 }
 {
     match kind {
         UrcKind::Ring => 0,
@@ -29,6 +29,7 @@ fn place_of(kind: UrcKind) -> usize
         UrcKind::Cgev => 4,
         UrcKind::Ciev => 5,
         UrcKind::Other => 6,
+        UrcKind::Own(number) => 7 + usize::from(number),
     }
 }
 

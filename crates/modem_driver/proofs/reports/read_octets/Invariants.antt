@@ -1,10 +1,10 @@
 -- The octets so far are read.
 use Rattle.std.specs.Prelude.{drop, map}
-use Rattle.at_text.specs.Dialects.{standard}
+use Rattle.at_text.specs.Rules.{dialect_of}
 use Rattle.modem_history.specs.Acts.{act_of}
 use Rattle.modem_driver.proofs.lines.ReportedLines.{ReadSoFar}
 use Rattle.modem_driver.proofs.reports.read_octets.Given as goal
 
 abbrev pub invariant-loop-octet : goal.invariant-loop-octet
 invariant-loop-octet l =
-    ReadSoFar standard l.kinds l.reading (record { kept = l.reader; window = l.window; acts = map act_of l.acts.items }) (drop l.octet-index l.octets) (record { kept = l.initial.reader; window = l.initial.window; acts = map act_of l.initial.acts.items }) l.octets
+    ReadSoFar (dialect_of l.dialect) l.kinds l.reading (record { kept = l.reader; window = l.window; acts = map act_of l.acts.items }) (drop l.octet-index l.octets) (record { kept = l.initial.reader; window = l.initial.window; acts = map act_of l.initial.acts.items }) l.octets

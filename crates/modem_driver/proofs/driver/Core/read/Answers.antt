@@ -1,7 +1,7 @@
 -- The information is read on a fork of what is kept of its connection.
 use Rattle.std.proofs.Common.{◌≡◌, ℕ, List, [], ◌∷◌, ◌∙◌, ap, refl}
 use Rattle.std.specs.Prelude.{Option, option_map, map}
-use Rattle.at_text.specs.Dialects.{standard}
+use Rattle.at_text.specs.Rules.{dialect_of}
 use Rattle.at_text.specs.OpenWindow.{OpenWindow}
 use Rattle.at_text.specs.Forks.{forked}
 use Rattle.mux_frame.specs.Frames.{Frame, frame_of}
@@ -23,7 +23,7 @@ returns-clause-read c =
     let reading : Reading = record { alloc = c.self.inside.alloc; dlci = c.args.frame.dlci; owner = c.first_owner.result } in
     let first : Read = record { kept = c.fork.inside.reader; window = c.fork.inside.window; acts = map act_of c.in_ok-acts.acts.items } in
     let last : Read = record { kept = c.read_octets.new.reader; window = c.read_octets.new.window; acts = map act_of c.read_octets.new.acts.items } in
-    let reads : ReadsAll standard c.as_slice-2.result.now reading f.info first last = c.in_ok-read_octets.ensures in
+    let reads : ReadsAll (dialect_of c.self.inside.dialect) c.as_slice-2.result.now reading f.info first last = c.in_ok-read_octets.ensures in
     let lane : record { kept = c.fork.inside.reader; window = c.fork.inside.window; held = c.fork.inside.held } ≡ forked_lane (lane_at old f.dlci)
     = c.fork.view_is ∙ c.fork-fork.ensures.fork in
     let kept : c.fork.inside.reader ≡ (lane_at old f.dlci).kept = ap (λ (x : Lane). x.kept) lane in
