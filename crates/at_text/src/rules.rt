@@ -1,5 +1,5 @@
 //! Rules of lines: a form and a text.
-ghost use Rattle.std.specs.Prelude.{◌≡◌, ◌≤◌, ◌+◌, [], ◌∷◌, ◌++◌, length, OnOk, OnErr, option_copied};
+ghost use Rattle.std.specs.Prelude.{◌≡◌, ◌≤◌, ◌+◌, [], ◌∷◌, ◌++◌, length, OnOk, OnErr, option_map, option_copied};
 ghost use Rattle.std.specs.List.{list_any, find, position, position_or_len};
 ghost use Rattle.std.specs.Str.{bytes_eq};
 ghost use Rattle.at_text.specs.Octets.{is_digit, skip_blanks, begins};
@@ -8,7 +8,7 @@ ghost use Rattle.at_text.specs.Deciding.{lent, both_take, can_meet};
 
 use crate::octets::skip_blanks;
 use crate::text::Text;
-use crate::unsolicited::{behind_comma, is_without_second};
+use crate::unsolicited::{UrcKind, behind_comma, is_without_second};
 use arrayvec::ArrayVec;
 use std::alloc::AllocError;
 
@@ -174,10 +174,18 @@ pub(crate) fn first_place(patterns: &[Pattern], line: &[u8]) -> Option<usize>
 }
 
 /// The first rule that takes the line.
-pub(crate) fn first_urc<'a>(urcs: &'a [Urc], line: &[u8]) -> Option<&'a Urc>
+fn first_urc<'a>(urcs: &'a [Urc], line: &[u8]) -> Option<&'a Urc>
     ensures { option_copied result ≡ find (λ u. takes u.pattern line.now) urcs.now }
 {
     urcs.iter().find(|urc| urc.pattern.takes(line))
+}
+
+/// The kind of a line by the first rule that takes it.
+pub(crate) fn first_kind(urcs: &[Urc], line: &[u8]) -> Option<UrcKind>
+    ensures { result ≡ option_map (λ u. UrcKind.Own u.kind) (find (λ u. takes u.pattern line.now) urcs.now) }
+{
+    let urc = first_urc(urcs, line)?;
+    Some(UrcKind::Own(urc.kind))
 }
 
 /// The place of the first rule of this name, or how many there are.

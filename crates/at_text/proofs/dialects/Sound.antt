@@ -1,22 +1,23 @@
 -- Which rules make a dialect in which no line is both.
 use Rattle.std.specs.Prelude.{◌≡◌, ℕ, ◌≤◌, ◌<◌, ◌+◌, nat_le, Bool, true, false, ◌||◌, ◌&&◌, not, List, [], ◌∷◌, ◌++◌, length, Option, Some, None, is_some, refl}
-use Rattle.std.specs.List.{list_any, list_all}
+use Rattle.std.specs.List.{list_any, list_all, AllByRecursion}
 use Rattle.std.proofs.Common.{arith, sym, ◌∙◌, ap, ◌⊎◌, inl, inr}
-use Rattle.std.proofs.lemmas.Bool.{and_parts, and_from, or_cases, or_left, or_right, or_from, or_parts, both_ways, false_from_ne_true, le-leb}
+use Rattle.std.proofs.lemmas.Bool.{and_parts, and_from, or_cases, or_left, or_right, or_from, or_parts, both_ways, false_from_ne_true, true_from_ne_false, le-leb}
 use Rattle.std.proofs.lemmas.List.{length_push}
 use Rattle.std.proofs.lemmas.List.Folds.{list_any-append, list_all-append}
-use Rattle.at_text.specs.declared.dialect_error.DialectError.TheVariants.{TooManyRules, TextTooLong, Command, Ambiguous}
+use Rattle.at_text.specs.declared.dialect_error.DialectError.TheVariants.{TooManyRules, TextTooLong, BadName, Command, Ambiguous}
 use Rattle.at_text.specs.declared.rules.Form.{Form}
 use Rattle.at_text.specs.declared.rules.Pattern.{Pattern}
 use Rattle.at_text.specs.declared.rules.Urc.{Urc}
 use Rattle.at_text.specs.Commands.{has_at}
 use Rattle.at_text.specs.Finals.{final_of}
 use Rattle.at_text.specs.Unsolicited.{unsolicited_of}
-use Rattle.at_text.specs.Rules.{Rules, Rule, FinalRule, UrcRule, pattern, takes, with_rule, final_by, kind_by, dialect_of, no_rules, urc, kind_named}
-use Rattle.at_text.specs.Refusals.{IsSound, IsAmbiguous, HasNoReasonBelow, TakesCommand, is_short, count, text_of, pattern_of}
+use Rattle.at_text.specs.Rules.{Rules, Rule, FinalRule, UrcRule, pattern, takes, with_rule, final_by, kind_by, dialect_of, no_rules, urc, kind_named, name_at}
+use Rattle.at_text.specs.Refusals.{IsSound, IsAmbiguous, HasNoReasonBelow, TakesCommand, is_short, is_name, count, text_of, pattern_of}
 use Rattle.at_text.specs.Deciding.{can_meet}
 use Rattle.at_text.specs.StandardRules.{standard_finals, standard_urcs}
 use Rattle.at_text.proofs.dialects.Choosing.{standard_final, standard_urc, some_final, some_urc}
+use Rattle.at_text.proofs.dialects.Naming.{all_more, kept_name, last_name}
 use Rattle.at_text.proofs.dialects.Sorts.{apart, are_short, commands, has_at_taken}
 
 pub none_from : {T : Type 0} (o : Option T) → is_some o ≡ false → o ≡ None
@@ -37,6 +38,8 @@ pub record Checks (rules : Rules) : Type 0 where
   pub few : count rules ≤ 64
   pub short_finals : are_short (λ p. p) rules.finals ≡ true
   pub short_urcs : are_short (λ u. u.pattern) rules.urcs ≡ true
+  pub names : list_all (λ u. is_name u.name) rules.urcs ≡ true
+  pub named : AllByRecursion (λ u. name_at rules u.kind ≡ Some u.name) rules.urcs
   pub standard_own : list_any (λ r. list_any (λ u. can_meet r.0 u.pattern) rules.urcs) standard_finals ≡ false
   pub own_standard : list_any (λ p. list_any (λ r. can_meet p r.0) standard_urcs) rules.finals ≡ false
   pub own_own : list_any (λ p. list_any (λ u. can_meet p u.pattern) rules.urcs) rules.finals ≡ false
@@ -92,6 +95,8 @@ sound_by rules k = record {
   few = k.few;
   short_finals = k.short_finals;
   short_urcs = k.short_urcs;
+  names = k.names;
+  named = k.named;
   clear = λ a. not_both rules k a.line a.ends a.unasked;
   no_final = λ line at. none_from (final_by rules line) (false_from_ne_true (is_some (final_by rules line)) (no_final_at rules k line at));
   no_urc = λ line at. none_from (kind_by rules line) (false_from_ne_true (is_some (kind_by rules line)) (no_urc_at rules k line at))
@@ -103,6 +108,8 @@ sound_standard = sound_by no_rules (record {
   few = omega arith;
   short_finals = refl;
   short_urcs = refl;
+  names = refl;
+  named = tt;
   standard_own = refl;
   own_standard = refl;
   own_own = refl;
@@ -149,6 +156,8 @@ sound_with rules (FinalRule form text) sound none = record {
   few = let l : ¬ (64 ≤ count rules) = none TooManyRules (omega arith) in rw length_push (grind arith);
   short_finals = all_push (λ p. is_short p.text) rules.finals (pattern form text) sound.short_finals (is_short_from text (none TextTooLong (omega arith)));
   short_urcs = sound.short_urcs;
+  names = sound.names;
+  named = sound.named;
   clear = none Ambiguous (omega arith);
   no_final = λ line at. no_more_final rules (pattern form text) line (sound.no_final line at)
     (false_from_ne_true (takes (pattern form text) line) (λ t. none Command (omega arith) (record { line = line; begins = at; taken = t })));
@@ -158,6 +167,11 @@ sound_with rules (UrcRule form text name) sound none = record {
   few = let l : ¬ (64 ≤ count rules) = none TooManyRules (omega arith) in rw length_push (grind arith);
   short_finals = sound.short_finals;
   short_urcs = all_push (λ u. is_short u.pattern.text) rules.urcs (urc (kind_named rules name) name (pattern form text)) sound.short_urcs (is_short_from text (none TextTooLong (omega arith)));
+  names = all_push (λ u. is_name u.name) rules.urcs (urc (kind_named rules name) name (pattern form text)) sound.names (true_from_ne_false (is_name name) (none BadName (omega arith)));
+  named = all_more (λ u. name_at rules u.kind ≡ Some u.name) (λ u. name_at (with_rule rules (UrcRule form text name)) u.kind ≡ Some u.name)
+    (λ u h. kept_name rules.urcs (urc (kind_named rules name) name (pattern form text)) u.kind u.name h)
+    rules.urcs (urc (kind_named rules name) name (pattern form text)) sound.named
+    (last_name rules.urcs (urc (kind_named rules name) name (pattern form text)));
   clear = none Ambiguous (omega arith);
   no_final = sound.no_final;
   no_urc = λ line at. no_more_urc rules (urc (kind_named rules name) name (pattern form text)) line (sound.no_urc line at)
