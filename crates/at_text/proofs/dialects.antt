@@ -6,3 +6,5 @@ pub mod Sorts
 pub mod Sound
 pub mod Refusing
 pub mod Results
+pub mod Known
+pub mod DialectRowFacts

@@ -26,13 +26,13 @@ is_solicited dialect line = is_none (dialect.kind_of line)
 pub unsolicited_called :
     (a b c d e f : Bool)
     → is_called
-      (if a then Some Ring
-      else if b then Some Cring
-      else if c then Some Creg
-      else if d then Some Cgreg
-      else if e then Some Cgev
-      else if f then Some Ciev
-      else None)
+    (if a then Some Ring
+    else if b then Some Cring
+    else if c then Some Creg
+    else if d then Some Cgreg
+    else if e then Some Cgev
+    else if f then Some Ciev
+    else None)
     ≡ true
 unsolicited_called true b c d e f = refl
 unsolicited_called false true c d e f = refl

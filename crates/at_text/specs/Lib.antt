@@ -6,6 +6,7 @@ pub mod Unsolicited
 pub mod Dialects
 pub mod Rules
 pub mod StandardRules
+pub mod KnownRules
 pub mod Refusals
 pub mod Deciding
 pub mod Commands
@@ -16,4 +17,5 @@ pub mod Forks
 pub mod Whole
 pub mod Placing
 pub mod Rows
+pub mod DialectRows
 pub mod Numbers

@@ -1,13 +1,13 @@
 -- Which rules a dialect refuses.
-use Rattle.std.specs.Prelude.{◌≡◌, ◌<◌, ◌≤◌, ◌+◌, ℕ, nat_le, nat_lt, Bool, true, false, not, ◌&&◌, ◌||◌, IsTrue, List, [], length, None, is_some}
-use Rattle.std.specs.List.{list_any, list_all}
+use Rattle.std.specs.Prelude.{◌≡◌, ◌<◌, ◌≤◌, ◌+◌, ℕ, nat_le, nat_lt, Bool, true, false, not, ◌&&◌, ◌||◌, IsTrue, List, [], length, None, Some, is_some}
+use Rattle.std.specs.List.{list_any, list_all, AllByRecursion}
 use Rattle.at_text.specs.declared.dialect_error.DialectError.{DialectError}
 use Rattle.at_text.specs.declared.dialect_error.DialectError.TheVariants.{TooManyRules, NoText, TextTooLong, LineEnd, BadName, Command, Ambiguous, NoMemory}
 use Rattle.at_text.specs.declared.rules.Pattern.{Pattern}
 use Rattle.at_text.specs.Commands.{has_at}
 use Rattle.at_text.specs.Lines.{is_line_end}
 use Rattle.at_text.specs.Dialects.{Dialect}
-use Rattle.at_text.specs.Rules.{Rules, Rule, FinalRule, UrcRule, pattern, takes, with_rule, dialect_of, final_by, kind_by}
+use Rattle.at_text.specs.Rules.{Rules, Rule, FinalRule, UrcRule, pattern, takes, with_rule, dialect_of, final_by, kind_by, name_at}
 
 -- how many rules there are
 abbrev pub count : Rules → ℕ
@@ -80,12 +80,14 @@ pub record IsRefused (rules : Rules) (rule : Rule) (why : DialectError) : Type 0
 abbrev pub is_short : List ℕ → Bool
 is_short text = nat_le (length text) 64
 
--- what is so of every dialect: its rules are few and short, no line both ends an answer and is unsolicited, and no
--- line that begins as a command line does is either
+-- what is so of every dialect: its rules are few and short, each has a name, by which its kind is found, no line both
+-- ends an answer and is unsolicited, and no line that begins as a command line does is either
 pub record IsSound (rules : Rules) : Type 0 where
   pub few : count rules ≤ 64
   pub short_finals : list_all (λ p. is_short p.text) rules.finals ≡ true
   pub short_urcs : list_all (λ u. is_short u.pattern.text) rules.urcs ≡ true
+  pub names : list_all (λ u. is_name u.name) rules.urcs ≡ true
+  pub named : AllByRecursion (λ u. name_at rules u.kind ≡ Some u.name) rules.urcs
   pub clear : ¬ IsAmbiguous (dialect_of rules)
   pub no_final : (line : List ℕ) → has_at line ≡ true → final_by rules line ≡ None
   pub no_urc : (line : List ℕ) → has_at line ≡ true → kind_by rules line ≡ None

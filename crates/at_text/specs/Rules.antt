@@ -1,6 +1,6 @@
 -- Rules of lines, as data, and the dialect that they make beside the standard's.
 use Rattle.std.specs.Prelude.{◌≡◌, refl, ℕ, nat_eq, Bool, true, false, ◌&&◌, ◌==◌, List, [], ◌∷◌, ◌++◌, length, drop, Option, Some, None, is_some, not, option_map, if◌then◌else◌}
-use Rattle.std.specs.List.{starts_with, find, position, position_or_len}
+use Rattle.std.specs.List.{starts_with, find, position, position_or_len, slice_get}
 use Rattle.std.specs.Option.{option_or, option_map_or}
 use Rattle.std.specs.Str.{bytes_eq}
 use Rattle.at_text.specs.declared.finals.Final.{Final}
@@ -83,6 +83,23 @@ dialect_of rules = record {
 -- the kind of a name: the place of the first unsolicited rule that has it, and of the next rule where none has
 abbrev pub kind_named : Rules → List ℕ → ℕ
 kind_named rules name = position_or_len (λ u. bytes_eq u.name name) rules.urcs
+
+-- the name of the rule of unsolicited lines at a place
+abbrev pub name_at : Rules → ℕ → Option (List ℕ)
+name_at rules place = option_map (λ u. u.name) (slice_get rules.urcs place)
+
+-- the name of a kind of one's own
+abbrev pub name_of : Rules → UrcKind → Option (List ℕ)
+name_of rules (Own place) = name_at rules place
+name_of rules _ = None
+
+-- the kind of a name that a rule has
+abbrev pub kind_with_name : Rules → List ℕ → Option UrcKind
+kind_with_name rules name = option_map Own (position (λ u. bytes_eq u.name name) rules.urcs)
+
+-- the name of the first rule of unsolicited lines that takes a line
+abbrev pub name_by : Rules → List ℕ → Option (List ℕ)
+name_by rules line = option_map (λ u. u.name) (find (λ u. takes u.pattern line) rules.urcs)
 
 -- a rule of one's own: its lines end an answer, or are unsolicited and of the kind of this name
 pub data Rule : Type 0 where

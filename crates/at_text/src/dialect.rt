@@ -1,15 +1,20 @@
 //! Dialects: which lines end an answer, and which are unsolicited.
-ghost use Rattle.std.specs.Prelude.{◌≡◌, ◌≤◌, IfOk, IfErr, OnOk, OnErr, option_map};
-ghost use Rattle.std.specs.List.{list_any, list_all, position};
+ghost use Rattle.std.specs.Prelude.{◌≡◌, ◌≤◌, IfOk, IfErr, OnOk, OnErr, option_map, option_copied, Some, ℕ};
+ghost use Rattle.std.specs.List.{list_any, list_all, position, find};
 ghost use Rattle.at_text.specs.Lines.{is_line_end};
-ghost use Rattle.at_text.specs.Rules.{FinalRule, UrcRule, pattern, takes, no_rules, with_rule, final_by, kind_by, kind_named, dialect_of};
+ghost use Rattle.at_text.specs.Rules.{FinalRule, UrcRule, pattern, takes, no_rules, with_rule, final_by, kind_by, kind_named, dialect_of, name_at, name_of, name_by, kind_with_name};
 ghost use Rattle.at_text.specs.Refusals.{IsRefused, HasNoReasonBelow, IsSound, count, is_name, is_visible};
 ghost use Rattle.at_text.specs.Deciding.{lent, can_meet, can_take_command, can_be_ambiguous, text_refusal, room_refusal, rule_refusal, refusal_of};
+ghost use Rattle.at_text.specs.KnownRules.{common, dialling};
 ghost use Rattle.at_text.specs.StandardRules.{standard_finals, standard_urcs};
 
 use crate::dialect_error::DialectError;
 use crate::finals::{Final, final_of};
-use crate::rules::{copy_patterns, copy_urcs, Form, Pattern, PatternRef, TEXT_LEN, Urc, first_place, first_urc, meets_pattern, meets_urc, place_named, push_pattern, push_urc};
+use crate::known_rules::{common_finals, common_urcs, dialling_finals};
+use crate::rules::{
+    Form, Pattern, PatternRef, TEXT_LEN, Urc, copy_patterns, copy_urcs, first_kind, first_place,
+    meets_pattern, meets_urc, place_named, push_pattern, push_urc,
+};
 use crate::unsolicited::{UrcKind, unsolicited_of};
 use std::alloc::Global;
 use std::marker::Model;
@@ -39,7 +44,7 @@ impl Model for Dialect {
     ghost invariant = { λ d. IsSound (record { finals = d.finals.items; urcs = d.urcs.items }) };
 }
 
-#[tactic(auto, using(crate::proofs::dialects::Sound::sound_standard, crate::proofs::dialects::Refusing::refused))]
+#[tactic(auto, using(crate::proofs::dialects::Sound::sound_standard, crate::proofs::dialects::Known::sound_common, crate::proofs::dialects::Known::sound_dialling))]
 impl Dialect {
     /// The standard's final codes and unsolicited lines, and no rules of its own.
     pub fn standard(alloc: Global) -> Dialect
@@ -58,6 +63,34 @@ impl Dialect {
     {
         let finals = copy_patterns(&self.finals)?;
         let urcs = copy_urcs(&self.urcs)?;
+        Ok(Dialect { finals, urcs })
+    }
+
+    /// The standard, and what modems commonly send beside it: as a final code `+CMS ERROR:` (27.005, 3.2.5), and as
+    /// unsolicited lines `+CEREG:` (27.007, 10.1.22), `+C5GREG:` (27.007, 10.1.47), `+CMTI:`, `+CDSI:` (27.005,
+    /// 3.4.1), `+CLIP:` (27.007, 7.6), `+CCWA:` (27.007, 7.12), `+CTZV:` and `+CTZE:` (27.007, 8.41), each of the kind
+    /// of its name, without `+` and colon. It is refused for 8 NoMemory alone.
+    ///
+    /// It has neither `+CMT:` nor `+CDS:`, whose message comes on a second line, nor `CONNECT`, behind which octets
+    /// of data follow.
+    pub fn common(alloc: Global) -> Result<Dialect, DialectError>
+        ensures rules { IfOk result (λ dialect. dialect ≡ common) }
+        ensures refused { IfErr result (λ why. why ≡ DialectError.NoMemory) }
+    {
+        let finals = common_finals(alloc)?;
+        let urcs = common_urcs(alloc)?;
+        Ok(Dialect { finals, urcs })
+    }
+
+    /// What `common` has, and the final codes of dialling, `NO CARRIER`, `BUSY`, `NO ANSWER` and `NO DIALTONE` (V.250,
+    /// 5.7.1). A modem can send these unasked as well: then they end whatever command is under way. It is refused for
+    /// 8 NoMemory alone.
+    pub fn dialling(alloc: Global) -> Result<Dialect, DialectError>
+        ensures rules { IfOk result (λ dialect. dialect ≡ dialling) }
+        ensures refused { IfErr result (λ why. why ≡ DialectError.NoMemory) }
+    {
+        let finals = dialling_finals(alloc)?;
+        let urcs = common_urcs(alloc)?;
         Ok(Dialect { finals, urcs })
     }
 
@@ -97,15 +130,44 @@ impl Dialect {
     }
 
     /// The kind of a line that no command asked for: by the standard, else that of the first of the dialect's
-    /// unsolicited rules that takes it. It is never Other.
+    /// unsolicited rules that takes it. It is never Other. The name of a kind of the dialect's own is that of the rule.
     pub fn unsolicited_of(&self, line: &[u8]) -> Option<UrcKind>
-        ensures { result ≡ (dialect_of self.now).kind_of line.now }
+        ensures kind { result ≡ (dialect_of self.now).kind_of line.now }
+        ensures name { (place : ℕ) → result ≡ Some (UrcKind.Own place) → name_at self.now place ≡ name_by self.now line.now }
     {
-        if let Some(kind) = unsolicited_of(line) {
-            return Some(kind);
+        match unsolicited_of(line) {
+            Some(kind) => Some(kind),
+            None => first_kind(&self.urcs, line),
         }
-        let rule = first_urc(&self.urcs, line)?;
-        Some(UrcKind::Own(rule.kind))
+    }
+
+    /// The name of a kind of the dialect's own, and None of any other.
+    pub fn name_of(&self, kind: UrcKind) -> Option<&[u8]>
+        ensures { option_copied result ≡ name_of self.now kind }
+    {
+        match kind {
+            UrcKind::Own(place) => self.name_at(usize::from(place)),
+            _ => None,
+        }
+    }
+
+    fn name_at(&self, place: usize) -> Option<&[u8]>
+        ensures { option_copied result ≡ name_at self.now place }
+    {
+        let rule = self.urcs.get(place)?;
+        Some(rule.name.as_slice())
+    }
+
+    /// The kind of this name, if a rule of the dialect's own has it.
+    pub fn kind_named(&self, name: &[u8]) -> Option<UrcKind>
+        ensures { result ≡ kind_with_name self.now name.now }
+    {
+        let place = place_named(&self.urcs, name);
+        if place < self.urcs.len() {
+            Some(UrcKind::Own(place as u8))
+        } else {
+            None
+        }
     }
 
     /// One more final rule, behind those that there are. It is refused by the first of: 1 TooManyRules, 2 NoText,
@@ -125,7 +187,12 @@ impl Dialect {
     /// One more rule of unsolicited lines, behind those that there are. Its kind is that of the first of them with
     /// the same name, else one of its own. It is refused by the first of: 1 TooManyRules, 2 NoText, 3 TextTooLong,
     /// 4 LineEnd, 5 BadName, 6 Command, 7 Ambiguous, 8 NoMemory, and the dialect stays as it was.
-    pub fn add_unsolicited(&mut self, form: Form, text: &[u8], name: &[u8]) -> Result<(), DialectError>
+    pub fn add_unsolicited(
+        &mut self,
+        form: Form,
+        text: &[u8],
+        name: &[u8],
+    ) -> Result<(), DialectError>
         ensures added { OnOk result (self.new ≡ with_rule self.old (UrcRule form text.now name.now)) }
         ensures taken { OnOk result (HasNoReasonBelow 8 self.old (UrcRule form text.now name.now)) }
         ensures refused { IfErr result (IsRefused self.old (UrcRule form text.now name.now)) }

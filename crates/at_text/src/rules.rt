@@ -1,5 +1,5 @@
 //! Rules of lines: a form and a text.
-ghost use Rattle.std.specs.Prelude.{IfOk, ◌≡◌, ◌≤◌, ◌+◌, [], ◌∷◌, ◌++◌, length, OnOk, OnErr, option_copied};
+ghost use Rattle.std.specs.Prelude.{IfOk, ◌≡◌, ◌≤◌, ◌+◌, [], ◌∷◌, ◌++◌, length, OnOk, OnErr, option_map, option_copied};
 ghost use Rattle.std.specs.List.{list_any, find, position, position_or_len};
 ghost use Rattle.std.specs.Str.{bytes_eq};
 ghost use Rattle.at_text.specs.Octets.{is_digit, skip_blanks, begins};
@@ -8,7 +8,7 @@ ghost use Rattle.at_text.specs.Deciding.{lent, both_take, can_meet};
 
 use crate::octets::skip_blanks;
 use crate::text::Text;
-use crate::unsolicited::{behind_comma, is_without_second};
+use crate::unsolicited::{UrcKind, behind_comma, is_without_second};
 use arrayvec::ArrayVec;
 use std::alloc::AllocError;
 
@@ -82,7 +82,9 @@ impl PatternRef<'_> {
         } else {
             self.text
         };
-        self.shares(other, longer, b"") || self.shares(other, longer, b"\"") || self.shares(other, longer, b"0")
+        self.shares(other, longer, b"")
+            || self.shares(other, longer, b"\"")
+            || self.shares(other, longer, b"0")
     }
 
     /// Whether this text with this ending is a line of both rules.
@@ -184,7 +186,11 @@ pub(crate) fn copy_urcs(urcs: &Vec<Urc>) -> Result<Vec<Urc>, AllocError>
 }
 
 /// One more rule behind these. Want of memory leaves them as they were.
-pub(crate) fn push_pattern(patterns: &mut Vec<Pattern>, form: Form, text: &[u8]) -> Result<(), AllocError>
+pub(crate) fn push_pattern(
+    patterns: &mut Vec<Pattern>,
+    form: Form,
+    text: &[u8],
+) -> Result<(), AllocError>
     ensures ok { OnOk result (patterns.new.items ≡ patterns.old.items ++ pattern form text.now ∷ []) }
     ensures err { OnErr result (patterns.new.items ≡ patterns.old.items) }
 {
@@ -208,7 +214,11 @@ pub(crate) fn push_urc(
     let name = Text::from(Vec::from_slice(alloc, name)?);
     let text = Text::from(Vec::from_slice(alloc, text)?);
     let pattern = Pattern { form, text };
-    urcs.push(Urc { kind, name, pattern })?;
+    urcs.push(Urc {
+        kind,
+        name,
+        pattern,
+    })?;
     Ok(())
 }
 
@@ -220,10 +230,18 @@ pub(crate) fn first_place(patterns: &[Pattern], line: &[u8]) -> Option<usize>
 }
 
 /// The first rule that takes the line.
-pub(crate) fn first_urc<'a>(urcs: &'a [Urc], line: &[u8]) -> Option<&'a Urc>
+fn first_urc<'a>(urcs: &'a [Urc], line: &[u8]) -> Option<&'a Urc>
     ensures { option_copied result ≡ find (λ u. takes u.pattern line.now) urcs.now }
 {
     urcs.iter().find(|urc| urc.pattern.takes(line))
+}
+
+/// The kind of a line by the first rule that takes it.
+pub(crate) fn first_kind(urcs: &[Urc], line: &[u8]) -> Option<UrcKind>
+    ensures { result ≡ option_map (λ u. UrcKind.Own u.kind) (find (λ u. takes u.pattern line.now) urcs.now) }
+{
+    let urc = first_urc(urcs, line)?;
+    Some(UrcKind::Own(urc.kind))
 }
 
 /// The place of the first rule of this name, or how many there are.

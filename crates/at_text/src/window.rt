@@ -168,7 +168,7 @@ impl Window {
         ensures after { OnOk result (self.new ≡ after_line standard self.old line.now) }
         ensures past { IfOk result
             (λ seen. (past : List Mark) → FitsMarks standard self.old past
-                → Sees standard past line.now seen self.new) }
+            → Sees standard past line.now seen self.new) }
         ensures refused { IfErr result (λ why. why ≡ TextError.NoMemory) }
         ensures err { OnErr result (self.new ≡ self.old) }
     {
@@ -182,7 +182,7 @@ impl Window {
         ensures after { OnOk result (self.new ≡ after_line (dialect_of dialect.now) self.old line.now) }
         ensures past { IfOk result
             (λ seen. (past : List Mark) → FitsMarks (dialect_of dialect.now) self.old past
-                → Sees (dialect_of dialect.now) past line.now seen self.new) }
+            → Sees (dialect_of dialect.now) past line.now seen self.new) }
         ensures refused { IfErr result (λ why. why ≡ TextError.NoMemory) }
         ensures err { OnErr result (self.new ≡ self.old) }
     {

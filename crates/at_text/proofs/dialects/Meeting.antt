@@ -36,7 +36,7 @@ taken p line h =
     record {
       rest = drop (length p.text) line;
       whole = (starts_is Decides-eqb line p.text (starts_with nat_eq line p.text) refl).0 parts.0;
-      going = parts.1
+      going = parts.1;
     }
 
 -- ## What a line may go on with in its place
@@ -200,10 +200,10 @@ met_at p q line h =
 met_on : (p q : Pattern) (text : List ℕ) → on_three p q text ≡ true → Met p q
 met_on p q text h =
     elim (or_cases (both_take p q (text ++ [])) (both_take p q (text ++ codes "\"") || both_take p q (text ++ codes "0")) h) [
-      inl a ↦ met_at p q (text ++ []) a
-    | inr r ↦ elim (or_cases (both_take p q (text ++ codes "\"")) (both_take p q (text ++ codes "0")) r) [
-        inl b ↦ met_at p q (text ++ codes "\"") b
-      | inr c ↦ met_at p q (text ++ codes "0") c
+      | inl a ↦ met_at p q (text ++ []) a
+      | inr r ↦ elim (or_cases (both_take p q (text ++ codes "\"")) (both_take p q (text ++ codes "0")) r) [
+        | inl b ↦ met_at p q (text ++ codes "\"") b
+        | inr c ↦ met_at p q (text ++ codes "0") c
       ]
     ]
 

@@ -26,10 +26,11 @@ use Rattle.at_text.proofs.dialects.Meeting.{Taken, taken, takes_front}
 
 pub takes_line : (text line : List ℕ) → takes (pattern Line text) line ≡ bytes_eq line text
 takes_line text line =
-    same_from_decides (takes (pattern Line text) line) (bytes_eq line text)
-    ((λ h. let t = taken (pattern Line text) line h in
-      t.whole ∙ ap (λ rest. text ++ rest) (nil_from_length t.rest (eqb-true (length t.rest) 0 t.going)) ∙ append-nil text),
-     (λ e. ap (takes (pattern Line text)) (e ∙ sym (append-nil text)) ∙ takes_front (pattern Line text) []))
+    same_from_decides (takes (pattern Line text) line) (bytes_eq line text) (
+      (λ h. let t = taken (pattern Line text) line h in
+          t.whole ∙ ap (λ rest. text ++ rest) (nil_from_length t.rest (eqb-true (length t.rest) 0 t.going)) ∙ append-nil text),
+      (λ e. ap (takes (pattern Line text)) (e ∙ sym (append-nil text)) ∙ takes_front (pattern Line text) []),
+    )
     (bytes_eq-Decides line text)
 
 and_true : (b : Bool) → (b && true) ≡ b

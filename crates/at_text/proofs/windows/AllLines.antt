@@ -290,6 +290,7 @@ is_of_kind-called k l e = refl
 
 is_of_kind-unsolicited : (dialect : Dialect) (k : UrcKind) (l : List ℕ) → dialect.kind_of l ≡ Some k → is_of_kind (k, l) ≡ true
 is_of_kind-unsolicited dialect k l h = is_of_kind-called k l (subst (λ (kind : Option UrcKind). is_called kind ≡ true) h (dialect.never_other l))
+
 abbrev of_kinds_in : List (List ℕ) → List Seen → List (UrcKind × List ℕ)
 of_kinds_in ls seen = filter is_of_kind (announced ls seen)
 

@@ -15,13 +15,13 @@ pub returns-in_err-push_pattern-in-None-clause-refused : goal.returns-in_err-pus
 returns-in_err-push_pattern-in-None-clause-refused c =
     if_no_memory c.from_residual.result (IsRefused c.args.self.now (FinalRule c.args.form c.args.text.now)) c.from_residual.ensures.1
     (no_memory c.args.self.now (FinalRule c.args.form c.args.text.now) (subst IsSound c.self.view_is c.self.invariant)
-      (sym c.final_refusal.ensures ∙ c.in-None.is))
+    (sym c.final_refusal.ensures ∙ c.in-None.is))
 
 pub invariant_of-self-in-None : goal.invariant_of-self-in-None
 invariant_of-self-in-None c =
     let rule = FinalRule c.args.form c.args.text.now in
     let fits : refusal_of (record { finals = c.self.inside.finals.items; urcs = c.self.inside.urcs.items }) rule ≡ None =
-      subst (λ (r : Rules). refusal_of r rule ≡ None) (sym c.self.view_is) (sym c.final_refusal.ensures ∙ c.in-None.is) in
+    subst (λ (r : Rules). refusal_of r rule ≡ None) (sym c.self.view_is) (sym c.final_refusal.ensures ∙ c.in-None.is) in
     rw c.in_ok-push_pattern-in-None.ensures.ok
     (sound_more (record { finals = c.self.inside.finals.items; urcs = c.self.inside.urcs.items }) rule c.self.invariant fits)
 
