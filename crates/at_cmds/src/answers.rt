@@ -25,7 +25,7 @@ const CME: &[u8] = b"+CME ERROR:";
 /// How a line with a context begins.
 const CONTEXT: &[u8] = b"+CGDCONT:";
 
-/// What the last line says against a reply.
+/// Why the last line leaves no reply, if it leaves none.
 #[tactic(auto, unfolding(crate::specs::Replies::fault_of))]
 pub(crate) fn fault_in(lines: &[AnswerLine]) -> Option<ReplyFault>
     ensures { result ≡ fault_of lines.now }
@@ -166,7 +166,8 @@ pub(crate) fn oper_reply(alloc: Global, lines: &[AnswerLine]) -> Result<Reply, R
     Ok(Reply::Oper { mode, named })
 }
 
-/// The contexts of all lines with their name, or the fault of the first that isn't of their form.
+/// The contexts of all lines that begin with their name, or the fault of the first such line that
+/// isn't of their form.
 #[tactic(auto, unfolding(crate::specs::Replies::contexts_of))]
 pub(crate) fn contexts_reply(alloc: Global, lines: &[AnswerLine]) -> Result<Reply, ReplyFault>
     ensures { Answers result (contexts_of lines.now) }
@@ -194,7 +195,7 @@ fn is_malformed_context(text: &[u8]) -> bool
 }
 
 #[tactic(auto, using(crate::proofs::AnswerLines::more_none, crate::proofs::AnswerLines::more_some, crate::proofs::AnswerLines::one_left))]
-/// The contexts of the lines that have one. Memory is wanted only where there is a context.
+/// The contexts of the lines that have one. It takes memory only where there is a context.
 fn contexts_in(alloc: Global, lines: &[AnswerLine]) -> Result<Vec<Context>, AllocError>
     ensures ok { IfOk result (λ contexts. contexts.items ≡ filter_map context_in lines.now) }
     ensures err { OnErr result (takes_memory (Reply.Contexts (filter_map context_in lines.now)) ≡ true) }

@@ -5,7 +5,7 @@ ghost use Rattle.at_cmds.specs.Cme.{cme_text, cme_number, is_text_of};
 /// The numbers that have a text here (27.007, 9.2.1 and 9.2.2).
 const CME_NUMBERS: [u32; 14] = [0, 3, 4, 10, 11, 12, 13, 14, 15, 16, 30, 31, 32, 100];
 
-/// The text of a CME number, as a modem writes it at CMEE 2 (27.007, 9.2). Of most numbers there is none.
+/// The text of a CME number, as a modem writes it at CMEE 2 (27.007, 9.2). Most numbers have none here.
 pub fn cme_text(number: u32) -> Option<&'static str>
     ensures { option_map (λ text. text.now) result ≡ cme_text number }
 {

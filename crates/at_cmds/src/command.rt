@@ -12,7 +12,7 @@ use at_text::CommandLine;
 use std::alloc::Global;
 use std::fmt;
 
-/// A command to a modem. It holds what it is given; `line` says whether that can be written.
+/// A command to a modem. It may hold any values; `line` says whether they can be written.
 #[derive(Drop, Debug, PartialEq, Eq)]
 pub enum Command {
     /// `AT+CPIN?`: whether a PIN is wanted (27.007, 8.3).
@@ -99,8 +99,8 @@ impl fmt::Display for Pdp {
 impl Command {
     ghost use Rattle.at_cmds.specs.Commands.{Writes, IsTextOf, Reads};
 
-    /// The command whose text this is, the letters of `AT` and of the name in either case, if there is one.
-    /// Only memory for a text of the command's own can be wanting: 4 NoMemory.
+    /// The command whose text this is, if there is one. The letters of `AT` and of the name may be in either case. Refused only
+    /// with 4 NoMemory, where the command has a text of its own.
     pub fn read(alloc: Global, text: &[u8]) -> Result<Option<Command>, CmdError>
         ensures { Reads (IsTextOf text.now) result }
     {
@@ -131,7 +131,7 @@ impl Command {
         Ok(None)
     }
 
-    /// The line that is this command. It is refused by the first of: 1 BadPin, 2 BadApn, 3 BadNumber, 4 NoMemory.
+    /// The command line of this command. Refused, in this order, with 1 BadPin, 2 BadApn, 3 BadNumber or 4 NoMemory.
     pub fn line(&self, alloc: Global) -> Result<CommandLine, CmdError>
         ensures { Writes self.now result }
     {

@@ -61,7 +61,7 @@ impl<T: Drop> From<AllocFailed<T>> for CmdError {
 /// Why an answer's lines are no reply to a command.
 #[derive(Clone, Copy, Debug, PartialEq, Eq, Error)]
 pub enum ReplyFault {
-    /// 1: the modem answered `+CME ERROR:` with this number, or with the text of this number (27.007, 9.2).
+    /// 1: the modem answered `+CME ERROR:` with this number, or with its text (27.007, 9.2).
     #[error("the modem answered with error {0}")]
     Cme(u32),
     /// 2: the modem answered `ERROR`, or a CME error without a number and of an unknown text.
@@ -70,7 +70,7 @@ pub enum ReplyFault {
     /// 3: there is no final code at the end, or no line of the command's name.
     #[error("the answer has no reply")]
     Missing,
-    /// 4: the line with this index, counted from 0, begins with the command's name, and isn't of its form.
+    /// 4: the line with this index, counted from 0, begins with the command's name but isn't of its form.
     #[error("line {0} of the answer is malformed")]
     Malformed(usize),
     /// 5: memory was refused.

@@ -1,8 +1,8 @@
-//! Parameters of a line, which commas divide.
+//! The parameters of a line, between its commas.
 ghost use Rattle.std.specs.Prelude.{◌≡◌, [], ◌∷◌, option_map, MatchOption};
 ghost use Rattle.at_cmds.specs.Params.{parameters, parameters_behind, EndsAt};
 
-/// The first parameter of a text, and what follows the comma at its end, where there is one. A comma in quotes ends none.
+/// The first parameter of a text, and what follows the comma behind it, if there is one. A comma in quotes ends no parameter.
 pub(crate) fn first_param(text: &[u8]) -> (&[u8], Option<&[u8]>)
     ensures { parameters text.now
         ≡ result.0.now ∷ parameters_behind (option_map (λ rest. rest.now) result.1) }

@@ -13,10 +13,10 @@ use crate::values::unquoted;
 use crate::writing::{is_apn, is_oper, is_pin};
 use std::alloc::Global;
 
-/// The value of a command that asks.
+/// The value of a command that queries.
 const QUERY: &[u8] = b"?";
 
-/// What follows the beginning of a text, if it is this one with its letters in either case.
+/// What follows a beginning of a text, if that is this one, with its letters in either case.
 pub(crate) fn after_head<'a>(text: &'a [u8], head: &[u8]) -> Option<&'a [u8]>
     ensures { MatchOption result (¬ HasHead head.now text.now)
         (λ value. HasHead head.now text.now × (value.now ≡ drop (length head.now) text.now)) }

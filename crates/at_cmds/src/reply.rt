@@ -13,7 +13,7 @@ use std::marker::Model;
 /// What a modem answered to a command.
 #[derive(Drop, Debug, PartialEq, Eq)]
 pub enum Reply {
-    /// To a command that asks nothing: it was done.
+    /// To a command that queries nothing: it was done.
     Accepted,
     /// To PinQuery: which PIN is wanted (27.007, 8.3).
     Pin(PinState),
@@ -152,11 +152,11 @@ impl Reply {
 
     /// The reply in the lines of an answer, the final code among them.
     ///
-    /// The last line decides first: without a final code it is 3 Missing, with an error 1 Cme or 2 PlainError. With `OK` a
-    /// command that asks nothing is Accepted. Else the first line that begins with the command's name and a colon is read, for
-    /// ContextQuery every such line; lines of other beginnings are passed over. Without such a line it is 3 Missing, for
-    /// ContextQuery an empty list; the first such line that isn't of its form is 4 Malformed with its index. Only memory for a
-    /// text or a list of the reply's own can be wanting, last of all: 5 NoMemory.
+    /// The last line is looked at first. Without a final code the fault is 3 Missing; with an error it is 1 Cme or 2 PlainError.
+    /// With `OK` a command that queries nothing is Accepted. For other commands the first line that begins with the command's name
+    /// and a colon is read, for ContextQuery every such line; other lines are passed over. Where there is no such line the fault is
+    /// 3 Missing, but for ContextQuery the list is empty. A line that isn't of its form is 4 Malformed with its index. Last comes 5
+    /// NoMemory, where the reply has a text or a list of its own.
     pub fn read(alloc: Global, command: &Command, lines: &[AnswerLine]) -> Result<Reply, ReplyFault>
         ensures { Answers result (reply_of command.now lines.now) }
     {

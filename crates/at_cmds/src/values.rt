@@ -18,7 +18,7 @@ pub(crate) fn number_of(param: &[u8]) -> Option<u8>
     u8::try_from(value_of(digits)).ok()
 }
 
-/// A quoted text: a quote, the text and a quote, the text without quotes.
+/// A quoted text: a text without quotes between two quotes.
 #[tactic(auto, unfolding(crate::specs::Params::unquoted))]
 pub(crate) fn unquoted(quoted: &[u8]) -> Option<&[u8]>
     ensures { option_map (λ text. text.now) result ≡ unquoted quoted.now }

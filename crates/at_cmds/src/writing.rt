@@ -11,7 +11,7 @@ use at_text::CommandLine;
 use at_text::octets::all_digits;
 use std::alloc::{AllocError, Global};
 
-/// A text that is a command line.
+/// The command line of this text.
 pub(crate) fn fixed_line(alloc: Global, text: &[u8]) -> Result<CommandLine, CmdError>
     requires { refusal_of text.now ≡ None }
     ensures { MatchResult result (λ line. line ≡ text.now) (λ why. why ≡ CmdError.NoMemory) }

@@ -1,8 +1,8 @@
-//! A bell: what one thread sleeps on, and others wake it by.
+//! A bell: one thread sleeps on it, and others wake it.
 //!
-//! Who waits looks at all that it waits for before it waits again: a ring says that something may have changed, and not what. No
-//! clause says that a ring comes, since what an atomic has is nobody's to say while other threads may write it: so what a bell does
-//! is shown by tests. Whoever waits on it gives a time, after which it goes on without any ring.
+//! A ring says that something may have changed, and not what: a thread that wakes looks at everything it waits for before it waits
+//! again. Each wait has a time, after which it ends without a ring. No contract says that a ring arrives, since none can say what
+//! an atomic holds while other threads may write it. Tests show what a bell does.
 #![tactic(auto)]
 
 use std::alloc::{AllocError, Global};
@@ -18,14 +18,14 @@ struct Shared {
     over: AtomicBool,
 }
 
-/// A share of a bell. One thread at a time waits on it, and all may ring it, or say that it is over.
+/// A share of a bell. One thread at a time waits on it. Every thread may ring it, or end it.
 #[derive(Drop)]
 pub struct Bell {
     shared: Arc<Shared, Global>,
 }
 
 impl Bell {
-    /// A bell that nobody has rung, and that isn't over. Refused where memory is.
+    /// A bell that nobody has rung and nobody has ended. Refused where memory is refused.
     pub fn new(alloc: Global) -> Result<Bell, AllocError> {
         let shared = Shared {
             parker: Parker::new(),
@@ -35,29 +35,29 @@ impl Bell {
         Ok(Bell { shared })
     }
 
-    /// Another share of the same bell, for one thread more. Refused only where there are more shares than can be counted.
+    /// Another share of the same bell, for one more thread. Refused only where there are more shares than can be counted.
     pub fn share(&self) -> Result<Bell, AllocError> {
         let shared = Arc::try_clone(&self.shared)?;
         Ok(Bell { shared })
     }
 
-    /// Wakes the one that waits, or else lets the next wait end at once. Rings before that count as one.
+    /// Wakes the thread that waits. If none waits, the next wait ends at once, however often it was rung before.
     pub fn ring(&self) {
         self.shared.parker.unpark();
     }
 
-    /// Waits until it is rung, or the time is up. It may also end for no reason.
+    /// Waits until the bell is rung or the time is up. The wait may also end for no reason.
     pub fn wait<R: Wait>(&self, rt: &R, time: Duration) {
         self.shared.parker.park_timeout(rt, time);
     }
 
-    /// Says for good that it is over, and rings.
+    /// Ends the bell for good, and rings it.
     pub fn end(&self) {
         self.shared.over.store(true, Ordering::SeqCst);
         self.ring();
     }
 
-    /// Whether some share said that it is over.
+    /// Whether some share has ended the bell.
     pub fn is_over(&self) -> bool {
         self.shared.over.load(Ordering::SeqCst)
     }

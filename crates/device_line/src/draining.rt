@@ -1,4 +1,4 @@
-//! Out of a ring to its device.
+//! Writes a ring out to its device.
 ghost use Rattle.std.specs.Prelude.{◌≡◌, ◌≢◌, ◌⊎◌, ◌++◌, [], None, Some, MatchOption};
 ghost use Rattle.std.specs.Io.KnownBytes.{Appends};
 ghost use Rattle.rtrb.specs.Ring.{received, known_items, SameConsumer};
@@ -74,8 +74,9 @@ fn turn<W: Write, R: Wait>(
 }
 
 #[tactic(auto, using(crate::proofs::Written::none_out, crate::proofs::Written::both_out))]
-/// Writes what comes out of a ring to a device until the ring's writer is gone and all is written, and rings `bell` whenever there
-/// is room again. It stops once `own` is over, which it waits on and a `RingWriter` rings. A write that takes nothing is a failure.
+/// Writes what comes out of a ring to a device, until the ring's writer is gone and all is written. It rings `bell` whenever there
+/// is room again. It waits on `own`, which a `RingWriter` rings, and stops once `own` is over. A write that takes nothing is a
+/// failure.
 pub fn drain<W: Write, R: Wait>(
     rt: &R,
     writer: &mut W,

@@ -1,13 +1,12 @@
-//! A line on which no call waits, of a device whose calls do: one thread reads the device into a ring, another writes it out of one,
-//! and the line is a `StreamLine` over the rings' other ends.
+//! The line of a device whose calls wait, on which no call does. One thread reads the device into a ring, another writes a second
+//! ring out to the device. The line is a `StreamLine` over the other ends of the two rings.
 //!
-//! The octets received and sent of such a line are those that went through its ends of the rings. What the device itself gave and
-//! took is nobody's to say: no contract reaches it. What `pump` and `drain` carry between a ring and a reader or a writer whose
-//! octets are known, their clauses say.
+//! The octets that the line received and sent are those that passed its ends of the rings. No contract says what the device itself
+//! gave and took. The clauses of `pump` and `drain` say what they carry, where the octets of the reader or the writer are known.
 //!
-//! The line ends, and fails from then on, where the device failed or hung up, once what came before was read. A hang-up is an empty
-//! read that came back at once, eight times in a row: a terminal that is set to `min 0 time 1` gives an empty read after a tenth
-//! of a second, and at once where it is gone, or isn't set up so.
+//! The line ends once the device has failed or hung up and all that came before is read; it fails from then on. Eight empty reads
+//! in a row that come back at once are a hang-up. A terminal set to `min 0 time 1` gives an empty read after a tenth of a second;
+//! it comes back at once only where it is gone, or isn't set up so.
 #![tactic(auto)]
 
 ghost use Rattle.std.specs.Prelude.{◌≡◌, None};
@@ -27,10 +26,10 @@ pub use ring_writer::RingWriter;
 use serial_line::{StreamLine, ZeroRead};
 use std::io::{Error, ErrorKind};
 
-/// The line of a device, between whose calls and this line's there are rings.
+/// The line of a device, over a ring in each direction.
 pub type DeviceLine = StreamLine<RingReader, RingWriter>;
 
-/// Why a thread carries no more between a device and its ring.
+/// Why a thread stopped carrying octets between a device and its ring.
 #[derive(Clone, Copy, Debug, PartialEq, Eq)]
 pub enum FlowEnd {
     /// It was asked to stop, or nobody is left to read the ring.
@@ -41,21 +40,21 @@ pub enum FlowEnd {
     Failed,
 }
 
-/// The line over these ends of the rings. A read fails once the thread that filled the ring is gone and all is read, a write
-/// once the thread that empties it is gone.
+/// The line over these ends of the rings. A read fails once the thread that filled its ring is gone and all is read. A write fails
+/// once the thread that empties its ring is gone.
 pub fn line_over(reader: RingReader, writer: RingWriter) -> DeviceLine
     ensures { result ≡ new_stream None None Ended }
 {
     StreamLine::new(reader, writer, ZeroRead::Ended)
 }
 
-/// Lets go of a ring's end, and rings: so the thread at the ring's other end learns that it is alone.
+/// Drops a ring's end and rings the bell, so that the thread at the other end learns that it is alone.
 pub fn leave<E: Drop>(end: E, bell: &Bell) {
     drop(end);
     bell.ring();
 }
 
-/// Whether a call that the system refused so may be made again.
+/// Whether a call that the system refused for this reason may be made again.
 fn is_passing(error: &Error) -> bool {
     matches!(
         error.kind(),

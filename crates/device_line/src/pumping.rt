@@ -1,4 +1,4 @@
-//! From a device into its ring.
+//! Reads a device into its ring.
 ghost use Rattle.std.specs.Prelude.{◌≡◌, ◌≢◌, ◌++◌, None, Some, IsTrue, MatchOption};
 ghost use Rattle.std.specs.Io.KnownBytes.{IsAtEnd};
 ghost use Rattle.rtrb.specs.Ring.{sent, SameProducer};
@@ -104,9 +104,9 @@ fn turn<R: Read, K: Clock>(
 }
 
 #[tactic(auto, using(crate::proofs::Written::none_in, crate::proofs::Written::both_in))]
-/// Reads a device into a ring until the end, and rings `bell` whenever octets came. It stops once `own` is over, or nobody is
-/// left to read the ring; of what was read last some octets may then be lost. `zero` says what a read of nothing is: the end, or
-/// nothing yet, unless it came back at once, eight times in a row.
+/// Reads a device into a ring until the device ends, and rings `bell` whenever octets came. It stops once `own` is over or nobody
+/// is left to read the ring; some octets of the last read may then be lost. `zero` says what an empty read means: the end, or
+/// nothing yet. Eight empty reads in a row that come back at once are the end in any case.
 pub fn pump<R: Read, K: Clock>(
     clock: &K,
     reader: &mut R,

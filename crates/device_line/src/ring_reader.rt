@@ -1,4 +1,4 @@
-//! The end of a ring as a reader that never waits.
+//! A ring's end, as a reader that never waits.
 ghost use Rattle.std.specs.Prelude.{◌≡◌, ◌≤◌, ◌<◌, ◌++◌, [], take, drop, length, IfOk, IfErr, OnErr};
 ghost use Rattle.std.specs.IoError.{error_kind};
 ghost use mathlib.Core.List.{IsPrefix};
@@ -8,9 +8,9 @@ use std::io;
 use std::io::{ErrorKind, Read};
 use std::marker::Model;
 
-/// Reads what a thread put into a ring. With none there it gives `WouldBlock`, and 0 once that thread has left.
+/// Reads what a thread put into a ring. Where nothing is there it answers `WouldBlock`, and 0 once that thread has left.
 ///
-/// Contracts see which ring it is, the octets that it gave, and those that it has seen to be there for the reads to come.
+/// Contracts see which ring it is, the octets that it gave, and those that it has seen waiting for later reads.
 #[derive(Drop)]
 pub struct RingReader {
     octets: Consumer<u8>,
@@ -47,7 +47,7 @@ impl RingReader {
 }
 
 impl Read for RingReader {
-    /// Gives what is there, as far as the buffer goes.
+    /// Gives the octets that are there, as many as the buffer holds.
     fn read(&mut self, buf: &mut [u8]) -> io::Result<usize>
         ensures bound { IfOk result (λ n. n ≤ length buf.new) }
         ensures ring { self.new.ring ≡ self.old.ring }

@@ -1,4 +1,4 @@
-//! The end of a ring as a writer that never waits.
+//! A ring's end, as a writer that never waits.
 ghost use Rattle.std.specs.Prelude.{◌≡◌, ◌+◌, ◌≤◌, ◌<◌, ◌++◌, ◌⊎◌, take, length, IfOk, IfErr, OnErr};
 ghost use Rattle.std.specs.IoError.{error_kind};
 
@@ -8,10 +8,10 @@ use std::io;
 use std::io::{ErrorKind, Write};
 use std::marker::Model;
 
-/// Puts octets into a ring for a thread that writes them, and rings that thread's bell. Without room it gives `WouldBlock`, and
+/// Puts octets into a ring, and rings the bell of the thread that writes them out. Without room it answers `WouldBlock`, and
 /// `BrokenPipe` once that thread has left.
 ///
-/// Contracts see which ring it is, the octets that it took, and how many more it knows to find room.
+/// Contracts see which ring it is, the octets that it took, and for how many more it knows that there is room.
 #[derive(Drop)]
 pub struct RingWriter {
     octets: Producer<u8>,
@@ -36,7 +36,7 @@ impl RingWriter {
     ghost use Rattle.rtrb.specs.Ring.{sent, known_free};
     ghost use Rattle.serial_line.specs.ThreadLine.{ring_of_producer};
 
-    /// Writes to this ring, and rings this bell then.
+    /// A writer to this ring, which rings this bell.
     pub fn new(octets: Producer<u8>, bell: Bell) -> RingWriter
         ensures { result ≡ record {
           ring = ring_of_producer octets;
@@ -49,7 +49,7 @@ impl RingWriter {
 }
 
 impl Write for RingWriter {
-    /// Takes as many octets as find room.
+    /// Takes as many octets as there is room for.
     fn write(&mut self, buf: &[u8]) -> io::Result<usize>
         ensures bound { IfOk result (λ n. n ≤ length buf.now) }
         ensures ring { self.new.ring ≡ self.old.ring }

@@ -24,9 +24,10 @@ pub(crate) const WAITING: usize = 8;
 // How many outcomes a caller may leave untaken, in its ring and to come.
 const UNTAKEN: u8 = 16;
 
-/// One user of the modem: it submits requests, and takes an outcome for each.
+/// A user of the modem: it submits requests, and takes an outcome for each.
 ///
-/// Contracts see its place at the desk, the requests that it submitted, the outcomes that it took, those that it has seen to wait for it, and its count of untaken ones.
+/// Contracts see its place at the desk, the requests that it submitted, the outcomes that it took, those that it has seen waiting,
+/// and the count of requests whose outcome it hasn't taken.
 #[derive(Drop)]
 pub struct Caller {
     queue: Arc<Queue, Global>,
@@ -136,10 +137,10 @@ impl Caller {
         (pass, outcomes, number)
     }
 
-    /// Submits a request, and gives its number: the caller's first number, and then each time the next. It rings the bell that the
-    /// caller was given, if any.
+    /// Submits a request, and gives its number: the caller's first number, and each time the next. Rings the caller's bell, if it
+    /// has one.
     ///
-    /// Refused, in this order, with TooMany, Exhausted or Full, and the ask handed back. A refusal uses up no number.
+    /// Refused, in this order, with TooMany, Exhausted or Full. A refusal hands the ask back and uses up no number.
     pub fn submit<R: Wait>(&mut self, rt: &R, ask: Ask) -> Result<u64, (SubmitError, Ask)>
         ensures place { (self.new.place ≡ self.old.place) × (self.new.got ≡ self.old.got)
             × (self.new.seen ≡ self.old.seen) }
@@ -180,8 +181,8 @@ impl Caller {
         }
     }
 
-    /// The oldest outcome that waits for this caller. `None` only where it has seen none to wait. It rings the bell that the caller
-    /// was given, if any, since there is room for an outcome more.
+    /// Takes the oldest outcome that waits for this caller. `None` comes only where it has seen none waiting. Rings the caller's
+    /// bell, if it has one, since there is room for one more outcome.
     pub fn take(&mut self) -> Option<Outcome>
         ensures place { (self.new.place ≡ self.old.place) × (self.new.submitted ≡ self.old.submitted) }
         ensures got { MatchOption result (self.new.got ≡ self.old.got) (λ outcome. self.new.got ≡ self.old.got
@@ -198,10 +199,10 @@ impl Caller {
         Some(outcome)
     }
 
-    /// Whether the driver's end is gone. Then the outcomes that wait are the last: `take` still gives them, and what is submitted
-    /// from then on is told by nobody.
+    /// Whether the driver's end is gone. If it is, the outcomes that wait are the last: `take` still gives them, and nobody tells
+    /// what is submitted later.
     ///
-    /// No clause speaks of the answer, as none of `rtrb` does: it is shown by tests.
+    /// No contract speaks of the answer, since none of `rtrb` does. Tests show it.
     pub fn is_alone(&mut self) -> bool
         ensures place { (self.new.place ≡ self.old.place) × (self.new.submitted ≡ self.old.submitted) }
         ensures got { (self.new.got ≡ self.old.got) × (self.new.untaken ≡ self.old.untaken) }

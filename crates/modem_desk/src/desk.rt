@@ -15,13 +15,14 @@ use std::sync::Arc;
 // How many callers a desk may have.
 const CALLERS: u8 = 8;
 
-/// Where callers, listeners and the driver meet. It is open as long as its ends are.
+/// Where callers, listeners and the driver meet. A desk is open as long as its ends are.
 pub struct Desk;
 
 impl Desk {
-    /// A desk for so many callers, with a listener for each of these kinds, in their order. Each caller's first request has the number 1.
+    /// Opens a desk for so many callers, with a listener for each of these kinds, in their order. Each caller's first request has
+    /// the number 1.
     ///
-    /// Refused with BadCount where callers aren't 1 to 8 or a kind is given twice.
+    /// Refused with BadCount where callers aren't 1 to 8, or a kind is given twice.
     pub fn open(
         alloc: Global,
         callers: u8,
@@ -34,9 +35,9 @@ impl Desk {
         Desk::open_from(alloc, callers, kinds, 1)
     }
 
-    /// The same, but that each caller's first request has the number `first`.
+    /// Opens a desk as `open` does, where each caller's first request has the number `first`.
     ///
-    /// Refused with BadCount for a `first` of 0 too.
+    /// Refused as `open` is, and with BadCount for a `first` of 0.
     pub fn open_from(
         alloc: Global,
         callers: u8,
@@ -50,9 +51,9 @@ impl Desk {
         open_all(alloc, callers, kinds, first, None)
     }
 
-    /// The same as `open_from`, but that each caller and each listener has a share of this bell: a caller rings it when it has
-    /// submitted a request or taken an outcome, a listener when it has taken a line. So a driver that waits on the bell wakes
-    /// where a request came, or where there is room at the desk again.
+    /// Opens a desk as `open_from` does, and gives each caller and listener a share of this bell. A caller rings it when it has
+    /// submitted a request or taken an outcome, a listener when it has taken a line. So a driver that waits on the bell wakes when
+    /// a request came, or when there is room at the desk again.
     ///
     /// Refused as `open_from` is. No clause speaks of the bell.
     pub fn open_with_bell(

@@ -16,9 +16,12 @@ use std::alloc::{AllocError, Global};
 use std::marker::Model;
 use std::sync::{Arc, Wait};
 
-/// The end at which the driver takes requests, and gives outcomes and lines.
+/// The driver's end: it takes requests, and gives outcomes and lines.
 ///
-/// Contracts see which desk it is of, the requests that it took, the outcomes that it told each caller, by the caller's number, and the lines that it announced to each listener, in the order of the desk's kinds; of each ring, how many places it knows to be free; and how often `next` found nothing and what was for each ring was handed back. These counts end at `u64::MAX`.
+/// Contracts see which desk it is of; the requests that it took; the outcomes that it told each caller, by the caller's number; the
+/// lines that it announced to each listener, in the order of the desk's kinds; and how many places of each ring it knows to be
+/// free. They also see how often `next` found nothing, and how often something was handed back because a ring was full. These
+/// counts end at `u64::MAX`.
 #[derive(Drop)]
 pub struct DriverEnd {
     queue: Arc<Queue, Global>,
@@ -209,8 +212,8 @@ impl DriverEnd {
         Ok(Listener::new(consumer, kind, place, bell))
     }
 
-    /// Of the requests that were taken those of each caller are numbered one after the other: so no caller used a number
-    /// twice. There is nothing to do for it.
+    /// Does nothing, and shows that the requests taken of each caller are numbered one after the other: so no caller used a number
+    /// twice.
     pub fn numbers(&self)
         ensures { AreNumbered self.now.taken }
     {
@@ -238,7 +241,7 @@ impl DriverEnd {
         self.kinds.contains(&kind)
     }
 
-    /// A request that waits, of whatever caller: of each caller in the order in which it submitted them.
+    /// The next request that waits, of any caller. Requests of one caller come in the order in which it submitted them.
     pub fn next<R: Wait>(&mut self, rt: &R) -> Option<Request>
         ensures desk { (self.new.desk ≡ self.old.desk) × (self.new.told ≡ self.old.told)
             × (self.new.announced ≡ self.old.announced) × (self.new.free ≡ self.old.free)
@@ -258,7 +261,7 @@ impl DriverEnd {
         request
     }
 
-    /// Gives an outcome to its caller, or back where 8 wait for that caller: never where it knows of a free place.
+    /// Gives an outcome to its caller. Hands it back where 8 wait for that caller, and never where a place is known to be free.
     pub fn tell(&mut self, outcome: Outcome) -> Result<(), Outcome>
         requires { outcome.caller < length self.old.desk.rings }
         ensures desk { (self.new.desk ≡ self.old.desk) × (self.new.taken ≡ self.old.taken)
@@ -286,7 +289,8 @@ impl DriverEnd {
         Err(back)
     }
 
-    /// Gives a line to the listener of its kind, or back where 256 wait for that listener: never where it knows of a free place.
+    /// Gives a line to the listener of its kind. Hands it back where 256 wait for that listener, and never where a place is known
+    /// to be free.
     pub fn announce(&mut self, line: Urc) -> Result<(), Urc>
         requires { Contains self.old.desk.kinds line.kind }
         ensures desk { (self.new.desk ≡ self.old.desk) × (self.new.taken ≡ self.old.taken)

@@ -12,9 +12,9 @@ use std::marker::Model;
 // How many lines may wait in a listener's ring.
 pub(crate) const LINES: usize = 256;
 
-/// The one that hears the unsolicited lines of one kind.
+/// Takes the unsolicited lines of one kind.
 ///
-/// Contracts see its subscription at the desk, the lines that it took, and those that it has seen to wait for it.
+/// Contracts see its subscription at the desk, the lines that it took, and those that it has seen waiting.
 #[derive(Drop)]
 pub struct Listener {
     lines: Consumer<Urc>,
@@ -93,8 +93,8 @@ impl Listener {
         self.kind
     }
 
-    /// The oldest line that waits for this listener. `None` only where it has seen none to wait. It rings the bell that the listener
-    /// was given, if any, since there is room for a line more.
+    /// Takes the oldest line that waits for this listener. `None` comes only where it has seen none waiting. Rings the listener's
+    /// bell, if it has one, since there is room for one more line.
     pub fn take(&mut self) -> Option<Urc>
         ensures subscription { self.new.subscription ≡ self.old.subscription }
         ensures heard { MatchOption result (self.new.heard ≡ self.old.heard) (λ line.

@@ -15,7 +15,8 @@ pub enum Ask {
     CloseChannel(Dlci),
     /// Send a command line over the connection and read its answer (V.250, 5).
     Command(Dlci, CommandLine),
-    /// Have the other end send these octets back, by a Test command (27.010, 5.4.6.3.4).
+    /// Send these octets to the other end and have them back, by a Test command (27.010,
+    /// 5.4.6.3.4).
     Probe(ProbeData),
     /// End the multiplexer, by a CLD command (27.010, 5.4.6.3.3).
     Stop,
@@ -85,7 +86,7 @@ pub enum Answer {
     Refused,
     /// The other end didn't answer.
     NoAnswer,
-    /// The connection closed before the request was answered.
+    /// The connection was closed before the request was answered.
     Closed,
     /// Connection 0 is the control channel, and carries no commands.
     ControlChannel,

@@ -1,4 +1,4 @@
-//! What the request queue keeps whatever the threads do, and what each step on it tells.
+//! The rule that the request queue keeps whatever the threads do, and what each step on the queue tells.
 ghost use Rattle.std.specs.Prelude.{◌≡◌};
 
 use crate::request::Request;
@@ -24,7 +24,7 @@ pub struct View {
     pub waiting: LinkedList<Request>,
 }
 
-/// The rule: of each caller, what the driver took and then what is queued is what the caller submitted.
+/// The rule: what the driver took of a caller, and then what is queued, is what the caller submitted.
 pub struct InOrder;
 
 impl Protocol<Request, View> for InOrder {
@@ -76,7 +76,7 @@ impl Lesson<Request, View> for Submits {
     ghost fact = { λ v items. ⊤ };
 }
 
-/// The driver's list grows by the request, which is of a caller that has a number. The requests of each caller on it are
+/// The driver's list grows by the request, whose caller has a number at the desk. The requests of each caller on the list are
 /// numbered one after the other.
 pub struct Takes;
 
@@ -94,7 +94,7 @@ impl Lesson<Request, View> for Takes {
     ghost fact = { λ v items. ⊤ };
 }
 
-/// The same once every caller has left; the driver then knows what waits, and at the end that nothing does.
+/// The same once every caller has left. The driver then knows what waits, and at the end that nothing does.
 pub struct Drains;
 
 impl Outcome<Request, View> for Drains {

@@ -33,7 +33,7 @@ pub struct Settled {
     pub unheard: Vec<Vec<Urc>>,
 }
 
-/// All ends of a desk that wasn't settled, as they were.
+/// All ends of a desk that couldn't be settled, as they were.
 #[derive(Drop)]
 pub struct SettleRefused {
     /// NoMemory.
@@ -268,9 +268,11 @@ fn gather<R: Wait>(
     }
 }
 
-/// Ends a desk: takes back the driver's end, each of its callers once, and any of its listeners, and gives what was still queued and what still waited.
+/// Ends a desk. Takes back the driver's end, each of its callers once and any of its listeners, and gives what was still queued and
+/// what still waited.
 ///
-/// It takes all its memory before it takes anything out. Want of memory is its only refusal, and then hands all ends back as they were.
+/// It is refused only for want of memory, and then hands all ends back as they were: it takes its memory before it takes anything
+/// out.
 pub fn settle<R: Wait>(
     rt: &R,
     alloc: Global,

@@ -1,4 +1,4 @@
-//! Octets are read as frames, as they come (27.010, 5.2.3, 5.2.5 and 5.2.6.1).
+//! Reads octets as frames, as they come (27.010, 5.2.3, 5.2.5 and 5.2.6.1).
 ghost use Rattle.std.specs.Prelude.{◌≡◌, ◌≢◌, ◌↔◌, ◌⊎◌, ◌+◌, ◌-◌, ◌<◌, ◌≤◌, ◌++◌, [], ◌∷◌, List, ℕ, None, Some, length, min, option_map, take, IfOk, IfSome, IsErrOf, IsSome, OnErr, OnOk};
 ghost use Rattle.std.specs.Borrow.{sem};
 ghost use Rattle.std.specs.Io.BufRead.{Rests};
@@ -15,26 +15,25 @@ use circular_buffer::HeapCircularBuffer;
 use std::alloc::Global;
 use std::marker::Model;
 
-/// The least room of the ring, in octets: so a short frame seldom wraps round its end.
+/// The least room of the ring, in octets. With so much a short frame seldom wraps round the ring's end.
 const LEAST_ROOM: usize = 8192;
 
-/// How many octets the ring has room for: at least N1 + 7, which are two flags, address, control,
-/// two length octets, information and check octet. So a full ring is always decided.
+/// How many octets the ring has room for: at least N1 + 7, which is a whole frame: two flags, address, control, two length octets,
+/// information and check octet. So what a full ring holds is always decided.
 fn room_for(n1: u16) -> usize
     ensures { result ≡ ring_room n1 }
 {
     (usize::from(n1) + 7).max(LEAST_ROOM)
 }
 
-/// Reads octets as frames, however they are cut. It keeps the octets that are not decided yet in a
-/// ring. A frame lies there until `advance`; where it wraps round the ring's end, `peek` puts it into
-/// one piece.
+/// Reads octets as frames, however the octets are cut. Octets that aren't decided yet wait in a ring. A frame lies there until
+/// `advance`. Where it wraps round the ring's end, `peek` puts it into one piece.
 #[derive(Drop)]
 pub struct Deframer {
     octets: HeapCircularBuffer<u8>,
     joined: Piece,
     n1: u16,
-    /// Where there is a frame at hand, the place of its check octet, counted from its address octet.
+    /// Where a frame is at hand: the place of its check octet, counted from its address octet.
     check_place: Option<usize>,
 }
 
@@ -56,8 +55,8 @@ impl Model for Deframer {
 impl Deframer {
     ghost use Rattle.mux_frame.specs.contracts.deframer.Deframer.{the_row};
 
-    /// A deframer that has taken nothing. N1 is how many octets of information a frame may have.
-    /// Refusals: 3 BadN1 where it isn't 31 to 32767, checked first; 2 NoMemory.
+    /// A deframer that has taken nothing. N1 is the most octets of information that a frame may have. Refused with 3 BadN1 where it
+    /// isn't 31 to 32767, checked first, and with 2 NoMemory.
     pub fn new(alloc: Global, n1: u16) -> Result<Deframer, FrameError>
         ensures ok { IfOk result (λ d. d ≡ record { n1 = n1; undecided = []; next = None }) }
         ensures past { IfOk result (λ d. Deframes [] [] d) }
@@ -77,7 +76,7 @@ impl Deframer {
         })
     }
 
-    /// Takes octets in from the front of these, as many as there is room for, and says how many.
+    /// Takes octets from the front of these, as many as there is room for, and says how many.
     pub fn feed(&mut self, octets: &[u8]) -> usize
         ensures count { result ≡
             min (length octets.now) (ring_room self.old.n1 - length self.old.undecided) }
@@ -107,8 +106,7 @@ impl Deframer {
         Some(front_frame(n1, whole, place))
     }
 
-    /// Goes on behind the frame at hand. The condition is that there is one: that the last call was
-    /// a `peek` that gave a frame.
+    /// Drops the frame at hand and goes on behind it. Requires a frame at hand: the last call was a `peek` that gave one.
     pub fn advance(&mut self)
         requires { IsSome self.old.next }
         ensures n1 { self.new.n1 ≡ self.old.n1 }
@@ -120,9 +118,8 @@ impl Deframer {
         }
     }
 
-    /// Appends the octets that are not decided yet, which are the rest of what was taken. The
-    /// condition is that no frame is at hand: that the last `peek` answered `None` and nothing was
-    /// fed since. A refusal leaves `out` as it was: 2 NoMemory.
+    /// Appends the rest of what was taken: the octets that aren't decided yet. Requires that no frame is at hand: the last `peek`
+    /// answered `None`, and nothing was fed since. Refused with 2 NoMemory, which leaves `out` as it was.
     pub fn rest(&self, out: &mut Vec<u8>) -> Result<(), FrameError>
         requires { self.now.next ≡ None }
         ensures ok { OnOk result (out.new.items ≡ out.old.items ++ self.now.undecided) }

@@ -9,7 +9,7 @@ pub struct Dlci {
 }
 
 impl Dlci {
-    /// The connection of this number, where there is one: 0 to 61.
+    /// The connection of this number; `None` unless it is 0 to 61.
     pub fn new(number: u8) -> Option<Dlci>
         ensures some { IsSome result ↔ (number < 62) }
         ensures number { IfSome result (λ dlci. dlci.number ≡ number) }

@@ -11,7 +11,7 @@ pub enum FrameError {
     /// 1: information longer than N1 or than 32767, or information in a kind other than UIH.
     #[error("the frame has too much information")]
     TooLong,
-    /// 2: a growth was refused.
+    /// 2: memory was refused.
     #[error("no memory")]
     NoMemory,
     /// 3: N1 isn't 31 to 32767.

@@ -7,8 +7,8 @@ use crate::dlci::Dlci;
 use crate::info::Info;
 use std::alloc::{AllocError, Global};
 
-/// The kinds of frame that are used (27.010, 5.3): commands SABM and DISC, responses UA and DM, and
-/// information in UIH.
+/// The kinds of frame that are used (27.010, 5.3): the commands SABM and DISC, the responses UA and
+/// DM, and UIH, which carries information.
 #[derive(Clone, Copy, PartialEq, Eq, Debug)]
 pub enum Kind {
     Sabm,
@@ -19,7 +19,7 @@ pub enum Kind {
 }
 
 impl Kind {
-    /// Its control octet, P/F not set (27.010, 5.2.1.3).
+    /// Its control octet, with P/F not set (27.010, 5.2.1.3).
     pub(crate) fn control(self) -> u8
         ensures value { result ≡ control_of_kind self }
         ensures room { result < 240 }

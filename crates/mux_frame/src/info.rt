@@ -33,7 +33,7 @@ impl Info {
         self.octets.as_slice()
     }
 
-    /// Its octets, without taking memory.
+    /// Its octets, in the memory that they have.
     pub fn into_vec(self) -> Vec<u8>
         ensures { result.items ≡ self }
     {

@@ -1,4 +1,4 @@
-//! Candidates are judged: what the octets after a flag can be (27.010, 5.2.1).
+//! Judges candidates: what the octets after a flag can be (27.010, 5.2.1).
 ghost use Rattle.std.specs.Prelude.{◌≡◌, ◌+◌, ◌/◌, ◌^◌, ◌<◌, ◌≤◌, Some, drop, length, slice_get};
 ghost use Rattle.mux_frame.specs.Frames.{frame_of};
 ghost use Rattle.mux_frame.specs.Judging.{Means, by_end, by_header, by_length, by_rest, fits, frame_at, kind_in, verdict_on};
@@ -32,7 +32,7 @@ pub(crate) enum Verdict {
     Unfinished,
     /// Whatever comes, they begin no frame.
     Refused,
-    /// They are, as far as they were looked at, a frame of this header.
+    /// As far as they were looked at they are a frame with this header.
     Fits(Header),
 }
 
@@ -224,8 +224,8 @@ impl Header {
 }
 
 #[inline(always)]
-/// The frame that octets begin with, lent, where it is known to be whole and where its check octet
-/// stands: so nothing is asked about them again.
+/// The frame that octets begin with, lent. It is known to be whole, and where its check octet
+/// stands, so nothing is checked again.
 pub(crate) fn front_frame(n1: u16, octets: &[u8], check_place: usize) -> FrameView<'_>
     requires { IsAtPlace n1 octets.now check_place }
     ensures { Some (frame_of result) ≡ next_in n1 octets.now }

@@ -1,4 +1,4 @@
-//! Laws of frames, and their reading computed plainly.
+//! Laws of frames, and a reading of a whole text at once.
 ghost use Rattle.std.specs.Prelude.{◌≡◌, ◌+◌, ◌<◌, ◌≤◌, ◌++◌, ◌∷◌, List, ℕ, Some, None, drop, length, map, slice_index, IfOk, OnErr, MatchOption};
 ghost use Rattle.std.specs.Option.{option_copied};
 ghost use Rattle.mux_frame.specs.Deframing.{IsDeframed};
@@ -23,8 +23,8 @@ fn text_after_flag(octets: &[u8]) -> Option<&[u8]>
     Some(&octets[place + 1..len])
 }
 
-/// The frames that octets are read as, and the octets of the rest, computed plainly over all of
-/// them (27.010, 5.2.3, 5.2.5 and 5.2.6.1). Refusal: 2 NoMemory.
+/// The frames that octets are read as, and their rest, computed over all octets at once (27.010,
+/// 5.2.3, 5.2.5 and 5.2.6.1). Refused with 2 NoMemory.
 pub fn read_plain(
     alloc: Global,
     n1: u16,
@@ -64,7 +64,7 @@ pub fn spells_shortest()
     ensures { SpellsShortest }
 {}
 
-/// A text has one reading: the same frames and the same rest.
+/// A text has at most one reading: its frames and its rest.
 pub fn one_reading()
     ensures { IsFunction }
 {}
@@ -84,17 +84,17 @@ pub fn reads_spelled()
     ensures { ReadsSpelled }
 {}
 
-/// What is read of the beginning of octets is the beginning of what is read of them all.
+/// The frames that are read of a beginning of the octets are the first of the frames of all.
 pub fn reads_beginning()
     ensures { ReadsBeginning }
 {}
 
-/// All octets have a reading.
+/// Every text of octets has a reading.
 pub fn total_reading()
     ensures { IsTotal }
 {}
 
-/// What a deframer hands out, and when.
+/// A deframer hands out just the frames that are read in the octets taken, in order.
 pub fn deframed()
     ensures { IsDeframed }
 {}

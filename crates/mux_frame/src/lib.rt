@@ -1,5 +1,5 @@
-//! Frames of the basic option of 3GPP TS 27.010: their parts, how they are written, and how octets
-//! are read as frames, plainly (`laws::read_plain`) and as they come (`Deframer`).
+//! Frames of the basic option of 3GPP TS 27.010. `write_frame` writes them, `Deframer` reads octets
+//! as frames as they come, and `laws::read_plain` reads a whole text at once.
 #![tactic(auto)]
 
 mod check;

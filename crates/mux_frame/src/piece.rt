@@ -43,7 +43,8 @@ impl Piece {
         Ok(Piece { octets })
     }
 
-    /// The first octets of two slices, in one slice. They are copied only where they lie in both.
+    /// The first octets of two slices, in one slice. They are copied only where they lie in both
+    /// slices.
     pub(crate) fn join<'a>(&'a mut self, front: &'a [u8], back: &'a [u8], count: usize) -> &'a [u8]
         requires within { count ≤ length (front.now ++ back.now) }
         requires room { count ≤ self.old }

@@ -20,7 +20,7 @@ impl Model for ProbeData {
 }
 
 impl ProbeData {
-    /// These octets, where they are at most 16.
+    /// A probe with these octets; `None` where they are more than 16.
     pub fn new(octets: &[u8]) -> Option<ProbeData>
         ensures { SomeIff result (length octets.now ≤ 16) octets.now }
     {

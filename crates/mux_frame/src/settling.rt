@@ -1,4 +1,4 @@
-//! The octets of a deframer are taken in, and what begins no frame is dropped.
+//! Takes octets into a deframer, and drops what begins no frame.
 ghost use Rattle.std.specs.Prelude.{◌≡◌, ◌+◌, ◌≤◌, ◌++◌, drop, length, slice_get, IfSome};
 ghost use Rattle.circular_buffer.specs.Buffer.{buffer};
 ghost use Rattle.mux_frame.specs.Deframing.{decision_on};
@@ -15,8 +15,8 @@ use memchr::memchr;
 const LONGEST_HEAD: usize = 6;
 
 #[inline(always)]
-/// The place of the first flag in one slice, or its length where there is none. It most often
-/// stands at the front.
+/// The place of the first flag in one slice, or the slice's length where there is none. Most often
+/// it stands at the front.
 fn flag_in(octets: &[u8]) -> usize
     ensures within { result ≤ length octets.now }
     ensures rest { drop result octets.now ≡ from_flag octets.now }
@@ -38,8 +38,8 @@ fn remove_front(octets: &mut HeapCircularBuffer<u8>, count: usize)
 }
 
 #[inline(always)]
-/// The verdict on octets in one slice: nothing begins no frame yet, and what begins with another
-/// octet than a flag begins none.
+/// The verdict on octets in one slice. No octets are undecided; octets that don't begin with a flag
+/// begin no frame.
 fn slice_verdict(octets: &[u8], n1: u16) -> Verdict
     ensures { verdict_seen result ≡ decision_on n1 octets.now }
 {
@@ -124,9 +124,9 @@ fn flag_in_both(front: &[u8], back: &[u8]) -> usize
     place + flag_in(back)
 }
 
-/// How many octets begin no frame: where a candidate fails, only its flag, and then what stands
-/// before the next flag. Where a frame is whole behind them, it gives the place of its check octet,
-/// counted from its address octet.
+/// How many octets at the front begin no frame: of a candidate that fails only its flag, and then
+/// what stands before the next flag. If a whole frame follows them, it also gives the place of that
+/// frame's check octet, counted from its address octet.
 fn searched(octets: &[u8], n1: u16) -> (usize, Option<usize>)
     requires { AreOctets octets.now }
     ensures { IsSearched n1 octets.now result.0 result.1 }
@@ -179,8 +179,8 @@ fn searched_both(front: &[u8], back: &[u8], n1: u16) -> (usize, Option<usize>)
 }
 
 #[inline(always)]
-/// The octets from a place on that stand behind a flag, or behind two: then the first one is most
-/// often the closing flag of another frame. It gives them where a header may be whole.
+/// The octets from a place on that stand behind a flag or behind two, where a header may be whole.
+/// The first of two flags most often closes another frame.
 fn candidate(octets: &[u8], place: usize) -> Option<(bool, &[u8])>
     requires { place ≤ length octets.now }
     ensures { IfSome result (λ c. IsCandidate (drop place octets.now) c.0 c.1.now) }
@@ -221,8 +221,9 @@ fn judged(n1: u16, text: &[u8]) -> Standing
 }
 
 #[inline(always)]
-/// Takes so many octets off the front, and then what begins no frame. Where a frame is whole at the
-/// front then, it gives the place of its check octet, counted from its address octet.
+/// Takes so many octets off the front, and then those that begin no frame. If a whole frame stands
+/// at the front then, it gives the place of that frame's check octet, counted from its address
+/// octet.
 pub(crate) fn settle(octets: &mut HeapCircularBuffer<u8>, passed: usize, n1: u16) -> Option<usize>
     requires octets { AreOctets octets.old.items }
     requires passed { passed ≤ length octets.old.items }

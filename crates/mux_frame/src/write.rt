@@ -1,4 +1,4 @@
-//! Frames are written (27.010, 5.2.1).
+//! Writes frames (27.010, 5.2.1).
 ghost use Rattle.std.specs.Prelude.{◌≡◌, ◌≢◌, ◌↔◌, ◌+◌, ◌<◌, ◌≤◌, ◌++◌, ℕ, List, length, vec_capacity, OnOk, OnErr, IsErrOf};
 ghost use Rattle.mux_frame.specs.Frames.{Frame, frame_of};
 ghost use Rattle.mux_frame.specs.Spelling.{HasNoSpelling, Spells, address_of, body_of, control_of, header, indicator_of, spelled};
@@ -11,7 +11,7 @@ use arrayvec::ArrayVec;
 /// The flag, which stands before and after each frame (27.010, 5.2.1.1).
 pub(crate) const FLAG: u8 = 0xF9;
 
-/// The most octets of information that a length indicator can tell (27.010, 5.2.1.5).
+/// The greatest length that a length indicator can tell (27.010, 5.2.1.5).
 const LONGEST: usize = 32767;
 
 fn address_octet(frame: &FrameView<'_>) -> u8
@@ -47,10 +47,10 @@ fn header_octets(frame: &FrameView<'_>) -> ArrayVec<u8, 4>
     octets
 }
 
-/// Appends the frame with both its flags, its length in the shortest form. A refusal leaves `out`
-/// as it was: 1 TooLong where the information is longer than N1 or than 32767, or where there is
-/// any in a kind other than UIH; 2 NoMemory, which never comes where `out` has room for the
-/// information and seven octets more.
+/// Appends the frame between two flags, its length in the shortest form. Refused with 1 TooLong
+/// where the information is longer than N1 or than 32767, or where a kind other than UIH has any;
+/// and with 2 NoMemory, but never where `out` has room for the information and seven octets more. A
+/// refusal leaves `out` as it was.
 pub fn write_frame(frame: FrameView<'_>, n1: u16, out: &mut Vec<u8>) -> Result<(), FrameError>
     ensures written { OnOk result
         (out.new.items ≡ out.old.items ++ spelled (frame_of frame.entry)) }

@@ -1,4 +1,4 @@
-//! The frames that a frame which comes calls for.
+//! The frames that a frame got calls for.
 ghost use Rattle.std.specs.Prelude.{◌≡◌, ◌≤◌, []};
 ghost use Rattle.mux_station.specs.Tables.{octets_of, response};
 ghost use Rattle.mux_station.specs.MessagesRead.{message_read};
@@ -56,8 +56,7 @@ impl Answers {
         Answers { first, second }
     }
 
-    /// What a message calls for while 0 is Opened: a command's response, or NSC for a type that isn't
-    /// supported.
+    /// What a message calls for while 0 is Opened: the response to a command, or NSC where its type isn't supported.
     pub fn to_message(role: Role, message: Message<'_>) -> Answers
         ensures { answers_sent result ≡ response role (message_read message.entry) }
     {

@@ -36,7 +36,7 @@ impl Station {
         self.channels.at(CONTROL).stage().is_opened()
     }
 
-    /// Whether the frame fits into the control queue: NoRoom where it doesn't.
+    /// NoRoom where the frame doesn't fit into the control queue.
     pub(crate) fn check_room(&self, frame: &ControlFrame) -> Result<(), StationError>
         ensures { result_err result
             ≡ (if have_room self.now.n1 (octets_of self.now.queue) (control_frame frame.now ∷ []) then None
@@ -202,9 +202,8 @@ impl Station {
         Ok(())
     }
 
-    /// Asks for a connection to be opened: a SABM is queued. The condition is that this is the
-    /// initiator. Refusals: 1 NotOpen where 0 isn't Opened (and `dlci` isn't 0); 2 AlreadyOpen; 3 Busy
-    /// where it is being opened, closed or stopped; 7 NoRoom.
+    /// Opens a connection: queues a SABM. Requires that this is the initiator. Refusals, in this order: 1 NotOpen where 0 isn't
+    /// Opened (and `dlci` isn't 0); 2 AlreadyOpen; 3 Busy where it is being opened, closed or stopped; 7 NoRoom.
     pub fn open(&mut self, dlci: Dlci) -> Result<(), StationError>
         requires { self.old.role ≡ Role.Initiator }
         ensures refusal { result_err result ≡ refused_in self.old (Open dlci.number) }
@@ -214,9 +213,8 @@ impl Station {
         self.ask_open(dlci)
     }
 
-    /// Asks for a connection to be closed: a DISC is queued, and its send ring is emptied. Refusals:
-    /// 4 ControlChannel; 1 NotOpen where it is Shut; 3 Busy where it is being opened or closed;
-    /// 7 NoRoom.
+    /// Closes a connection: queues a DISC and empties the send ring. Refusals, in this order: 4 ControlChannel for 0; 1 NotOpen
+    /// where it is Shut; 3 Busy where it is being opened or closed; 7 NoRoom.
     pub fn close(&mut self, dlci: Dlci) -> Result<(), StationError>
         ensures refusal { result_err result ≡ refused_in self.old (Close dlci.number) }
         ensures past { OnOk result (StationHandles self.old self.new (Called (Close dlci.number))) }
@@ -225,8 +223,8 @@ impl Station {
         self.ask_close(dlci)
     }
 
-    /// Sends a probe, a Test command with these octets. Refusals: 6 TooLong where they are over 16;
-    /// 1 NotOpen where 0 isn't Opened; 3 Busy where a probe waits; 7 NoRoom.
+    /// Sends a probe: queues a Test command with these octets. Refusals, in this order: 6 TooLong where they are more than 16; 1
+    /// NotOpen where 0 isn't Opened; 3 Busy where a probe waits; 7 NoRoom.
     pub fn probe(&mut self, octets: &[u8]) -> Result<(), StationError>
         ensures refusal { result_err result ≡ refused_in self.old (Probe octets.now) }
         ensures past { OnOk result (StationHandles self.old self.new (Called (Probe octets.now))) }
@@ -235,8 +233,8 @@ impl Station {
         self.ask_probe(octets)
     }
 
-    /// Closes the multiplexer down: a CLD command is queued, every other connection is Shut, and 0 is
-    /// Stopping. Refusals: 1 NotOpen where 0 isn't Opened; 7 NoRoom.
+    /// Ends the multiplexer: queues a CLD command. Every other connection is Shut then, and 0 is Stopping. Refusals, in this order:
+    /// 1 NotOpen where 0 isn't Opened; 7 NoRoom.
     pub fn stop(&mut self) -> Result<(), StationError>
         ensures refusal { result_err result ≡ refused_in self.old Stop }
         ensures past { OnOk result (StationHandles self.old self.new (Called Stop)) }
@@ -245,8 +243,8 @@ impl Station {
         self.ask_stop()
     }
 
-    /// Tells the other end whether it may send on a connection, or for 0 on all of them. Refusals:
-    /// 1 NotOpen where the connection or 0 isn't Opened; 7 NoRoom.
+    /// Tells the other end whether it may send on a connection, or for 0 on all. Refusals, in this order: 1 NotOpen where the
+    /// connection or 0 isn't Opened; 7 NoRoom.
     pub fn flow(&mut self, dlci: Dlci, go: bool) -> Result<(), StationError>
         ensures refusal { result_err result ≡ refused_in self.old (Flow dlci.number go) }
         ensures past { OnOk result (StationHandles self.old self.new (Called (Flow dlci.number go))) }
@@ -255,8 +253,8 @@ impl Station {
         self.ask_flow(dlci, go)
     }
 
-    /// Puts octets into a connection's send ring. Refusals: 4 ControlChannel; 1 NotOpen where it isn't
-    /// Opened; 7 NoRoom where they don't all fit.
+    /// Puts octets into a connection's send ring. Refusals, in this order: 4 ControlChannel for 0; 1 NotOpen where it isn't Opened;
+    /// 7 NoRoom where the octets don't all fit.
     pub fn offer(&mut self, dlci: Dlci, octets: &[u8]) -> Result<(), StationError>
         ensures refusal { result_err result ≡ offer_refused self.old dlci.number octets.now }
         ensures past { OnOk result

@@ -16,7 +16,7 @@ use std::marker::Model;
 /// The octets that a send ring holds.
 const RING: usize = 1024;
 
-/// How a connection stands, with its count.
+/// The state of a connection, with its count of repeats or ticks.
 #[derive(Clone, Copy)]
 pub(crate) enum Stage {
     Shut,
@@ -102,7 +102,7 @@ impl Channel {
         self.stopped
     }
 
-    /// Turns to another stage, where everything starts afresh.
+    /// Goes to another stage, in which stop and send ring start afresh.
     pub fn turn(&mut self, stage: Stage)
         ensures { self.new ≡ record { state = stage_state stage; is_stopped = false; waiting = [] } }
     {
@@ -139,7 +139,7 @@ impl Channel {
         self.octets.len()
     }
 
-    /// Whether it is Opened and not stopped by itself, and octets wait in its send ring.
+    /// Whether it may send: it is Opened, its own stop isn't set, and octets wait in its send ring.
     pub fn may_send(&self) -> bool
         ensures { result ≡ may_send self.now }
     {

@@ -20,8 +20,8 @@ pub const CONNECTIONS: usize = 62;
 /// The control channel.
 pub const CONTROL: Dlci = Dlci { number: 0 };
 
-/// The connections 0 to 61, and a set of bits in which bit d is set where connection d may send: it
-/// is Opened and not stopped by itself, and octets wait in its send ring.
+/// The connections 0 to 61, and a set of bits: bit d is set where connection d may send. It may
+/// where it is Opened, its own stop isn't set, and octets wait in its send ring.
 #[derive(Drop)]
 pub(crate) struct Channels {
     each: Vec<Channel>,
@@ -64,7 +64,7 @@ impl Channels {
         &self.each[usize::from(dlci.number())]
     }
 
-    /// Turns a connection to another stage, where everything of it starts afresh.
+    /// Puts a connection into another stage, in which its stop and its send ring start afresh.
     pub fn turn(&mut self, dlci: Dlci, stage: Stage)
         ensures { self.new ≡ slice_set self.old dlci.number
             (record { state = stage_state stage; is_stopped = false; waiting = [] }) }
@@ -82,7 +82,7 @@ impl Channels {
         self.senders = 0;
     }
 
-    /// Stops a connection by itself, or lets it go on.
+    /// Sets or clears the own stop of a connection.
     pub fn set_stopped(&mut self, dlci: Dlci, stopped: bool)
         ensures { self.new ≡ slice_set self.old dlci.number
             (record (slice_index_or self.old dlci.number shut_channel) { is_stopped = stopped }) }

@@ -17,12 +17,12 @@ use mux_frame::{FrameView, Kind};
 use std::alloc::{AllocError, Global};
 use std::marker::Model;
 
-/// Control frames, with room for so many octets of them as written. They wait as those octets: each
-/// spelled with both its flags, one after another.
+/// Control frames that wait as the octets that are to be written: each spelled between two flags,
+/// one after another, in room for so many octets.
 #[derive(Drop)]
 pub(crate) struct ControlQueue {
     octets: HeapCircularBuffer<u8>,
-    /// How many frames they are.
+    /// How many frames wait.
     count: usize,
     /// Where a frame is spelled before it is put into the queue.
     spelling: WriteBuffer,

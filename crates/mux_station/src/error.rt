@@ -5,7 +5,7 @@ ghost use Rattle.mux_station.specs.declared.error.StationError.TheVariants.{NoMe
 use std::alloc::{AllocError, AllocFailed};
 use thiserror::Error;
 
-/// Why a station refuses a call, which then changed nothing.
+/// Why a station refuses a call. A refused call changes nothing.
 #[derive(Clone, Copy, PartialEq, Eq, Debug, Error)]
 pub enum StationError {
     #[error("the connection is not open")]

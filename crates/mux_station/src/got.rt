@@ -1,4 +1,4 @@
-//! Frames that come (27.010, 5.4).
+//! Takes frames that come (27.010, 5.4).
 ghost use Rattle.std.specs.Prelude.{◌≡◌, ◌==◌, ◌||◌, ◌≤◌, length, true, if◌then◌else◌, Some, None, IfOk, OnOk, OnErr, List};
 ghost use Rattle.std.specs.Result.{result_err};
 ghost use Rattle.mux_frame.specs.Frames.{frame_of};
@@ -85,7 +85,7 @@ impl Station {
         Ok(())
     }
 
-    /// Turns the control channel, and everything else is Shut.
+    /// Goes to another state of the control channel, and shuts all other connections.
     fn turn_all(&mut self, stage: Stage)
         ensures { self.new ≡ all_turned_in self.old (stage_state stage) }
     {
@@ -129,7 +129,7 @@ impl Station {
         }
     }
 
-    /// Gives the probe that waits up where this answers it.
+    /// Forgets the probe that waits, where this message answers it.
     fn answer_probe(&mut self, message: Message<'_>) -> Noted
         ensures after { self.new
             ≡ record self.old { probe = probe_answered self.old.probe (message_read message.entry) } }
@@ -262,9 +262,9 @@ impl Station {
         }
     }
 
-    /// Takes a frame that came, queues what it calls for, and says what it came to. The condition is
-    /// that its information is at most N1 octets, and empty in a kind other than UIH. Refusal: 7 NoRoom
-    /// where not all frames that it calls for fit into the control queue.
+    /// Takes a frame that came, queues what it calls for, and says what it did. Requires that its information is at most N1 octets,
+    /// and empty in a kind other than UIH. Refused with 7 NoRoom where the frames that it calls for don't all fit into the control
+    /// queue.
     pub fn got(&mut self, frame: FrameView<'_>) -> Result<Noted, StationError>
         requires { length frame.info.now ≤ most_info self.old.n1 frame.kind }
         ensures refusal { result_err result ≡ frame_refused_in self.old (frame_of frame.entry) }

@@ -23,8 +23,8 @@ pub fn openings()
     ensures places { (r : Role) (d : ℕ) (past : List Act) → IsOpenByPlaces r d past }
 {}
 
-/// An act that is followed by all that it calls for keeps a past lawful and complete, nothing is sent
-/// once the line is lost, and what leaves a connection is the beginning of what was offered on it.
+/// An act that is followed by all that it calls for keeps a past lawful and complete. Nothing is sent once the line is lost. What
+/// leaves a connection is the beginning of what was offered on it.
 #[tactic(auto, using(crate::proofs::law_proofs::OwedFrames::answers_keep, crate::proofs::law_proofs::OwedFrames::none_after_loss, crate::proofs::law_proofs::OwedFrames::gives_beginning))]
 pub fn sendings()
     ensures answers { (s : StationSetting) (past : List Act) (a : Act) → AnswersKeep s past a }
@@ -33,8 +33,8 @@ pub fn sendings()
         → GivesBeginning s d past }
 {}
 
-/// A call or a frame is refused by what a station keeps just where it is refused by each past that the
-/// station fits; and what a frame calls for has room where the sum of the octets has.
+/// A station refuses a call or a frame by what it keeps, and that is just where each past that it fits refuses it. What a frame
+/// calls for has room where the sum of its octets has.
 #[tactic(auto, using(crate::proofs::user_calls::ProbeStopFlowOffer::sees_the_past, crate::proofs::received::AnsweredFrames::sees_the_frame, crate::proofs::queues::QueueRoom::room_sum))]
 pub fn refusals()
     ensures calls { (v : Station) (past : List Act) (c : Call) → SeesThePast v past c }
@@ -42,28 +42,26 @@ pub fn refusals()
     ensures room { (n1 queued : ℕ) (f : Frame) (fs : List Frame) → HasRoomBySum n1 queued f fs }
 {}
 
-/// What is noted of a frame is what happens: its connection opens, it is data of an open connection, or
-/// all are closed.
+/// What is noted of a frame is what happened: its connection opened, it is data of an open connection, or all connections closed.
 pub fn notings()
     ensures { (v : Station) (past : List Act) (f : Frame) → NotedTruly v past f }
 {}
 
-/// The calls of the user change nothing by themselves: without them a past has the same states, openings
-/// and stops, the same control queue, and the same that was given on. What a call comes to are the frames
-/// that it asks for.
+/// The user's calls change nothing but by the frames that they ask for: without the calls a past has the same states, openings and
+/// stops, the same control queue, and the same frames given on.
 pub fn calls()
     ensures { (r : Role) (d : ℕ) (past : List Act) → LeavesNoTrace r d past }
 {}
 
-/// What a station gives up at a tick, and whose data is next at it, is what each past that it fits says.
+/// What a station gives up at a tick, and whose data it gives next, is what each past that it fits says.
 #[tactic(auto, using(crate::proofs::ticks::GivenUpOfPasts::sees_the_tick, crate::proofs::turns::TurnsOfPasts::sees_the_turn))]
 pub fn turns()
     ensures ticks { (v : Station) (past : List Act) → SeesTheTick v past }
     ensures sender { (v : Station) (past : List Act) → SeesTheTurn v past }
 {}
 
-/// Whatever past a station fits, it fits that past with what `next_frame` gives on, and a past that is lawful
-/// and complete stays so. It takes the station, since the numbers that it keeps are in their ranges.
+/// Whatever past a station fits, after `next_frame` it fits that past with what was given on, and a lawful and complete past stays
+/// so. The law takes a station, whose numbers are known to be in their ranges.
 #[tactic(auto, using(crate::proofs::turns::FramesGivenOn::gives_on))]
 pub fn givings(station: &crate::Station)
     ensures { GivesOn station.now }

@@ -1,11 +1,11 @@
-//! What is noted of a frame that comes.
+//! What a frame that comes did.
 
 /// What a frame came to (27.010, 5.4).
 #[derive(Clone, Copy, PartialEq, Eq, Debug)]
 pub enum Noted {
     /// Its connection is open now.
     Opened,
-    /// Its connection was being opened, and is Shut.
+    /// Its connection was being opened, and is Shut now.
     Refused,
     /// Its connection is Shut now.
     Closed,
@@ -19,6 +19,6 @@ pub enum Noted {
     ProbeRefused,
     /// Connection 0 was closed, and all others with it.
     AllClosed,
-    /// Nothing of these.
+    /// None of these.
     Nothing,
 }

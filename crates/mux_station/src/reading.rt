@@ -1,4 +1,4 @@
-//! Control messages, read (27.010, 5.4.6).
+//! Reads control messages (27.010, 5.4.6).
 ghost use Rattle.std.specs.Prelude.{◌≡◌, ◌≤◌, option_map, IfSome};
 ghost use Rattle.mux_station.specs.Messages.{message_of, msc_dlci, msc_stops, is_good_msc};
 ghost use Rattle.mux_station.specs.MessagesRead.{message_read};
@@ -6,7 +6,7 @@ ghost use Rattle.mux_station.specs.MessagesRead.{message_read};
 use crate::message::Message;
 use crate::written::{MSC, MSC_RESPONSE};
 
-/// The DLCI of which an MSC speaks, 0 where it has no value.
+/// The connection that an MSC names; 0 where the MSC has no value.
 pub(crate) fn msc_dlci(value: &[u8]) -> u8
     ensures { result ≡ msc_dlci value.now }
 {
@@ -16,7 +16,7 @@ pub(crate) fn msc_dlci(value: &[u8]) -> u8
     }
 }
 
-/// Whether its FC says that no frames can be accepted.
+/// Whether the FC bit of an MSC says that no frames can be accepted.
 pub(crate) fn msc_stops(value: &[u8]) -> bool
     ensures { result ≡ msc_stops value.now }
 {
@@ -34,8 +34,8 @@ fn is_good_msc(value: &[u8]) -> bool
 }
 
 impl<'a> Message<'a> {
-    /// The message that the information of a UIH frame on 0 begins with. An MSC without two value
-    /// octets, or for no connection from 1 to 61, is none.
+    /// The message that the information of a UIH frame on 0 begins with. An MSC with fewer than two
+    /// value octets, or for another connection than 1 to 61, is no message.
     pub fn read(info: &'a [u8]) -> Option<Message<'a>>
         ensures message { option_map message_read result ≡ message_of info.now }
         ensures msc { IfSome result (λ m. m.octet ≡ 0xe3 → msc_dlci m.value.now ≤ 61) }

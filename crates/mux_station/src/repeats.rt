@@ -1,7 +1,7 @@
 //! Counts of repeated frames and of ticks.
 ghost use Rattle.std.specs.Prelude.{◌≡◌, ◌+◌, ◌<◌, ◌↔◌, IfSome, IsNone};
 
-/// How often a SABM or DISC was sent again, or how many ticks came: at the fourth tick it is given up.
+/// How often a SABM or DISC was sent again, or how many ticks came. At the fourth tick it is given up.
 #[derive(Clone, Copy)]
 pub(crate) struct Repeats {
     pub count: u8,

@@ -1,7 +1,7 @@
 //! The two ends, and the states of a connection.
 
-/// The end of the line that this is (27.010, 5.2.1.2): the initiator set the multiplexer up, and the
-/// responder is the other one.
+/// Which end of the line this is (27.010, 5.2.1.2). The initiator set the multiplexer up; the
+/// responder is the other end.
 #[derive(Clone, Copy, PartialEq, Eq, Debug)]
 pub enum Role {
     Initiator,

@@ -46,7 +46,7 @@ impl Station {
         }
     }
 
-    /// Whether all frames that this one calls for fit into the control queue. Where they do, `got` takes it.
+    /// Whether all frames that this one calls for fit into the control queue. If they do, `got` takes the frame.
     pub fn has_room_for(&self, frame: FrameView<'_>) -> bool
         ensures { result ≡ have_room self.now.n1 (octets_of self.now.queue)
             (by_frame self.now.role (seen_in self.now).state (frame_of frame.entry)) }
@@ -54,7 +54,7 @@ impl Station {
         self.fits(&self.answers_to(frame))
     }
 
-    /// Whether the message by which `flow` asks the other end to go on, or to stop, fits into the control queue.
+    /// Whether the message of a `flow` fits into the control queue.
     pub fn has_room_to_flow(&self, dlci: Dlci, go: bool) -> bool
         ensures { result ≡ have_room self.now.n1 (octets_of self.now.queue)
             (frames_asked self.now.role (Flow dlci.number go)) }

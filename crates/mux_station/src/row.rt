@@ -27,8 +27,8 @@ impl Turn {
     }
 }
 
-/// What a table says of a frame: the UA or DM that answers it, what becomes of its connection, and
-/// what is noted.
+/// A row of a table: the UA or DM that answers a frame, what becomes of its connection, and what is
+/// noted.
 #[derive(Clone, Copy)]
 pub(crate) struct Row {
     pub answer: Option<Kind>,
@@ -48,7 +48,7 @@ impl Row {
     }
 }
 
-/// What closes 0 closes all.
+/// Closing 0 closes all connections.
 fn closed_on(dlci: Dlci) -> Noted
     ensures { result ≡ closed_on dlci.number }
 {
@@ -84,7 +84,7 @@ pub(crate) fn initiator_row(dlci: Dlci, stage: Stage, kind: Kind) -> Row
     }
 }
 
-/// The responder's, where `at_zero` says whether the connection is 0, or 0 is Opened.
+/// The responder's table. `at_zero` says whether the connection is 0, or 0 is Opened.
 pub(crate) fn responder_row(dlci: Dlci, at_zero: bool, stage: Stage, kind: Kind) -> Row
     ensures turns { TurnsBy Responder at_zero (stage_state stage) kind result.turn }
     ensures frames { (control : State) → ((dlci.number == 0) || is_opened control) ≡ at_zero

@@ -1,4 +1,4 @@
-//! What a station gives on to the line.
+//! What a station gives to the line.
 ghost use Rattle.std.specs.Prelude.{◌≡◌, ◌-◌, ◌≤◌, ◌==◌, List, true, false, drop, length, option_map, slice_get, IfSome};
 ghost use Rattle.std.specs.Borrow.{sem};
 ghost use Rattle.std.specs.Io.BufRead.{Rests};
@@ -18,7 +18,7 @@ use mux_frame::{Dlci, FrameView, Kind};
 impl Station {
     ghost use Rattle.mux_station.specs.contracts.station.Station.{the_row};
 
-    /// The least connection from this one on that has data to send now. The control channel has none.
+    /// The least connection from this one on that has data to send now. The control channel never has.
     fn first_ready(&self, from: u8) -> Option<Dlci>
         requires not_zero { 1 ≤ from }
         requires in_range { from ≤ 62 }
@@ -81,9 +81,9 @@ impl Station {
         })
     }
 
-    /// The next frame for the line, lent, which is then no longer kept: the first of the control
-    /// queue; where that is empty, data of the connection whose turn it is. `laws::givings` says what that
-    /// comes to in each past that the station fits. Its information is at most 1024 octets.
+    /// Takes out the next frame for the line and lends it: the first of the control queue, or where that is empty data of the
+    /// connection whose turn it is. Its information is at most 1024 octets. `laws::givings` says what this comes to in each past
+    /// that the station fits.
     #[tactic(auto, using(crate::proofs::turns::ReadyConnections::next_data, crate::proofs::turns::ReadyConnections::after_data, crate::proofs::turns::ReadyConnections::next_control, crate::proofs::turns::ReadyConnections::after_control))]
     pub fn next_frame(&mut self) -> Option<Outgoing<'_>>
         ensures frame { option_map outgoing_of result
@@ -99,7 +99,7 @@ impl Station {
         }
     }
 
-    /// The connection whose data `next_frame` gives; nothing where it gives a control frame, or none.
+    /// The connection whose data `next_frame` would give; `None` where it would give a control frame, or nothing.
     #[tactic(auto, using(crate::proofs::turns::NextData::sender_alone))]
     pub fn next_sender(&self) -> Option<Dlci>
         ensures value { option_map dlci_of result ≡ next_sender self.now self.now.queue }
@@ -130,7 +130,7 @@ impl Station {
         self.control.len()
     }
 
-    /// The frame at a place of the control queue, counted from its front. It changes nothing.
+    /// The frame at a place of the control queue, counted from its front. The queue stays as it is.
     pub fn queued(&mut self, i: usize) -> Option<FrameView<'_>>
         ensures frame { option_map frame_of result ≡ slice_get self.old.queue i }
         ensures* after { sem 𝓛 (Rests the_row self.entry (λ new. new ≡ self.old)) }

@@ -16,7 +16,7 @@ use mux_frame::{Dlci, ProbeData};
 use std::alloc::Global;
 use std::marker::Model;
 
-/// What the control queue has room for beside N1, in octets of frames as written.
+/// The room of the control queue beside N1, in octets of frames as written.
 const QUEUE: usize = 4096;
 
 /// A probe that waits.
@@ -60,8 +60,9 @@ impl Model for Station {
 }
 
 impl Station {
-    /// A station whose connections are shut. N1 is how many octets of information a frame may have.
-    /// Refusals: 8 BadN1 where it isn't 31 to 32767, checked first; 5 NoMemory.
+    /// A station whose connections are all Shut. N1 is the most octets of information that a frame
+    /// may have. Refused with 8 BadN1 where it isn't 31 to 32767, checked first, and with 5
+    /// NoMemory.
     pub fn new(alloc: Global, role: Role, n1: u16) -> Result<Station, StationError>
         ensures ok { IfOk result (λ s. s ≡ new_station role n1) }
         ensures past { IfOk result (λ s. StationFits s []) }
@@ -85,14 +86,14 @@ impl Station {
         })
     }
 
-    /// The end that this is.
+    /// Which end of the line this is.
     pub fn role(&self) -> Role
         ensures { result ≡ self.now.role }
     {
         self.role
     }
 
-    /// How many octets of information a frame may have.
+    /// N1: the most octets of information that a frame may have.
     pub fn n1(&self) -> u16
         ensures { result ≡ self.now.n1 }
     {
@@ -108,7 +109,7 @@ impl Station {
         self.channels.at(dlci).stage().shown()
     }
 
-    /// Whether a connection is stopped, by itself or with all.
+    /// Whether the other end has stopped a connection, by its own MSC or by FCoff for all.
     #[tactic(auto, using(crate::proofs::states::StationPasts::stopped_fits))]
     pub fn stopped(&self, dlci: Dlci) -> bool
         ensures value { result ≡ stopped_in self.now dlci.number }
@@ -118,7 +119,7 @@ impl Station {
         self.is_held_up(dlci)
     }
 
-    /// Whether the stop of all is in force.
+    /// Whether FCoff for all is in force.
     pub(crate) fn is_all_held_up(&self) -> bool
         ensures { result ≡ all_stopped_in self.now }
     {

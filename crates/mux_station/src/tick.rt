@@ -18,7 +18,7 @@ use crate::station::{Station, WaitingProbe};
 use arrayvec::ArrayVec;
 use mux_frame::{Dlci, Kind};
 
-/// What was given up at a tick. (The default fills the empty places of a list.)
+/// What was given up at a tick. The default value only fills empty places of a list.
 #[derive(Clone, Copy, Default, PartialEq, Eq, Debug)]
 pub enum GivenUp {
     Channel(Dlci),
@@ -36,7 +36,7 @@ impl Station {
         self.channels.turn(dlci, stage);
     }
 
-    /// Queues a frame again and turns its connection, where the frame fits.
+    /// Queues a frame again, and goes to its connection's next state, where the frame fits.
     fn ask_again(&mut self, dlci: Dlci, kind: Kind, stage: Stage) -> bool
         ensures after { self.new
             ≡ asked_if self.old dlci.number (stage_state stage) (written self.old.role kind dlci.number []) }
@@ -52,7 +52,7 @@ impl Station {
         true
     }
 
-    /// The turn of one connection; says whether it is given up.
+    /// A tick of one connection. Says whether the connection is given up.
     fn tick_channel(&mut self, dlci: Dlci) -> bool
         ensures after { self.new ≡ ticked_one self.old dlci.number }
         ensures up { result
@@ -116,7 +116,7 @@ impl Station {
         }
     }
 
-    /// The turn of the probe that waits; says whether it is given up.
+    /// A tick of the probe that waits. Says whether the probe is given up.
     fn tick_probe(&mut self) -> bool
         ensures after { self.new ≡ record self.old { probe = ticked_probe self.old.probe } }
         ensures up { probe_up self.old.probe ≡ (if result then UpProbe ∷ [] else []) }
@@ -136,7 +136,7 @@ impl Station {
         }
     }
 
-    /// The turns of all connections, in rising order.
+    /// A tick of all connections, in rising order.
     fn tick_channels(&mut self) -> Noticed
         ensures after { self.new ≡ ticked_all self.old 0 62 }
         ensures up { map up_of result.items ≡ given_up_in self.old 0 62 }
@@ -155,8 +155,8 @@ impl Station {
         noticed
     }
 
-    /// A tick: a SABM or DISC that wasn't answered is queued again, three times, and at the fourth
-    /// tick what waits is given up. A connection whose frame finds no room stays as it is.
+    /// One T1 has passed. A SABM or DISC that wasn't answered is queued again, three times; at the
+    /// fourth tick what waits is given up. A connection whose frame has no room stays as it is.
     pub fn tick(&mut self) -> Noticed
         ensures past { StationHandles self.old self.new Tick }
         ensures noticed { map up_of result.items ≡ noticed self.old }

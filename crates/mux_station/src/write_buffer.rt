@@ -14,7 +14,7 @@ const AROUND: usize = 7;
 /// The most octets of information that a frame that goes out has.
 const LONGEST: u16 = 1024;
 
-/// The octets of the frame that goes out that the line hasn't taken yet.
+/// The octets of the last frame for the line that the line hasn't taken yet.
 #[derive(Drop)]
 pub struct WriteBuffer {
     octets: Vec<u8>,
@@ -33,7 +33,7 @@ impl Model for WriteBuffer {
 }
 
 impl WriteBuffer {
-    /// None so far, and room for a frame.
+    /// An empty buffer with room for a frame.
     pub fn new(alloc: Global) -> Result<WriteBuffer, AllocError>
         ensures { IfOk result (λ o. o ≡ []) }
     {
@@ -41,9 +41,8 @@ impl WriteBuffer {
         Ok(WriteBuffer { octets, written: 0 })
     }
 
-    /// The octets of a frame wait, between two flags. The conditions are that none waits and that its
-    /// information is at most 1024 octets. In a kind other than UIH there is no information (27.010,
-    /// 5.2.1.4), and none is written. It takes no memory.
+    /// Puts in the octets of a frame, between two flags. Requires that the buffer is empty and that the information is at most 1024
+    /// octets. A kind other than UIH has no information (27.010, 5.2.1.4), and none is written. Takes no memory.
     pub fn put(&mut self, frame: FrameView<'_>)
         requires none { self.old ≡ [] }
         requires short { length frame.info.now ≤ 1024 }
@@ -60,7 +59,7 @@ impl WriteBuffer {
         let _ = write_frame(FrameView { info, ..frame }, LONGEST, &mut self.octets);
     }
 
-    /// Whether the line has taken all.
+    /// Whether the line has taken all octets.
     pub fn is_empty(&self) -> bool
         ensures { result ≡ (length self.now == 0) }
     {
@@ -74,7 +73,7 @@ impl WriteBuffer {
         &self.octets[self.written..]
     }
 
-    /// The line took so many of the first.
+    /// Drops the first `count` octets, which the line took.
     pub fn pass(&mut self, count: usize)
         requires { count ≤ length self.old }
         ensures { self.new ≡ drop count self.old }

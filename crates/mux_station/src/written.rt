@@ -1,4 +1,4 @@
-//! The frames that an end writes of its own (27.010, 5.2.1 and 5.4.6).
+//! The frames that this end writes (27.010, 5.2.1 and 5.4.6).
 ghost use Rattle.std.specs.Prelude.{◌≡◌, ◌≤◌, ◌<◌, [], length};
 ghost use Rattle.mux_frame.specs.Frames.{frame_of};
 ghost use Rattle.mux_frame.specs.Spelling.{most_info};
@@ -40,7 +40,7 @@ pub const READY: u8 = 0x8D;
 pub const HELD_UP: u8 = 0x8F;
 
 impl ControlFrame {
-    /// A frame as this end writes it.
+    /// A frame with C/R and P/F as this end writes them.
     fn written(role: Role, kind: Kind, dlci: Dlci, info: ArrayVec<u8, 129>) -> ControlFrame
         requires { length info.items ≤ most_info 129 kind }
         ensures { control_frame result ≡ written role kind dlci.number info.items }

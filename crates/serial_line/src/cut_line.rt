@@ -12,9 +12,9 @@ use crate::tape::Tape;
 use std::alloc::Global;
 use std::marker::Model;
 
-/// A line in memory, for tests: what its reads give is put in, what its writes took can be looked
-/// at, and a list for each says how much a call lets through, or that it fails. It keeps all octets,
-/// at most `room` each way.
+/// A line in memory, for tests. What its reads give is put in, and what its writes took can be looked at. A list for reads and one
+/// for writes say, call by call, how many octets go through, or that the call fails. The line keeps all octets, at most `room` each
+/// way.
 #[derive(Drop)]
 pub struct CutLine {
     input: Tape,
@@ -51,9 +51,8 @@ impl Model for CutLine {
 }
 
 impl CutLine {
-    /// A line on which nothing has happened yet. Each call uses up one entry of its list, and with
-    /// none left there is no limit. Input beyond `room` octets isn't kept. `NoMemory` where memory is
-    /// refused.
+    /// A line on which nothing has happened yet. Each call uses up one entry of its list; with none left there is no limit. Input
+    /// beyond `room` octets isn't kept. Refused with `NoMemory` where memory is refused.
     pub fn new(
         alloc: Global,
         input: &[u8],
@@ -109,8 +108,8 @@ impl CutLine {
         self.output.all()
     }
 
-    /// Moves what was sent on each line, at most `k` octets each way, to be received on the other, and
-    /// says how many it moved in all. What `take` gave doesn't move again.
+    /// Carries what was sent on each line to the other, where it is to be received, at most `k` octets each way, and says how many
+    /// it carried in all. What `take` gave isn't carried again.
     pub fn carry(&mut self, other: &mut CutLine, k: usize) -> usize
         ensures value { result ≡ carried k self.old other.old + carried k other.old self.old }
         ensures here { self.new ≡ after_carry k self.old other.old }

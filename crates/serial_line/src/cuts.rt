@@ -5,7 +5,7 @@ use crate::line::LineFault;
 use std::marker::Model;
 use std::vec::IntoIter;
 
-/// What becomes of one call on a line in memory, whose entry it is.
+/// An entry: what becomes of one call on a line in memory.
 #[derive(Clone, Copy, Debug, PartialEq, Eq)]
 pub enum Cut {
     /// At most so many octets go through.
@@ -41,7 +41,8 @@ impl Cuts {
         }
     }
 
-    /// Uses up the next entry: says how many of these octets go through, or fails.
+    /// Uses up the next entry, which says how many of these octets go through, or that the call
+    /// fails.
     pub(crate) fn pass(&mut self, there: usize, failures: &mut u64) -> Result<usize, LineFault>
         ensures used { self.new ≡ drop 1 self.old }
         ensures value { result ≡ outcome_of self.old failures.old there }

@@ -1,4 +1,4 @@
-//! What a line is to its callers.
+//! What a line of octets is.
 ghost use Rattle.std.specs.Prelude.{◌≡◌, ℕ, ◌+◌, ◌<◌, ◌≤◌, ◌++◌, List, length, take, IfOk, OnErr};
 ghost use Rattle.serial_line.specs.Counts.{one_more, counted_if_none};
 ghost use Rattle.serial_line.specs.OtherSide.{OtherSide};
@@ -10,13 +10,11 @@ use thiserror::Error;
 #[error("the line failed")]
 pub struct LineFault;
 
-/// A line of octets, which stands for a serial device. No call on it waits: 0 octets mean that
-/// nothing goes now.
+/// A line of octets, such as a serial device. No call on it waits: 0 octets mean that nothing can be moved now.
 ///
-/// Contracts see which octets it gave and took so far, how many calls there were, how many of them
-/// failed, and how many moved nothing though they could: reads with room for an octet that gave none,
-/// and writes that were offered an octet and took none. All counts end at `u64::MAX`: those of calls
-/// and of calls that moved nothing stay there, and a line that failed so often gives no more faults.
+/// Contracts see all octets that the line gave and took, and counts: of its calls, of those that failed, and of those that moved
+/// nothing though they could. These are reads with room for an octet that gave none, and writes that were offered an octet and took
+/// none. Counts end at `u64::MAX`. The counts of calls stay there; a line that failed so often gives no more faults.
 pub trait SerialLine {
     /// All octets that it gave, in order.
     ghost received: { Self → List ℕ };
@@ -36,13 +34,12 @@ pub trait SerialLine {
     /// The writes so far that were offered at least one octet and took none.
     ghost stalled_writes: { Self → ℕ };
 
-    /// What was done with it on its other side: all octets that were given to be read, read or not,
-    /// and those of the octets that it took that were given on. No call of its user changes it. A line
-    /// that doesn't know of it has none of both.
+    /// What was done on the line's other side: all octets that were put in to be read, read or not, and those of the taken octets
+    /// that were given on. No call of the line's user changes it. A line that doesn't know its other side shows two empty lists.
     ghost other_side: { Self → OtherSide };
 
-    /// Writes the next octets to the front of the buffer, and says how many. What stands behind them
-    /// there is left open.
+    /// Reads: puts the next octets at the front of the buffer, and says how many. What stands behind them in the buffer is left
+    /// open.
     fn try_read(&mut self, buffer: &mut [u8]) -> Result<usize, LineFault>
         ensures bound { IfOk result (λ n. n ≤ length buffer.old) }
         ensures came { IfOk result (λ n. received self.new ≡ received self.old ++ take n buffer.new) }
@@ -63,7 +60,7 @@ pub trait SerialLine {
 
         ensures beyond { other_side self.new ≡ other_side self.old };
 
-    /// Takes octets from the front of these, and says how many.
+    /// Writes: takes octets from the front of these, and says how many.
     fn try_write(&mut self, octets: &[u8]) -> Result<usize, LineFault>
         ensures bound { IfOk result (λ n. n ≤ length octets.now) }
         ensures went { IfOk result (λ n. sent self.new ≡ sent self.old ++ take n octets.now) }

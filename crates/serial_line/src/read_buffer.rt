@@ -29,7 +29,7 @@ impl Model for ReadBuffer {
 }
 
 impl ReadBuffer {
-    /// None so far. It takes room for 512 octets.
+    /// An empty buffer with room for 512 octets.
     pub fn new(alloc: Global) -> Result<ReadBuffer, AllocError>
         ensures { IfOk result (λ i. i ≡ []) }
     {
@@ -41,7 +41,7 @@ impl ReadBuffer {
         })
     }
 
-    /// Whether all were used.
+    /// Whether all octets were used.
     pub fn is_empty(&self) -> bool
         ensures { result ≡ (length self.now == 0) }
     {
@@ -55,7 +55,7 @@ impl ReadBuffer {
         &self.octets[self.start..self.end]
     }
 
-    /// So many of the first are used. The condition is that there are as many.
+    /// Drops the first `count` octets, which were used. Requires that there are as many.
     pub fn pass(&mut self, count: usize)
         requires { count ≤ length self.old }
         ensures { self.new ≡ drop count self.old }
@@ -63,7 +63,7 @@ impl ReadBuffer {
         self.start += count;
     }
 
-    /// Reads once, with room for 512 octets. The condition is that none waits.
+    /// Reads the line once, with room for 512 octets, and says how many came. Requires that the buffer is empty.
     pub fn read<L: SerialLine>(&mut self, line: &mut L) -> Result<usize, LineFault>
         requires { self.old ≡ [] }
         ensures bound { IfOk result (λ n. n ≤ 512) }

@@ -1,9 +1,9 @@
 //! A line over a reader and a writer.
 //!
-//! A call on it waits where the reader or the writer waits. So the line keeps the word of `SerialLine`, that no call waits, over a
-//! reader and a writer that answer `WouldBlock` in place of waiting, as those of `device_line`, or over files and slices. Laid
-//! directly on a terminal that is set to `min 0 time 1` it breaks that word: each read that finds nothing waits a tenth of a
-//! second, and a command over it was measured to take 400 ms. There use the line of `device_line`.
+//! A call on it waits where its reader or writer waits, and `SerialLine` asks that no call waits. That is kept over files and
+//! slices, and over a reader and a writer that answer `WouldBlock` instead of waiting, such as those of `device_line`. It isn't
+//! kept directly on a terminal set to `min 0 time 1`: each read that finds nothing waits a tenth of a second, and a command was
+//! measured to take 400 ms. Use the line of `device_line` there.
 ghost use Rattle.std.specs.Prelude.{◌≡◌, ◌+◌, ◌<◌, ◌≤◌, ◌++◌, ◌⊎◌, [], take, length, IfOk, OnErr, MatchResult};
 ghost use Rattle.std.specs.Io.KnownBytes.{Keeps, Consumes, Appends, IsAtEnd};
 ghost use Rattle.serial_line.specs.Counts.{one_more, counted_if_none};
@@ -17,7 +17,7 @@ use crate::line::{LineFault, SerialLine};
 use std::io::{Error, ErrorKind, Read, Write};
 use std::marker::Model;
 
-/// What a read of no octets says, where there was room for some.
+/// What an empty read means, where there was room for octets.
 #[derive(Clone, Copy, Debug, PartialEq, Eq)]
 pub enum ZeroRead {
     /// Nothing is there now, as on a terminal that is set to `min 0 time 1`.
@@ -26,11 +26,11 @@ pub enum ZeroRead {
     Ended,
 }
 
-/// A line over a reader and a writer. A call makes one call on the reader or on the writer. Where that is refused with
-/// `Interrupted`, `WouldBlock` or `TimedOut`, nothing goes now; any other refusal is a fault.
+/// A line over a reader and a writer. Each call makes one call of the reader or of the writer. Where that answers `Interrupted`,
+/// `WouldBlock` or `TimedOut`, nothing can be moved now; any other error is a fault.
 ///
-/// Contracts see the octets and counts of a line, what the reader is still to give and what the writer holds, where those are
-/// known, what a read of nothing says, and how many calls the reader or the writer refused for now. That count ends at `u64::MAX`.
+/// Contracts see the octets and counts of a line; what the reader is still to give and what the writer holds, where those are
+/// known; what an empty read means; and how many calls the reader or the writer refused for now. That count ends at `u64::MAX`.
 #[derive(Drop)]
 pub struct StreamLine<R: Read, W: Write> {
     reader: R,

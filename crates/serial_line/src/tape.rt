@@ -5,7 +5,7 @@ ghost use Rattle.serial_line.specs.Tape.{free, with_more, with_passed};
 use std::alloc::{AllocError, Global};
 use std::marker::Model;
 
-/// Keeps all octets that it was ever given, and how many of them have passed.
+/// All octets that it was ever given, and how many of them have passed.
 #[derive(Drop)]
 pub(crate) struct Tape {
     octets: Vec<u8>,
@@ -41,7 +41,7 @@ impl Tape {
         })
     }
 
-    /// Those that have passed, and then those ahead.
+    /// All octets: those that have passed, then those ahead.
     pub(crate) fn all(&self) -> &[u8]
         ensures { result.now ≡ self.now.gone ++ self.now.ahead }
     {

@@ -15,8 +15,7 @@ use std::marker::Model;
 // The most octets that can be under way each way.
 const MOST_ROOM: usize = 65536;
 
-/// One end of a line between two threads. What one end sent is received at the other, in order, and
-/// no call fails.
+/// One end of a line between two threads. The other end receives what this end sent, in order. No call fails.
 #[derive(Drop)]
 pub struct ThreadLine {
     incoming: Consumer<u8>,
@@ -46,8 +45,8 @@ impl Model for ThreadLine {
 }
 
 impl ThreadLine {
-    /// The two ends of a new line, with room for so many octets under way each way. `BadRoom` unless
-    /// that is 1 to 65536, and then `NoMemory` where memory is refused.
+    /// The two ends of a new line, with room for `room` octets under way each way. Refused with `BadRoom` unless that is 1 to
+    /// 65536, and then with `NoMemory` where memory is refused.
     pub fn pair(alloc: Global, room: usize) -> Result<(ThreadLine, ThreadLine), LineError>
         ensures bad_room { IsErrOf result LineError.BadRoom ↔ ((room ≡ 0) ⊎ (65536 < room)) }
         ensures ends { IfOk result (λ r. AreEnds r.0 r.1) }
@@ -75,8 +74,8 @@ impl ThreadLine {
         Ok((near, far))
     }
 
-    /// How many octets that this end sent are still to be received at the other end of the line, for a
-    /// thread that holds both. What the other end received is a beginning of what this end sent.
+    /// How many octets that this end sent the other end hasn't received yet, for a thread that holds both ends. What the other end
+    /// received is a beginning of what this end sent.
     pub fn under_way(&mut self, other: &mut ThreadLine) -> usize
         requires { AreEnds self.old other.old }
         ensures value { result ≡ length other.new.seen }
@@ -104,7 +103,7 @@ impl SerialLine for ThreadLine {
 
     ghost other_side = { λ _. unknown_side };
 
-    /// Gives what is there, as far as the buffer goes.
+    /// Gives the octets that are there, as many as the buffer holds.
     fn try_read(&mut self, buffer: &mut [u8]) -> Result<usize, LineFault>
         ensures sound { IsOk result }
         ensures bound { IfOk result (λ n. n ≤ length buffer.old) }
@@ -124,7 +123,7 @@ impl SerialLine for ThreadLine {
         Ok(count)
     }
 
-    /// Takes as many octets as find room.
+    /// Takes as many octets as there is room for.
     fn try_write(&mut self, octets: &[u8]) -> Result<usize, LineFault>
         ensures sound { IsOk result }
         ensures bound { IfOk result (λ n. n ≤ length octets.now) }
