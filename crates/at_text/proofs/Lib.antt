@@ -2,6 +2,7 @@ pub mod CommandTexts
 pub mod RowFacts
 pub mod ShortNumbers
 pub mod Commas
+pub mod SameKinds
 pub mod NoRules
 pub mod lines
 pub mod windows

@@ -2,6 +2,7 @@ pub mod Octets
 pub mod Lines
 pub mod Reading
 pub mod Finals
+pub mod Kinds
 pub mod Unsolicited
 pub mod Dialects
 pub mod Rules

@@ -1,5 +1,5 @@
 //! Unsolicited lines.
-ghost use Rattle.std.specs.Prelude.{◌≡◌, option_map};
+ghost use Rattle.std.specs.Prelude.{◌≡◌, ◌<◌, option_map};
 ghost use Rattle.at_text.specs.Octets.{after_comma};
 ghost use Rattle.at_text.specs.Unsolicited.{unsolicited_of, is_report, is_without_second};
 
@@ -7,7 +7,7 @@ use crate::octets::skip_blanks;
 use memchr::memchr;
 
 /// The kinds of line that no command asked for, and Other for a line of no kind that belongs to no answer.
-#[derive(Clone, Copy, PartialEq, Eq, Debug)]
+#[derive(Clone, Copy, Debug)]
 pub enum UrcKind {
     /// `RING` (V.250, 6.3).
     Ring,
@@ -25,6 +25,48 @@ pub enum UrcKind {
     Own(u8),
     /// A line of none of these kinds, outside of every window.
     Other,
+}
+
+impl UrcKind {
+    ghost use Rattle.at_text.specs.Kinds.{kind_place};
+
+    /// The place of a kind: 0 to 6, those of the standards and Other, then from 7 on those of a dialect's own.
+    pub fn place(self) -> usize
+        ensures place { result ≡ kind_place self }
+        ensures few { result < 263 }
+    {
+        match self {
+            UrcKind::Ring => 0,
+            UrcKind::Cring => 1,
+            UrcKind::Creg => 2,
+            UrcKind::Cgreg => 3,
+            UrcKind::Cgev => 4,
+            UrcKind::Ciev => 5,
+            UrcKind::Other => 6,
+            UrcKind::Own(number) => 7 + usize::from(number),
+        }
+    }
+}
+
+impl PartialEq for UrcKind {
+    ghost use Rattle.std.proofs.Common.{rules};
+    ghost use Rattle.std.specs.Cmp.Rules.{comparing};
+    ghost use Rattle.at_text.specs.Kinds.{is_same_kind};
+
+    ghost eq = { is_same_kind };
+
+    ghost laws = { Prim.search (comparing, rules) };
+
+    fn eq(&self, other: &UrcKind) -> bool {
+        self.place() == other.place()
+    }
+}
+
+impl Eq for UrcKind {
+    ghost use Rattle.std.proofs.Common.{rules};
+    ghost use Rattle.std.specs.Cmp.Rules.{comparing};
+
+    ghost laws = { Prim.search (comparing, rules) };
 }
 
 /// The kind of a line that no command asked for, also inside a window. It is never Other.

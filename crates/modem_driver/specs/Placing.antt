@@ -8,7 +8,7 @@ use Rattle.at_text.specs.declared.unsolicited.UrcKind.{UrcKind}
 use Rattle.modem_desk.specs.declared.request.Outcome.{Outcome}
 use Rattle.modem_desk.specs.declared.request.Urc.{Urc}
 use Rattle.modem_desk.specs.Ends.{DriverView, DeskId}
-use Rattle.modem_history.specs.Kinds.{kind_place}
+use Rattle.at_text.specs.Kinds.{kind_place}
 use Rattle.modem_history.specs.Sessions.{at_place}
 use Rattle.modem_history.specs.EveryTurn.{count_at}
 use Rattle.modem_history.specs.Turns.{amount, counted}

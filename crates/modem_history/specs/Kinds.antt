@@ -1,27 +1,14 @@
 -- Kinds of lines, compared and listened to.
-use Rattle.std.specs.Prelude.{ℕ, ◌+◌, ◌==◌, Bool, List, [], ◌∷◌, filter}
+use Rattle.std.specs.Prelude.{ℕ, ◌==◌, Bool, List, [], ◌∷◌, filter}
 use Rattle.std.specs.List.{list_any}
 use Rattle.at_text.specs.declared.unsolicited.UrcKind.{UrcKind}
-use Rattle.at_text.specs.declared.unsolicited.UrcKind.TheVariants.{Ring, Cring, Creg, Cgreg, Cgev, Ciev, Other, Own}
+use Rattle.at_text.specs.declared.unsolicited.UrcKind.TheVariants.{Ring, Cring, Creg, Cgreg, Cgev, Ciev, Other}
+use Rattle.at_text.specs.Kinds.{is_same_kind}
 use Rattle.modem_desk.specs.declared.request.Urc.{Urc}
 
 -- the kinds of the standards, and Other
 abbrev pub standard_kinds : List UrcKind
 standard_kinds = Ring ∷ Cring ∷ Creg ∷ Cgreg ∷ Cgev ∷ Ciev ∷ Other ∷ []
-
--- the place of a kind: first those of the standards, then those of one's own
-abbrev pub kind_place : UrcKind → ℕ
-kind_place Ring = 0
-kind_place Cring = 1
-kind_place Creg = 2
-kind_place Cgreg = 3
-kind_place Cgev = 4
-kind_place Ciev = 5
-kind_place Other = 6
-kind_place (Own number) = 7 + number
-
-abbrev pub is_same_kind : UrcKind → UrcKind → Bool
-is_same_kind k m = kind_place k == kind_place m
 
 -- it is among the kinds
 abbrev pub is_listened : List UrcKind → UrcKind → Bool

@@ -17,7 +17,8 @@ use Rattle.modem_desk.specs.declared.request.Outcome.{Outcome}
 use Rattle.modem_desk.specs.declared.request.Urc.{Urc}
 use Rattle.modem_history.specs.Acts.{Act, Took, Got, Sent, Heard, Given, after, wire, in_hand}
 use Rattle.modem_history.specs.Requests.{are_distinct}
-use Rattle.modem_history.specs.Kinds.{is_same_kind, is_listened, of_kind, on_channel}
+use Rattle.at_text.specs.Kinds.{is_same_kind}
+use Rattle.modem_history.specs.Kinds.{is_listened, of_kind, on_channel}
 use Rattle.modem_history.specs.Calls.{Setting, is_loss, is_lost}
 use Rattle.modem_history.specs.Lawful.{Lawful, Complete}
 use Rattle.modem_history.specs.GoingOut.{SendsInTurn}

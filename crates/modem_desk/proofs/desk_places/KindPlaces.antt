@@ -5,21 +5,21 @@ use Rattle.std.specs.Prelude.{IsTrue, Contains}
 use Rattle.std.specs.List.{IsAnyAnswer}
 use mathlib.Core.Option.{some, some-injective, some-ne-none}
 use lib.ListN.{get_elem?}
-use denote.Enum.Bare.{sameb, same_true, true_same}
 use Rattle.at_text.specs.declared.unsolicited.UrcKind.{UrcKind}
-use Rattle.at_text.specs.contracts.unsolicited.UrcKind.{the_type}
+use Rattle.at_text.specs.Kinds.{is_same_kind}
+use Rattle.at_text.proofs.SameKinds.{same_place, same_itself}
 use Rattle.modem_desk.specs.Ends.{EachOnce, Appends, Changes, Announces}
 use Rattle.modem_desk.specs.declared.request.Urc.{Urc}
 use Rattle.modem_desk.proofs.queue_rule.CallerPasses.{at_end}
 
-pub same_kind : (a b : UrcKind) → sameb the_type a b ≡ true → a ≡ b
-same_kind a b e = same_true the_type tt a b e
+pub same_kind : (a b : UrcKind) → is_same_kind a b ≡ true → a ≡ b
+same_kind a b e = same_place a b e
 
-pub found : (ks : List UrcKind) (k : UrcKind) (r : Bool) → IsAnyAnswer (λ y b. sameb the_type y k ≡ b) ks r → IsTrue r ↔ Contains ks k
+pub found : (ks : List UrcKind) (k : UrcKind) (r : Bool) → IsAnyAnswer (λ y b. is_same_kind y k ≡ b) ks r → IsTrue r ↔ Contains ks k
 found ks k true h = ((λ _. (h.0, h.1, same_kind (get_or ks h.0 k) k (h.2 k))), λ _. refl)
 found ks k false h = (
   (λ no. absurd (true≢false (sym no))),
-  (λ c. absurd (true≢false (sym (true_same the_type (get_or ks c.0 k) k c.2) ∙ h c.0 k (omega arith) c.1))),
+  (λ c. absurd (true≢false (sym (ap (λ (m : UrcKind). is_same_kind m k) c.2 ∙ same_itself k) ∙ h c.0 k (omega arith) c.1))),
 )
 
 module _ {A : Type 0} where

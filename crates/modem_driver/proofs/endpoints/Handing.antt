@@ -12,7 +12,8 @@ use Rattle.modem_desk.specs.declared.request.Outcome.{Outcome}
 use Rattle.modem_desk.specs.declared.request.Request.{Request}
 use Rattle.modem_desk.specs.declared.request.Urc.{Urc}
 use Rattle.modem_desk.specs.Ends.{DriverView, Announces, Appends}
-use Rattle.modem_history.specs.Kinds.{kind_place, is_listened}
+use Rattle.at_text.specs.Kinds.{kind_place}
+use Rattle.modem_history.specs.Kinds.{is_listened}
 use Rattle.modem_history.specs.Sessions.{LineView, at_place, heard_as}
 use Rattle.modem_driver.specs.Placing.{Gave, Stay, goes_first, of_key, caller_of, place_of}
 use Rattle.modem_driver.specs.Endpoints.{EndpointState, GivesLine, GivesOutcome, LeadsOver, Leaves}

@@ -14,7 +14,8 @@ use Rattle.modem_desk.specs.declared.request.Urc.{Urc}
 use Rattle.modem_desk.specs.Ends.{DriverView, DeskId}
 use Rattle.modem_history.specs.Acts.{Act}
 use Rattle.modem_history.specs.Requests.{are_distinct}
-use Rattle.modem_history.specs.Kinds.{kind_place, of_kind, is_listened}
+use Rattle.at_text.specs.Kinds.{kind_place}
+use Rattle.modem_history.specs.Kinds.{of_kind, is_listened}
 use Rattle.modem_history.specs.Sessions.{Beginning, LineView, SessionView, FitsTold, FitsHeard, at_place, caller_outcomes, heard_as}
 use Rattle.modem_history.specs.EveryTurn.{count_at}
 use Rattle.modem_history.specs.Turns.{amount, counted}

@@ -8,7 +8,8 @@ use Rattle.at_text.specs.declared.unsolicited.UrcKind.{UrcKind}
 use Rattle.modem_desk.specs.declared.request.Outcome.{Outcome}
 use Rattle.modem_desk.specs.declared.request.Urc.{Urc}
 use Rattle.modem_desk.specs.Ends.{DeskId, DriverView}
-use Rattle.modem_history.specs.Kinds.{is_same_kind, of_kind}
+use Rattle.at_text.specs.Kinds.{is_same_kind}
+use Rattle.modem_history.specs.Kinds.{of_kind}
 use Rattle.modem_history.specs.Sessions.{caller_outcomes}
 use Rattle.modem_history.specs.Turns.{TurnAnswer}
 use Rattle.modem_driver.specs.SessionStates.{Kept}

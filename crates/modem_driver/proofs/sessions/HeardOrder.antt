@@ -7,7 +7,8 @@ use Rattle.std.specs.Prelude.{◌≡◌, ℕ, ◌+◌, ◌-◌, ◌<◌, ◌≤�
 use Rattle.at_text.specs.declared.unsolicited.UrcKind.{UrcKind}
 use Rattle.modem_desk.specs.declared.request.Urc.{Urc}
 use Rattle.modem_history.specs.Acts.{Act, Took, Got, Sent, Told, Heard, Tick, Lost, Held, Freed, Given, after}
-use Rattle.modem_history.specs.Kinds.{kind_place, of_kind, is_same_kind}
+use Rattle.at_text.specs.Kinds.{kind_place, is_same_kind}
+use Rattle.modem_history.specs.Kinds.{of_kind}
 use Rattle.modem_history.specs.Sessions.{SessionView, announced_of, heard_as, heard_behind, heards}
 use Rattle.modem_history.specs.Turns.{lines_heard}
 use Rattle.modem_driver.specs.Placing.{of_key, Stay, stays_none, place_of}

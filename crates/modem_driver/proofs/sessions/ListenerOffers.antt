@@ -8,7 +8,7 @@ use lib.ListN.{get_elem?}
 use Rattle.at_text.specs.declared.unsolicited.UrcKind.{UrcKind}
 use Rattle.modem_desk.specs.declared.request.Urc.{Urc}
 use Rattle.modem_desk.specs.Ends.{DriverView, DeskId, Announces, Changes, FallsByOne, RunsOut, RisesByOne, Hears}
-use Rattle.modem_history.specs.Kinds.{kind_place}
+use Rattle.at_text.specs.Kinds.{kind_place}
 use Rattle.modem_driver.specs.Placing.{Placed, OneFewer, OffersFirst, AnnouncesAlone, place_of, IsListenerOf, IsHeard, listener_rings}
 use Rattle.modem_driver.proofs.sessions.Kinds.{same_place}
 use Rattle.modem_driver.proofs.sessions.FirstOffers.{either, AreApart, GivesOne, FillsUp, placing_first, placed_last}

@@ -13,7 +13,8 @@ use Rattle.modem_history.specs.Acts.{Act, Took, Got, Sent, Told, Heard, Tick, Lo
 use Rattle.modem_history.specs.Calls.{Setting, is_loss, is_lost}
 use Rattle.modem_history.specs.Lawful.{When}
 use Rattle.modem_history.specs.GoingOut.{SendsInTurn, next_out}
-use Rattle.modem_history.specs.Kinds.{is_same_kind, of_kind, is_listened}
+use Rattle.at_text.specs.Kinds.{is_same_kind}
+use Rattle.modem_history.specs.Kinds.{of_kind, is_listened}
 use Rattle.modem_history.specs.Wholes.{is_said, taken_requests, outcomes}
 use Rattle.modem_history.specs.Sessions.{TakesWithRoom, gots, given_on, heards, heard_as}
 use Rattle.modem_history.specs.Turns.{outcomes_told, lines_heard}

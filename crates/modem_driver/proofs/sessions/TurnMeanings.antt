@@ -9,7 +9,8 @@ use Rattle.modem_desk.specs.declared.request.Outcome.{Outcome}
 use Rattle.modem_desk.specs.declared.request.Urc.{Urc}
 use Rattle.modem_history.specs.Acts.{Act, after, in_hand}
 use Rattle.modem_history.specs.Calls.{is_lost}
-use Rattle.modem_history.specs.Kinds.{of_kind, is_same_kind, kind_place}
+use Rattle.at_text.specs.Kinds.{is_same_kind, kind_place}
+use Rattle.modem_history.specs.Kinds.{of_kind}
 use Rattle.modem_history.specs.Sessions.{Beginning, driving, caller_outcomes, backlog_in}
 use Rattle.modem_history.specs.Turns.{TurnAnswer, IsAtRest, Means, says_moved, IsWriterFull, HoldsByBacklog, HoldsWhereRoom, Write, Offers, has_room_for, octets_written}
 use Rattle.modem_history.specs.EveryTurn.{GoesTurn}

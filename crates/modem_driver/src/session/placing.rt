@@ -1,37 +1,18 @@
 //! What waits is offered to the desk.
 ghost use Rattle.std.specs.Prelude.{◌≡◌, ◌<◌};
-ghost use Rattle.modem_history.specs.Kinds.{kind_place};
 ghost use Rattle.modem_history.specs.Sessions.{LineView};
 ghost use Rattle.modem_driver.specs.Placing.{OffersFirst, Placed, TellsAlone, AnnouncesAlone, caller_of, place_of, IsRingOf, IsCaller, IsListenerOf, IsHeard, caller_rings, listener_rings};
 ghost use Rattle.modem_driver.specs.TurnSteps.{turn_state, Places};
 
 use crate::session::kept::Kept;
 use crate::session::waiting::Waiting;
-use at_text::UrcKind;
 use modem_desk::DriverEnd;
 
 /// How many callers a number of 8 bits can name.
 const CALLERS: usize = 256;
 
-/// How many kinds of lines there are: those of the standards, Other, and 256 of one's own.
+/// How many places of kinds there are.
 const KINDS: usize = 263;
-
-/// The place of a kind: first those of the standards, then those of one's own.
-fn place_of(kind: UrcKind) -> usize
-    ensures place { result ≡ kind_place kind }
-    ensures few { result < 263 }
-{
-    match kind {
-        UrcKind::Ring => 0,
-        UrcKind::Cring => 1,
-        UrcKind::Creg => 2,
-        UrcKind::Cgreg => 3,
-        UrcKind::Cgev => 4,
-        UrcKind::Ciev => 5,
-        UrcKind::Other => 6,
-        UrcKind::Own(number) => 7 + usize::from(number),
-    }
-}
 
 impl Waiting {
     /// The first outcome is offered to its caller, unless one of that caller was handed back before. One
@@ -88,7 +69,7 @@ impl Waiting {
         let Some(line) = self.lines.pop_front() else {
             return false;
         };
-        let kind = place_of(line.kind);
+        let kind = line.kind.place();
         if held_up[kind] || !driver.listens(line.kind) {
             self.lines.push_back_reserved(line);
             return false;

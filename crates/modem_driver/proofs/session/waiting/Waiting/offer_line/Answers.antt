@@ -2,7 +2,7 @@
 use Rattle.std.proofs.Common.{◌≡◌, ap, sym, ◌∙◌, subst, arith, true, false, length, List, ◌∷◌, ℕ, refl}
 use Rattle.std.specs.Prelude.{slice_index_or, slice_set, [], ◌++◌}
 use Rattle.modem_desk.specs.declared.request.Urc.{Urc}
-use Rattle.modem_history.specs.Kinds.{kind_place}
+use Rattle.at_text.specs.Kinds.{kind_place}
 use Rattle.modem_driver.specs.Placing.{OffersFirst, place_of, Rings, IsListenerOf, IsHeard, listener_rings}
 use Rattle.modem_driver.specs.WaitingLists.{WaitingLists}
 use Rattle.modem_driver.proofs.sessions.FirstOffers.{offers_given, offers_back, offers_passed, offers_none}
