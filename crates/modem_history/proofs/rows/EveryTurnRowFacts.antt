@@ -20,7 +20,7 @@ use Rattle.modem_history.specs.SessionRows.{TurnRow, Each, beginning, sabm_zero,
 use Rattle.modem_history.specs.GoodTurns.{exchanged, offers, outcome_back, reads_none, writes_on, takes_request, gets_frame, places_outcome, gives_on_in_vain, waits_for_zero}
 use Rattle.modem_history.specs.EveryTurnRows.{SeemsATurn, StepsBy, SkipsAStep, TakeTheirSteps, raising, none_back, offers_nothing, reads_without_room, asks_for_none, looks_at_no_backlog, puts_half, leaves_an_outcome, skipping_turns}
 use Rattle.modem_history.proofs.rows.SessionTests.{octets_differ, other_callers}
-use Rattle.modem_history.proofs.rows.TurnTests.{none_held, of_kinds, one_back, turn_by}
+use Rattle.modem_history.proofs.rows.TurnTests.{none_held, first_own, of_kinds, one_back, turn_by}
 
 -- ## Steps that are taken
 
@@ -380,7 +380,7 @@ looks_at_no_backlog_seems =
     let lines = replicate 256 ring in
     let t : Exchange = record (exchanged (offers last_flag 1) None) { still_heard = lines; heard_back = ring ∷ [] } in
     seems row t (turn_by row.old row.new t (after [] row.before) row.acts row.says refl refl refl refl (lit≤ tt) (all_offered _ _ (lit≤ tt) (lit≤ tt) refl)
-    (record { outcomes = λ c. refl; lines = of_kinds (λ k. of_kind k (ring ∷ []) ≡ take 1 (of_kind k lines)) (record { ring = refl; cring = refl; creg = refl; cgreg = refl; cgev = refl; ciev = refl; other = refl; own = λ number. refl }) }) refl tt)
+    (record { outcomes = λ c. refl; lines = of_kinds (λ k. of_kind k (ring ∷ []) ≡ take 1 (of_kind k lines)) (record { ring = refl; cring = refl; creg = refl; cgreg = refl; cgev = refl; ciev = refl; other = refl; own = λ number. first_own number (ring ∷ []) lines refl refl }) }) refl tt)
 
 puts_half_seems : SeemsATurn puts_half
 puts_half_seems =

@@ -19,7 +19,7 @@ use Rattle.modem_history.specs.GoodTurns.{AreRightTurns, at_calls, exchanged, of
 use Rattle.modem_history.proofs.rows.HistoryTests.{good}
 use Rattle.modem_history.proofs.rows.SessionTests.{read_in, fits_none}
 use Rattle.modem_history.proofs.rows.SessionRowFacts.{sabm_queued_right, sabm_half_sent_right, ua_at_hand_right, zero_opened_right, outcome_waits_right, csq_sent_right, ring_waits_right}
-use Rattle.modem_history.proofs.rows.TurnTests.{of_kinds, one_back, none_held, turn_by}
+use Rattle.modem_history.proofs.rows.TurnTests.{of_kinds, first_own, one_back, none_held, turn_by}
 
 -- what a session fits doesn't hang on the count of calls
 pub still_fits : (n : ℕ) (v : SessionView) (past : List Act) → SessionFits beginning v past → SessionFits beginning (at_calls n v) past
@@ -213,7 +213,7 @@ ring_waits_turn = record {
   fitted = ring_waits_right;
   fits = still_fits 41 _ (after [] ring_came) ring_waits_right;
   turn = turn_by blocked_by_ring.old blocked_by_ring.new (lines_back (ring ∷ [])) (after [] blocked_by_ring.before) blocked_by_ring.acts blocked_by_ring.says refl refl refl refl (lit≤ tt)
-      refl (record { outcomes = λ c. refl; lines = of_kinds (λ k. of_kind k (ring ∷ []) ≡ take 1 (of_kind k (ring ∷ []))) (record { ring = refl; cring = refl; creg = refl; cgreg = refl; cgev = refl; ciev = refl; other = refl; own = λ number. refl }) }) refl (record {
+      refl (record { outcomes = λ c. refl; lines = of_kinds (λ k. of_kind k (ring ∷ []) ≡ take 1 (of_kind k (ring ∷ []))) (record { ring = refl; cring = refl; creg = refl; cgreg = refl; cgev = refl; ciev = refl; other = refl; own = λ number. first_own number (ring ∷ []) (ring ∷ []) refl refl }) }) refl (record {
         written = refl;
         placed = refl;
         line = ring;
@@ -238,7 +238,7 @@ both_wait_right = record {
   fitted = two_lines_right;
   fits = still_fits 41 _ (after [] both_came) two_lines_right;
   turn = turn_by blocked_by_the_first.old blocked_by_the_first.new (lines_back (creg ∷ ring ∷ [])) (after [] blocked_by_the_first.before) blocked_by_the_first.acts blocked_by_the_first.says refl refl refl refl (lit≤ tt)
-      refl (record { outcomes = λ c. refl; lines = of_kinds (λ k. of_kind k (creg ∷ ring ∷ []) ≡ take 1 (of_kind k (creg ∷ ring ∷ []))) (record { ring = refl; cring = refl; creg = refl; cgreg = refl; cgev = refl; ciev = refl; other = refl; own = λ number. refl }) }) refl (record {
+      refl (record { outcomes = λ c. refl; lines = of_kinds (λ k. of_kind k (creg ∷ ring ∷ []) ≡ take 1 (of_kind k (creg ∷ ring ∷ []))) (record { ring = refl; cring = refl; creg = refl; cgreg = refl; cgev = refl; ciev = refl; other = refl; own = λ number. first_own number (creg ∷ ring ∷ []) (creg ∷ ring ∷ []) refl refl }) }) refl (record {
         written = refl;
         placed = refl;
         line = creg;

@@ -1,5 +1,5 @@
 -- Whether a turn is right, by tests that compute.
-use Rattle.std.proofs.Common.{ap, sym, subst, arith, eqb-true}
+use Rattle.std.proofs.Common.{ap, sym, subst, ◌∙◌, arith, eqb-true}
 use Rattle.std.specs.Prelude.{◌≡◌, ◌≢◌, ℕ, zero, suc, ◌+◌, ◌<◌, ◌≤◌, ◌==◌, ◌&&◌, not, nat_lt, nat_le, Bool, true, false, List, [], ◌∷◌, ◌++◌, length, take, filter, map, refl, None, if◌then◌else◌}
 use Rattle.std.specs.List.{list_all}
 use Rattle.std.proofs.lemmas.Bool.{and_parts, eqb-false, ltb-true, leb-true}
@@ -8,7 +8,9 @@ use Rattle.at_text.specs.declared.unsolicited.UrcKind.{UrcKind}
 use Rattle.at_text.specs.declared.unsolicited.UrcKind.TheVariants.{Ring, Cring, Creg, Cgreg, Cgev, Ciev, Other, Own}
 use Rattle.modem_desk.specs.declared.request.Request.{Request}
 use Rattle.modem_desk.specs.declared.request.Outcome.{Outcome}
+use Rattle.at_text.specs.Kinds.{kind_place}
 use Rattle.modem_desk.specs.declared.request.Urc.{Urc}
+use Rattle.modem_history.specs.Kinds.{of_kind}
 use Rattle.modem_history.specs.Acts.{Act, after}
 use Rattle.modem_history.specs.Holding.{is_held}
 use Rattle.modem_history.specs.Sessions.{SessionView, gots, heard_as, caller_outcomes, backlog}
@@ -38,6 +40,22 @@ of_kinds P h Cgev = h.cgev
 of_kinds P h Ciev = h.ciev
 of_kinds P h Other = h.other
 of_kinds P h (Own number) = h.own number
+
+-- among lines of the standards' kinds none is of one's own
+own_place : (b : Bool) (number place : ℕ) → place < 7 → (7 + number == place) ≡ b → b ≡ false
+own_place false number place small e = refl
+own_place true number place small e = let same : 7 + number ≡ place = eqb-true (7 + number) place e in absurd (omega (arith, small, same))
+
+pub none_own : (number : ℕ) (lines : List Urc) → list_all (λ (u : Urc). nat_lt (kind_place u.kind) 7) lines ≡ true → of_kind (Own number) lines ≡ []
+none_own number [] h = refl
+none_own number (u ∷ lines) h =
+    let parts = and_parts (nat_lt (kind_place u.kind) 7) (list_all (λ (v : Urc). nat_lt (kind_place v.kind) 7) lines) h in
+    let other : (7 + number == kind_place u.kind) ≡ false = own_place (7 + number == kind_place u.kind) number (kind_place u.kind) (ltb-true (kind_place u.kind) 7 parts.0) refl in
+    ap (λ (b : Bool). if b then u ∷ of_kind (Own number) lines else of_kind (Own number) lines) other ∙ none_own number lines parts.1
+
+pub first_own : (number : ℕ) (back lines : List Urc) → list_all (λ (u : Urc). nat_lt (kind_place u.kind) 7) back ≡ true → list_all (λ (u : Urc). nat_lt (kind_place u.kind) 7) lines ≡ true
+    → of_kind (Own number) back ≡ take 1 (of_kind (Own number) lines)
+first_own number back lines h k = none_own number back h ∙ sym (ap (take 1) (none_own number lines k))
 
 one_taken : (b : Bool) (o : Outcome) → (if b then o ∷ [] else []) ≡ take 1 (if b then o ∷ [] else [])
 one_taken true o = refl
