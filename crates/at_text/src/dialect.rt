@@ -10,6 +10,7 @@ ghost use Rattle.at_text.specs.StandardRules.{standard_finals, standard_urcs};
 
 use crate::dialect_error::DialectError;
 use crate::finals::{Final, final_of};
+use crate::heads::{HEADS, head, mark, mark_finals, mark_urcs};
 use crate::known_rules::{common_finals, common_urcs, dialling_finals};
 use crate::rules::{Form, Pattern, PatternRef, TEXT_LEN, Urc, first_kind, first_place, meets_pattern, meets_urc, place_named, push_pattern, push_urc};
 use crate::unsolicited::{UrcKind, unsolicited_of};
@@ -28,20 +29,22 @@ const NAME_LEN: usize = 64;
 pub struct Dialect {
     finals: Vec<Pattern>,
     urcs: Vec<Urc>,
+    // those of all lines that the rules take are marked
+    heads: [bool; HEADS],
 }
 
 impl Model for Dialect {
     ghost use Rattle.at_text.specs.Rules.{Rules};
-    ghost use Rattle.at_text.specs.Refusals.{IsSound};
+    ghost use Rattle.at_text.specs.Heads.{IsKept};
 
     ghost Value = { Rules };
 
     ghost view = { λ d. record { finals = d.finals.items; urcs = d.urcs.items } };
 
-    ghost invariant = { λ d. IsSound (record { finals = d.finals.items; urcs = d.urcs.items }) };
+    ghost invariant = { λ d. IsKept (record { finals = d.finals.items; urcs = d.urcs.items }) d.heads };
 }
 
-#[tactic(auto, using(crate::proofs::dialects::Sound::sound_standard, crate::proofs::dialects::Known::sound_common, crate::proofs::dialects::Known::sound_dialling))]
+#[tactic(auto, using(crate::proofs::dialects::Heading::kept_standard))]
 impl Dialect {
     /// The standard's final codes and unsolicited lines, and no rules of its own.
     pub fn standard(alloc: Global) -> Dialect
@@ -50,6 +53,7 @@ impl Dialect {
         Dialect {
             finals: Vec::new(alloc),
             urcs: Vec::new(alloc),
+            heads: [false; HEADS],
         }
     }
 
@@ -66,7 +70,10 @@ impl Dialect {
     {
         let finals = common_finals(alloc)?;
         let urcs = common_urcs(alloc)?;
-        Ok(Dialect { finals, urcs })
+        let mut heads = [false; HEADS];
+        mark_finals(&mut heads, &finals);
+        mark_urcs(&mut heads, &urcs);
+        Ok(Dialect { finals, urcs, heads })
     }
 
     /// What `common` has, and the final codes of dialling, `NO CARRIER`, `BUSY`, `NO ANSWER` and `NO DIALTONE` (V.250,
@@ -78,7 +85,10 @@ impl Dialect {
     {
         let finals = dialling_finals(alloc)?;
         let urcs = common_urcs(alloc)?;
-        Ok(Dialect { finals, urcs })
+        let mut heads = [false; HEADS];
+        mark_finals(&mut heads, &finals);
+        mark_urcs(&mut heads, &urcs);
+        Ok(Dialect { finals, urcs, heads })
     }
 
     /// How many rules of its own it has: at most 64. No line both ends an answer and is unsolicited by it, and no
@@ -97,7 +107,8 @@ impl Dialect {
     {
         match final_of(line) {
             Some(code) => Some(code),
-            None => self.own_final_of(line),
+            None if self.heads[head(line)] => self.own_final_of(line),
+            None => None,
         }
     }
 
@@ -124,7 +135,8 @@ impl Dialect {
     {
         match unsolicited_of(line) {
             Some(kind) => Some(kind),
-            None => first_kind(&self.urcs, line),
+            None if self.heads[head(line)] => first_kind(&self.urcs, line),
+            None => None,
         }
     }
 
@@ -167,7 +179,11 @@ impl Dialect {
     {
         match self.final_refusal(form, text) {
             Some(why) => Err(why),
-            None => Ok(push_pattern(&mut self.finals, form, text)?),
+            None => {
+                push_pattern(&mut self.finals, form, text)?;
+                mark(&mut self.heads, form, text);
+                Ok(())
+            }
         }
     }
 
@@ -184,7 +200,9 @@ impl Dialect {
             Some(why) => Err(why),
             None => {
                 let kind = self.kind_number(name);
-                Ok(push_urc(&mut self.urcs, kind, name, form, text)?)
+                push_urc(&mut self.urcs, kind, name, form, text)?;
+                mark(&mut self.heads, form, text);
+                Ok(())
             }
         }
     }
