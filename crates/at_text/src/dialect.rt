@@ -12,7 +12,10 @@ use crate::dialect_error::DialectError;
 use crate::finals::{Final, final_of};
 use crate::heads::{HEADS, head, mark, mark_finals, mark_urcs};
 use crate::known_rules::{common_finals, common_urcs, dialling_finals};
-use crate::rules::{Form, Pattern, PatternRef, TEXT_LEN, Urc, first_kind, first_place, meets_pattern, meets_urc, place_named, push_pattern, push_urc};
+use crate::rules::{
+    Form, Pattern, PatternRef, TEXT_LEN, Urc, first_kind, first_place, meets_pattern, meets_urc,
+    place_named, push_pattern, push_urc,
+};
 use crate::unsolicited::{UrcKind, unsolicited_of};
 use std::alloc::Global;
 use std::marker::Model;
@@ -73,7 +76,11 @@ impl Dialect {
         let mut heads = [false; HEADS];
         mark_finals(&mut heads, &finals);
         mark_urcs(&mut heads, &urcs);
-        Ok(Dialect { finals, urcs, heads })
+        Ok(Dialect {
+            finals,
+            urcs,
+            heads,
+        })
     }
 
     /// What `common` has, and the final codes of dialling, `NO CARRIER`, `BUSY`, `NO ANSWER` and `NO DIALTONE` (V.250,
@@ -88,7 +95,11 @@ impl Dialect {
         let mut heads = [false; HEADS];
         mark_finals(&mut heads, &finals);
         mark_urcs(&mut heads, &urcs);
-        Ok(Dialect { finals, urcs, heads })
+        Ok(Dialect {
+            finals,
+            urcs,
+            heads,
+        })
     }
 
     /// How many rules of its own it has: at most 64. No line both ends an answer and is unsolicited by it, and no
@@ -190,7 +201,12 @@ impl Dialect {
     /// One more rule of unsolicited lines, behind those that there are. Its kind is that of the first of them with
     /// the same name, else one of its own. It is refused by the first of: 1 TooManyRules, 2 NoText, 3 TextTooLong,
     /// 4 LineEnd, 5 BadName, 6 Command, 7 Ambiguous, 8 NoMemory, and the dialect stays as it was.
-    pub fn add_unsolicited(&mut self, form: Form, text: &[u8], name: &[u8]) -> Result<(), DialectError>
+    pub fn add_unsolicited(
+        &mut self,
+        form: Form,
+        text: &[u8],
+        name: &[u8],
+    ) -> Result<(), DialectError>
         ensures added { OnOk result (self.new ≡ with_rule self.old (UrcRule form text.now name.now)) }
         ensures taken { OnOk result (HasNoReasonBelow 8 self.old (UrcRule form text.now name.now)) }
         ensures refused { IfErr result (IsRefused self.old (UrcRule form text.now name.now)) }

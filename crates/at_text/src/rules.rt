@@ -82,7 +82,9 @@ impl PatternRef<'_> {
         } else {
             self.text
         };
-        self.shares(other, longer, b"") || self.shares(other, longer, b"\"") || self.shares(other, longer, b"0")
+        self.shares(other, longer, b"")
+            || self.shares(other, longer, b"\"")
+            || self.shares(other, longer, b"0")
     }
 
     /// Whether this text with this ending is a line of both rules.
@@ -138,7 +140,11 @@ impl Pattern {
 }
 
 /// One more rule behind these. Want of memory leaves them as they were.
-pub(crate) fn push_pattern(patterns: &mut Vec<Pattern>, form: Form, text: &[u8]) -> Result<(), AllocError>
+pub(crate) fn push_pattern(
+    patterns: &mut Vec<Pattern>,
+    form: Form,
+    text: &[u8],
+) -> Result<(), AllocError>
     ensures ok { OnOk result (patterns.new.items ≡ patterns.old.items ++ pattern form text.now ∷ []) }
     ensures err { OnErr result (patterns.new.items ≡ patterns.old.items) }
 {
@@ -162,7 +168,11 @@ pub(crate) fn push_urc(
     let name = Text::from(Vec::from_slice(alloc, name)?);
     let text = Text::from(Vec::from_slice(alloc, text)?);
     let pattern = Pattern { form, text };
-    urcs.push(Urc { kind, name, pattern })?;
+    urcs.push(Urc {
+        kind,
+        name,
+        pattern,
+    })?;
     Ok(())
 }
 

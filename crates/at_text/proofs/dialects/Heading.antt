@@ -1,18 +1,17 @@
 -- Which heads are marked.
-use Rattle.std.specs.Prelude.{◌≡◌, ℕ, zero, suc, ◌+◌, ◌*◌, ◌%◌, ◌<◌, ◌≤◌, nat_le, Bool, true, false, ◌||◌, List, [], ◌∷◌, ◌++◌, length, take, slice_index, slice_index_or, slice_set, replicate, Option, None, Some, option_map, is_some, refl}
+use Rattle.std.specs.Prelude.{◌≡◌, ℕ, zero, suc, ◌<◌, ◌≤◌, Bool, true, false, ◌||◌, List, [], ◌∷◌, ◌++◌, length, slice_index_or, slice_set, replicate, None, option_map, refl}
 use Rattle.std.specs.List.{list_any, position, find}
-use Rattle.std.proofs.Common.{arith, sym, ◌∙◌, ap, subst, get_or, set, get_or-set_same, get_or-set_other, ◌⊎◌, inl, inr}
-use Rattle.std.proofs.lemmas.Bool.{leb-true, eqb-true, cases_eq, or_cases, false_from_ne_true, both_ways}
-use Rattle.std.proofs.lemmas.List.{append-nil, get_or_append_left, nil_from_length, get_or_past, get_or-replicate}
+use Rattle.std.proofs.Common.{arith, sym, ◌∙◌, ap, subst, get_or-set_same, get_or-set_other, inl, inr}
+use Rattle.std.proofs.lemmas.Bool.{leb-true, eqb-true, cases_eq, false_from_ne_true, both_ways}
+use Rattle.std.proofs.lemmas.List.{append-nil, get_or_append_left, nil_from_length, get_or-replicate}
 use Rattle.at_text.specs.declared.finals.Final.TheVariants.{Named}
 use Rattle.at_text.specs.declared.rules.Form.{Form}
 use Rattle.at_text.specs.declared.rules.Form.TheVariants.{Line, Prefix, Quoted, Report, OpenReport}
 use Rattle.at_text.specs.declared.rules.Pattern.{Pattern}
-use Rattle.at_text.specs.declared.rules.Urc.{Urc}
 use Rattle.at_text.specs.declared.unsolicited.UrcKind.TheVariants.{Own}
 use Rattle.at_text.specs.Rules.{Rules, FinalRule, UrcRule, pattern, urc, kind_named, takes, no_rules, with_rule}
 use Rattle.at_text.specs.Heads.{head, is_headed, IsMarked, AreMarked, IsKept}
-use Rattle.at_text.proofs.dialects.Meeting.{Taken, taken}
+use Rattle.at_text.proofs.dialects.Meeting.{taken}
 use Rattle.at_text.proofs.dialects.Choosing.{some_placed, some_found}
 use Rattle.at_text.proofs.dialects.Sound.{any_push, none_from, sound_standard}
 
@@ -42,8 +41,8 @@ within (b ∷ heads) (suc k) h = let l : k < length heads = within heads k h in 
 pub kept_set : (heads : List Bool) (i k : ℕ) → IsMarked heads k → IsMarked (slice_set heads i true) k
 kept_set heads i k h =
     elim (cases_eq k i) [
-      inl e ↦ subst (λ j. IsMarked (slice_set heads j true) k) e (get_or-set_same heads k true false (within heads k h))
-    | inr ne ↦ get_or-set_other heads i k true false ne ∙ h
+      | inl e ↦ subst (λ j. IsMarked (slice_set heads j true) k) e (get_or-set_same heads k true false (within heads k h))
+      | inr ne ↦ get_or-set_other heads i k true false ne ∙ h
     ]
 
 pub marked_set : (heads : List Bool) (form : Form) (text line : List ℕ) → length heads ≡ 256 → head text < 256 → is_headed form text ≡ true → takes (pattern form text) line ≡ true
@@ -84,8 +83,8 @@ pub marked_final : (rules : Rules) (old new : List Bool) (form : Form) (text : L
     → AreMarked (with_rule rules (FinalRule form text)) new
 marked_final rules old new form text marked kept more = record {
   finals = λ line h. more_or (list_any (λ p. takes p line) rules.finals) (takes (pattern form text) line) (IsMarked new (head line))
-    (λ e. kept (head line) (marked.finals line e)) (more line) (sym (any_push (λ p. takes p line) rules.finals (pattern form text)) ∙ h);
-  urcs = λ line h. kept (head line) (marked.urcs line h)
+      (λ e. kept (head line) (marked.finals line e)) (more line) (sym (any_push (λ p. takes p line) rules.finals (pattern form text)) ∙ h);
+  urcs = λ line h. kept (head line) (marked.urcs line h);
 }
 
 pub marked_urc : (rules : Rules) (old new : List Bool) (form : Form) (text name : List ℕ) → AreMarked rules old → Kept old new → Marked form text new
@@ -93,8 +92,8 @@ pub marked_urc : (rules : Rules) (old new : List Bool) (form : Form) (text name 
 marked_urc rules old new form text name marked kept more = record {
   finals = λ line h. kept (head line) (marked.finals line h);
   urcs = λ line h. more_or (list_any (λ u. takes u.pattern line) rules.urcs) (takes (pattern form text) line) (IsMarked new (head line))
-    (λ e. kept (head line) (marked.urcs line e)) (more line)
-    (sym (any_push (λ u. takes u.pattern line) rules.urcs (urc (kind_named rules name) name (pattern form text))) ∙ h)
+      (λ e. kept (head line) (marked.urcs line e)) (more line)
+      (sym (any_push (λ u. takes u.pattern line) rules.urcs (urc (kind_named rules name) name (pattern form text))) ∙ h);
 }
 
 pub marked_both : (rules : Rules) (between heads : List Bool) → ((line : List ℕ) → list_any (λ p. takes p line) rules.finals ≡ true → IsMarked between (head line))
@@ -106,12 +105,12 @@ pub no_final_by : (rules : Rules) (heads : List Bool) (line : List ℕ) → AreM
     → None ≡ option_map Named (position (λ p. takes p line) rules.finals)
 no_final_by rules heads line marked e =
     sym (none_from (option_map Named (position (λ p. takes p line) rules.finals))
-      (some_placed (λ p. takes p line) Named rules.finals
-      ∙ false_from_ne_true (list_any (λ p. takes p line) rules.finals) (λ h. both_ways (slice_index_or heads (head line) false) e (marked.finals line h))))
+    (some_placed (λ p. takes p line) Named rules.finals
+    ∙ false_from_ne_true (list_any (λ p. takes p line) rules.finals) (λ h. both_ways (slice_index_or heads (head line) false) e (marked.finals line h))))
 
 pub no_kind_by : (rules : Rules) (heads : List Bool) (line : List ℕ) → AreMarked rules heads → slice_index_or heads (head line) false ≡ false
     → None ≡ option_map (λ u. Own u.kind) (find (λ u. takes u.pattern line) rules.urcs)
 no_kind_by rules heads line marked e =
     sym (none_from (option_map (λ u. Own u.kind) (find (λ u. takes u.pattern line) rules.urcs))
-      (some_found (λ u. takes u.pattern line) (λ u. Own u.kind) rules.urcs
-      ∙ false_from_ne_true (list_any (λ u. takes u.pattern line) rules.urcs) (λ h. both_ways (slice_index_or heads (head line) false) e (marked.urcs line h))))
+    (some_found (λ u. takes u.pattern line) (λ u. Own u.kind) rules.urcs
+    ∙ false_from_ne_true (list_any (λ u. takes u.pattern line) rules.urcs) (λ h. both_ways (slice_index_or heads (head line) false) e (marked.urcs line h))))

@@ -18,7 +18,7 @@ sound_common = sound_by common (record {
   own_standard = refl;
   own_own = refl;
   command_finals = refl;
-  command_urcs = refl
+  command_urcs = refl;
 })
 
 pub sound_dialling : IsSound dialling
@@ -33,5 +33,5 @@ sound_dialling = sound_by dialling (record {
   own_standard = refl;
   own_own = refl;
   command_finals = refl;
-  command_urcs = refl
+  command_urcs = refl;
 })

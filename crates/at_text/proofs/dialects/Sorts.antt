@@ -1,16 +1,15 @@
 -- Rules of two sorts with a line in common.
-use Rattle.std.specs.Prelude.{◌≡◌, ℕ, nat_eq, Bool, true, false, ◌||◌, ◌&&◌, List, [], ◌∷◌, ◌++◌, length, Option, Some, None, is_some, refl, codes}
-use Rattle.std.specs.List.{list_any, list_all, starts_with}
-use Rattle.std.proofs.Common.{arith, sym, ◌∙◌, ap, ◌⊎◌, inl, inr}
-use Rattle.std.proofs.lemmas.Bool.{and_parts, and_from, or_cases, or_left, or_right, or_from, or_parts, both_ways, cases_Bool}
-use Rattle.std.proofs.lemmas.List.Folds.{list_any-append}
+use Rattle.std.specs.Prelude.{◌≡◌, ℕ, Bool, true, false, ◌||◌, List, [], ◌∷◌, refl, codes}
+use Rattle.std.specs.List.{list_any, list_all}
+use Rattle.std.proofs.Common.{sym, ◌∙◌, ap, inl, inr}
+use Rattle.std.proofs.lemmas.Bool.{and_parts, or_cases, or_left, or_right, or_parts, both_ways}
 use Rattle.at_text.specs.declared.rules.Form.TheVariants.{Prefix}
 use Rattle.at_text.specs.declared.rules.Pattern.{Pattern}
 use Rattle.at_text.specs.Commands.{has_at}
 use Rattle.at_text.specs.Rules.{pattern, takes}
 use Rattle.at_text.specs.Refusals.{is_short, TakesCommand}
 use Rattle.at_text.specs.Deciding.{can_meet, can_take_command}
-use Rattle.at_text.proofs.dialects.Meeting.{Met, meet_met, meet_shown}
+use Rattle.at_text.proofs.dialects.Meeting.{meet_met, meet_shown}
 use Rattle.at_text.proofs.dialects.Standard.{takes_prefix}
 
 -- a line of one rule and of one of some
@@ -23,8 +22,8 @@ pub met_any : {X : Type 0} (view : X → Pattern) (p : Pattern) (xs : List X) �
 met_any view p [] h = cc
 met_any view p (x ∷ xs) h =
     elim (or_cases (can_meet p (view x)) (list_any (λ y. can_meet p (view y)) xs) h) [
-      inl a ↦ let m = meet_met p (view x) a in record { line = m.line; one = m.one; any = or_left (takes (view x) m.line) (list_any (λ y. takes (view y) m.line) xs) m.other }
-    | inr b ↦ let m = met_any view p xs b in record { line = m.line; one = m.one; any = or_right (takes (view x) m.line) (list_any (λ y. takes (view y) m.line) xs) m.any }
+      | inl a ↦ let m = meet_met p (view x) a in record { line = m.line; one = m.one; any = or_left (takes (view x) m.line) (list_any (λ y. takes (view y) m.line) xs) m.other }
+      | inr b ↦ let m = met_any view p xs b in record { line = m.line; one = m.one; any = or_right (takes (view x) m.line) (list_any (λ y. takes (view y) m.line) xs) m.any }
     ]
 
 abbrev pub are_short : {X : Type 0} → (X → Pattern) → List X → Bool
@@ -36,8 +35,8 @@ any_met view p short [] shorts line one any = any
 any_met view p short (x ∷ xs) shorts line one any =
     let parts = and_parts (is_short (view x).text) (are_short view xs) shorts in
     elim (or_cases (takes (view x) line) (list_any (λ y. takes (view y) line) xs) any) [
-      inl a ↦ or_left (can_meet p (view x)) (list_any (λ y. can_meet p (view y)) xs) (meet_shown p (view x) short parts.0 line one a)
-    | inr b ↦ or_right (can_meet p (view x)) (list_any (λ y. can_meet p (view y)) xs) (any_met view p short xs parts.1 line one b)
+      | inl a ↦ or_left (can_meet p (view x)) (list_any (λ y. can_meet p (view y)) xs) (meet_shown p (view x) short parts.0 line one a)
+      | inr b ↦ or_right (can_meet p (view x)) (list_any (λ y. can_meet p (view y)) xs) (any_met view p short xs parts.1 line one b)
     ]
 
 -- rules of two lists of which no two meet have no line in common
@@ -49,8 +48,8 @@ apart view look (x ∷ xs) ys short shorts none line one any =
     let parts = and_parts (is_short (view x).text) (are_short view xs) short in
     let nones = or_parts (list_any (λ y. can_meet (view x) (look y)) ys) (list_any (λ z. list_any (λ y. can_meet (view z) (look y)) ys) xs) none in
     elim (or_cases (takes (view x) line) (list_any (λ z. takes (view z) line) xs) one) [
-      inl a ↦ both_ways (list_any (λ y. can_meet (view x) (look y)) ys) nones.0 (any_met look (view x) parts.0 ys shorts line a any)
-    | inr b ↦ apart view look xs ys parts.1 shorts nones.1 line b any
+      | inl a ↦ both_ways (list_any (λ y. can_meet (view x) (look y)) ys) nones.0 (any_met look (view x) parts.0 ys shorts line a any)
+      | inr b ↦ apart view look xs ys parts.1 shorts nones.1 line b any
     ]
 
 -- ## Command lines

@@ -1,19 +1,18 @@
 -- Which rules make a dialect in which no line is both.
-use Rattle.std.specs.Prelude.{◌≡◌, ℕ, ◌≤◌, ◌<◌, ◌+◌, nat_le, Bool, true, false, ◌||◌, ◌&&◌, not, List, [], ◌∷◌, ◌++◌, length, Option, Some, None, is_some, refl}
+use Rattle.std.specs.Prelude.{◌≡◌, ℕ, ◌≤◌, ◌<◌, Bool, true, false, ◌||◌, List, [], ◌∷◌, ◌++◌, length, Option, Some, None, is_some, refl}
 use Rattle.std.specs.List.{list_any, list_all, AllByRecursion}
 use Rattle.std.proofs.Common.{arith, sym, ◌∙◌, ap, ◌⊎◌, inl, inr}
-use Rattle.std.proofs.lemmas.Bool.{and_parts, and_from, or_cases, or_left, or_right, or_from, or_parts, both_ways, false_from_ne_true, true_from_ne_false, le-leb}
+use Rattle.std.proofs.lemmas.Bool.{or_cases, false_from_ne_true, true_from_ne_false, le-leb}
 use Rattle.std.proofs.lemmas.List.{length_push}
 use Rattle.std.proofs.lemmas.List.Folds.{list_any-append, list_all-append}
 use Rattle.at_text.specs.declared.dialect_error.DialectError.TheVariants.{TooManyRules, TextTooLong, BadName, Command, Ambiguous}
-use Rattle.at_text.specs.declared.rules.Form.{Form}
 use Rattle.at_text.specs.declared.rules.Pattern.{Pattern}
 use Rattle.at_text.specs.declared.rules.Urc.{Urc}
 use Rattle.at_text.specs.Commands.{has_at}
 use Rattle.at_text.specs.Finals.{final_of}
 use Rattle.at_text.specs.Unsolicited.{unsolicited_of}
-use Rattle.at_text.specs.Rules.{Rules, Rule, FinalRule, UrcRule, pattern, takes, with_rule, final_by, kind_by, dialect_of, no_rules, urc, kind_named, name_at}
-use Rattle.at_text.specs.Refusals.{IsSound, IsAmbiguous, HasNoReasonBelow, TakesCommand, is_short, is_name, count, text_of, pattern_of}
+use Rattle.at_text.specs.Rules.{Rules, Rule, FinalRule, UrcRule, pattern, takes, with_rule, final_by, kind_by, no_rules, urc, kind_named, name_at}
+use Rattle.at_text.specs.Refusals.{IsSound, HasNoReasonBelow, is_short, is_name, count}
 use Rattle.at_text.specs.Deciding.{can_meet}
 use Rattle.at_text.specs.StandardRules.{standard_finals, standard_urcs}
 use Rattle.at_text.proofs.dialects.Choosing.{standard_final, standard_urc, some_final, some_urc}
@@ -28,10 +27,6 @@ pub none_not : {T : Type 0} (o : Option T) → o ≡ None → is_some o ≡ fals
 none_not o h = ap is_some h
 
 -- ## Rules whose tests compute
-
-
-
-
 
 -- each of a list is short and apart from each other
 pub record Checks (rules : Rules) : Type 0 where
@@ -62,13 +57,13 @@ not_both : (rules : Rules) → Checks rules → (line : List ℕ) → is_some (f
 unfolding can_meet
 not_both rules k line ends unasked =
     elim (ends_by rules line ends) [
-      inl a ↦ elim (unasked_by rules line unasked) [
-        inl b ↦ apart (λ r. r.0) (λ r. r.0) standard_finals standard_urcs refl refl refl line a b
-      | inr b ↦ apart (λ r. r.0) (λ u. u.pattern) standard_finals rules.urcs refl k.short_urcs k.standard_own line a b
+      | inl a ↦ elim (unasked_by rules line unasked) [
+        | inl b ↦ apart (λ r. r.0) (λ r. r.0) standard_finals standard_urcs refl refl refl line a b
+        | inr b ↦ apart (λ r. r.0) (λ u. u.pattern) standard_finals rules.urcs refl k.short_urcs k.standard_own line a b
       ]
-    | inr a ↦ elim (unasked_by rules line unasked) [
-        inl b ↦ apart (λ p. p) (λ r. r.0) rules.finals standard_urcs k.short_finals refl k.own_standard line a b
-      | inr b ↦ apart (λ p. p) (λ u. u.pattern) rules.finals rules.urcs k.short_finals k.short_urcs k.own_own line a b
+      | inr a ↦ elim (unasked_by rules line unasked) [
+        | inl b ↦ apart (λ p. p) (λ r. r.0) rules.finals standard_urcs k.short_finals refl k.own_standard line a b
+        | inr b ↦ apart (λ p. p) (λ u. u.pattern) rules.finals rules.urcs k.short_finals k.short_urcs k.own_own line a b
       ]
     ]
 
@@ -77,8 +72,8 @@ unfolding can_meet
 no_final_at rules k line at ends =
     let begun : list_any (λ p. takes p line) commands ≡ true = sym (has_at_taken line) ∙ at in
     elim (ends_by rules line ends) [
-      inl a ↦ apart (λ p. p) (λ r. r.0) commands standard_finals refl refl refl line begun a
-    | inr a ↦ apart (λ p. p) (λ p. p) commands rules.finals refl k.short_finals k.command_finals line begun a
+      | inl a ↦ apart (λ p. p) (λ r. r.0) commands standard_finals refl refl refl line begun a
+      | inr a ↦ apart (λ p. p) (λ p. p) commands rules.finals refl k.short_finals k.command_finals line begun a
     ]
 
 no_urc_at : (rules : Rules) → Checks rules → (line : List ℕ) → has_at line ≡ true → is_some (kind_by rules line) ≡ true → ⊥
@@ -86,8 +81,8 @@ unfolding can_meet
 no_urc_at rules k line at unasked =
     let begun : list_any (λ p. takes p line) commands ≡ true = sym (has_at_taken line) ∙ at in
     elim (unasked_by rules line unasked) [
-      inl a ↦ apart (λ p. p) (λ r. r.0) commands standard_urcs refl refl refl line begun a
-    | inr a ↦ apart (λ p. p) (λ u. u.pattern) commands rules.urcs refl k.short_urcs k.command_urcs line begun a
+      | inl a ↦ apart (λ p. p) (λ r. r.0) commands standard_urcs refl refl refl line begun a
+      | inr a ↦ apart (λ p. p) (λ u. u.pattern) commands rules.urcs refl k.short_urcs k.command_urcs line begun a
     ]
 
 pub sound_by : (rules : Rules) → Checks rules → IsSound rules
@@ -99,7 +94,7 @@ sound_by rules k = record {
   named = k.named;
   clear = λ a. not_both rules k a.line a.ends a.unasked;
   no_final = λ line at. none_from (final_by rules line) (false_from_ne_true (is_some (final_by rules line)) (no_final_at rules k line at));
-  no_urc = λ line at. none_from (kind_by rules line) (false_from_ne_true (is_some (kind_by rules line)) (no_urc_at rules k line at))
+  no_urc = λ line at. none_from (kind_by rules line) (false_from_ne_true (is_some (kind_by rules line)) (no_urc_at rules k line at));
 }
 
 pub sound_standard : IsSound no_rules
@@ -114,7 +109,7 @@ sound_standard = sound_by no_rules (record {
   own_standard = refl;
   own_own = refl;
   command_finals = refl;
-  command_urcs = refl
+  command_urcs = refl;
 })
 
 -- ## One more rule
@@ -160,8 +155,8 @@ sound_with rules (FinalRule form text) sound none = record {
   named = sound.named;
   clear = none Ambiguous (omega arith);
   no_final = λ line at. no_more_final rules (pattern form text) line (sound.no_final line at)
-    (false_from_ne_true (takes (pattern form text) line) (λ t. none Command (omega arith) (record { line = line; begins = at; taken = t })));
-  no_urc = sound.no_urc
+      (false_from_ne_true (takes (pattern form text) line) (λ t. none Command (omega arith) (record { line = line; begins = at; taken = t })));
+  no_urc = sound.no_urc;
 }
 sound_with rules (UrcRule form text name) sound none = record {
   few = let l : ¬ (64 ≤ count rules) = none TooManyRules (omega arith) in rw length_push (grind arith);
@@ -169,11 +164,11 @@ sound_with rules (UrcRule form text name) sound none = record {
   short_urcs = all_push (λ u. is_short u.pattern.text) rules.urcs (urc (kind_named rules name) name (pattern form text)) sound.short_urcs (is_short_from text (none TextTooLong (omega arith)));
   names = all_push (λ u. is_name u.name) rules.urcs (urc (kind_named rules name) name (pattern form text)) sound.names (true_from_ne_false (is_name name) (none BadName (omega arith)));
   named = all_more (λ u. name_at rules u.kind ≡ Some u.name) (λ u. name_at (with_rule rules (UrcRule form text name)) u.kind ≡ Some u.name)
-    (λ u h. kept_name rules.urcs (urc (kind_named rules name) name (pattern form text)) u.kind u.name h)
-    rules.urcs (urc (kind_named rules name) name (pattern form text)) sound.named
-    (last_name rules.urcs (urc (kind_named rules name) name (pattern form text)));
+      (λ u h. kept_name rules.urcs (urc (kind_named rules name) name (pattern form text)) u.kind u.name h)
+      rules.urcs (urc (kind_named rules name) name (pattern form text)) sound.named
+      (last_name rules.urcs (urc (kind_named rules name) name (pattern form text)));
   clear = none Ambiguous (omega arith);
   no_final = sound.no_final;
   no_urc = λ line at. no_more_urc rules (urc (kind_named rules name) name (pattern form text)) line (sound.no_urc line at)
-    (false_from_ne_true (takes (pattern form text) line) (λ t. none Command (omega arith) (record { line = line; begins = at; taken = t })))
+      (false_from_ne_true (takes (pattern form text) line) (λ t. none Command (omega arith) (record { line = line; begins = at; taken = t })));
 }

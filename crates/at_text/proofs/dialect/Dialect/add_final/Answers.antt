@@ -17,17 +17,17 @@ pub returns-in_err-push_pattern-in-None-clause-refused : goal.returns-in_err-pus
 returns-in_err-push_pattern-in-None-clause-refused c =
     if_no_memory c.from_residual.result (IsRefused c.args.self.now (FinalRule c.args.form c.args.text.now)) c.from_residual.ensures.1
     (no_memory c.args.self.now (FinalRule c.args.form c.args.text.now) (subst IsSound c.self.view_is c.self.invariant.sound)
-      (sym c.final_refusal.ensures ∙ c.in-None.is))
+    (sym c.final_refusal.ensures ∙ c.in-None.is))
 
 pub invariant_of-self-in-None : goal.invariant_of-self-in-None
 invariant_of-self-in-None c =
     let rule = FinalRule c.args.form c.args.text.now in
     let fits : refusal_of (record { finals = c.self.inside.finals.items; urcs = c.self.inside.urcs.items }) rule ≡ None =
-      subst (λ (r : Rules). refusal_of r rule ≡ None) (sym c.self.view_is) (sym c.final_refusal.ensures ∙ c.in-None.is) in
+    subst (λ (r : Rules). refusal_of r rule ≡ None) (sym c.self.view_is) (sym c.final_refusal.ensures ∙ c.in-None.is) in
     let inside : Rules = record { finals = c.self.inside.finals.items; urcs = c.self.inside.urcs.items } in
     let kept : IsKept (with_rule inside rule) c.mark.new.heads = record {
       sound = sound_more inside rule c.self.invariant.sound fits;
-      marked = marked_final inside c.self.inside.heads c.mark.new.heads c.args.form c.args.text.now c.self.invariant.marked c.mark.ensures.kept c.mark.ensures.marked
+      marked = marked_final inside c.self.inside.heads c.mark.new.heads c.args.form c.args.text.now c.self.invariant.marked c.mark.ensures.kept c.mark.ensures.marked;
     } in
     rw c.in_ok-push_pattern-in-None.ensures.ok kept
 

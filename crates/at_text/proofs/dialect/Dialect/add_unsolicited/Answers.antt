@@ -17,19 +17,19 @@ pub returns-in_err-push_urc-in-None-clause-refused : goal.returns-in_err-push_ur
 returns-in_err-push_urc-in-None-clause-refused c =
     if_no_memory c.from_residual.result (IsRefused c.args.self.now (UrcRule c.args.form c.args.text.now c.args.name.now)) c.from_residual.ensures.1
     (no_memory c.args.self.now (UrcRule c.args.form c.args.text.now c.args.name.now) (subst IsSound c.self.view_is c.self.invariant.sound)
-      (sym c.urc_refusal.ensures ∙ c.in-None.is))
+    (sym c.urc_refusal.ensures ∙ c.in-None.is))
 
 pub invariant_of-self-in-None : goal.invariant_of-self-in-None
 invariant_of-self-in-None c =
     let rule = UrcRule c.args.form c.args.text.now c.args.name.now in
     let fits : refusal_of (record { finals = c.self.inside.finals.items; urcs = c.self.inside.urcs.items }) rule ≡ None =
-      subst (λ (r : Rules). refusal_of r rule ≡ None) (sym c.self.view_is) (sym c.urc_refusal.ensures ∙ c.in-None.is) in
+    subst (λ (r : Rules). refusal_of r rule ≡ None) (sym c.self.view_is) (sym c.urc_refusal.ensures ∙ c.in-None.is) in
     let kind : c.kind_number-kind.result ≡ kind_named (record { finals = c.self.inside.finals.items; urcs = c.self.inside.urcs.items }) c.args.name.now =
-      subst (λ (r : Rules). c.kind_number-kind.result ≡ kind_named r c.args.name.now) (sym c.self.view_is) c.kind_number-kind.ensures in
+    subst (λ (r : Rules). c.kind_number-kind.result ≡ kind_named r c.args.name.now) (sym c.self.view_is) c.kind_number-kind.ensures in
     let inside : Rules = record { finals = c.self.inside.finals.items; urcs = c.self.inside.urcs.items } in
     let kept : IsKept (with_rule inside rule) c.mark.new.heads = record {
       sound = sound_more inside rule c.self.invariant.sound fits;
-      marked = marked_urc inside c.self.inside.heads c.mark.new.heads c.args.form c.args.text.now c.args.name.now c.self.invariant.marked c.mark.ensures.kept c.mark.ensures.marked
+      marked = marked_urc inside c.self.inside.heads c.mark.new.heads c.args.form c.args.text.now c.args.name.now c.self.invariant.marked c.mark.ensures.kept c.mark.ensures.marked;
     } in
     rw (c.in_ok-push_urc-in-None.ensures.ok, kind) kept
 

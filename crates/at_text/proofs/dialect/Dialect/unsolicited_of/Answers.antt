@@ -24,7 +24,7 @@ returns-in-None-clause-name c =
     let none : unsolicited_of c.args.line.now ≡ None = sym c.unsolicited_of.ensures ∙ c.in-None.is in
     let kind : kind_by inside c.args.line.now ≡ c.first_kind.result = rw (none, ← c.deref.ensures.value) (sym c.first_kind.ensures) in
     λ place h. subst (λ (r : Rules). name_at r place ≡ name_by r c.args.line.now) c.self.view_is
-      (name_right inside c.self.invariant.sound c.args.line.now place (kind ∙ h))
+    (name_right inside c.self.invariant.sound c.args.line.now place (kind ∙ h))
 
 pub returns-in-None-2-clause-kind : goal.returns-in-None-2-clause-kind
 returns-in-None-2-clause-kind c =
