@@ -8,3 +8,4 @@ pub mod Refusing
 pub mod Results
 pub mod Known
 pub mod DialectRowFacts
+pub mod Heading

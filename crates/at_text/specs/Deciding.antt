@@ -1,5 +1,5 @@
 -- How a refusal is decided: whether two rules have a line in common shows on three lines made of the longer text.
-use Rattle.std.specs.Prelude.{◌≡◌, ℕ, nat_le, nat_lt, ◌==◌, Bool, true, not, ◌&&◌, ◌||◌, List, [], ◌++◌, length, Option, Some, None, if◌then◌else◌, codes}
+use Rattle.std.specs.Prelude.{ℕ, nat_le, nat_lt, ◌==◌, Bool, not, ◌&&◌, ◌||◌, List, [], ◌++◌, length, Option, Some, None, if◌then◌else◌, codes}
 use Rattle.std.specs.List.{list_any}
 use Rattle.std.specs.Option.{option_or}
 use Rattle.at_text.specs.declared.dialect_error.DialectError.{DialectError}

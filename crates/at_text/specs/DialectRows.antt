@@ -1,12 +1,10 @@
 -- Worked examples of dialects.
-use Rattle.std.specs.Prelude.{◌≡◌, ℕ, List, [], ◌∷◌, ◌++◌, Option, Some, None, codes}
+use Rattle.std.specs.Prelude.{◌≡◌, [], ◌∷◌, ◌++◌, Some, None, codes}
 use Rattle.at_text.specs.declared.dialect_error.DialectError.TheVariants.{NoText, LineEnd, BadName, Command, Ambiguous}
-use Rattle.at_text.specs.declared.finals.Final.{Final}
 use Rattle.at_text.specs.declared.finals.Final.TheVariants.{Good, Cme, Named}
 use Rattle.at_text.specs.declared.rules.Form.TheVariants.{Line, Prefix, Quoted, Report, OpenReport}
-use Rattle.at_text.specs.declared.unsolicited.UrcKind.{UrcKind}
 use Rattle.at_text.specs.declared.unsolicited.UrcKind.TheVariants.{Ring, Creg, Own}
-use Rattle.at_text.specs.Rules.{Rules, Rule, FinalRule, UrcRule, no_rules, with_rule, final_by, kind_by, name_at}
+use Rattle.at_text.specs.Rules.{Rules, FinalRule, UrcRule, no_rules, with_rule, final_by, kind_by, name_at}
 use Rattle.at_text.specs.Refusals.{IsRefused, HasNoReasonBelow}
 use Rattle.at_text.specs.KnownRules.{common, dialling}
 

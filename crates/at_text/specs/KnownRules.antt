@@ -1,5 +1,5 @@
 -- The rules of the dialects that come ready.
-use Rattle.std.specs.Prelude.{ℕ, List, [], ◌∷◌, codes}
+use Rattle.std.specs.Prelude.{List, [], ◌∷◌, codes}
 use Rattle.at_text.specs.declared.rules.Form.TheVariants.{Line, Prefix, Quoted, OpenReport}
 use Rattle.at_text.specs.declared.rules.Pattern.{Pattern}
 use Rattle.at_text.specs.declared.rules.Urc.{Urc}

@@ -10,6 +10,7 @@ pub mod StandardRules
 pub mod KnownRules
 pub mod Refusals
 pub mod Deciding
+pub mod Heads
 pub mod Commands
 pub mod Windows
 pub mod Seeing

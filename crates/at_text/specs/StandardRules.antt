@@ -1,5 +1,5 @@
 -- The standard's final codes and unsolicited lines as rules (V.250, 5.7.1, 6.3; 27.007, 6.11, 7.2, 8.10, 9.2, 10.1.19, 10.1.20).
-use Rattle.std.specs.Prelude.{◌≡◌, ℕ, List, [], ◌∷◌, drop, Option, Some, option_map, codes}
+use Rattle.std.specs.Prelude.{◌≡◌, ℕ, List, [], ◌∷◌, drop, option_map, codes}
 use Rattle.std.specs.List.{find}
 use Rattle.at_text.specs.declared.finals.Final.{Final}
 use Rattle.at_text.specs.declared.finals.Final.TheVariants.{Good, Error, Cme}
@@ -10,7 +10,7 @@ use Rattle.at_text.specs.declared.rules.Pattern.{Pattern}
 use Rattle.at_text.specs.Octets.{number_in}
 use Rattle.at_text.specs.Finals.{final_of}
 use Rattle.at_text.specs.Unsolicited.{unsolicited_of}
-use Rattle.at_text.specs.Dialects.{Dialect, standard}
+use Rattle.at_text.specs.Dialects.{standard}
 use Rattle.at_text.specs.Rules.{pattern, takes, no_rules, dialect_of}
 
 -- the final codes, each with what its line says

@@ -10,6 +10,7 @@ ghost use Rattle.at_text.specs.StandardRules.{standard_finals, standard_urcs};
 
 use crate::dialect_error::DialectError;
 use crate::finals::{Final, final_of};
+use crate::heads::{HEADS, head, mark, mark_finals, mark_urcs};
 use crate::known_rules::{common_finals, common_urcs, dialling_finals};
 use crate::rules::{
     Form, Pattern, PatternRef, TEXT_LEN, Urc, copy_patterns, copy_urcs, first_kind, first_place,
@@ -31,20 +32,22 @@ const NAME_LEN: usize = 64;
 pub struct Dialect {
     finals: Vec<Pattern>,
     urcs: Vec<Urc>,
+    // those of all lines that the rules take are marked
+    heads: [bool; HEADS],
 }
 
 impl Model for Dialect {
     ghost use Rattle.at_text.specs.Rules.{Rules};
-    ghost use Rattle.at_text.specs.Refusals.{IsSound};
+    ghost use Rattle.at_text.specs.Heads.{IsKept};
 
     ghost Value = { Rules };
 
     ghost view = { λ d. record { finals = d.finals.items; urcs = d.urcs.items } };
 
-    ghost invariant = { λ d. IsSound (record { finals = d.finals.items; urcs = d.urcs.items }) };
+    ghost invariant = { λ d. IsKept (record { finals = d.finals.items; urcs = d.urcs.items }) d.heads };
 }
 
-#[tactic(auto, using(crate::proofs::dialects::Sound::sound_standard, crate::proofs::dialects::Known::sound_common, crate::proofs::dialects::Known::sound_dialling))]
+#[tactic(auto, using(crate::proofs::dialects::Heading::kept_standard))]
 impl Dialect {
     /// The standard's final codes and unsolicited lines, and no rules of its own.
     pub fn standard(alloc: Global) -> Dialect
@@ -53,6 +56,7 @@ impl Dialect {
         Dialect {
             finals: Vec::new(alloc),
             urcs: Vec::new(alloc),
+            heads: [false; HEADS],
         }
     }
 
@@ -63,7 +67,11 @@ impl Dialect {
     {
         let finals = copy_patterns(&self.finals)?;
         let urcs = copy_urcs(&self.urcs)?;
-        Ok(Dialect { finals, urcs })
+        Ok(Dialect {
+            finals,
+            urcs,
+            heads: self.heads,
+        })
     }
 
     /// The standard, and what modems commonly send beside it: as a final code `+CMS ERROR:` (27.005, 3.2.5), and as
@@ -79,7 +87,14 @@ impl Dialect {
     {
         let finals = common_finals(alloc)?;
         let urcs = common_urcs(alloc)?;
-        Ok(Dialect { finals, urcs })
+        let mut heads = [false; HEADS];
+        mark_finals(&mut heads, &finals);
+        mark_urcs(&mut heads, &urcs);
+        Ok(Dialect {
+            finals,
+            urcs,
+            heads,
+        })
     }
 
     /// What `common` has, and the final codes of dialling, `NO CARRIER`, `BUSY`, `NO ANSWER` and `NO DIALTONE` (V.250,
@@ -91,7 +106,14 @@ impl Dialect {
     {
         let finals = dialling_finals(alloc)?;
         let urcs = common_urcs(alloc)?;
-        Ok(Dialect { finals, urcs })
+        let mut heads = [false; HEADS];
+        mark_finals(&mut heads, &finals);
+        mark_urcs(&mut heads, &urcs);
+        Ok(Dialect {
+            finals,
+            urcs,
+            heads,
+        })
     }
 
     /// How many rules of its own it has: at most 64. No line both ends an answer and is unsolicited by it, and no
@@ -110,7 +132,8 @@ impl Dialect {
     {
         match final_of(line) {
             Some(code) => Some(code),
-            None => self.own_final_of(line),
+            None if self.heads[head(line)] => self.own_final_of(line),
+            None => None,
         }
     }
 
@@ -137,7 +160,8 @@ impl Dialect {
     {
         match unsolicited_of(line) {
             Some(kind) => Some(kind),
-            None => first_kind(&self.urcs, line),
+            None if self.heads[head(line)] => first_kind(&self.urcs, line),
+            None => None,
         }
     }
 
@@ -180,7 +204,11 @@ impl Dialect {
     {
         match self.final_refusal(form, text) {
             Some(why) => Err(why),
-            None => Ok(push_pattern(&mut self.finals, form, text)?),
+            None => {
+                push_pattern(&mut self.finals, form, text)?;
+                mark(&mut self.heads, form, text);
+                Ok(())
+            }
         }
     }
 
@@ -202,7 +230,9 @@ impl Dialect {
             Some(why) => Err(why),
             None => {
                 let kind = self.kind_number(name);
-                Ok(push_urc(&mut self.urcs, kind, name, form, text)?)
+                push_urc(&mut self.urcs, kind, name, form, text)?;
+                mark(&mut self.heads, form, text);
+                Ok(())
             }
         }
     }

@@ -8,6 +8,7 @@ mod dialect_error;
 pub mod dialect_laws;
 mod error;
 mod finals;
+mod heads;
 mod known_rules;
 pub mod laws;
 pub mod octets;

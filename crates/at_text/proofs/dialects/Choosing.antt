@@ -1,9 +1,9 @@
 -- Which rule a line is of, as tests of lists.
-use Rattle.std.specs.Prelude.{◌≡◌, ℕ, suc, ◌+◌, ◌<◌, nat_lt, Bool, true, false, ◌||◌, not, List, [], ◌∷◌, ◌++◌, length, Option, Some, None, option_map, is_some, refl, if◌then◌else◌}
-use Rattle.std.specs.List.{list_any, find, position, prefix_len, position_or_len}
+use Rattle.std.specs.Prelude.{◌≡◌, ℕ, suc, ◌+◌, ◌<◌, nat_lt, Bool, true, false, ◌||◌, List, [], ◌∷◌, length, Option, Some, None, option_map, is_some, refl, if◌then◌else◌}
+use Rattle.std.specs.List.{list_any, find, position, position_or_len}
 use Rattle.std.specs.Option.{option_or}
-use Rattle.std.proofs.Common.{arith, sym, ◌∙◌, ap}
-use Rattle.std.proofs.lemmas.Bool.{cases_Bool, ltb-true, lt-ltb}
+use Rattle.std.proofs.Common.{arith, ◌∙◌, ap}
+use Rattle.std.proofs.lemmas.Bool.{ltb-true, lt-ltb}
 use Rattle.std.proofs.lemmas.Bool.Decides.{same_from_decides, Decides-ltb}
 use Rattle.at_text.specs.declared.finals.Final.TheVariants.{Named}
 use Rattle.at_text.specs.declared.unsolicited.UrcKind.TheVariants.{Own}

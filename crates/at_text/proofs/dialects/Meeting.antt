@@ -1,10 +1,10 @@
 -- Two rules that have a line in common have one of three in common.
-use Rattle.std.specs.Prelude.{◌≡◌, ℕ, ◌==◌, ◌≤◌, ◌<◌, nat_eq, nat_lt, Bool, true, false, not, ◌&&◌, ◌||◌, List, [], ◌∷◌, ◌++◌, length, drop, Option, Some, None, refl, if◌then◌else◌, codes}
+use Rattle.std.specs.Prelude.{◌≡◌, ℕ, ◌==◌, ◌≤◌, ◌<◌, nat_eq, nat_lt, Bool, true, false, not, ◌&&◌, ◌||◌, List, [], ◌∷◌, ◌++◌, length, drop, Some, refl, if◌then◌else◌, codes}
 use Rattle.std.specs.List.{starts_with}
 use Rattle.std.specs.Option.{option_map_or}
-use Rattle.std.proofs.Common.{arith, sym, ◌∙◌, ap, ◌⊎◌, inl, inr}
-use Rattle.std.proofs.lemmas.Bool.{and_parts, and_from, or_cases, or_left, or_right, eqb-true, ltb-true, ltb-false, cases_Bool}
-use Rattle.std.proofs.lemmas.Bool.Decides.{Decides-eqb, nat_tests}
+use Rattle.std.proofs.Common.{arith, sym, ◌∙◌, ap, inl, inr}
+use Rattle.std.proofs.lemmas.Bool.{and_parts, and_from, or_cases, or_left, or_right, eqb-true, ltb-true, ltb-false}
+use Rattle.std.proofs.lemmas.Bool.Decides.{Decides-eqb}
 use Rattle.std.proofs.lemmas.List.{append_assoc, drop_at}
 use Rattle.std.proofs.lemmas.Slice.Eq.{starts_is}
 use Rattle.at_text.specs.declared.rules.Form.{Form}
@@ -12,7 +12,7 @@ use Rattle.at_text.specs.declared.rules.Form.TheVariants.{Line, Prefix, Quoted, 
 use Rattle.at_text.specs.declared.rules.Pattern.{Pattern}
 use Rattle.at_text.specs.Octets.{is_blank, is_comma, is_digit, is_quote, skip_blanks, begins, after_comma}
 use Rattle.at_text.specs.Unsolicited.{is_without_second}
-use Rattle.at_text.specs.Rules.{goes_on, is_without_number, takes, pattern}
+use Rattle.at_text.specs.Rules.{goes_on, is_without_number, takes}
 use Rattle.at_text.specs.Refusals.{is_short}
 use Rattle.at_text.specs.Deciding.{both_take, longer, can_meet}
 

@@ -1,25 +1,24 @@
 -- Why a rule is refused, as it is decided.
-use Rattle.std.specs.Prelude.{◌≡◌, ℕ, ◌≤◌, ◌<◌, ◌==◌, nat_le, nat_lt, Bool, true, false, ◌||◌, ◌&&◌, not, List, [], ◌∷◌, ◌++◌, length, Option, Some, None, is_some, refl, if◌then◌else◌, MatchOption}
+use Rattle.std.specs.Prelude.{◌≡◌, ℕ, ◌≤◌, ◌<◌, ◌==◌, nat_le, nat_lt, Bool, true, false, ◌||◌, not, List, [], ◌∷◌, ◌++◌, length, Option, Some, None, is_some, refl, if◌then◌else◌, MatchOption}
 use Rattle.std.specs.Bool.{Decides}
-use Rattle.std.specs.List.{list_any, list_all}
+use Rattle.std.specs.List.{list_any}
 use Rattle.std.specs.Option.{option_or}
 use Rattle.std.proofs.Common.{arith, sym, ◌∙◌, ap, ◌⊎◌, inl, inr}
-use Rattle.std.proofs.lemmas.Bool.{or_cases, or_left, or_right, both_ways, leb-true, le-leb, ltb-true, ltb-false, lt-ltb, eqb-true, cases_Bool, not-true, not_from_false}
+use Rattle.std.proofs.lemmas.Bool.{or_cases, or_left, or_right, both_ways, leb-true, le-leb, ltb-true, ltb-false, lt-ltb, eqb-true, not-true, not_from_false}
 use Rattle.std.proofs.lemmas.List.{nil_from_length}
 use Rattle.at_text.specs.declared.dialect_error.DialectError.{DialectError}
 use Rattle.at_text.specs.declared.dialect_error.DialectError.TheVariants.{TooManyRules, NoText, TextTooLong, LineEnd, BadName, Command, Ambiguous, NoMemory}
-use Rattle.at_text.specs.declared.rules.Form.{Form}
 use Rattle.at_text.specs.declared.rules.Pattern.{Pattern}
 use Rattle.at_text.specs.declared.rules.Urc.{Urc}
 use Rattle.at_text.specs.Finals.{final_of}
 use Rattle.at_text.specs.Unsolicited.{unsolicited_of}
 use Rattle.at_text.specs.Lines.{is_line_end}
 use Rattle.at_text.specs.Rules.{Rules, Rule, FinalRule, UrcRule, pattern, takes, with_rule, final_by, kind_by, dialect_of, urc, kind_named}
-use Rattle.at_text.specs.Refusals.{Refuses, IsRefused, IsSound, IsAmbiguous, HasNoReasonBelow, TakesCommand, is_short, is_well_named, count, text_of, pattern_of}
-use Rattle.at_text.specs.Deciding.{can_meet, can_take_command, can_be_ambiguous, text_refusal, rule_refusal, refusal_of}
+use Rattle.at_text.specs.Refusals.{Refuses, IsRefused, IsSound, IsAmbiguous, HasNoReasonBelow, is_short, is_well_named, count, text_of, pattern_of}
+use Rattle.at_text.specs.Deciding.{can_meet, can_take_command, can_be_ambiguous, refusal_of}
 use Rattle.at_text.specs.StandardRules.{standard_finals, standard_urcs}
 use Rattle.at_text.proofs.dialects.Choosing.{standard_final, standard_urc, some_final, some_urc}
-use Rattle.at_text.proofs.dialects.Sorts.{MetAny, met_any, any_met, command_met, command_shown}
+use Rattle.at_text.proofs.dialects.Sorts.{met_any, any_met, command_met, command_shown}
 use Rattle.at_text.proofs.dialects.Sound.{any_push, sound_with}
 
 -- ## Lines of the new rule and of one of the other sort

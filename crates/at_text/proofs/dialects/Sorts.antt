@@ -1,16 +1,15 @@
 -- Rules of two sorts with a line in common.
-use Rattle.std.specs.Prelude.{◌≡◌, ℕ, nat_eq, Bool, true, false, ◌||◌, ◌&&◌, List, [], ◌∷◌, ◌++◌, length, Option, Some, None, is_some, refl, codes}
-use Rattle.std.specs.List.{list_any, list_all, starts_with}
-use Rattle.std.proofs.Common.{arith, sym, ◌∙◌, ap, ◌⊎◌, inl, inr}
-use Rattle.std.proofs.lemmas.Bool.{and_parts, and_from, or_cases, or_left, or_right, or_from, or_parts, both_ways, cases_Bool}
-use Rattle.std.proofs.lemmas.List.Folds.{list_any-append}
+use Rattle.std.specs.Prelude.{◌≡◌, ℕ, Bool, true, false, ◌||◌, List, [], ◌∷◌, refl, codes}
+use Rattle.std.specs.List.{list_any, list_all}
+use Rattle.std.proofs.Common.{sym, ◌∙◌, ap, inl, inr}
+use Rattle.std.proofs.lemmas.Bool.{and_parts, or_cases, or_left, or_right, or_parts, both_ways}
 use Rattle.at_text.specs.declared.rules.Form.TheVariants.{Prefix}
 use Rattle.at_text.specs.declared.rules.Pattern.{Pattern}
 use Rattle.at_text.specs.Commands.{has_at}
 use Rattle.at_text.specs.Rules.{pattern, takes}
 use Rattle.at_text.specs.Refusals.{is_short, TakesCommand}
 use Rattle.at_text.specs.Deciding.{can_meet, can_take_command}
-use Rattle.at_text.proofs.dialects.Meeting.{Met, meet_met, meet_shown}
+use Rattle.at_text.proofs.dialects.Meeting.{meet_met, meet_shown}
 use Rattle.at_text.proofs.dialects.Standard.{takes_prefix}
 
 -- a line of one rule and of one of some

@@ -1,19 +1,18 @@
 -- Which rules make a dialect in which no line is both.
-use Rattle.std.specs.Prelude.{◌≡◌, ℕ, ◌≤◌, ◌<◌, ◌+◌, nat_le, Bool, true, false, ◌||◌, ◌&&◌, not, List, [], ◌∷◌, ◌++◌, length, Option, Some, None, is_some, refl}
+use Rattle.std.specs.Prelude.{◌≡◌, ℕ, ◌≤◌, ◌<◌, Bool, true, false, ◌||◌, List, [], ◌∷◌, ◌++◌, length, Option, Some, None, is_some, refl}
 use Rattle.std.specs.List.{list_any, list_all, AllByRecursion}
 use Rattle.std.proofs.Common.{arith, sym, ◌∙◌, ap, ◌⊎◌, inl, inr}
-use Rattle.std.proofs.lemmas.Bool.{and_parts, and_from, or_cases, or_left, or_right, or_from, or_parts, both_ways, false_from_ne_true, true_from_ne_false, le-leb}
+use Rattle.std.proofs.lemmas.Bool.{or_cases, false_from_ne_true, true_from_ne_false, le-leb}
 use Rattle.std.proofs.lemmas.List.{length_push}
 use Rattle.std.proofs.lemmas.List.Folds.{list_any-append, list_all-append}
 use Rattle.at_text.specs.declared.dialect_error.DialectError.TheVariants.{TooManyRules, TextTooLong, BadName, Command, Ambiguous}
-use Rattle.at_text.specs.declared.rules.Form.{Form}
 use Rattle.at_text.specs.declared.rules.Pattern.{Pattern}
 use Rattle.at_text.specs.declared.rules.Urc.{Urc}
 use Rattle.at_text.specs.Commands.{has_at}
 use Rattle.at_text.specs.Finals.{final_of}
 use Rattle.at_text.specs.Unsolicited.{unsolicited_of}
-use Rattle.at_text.specs.Rules.{Rules, Rule, FinalRule, UrcRule, pattern, takes, with_rule, final_by, kind_by, dialect_of, no_rules, urc, kind_named, name_at}
-use Rattle.at_text.specs.Refusals.{IsSound, IsAmbiguous, HasNoReasonBelow, TakesCommand, is_short, is_name, count, text_of, pattern_of}
+use Rattle.at_text.specs.Rules.{Rules, Rule, FinalRule, UrcRule, pattern, takes, with_rule, final_by, kind_by, no_rules, urc, kind_named, name_at}
+use Rattle.at_text.specs.Refusals.{IsSound, HasNoReasonBelow, is_short, is_name, count}
 use Rattle.at_text.specs.Deciding.{can_meet}
 use Rattle.at_text.specs.StandardRules.{standard_finals, standard_urcs}
 use Rattle.at_text.proofs.dialects.Choosing.{standard_final, standard_urc, some_final, some_urc}

@@ -1,11 +1,11 @@
 -- The standard's lists are its rules.
-use Rattle.std.specs.Prelude.{◌≡◌, ℕ, ◌==◌, nat_eq, Bool, true, false, ◌&&◌, List, [], ◌∷◌, ◌++◌, length, drop, Option, Some, None, option_map, is_some, refl, if◌then◌else◌, codes}
+use Rattle.std.specs.Prelude.{◌≡◌, ℕ, nat_eq, Bool, true, false, ◌&&◌, List, [], ◌∷◌, ◌++◌, length, drop, Option, Some, None, option_map, is_some, refl, if◌then◌else◌, codes}
 use Rattle.std.specs.List.{starts_with, find}
 use Rattle.std.specs.Str.{bytes_eq}
 use Rattle.std.specs.Option.{option_or}
 use mathlib.Core.Path.{fun_ext}
-use Rattle.std.proofs.Common.{arith, sym, ◌∙◌, ap}
-use Rattle.std.proofs.lemmas.Bool.{cases_Bool, and_from, eqb-true, eq-eqb}
+use Rattle.std.proofs.Common.{sym, ◌∙◌, ap}
+use Rattle.std.proofs.lemmas.Bool.{eqb-true}
 use Rattle.std.proofs.lemmas.Bool.Decides.{Decides-eqb, same_from_decides}
 use Rattle.std.proofs.lemmas.List.{append-nil, nil_from_length}
 use Rattle.std.proofs.lemmas.Slice.Eq.{starts_is, bytes_eq-Decides}
@@ -14,15 +14,15 @@ use Rattle.at_text.specs.declared.finals.Final.TheVariants.{Good, Error, Cme}
 use Rattle.at_text.specs.declared.unsolicited.UrcKind.{UrcKind}
 use Rattle.at_text.specs.declared.unsolicited.UrcKind.TheVariants.{Ring, Cring, Creg, Cgreg, Cgev, Ciev}
 use Rattle.at_text.specs.declared.rules.Form.TheVariants.{Line, Prefix, Report}
-use Rattle.at_text.specs.Octets.{number_in, is_digit, is_comma, skip_blanks, begins, after_comma}
+use Rattle.at_text.specs.Octets.{number_in, is_digit, skip_blanks, begins, after_comma}
 use Rattle.at_text.specs.declared.rules.Pattern.{Pattern}
 use Rattle.at_text.specs.Finals.{final_of, is_final}
-use Rattle.at_text.specs.Dialects.{Dialect, standard}
+use Rattle.at_text.specs.Dialects.{standard}
 use Rattle.at_text.specs.Unsolicited.{unsolicited_of, is_report, is_without_second}
 use Rattle.at_text.specs.Rules.{takes, pattern, final_by, kind_by, no_rules, dialect_of}
 use Rattle.at_text.specs.StandardRules.{AreStandard, standard_finals, standard_urcs}
 use Rattle.at_text.proofs.NoRules.{no_rules_standard}
-use Rattle.at_text.proofs.dialects.Meeting.{Taken, taken, takes_front}
+use Rattle.at_text.proofs.dialects.Meeting.{taken, takes_front}
 
 pub takes_line : (text line : List ℕ) → takes (pattern Line text) line ≡ bytes_eq line text
 takes_line text line =
