@@ -8,7 +8,7 @@ use Rattle.std.proofs.lemmas.List.{take-append-drop}
 use Rattle.std.proofs.lemmas.List.Elements.{filter_map-append}
 use Rattle.at_text.specs.declared.answer.AnswerLine.{AnswerLine}
 use Rattle.at_text.specs.declared.finals.Final.{Final}
-use Rattle.at_text.specs.declared.finals.Final.TheVariants.{Good, Error, Cme}
+use Rattle.at_text.specs.declared.finals.Final.TheVariants.{Good, Error, Cme, Named}
 use Rattle.at_text.specs.Finals.{final_of}
 use Rattle.at_text.specs.Octets.{number_in}
 use Rattle.at_cmds.specs.declared.reply.Context.{Context}
@@ -22,6 +22,7 @@ abbrev IsLong : List ℕ → Final → Type 0
 IsLong text Good = Unit {0}
 IsLong text Error = Unit {0}
 IsLong text (Cme n) = 11 ≤ length text
+IsLong text (Named place) = Unit {0}
 
 long_start : (text : List ℕ) → starts_with nat_eq text (codes "+CME ERROR:") ≡ true → 11 ≤ length text
 long_start text begins =

@@ -19,7 +19,7 @@ use Rattle.modem_driver.specs.Placing.{Gave, Stay, goes_first, of_key, caller_of
 use Rattle.modem_driver.specs.Endpoints.{EndpointState, GivesLine, GivesOutcome, LeadsOver, Leaves}
 use Rattle.modem_driver.specs.SessionStates.{Kept, seen_by, end_of}
 use Rattle.modem_driver.proofs.sessions.DeskOffers.{grows_told, heard_more, none_beyond, told_more}
-use Rattle.modem_driver.proofs.sessions.Kinds.{same_place}
+use Rattle.at_text.proofs.SameKinds.{same_place}
 use Rattle.modem_driver.proofs.sessions.LineOctets.{loss_with}
 use Rattle.modem_driver.proofs.sessions.OutcomeCounts.{is_callers}
 use Rattle.modem_driver.proofs.sessions.RemainingItems.{stay_all}

@@ -266,12 +266,12 @@ data_own old new l past f n lane st acts i w m =
     = closes_shown (dialect_in old) before.window lane.window ms (ms ++ map Line ls) fits_lane.window_fits.shows (lr.window_is ∙ shows_after (dialect_in old) ls before.window ms fits_lane.window_fits.shows) in
     let quiet_noted : probe_noted n ≡ None
     = ap probe_noted (w.noted_is r.seen r.fits ∙ ap (λ (x : Role). noted_of x (station_seen (setting_of old.station) r.seen) f) i.role_is) ∙ data_noted (station_seen (setting_of old.station) r.seen) f o.data_is in
-    let (shown (dialect_in old)) : ℕ → ChannelState = λ e. state_shown st false e in
+    let shown : ℕ → ChannelState = λ e. state_shown st false e in
     let b = has_ended v now in
-    let says = told_by (happened.Got n) b (shown (dialect_in old)) in
+    let says = told_by (happened.Got n) b shown in
     let same_shown : (e : ℕ) → e < 62 → state_shown st false e ≡ state_shown old.station false e = shown_data old l past r f st (seen_then old r.seen f) i live o.data_is role there refl in
-    let waits : list_all (λ (q : Request). may_wait (shown (dialect_in old)) q.ask) old.hand ≡ true = waits_same (shown (dialect_in old)) (state_shown old.station false) same_shown old.hand ∙ r.waits in
-    let quiet : Quiet says old.hand = all_quiet n b (shown (dialect_in old)) old.hand quiet_noted waits in
+    let waits : list_all (λ (q : Request). may_wait shown q.ask) old.hand ≡ true = waits_same shown (state_shown old.station false) same_shown old.hand ∙ r.waits in
+    let quiet : Quiet says old.hand = all_quiet n b shown old.hand quiet_noted waits in
     let all : AllSay v now (Got f) says old.hand = all_told old l past r f n st i live m.fits.hand_is m.run role there w.noted_is in
     let told : tolds v now (Got f) ≡ []
     = ap (filter_map (told_later v now (Got f))) m.fits.hand_is ∙ (tolds_are v now (Got f) says old.hand all ∙ ap (map act_of) quiet.untold) in

@@ -270,14 +270,14 @@ data_runs : (v : Core) (past : List Act) (r : Runs v past) (d : ℕ) (b : Bool) 
 data_runs v past r d b c begun station i role probe next none info marks_are h =
     let new : Core = record v { lanes = begun.lanes; station = station } in
     let f = written Initiator Uih d info in
-    let (shown (dialect_in v)) : (e : ℕ) → e < 62 → state_shown station false e ≡ state_shown v.station false e
+    let shown : (e : ℕ) → e < 62 → state_shown station false e ≡ state_shown v.station false e
     = λ e l. ap as_shown (state_in station (sent d info ∷ r.seen) e role h l ∙ (data_state d e info r.seen next.no_zero ∙ sym (state_in v.station r.seen e i.role_is r.fits l))) in
     let was : (e : ℕ) → is_open Initiator e (wire (Sent f ∷ past)) ≡ is_open Initiator e (wire past) = λ e. data_open Initiator e d f (wire past) next.no_zero in
     record {
       seen = sent d info ∷ r.seen;
       fits = h;
       same = ap (λ (acts : List wired). sent d info ∷ acts) r.same;
-      waits = waits_same (state_shown station false) (state_shown v.station false) (shown (dialect_in v)) v.hand ∙ r.waits;
+      waits = waits_same (state_shown station false) (state_shown v.station false) shown v.hand ∙ r.waits;
       probe_is = probe_same (Sent f) past (λ q. refl) v.hand ∙ (r.probe_is ∙ sym probe);
       lanes_fit = λ e l z o. by_lane e l z (sym (was e) ∙ o) (d == e) refl;
     }

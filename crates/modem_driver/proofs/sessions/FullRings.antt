@@ -15,7 +15,7 @@ use Rattle.modem_history.specs.Turns.{TurnAnswer}
 use Rattle.modem_driver.specs.SessionStates.{Kept}
 use Rattle.modem_driver.specs.SessionTurns.{Answers, HasLine, HasNoPlace, HasOutcome}
 use Rattle.modem_driver.specs.TurnSteps.{TurnState, Places, Checks, SendsOn, Writes, Gets, ReadsOn, TakesOne}
-use Rattle.modem_driver.proofs.sessions.Kinds.{same_itself}
+use Rattle.at_text.proofs.SameKinds.{same_itself}
 use Rattle.modem_driver.proofs.sessions.TakenRequests.{read_driver}
 
 -- what waits is what was handed back, and the desk's end knows of no place more

@@ -13,7 +13,7 @@ use Rattle.modem_history.specs.Sessions.{SessionView, announced_of, heard_as, he
 use Rattle.modem_history.specs.Turns.{lines_heard}
 use Rattle.modem_driver.specs.Placing.{of_key, Stay, stays_none, place_of}
 use Rattle.modem_driver.proofs.sessions.LongerHistories.{heard_of, heards_after, is_heard_as, kind_heard}
-use Rattle.modem_driver.proofs.sessions.Kinds.{same_place}
+use Rattle.at_text.proofs.SameKinds.{same_place}
 use Rattle.modem_driver.proofs.sessions.RemainingItems.{LastGoes, LastStays, stay_count, stay_last, swapped}
 
 -- ## Of a kind

@@ -10,7 +10,7 @@ use Rattle.modem_desk.specs.declared.request.Urc.{Urc}
 use Rattle.modem_desk.specs.Ends.{DriverView, DeskId, Announces, Changes, FallsByOne, RunsOut, RisesByOne, Hears}
 use Rattle.at_text.specs.Kinds.{kind_place}
 use Rattle.modem_driver.specs.Placing.{Placed, OneFewer, OffersFirst, AnnouncesAlone, place_of, IsListenerOf, IsHeard, listener_rings}
-use Rattle.modem_driver.proofs.sessions.Kinds.{same_place}
+use Rattle.at_text.proofs.SameKinds.{same_place}
 use Rattle.modem_driver.proofs.sessions.FirstOffers.{either, AreApart, GivesOne, FillsUp, placing_first, placed_last}
 
 -- ## Listeners of kinds

@@ -17,7 +17,7 @@ returns-in_default c =
 pub returns : goal.returns
 returns c =
     let old : Read = record { kept = c.args.reader.now; window = c.args.window.now; acts = map act_of c.args.acts.now.items } in
-    let new : Read = record { kept = c.push.follows.lender-at-none; window = c.see.new.self; acts = map act_of c.say.new.acts.items } in
+    let new : Read = record { kept = c.push.follows.lender-at-none; window = c.see_by.new.self; acts = map act_of c.say.new.acts.items } in
     let l = c.in-Some.line.text.now in
     on_ok _ _ c.say.result
     (λ g.

@@ -1,7 +1,7 @@
 -- The information is read on a fork of what is kept of its connection.
-use Rattle.std.proofs.Common.{◌≡◌, ℕ, List, [], ◌∷◌, ◌∙◌, ap, refl}
+use Rattle.std.proofs.Common.{◌≡◌, ℕ, List, [], ◌∷◌, ◌∙◌, ap, refl, subst}
 use Rattle.std.specs.Prelude.{Option, option_map, map}
-use Rattle.at_text.specs.Rules.{dialect_of}
+use Rattle.at_text.specs.Rules.{Rules, dialect_of}
 use Rattle.at_text.specs.OpenWindow.{OpenWindow}
 use Rattle.at_text.specs.Forks.{forked}
 use Rattle.mux_frame.specs.Frames.{Frame, frame_of}
@@ -23,7 +23,10 @@ returns-clause-read c =
     let reading : Reading = record { alloc = c.self.inside.alloc; dlci = c.args.frame.dlci; owner = c.first_owner.result } in
     let first : Read = record { kept = c.fork.inside.reader; window = c.fork.inside.window; acts = map act_of c.in_ok-acts.acts.items } in
     let last : Read = record { kept = c.read_octets.new.reader; window = c.read_octets.new.window; acts = map act_of c.read_octets.new.acts.items } in
-    let reads : ReadsAll (dialect_of c.self.inside.dialect) c.as_slice-2.result.now reading f.info first last = c.in_ok-read_octets.ensures in
+    let given : ReadsAll (dialect_of c.self-2.inside.dialect) c.as_slice-2.result.now reading f.info first last = c.in_ok-read_octets.ensures in
+    let rules : c.self-2.inside.dialect ≡ old.rules = ap (λ (v : Core). v.rules) (c.self-2.view_is ∙ c.fork-fork.ensures.same) in
+    let reads : ReadsAll (dialect_of old.rules) c.as_slice-2.result.now reading f.info first last
+    = subst (λ (x : Rules). ReadsAll (dialect_of x) c.as_slice-2.result.now reading f.info first last) rules given in
     let lane : record { kept = c.fork.inside.reader; window = c.fork.inside.window; held = c.fork.inside.held } ≡ forked_lane (lane_at old f.dlci)
     = c.fork.view_is ∙ c.fork-fork.ensures.fork in
     let kept : c.fork.inside.reader ≡ (lane_at old f.dlci).kept = ap (λ (x : Lane). x.kept) lane in

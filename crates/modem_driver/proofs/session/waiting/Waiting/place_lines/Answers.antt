@@ -5,7 +5,7 @@ use Rattle.modem_driver.proofs.sessions.ListenerOffers.{announces_first, announc
 use Rattle.modem_driver.proofs.session.waiting.Waiting.place_lines.Goals as goal
 
 pub loop-place-init : goal.loop-place-init
-loop-place-init c = record { so = announces_first c.args.driver.now _ c.args.self.now.lines c.many-place-end.result (none_held 7) c.many-place-end.ensures; outcomes = refl }
+loop-place-init c = record { so = announces_first c.args.driver.now _ c.args.self.now.lines c.many-place-end.result (none_held 263) c.many-place-end.ensures; outcomes = refl }
 
 pub loop-place-preserved : goal.loop-place-preserved
 loop-place-preserved c =
