@@ -21,6 +21,7 @@ use Rattle.mux_station.specs.Tables.{by_frame}
 use Rattle.mux_station.proofs.states.OpenedStates.{opened_is_open}
 use Rattle.mux_station.specs.Fitting as station_fits
 use Rattle.mux_station.specs.Traces.{without_calls}
+use Rattle.at_text.specs.Dialects.{Dialect}
 use Rattle.at_text.specs.Lines.{lines, kept_run}
 use Rattle.at_text.proofs.lines.UnfinishedLines.{reads_on}
 use Rattle.at_text.specs.Windows.{Line, answered, open_window}
@@ -42,7 +43,7 @@ use Rattle.modem_driver.specs.Telling.{told_by, probe_noted}
 use Rattle.modem_driver.specs.Cores as cores
 use Rattle.modem_driver.specs.Cores.{dialect_in, Core, LaneFits, Runs, RunsUnless, Fits, IsRun, IsSettingOf, MayCome, GoesOn, Handles, state_shown, may_wait, probe_or, probe_in, lane_at}
 use Rattle.modem_driver.specs.Receiving.{reads_data}
-use Rattle.modem_driver.specs.Reports.{Listens, Read, after_all, owner_of}
+use Rattle.modem_driver.specs.Reports.{read_each, Listens, Read, after_all, owner_of}
 use Rattle.modem_driver.specs.Handing.{HandsOn, EndedBy, ReadsFrame}
 use Rattle.modem_history.proofs.calls.CalledActs.{calls_said}
 use Rattle.modem_history.proofs.requests.RequestsAfterCalls.{stays}
@@ -106,7 +107,7 @@ lane_read v s past seen f lane acts role h reads k =
     let old = lane_at v f.dlci in
     let owner = first_on f.dlci v.hand in
     let first : Read = record { kept = old.kept; window = old.window; acts = Got f ∷ [] } in
-    let each = reads s.listens h.listens_are in
+    let each = reads s.listens h.listens_are ∙ ap (λ (c : Dialect). read_each c s.listens f.dlci (option_map owner_of owner) first f.info) (sym h.dialect_is) in
     let all = each ∙ each_is s.dialect s.listens f.dlci (option_map owner_of owner) first (information_in Initiator f.dlci past) f.info reads_on (sym k.kept_is) in
     let shows = subst (λ (x : Role). old.window ≡ option_map (shown s.dialect) (open_window s.dialect (marks x f.dlci past))) (sym role) k.window_fits.shows in
     record {
