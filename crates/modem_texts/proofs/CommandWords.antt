@@ -51,4 +51,3 @@ pub no_line_there : (words word text : List ℕ) → LacksByte 32 word → words
 no_line_there words word text h w refused d line c =
     let same = same_front 32 word (number_text d) text line h (lacks_number (nat_lt d 10) d) (sym w ∙ c.words_are) in
     refused (ap refusal_of same.1 ∙ c.is_line)
-
