@@ -1,5 +1,5 @@
 -- How a drive begins.
-use Rattle.std.specs.Prelude.{◌≡◌, ◌+◌, ◌<◌, ℕ, All, zero, suc, List, [], ◌∷◌, ◌++◌, Option, None, Some, drop, get_or, length, map, refl, replicate, slice_index_or, take}
+use Rattle.std.specs.Prelude.{◌≡◌, ◌+◌, ◌<◌, ℕ, All, zero, suc, List, [], ◌∷◌, ◌++◌, Option, None, Some, Result, Ok, Err, IfOk, IsOkAnd, drop, get_or, length, map, refl, replicate, slice_index_or, take}
 use mathlib.Core.Option.{some}
 use lib.ListN.{get_elem?}
 use Rattle.std.specs.Io.KnownBytes.{Appends}
@@ -13,29 +13,36 @@ use Rattle.modem_history.specs.Sessions.{LineView}
 use Rattle.modem_driver.specs.SessionStates.{FitsAll, SessionState, beginning_of}
 use Rattle.modem_drive.specs.declared.users.UnderWay.{UnderWay}
 use Rattle.modem_drive.specs.declared.users.Users.{Users}
-use Rattle.modem_drive.specs.Running.{Begins, Drove, HasEntered, IsNewDesk}
-use Rattle.modem_drive.specs.Ending.{HasDriven}
+use Rattle.modem_drive.specs.Asking.{PlanView}
+use Rattle.serial_line.specs.StreamLine.{StreamState, new_stream}
+use Rattle.serial_line.specs.declared.stream_line.ZeroRead.TheVariants.{Ended}
+use Rattle.modem_drive.specs.Running.{Begins, Drove, DroveDevice, HasEntered, IsNewDesk, device_look, plan_begun}
+use Rattle.modem_drive.specs.declared.running.Driven.{Driven}
+use Rattle.modem_drive.specs.Ending.{HasDriven, HasEndedBy}
+use Rattle.modem_drive.specs.declared.fault.DriveFault.{DriveFault}
+use Rattle.modem_drive.proofs.Asks.{all_asked, asks_same, asks_then}
 use Rattle.modem_desk.specs.declared.settling.Settled.{Settled}
 use Rattle.modem_drive.specs.Showing.{HasShown, IsLine, IsRightPiece, count_on}
 
 pub begins : {X : Type 0} (look : X → LineView) (n1 : ℕ) (line : X) (d : DriverView) (s : SessionState X) (users : Users)
     → FitsAll (beginning_of n1 (look line) d) look s [] → (s.line ≡ line) × (s.driver ≡ d) → IsNewDesk d → IsWhole d.desk (map place_of (users.lines ∷ users.control ∷ []))
-    → AreSubscribed d.desk (map subscription_of users.listeners.items) → ((out : Option (List ℕ)) → HasShown out out users) → Begins look n1 line s users
-begins look n1 line d s users fits same new whole subscribed shown = record {
+    → AreSubscribed d.desk (map subscription_of users.listeners.items) → ((out : Option (List ℕ)) → HasShown out out users) → users.lines.submitted ≡ [] → Begins look n1 line s users
+begins look n1 line d s users fits same new whole subscribed shown none_asked = record {
   new = subst IsNewDesk (sym same.1) new;
   at_line = same.0;
   fits = subst (λ (x : DriverView). FitsAll (beginning_of n1 (look line) x) look s []) (sym same.1) fits;
   whole = subst (λ (x : DriverView). IsWhole x.desk (map place_of (users.lines ∷ users.control ∷ []))) (sym same.1) whole;
   subscribed = subst (λ (x : DriverView). AreSubscribed x.desk (map subscription_of users.listeners.items)) (sym same.1) subscribed;
   shown = shown;
+  none_asked = none_asked;
 }
 
 -- the same, and it was driven to its end
-pub drove : {X : Type 0} (look : X → LineView) (n1 : ℕ) (first line : X) (s : SessionState X) (users : Users) (before after : Option (List ℕ)) (left : Settled)
-    → HasEntered (look first) (look line) → Begins look n1 line s users → HasDriven look s users before after left → Drove look n1 first before after left
-drove {X} look n1 first line s users before after left entered b driven = record {
+pub drove : {X : Type 0} (look : X → LineView) (text : List ℕ) (n1 : ℕ) (first line : X) (s : SessionState X) (users : Users) (input before after : Option (List ℕ)) (p : PlanView) (end : Option DriveFault) (left : Settled)
+    → HasEntered text (look first) (look line) → Begins look n1 line s users → HasDriven look s users (plan_begun input) p before after end left → Drove look text n1 first input before after end left
+drove {X} look text n1 first line s users input before after p end left entered b driven = record {
   session = s;
-  entered = subst (λ (x : X). HasEntered (look first) (look x)) (sym b.at_line) entered;
+  entered = subst (λ (x : X). HasEntered text (look first) (look x)) (sym b.at_line) entered;
   users = users;
   begins = record {
     new = b.new;
@@ -44,9 +51,28 @@ drove {X} look n1 first line s users before after left entered b driven = record
     whole = b.whole;
     subscribed = b.subscribed;
     shown = b.shown;
+    none_asked = b.none_asked;
   };
+  through = p;
   driven = driven;
+  asked = λ e.
+      let by : HasEndedBy driven.stopped.kept.course p None = subst (HasEndedBy driven.stopped.kept.course p) e driven.by in
+      all_asked input p users.lines.submitted driven.ends.ended.lines.submitted b.none_asked
+      (asks_then _ p p users.lines.submitted driven.mid.lines.submitted driven.ends.ended.lines.submitted driven.asks (asks_same p p driven.mid.lines.submitted driven.ends.ended.lines.submitted refl driven.ends.submits_none))
+      by.1 by.2;
 }
+
+-- a line between two rings was
+pub drove_device : (text : List ℕ) (n1 : ℕ) (line : StreamState) (before after : Option (List ℕ)) (r : Result Driven DriveFault) → line ≡ new_stream None None Ended
+    → IfOk r (λ d. Drove device_look text n1 line None before after d.fault d.left) → IfOk r (λ d. DroveDevice text n1 before after d.fault)
+drove_device text n1 line before after (Ok d) same h = record { left = d.left; drove = subst (λ (x : StreamState). Drove device_look text n1 x None before after d.fault d.left) same h }
+drove_device text n1 line before after (Err why) same h = tt
+
+-- without a fault
+pub drove_well : (text : List ℕ) (n1 : ℕ) (before after : Option (List ℕ)) (r : Result Driven DriveFault) → IsOkAnd r (λ d. d.fault ≡ None)
+    → IfOk r (λ d. DroveDevice text n1 before after d.fault) → DroveDevice text n1 before after None
+drove_well text n1 before after (Ok d) well h = subst (DroveDevice text n1 before after) well h
+drove_well text n1 before after (Err why) well h = absurd well
 
 -- ## The desk that is opened
 
@@ -99,6 +125,9 @@ whole_users kinds d cs ls u h = subst (λ (x : List CallerView). IsWhole d.desk 
 
 pub subscribed_users : (kinds : List UrcKind) (d : DriverView) (cs : List CallerView) (ls : List ListenerView) (u : Users) → AreUsers kinds d cs ls u → AreSubscribed d.desk (map subscription_of u.listeners.items)
 subscribed_users kinds d cs ls u h = subst (λ (x : List ListenerView). AreSubscribed d.desk (map subscription_of x)) (sym h.listeners) h.opened.subscribed
+
+pub none_submitted : (kinds : List UrcKind) (d : DriverView) (cs : List CallerView) (ls : List ListenerView) (u : Users) → AreUsers kinds d cs ls u → u.lines.submitted ≡ []
+none_submitted kinds d cs ls u h = (h.opened.callers.1 0 u.lines (ap (λ (x : List CallerView). get_elem? x 0) h.callers)).3.0
 
 pub new_users : (kinds : List UrcKind) (d : DriverView) (cs : List CallerView) (ls : List ListenerView) (u : Users) → AreUsers kinds d cs ls u → (out : Option (List ℕ)) → HasShown out out u
 new_users kinds d cs ls u h out =

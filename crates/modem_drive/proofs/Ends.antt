@@ -16,7 +16,8 @@ use Rattle.modem_driver.specs.TurningAway.{Offline, PassesAway, TurnsOn, offline
 use Rattle.modem_driver.proofs.sessions.OfflinePasses.{turns_on}
 use Rattle.modem_drive.specs.declared.users.Users.{Users}
 use Rattle.modem_drive.specs.Showing.{GoOn, KeepPlaces}
-use Rattle.modem_drive.specs.Ending.{EndsDrive, HasDriven, TurnsSome}
+use Rattle.modem_drive.specs.Asking.{AsksOn, PlanView}
+use Rattle.modem_drive.specs.Ending.{EndsDrive, HasDriven, HasEndedBy, TurnsSome}
 
 gives_none : {A : Type 0} (before waited : List A) → GivesSome before before waited waited
 gives_none before waited = record { given = []; given_are = sym (append-nil before); rest_are = refl }
@@ -77,10 +78,11 @@ same_desk s users kept ended used o p given driver away end before after h = (
 pub ends_drive : {X : Type 0} (look : X → LineView) (s : SessionState X) (users kept ended used : Users) (given driver away end : DriverView) (f : Leftovers) (o p : Offline) (before after : Option (List ℕ)) (settled : Result Settled DriveFault)
     → Stays s.driver users kept ended used o p given driver away end before after → SessionEnds look s f → f.desk ≡ end_of given → o ≡ offline_from f.in_hand f.unplaced f.unannounced
     → ended.under_way.items ≡ []
+    → ended.lines.submitted ≡ kept.lines.submitted
     → IfOk settled (λ t. DeskBooks end (used.lines ∷ used.control ∷ []) used.listeners.items t.left.items (map vec_items t.untaken.items) (map vec_items t.unheard.items))
     → IfOk settled (EndsDrive look s users before after)
-ends_drive look s users kept ended used given driver away end f o p before after (Err why) h left desk made none books = tt
-ends_drive look s users kept ended used given driver away end f o p before after (Ok t) h left desk made none books = record {
+ends_drive look s users kept ended used given driver away end f o p before after (Err why) h left desk made none asked books = tt
+ends_drive look s users kept ended used given driver away end f o p before after (Ok t) h left desk made none asked books = record {
   leftovers = f;
   ends = left;
   desk = desk ∙ ap end_of h.given_is;
@@ -89,19 +91,23 @@ ends_drive look s users kept ended used given driver away end f o p before after
   turned = subst (λ (x : Offline × DriverView). TurnsSome x.0 p x.1 away) (λ i. (made i, (h.driver_is ∙ h.given_is) i)) h.turns;
   ended = ended;
   goes = subst (λ (u : Users). GoOn before after u ended) h.kept_is h.goes;
+  submits_none = asked ∙ ap (λ (u : Users). u.lines.submitted) h.kept_is;
   none = none;
   books =
       subst (λ (x : DriverView × Users). DeskBooks x.0 (x.1.lines ∷ x.1.control ∷ []) x.1.listeners.items t.left.items (map vec_items t.untaken.items) (map vec_items t.unheard.items))
       (λ i. (h.end_is i, h.used_is i)) books;
 }
 
-pub has_driven : {X : Type 0} (look : X → LineView) (s t u : SessionState X) (users mid kept : Users) (before between after : Option (List ℕ)) (left : Settled)
-    → DrivesOn look s t → GoOn before between users mid → u ≡ t → kept ≡ mid → EndsDrive look u kept between after left → HasDriven look s users before after left
-has_driven {X} look s t u users mid kept before between after left drives goes same stays ends = record {
+pub has_driven : {X : Type 0} (look : X → LineView) (s t u : SessionState X) (users mid kept : Users) (p q : PlanView) (before between after : Option (List ℕ)) (end : Option DriveFault) (left : Settled)
+    → DrivesOn look s t → GoOn before between users mid → AsksOn p q users.lines.submitted mid.lines.submitted → HasEndedBy t.kept.course q end
+    → u ≡ t → kept ≡ mid → EndsDrive look u kept between after left → HasDriven look s users p q before after end left
+has_driven {X} look s t u users mid kept p q before between after end left drives goes asks by same stays ends = record {
   stopped = t;
   drives = drives;
   mid = mid;
   between = between;
   goes = goes;
+  asks = asks;
+  by = by;
   ends = subst (λ (x : SessionState X × Users). EndsDrive look x.0 x.1 between after left) (λ i. (same i, stays i)) ends;
 }

@@ -1,4 +1,6 @@
-pub mod Cuts
+pub mod Reading
+pub mod Asks
+pub mod Judges
 pub mod Lines
 pub mod Drives
 pub mod Ends

@@ -1,5 +1,5 @@
 -- How a drive ends.
-use Rattle.std.specs.Prelude.{◌≡◌, ℕ, List, [], ◌∷◌, Option, map, vec_items}
+use Rattle.std.specs.Prelude.{◌≡◌, ℕ, Bool, true, false, List, [], ◌∷◌, Option, None, Some, Result, Ok, Err, map, vec_items}
 use Rattle.modem_desk.specs.declared.settling.Settled.{Settled}
 use Rattle.modem_desk.specs.declared.request.Request.{Request}
 use Rattle.modem_desk.specs.Books.{DeskBooks}
@@ -7,7 +7,18 @@ use Rattle.modem_desk.specs.Ends.{DriverView}
 use Rattle.modem_history.specs.Sessions.{Leftovers, LineView}
 use Rattle.modem_driver.specs.SessionStates.{SessionEnds, SessionState, end_of}
 use Rattle.modem_driver.specs.TurningAway.{Offline, TurnsAway, offline_from}
+use Rattle.modem_driver.specs.declared.session.ending.Course.{Course}
+use Rattle.modem_driver.specs.declared.session.ending.Course.TheVariants as course
+use Rattle.modem_driver.specs.declared.session.ending.Ended.{Ended}
+use Rattle.modem_driver.specs.declared.session.ending.Ended.TheVariants.{Stopped}
+use Rattle.modem_driver.specs.declared.session.error.SessionFault.{SessionFault}
+use Rattle.modem_driver.specs.declared.session.error.SessionFault.TheVariants as error
+use Rattle.modem_driver.specs.declared.session.polling.Progress.{Progress}
+use Rattle.modem_driver.specs.declared.session.polling.Progress.TheVariants as progress
+use Rattle.modem_drive.specs.Asking.{AsksOn, PlanView}
 use Rattle.modem_drive.specs.Driving.{DrivesOn}
+use Rattle.modem_drive.specs.declared.fault.DriveFault.{DriveFault}
+use Rattle.modem_drive.specs.declared.fault.DriveFault.TheVariants as fault
 use Rattle.modem_drive.specs.Showing.{GoOn}
 use Rattle.modem_drive.specs.declared.users.Users.{Users}
 
@@ -28,16 +39,44 @@ pub record EndsDrive {X : Type 0} (look : X → LineView) (s : SessionState X) (
   pub turned : TurnsSome (offline_from leftovers.in_hand leftovers.unplaced leftovers.unannounced) offline s.driver driver
   pub ended : Users
   pub goes : GoOn before after users ended
+  pub submits_none : ended.lines.submitted ≡ users.lines.submitted
   pub none : ended.under_way.items ≡ []
   pub books : DeskBooks driver (ended.lines ∷ ended.control ∷ []) ended.listeners.items settled.left.items
       (map vec_items settled.untaken.items) (map vec_items settled.unheard.items)
 
--- The session went on by polls and ticks while its users submitted, took and printed, and then it ended.
-pub record HasDriven {X : Type 0} (look : X → LineView) (s : SessionState X) (users : Users)
-    (before after : Option (List ℕ)) (settled : Settled) : Type 0 where
+-- an end that a poll gave is kept, but for want of memory, which is none
+abbrev pub KeepsGiven : Progress → Course → Type 0
+KeepsGiven (progress.Ended (Ok Stopped)) c = c ≡ course.Ended (Ok Stopped)
+KeepsGiven (progress.Ended (Err error.NoMemory)) c = Unit {0}
+KeepsGiven (progress.Ended (Err why)) c = c ≡ course.Ended (Err why)
+KeepsGiven _ c = Unit {0}
+
+-- it failed so, which is an end
+abbrev pub FailedFor : SessionFault → Course → Type 0
+FailedFor why c = c ≡ course.Ended (Err why)
+
+-- Without a fault the session ended after a Stop, and the drive was through: the whole input was read, and the reader didn't
+-- fail. A line that hung up is one that failed the session.
+abbrev pub HasEndedBy : Course → PlanView → Option DriveFault → Type 0
+HasEndedBy c p None = (c ≡ course.Ended (Ok Stopped)) × (p.stopping ≡ true) × (p.input.failed ≡ false)
+HasEndedBy c p (Some fault.HungUp) = (why : SessionFault) × FailedFor why c
+HasEndedBy c p (Some _) = Unit {0}
+
+-- the same of what a poll gives
+abbrev pub SaysBy : Progress → PlanView → Option DriveFault → Type 0
+SaysBy said p None = (said ≡ progress.Ended (Ok Stopped)) × (p.stopping ≡ true) × (p.input.failed ≡ false)
+SaysBy said p (Some fault.HungUp) = (why : SessionFault) × (said ≡ progress.Ended (Err why)) × (why ≡ error.NoMemory → ⊥)
+SaysBy said p (Some _) = Unit {0}
+
+-- The session went on by polls and ticks while its users submitted what the input asks, took and printed; it or the drive
+-- ended so; and then all was settled.
+pub record HasDriven {X : Type 0} (look : X → LineView) (s : SessionState X) (users : Users) (p q : PlanView)
+    (before after : Option (List ℕ)) (end : Option DriveFault) (settled : Settled) : Type 0 where
   pub stopped : SessionState X
   pub drives : DrivesOn look s stopped
   pub mid : Users
   pub between : Option (List ℕ)
   pub goes : GoOn before between users mid
+  pub asks : AsksOn p q users.lines.submitted mid.lines.submitted
+  pub by : HasEndedBy stopped.kept.course q end
   pub ends : EndsDrive look stopped mid between after settled

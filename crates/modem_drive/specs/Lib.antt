@@ -1,6 +1,8 @@
 pub mod Faults
 pub mod Entry
-pub mod Texts
+pub mod Input
+pub mod Asking
+pub mod Plans
 pub mod Showing
 pub mod Driving
 pub mod Ending

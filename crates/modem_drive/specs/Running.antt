@@ -1,12 +1,17 @@
 -- A drive, from its line to its end.
-use Rattle.std.specs.Prelude.{◌≡◌, ℕ, List, [], ◌∷◌, Option, false, map, replicate}
+use Rattle.std.specs.Prelude.{◌≡◌, ℕ, List, [], ◌∷◌, Option, None, IfSome, false, map, replicate}
+use Rattle.serial_line.specs.StreamLine.{StreamState, new_stream}
+use Rattle.serial_line.specs.declared.stream_line.ZeroRead.TheVariants.{Ended}
 use Rattle.at_text.specs.declared.finals.Final.TheVariants.{Good}
 use Rattle.modem_desk.specs.declared.settling.Settled.{Settled}
 use Rattle.modem_desk.specs.Ends.{AreSubscribed, DriverView, IsWhole, place_of, subscription_of}
 use Rattle.modem_history.specs.Sessions.{LineView}
 use Rattle.modem_driver.specs.EntryTries.{IsRepliedTo}
 use Rattle.modem_driver.specs.SessionStates.{FitsAll, SessionState, beginning_of}
+use Rattle.modem_texts.specs.Input.{input_lines}
+use Rattle.modem_drive.specs.Asking.{LinesAsk, PlanView, asks_of}
 use Rattle.modem_drive.specs.Ending.{HasDriven}
+use Rattle.modem_drive.specs.declared.fault.DriveFault.{DriveFault}
 use Rattle.modem_drive.specs.Showing.{HasShown}
 use Rattle.modem_drive.specs.declared.users.Users.{Users}
 
@@ -24,17 +29,43 @@ pub record Begins {X : Type 0} (look : X → LineView) (n1 : ℕ) (line : X) (s 
   pub whole : IsWhole s.driver.desk (map place_of (users.lines ∷ users.control ∷ []))
   pub subscribed : AreSubscribed s.driver.desk (map subscription_of users.listeners.items)
   pub shown : (out : Option (List ℕ)) → HasShown out out users
+  pub none_asked : users.lines.submitted ≡ []
 
--- the multiplexer was entered by some text, at the first try or at the second
-pub record HasEntered (first now : LineView) : Type 0 where
-  pub text : List ℕ
-  pub replied : IsRepliedTo first now false text Good
+-- the multiplexer was entered by this text, at the first try or at the second
+abbrev pub HasEntered : (text : List ℕ) → (first now : LineView) → Type 0
+HasEntered text first now = IsRepliedTo first now false text Good
 
--- The multiplexer was entered, a session with this N1 began on the line, went on, and ended, and all that came for its
--- users was printed.
-pub record Drove {X : Type 0} (look : X → LineView) (n1 : ℕ) (line : X) (before after : Option (List ℕ)) (left : Settled) : Type 0 where
+-- nothing of this input was read yet
+abbrev pub plan_begun : Option (List ℕ) → PlanView
+plan_begun input = record { input = record { left = input; text = []; ended = false; failed = false }; next = []; stopping = false }
+
+-- The multiplexer was entered by this text, a session with this N1 began on the line, went on, and ended, and all that came
+-- for its users was printed. Without a fault the commands that were submitted, and told before the end, are those that the lines
+-- of the input are, in order, where it is known what the reader had.
+pub record Drove {X : Type 0} (look : X → LineView) (text : List ℕ) (n1 : ℕ) (line : X) (input before after : Option (List ℕ))
+    (end : Option DriveFault) (left : Settled) : Type 0 where
   pub session : SessionState X
-  pub entered : HasEntered (look line) (look session.line)
+  pub entered : HasEntered text (look line) (look session.line)
   pub users : Users
   pub begins : Begins look n1 session.line session users
-  pub driven : HasDriven look session users before after left
+  pub through : PlanView
+  pub driven : HasDriven look session users (plan_begun input) through before after end left
+  pub asked : end ≡ None
+      → IfSome input (λ octets. LinesAsk (input_lines octets) (asks_of driven.ends.ended.lines.submitted))
+
+-- a line of a device, by its own words
+abbrev pub device_look : StreamState → LineView
+device_look l = record {
+  received = l.received;
+  sent = l.sent;
+  calls = l.calls;
+  failures = l.failures;
+  empty_reads = l.empty_reads;
+  stalled_writes = l.stalled_writes;
+}
+
+-- A line between two rings, on which nothing had happened, was driven so, with the lines of an input that came through a ring. What
+-- the device behind the rings did, and what the input had, is nobody's to say.
+pub record DroveDevice (text : List ℕ) (n1 : ℕ) (before after : Option (List ℕ)) (end : Option DriveFault) : Type 0 where
+  pub left : Settled
+  pub drove : Drove device_look text n1 (new_stream None None Ended) None before after end left

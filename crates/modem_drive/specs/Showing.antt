@@ -7,7 +7,7 @@ use Rattle.modem_desk.specs.declared.request.Request.{Request}
 use Rattle.modem_desk.specs.declared.request.Outcome.{Outcome}
 use Rattle.modem_desk.specs.declared.request.Urc.{Urc}
 use Rattle.modem_desk.specs.Ends.{ListenerView, subscription_of}
-use Rattle.modem_drive.specs.Texts.{heard_text, told_text}
+use Rattle.modem_texts.specs.Texts.{heard_text, told_text}
 use Rattle.modem_drive.specs.declared.users.UnderWay.{UnderWay}
 use Rattle.modem_drive.specs.declared.users.Users.{Users}
 

@@ -1,5 +1,7 @@
 //! The threads of a device and of the input.
-ghost use Rattle.std.specs.Prelude.{◌≡◌, IfOk};
+ghost use Rattle.std.specs.Prelude.{◌≡◌, IfOk, None};
+ghost use Rattle.serial_line.specs.StreamLine.{new_stream};
+ghost use Rattle.serial_line.specs.declared.stream_line.ZeroRead.TheVariants.{Ended};
 
 use crate::fault::DriveFault;
 use bell::Bell;
@@ -101,6 +103,7 @@ where
     R: Threads + Wait + Clock + AllocGlobal + Copy + Send + Drop + 'static,
     I: Read + Send + Drop + 'static,
     O: Write + Send + Drop + 'static,
+    ensures { IfOk result (λ r. r.0 ≡ new_stream None None Ended) }
 {
     let threaded = Threaded {
         reading: Bell::new(rt.alloc())?,

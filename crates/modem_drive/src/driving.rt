@@ -1,7 +1,11 @@
 //! The loop of a drive: it asks, polls the session, prints what came, and waits.
-ghost use Rattle.std.specs.Prelude.{◌≡◌, IfOk, OnOk};
+ghost use Rattle.std.specs.Prelude.{◌≡◌, IfOk, OnOk, Option};
 ghost use Rattle.modem_driver.specs.SessionStates.{line_by};
+ghost use Rattle.modem_drive.specs.Asking.{AsksOn};
 ghost use Rattle.modem_drive.specs.Driving.{DrivesOn};
+ghost use Rattle.modem_drive.specs.Ending.{HasEndedBy, KeepsGiven, SaysBy};
+ghost use Rattle.modem_drive.specs.declared.driving.Went.TheVariants as went;
+ghost use Rattle.modem_drive.specs.declared.fault.DriveFault.{DriveFault};
 ghost use Rattle.modem_drive.specs.Showing.{GoOn};
 
 use crate::fault::DriveFault;
@@ -84,7 +88,8 @@ fn poll<L: SerialLine, R: Wait + Drop, K: Clock>(
     session: &mut Session<L, R>,
     ticks: &mut Ticks,
 ) -> Progress
-    ensures { DrivesOn (line_by L.received L.sent L.calls L.failures L.empty_reads L.stalled_writes) session.old session.new }
+    ensures drives { DrivesOn (line_by L.received L.sent L.calls L.failures L.empty_reads L.stalled_writes) session.old session.new }
+    ensures ends { KeepsGiven result session.new.kept.course }
 {
     let wanted = session.wants_tick();
     tick_if(session, ticks.are_due(clock, wanted));
@@ -101,6 +106,8 @@ pub fn show<I: Read, W: Write, K: Clock>(
     output: &mut W,
 ) -> Result<bool, DriveFault>
     ensures goes { OnOk result (GoOn (W.contents output.old) (W.contents output.new) users.old users.new) }
+    ensures same { plan.new ≡ plan.old }
+    ensures submits_none { OnOk result (users.new.lines.submitted ≡ users.old.lines.submitted) }
 {
     let lines = users.show_lines(alloc, output)?;
     match users.show_outcome(alloc, output)? {
@@ -124,8 +131,16 @@ enum Went {
 }
 
 /// What a poll says of the round: `moved` says whether anything else was done.
-fn judge(said: Progress, moved: bool) -> Went {
+fn judge<I: Read>(said: Progress, plan: &Plan<I>, moved: bool) -> Went
+    ensures { (end : Option DriveFault) → result ≡ went.Ends end → SaysBy said plan.now end }
+{
     match said {
+        Progress::Ended(Ok(Ended::Stopped)) if !plan.is_stopping() => Went::Ends(Some(
+            DriveFault::GaveUp,
+        )),
+        Progress::Ended(Ok(Ended::Stopped)) if plan.has_failed() => Went::Ends(Some(
+            DriveFault::Input,
+        )),
         Progress::Ended(Ok(Ended::Stopped)) => Went::Ends(None),
         Progress::Ended(Err(SessionFault::NoMemory)) => Went::Ends(Some(DriveFault::NoMemory)),
         Progress::Ended(Err(_)) => Went::Ends(Some(DriveFault::HungUp)),
@@ -135,8 +150,8 @@ fn judge(said: Progress, moved: bool) -> Went {
     }
 }
 
+/// One round: it polls the session, prints what came, and asks what can be asked then.
 #[tactic(auto, using(crate::proofs::Lines::goes_then, crate::proofs::Drives::drives_none))]
-/// One round: it asks, polls the session and prints what came.
 fn round<L: SerialLine, R: Wait + Clock + Drop, I: Read, W: Write, E: Write>(
     rt: &R,
     alloc: Global,
@@ -149,14 +164,19 @@ fn round<L: SerialLine, R: Wait + Clock + Drop, I: Read, W: Write, E: Write>(
 ) -> Result<Went, DriveFault>
     ensures drives { DrivesOn (line_by L.received L.sent L.calls L.failures L.empty_reads L.stalled_writes) session.old session.new }
     ensures goes { OnOk result (GoOn (W.contents output.old) (W.contents output.new) users.old users.new) }
+    ensures asks { OnOk result (AsksOn plan.old plan.new users.old.lines.submitted users.new.lines.submitted) }
+    ensures ends { IfOk result (λ w. (end : Option DriveFault) → w ≡ went.Ends end → HasEndedBy session.new.kept.course plan.new end) }
 {
-    let asked = plan.go_on(rt, alloc, users, faults)?;
     let said = poll(rt, session, ticks);
     let shown = show(rt, alloc, users, plan, output)?;
-    match plan.take_told(users) {
-        Some(fault) => Ok(Went::Ends(Some(fault))),
-        None => Ok(judge(said, asked || shown)),
+    if let Some(fault) = plan.take_told(users) {
+        return Ok(Went::Ends(Some(fault)));
     }
+    if matches!(said, Progress::Ended(_)) {
+        return Ok(judge(said, plan, shown));
+    }
+    let asked = plan.go_on(rt, alloc, users, faults)?;
+    Ok(judge(said, plan, asked || shown))
 }
 
 #[tactic(auto, using(crate::proofs::Lines::stays, crate::proofs::Lines::goes_then, crate::proofs::Drives::drives_none, crate::proofs::Drives::drives_then))]
@@ -175,6 +195,8 @@ pub fn drive_on<L: SerialLine, R: Wait + Clock + Drop, I: Read, W: Write, E: Wri
 ) -> Result<Option<DriveFault>, DriveFault>
     ensures drives { DrivesOn (line_by L.received L.sent L.calls L.failures L.empty_reads L.stalled_writes) session.old session.new }
     ensures goes { OnOk result (GoOn (W.contents output.old) (W.contents output.new) users.old users.new) }
+    ensures asks { OnOk result (AsksOn plan.old plan.new users.old.lines.submitted users.new.lines.submitted) }
+    ensures ends { IfOk result (HasEndedBy session.new.kept.course plan.new) }
 {
     let most = Duration::from_secs(LOOK_SECONDS);
     for _ in rt.forever() {

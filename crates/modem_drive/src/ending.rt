@@ -37,6 +37,8 @@ fn turn_away<R: Wait + Clock, I: Read, W: Write>(
     ensures turns { OnOk result (TurnsSome offline.old offline.new driver.old driver.new) }
     ensures goes { OnOk result (GoOn (W.contents output.old) (W.contents output.new) users.old users.new) }
     ensures none { OnOk result (users.new.under_way.items ≡ []) }
+    ensures same { plan.new ≡ plan.old }
+    ensures submits_none { OnOk result (users.new.lines.submitted ≡ users.old.lines.submitted) }
 {
     for _ in 0..PASSES {
         let said = offline.turn_away(rt, driver);
@@ -104,8 +106,9 @@ pub fn end_drive<L: SerialLine + Drop, R: Wait + Clock + Drop, I: Read, W: Write
 ) -> Result<Settled, DriveFault>
     requires whole { IsWhole session.driver.desk (map place_of (users.lines ∷ users.control ∷ [])) }
     requires subscribed { AreSubscribed session.driver.desk (map subscription_of users.listeners.items) }
-    ensures { IfOk result (EndsDrive (line_by L.received L.sent L.calls L.failures L.empty_reads L.stalled_writes) session
+    ensures ends { IfOk result (EndsDrive (line_by L.received L.sent L.calls L.failures L.empty_reads L.stalled_writes) session
         users (W.contents output.old) (W.contents output.new)) }
+    ensures same { plan.new ≡ plan.old }
 {
     let Finished {
         line,

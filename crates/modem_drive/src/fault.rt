@@ -14,6 +14,9 @@ pub enum DriveFault {
     /// A growth was refused, or a thread.
     #[error("fault: no memory")]
     NoMemory,
+    /// The reader of the input failed. All that came before was submitted and told.
+    #[error("fault: input")]
+    Input,
     /// The writer failed.
     #[error("fault: output")]
     Output,

@@ -11,7 +11,6 @@ mod driving;
 mod ending;
 mod fault;
 mod input;
-mod orders;
 mod patience;
 mod pieces;
 mod plan;
@@ -19,7 +18,6 @@ mod results;
 mod running;
 mod settings;
 mod showing;
-mod texts;
 mod users;
 
 pub use fault::DriveFault;

@@ -5,9 +5,9 @@ ghost use Rattle.modem_drive.specs.Showing.{shown_text};
 ghost use Rattle.modem_drive.specs.Showing as shown;
 
 use crate::fault::DriveFault;
-use crate::texts::{push_heard, push_told};
 use crate::users::UnderWay;
 use modem_desk::{Outcome, Urc};
+use modem_texts::{push_heard, push_told};
 use std::alloc::Global;
 use std::io::Write;
 

@@ -1,17 +1,23 @@
 //! What is asked of the desk next: the lines of the input as commands, and what they need.
-ghost use Rattle.std.specs.Prelude.{ℕ, List, Option, OnOk};
+ghost use Rattle.std.specs.Prelude.{◌≡◌, ◌≢◌, ℕ, [], List, Option, Some, true, IfSome, OnOk};
+ghost use Rattle.modem_desk.specs.declared.request.Request.{Request};
+ghost use Rattle.modem_drive.specs.Asking.{AsksOn, IsThrough, LineAsks};
+ghost use Rattle.modem_drive.specs.Plans.{after_asking};
 ghost use Rattle.modem_drive.specs.Showing.{GoOn};
+ghost use Rattle.modem_drive.specs.declared.fault.DriveFault.TheVariants as fault;
+ghost use Rattle.modem_drive.specs.declared.plan.Control.TheVariants as control;
 
 use crate::channels::{ChannelState, Channels};
 use crate::fault::DriveFault;
 use crate::input::Lines;
-use crate::orders::{Refusal, command_of};
 use crate::users::{UnderWay, Users};
+use at_text::CommandLine;
 use modem_desk::{Answer, Ask, Outcome};
-use modem_driver::CommandLine;
+use modem_texts::{Refusal, command_of};
 use mux_frame::Dlci;
 use std::alloc::Global;
 use std::io::{Read, Write};
+use std::marker::Model;
 use std::rt::Clock;
 use std::sync::Wait;
 use std::time::Duration;
@@ -58,9 +64,26 @@ pub struct Plan<I: Read> {
     bad: bool,
 }
 
+impl<I: Read> Model for Plan<I> {
+    ghost use Rattle.modem_drive.specs.Asking.{PlanView};
+    ghost use Rattle.modem_drive.specs.Plans.{is_stopping, next_asks};
+
+    ghost Value = { PlanView };
+
+    ghost view = { λ p. record {
+      input = p.input;
+      next = next_asks p.next;
+      stopping = is_stopping p.phase;
+    } };
+}
+
 impl<I: Read> Plan<I> {
+    ghost use Rattle.std.specs.Prelude.{◌≡◌, [], false, true};
+
     /// To open connection 0, and then what this input says. A connection whose commands wait for longer than that is closed.
-    pub fn new(input: Lines<I>, quiet_for: Option<Duration>) -> Plan<I> {
+    pub fn new(input: Lines<I>, quiet_for: Option<Duration>) -> Plan<I>
+        ensures { result ≡ record { input = input; next = []; stopping = false } }
+    {
         Plan {
             input,
             next: None,
@@ -77,8 +100,25 @@ impl<I: Read> Plan<I> {
         self.bad
     }
 
-    /// How long it is at least until a connection has to be closed.
+    /// Whether the multiplexer is to end.
+    pub fn is_stopping(&self) -> bool
+        ensures { result ≡ self.now.stopping }
+    {
+        self.phase == Phase::Stopping
+    }
+
+    /// Whether the reader of the input failed.
+    pub fn has_failed(&self) -> bool
+        ensures { result ≡ self.now.input.failed }
+    {
+        self.input.has_failed()
+    }
+
+    /// How long it is at least until a connection has to be closed, where that can be asked.
     pub fn time_left<K: Clock>(&self, clock: &K, most: Duration) -> Duration {
+        if self.asked.is_some() {
+            return most;
+        }
         self.channels.time_left(clock, most)
     }
 
@@ -88,7 +128,10 @@ impl<I: Read> Plan<I> {
         alloc: Global,
         line: &[u8],
         faults: &mut E,
-    ) -> Result<(), DriveFault> {
+    ) -> Result<(), DriveFault>
+        requires { self.old.next ≡ [] }
+        ensures { OnOk result ((LineAsks line.now self.new.next) × (self.new ≡ record self.old { next = self.new.next })) }
+    {
         self.number = self.number.saturating_add(1);
         if line.is_empty() {
             return Ok(());
@@ -112,7 +155,9 @@ impl<I: Read> Plan<I> {
     }
 
     /// Reads the next line of the input, if there is none and one is there, and says whether it read one.
-    fn read_on<E: Write>(&mut self, alloc: Global, faults: &mut E) -> Result<bool, DriveFault> {
+    fn read_on<E: Write>(&mut self, alloc: Global, faults: &mut E) -> Result<bool, DriveFault>
+        ensures { OnOk result ((submitted : List Request) → AsksOn self.old self.new submitted submitted) }
+    {
         if self.phase != Phase::Going || self.next.is_some() {
             return Ok(false);
         }
@@ -126,7 +171,9 @@ impl<I: Read> Plan<I> {
     }
 
     /// What is to be asked beside commands now, if anything is.
-    fn control<K: Clock>(&self, clock: &K, users: &Users) -> Option<Control> {
+    fn control<K: Clock>(&self, clock: &K, users: &Users) -> Option<Control>
+        ensures { IfSome result (λ c. c ≡ control.Stop → IsThrough self.now) }
+    {
         match self.phase {
             Phase::Opening => return Dlci::new(0).map(Control::Open),
             Phase::Stopping => return None,
@@ -145,7 +192,9 @@ impl<I: Read> Plan<I> {
     }
 
     /// It was asked.
-    fn note_asked(&mut self, control: Control) {
+    fn note_asked(&mut self, control: Control)
+        ensures { self.new ≡ after_asking control self.old }
+    {
         self.asked = Some(control);
         match control {
             Control::Open(dlci) => match &mut self.next {
@@ -160,7 +209,8 @@ impl<I: Read> Plan<I> {
     #[tactic(auto, using(crate::proofs::Lines::stays, crate::proofs::Lines::controls_alone))]
     /// Asks what is to be asked beside commands, where nothing such is under way, and says whether it asked.
     fn ask_on<R: Wait + Clock>(&mut self, rt: &R, users: &mut Users) -> bool
-        ensures { (out : Option (List ℕ)) → GoOn out out users.old users.new }
+        ensures goes { (out : Option (List ℕ)) → GoOn out out users.old users.new }
+        ensures asks { AsksOn self.old self.new users.old.lines.submitted users.new.lines.submitted }
     {
         if self.asked.is_some() {
             return false;
@@ -193,7 +243,8 @@ impl<I: Read> Plan<I> {
     #[tactic(auto, using(crate::proofs::Lines::stays))]
     /// Submits the next line, if it may be and can be, and says whether it did.
     fn submit_on<R: Wait + Clock>(&mut self, rt: &R, users: &mut Users) -> Result<bool, DriveFault>
-        ensures { OnOk result ((out : Option (List ℕ)) → GoOn out out users.old users.new) }
+        ensures goes { OnOk result ((out : Option (List ℕ)) → GoOn out out users.old users.new) }
+        ensures asks { OnOk result (AsksOn self.old self.new users.old.lines.submitted users.new.lines.submitted) }
     {
         if !self.is_next_ready() {
             return Ok(false);
@@ -214,7 +265,7 @@ impl<I: Read> Plan<I> {
         }
     }
 
-    #[tactic(auto, using(crate::proofs::Lines::stays, crate::proofs::Lines::goes_then))]
+    #[tactic(auto, using(crate::proofs::Lines::stays, crate::proofs::Lines::goes_then, crate::proofs::Asks::asks_none))]
     /// Asks what is to be asked now, and says whether it asked or read anything.
     pub fn go_on<R: Wait + Clock, E: Write>(
         &mut self,
@@ -223,7 +274,8 @@ impl<I: Read> Plan<I> {
         users: &mut Users,
         faults: &mut E,
     ) -> Result<bool, DriveFault>
-        ensures { OnOk result ((out : Option (List ℕ)) → GoOn out out users.old users.new) }
+        ensures goes { OnOk result ((out : Option (List ℕ)) → GoOn out out users.old users.new) }
+        ensures asks { OnOk result (AsksOn self.old self.new users.old.lines.submitted users.new.lines.submitted) }
     {
         let mut any = false;
         for _ in 0..STEPS {
@@ -239,12 +291,17 @@ impl<I: Read> Plan<I> {
     }
 
     /// A line was told this.
-    pub fn note_told<K: Clock>(&mut self, clock: &K, line: UnderWay, outcome: &Outcome) {
+    pub fn note_told<K: Clock>(&mut self, clock: &K, line: UnderWay, outcome: &Outcome)
+        ensures { self.new ≡ self.old }
+    {
         self.channels.note_told(clock, line.dlci, &outcome.answer);
     }
 
     /// What an opening was told: the fault by which the drive ends, if it does.
-    fn judge_opening(&mut self, dlci: Dlci, answer: &Answer) -> Option<DriveFault> {
+    fn judge_opening(&mut self, dlci: Dlci, answer: &Answer) -> Option<DriveFault>
+        ensures same { self.new ≡ self.old }
+        ensures why { result ≢ Some fault.HungUp }
+    {
         match answer {
             Answer::Opened | Answer::AlreadyOpen => {
                 self.channels.set(dlci, ChannelState::Open);
@@ -261,7 +318,10 @@ impl<I: Read> Plan<I> {
     }
 
     /// What was asked beside commands was told this: the fault by which the drive ends, if it does.
-    fn judge(&mut self, control: Control, answer: &Answer) -> Option<DriveFault> {
+    fn judge(&mut self, control: Control, answer: &Answer) -> Option<DriveFault>
+        ensures same { self.new ≡ self.old }
+        ensures why { result ≢ Some fault.HungUp }
+    {
         match control {
             Control::Open(dlci) => self.judge_opening(dlci, answer),
             Control::Stop if matches!(answer, Answer::NotOpen) => Some(DriveFault::Closed),
@@ -272,7 +332,10 @@ impl<I: Read> Plan<I> {
     #[tactic(auto, using(crate::proofs::Lines::controls_alone))]
     /// Takes what the caller that opens, closes and stops was told, if anything: the fault by which the drive ends, if it does.
     pub fn take_told(&mut self, users: &mut Users) -> Option<DriveFault>
-        ensures { (out : Option (List ℕ)) → GoOn out out users.old users.new }
+        ensures goes { (out : Option (List ℕ)) → GoOn out out users.old users.new }
+        ensures same { self.new ≡ self.old }
+        ensures submits_none { users.new.lines.submitted ≡ users.old.lines.submitted }
+        ensures why { result ≢ Some fault.HungUp }
     {
         let outcome = users.control.take()?;
         let control = self.asked.take()?;

@@ -1,9 +1,10 @@
 //! A drive, from its device to its end.
-ghost use Rattle.std.specs.Prelude.{◌≡◌, ◌≤◌, [], ◌∷◌, ℕ, List, Option, IfOk, OnOk, map};
+ghost use Rattle.std.specs.Prelude.{◌≡◌, ◌≢◌, ◌≤◌, [], ◌∷◌, ℕ, List, None, Option, IfOk, IsOkAnd, OnOk, map};
 ghost use Rattle.modem_desk.specs.Ends.{AreSubscribed, IsWhole, place_of, subscription_of};
 ghost use Rattle.modem_driver.specs.SessionStates.{FitsAll, beginning_of, line_by};
 ghost use Rattle.modem_drive.specs.Ending.{HasDriven};
-ghost use Rattle.modem_drive.specs.Running.{Begins, Drove, HasEntered, IsNewDesk};
+ghost use Rattle.modem_drive.specs.Entry.{entry_for, given_text};
+ghost use Rattle.modem_drive.specs.Running.{Begins, Drove, DroveDevice, HasEntered, IsNewDesk};
 ghost use Rattle.modem_drive.specs.Showing.{HasShown};
 
 use crate::device::{line_beside, read_beside};
@@ -60,6 +61,7 @@ fn open_desk(alloc: Global) -> Result<(DriverEnd, Users), DriveFault>
     ensures whole { IfOk result (λ r. IsWhole r.0.desk (map place_of (r.1.lines ∷ r.1.control ∷ []))) }
     ensures subscribed { IfOk result (λ r. AreSubscribed r.0.desk (map subscription_of r.1.listeners.items)) }
     ensures shown { IfOk result (λ r. (out : Option (List ℕ)) → HasShown out out r.1) }
+    ensures none_asked { IfOk result (λ r. r.1.lines.submitted ≡ []) }
 {
     let Ok((driver, mut callers, listeners)) = Desk::open(alloc, 2, &KINDS) else {
         return Err(DriveFault::NoMemory);
@@ -131,7 +133,7 @@ where
     requires whole { IsWhole session.driver.desk (map place_of (users.lines ∷ users.control ∷ [])) }
     requires subscribed { AreSubscribed session.driver.desk (map subscription_of users.listeners.items) }
     ensures { IfOk result (λ r. HasDriven (line_by L.received L.sent L.calls L.failures L.empty_reads L.stalled_writes)
-        session users (W.contents output.old) (W.contents output.new) r.1) }
+        session users plan.old plan.new (W.contents output.old) (W.contents output.new) r.0 r.1) }
 {
     let mut session = session;
     let mut users = users;
@@ -159,7 +161,7 @@ fn enter<L: SerialLine, R: Wait + Clock>(
     line: &mut L,
     settings: &Settings<'_>,
 ) -> Result<(), DriveFault>
-    ensures { OnOk result (HasEntered (line_by L.received L.sent L.calls L.failures L.empty_reads L.stalled_writes line.old)
+    ensures { OnOk result (HasEntered (entry_for (given_text settings.now.entry) settings.now.n1) (line_by L.received L.sent L.calls L.failures L.empty_reads L.stalled_writes line.old)
         (line_by L.received L.sent L.calls L.failures L.empty_reads L.stalled_writes line.new)) }
 {
     let text = entry_of(alloc, settings)?;
@@ -193,12 +195,14 @@ where
     W: Write,
     E: Write,
     ensures { IfOk result (λ d. Drove (line_by L.received L.sent L.calls L.failures L.empty_reads L.stalled_writes)
-        settings.entry.n1 line (W.contents output.old) (W.contents output.new) d.left) }
+        (entry_for (given_text settings.entry.entry) settings.entry.n1) settings.entry.n1 line (I.remaining input)
+        (W.contents output.old) (W.contents output.new) d.fault d.left) }
 {
     let mut line = line;
     enter(rt, alloc, bell, &mut line, &settings)?;
     let (session, users) = begin(*rt, alloc, line, settings.n1)?;
-    let mut plan = Plan::new(Lines::new(alloc, input), settings.quiet_for);
+    let lines = Lines::new(alloc, input);
+    let mut plan = Plan::new(lines, settings.quiet_for);
     let mut ticks = Ticks::new(settings.tick);
     let ran = run_session(
         rt, alloc, bell, session, users, &mut ticks, &mut plan, output, faults,
@@ -213,7 +217,8 @@ where
 
 /// Says what a drive left undone, if anything, and gives its status.
 fn say_end<E: Write>(faults: &mut E, ended: Result<Driven, DriveFault>) -> u8
-    ensures { result ≤ 2 }
+    ensures status { result ≤ 2 }
+    ensures well { result ≢ 1 → IsOkAnd ended (λ d. d.fault ≡ None) }
 {
     match ended {
         Ok(driven) => {
@@ -266,6 +271,8 @@ where
     I: Read + Send + Drop + 'static,
     W: Write,
     E: Write,
+    ensures { IfOk result (λ d. DroveDevice (entry_for (given_text settings.entry.entry) settings.entry.n1) settings.entry.n1
+        (W.contents output.old) (W.contents output.new) d.fault) }
 {
     let alloc = rt.alloc();
     let bell = Bell::new(alloc)?;
@@ -285,7 +292,7 @@ where
 
 /// Drives a modem on the device of this path, as `drive_over` does, with the lines of `input`, which a thread of its own reads. The
 /// device is a terminal that is set up so that a read waits a while and then gives nothing. The status is 0 where all is done, 2
-/// where a line of the input was bad, and 1 at a fault; at 1 and 2 it says on `faults` why.
+/// where a line of the input was bad and all else is done, and 1 at a fault; at 1 and 2 it says on `faults` why.
 pub fn drive_run<R, I, W, E>(
     rt: &R,
     path: &str,
@@ -299,7 +306,9 @@ where
     I: Read + Send + Drop + 'static,
     W: Write,
     E: Write,
-    ensures { result ≤ 2 }
+    ensures status { result ≤ 2 }
+    ensures drove { result ≢ 1 → DroveDevice (entry_for (given_text settings.entry.entry) settings.entry.n1) settings.entry.n1
+        (W.contents output.old) (W.contents output.new) None }
 {
     match open_device(rt, path) {
         Ok(device) => {

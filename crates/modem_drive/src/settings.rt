@@ -1,7 +1,7 @@
 //! How a device is driven.
 ghost use Rattle.std.specs.Prelude.{◌≡◌, ◌++◌, IfOk, codes};
 ghost use Rattle.std.specs.String.{string_bytes};
-ghost use Rattle.modem_drive.specs.Entry.{entry_text};
+ghost use Rattle.modem_drive.specs.Entry.{entry_for, entry_text, given_text};
 
 use std::alloc::{AllocError, Global};
 use std::fmt::Write;
@@ -47,7 +47,9 @@ fn given_entry(alloc: Global, given: &str) -> Result<String, AllocError>
 }
 
 /// What enters the multiplexer: the text that was given, or where there is none that of this N1, and CR.
-pub fn entry_of(alloc: Global, settings: &Settings<'_>) -> Result<String, AllocError> {
+pub fn entry_of(alloc: Global, settings: &Settings<'_>) -> Result<String, AllocError>
+    ensures { IfOk result (λ text. string_bytes text ≡ entry_for (given_text settings.now.entry) settings.now.n1) }
+{
     match settings.entry {
         Some(given) => given_entry(alloc, given),
         None => usual_entry(alloc, settings.n1),

@@ -16,7 +16,8 @@ impl Users {
         alloc: Global,
         output: &mut W,
     ) -> Result<Option<(UnderWay, Outcome)>, DriveFault>
-        ensures { OnOk result (GoOn (W.contents output.old) (W.contents output.new) self.old self.new) }
+        ensures goes { OnOk result (GoOn (W.contents output.old) (W.contents output.new) self.old self.new) }
+        ensures submits_none { OnOk result (self.new.lines.submitted ≡ self.old.lines.submitted) }
     {
         let Some(outcome) = self.lines.take() else {
             return Ok(None);
@@ -35,6 +36,7 @@ impl Users {
     ) -> Result<bool, DriveFault>
         requires { place < length self.old.listeners.items }
         ensures goes { OnOk result (GoOn (W.contents output.old) (W.contents output.new) self.old self.new) }
+        ensures submits_none { OnOk result (self.new.lines.submitted ≡ self.old.lines.submitted) }
         ensures as_many { OnOk result (length self.new.listeners.items ≡ length self.old.listeners.items) }
     {
         match self.listeners[place].take() {
@@ -53,7 +55,8 @@ impl Users {
         alloc: Global,
         output: &mut W,
     ) -> Result<bool, DriveFault>
-        ensures { OnOk result (GoOn (W.contents output.old) (W.contents output.new) self.old self.new) }
+        ensures goes { OnOk result (GoOn (W.contents output.old) (W.contents output.new) self.old self.new) }
+        ensures submits_none { OnOk result (self.new.lines.submitted ≡ self.old.lines.submitted) }
     {
         let mut any = false;
         for place in 0..self.listeners.len() {

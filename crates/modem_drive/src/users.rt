@@ -1,12 +1,14 @@
 //! Those who use the desk of a drive: a caller whose requests are the lines of the input, a caller that opens, closes and stops, and
 //! a listener for each kind of line.
-ghost use Rattle.std.specs.Prelude.{◌≡◌, ◌<◌, ℕ, List, Option, get_or, length, IfOk, IfSome, OnOk};
+ghost use Rattle.std.specs.Prelude.{◌≡◌, ◌<◌, ◌++◌, ◌∷◌, [], ℕ, List, Option, get_or, length, IfOk, IfSome, MatchOption, OnOk};
+ghost use Rattle.modem_desk.specs.declared.request.Ask.TheVariants as ask;
+ghost use Rattle.modem_drive.specs.Asking.{asks_of};
 ghost use Rattle.modem_drive.specs.Showing.{GoOn, TakesLine};
 ghost use Rattle.modem_drive.specs.declared.users.UnderWay.{UnderWay};
 
 use crate::fault::DriveFault;
+use at_text::CommandLine;
 use modem_desk::{Ask, Caller, Listener};
-use modem_driver::CommandLine;
 use mux_frame::Dlci;
 use std::sync::Wait;
 
@@ -40,6 +42,9 @@ impl Users {
         line: CommandLine,
     ) -> Result<Option<CommandLine>, DriveFault>
         ensures goes { OnOk result ((out : Option (List ℕ)) → GoOn out out self.old self.new) }
+        ensures asks { IfOk result (λ back. MatchOption back
+            (asks_of self.new.lines.submitted ≡ asks_of self.old.lines.submitted ++ ask.Command dlci line ∷ [])
+            (λ l. (l ≡ line) × (self.new.lines.submitted ≡ self.old.lines.submitted))) }
     {
         let d = usize::from(dlci.number());
         let Some(place) = self.counts[d].checked_add(1) else {

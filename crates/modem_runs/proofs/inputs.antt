@@ -1,5 +1,4 @@
 -- Texts and octets that the program reads.
-pub mod CutTexts
 pub mod Dumps
 pub mod ReadFrames
 pub mod ReadOctets

@@ -1,19 +1,7 @@
 -- The input of a bench.
-use Rattle.std.specs.Prelude.{◌≡◌, ◌≢◌, ℕ, ◌<◌, ◌≤◌, List, [], ◌∷◌, ◌++◌, None}
-use Rattle.at_text.specs.Commands.{refusal_of}
+use Rattle.std.specs.Prelude.{◌≡◌, ◌≢◌, ℕ, ◌<◌, List, [], ◌∷◌, ◌++◌}
 use Rattle.modem_bench.specs.declared.submission.Submission.{Submission}
-use Rattle.modem_runs.specs.Script.{number_text}
-
--- the words are a connection that carries commands, one blank and a command line
-pub record IsCommand (words : List ℕ) (d : ℕ) (line : List ℕ) : Type 0 where
-  pub carries : 1 ≤ d
-  pub known : d < 62
-  pub is_line : refusal_of line ≡ None
-  pub words_are : words ≡ number_text d ++ 32 ∷ line
-
--- the words are no such thing
-abbrev pub IsNoCommand : List ℕ → Type 0
-IsNoCommand words = (d : ℕ) (line : List ℕ) → IsCommand words d line → ⊥
+use Rattle.modem_texts.specs.Words.{IsCommand, number_text}
 
 -- the line submits this: a caller, one blank, and a command on a connection
 pub record Submits (callers : ℕ) (line : List ℕ) (s : Submission) : Type 0 where

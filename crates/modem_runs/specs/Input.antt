@@ -1,20 +1,7 @@
--- The lines of an input.
-use Rattle.std.specs.Prelude.{◌≡◌, ℕ, ◌+◌, ◌==◌, ◌&&◌, Bool, false, List, [], ◌∷◌, ◌++◌, length, if◌then◌else◌}
-use Rattle.std.specs.List.{All, onto_first}
+-- The lines of an input, and which is bad.
+use Rattle.std.specs.Prelude.{◌≡◌, ℕ, ◌+◌, List, ◌∷◌, ◌++◌, length}
+use Rattle.std.specs.List.{All}
 use Rattle.modem_runs.specs.declared.stop.Stop.{Stop}
-
--- LF stands next
-abbrev pub is_at_end : List ℕ → Bool
-is_at_end [] = false
-is_at_end (c ∷ text) = c == 10
-
--- a line ends at LF, or at the end of input; a CR just before the LF isn't part of it
-abbrev pub input_lines : List ℕ → List (List ℕ)
-input_lines [] = []
-input_lines (c ∷ text) =
-    if c == 10 then [] ∷ input_lines text
-    else if c == 13 && is_at_end text then input_lines text
-    else onto_first c (input_lines text)
 
 -- the line at this place, counted from 1, is bad, and none before it is
 pub record IsFirstBad (IsBad : List ℕ → Type 0) (lines : List (List ℕ)) (place : ℕ) : Type 0 where

@@ -10,7 +10,7 @@ use Rattle.modem_desk.specs.declared.request.Outcome.{Outcome}
 use Rattle.modem_sim.specs.declared.script.Script.{Script}
 use Rattle.modem_runs.specs.Bench.{AreSubmitted}
 use Rattle.modem_runs.specs.Dump.{dump_octets}
-use Rattle.modem_runs.specs.Input.{input_lines}
+use Rattle.modem_texts.specs.Input.{input_lines}
 use Rattle.modem_bench.specs.Running.{Ran}
 use Rattle.modem_runs.specs.Script.{IsScript}
 use Rattle.modem_runs.specs.Shown.{outcomes_text}

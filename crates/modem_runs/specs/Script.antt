@@ -1,16 +1,13 @@
 -- The lines of a script.
-use Rattle.std.specs.Prelude.{◌≡◌, ◌≢◌, ℕ, ◌+◌, ◌/◌, ◌%◌, ◌≤◌, nat_lt, List, [], ◌∷◌, ◌++◌, length, None, Ok, codes, if◌then◌else◌}
+use Rattle.std.specs.Prelude.{◌≡◌, ◌≢◌, ℕ, ◌+◌, ◌≤◌, List, [], ◌∷◌, ◌++◌, length, None, Ok, codes}
 use Rattle.hex.specs.Hex.{decode_of}
 use Rattle.at_text.specs.Commands.{refusal_of}
 use Rattle.modem_desk.specs.declared.request.Ask.TheVariants as ask
 use Rattle.modem_driver.specs.declared.event.Event.{Event}
 use Rattle.modem_driver.specs.declared.event.Event.TheVariants as event
+use Rattle.modem_texts.specs.Words.{number_text}
 use Rattle.modem_runs.specs.declared.script.Order.{Order}
 use Rattle.modem_runs.specs.declared.script.Order.TheVariants as order
-
--- a number below 100 in decimal, without leading zeros
-abbrev pub number_text : ℕ → List ℕ
-number_text n = if nat_lt n 10 then (48 + n) ∷ [] else (48 + n / 10) ∷ (48 + n % 10) ∷ []
 
 -- pairs of hexadecimal digits, at least one, are these octets
 abbrev pub ArePairsOf : List ℕ → List ℕ → Type 0

@@ -1,14 +1,7 @@
 -- What `bench` prints.
-use Rattle.std.specs.Prelude.{ℕ, ◌+◌, List, [], ◌∷◌, ◌++◌, codes}
-use Rattle.std.specs.Fmt.{decimal}
-use Rattle.modem_desk.specs.declared.request.Answer.{Answer}
+use Rattle.std.specs.Prelude.{ℕ, ◌+◌, List, [], ◌∷◌, ◌++◌}
 use Rattle.modem_desk.specs.declared.request.Outcome.{Outcome}
-use Rattle.modem_runs.specs.Texts.{answer_text, lines_text}
-
--- what a caller was told of its line at this place
-abbrev pub told_text : ℕ → ℕ → Answer → List ℕ
-told_text caller place a =
-    decimal caller ++ codes " " ++ decimal place ++ codes " " ++ answer_text a ++ codes "\n" ++ lines_text a
+use Rattle.modem_texts.specs.Texts.{told_text}
 
 -- what it was told of its lines from this place on
 abbrev pub told_from : ℕ → ℕ → List Outcome → List ℕ

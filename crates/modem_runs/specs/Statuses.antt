@@ -3,7 +3,7 @@ use Rattle.std.specs.Prelude.{ℕ, List, [], ◌∷◌, ◌++◌, codes}
 use Rattle.std.specs.Fmt.{decimal}
 use Rattle.modem_bench.specs.declared.signals.Fault.{Fault}
 use Rattle.modem_runs.specs.declared.stop.Stop.{Stop}
-use Rattle.modem_runs.specs.declared.stop.Refusal.{Refusal}
+use Rattle.modem_texts.specs.declared.refusal.Refusal.{Refusal}
 
 -- 1 for a fault, 2 for words or a line that are bad.
 abbrev pub status_of : Stop → ℕ

@@ -2,7 +2,8 @@
 use Rattle.std.specs.Prelude.{◌≡◌, ◌≢◌, ◌⊎◌, ◌<◌, ℕ, List, ◌++◌, Option, IfSome}
 use Rattle.std.specs.Io.KnownBytes.{Appends}
 use Rattle.modem_runs.specs.Bench.{IsNoSubmission}
-use Rattle.modem_runs.specs.Input.{IsFirstBad, input_lines}
+use Rattle.modem_texts.specs.Input.{input_lines}
+use Rattle.modem_runs.specs.Input.{IsFirstBad}
 use Rattle.modem_runs.specs.Statuses.{status_of, stop_line}
 use Rattle.modem_runs.specs.declared.stop.Stop.{Stop}
 

@@ -1,5 +1,5 @@
 -- What is printed.
-use Rattle.std.specs.Prelude.{ℕ, ◌&&◌, nat_le, List, [], ◌∷◌, ◌++◌, codes, if◌then◌else◌}
+use Rattle.std.specs.Prelude.{ℕ, List, [], ◌∷◌, ◌++◌, codes}
 use Rattle.std.specs.List.{flat_map}
 use Rattle.std.specs.Int.{from_bool}
 use Rattle.std.specs.Fmt.{decimal}
@@ -7,12 +7,9 @@ use Rattle.hex.specs.Hex.{encode_lower}
 use Rattle.mux_frame.specs.Frames.{Frame}
 use Rattle.mux_frame.specs.Spelling.{spelled}
 use Rattle.mux_frame.specs.declared.frame.Kind.{Kind}
-use Rattle.at_text.specs.declared.answer.AnswerLine.{AnswerLine}
-use Rattle.at_text.specs.declared.unsolicited.UrcKind.{UrcKind}
 use Rattle.modem_desk.specs.declared.request.Ask.{Ask}
 use Rattle.modem_desk.specs.declared.request.Ask.TheVariants as ask
-use Rattle.modem_desk.specs.declared.request.Answer.{Answer}
-use Rattle.modem_desk.specs.declared.request.Answer.TheVariants as answer
+use Rattle.modem_texts.specs.Texts.{answer_text, line_text, lines_text, urc_text}
 use Rattle.modem_history.specs.Acts.{Act}
 
 abbrev pub kind_text : Kind → List ℕ
@@ -41,52 +38,12 @@ rest_text rest = codes "rest " ++ octets_text rest ++ codes "\n"
 abbrev pub frames_text : List Frame → List ℕ → List ℕ
 frames_text frames rest = flat_map frame_text frames ++ rest_text rest
 
--- an octet of a text, as it is if it is 20 to 7E hex
-abbrev pub octet_text : ℕ → List ℕ
-octet_text c = if nat_le 32 c && nat_le c 126 then c ∷ [] else codes "\\x" ++ encode_lower (c ∷ [])
-
-abbrev pub line_text : List ℕ → List ℕ
-line_text line = flat_map octet_text line
-
 abbrev pub ask_text : Ask → List ℕ
 ask_text (ask.OpenChannel d) = codes "open " ++ decimal d.number
 ask_text (ask.CloseChannel d) = codes "close " ++ decimal d.number
 ask_text (ask.Command d line) = codes "cmd " ++ decimal d.number ++ codes " " ++ line_text line
 ask_text (ask.Probe octets) = codes "probe " ++ encode_lower octets
 ask_text ask.Stop = codes "stop"
-
-abbrev pub answer_text : Answer → List ℕ
-answer_text (answer.Done lines) = codes "done"
-answer_text answer.Opened = codes "opened"
-answer_text answer.Shut = codes "shut"
-answer_text answer.ProbeBack = codes "probeback"
-answer_text answer.Stopped = codes "stopped"
-answer_text answer.NotOpen = codes "notopen"
-answer_text answer.AlreadyOpen = codes "alreadyopen"
-answer_text answer.Refused = codes "refused"
-answer_text answer.NoAnswer = codes "noanswer"
-answer_text answer.Closed = codes "closed"
-answer_text answer.ControlChannel = codes "controlchannel"
-answer_text answer.LineLost = codes "linelost"
-answer_text answer.Busy = codes "busy"
-
--- a line of an answer
-abbrev pub answer_line_text : AnswerLine → List ℕ
-answer_line_text l = codes "| " ++ line_text l.text ++ codes "\n"
-
-abbrev pub lines_text : Answer → List ℕ
-lines_text (answer.Done lines) = flat_map answer_line_text lines
-lines_text _ = []
-
-abbrev pub urc_text : UrcKind → List ℕ
-urc_text UrcKind.Ring = codes "RING"
-urc_text UrcKind.Cring = codes "CRING"
-urc_text UrcKind.Creg = codes "CREG"
-urc_text UrcKind.Cgreg = codes "CGREG"
-urc_text UrcKind.Cgev = codes "CGEV"
-urc_text UrcKind.Ciev = codes "CIEV"
-urc_text UrcKind.Other = codes "OTHER"
-urc_text (UrcKind.Own number) = codes "OWN"
 
 -- an act; `Given` isn't one
 abbrev pub act_text : Act → List ℕ

@@ -2,7 +2,8 @@
 ghost use Rattle.std.specs.Prelude.{◌≡◌, ◌≢◌, ℕ, ◌≤◌, ◌<◌, ◌⊎◌, Err, IfOk, IfSome, IsErrOf, false, true};
 ghost use Rattle.std.specs.String.{string_bytes};
 ghost use Rattle.modem_runs.specs.Bench.{IsNoSubmission};
-ghost use Rattle.modem_runs.specs.Input.{HasBad, IsFirstBad, input_lines};
+ghost use Rattle.modem_texts.specs.Input.{input_lines};
+ghost use Rattle.modem_runs.specs.Input.{HasBad, IsFirstBad};
 ghost use Rattle.modem_runs.specs.Printed.{IsBenched, IsNoBench, IsPrinted};
 ghost use Rattle.modem_runs.specs.Stopping.{HasGivenUp, HasStopped, IsBenchStop};
 ghost use Rattle.modem_runs.specs.declared.stop.Stop.TheVariants as Stop;

@@ -3,11 +3,12 @@ ghost use Rattle.std.specs.Prelude.{◌≡◌, ◌<◌, Some, length, MatchResul
 ghost use Rattle.std.specs.Result.{result_ok};
 ghost use Rattle.hex.specs.Hex.{decode_of};
 ghost use Rattle.modem_runs.specs.Dump.{IsNoDump, dump_octets, joined, line_octets};
-ghost use Rattle.modem_runs.specs.Input.{IsReason, input_lines};
-ghost use Rattle.modem_runs.specs.declared.stop.Refusal.TheVariants as Refusal;
+ghost use Rattle.modem_texts.specs.Input.{input_lines};
+ghost use Rattle.modem_runs.specs.Input.{IsReason};
+ghost use Rattle.modem_texts.specs.declared.refusal.Refusal.TheVariants as Refusal;
 
-use crate::input::{next_line, split_once};
-use crate::stop::{Refusal, Stop};
+use crate::stop::Stop;
+use modem_texts::{Refusal, next_line, split_once};
 use std::alloc::Global;
 
 /// What stands before the first blank of a line that isn't empty, and what behind it.
@@ -48,7 +49,7 @@ pub fn read_dump(alloc: Global, dump: &[u8]) -> Result<Vec<u8>, Stop>
         left = rest;
         place += 1;
         if let Err(refusal) = push_pairs(alloc, line, &mut octets) {
-            return Err(refusal.at_line(place));
+            return Err(Stop::at_line(place, refusal));
         }
     }
     Ok(octets)

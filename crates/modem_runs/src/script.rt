@@ -1,15 +1,16 @@
 //! The script that `replay` reads: a line for each event.
-ghost use Rattle.std.specs.Prelude.{◌≡◌, ◌≢◌, ℕ, ◌<◌, ◌≤◌, ◌++◌, List, length, MatchOption, MatchResult, codes};
-ghost use Rattle.modem_runs.specs.Input.{IsReason, input_lines};
-ghost use Rattle.modem_runs.specs.Script.{ArePairsOf, IsNoOrder, IsNoWord, IsScript, Says, SaysNothing, number_text};
-ghost use Rattle.modem_runs.specs.declared.stop.Refusal.TheVariants as Refusal;
+ghost use Rattle.std.specs.Prelude.{◌≡◌, ℕ, ◌≤◌, ◌++◌, List, length, MatchOption, MatchResult, codes};
+ghost use Rattle.modem_texts.specs.Input.{input_lines};
+ghost use Rattle.modem_runs.specs.Input.{IsReason};
+ghost use Rattle.modem_runs.specs.Script.{ArePairsOf, IsNoOrder, IsNoWord, IsScript, Says, SaysNothing};
+ghost use Rattle.modem_texts.specs.declared.refusal.Refusal.TheVariants as Refusal;
 
-use crate::input::{next_line, split_once};
-use crate::stop::{Refusal, Stop};
+use crate::stop::Stop;
 use at_text::CommandLine;
 use modem_desk::{Ask, Request};
 use modem_driver::{Event, Octets};
-use mux_frame::{Dlci, ProbeData};
+use modem_texts::{Refusal, connection_of, next_line, split_once};
+use mux_frame::ProbeData;
 use std::alloc::Global;
 
 /// What a line says.
@@ -19,30 +20,6 @@ enum Order {
     Octets(Octets),
     Tick,
     Lost,
-}
-
-/// The number of a connection in decimal without leading zeros: 0 to 61.
-fn dlci_of(word: &[u8]) -> Option<Dlci>
-    ensures { MatchOption result ((n : ℕ) → n < 62 → word.now ≢ number_text n)
-        (λ dlci. word.now ≡ number_text dlci.number) }
-{
-    let number = match word {
-        [ones] if ones.is_ascii_digit() => *ones - b'0',
-        [tens, ones] if *tens != b'0' && tens.is_ascii_digit() && ones.is_ascii_digit() => {
-            10 * (*tens - b'0') + (*ones - b'0')
-        }
-        _ => return None,
-    };
-    Dlci::new(number)
-}
-
-/// The same, and every other word is refused.
-pub fn connection_of(word: &[u8]) -> Result<Dlci, Refusal>
-    ensures { MatchResult result
-        (λ dlci. word.now ≡ number_text dlci.number)
-        (λ why. (why ≡ Refusal.Bad) × ((n : ℕ) → n < 62 → word.now ≢ number_text n)) }
-{
-    dlci_of(word).ok_or(Refusal::Bad)
 }
 
 /// Pairs of hexadecimal digits, at least one.
@@ -143,7 +120,7 @@ pub fn read_script(alloc: Global, script: &[u8]) -> Result<Vec<Event>, Stop>
                     ask,
                 }))?;
             }
-            Err(refusal) => return Err(refusal.at_line(place)),
+            Err(refusal) => return Err(Stop::at_line(place, refusal)),
         }
     }
     Ok(events)

@@ -1,13 +1,9 @@
 //! Why a run ends without its output.
-ghost use Rattle.std.specs.Prelude.{◌≡◌, ◌↔◌};
-ghost use Rattle.hex.specs.declared.error.FromHexError.TheVariants.{OutOfMemory};
-ghost use Rattle.at_text.specs.declared.error.TextError.TheVariants as TextError;
+ghost use Rattle.std.specs.Prelude.{◌≡◌};
 ghost use Rattle.modem_runs.specs.Statuses.{status_of, stop_at, stop_words};
 ghost use Rattle.modem_runs.specs.declared.stop.Stop.TheVariants.{NoMemory};
-ghost use Rattle.modem_runs.specs.declared.stop.Refusal.TheVariants as Refused;
 
-use at_text::TextError;
-use hex::FromHexError;
+use modem_texts::Refusal;
 use std::alloc::{AllocError, AllocFailed};
 use std::{error, fmt};
 
@@ -61,6 +57,16 @@ impl Stop {
             Stop::BadLine(_) => "bad line ",
         }
     }
+
+    /// The end of a run at this line, counted from 1, where it isn't read.
+    pub fn at_line(place: u64, refusal: Refusal) -> Stop
+        ensures { result ≡ stop_at place refusal }
+    {
+        match refusal {
+            Refusal::Bad => Stop::BadLine(place),
+            Refusal::NoMemory => Stop::NoMemory,
+        }
+    }
 }
 
 impl fmt::Display for Stop {
@@ -93,64 +99,5 @@ impl<T: Drop> From<AllocFailed<T>> for Stop {
 
     fn from(_error: AllocFailed<T>) -> Stop {
         Stop::NoMemory
-    }
-}
-
-/// Why a line of the input isn't read.
-#[derive(Clone, Copy, PartialEq, Eq, Debug)]
-pub enum Refusal {
-    /// It is bad.
-    Bad,
-    /// A growth was refused.
-    NoMemory,
-}
-
-impl Refusal {
-    /// The end of a run at this line, counted from 1.
-    pub fn at_line(self, place: u64) -> Stop
-        ensures { result ≡ stop_at place self }
-    {
-        match self {
-            Refusal::Bad => Stop::BadLine(place),
-            Refusal::NoMemory => Stop::NoMemory,
-        }
-    }
-}
-
-impl From<AllocError> for Refusal {
-    ghost from_gives = { λ _ refusal. refusal ≡ Refused.NoMemory };
-
-    fn from(_error: AllocError) -> Refusal {
-        Refusal::NoMemory
-    }
-}
-
-impl<T: Drop> From<AllocFailed<T>> for Refusal {
-    ghost from_gives = { λ _ refusal. refusal ≡ Refused.NoMemory };
-
-    fn from(_error: AllocFailed<T>) -> Refusal {
-        Refusal::NoMemory
-    }
-}
-
-impl From<FromHexError> for Refusal {
-    ghost from_gives = { λ error refusal. (refusal ≡ Refused.NoMemory) ↔ (error ≡ OutOfMemory) };
-
-    fn from(error: FromHexError) -> Refusal {
-        match error {
-            FromHexError::OutOfMemory => Refusal::NoMemory,
-            _ => Refusal::Bad,
-        }
-    }
-}
-
-impl From<TextError> for Refusal {
-    ghost from_gives = { λ error refusal. (refusal ≡ Refused.NoMemory) ↔ (error ≡ TextError.NoMemory) };
-
-    fn from(error: TextError) -> Refusal {
-        match error {
-            TextError::NoMemory => Refusal::NoMemory,
-            _ => Refusal::Bad,
-        }
     }
 }

@@ -1,16 +1,15 @@
 //! Acts and frames as text.
 ghost use Rattle.std.specs.Prelude.{◌≡◌, ◌++◌, map, IfOk, OnOk};
-ghost use Rattle.std.specs.List.{flat_map};
 ghost use Rattle.std.specs.String.{string_bytes};
 ghost use Rattle.hex.specs.Hex.{encode_lower};
 ghost use Rattle.mux_frame.specs.Frames.{frame_of, kept_frame};
 ghost use Rattle.mux_frame.specs.Spelling.{spelled};
 ghost use Rattle.modem_history.specs.Acts.{Act as DriverAct, act_of};
-ghost use Rattle.modem_runs.specs.Texts.{act_text, acts_text, answer_line_text, answer_text, ask_text, frame_text, frames_text, kind_text, line_text, octets_text, rest_text, urc_text};
+ghost use Rattle.modem_runs.specs.Texts.{act_text, acts_text, ask_text, frame_text, frames_text, kind_text, octets_text, rest_text};
 
-use at_text::{AnswerLine, UrcKind};
-use modem_desk::{Answer, Ask, Outcome, Request, Urc};
+use modem_desk::{Answer, Ask, Outcome, Request};
 use modem_driver::Act;
+use modem_texts::{answer_word, push_heard, push_line, push_lines};
 use mux_frame::{FrameBuf, FrameView, Kind, write_frame};
 use std::alloc::{AllocError, Global};
 use std::fmt::Write;
@@ -30,22 +29,6 @@ fn push_octets_or_dash(alloc: Global, octets: &[u8], text: &mut String) -> Resul
         return text.push_str("-");
     }
     push_octets(alloc, octets, text)
-}
-
-/// Octets as text, those outside 20 to 7E hex as `\x` and two digits.
-fn push_line(alloc: Global, line: &[u8], text: &mut String) -> Result<(), AllocError>
-    ensures { OnOk result (string_bytes text.new ≡ string_bytes text.old ++ line_text line.now) }
-{
-    for octet in line {
-        let octet = *octet;
-        if (0x20..=0x7E).contains(&octet) {
-            text.push(char::from(octet))?;
-        } else {
-            text.push_str("\\x")?;
-            push_octets(alloc, &[octet], text)?;
-        }
-    }
-    Ok(())
 }
 
 fn kind_word(kind: Kind) -> &'static str
@@ -141,39 +124,6 @@ fn push_request(alloc: Global, request: &Request, text: &mut String) -> Result<(
     text.push_str("\n")
 }
 
-pub fn answer_word(answer: &Answer) -> &'static str
-    ensures { result.now ≡ answer_text answer.now }
-{
-    match answer {
-        Answer::Done(_) => "done",
-        Answer::Opened => "opened",
-        Answer::Shut => "shut",
-        Answer::ProbeBack => "probeback",
-        Answer::Stopped => "stopped",
-        Answer::NotOpen => "notopen",
-        Answer::AlreadyOpen => "alreadyopen",
-        Answer::Refused => "refused",
-        Answer::NoAnswer => "noanswer",
-        Answer::Closed => "closed",
-        Answer::ControlChannel => "controlchannel",
-        Answer::LineLost => "linelost",
-        Answer::Busy => "busy",
-    }
-}
-
-/// The lines of an answer.
-pub fn push_lines(alloc: Global, lines: &[AnswerLine], text: &mut String) -> Result<(), AllocError>
-    ensures { OnOk result
-        (string_bytes text.new ≡ string_bytes text.old ++ flat_map answer_line_text lines.now) }
-{
-    for line in lines {
-        text.push_str("| ")?;
-        push_line(alloc, line.text.as_slice(), text)?;
-        text.push_str("\n")?;
-    }
-    Ok(())
-}
-
 fn push_outcome(alloc: Global, outcome: &Outcome, text: &mut String) -> Result<(), AllocError>
     ensures { OnOk result
         (string_bytes text.new ≡ string_bytes text.old ++ act_text (DriverAct.Told outcome.now)) }
@@ -185,33 +135,6 @@ fn push_outcome(alloc: Global, outcome: &Outcome, text: &mut String) -> Result<(
         Answer::Done(lines) => push_lines(alloc, lines.as_slice(), text),
         _ => Ok(()),
     }
-}
-
-fn urc_word(kind: UrcKind) -> &'static str
-    ensures { result.now ≡ urc_text kind }
-{
-    match kind {
-        UrcKind::Ring => "RING",
-        UrcKind::Cring => "CRING",
-        UrcKind::Creg => "CREG",
-        UrcKind::Cgreg => "CGREG",
-        UrcKind::Cgev => "CGEV",
-        UrcKind::Ciev => "CIEV",
-        UrcKind::Other => "OTHER",
-        UrcKind::Own(_) => "OWN",
-    }
-}
-
-fn push_urc(alloc: Global, urc: &Urc, text: &mut String) -> Result<(), AllocError>
-    ensures { OnOk result
-        (string_bytes text.new
-        ≡ string_bytes text.old ++ act_text (DriverAct.Heard urc.now.kind urc.now.dlci.number urc.now.line)) }
-{
-    let kind = urc_word(urc.kind);
-    let dlci = urc.dlci.number();
-    write!(text, "heard {kind} {dlci} ")?;
-    push_line(alloc, urc.line.as_slice(), text)?;
-    text.push_str("\n")
 }
 
 /// An act, with its line end.
@@ -230,7 +153,7 @@ pub fn push_act(alloc: Global, act: &Act, text: &mut String) -> Result<(), Alloc
             text.push_str("\n")
         }
         Act::Told(outcome) => push_outcome(alloc, outcome, text),
-        Act::Heard(urc) => push_urc(alloc, urc, text),
+        Act::Heard(urc) => push_heard(alloc, urc, text),
         Act::Tick => text.push_str("tick\n"),
         Act::Lost => text.push_str("lost\n"),
         Act::Held(dlci) => {

@@ -11,8 +11,8 @@ use Rattle.hex.specs.Hex.{decode_of, decode_pairs, digit_or_error, hex_digit_val
 use Rattle.hex.specs.declared.error.FromHexError.{FromHexError}
 use Rattle.hex.specs.declared.error.FromHexError.TheVariants.{OddLength}
 use Rattle.modem_runs.specs.Dump.{IsNoDump, dump_octets, joined, line_octets, octet_of}
-use Rattle.modem_runs.specs.Input.{input_lines}
-use Rattle.modem_runs.proofs.inputs.CutTexts.{IsCutAt, lacks_head, lacks_tail}
+use Rattle.modem_texts.specs.Input.{input_lines}
+use Rattle.modem_texts.proofs.CutTexts.{IsCutAt, lacks_head, lacks_tail}
 use Rattle.modem_runs.proofs.inputs.ReadLines.{IsRead, read_more}
 
 pub joined_nil : (o : Option (List ℕ)) → joined (Some []) o ≡ o

@@ -2,9 +2,10 @@
 use Rattle.std.specs.Prelude.{◌≡◌, ℕ, ◌+◌, ◌<◌, ◌≤◌, List, [], ◌∷◌, length, refl}
 use Rattle.std.proofs.Common.{ap, arith}
 use Rattle.std.proofs.lemmas.List.Elements.{All-nil, All-cons}
-use Rattle.modem_runs.specs.Input.{IsFirstBad, IsReason, input_lines}
+use Rattle.modem_texts.specs.Input.{input_lines}
+use Rattle.modem_runs.specs.Input.{IsFirstBad, IsReason}
 use Rattle.modem_runs.specs.Statuses.{stop_at}
-use Rattle.modem_runs.specs.declared.stop.Refusal.{Refusal}
+use Rattle.modem_texts.specs.declared.refusal.Refusal.{Refusal}
 
 -- so many lines are read, none of them bad, and this is left
 pub record IsRead (IsBad : List ℕ → Type 0) (text left : List ℕ) (place : ℕ) : Type 0 where

@@ -5,8 +5,9 @@ use Rattle.std.specs.Str.Iter.{LacksByte}
 use Rattle.at_text.specs.Commands.{refusal_of}
 use Rattle.modem_desk.specs.declared.request.Ask.TheVariants as ask
 use Rattle.modem_runs.specs.declared.script.Order.TheVariants as order
-use Rattle.modem_runs.specs.Script.{SaysNothing, number_text}
-use Rattle.modem_runs.proofs.inputs.CutTexts.{lacks_cons, lacks_head, lacks_nil, lacks_tail}
+use Rattle.modem_texts.specs.Words.{number_text}
+use Rattle.modem_runs.specs.Script.{SaysNothing}
+use Rattle.modem_texts.proofs.CommandWords.{lacks_middle, lacks_number, same_front}
 
 abbrev head_of : List ℕ → ℕ
 head_of [] = 0
@@ -14,35 +15,6 @@ head_of (c ∷ text) = c
 
 abbrev second_of : List ℕ → ℕ
 second_of text = head_of (drop 1 text)
-
-heads : (c d : ℕ) (xs ys : List ℕ) → c ∷ xs ≡ d ∷ ys → c ≡ d
-heads c d xs ys e = cc
-
-tails : (c d : ℕ) (xs ys : List ℕ) → c ∷ xs ≡ d ∷ ys → xs ≡ ys
-tails c d xs ys e = cc
-
--- Numbers.
-
-pub lacks_number : (b : Bool) (n : ℕ) → LacksByte 32 (if b then (48 + n) ∷ [] else (48 + n / 10) ∷ (48 + n % 10) ∷ [])
-lacks_number true n = lacks_cons 32 (48 + n) [] (λ e. omega (arith, e)) (lacks_nil 32)
-lacks_number false n =
-    lacks_cons 32 (48 + n / 10) ((48 + n % 10) ∷ []) (λ e. omega (arith, e))
-    (lacks_cons 32 (48 + n % 10) [] (λ e. omega (arith, e)) (lacks_nil 32))
-
--- Cuts at the first blank.
-
-pub lacks_middle : (c : ℕ) (f t : List ℕ) → LacksByte c (f ++ c ∷ t) → ⊥
-lacks_middle c [] t h = h 0 (omega arith) refl
-lacks_middle c (x ∷ f) t h = lacks_middle c f t (lacks_tail c x (f ++ c ∷ t) h)
-
-pub same_front : (c : ℕ) (f g t u : List ℕ) → LacksByte c f → LacksByte c g → f ++ c ∷ t ≡ g ++ c ∷ u → (f ≡ g) × (t ≡ u)
-same_front c [] [] t u h i e = (refl, tails c c t u e)
-same_front c [] (y ∷ g) t u h i e = absurd (lacks_head c y g i (sym (heads c y t (g ++ c ∷ u) e)))
-same_front c (x ∷ f) [] t u h i e = absurd (lacks_head c x f h (heads x c (f ++ c ∷ t) u e))
-same_front c (x ∷ f) (y ∷ g) t u h i e =
-    let later = same_front c f g t u (lacks_tail c x f h) (lacks_tail c y g i) (tails x y (f ++ c ∷ t) (g ++ c ∷ u) e) in
-    let first : x ≡ y = heads x y (f ++ c ∷ t) (g ++ c ∷ u) e in
-    (rw (first, later.0) refl, later.1)
 
 -- words after `cmd` that are no connection, blank and command line
 abbrev AreNoCommand : List ℕ → Type 0

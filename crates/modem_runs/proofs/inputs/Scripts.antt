@@ -7,7 +7,7 @@ use Rattle.modem_desk.specs.declared.request.Request.{Request}
 use Rattle.modem_driver.specs.declared.event.Event.{Event}
 use Rattle.modem_driver.specs.declared.event.Event.TheVariants as event
 use Rattle.modem_runs.specs.declared.script.Order.TheVariants as order
-use Rattle.modem_runs.specs.Input.{input_lines}
+use Rattle.modem_texts.specs.Input.{input_lines}
 use Rattle.modem_runs.specs.Script.{IsNoOrder, IsScript, Says}
 use Rattle.modem_runs.proofs.inputs.ReadLines.{IsRead, read_more}
 

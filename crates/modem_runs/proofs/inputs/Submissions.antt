@@ -5,10 +5,10 @@ use Rattle.std.proofs.Common.{sym, ap, ◌∙◌}
 use Rattle.std.proofs.lemmas.List.{append_assoc, append-nil}
 use Rattle.at_text.specs.Commands.{refusal_of}
 use Rattle.modem_bench.specs.declared.submission.Submission.{Submission}
-use Rattle.modem_runs.specs.Bench.{AreSubmitted, IsNoCommand, IsNoSubmission, Submits, SubmitsNothing}
-use Rattle.modem_runs.specs.Input.{input_lines}
-use Rattle.modem_runs.specs.Script.{number_text}
-use Rattle.modem_runs.proofs.inputs.ScriptLines.{lacks_middle, lacks_number, same_front}
+use Rattle.modem_texts.specs.Words.{IsNoCommand, number_text}
+use Rattle.modem_runs.specs.Bench.{AreSubmitted, IsNoSubmission, Submits, SubmitsNothing}
+use Rattle.modem_texts.specs.Input.{input_lines}
+use Rattle.modem_texts.proofs.CommandWords.{lacks_middle, lacks_number, same_front}
 use Rattle.modem_runs.proofs.inputs.ReadLines.{IsRead, read_more}
 
 -- so many lines are read, and what they submit
@@ -42,21 +42,6 @@ submitted_next callers input left line rest all later place s h e l f says n = r
 }
 
 -- Lines that submit nothing.
-
-pub no_blank : (words : List ℕ) → LacksByte 32 words → IsNoCommand words
-no_blank words h d line c = lacks_middle 32 (number_text d) line (rw (sym c.words_are) h)
-
--- the word before the blank is no connection that carries commands
-pub no_carrier : (words word text : List ℕ) → LacksByte 32 word → words ≡ word ++ 32 ∷ text → ((n : ℕ) → 1 ≤ n → n < 62 → word ≢ number_text n) → IsNoCommand words
-no_carrier words word text h w unknown d line c =
-    let same = same_front 32 word (number_text d) text line h (lacks_number (nat_lt d 10) d) (sym w ∙ c.words_are) in
-    unknown d c.carries c.known same.0
-
--- what follows it is no command line
-pub no_line_there : (words word text : List ℕ) → LacksByte 32 word → words ≡ word ++ 32 ∷ text → refusal_of text ≢ None → IsNoCommand words
-no_line_there words word text h w refused d line c =
-    let same = same_front 32 word (number_text d) text line h (lacks_number (nat_lt d 10) d) (sym w ∙ c.words_are) in
-    refused (ap refusal_of same.1 ∙ c.is_line)
 
 pub no_first_blank : (callers : ℕ) (line : List ℕ) → LacksByte 32 line → SubmitsNothing callers line
 no_first_blank callers line h s c = lacks_middle 32 (number_text s.caller) c.words (rw (sym c.line_is) h)

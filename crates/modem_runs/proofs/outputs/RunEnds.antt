@@ -3,7 +3,8 @@ use Rattle.std.specs.Prelude.{◌≡◌, ◌≢◌, ℕ, ◌≤◌, List, Option
 use Rattle.std.proofs.Common.{arith, subst, ◌∙◌}
 use Rattle.std.specs.Io.KnownBytes.{Appends}
 use Rattle.modem_runs.specs.Printed.{IsPrinted}
-use Rattle.modem_runs.specs.Input.{HasBad, IsFirstBad, input_lines}
+use Rattle.modem_texts.specs.Input.{input_lines}
+use Rattle.modem_runs.specs.Input.{HasBad, IsFirstBad}
 use Rattle.modem_runs.specs.Statuses.{status_of}
 use Rattle.modem_runs.specs.declared.stop.Stop.{Stop}
 

@@ -6,7 +6,8 @@ use Rattle.std.proofs.Math.Seq.{take-suc}
 use Rattle.std.specs.declared.vec.Vec.{Vec}
 use Rattle.std.specs.declared.alloc.Global.{Global}
 use Rattle.modem_desk.specs.declared.request.Outcome.{Outcome}
-use Rattle.modem_runs.specs.Shown.{callers_from, told_from, told_text}
+use Rattle.modem_texts.specs.Texts.{told_text}
+use Rattle.modem_runs.specs.Shown.{callers_from, told_from}
 
 pub told_more : (caller place : ℕ) (outcomes : List Outcome) (o : Outcome) → told_from caller place (outcomes ++ o ∷ []) ≡ told_from caller place outcomes ++ told_text caller (place + length outcomes) o.answer
 told_more caller place [] o = let e : place + 0 ≡ place = omega arith in rw e (append-nil (told_text caller place o.answer))

@@ -1,31 +1,11 @@
 //! What the callers of a bench were told, as text.
 ghost use Rattle.std.specs.Prelude.{◌≡◌, ◌++◌, ◌≤◌, IfOk, OnOk, length, map, vec_items};
 ghost use Rattle.std.specs.String.{string_bytes};
-ghost use Rattle.modem_runs.specs.Shown.{outcomes_text, told_from, told_text};
+ghost use Rattle.modem_runs.specs.Shown.{outcomes_text, told_from};
 
-use crate::texts::{answer_word, push_lines};
-use modem_desk::{Answer, Outcome};
+use modem_desk::Outcome;
+use modem_texts::push_told;
 use std::alloc::{AllocError, Global};
-use std::fmt::Write;
-
-/// What a caller was told of its line at this place.
-fn push_told(
-    alloc: Global,
-    caller: u8,
-    place: u64,
-    answer: &Answer,
-    text: &mut String,
-) -> Result<(), AllocError>
-    ensures { OnOk result
-        (string_bytes text.new ≡ string_bytes text.old ++ told_text caller place answer.now) }
-{
-    let word = answer_word(answer);
-    writeln!(text, "{caller} {place} {word}")?;
-    match answer {
-        Answer::Done(lines) => push_lines(alloc, lines.as_slice(), text),
-        _ => Ok(()),
-    }
-}
 
 /// What a caller was told, line by line.
 fn push_caller(

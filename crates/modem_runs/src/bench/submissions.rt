@@ -1,16 +1,14 @@
 //! The input of a bench: a line for each command.
 ghost use Rattle.std.specs.Prelude.{◌≡◌, ◌≢◌, ℕ, ◌<◌, ◌≤◌, MatchResult};
-ghost use Rattle.modem_runs.specs.Bench.{AreSubmitted, IsCommand, IsNoCommand, IsNoSubmission, Submits, SubmitsNothing};
-ghost use Rattle.modem_runs.specs.Input.{IsReason, input_lines};
-ghost use Rattle.modem_runs.specs.Script.{number_text};
-ghost use Rattle.modem_runs.specs.declared.stop.Refusal.TheVariants as Refusal;
+ghost use Rattle.modem_texts.specs.Words.{number_text};
+ghost use Rattle.modem_runs.specs.Bench.{AreSubmitted, IsNoSubmission, Submits, SubmitsNothing};
+ghost use Rattle.modem_texts.specs.Input.{input_lines};
+ghost use Rattle.modem_runs.specs.Input.{IsReason};
+ghost use Rattle.modem_texts.specs.declared.refusal.Refusal.TheVariants as Refusal;
 
-use crate::input::{next_line, split_once};
-use crate::script::connection_of;
-use crate::stop::{Refusal, Stop};
-use at_text::CommandLine;
+use crate::stop::Stop;
 use modem_bench::Submission;
-use mux_frame::Dlci;
+use modem_texts::{Refusal, command_of, next_line, split_once};
 use std::alloc::Global;
 
 /// The number of a caller in decimal: below the number of callers.
@@ -24,32 +22,6 @@ fn caller_of(callers: u8, word: &[u8]) -> Result<u8, Refusal>
         [digit] if digit.is_ascii_digit() && *digit - b'0' < callers => Ok(*digit - b'0'),
         _ => Err(Refusal::Bad),
     }
-}
-
-/// The number of a connection that carries commands: 1 to 61.
-fn carrier_of(word: &[u8]) -> Result<Dlci, Refusal>
-    ensures { MatchResult result
-        (λ dlci. (1 ≤ dlci.number) × (word.now ≡ number_text dlci.number))
-        (λ why. (why ≡ Refusal.Bad) × ((n : ℕ) → 1 ≤ n → n < 62 → word.now ≢ number_text n)) }
-{
-    let dlci = connection_of(word)?;
-    if dlci.number() == 0 {
-        return Err(Refusal::Bad);
-    }
-    Ok(dlci)
-}
-
-/// The words behind the caller: a connection, one blank and a command line.
-fn command_of(alloc: Global, words: &[u8]) -> Result<(Dlci, CommandLine), Refusal>
-    ensures { MatchResult result (λ r. IsCommand words.now r.0.number r.1)
-        (λ why. why ≡ Refusal.Bad → IsNoCommand words.now) }
-{
-    let Some((word, text)) = split_once(words, b' ') else {
-        return Err(Refusal::Bad);
-    };
-    let dlci = carrier_of(word)?;
-    let line = CommandLine::new(alloc, text)?;
-    Ok((dlci, line))
 }
 
 /// A line that isn't empty.
@@ -83,7 +55,7 @@ pub fn read_submissions(alloc: Global, callers: u8, input: &[u8]) -> Result<Vec<
         }
         match submission_of(alloc, callers, line) {
             Ok(submission) => all.push(submission)?,
-            Err(refusal) => return Err(refusal.at_line(place)),
+            Err(refusal) => return Err(Stop::at_line(place, refusal)),
         }
     }
     Ok(all)

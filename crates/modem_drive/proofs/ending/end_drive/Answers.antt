@@ -42,8 +42,11 @@ settle_all-requires-clause-subscribed g c =
     }) in
     still_subscribed c.args.session.driver.desk c.in_ok-driver.driver.desk c.args.users c.in_ok-driver.users same.0 same.1 c.requires.subscribed
 
-pub returns : goal.returns
-returns g c =
+pub returns-clause-same : goal.returns-clause-same
+returns-clause-same g c = c.turn_away-turned.ensures.same
+
+pub returns-clause-ends : goal.returns-clause-ends
+returns-clause-ends g c =
     let left = c.finish-line.result in
     ends_drive (line_by g.L.SerialLine.received g.L.SerialLine.sent g.L.SerialLine.calls g.L.SerialLine.failures g.L.SerialLine.empty_reads g.L.SerialLine.stalled_writes) c.args.session c.args.users c.in_ok-offline.users c.turn_away-turned.new.users c.in_ok-driver.users left.driver c.in_ok-offline.driver c.turn_away-turned.new.driver c.in_ok-driver.driver
     (record {
@@ -68,4 +71,5 @@ returns g c =
     c.finish-line.ensures.left refl
     (known_ok (λ (o : Offline). o ≡ offline_from left.in_hand.items left.unplaced.items left.unannounced.items) c.make_offline-offline.result c.in_ok-offline.offline c.in_ok-offline.ensures.made c.make_offline-offline.ensures)
     (known_done (c.turn_away-turned.new.users.under_way.items ≡ []) c.turn_away-turned.result c.in_ok-driver.field-0-0 c.in_ok-driver.ensures.made c.turn_away-turned.ensures.none)
+    (known_done (c.turn_away-turned.new.users.lines.submitted ≡ c.in_ok-offline.users.lines.submitted) c.turn_away-turned.result c.in_ok-driver.field-0-0 c.in_ok-driver.ensures.made c.turn_away-turned.ensures.submits_none)
     c.settle_all.ensures

@@ -20,3 +20,4 @@ returns g c =
     (subst (λ (u : Users). IsWhole d.desk (map place_of (u.lines ∷ u.control ∷ []))) (sym kept) c.in_ok-driver.ensures.whole)
     (subst (λ (u : Users). AreSubscribed d.desk (map subscription_of u.listeners.items)) (sym kept) c.in_ok-driver.ensures.subscribed)
     (subst (λ (u : Users). (out : Option (List ℕ)) → HasShown out out u) (sym kept) c.in_ok-driver.ensures.shown)
+    (subst (λ (u : Users). u.lines.submitted ≡ []) (sym kept) c.in_ok-driver.ensures.none_asked)

@@ -1,7 +1,7 @@
 -- The users of a desk that is opened.
 use Rattle.std.specs.Prelude.{refl, replicate}
 use Rattle.modem_drive.specs.declared.users.Users.{Users}
-use Rattle.modem_drive.proofs.Begins.{AreUsers, both_are, new_desk, new_users, subscribed_users, whole_users}
+use Rattle.modem_drive.proofs.Begins.{AreUsers, both_are, new_desk, new_users, none_submitted, subscribed_users, whole_users}
 use Rattle.modem_drive.proofs.running.open_desk.Goals as goal
 
 pub returns : goal.returns
@@ -31,4 +31,5 @@ returns c =
       whole = whole_users _ c.in-Ok.driver c.in-Ok.callers.items c.in-Ok.listeners.items users are;
       subscribed = subscribed_users _ c.in-Ok.driver c.in-Ok.callers.items c.in-Ok.listeners.items users are;
       shown = new_users _ c.in-Ok.driver c.in-Ok.callers.items c.in-Ok.listeners.items users are;
+      none_asked = none_submitted _ c.in-Ok.driver c.in-Ok.callers.items c.in-Ok.listeners.items users are;
     }

@@ -1,7 +1,7 @@
 use Rattle.std.specs.Prelude.{map}
 use Rattle.std.specs.String.{string_bytes}
 use Rattle.modem_history.specs.Acts.{act_of}
-use Rattle.modem_runs.specs.Input.{input_lines}
+use Rattle.modem_texts.specs.Input.{input_lines}
 use Rattle.modem_runs.specs.Printed.{IsReplayed}
 use Rattle.modem_runs.proofs.outputs.RunEnds.{at_known}
 use Rattle.modem_runs.proofs.inputs.RequestNumbers.{script_once}

@@ -1,7 +1,14 @@
 -- What was asked so far.
 use Rattle.std.specs.Prelude.{ℕ, List, Option}
+use Rattle.modem_drive.specs.Asking.{AsksOn}
 use Rattle.modem_drive.specs.Showing.{GoOn}
 use Rattle.modem_drive.proofs.plan.Plan.go_on.Given as goal
 
+pub record Asked (A B : Type 0) : Type 0 where
+  pub goes : A
+  pub asks : B
+
 abbrev pub invariant-loop : goal.invariant-loop
-invariant-loop g l = (out : Option (List ℕ)) → GoOn out out l.initial.users l.users
+invariant-loop g l =
+    Asked ((out : Option (List ℕ)) → GoOn out out l.initial.users l.users)
+    (AsksOn l.initial.self l.self l.initial.users.lines.submitted l.users.lines.submitted)

@@ -4,8 +4,11 @@ use Rattle.modem_drive.specs.declared.users.Users.{Users}
 use Rattle.modem_drive.proofs.Lines.{tells}
 use Rattle.modem_drive.proofs.users.Users.show_outcome.Goals as goal
 
-pub returns : goal.returns
-returns g c =
+pub returns-clause-submits_none : goal.returns-clause-submits_none
+returns-clause-submits_none g c = ap (λ (u : Users). u.lines.submitted) c.in_ok-line.ensures.stays ∙ c.in-Some.ensures.place.1
+
+pub returns-clause-goes : goal.returns-clause-goes
+returns-clause-goes g c =
     let h = c.in_ok-line.ensures in
     tells _ _ c.args.self.now c.settle_line.new.self c.in-Some.outcome c.in_ok-line.line
     (record {

@@ -3,31 +3,35 @@ use Rattle.std.specs.Prelude.{◌≡◌, ℕ, ◌+◌, List, [], ◌∷◌, ◌+
 use Rattle.std.proofs.Common.{ap, arith, ◌∙◌}
 use Rattle.modem_desk.specs.declared.request.Ask.TheVariants as ask
 use Rattle.modem_drive.specs.declared.users.UnderWay.{UnderWay}
+use Rattle.modem_drive.proofs.Asks.{asks_more}
 use Rattle.modem_drive.proofs.Lines.{submits}
 use Rattle.modem_drive.proofs.users.Users.submit.Goals as goal
 
-pub returns-in-Ok : goal.returns-in-Ok
-returns-in-Ok g c =
+pub returns-in-Ok-clause-goes : goal.returns-in-Ok-clause-goes
+returns-in-Ok-clause-goes g c =
     let line : UnderWay = record { number = c.in-Ok.number; dlci = c.args.dlci; place = c.in-Some.place } in
     let from = c.from-d.ensures in
     let number = c.number.ensures.number in
     let same : c.from-d.result ≡ c.args.dlci.number = omega (arith, from, number) in
-    record {
-      goes = λ out.
-          submits out c.args.self.now _
-          (record { caller = c.args.self.now.lines.place.number; number = c.in-Ok.number; ask = ask.Command c.args.dlci c.args.line })
-          line
-          (record {
-            place = c.in-Ok.ensures.place.0;
-            got = c.in-Ok.ensures.place.1;
-            submitted = c.in-Ok.ensures.submitted;
-            number = c.in-Ok.ensures.next;
-            on = λ d. refl;
-            control = refl;
-            listeners = refl;
-            under_way = c.push_reserved.ensures.items ∙ ap (λ (x : List UnderWay). x ++ line ∷ []) c.try_reserve.ensures.items;
-            counts = ap (λ (n : ℕ). set c.args.self.now.counts n c.in-Some.place) same;
-            counted = c.in-Some.ensures.1 ∙ ap (λ (n : ℕ). slice_index_or c.args.self.now.counts n 0 + 1) same;
-            known = c.args.dlci.in_range;
-          });
-    }
+    λ out.
+    submits out c.args.self.now _
+    (record { caller = c.args.self.now.lines.place.number; number = c.in-Ok.number; ask = ask.Command c.args.dlci c.args.line })
+    line
+    (record {
+      place = c.in-Ok.ensures.place.0;
+      got = c.in-Ok.ensures.place.1;
+      submitted = c.in-Ok.ensures.submitted;
+      number = c.in-Ok.ensures.next;
+      on = λ d. refl;
+      control = refl;
+      listeners = refl;
+      under_way = c.push_reserved.ensures.items ∙ ap (λ (x : List UnderWay). x ++ line ∷ []) c.try_reserve.ensures.items;
+      counts = ap (λ (n : ℕ). set c.args.self.now.counts n c.in-Some.place) same;
+      counted = c.in-Some.ensures.1 ∙ ap (λ (n : ℕ). slice_index_or c.args.self.now.counts n 0 + 1) same;
+      known = c.args.dlci.in_range;
+    })
+
+pub returns-in-Ok-clause-asks : goal.returns-in-Ok-clause-asks
+returns-in-Ok-clause-asks g c =
+    asks_more c.submit.new.self.submitted c.args.self.now.lines.submitted
+    (record { caller = c.args.self.now.lines.place.number; number = c.in-Ok.number; ask = ask.Command c.args.dlci c.args.line }) c.in-Ok.ensures.submitted

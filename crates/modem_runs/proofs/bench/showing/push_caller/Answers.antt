@@ -1,7 +1,8 @@
 use Rattle.std.proofs.Common.{◌+◌, ◌∙◌, ◌++◌, ap, sym, append_assoc}
 use Rattle.std.specs.Prelude.{take}
 use Rattle.std.specs.String.{string_bytes}
-use Rattle.modem_runs.specs.Shown.{told_from, told_text}
+use Rattle.modem_texts.specs.Texts.{told_text}
+use Rattle.modem_runs.specs.Shown.{told_from}
 use Rattle.modem_runs.proofs.outputs.ShownOutcomes.{told_next}
 use Rattle.modem_runs.proofs.bench.showing.push_caller.Goals as goal
 

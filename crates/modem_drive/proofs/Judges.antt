@@ -1,0 +1,90 @@
+-- What a poll gives, and how a drive ends by it.
+use Rattle.std.specs.Prelude.{◌≡◌, ◌≢◌, true, false, Option, None, Some, Result, Ok, Err, refl}
+use Rattle.std.proofs.Common.{ap, sym, subst, ◌∙◌}
+use Rattle.modem_history.specs.Sessions.{LineView}
+use Rattle.modem_driver.specs.Polls.{Polls, PollsFrom, end_in, with_given}
+use Rattle.modem_driver.specs.SessionStates.{SessionState}
+use Rattle.modem_driver.specs.declared.session.ending.Course.{Course}
+use Rattle.modem_driver.specs.declared.session.ending.Course.TheVariants as course
+use Rattle.modem_driver.specs.declared.session.ending.Ended.{Ended}
+use Rattle.modem_driver.specs.declared.session.ending.Ended.TheVariants.{Stopped}
+use Rattle.modem_driver.specs.declared.session.error.SessionFault.{SessionFault}
+use Rattle.modem_driver.specs.declared.session.error.SessionFault.TheVariants as error
+use Rattle.modem_driver.specs.declared.session.polling.Progress.{Progress}
+use Rattle.modem_driver.specs.declared.session.polling.Progress.TheVariants as progress
+use Rattle.modem_drive.specs.Asking.{PlanView}
+use Rattle.modem_drive.specs.Ending.{FailedFor, HasEndedBy, KeepsGiven, SaysBy}
+use Rattle.modem_drive.specs.declared.driving.Went.{Went}
+use Rattle.modem_drive.specs.declared.driving.Went.TheVariants as went
+use Rattle.modem_drive.specs.declared.fault.DriveFault.{DriveFault}
+use Rattle.modem_drive.specs.declared.fault.DriveFault.TheVariants as fault
+
+-- ## What a poll gives is kept
+
+kept_itself : (end : Result Ended SessionFault) → KeepsGiven (progress.Ended end) (course.Ended end)
+kept_itself (Ok Stopped) = refl
+kept_itself (Err error.NoMemory) = tt
+kept_itself (Err error.Line) = refl
+kept_itself (Err error.Failed) = refl
+
+pub keeps_given : {X : Type 0} (look : X → LineView) (old new : SessionState X) (given : Progress) → Polls look old new given → KeepsGiven given new.kept.course
+keeps_given {X} look old new given h = by_course old.kept.course refl h
+  where
+    given_now : (p : Progress) → given ≡ p → KeepsGiven p new.kept.course → KeepsGiven given new.kept.course
+    given_now p e k = subst (λ (q : Progress). KeepsGiven q new.kept.course) (sym e) k
+
+    polled : (p : Progress) → given ≡ p → (mid : SessionState X) → new ≡ with_given (end_in p) mid → KeepsGiven p new.kept.course
+    polled progress.More e mid s = tt
+    polled progress.Idle e mid s = tt
+    polled (progress.Ended (Ok Stopped)) e mid s = ap (λ (t : SessionState X). t.kept.course) s
+    polled (progress.Ended (Err error.NoMemory)) e mid s = tt
+    polled (progress.Ended (Err error.Line)) e mid s = ap (λ (t : SessionState X). t.kept.course) s
+    polled (progress.Ended (Err error.Failed)) e mid s = ap (λ (t : SessionState X). t.kept.course) s
+
+    by_course : (c : Course) → old.kept.course ≡ c → PollsFrom look c old new given → KeepsGiven given new.kept.course
+    by_course (course.Ended end) e k =
+        given_now (progress.Ended end) k.0
+        (subst (KeepsGiven (progress.Ended end)) (sym (ap (λ (t : SessionState X). t.kept.course) k.1 ∙ e)) (kept_itself end))
+    by_course course.GoesOn e k = polled given refl k.mid k.stays
+    by_course course.Stopped e k = polled given refl k.mid k.stays
+
+-- ## How a drive ends
+
+pub judged : (said : Progress) (p : PlanView) (f end : Option DriveFault) → went.Ends f ≡ went.Ends end → SaysBy said p f → SaysBy said p end
+judged said p f end e s = let same : f ≡ end = cc in subst (SaysBy said p) same s
+
+pub ended_by : (said : Progress) (c : Course) (p : PlanView) (end : Option DriveFault) → KeepsGiven said c → SaysBy said p end → HasEndedBy c p end
+ended_by said c p None k s = (subst (λ (q : Progress). KeepsGiven q c) s.0 k, s.1, s.2)
+ended_by said c p (Some fault.HungUp) k s = (s.0, failed s.0 (subst (λ (q : Progress). KeepsGiven q c) s.1 k) s.2)
+  where
+    failed : (why : SessionFault) → KeepsGiven (progress.Ended (Err why)) c → (why ≡ error.NoMemory → ⊥) → FailedFor why c
+    failed error.NoMemory h n = absurd (n refl)
+    failed error.Line h n = h
+    failed error.Failed h n = h
+ended_by said c p (Some fault.NoMemory) k s = tt
+ended_by said c p (Some fault.Input) k s = tt
+ended_by said c p (Some fault.Output) k s = tt
+ended_by said c p (Some fault.NoDevice) k s = tt
+ended_by said c p (Some fault.NotSetUp) k s = tt
+ended_by said c p (Some fault.Refused) k s = tt
+ended_by said c p (Some fault.NoAnswer) k s = tt
+ended_by said c p (Some fault.NotOpened) k s = tt
+ended_by said c p (Some fault.Closed) k s = tt
+ended_by said c p (Some fault.GaveUp) k s = tt
+
+-- a fault other than a line that hung up
+other_fault : (c : Course) (p : PlanView) (f : DriveFault) → Some f ≢ Some fault.HungUp → HasEndedBy c p (Some f)
+other_fault c p fault.HungUp n = absurd (n refl)
+other_fault c p fault.NoMemory n = tt
+other_fault c p fault.Input n = tt
+other_fault c p fault.Output n = tt
+other_fault c p fault.NoDevice n = tt
+other_fault c p fault.NotSetUp n = tt
+other_fault c p fault.Refused n = tt
+other_fault c p fault.NoAnswer n = tt
+other_fault c p fault.NotOpened n = tt
+other_fault c p fault.Closed n = tt
+other_fault c p fault.GaveUp n = tt
+
+pub ended_otherwise : (c : Course) (p : PlanView) (f : DriveFault) (end : Option DriveFault) → went.Ends (Some f) ≡ went.Ends end → Some f ≢ Some fault.HungUp → HasEndedBy c p end
+ended_otherwise c p f end e n = let same : Some f ≡ end = cc in subst (HasEndedBy c p) same (other_fault c p f n)

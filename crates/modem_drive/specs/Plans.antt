@@ -1,0 +1,25 @@
+-- What contracts see of what is to be asked.
+use Rattle.std.specs.Prelude.{Bool, true, false, List, [], ◌∷◌, Option, None, Some}
+use Rattle.modem_desk.specs.declared.request.Ask.{Ask}
+use Rattle.modem_desk.specs.declared.request.Ask.TheVariants as ask
+use Rattle.modem_drive.specs.Asking.{PlanView}
+use Rattle.modem_drive.specs.declared.plan.Control.{Control}
+use Rattle.modem_drive.specs.declared.plan.Control.TheVariants as control
+use Rattle.modem_drive.specs.declared.plan.Next.{Next}
+use Rattle.modem_drive.specs.declared.plan.Phase.{Phase}
+use Rattle.modem_drive.specs.declared.plan.Phase.TheVariants as phase
+
+-- the command of the next line, if there is one
+abbrev pub next_asks : Option Next → List Ask
+next_asks None = []
+next_asks (Some next) = ask.Command next.dlci next.line ∷ []
+
+abbrev pub is_stopping : Phase → Bool
+is_stopping phase.Stopping = true
+is_stopping _ = false
+
+-- a Stop was asked, or something else
+abbrev pub after_asking : Control → PlanView → PlanView
+after_asking control.Stop p = record p { stopping = true }
+after_asking (control.Open d) p = p
+after_asking (control.Close d) p = p

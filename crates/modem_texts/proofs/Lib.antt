@@ -1,0 +1,2 @@
+pub mod CutTexts
+pub mod CommandWords

@@ -1,0 +1,41 @@
+//! A text is cut at an octet, and into lines.
+ghost use Rattle.std.specs.Prelude.{◌≡◌, ℕ, ◌<◌, List, [], ◌∷◌, ◌++◌, length, IfSome, MatchOption};
+ghost use Rattle.std.specs.Str.Iter.{LacksByte};
+ghost use Rattle.modem_texts.specs.Input.{input_lines};
+
+use memchr::memchr;
+
+/// What stands before the first of these octets, and what behind it.
+#[tactic(auto, using(crate::proofs::CutTexts::lacking, crate::proofs::CutTexts::cut_at))]
+pub fn split_once(text: &[u8], octet: u8) -> Option<(&[u8], &[u8])>
+    ensures { MatchOption result (LacksByte octet text.now)
+        (λ parts. (LacksByte octet parts.0.now) × (text.now ≡ parts.0.now ++ octet ∷ parts.1.now)) }
+{
+    let place = memchr(octet, text)?;
+    Some((&text[..place], &text[place + 1..]))
+}
+
+/// The first line of a text that may go on, without its end, and the text behind it: none where no LF stands in the text.
+pub fn ended_line(text: &[u8]) -> Option<(&[u8], &[u8])>
+    ensures cut { MatchOption result (LacksByte 10 text.now)
+        (λ parts. (more : List ℕ) → input_lines (text.now ++ more) ≡ parts.0.now ∷ input_lines (parts.1.now ++ more)) }
+    ensures shorter { IfSome result (λ parts. length parts.1.now < length text.now) }
+{
+    let (line, rest) = split_once(text, b'\n')?;
+    Some((line.strip_suffix(b"\r").unwrap_or(line), rest))
+}
+
+/// The first line of a text, without its end, and the text behind it.
+pub fn next_line(text: &[u8]) -> Option<(&[u8], &[u8])>
+    ensures cut { MatchOption result (text.now ≡ [])
+        (λ parts. input_lines text.now ≡ parts.0.now ∷ input_lines parts.1.now) }
+    ensures shorter { IfSome result (λ parts. length parts.1.now < length text.now) }
+{
+    if text.is_empty() {
+        return None;
+    }
+    match ended_line(text) {
+        Some(parts) => Some(parts),
+        None => Some((text, &[])),
+    }
+}

@@ -1,0 +1,60 @@
+//! The words of a line: connections, and commands on them.
+ghost use Rattle.std.specs.Prelude.{◌≡◌, ◌≢◌, ℕ, ◌<◌, ◌≤◌, MatchOption, MatchResult};
+ghost use Rattle.modem_texts.specs.Words.{IsCommand, IsNoCommand, number_text};
+ghost use Rattle.modem_texts.specs.declared.refusal.Refusal.TheVariants as Refusal;
+
+use crate::lines::split_once;
+use crate::refusal::Refusal;
+use at_text::CommandLine;
+use mux_frame::Dlci;
+use std::alloc::Global;
+
+/// The number of a connection in decimal without leading zeros: 0 to 61.
+fn dlci_of(word: &[u8]) -> Option<Dlci>
+    ensures { MatchOption result ((n : ℕ) → n < 62 → word.now ≢ number_text n)
+        (λ dlci. word.now ≡ number_text dlci.number) }
+{
+    let number = match word {
+        [ones] if ones.is_ascii_digit() => *ones - b'0',
+        [tens, ones] if *tens != b'0' && tens.is_ascii_digit() && ones.is_ascii_digit() => {
+            10 * (*tens - b'0') + (*ones - b'0')
+        }
+        _ => return None,
+    };
+    Dlci::new(number)
+}
+
+/// The same, and every other word is refused as bad.
+pub fn connection_of(word: &[u8]) -> Result<Dlci, Refusal>
+    ensures { MatchResult result
+        (λ dlci. word.now ≡ number_text dlci.number)
+        (λ why. (why ≡ Refusal.Bad) × ((n : ℕ) → n < 62 → word.now ≢ number_text n)) }
+{
+    dlci_of(word).ok_or(Refusal::Bad)
+}
+
+/// The number of a connection that carries commands: 1 to 61.
+fn carrier_of(word: &[u8]) -> Result<Dlci, Refusal>
+    ensures { MatchResult result
+        (λ dlci. (1 ≤ dlci.number) × (word.now ≡ number_text dlci.number))
+        (λ why. (why ≡ Refusal.Bad) × ((n : ℕ) → 1 ≤ n → n < 62 → word.now ≢ number_text n)) }
+{
+    let dlci = connection_of(word)?;
+    if dlci.number() == 0 {
+        return Err(Refusal::Bad);
+    }
+    Ok(dlci)
+}
+
+/// A connection that carries commands, one blank and a command line. Refusals: Bad, where the words are no such thing; NoMemory.
+pub fn command_of(alloc: Global, words: &[u8]) -> Result<(Dlci, CommandLine), Refusal>
+    ensures { MatchResult result (λ r. IsCommand words.now r.0.number r.1)
+        (λ why. why ≡ Refusal.Bad → IsNoCommand words.now) }
+{
+    let Some((word, text)) = split_once(words, b' ') else {
+        return Err(Refusal::Bad);
+    };
+    let dlci = carrier_of(word)?;
+    let line = CommandLine::new(alloc, text)?;
+    Ok((dlci, line))
+}
