@@ -3,5 +3,7 @@
 #![tactic(auto)]
 
 mod packet;
+#[cfg(test)]
+mod tests;
 
 pub use packet::{Direction, Stamp, push_header, push_packet};
