@@ -245,6 +245,7 @@ fn sim_words<I: Read, W: Write, E: Write>(
         n1,
         pin,
         echo: matches.get_flag("echo"),
+        steps: Steps::from(Vec::new(alloc)),
     };
     sim_run(alloc, input, output, faults, options)
 }
