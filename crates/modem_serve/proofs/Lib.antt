@@ -1,2 +1,6 @@
 pub mod Answering
+pub mod Feeding
+pub mod Muxes
+pub mod Pieces
 pub mod Served
+pub mod Stepping

@@ -4,7 +4,13 @@ use Rattle.std.proofs.Common.{ap, sym, ◌∙◌, append_assoc, append-nil, subs
 use Rattle.std.proofs.lemmas.List.Sums.{fold-append}
 use Rattle.std.specs.Io.KnownBytes.{Appends, Consumes, IsAtEnd, Keeps}
 use Rattle.modem_serve.specs.Plain.{Plain, plain_after, plain_by, plain_octet}
-use Rattle.modem_serve.specs.Serving.{Grows, PlainServed, ServesPlain, unsaid, with_said}
+use Rattle.modem_sim.specs.declared.state.ModemState.{ModemState}
+use Rattle.modem_serve.specs.declared.server.Mode.{Mode}
+use Rattle.modem_serve.specs.declared.server.Mode.TheVariants.{Lines, Mux}
+use Rattle.modem_serve.specs.Plain.{plain_begun}
+use Rattle.modem_serve.specs.Serving.{Answers, Begins, IsAnswered, Setting, WritesAnswers, at_first, at_lines, in_mux, plain_by_now}
+use Rattle.modem_serve.specs.Standing.{AtLines, IsAtLines, ServedSoFar, ServedWhole, Stands, StepsBy, setting_by, unsaid, with_said}
+use Rattle.modem_serve.specs.declared.server.Setup.{Setup}
 
 -- ## Known octets
 
@@ -29,15 +35,6 @@ appended_more (Some x) None c xs ys p q = absurd p
 appended_more (Some x) (Some y) None xs ys p q = absurd q
 appended_more (Some x) (Some y) (Some z) xs ys p q = q ∙ ap (λ l. l ++ ys) p ∙ append_assoc x xs ys
 
-pub grows_none : (a : Option (List ℕ)) → Grows a a
-grows_none a = record { more = []; written = appended_none a }
-
-pub grows_more : (a b c : Option (List ℕ)) → Grows a b → Grows b c → Grows a c
-grows_more a b c p q = record { more = p.more ++ q.more; written = appended_more a b c p.more q.more p.written q.written }
-
-pub grows_by : (a b : Option (List ℕ)) (xs : List ℕ) → Appends a b xs → Grows a b
-grows_by a b xs written = record { more = xs; written = written }
-
 -- ## Plain lines
 
 said_octet_at : (o : Option ℕ) (s : List ℕ) (p : Plain) (c : ℕ) → p.entered ≡ o → plain_by o (with_said s p) c ≡ with_said s (plain_by o p c)
@@ -61,97 +58,92 @@ after_both : (p : Plain) (xs ys : List ℕ) → plain_after p (xs ++ ys) ≡ pla
 unfolding plain_after
 after_both p xs ys = fold-append plain_octet p xs ys
 
-after_none : (p : Plain) → plain_after p [] ≡ p
+pub after_none : (p : Plain) → plain_after p [] ≡ p
 unfolding plain_after
 after_none p = refl
 
-both_served : (p : Plain) (xs ys : List ℕ) → plain_after p (xs ++ ys) ≡ with_said (plain_after p xs).said (plain_after (unsaid (plain_after p xs)) ys)
+pub both_served : (p : Plain) (xs ys : List ℕ) → plain_after p (xs ++ ys) ≡ with_said (plain_after p xs).said (plain_after (unsaid (plain_after p xs)) ys)
 both_served p xs ys = after_both p xs ys ∙ goes_on (plain_after p xs) ys
-
--- nothing is read yet
-pub served_none : (p : Plain) (input before : Option (List ℕ)) → p.said ≡ [] → PlainServed p p input input before before
-served_none p input before none = record {
-  octets = [];
-  read = consumed_none input input (keeps_same input);
-  plain_is = ap (λ x. record p { said = x }) none ∙ ap unsaid (sym (after_none p));
-  written = subst (λ (x : List ℕ). Appends before before x) (sym (ap (λ (q : Plain). q.said) (after_none p) ∙ none)) (appended_none before);
-}
-  where
-    keeps_same : (a : Option (List ℕ)) → Keeps a a
-    keeps_same None = tt
-    keeps_same (Some x) = refl
-
--- and more
-pub served_more : (p q r : Plain) (a b c x y z : Option (List ℕ)) (piece : List ℕ) → PlainServed p q a b x y → Consumes b c piece → r ≡ unsaid (plain_after q piece) → Appends y z (plain_after q piece).said → PlainServed p r a c x z
-served_more p q r a b c x y z piece served read is written =
-    let both : plain_after p (served.octets ++ piece) ≡ with_said (plain_after p served.octets).said (plain_after q piece) =
-    both_served p served.octets piece ∙ ap (λ t. with_said (plain_after p served.octets).said (plain_after t piece)) (sym served.plain_is) in
-    record {
-      octets = served.octets ++ piece;
-      read = consumed_more a b c served.octets piece served.read read;
-      plain_is = is ∙ ap unsaid (sym both);
-      written = subst (λ (t : Plain). Appends x z t.said) (sym both) (appended_more x y z (plain_after p served.octets).said (plain_after q piece).said served.written written);
-    }
-
--- nothing more is read
-pub served_end : (p q : Plain) (a b c x y : Option (List ℕ)) → PlainServed p q a b x y → Consumes b c [] → PlainServed p q a c x y
-served_end p q a b c x y served read = record {
-  octets = served.octets;
-  read = subst (λ (o : List ℕ). Consumes a c o) (append-nil served.octets) (consumed_more a b c served.octets [] served.read read);
-  plain_is = served.plain_is;
-  written = served.written;
-}
-
-pub grows_served : (p q : Plain) (a b x y : Option (List ℕ)) → PlainServed p q a b x y → Grows x y
-grows_served p q a b x y served = grows_by x y (plain_after p served.octets).said served.written
 
 -- ## All of the input
 
-entered_octet : (p : Plain) (c n1 : ℕ) → p.entered ≡ Some n1 → plain_octet p c ≡ record p { behind = p.behind ++ c ∷ [] }
-entered_octet p c n1 is = ap (λ o. plain_by o p c) is
+keeps_same : (a : Option (List ℕ)) → Keeps a a
+keeps_same None = tt
+keeps_same (Some x) = refl
 
-entered_fold : (p : Plain) (octets : List ℕ) (n1 : ℕ) → p.entered ≡ Some n1 → ((fold plain_octet p octets).said ≡ p.said) × ((fold plain_octet p octets).entered ≡ Some n1)
-entered_fold p [] n1 is = (refl, is)
-entered_fold p (c ∷ octets) n1 is =
-    let one = entered_octet p c n1 is in
-    let later = entered_fold (plain_octet p c) octets n1 (ap (λ (q : Plain). q.entered) one ∙ is) in
-    (later.0 ∙ ap (λ (q : Plain). q.said) one, later.1)
+pub served_none : {X : Type 0} (Holds : Setting → List ℕ → List ℕ → X → Type 0) (s : Setting) (input before : Option (List ℕ)) (now : X) → Holds s [] [] now → ServedSoFar Holds s input input before before now
+served_none Holds s input before now holds = record {
+  came = [];
+  went = [];
+  read = consumed_none input input (keeps_same input);
+  written = appended_none before;
+  stands = holds;
+}
 
-entered_after : (p : Plain) (octets : List ℕ) (n1 : ℕ) → p.entered ≡ Some n1 → ((plain_after p octets).said ≡ p.said) × ((plain_after p octets).entered ≡ Some n1)
-unfolding plain_after
-entered_after p octets n1 is = entered_fold p octets n1 is
-
--- the input ended at plain lines
-serves_whole : (p q : Plain) (a c x y : Option (List ℕ)) → PlainServed p q a c x y → IsAtEnd c → q.entered ≡ None → IfSome a (ServesPlain p x y)
-serves_whole p q None c x y served end none = tt
-serves_whole p q (Some all) None x y served end none = absurd served.read
-serves_whole p q (Some all) (Some rest) x y served end none =
-    let whole : all ≡ served.octets = served.read ∙ ap (λ l. served.octets ++ l) end ∙ append-nil served.octets in
+-- and more
+pub served_more : {X : Type 0} (Holds : Setting → List ℕ → List ℕ → X → Type 0) (s : Setting) (a b c x y z : Option (List ℕ)) (old new : X) (piece before out : List ℕ) → ServedSoFar Holds s a b x y old → Consumes b c piece → StepsBy Holds s old new piece before out → before ≡ [] → Appends y z out → ServedSoFar Holds s a c x z new
+served_more Holds s a b c x y z old new piece before out so_far read steps none written =
+    let says : out ≡ steps.more = steps.written ∙ ap (λ l. l ++ steps.more) none in
     record {
-      more = [];
-      written = subst (λ (l : List ℕ). Appends x y ((plain_after p l).said ++ [])) (sym whole) (subst (λ (l : List ℕ). Appends x y l) (sym (append-nil (plain_after p served.octets).said)) served.written);
-      alone = λ _. refl;
+      came = so_far.came ++ piece;
+      went = so_far.went ++ steps.more;
+      read = consumed_more a b c so_far.came piece so_far.read read;
+      written = subst (λ (l : List ℕ). Appends x z (so_far.went ++ l)) says (appended_more x y z so_far.went out so_far.written written);
+      stands = steps.stands so_far.came so_far.went so_far.stands;
     }
 
--- a line entered the multiplexer, and more was written
-served_on : (p q : Plain) (a c x y z : Option (List ℕ)) (n1 : ℕ) → PlainServed p q a c x y → q.entered ≡ Some n1 → Grows y z → IfSome a (ServesPlain p x z)
-served_on p q None c x y z n1 served is grows = tt
-served_on p q (Some all) None x y z n1 served is grows = absurd served.read
-served_on p q (Some all) (Some rest) x y z n1 served is grows =
-    let entered : (plain_after p served.octets).entered ≡ Some n1 = sym (ap (λ (r : Plain). r.entered) served.plain_is) ∙ is in
-    let later = entered_after (plain_after p served.octets) rest n1 entered in
-    let whole : plain_after p all ≡ plain_after (plain_after p served.octets) rest = ap (plain_after p) served.read ∙ after_both p served.octets rest in
-    let said : (plain_after p all).said ≡ (plain_after p served.octets).said = ap (λ (r : Plain). r.said) whole ∙ later.0 in
-    let there : (plain_after p all).entered ≡ Some n1 = ap (λ (r : Plain). r.entered) whole ∙ later.1 in
+-- and no more
+pub served_end : {X : Type 0} (Holds : Setting → List ℕ → List ℕ → X → Type 0) (s : Setting) (a b c x y : Option (List ℕ)) (now : X) → ServedSoFar Holds s a b x y now → Consumes b c [] → IsAtEnd c → ServedWhole Holds s a x y
+served_end Holds s a b c x y now so_far read end = record {
+  last = now;
+  rest = c;
+  end = end;
+  so_far = record {
+    came = so_far.came;
+    went = so_far.went;
+    read = subst (λ (o : List ℕ). Consumes a c o) (append-nil so_far.came) (consumed_more a b c so_far.came [] so_far.read read);
+    written = so_far.written;
+    stands = so_far.stands;
+  };
+}
+
+answers_by : (s : Setting) (came went : List ℕ) (mode : Mode) → Stands s came went mode → Answers s came went
+answers_by s came went (Lines p) at =
+    subst (λ (l : List ℕ). Answers s l went) (sym at.came_is) (subst (λ (l : List ℕ). Answers s (at.came_before ++ at.lines) l) (sym at.went_is)
+    (at_lines at.came_before at.went_before at.modem at.lines at.begins at.none))
+answers_by s came went (Mux sim) at =
+    subst (λ (l : List ℕ). Answers s l went) (sym at.came_is) (subst (λ (l : List ℕ). Answers s (at.came_before ++ (at.lines ++ at.in_mux)) l) (sym at.went_is)
+    (in_mux at.came_before at.went_before at.modem at.lines at.in_mux at.from_mux at.n1 at.now at.begins at.enters at.is_in))
+
+whole_by : (s : Setting) (all : List ℕ) (rest x y : Option (List ℕ)) (mode : Mode) → ServedSoFar Stands s (Some all) rest x y mode → IsAtEnd rest → WritesAnswers s x y all
+whole_by s all None x y mode so_far end = absurd so_far.read
+whole_by s all (Some rest) x y mode so_far end =
+    let whole : all ≡ so_far.came = so_far.read ∙ ap (λ l. so_far.came ++ l) end ∙ append-nil so_far.came in
     record {
-      more = grows.more;
-      written = subst (λ (l : List ℕ). Appends x z (l ++ grows.more)) (sym said) (appended_more x y z (plain_after p served.octets).said grows.more served.written grows.written);
-      alone = λ none. absurd (let bad : Some n1 ≡ None = sym there ∙ none in cc);
+      went = so_far.went;
+      answers = subst (λ (l : List ℕ). Answers s l so_far.went) (sym whole) (answers_by s so_far.came so_far.went mode so_far.stands);
+      written = so_far.written;
     }
 
--- the same of plain lines that begin so
-pub serves_all : (b p q : Plain) (a c x y : Option (List ℕ)) → p ≡ b → PlainServed p q a c x y → IsAtEnd c → q.entered ≡ None → IfSome a (ServesPlain b x y)
-serves_all b p q a c x y is served end none = subst (λ (t : Plain). IfSome a (ServesPlain t x y)) is (serves_whole p q a c x y served end none)
+begun_at : (s : Setting) (p : Plain) → p ≡ plain_begun s.n1 s.modem → AtLines s [] [] p
+begun_at s p is = record {
+  came_before = [];
+  went_before = [];
+  modem = s.modem;
+  lines = [];
+  begins = at_first;
+  none = ap (λ (q : Plain). q.entered) (after_none (plain_begun s.n1 s.modem));
+  plain_is = is ∙ ap unsaid (sym (after_none (plain_begun s.n1 s.modem)));
+  came_is = refl;
+  went_is = sym (ap (λ (q : Plain). q.said) (after_none (plain_begun s.n1 s.modem)));
+}
 
-pub serves_on : (b p q : Plain) (a c x y z : Option (List ℕ)) (n1 : ℕ) → p ≡ b → PlainServed p q a c x y → q.entered ≡ Some n1 → Grows y z → IfSome a (ServesPlain b x z)
-serves_on b p q a c x y z n1 is served entered grows = subst (λ (t : Plain). IfSome a (ServesPlain t x z)) is (served_on p q a c x y z n1 served entered grows)
+answered : (s : Setting) (input x y : Option (List ℕ)) → ServedWhole Stands s input x y → IsAnswered s input x y
+answered s None x y whole = tt
+answered s (Some all) x y whole = whole_by s all whole.rest x y whole.last whole.so_far whole.end
+
+-- plain lines that were begun so, and then all of the input
+pub served_whole : (setup : Setup) (m : ModemState) (mode : Mode) (input x y : Option (List ℕ)) → IsAtLines setup m mode → ((n : ModemState) → Stands (setting_by setup n) [] [] mode → ServedWhole Stands (setting_by setup n) input x y) → IsAnswered (setting_by setup m) input x y
+served_whole setup m mode input x y is serves =
+    answered (setting_by setup m) input x y
+    (serves m (subst (λ (o : Mode). Stands (setting_by setup m) [] [] o) (sym is) (begun_at (setting_by setup m) (plain_begun setup.n1 m) refl)))

@@ -1,45 +1,74 @@
--- What a modem for a client says at plain lines, over a reader and a writer.
+-- What a modem for a client answers, over a reader and a writer: plain lines and multiplexers in turn.
 use Rattle.std.specs.Prelude.{◌≡◌, ℕ, ◌<◌, ◌⊎◌, not, Bool, true, false, List, [], ◌++◌, Option, Some, None, IfSome}
-use Rattle.std.specs.Io.KnownBytes.{Appends, Consumes}
+use Rattle.std.specs.Io.KnownBytes.{Appends}
 use Rattle.at_cmds.specs.Forms.{is_pin}
+use Rattle.modem_sim.specs.declared.script.Step.{Step}
 use Rattle.modem_sim.specs.declared.state.ModemState.{ModemState}
+use Rattle.modem_sim.specs.Acts.{Act}
+use Rattle.modem_sim.specs.Heard.{modem_after}
 use Rattle.modem_sim.specs.Steps.{started_with_words}
 use Rattle.modem_serve.specs.declared.serving.SimOptions.{SimOptions}
+use Rattle.modem_serve.specs.InMux.{EndsMux, InMux, mux_end}
 use Rattle.modem_serve.specs.Plain.{Plain, plain_after, plain_begun}
 
--- all that was said is handed out
-abbrev pub unsaid : Plain → Plain
-unsaid p = record p { said = [] }
+-- whose client it is: N1 where a line doesn't name it, what its modem does of its own accord in each multiplexer, and the modem
+pub record Setting : Type 0 where
+  pub n1 : ℕ
+  pub steps : List Step
+  pub modem : ModemState
 
--- what was said before stands before it
-abbrev pub with_said : List ℕ → Plain → Plain
-with_said said p = record p { said = said ++ p.said }
+-- plain lines that were begun by this modem, after these octets
+abbrev pub plain_by_now : Setting → ModemState → List ℕ → Plain
+plain_by_now s m octets = plain_after (plain_begun s.n1 m) octets
 
--- something was written
-pub record Grows (before after : Option (List ℕ)) : Type 0 where
-  pub more : List ℕ
-  pub written : Appends before after more
+-- the last of these octets ends a line that enters the multiplexer with this N1
+pub record EntersAfter (s : Setting) (m : ModemState) (octets : List ℕ) (n1 : ℕ) : Type 0 where
+  pub entered : (plain_by_now s m octets).entered ≡ Some n1
+  pub none_behind : (plain_by_now s m octets).behind ≡ []
 
--- octets were read, taken at plain lines, and what is said to them was written
-pub record PlainServed (old new : Plain) (input rest before after : Option (List ℕ)) : Type 0 where
-  pub octets : List ℕ
-  pub read : Consumes input rest octets
-  pub plain_is : new ≡ unsaid (plain_after old octets)
-  pub written : Appends before after (plain_after old octets).said
+-- Plain lines begin, by this modem: before any octet, and behind the piece that ends a multiplexer. These octets came before, and these
+-- went.
+pub data Begins (s : Setting) : (came went : List ℕ) → ModemState → Type 0 where
+  at_first : Begins s [] [] s.modem
+  again :
+      (came went : List ℕ) (m : ModemState) (lines in_mux from_mux : List ℕ) (n1 : ℕ) (now : List Act)
+      → Begins s came went m → EntersAfter s m lines n1
+      → EndsMux (mux_end n1 (plain_by_now s m lines).modem s.steps) in_mux from_mux now
+      → Begins s (came ++ (lines ++ in_mux)) (went ++ ((plain_by_now s m lines).said ++ from_mux))
+      (modem_after (mux_end n1 (plain_by_now s m lines).modem s.steps) now)
 
--- What plain lines say to all of the input is written first; and nothing else is, where none of them enters the multiplexer.
-pub record ServesPlain (begun : Plain) (before after : Option (List ℕ)) (all : List ℕ) : Type 0 where
-  pub more : List ℕ
-  pub written : Appends before after ((plain_after begun all).said ++ more)
-  pub alone : (plain_after begun all).entered ≡ None → more ≡ []
+-- All octets that came were answered by all that went: they end at plain lines, or in a multiplexer.
+pub data Answers (s : Setting) : (came went : List ℕ) → Type 0 where
+  at_lines :
+      (came went : List ℕ) (m : ModemState) (lines : List ℕ) → Begins s came went m
+      → (plain_by_now s m lines).entered ≡ None
+      → Answers s (came ++ lines) (went ++ (plain_by_now s m lines).said)
+  in_mux :
+      (came went : List ℕ) (m : ModemState) (lines in_mux from_mux : List ℕ) (n1 : ℕ) (now : List Act)
+      → Begins s came went m → EntersAfter s m lines n1
+      → InMux (mux_end n1 (plain_by_now s m lines).modem s.steps) in_mux from_mux now
+      → Answers s (came ++ (lines ++ in_mux)) (went ++ ((plain_by_now s m lines).said ++ from_mux))
+
+-- what answers all octets that a reader had was written, and nothing else
+pub record WritesAnswers (s : Setting) (before after : Option (List ℕ)) (all : List ℕ) : Type 0 where
+  pub went : List ℕ
+  pub answers : Answers s all went
+  pub written : Appends before after went
+
+-- of all that the reader has, where that is known
+abbrev pub IsAnswered : Setting → (input before after : Option (List ℕ)) → Type 0
+IsAnswered s input before after = IfSome input (WritesAnswers s before after)
 
 -- the modem of such a client: with words, a signal of strength 18 and an error rate that isn't known
 abbrev pub client_modem : Option (List ℕ) → Bool → ModemState
 client_modem pin echo = started_with_words (record { pin = pin; rssi = 18; ber = 99 }) echo
 
--- of all that the reader has, where that is known
-abbrev pub IsServed : ℕ → Option (List ℕ) → Bool → (input before after : Option (List ℕ)) → Type 0
-IsServed n1 pin echo input before after = IfSome input (ServesPlain (plain_begun n1 (client_modem pin echo)) before after)
+-- by what the options say
+abbrev pub setting_of : SimOptions → Setting
+setting_of options = record { n1 = options.n1; steps = options.steps; modem = client_modem options.pin options.echo }
+
+abbrev pub IsServed : SimOptions → (input before after : Option (List ℕ)) → Type 0
+IsServed options input before after = IsAnswered (setting_of options) input before after
 
 -- a PIN is given, and isn't 4 to 8 digits
 abbrev pub has_bad_pin : Option (List ℕ) → Bool

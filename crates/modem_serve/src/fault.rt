@@ -14,6 +14,9 @@ pub enum ServeFault {
     /// The writer failed.
     #[error("fault: output")]
     Output,
+    /// The modem, or the input, went on without an end.
+    #[error("fault: gave up")]
+    GaveUp,
 }
 
 /// Why a modem for a client isn't begun.

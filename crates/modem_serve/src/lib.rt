@@ -3,10 +3,14 @@
 #![tactic(auto)]
 
 mod fault;
+mod held_line;
+mod history;
 mod mux;
 mod plain;
 mod requests;
+mod server;
 mod serving;
+mod steps;
 
 pub use fault::{BadOption, ServeFault};
 pub use plain::PlainMode;

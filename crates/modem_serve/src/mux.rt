@@ -1,138 +1,140 @@
 //! A simulated modem in the multiplexer, whose octets are handed in and out.
-ghost use Rattle.std.specs.Prelude.{◌≤◌, length, IfOk};
+ghost use Rattle.std.specs.Prelude.{◌≡◌, ◌<◌, ◌==◌, ◌&&◌, ◌||◌, [], not, true, false, length, take, IfOk, List};
+ghost use Rattle.std.specs.List.{position};
+ghost use Rattle.modem_sim.specs.Acts.{Act, End, is_open_at_modem};
+ghost use Rattle.modem_sim.specs.Sims.{SimGoes, has_ended};
+ghost use Rattle.modem_serve.specs.HeldLine.{at_first, held_side, sent_by};
+ghost use Rattle.modem_serve.specs.InMux.{is_piece, mux_end};
+ghost use Rattle.modem_serve.specs.Muxes.{ComesToRest, FitsHeld, FitsMux, IsFed};
 
 use crate::fault::ServeFault;
-use modem_sim::{Modem, Script, Sim, SimError, SimTurn};
+use crate::held_line::HeldLine;
+use modem_sim::{Modem, Script, Sim, SimTurn};
 use mux_frame::Dlci;
 use mux_station::ChannelState;
-use serial_line::{SerialLine, ThreadLine};
 use std::alloc::Global;
-
-/// The octets that may be under way each way.
-const ROOM: usize = 65536;
 
 /// The control channel.
 const CONTROL: Dlci = Dlci { number: 0 };
 
-/// The most turns on one piece of input.
-const TURNS: u32 = 16_777_216;
-
 /// A frame begins and ends with it (27.010, 5.2.6.1).
-pub(crate) const FLAG: u8 = 0xF9;
+const FLAG: u8 = 0xF9;
 
-/// A simulated modem in the multiplexer, at one end of a line in memory, and the line's other end.
-#[derive(Drop)]
-pub(crate) struct Mux {
-    sim: Sim<ThreadLine>,
-    near: ThreadLine,
-    /// Connection 0 was open.
-    opened: bool,
-    /// It is closed down.
-    over: bool,
+/// Where the first flag stands.
+fn first_flag(octets: &[u8]) -> Option<usize>
+    ensures { result ≡ position (λ x. x == 0xf9) octets.now }
+{
+    octets.iter().position(|octet| *octet == FLAG)
 }
 
-fn made(
+/// The octets up to the first flag, or all where there is none.
+#[tactic(auto, using(crate::proofs::Pieces::piece_at, crate::proofs::Pieces::piece_without))]
+pub(crate) fn piece_of(octets: &[u8]) -> &[u8]
+    ensures front { result.now ≡ take (length result.now) octets.now }
+    ensures piece { is_piece result.now ≡ true }
+    ensures some { 0 < length octets.now → 0 < length result.now }
+{
+    match first_flag(octets) {
+        Some(place) => &octets[..place + 1],
+        None => octets,
+    }
+}
+
+/// A simulated modem to which nothing has happened yet, at a line in memory. N1 is 31 to 32767.
+pub(crate) fn begun(
     alloc: Global,
-    far: ThreadLine,
     modem: Modem,
     script: Script,
     n1: u16,
-) -> Result<Sim<ThreadLine>, ServeFault> {
-    match Sim::new(alloc, far, modem, script, n1) {
+) -> Result<Sim<HeldLine>, ServeFault>
+    ensures { IfOk result (λ s. script.echo ≡ false → FitsMux (mux_end n1 modem script.steps) [] [] s []) }
+{
+    match Sim::new(alloc, HeldLine::new(alloc), modem, script, n1) {
         Ok(sim) => Ok(sim),
         Err(_) => Err(ServeFault::NoMemory),
     }
 }
 
-impl Mux {
-    /// The multiplexer begins. N1 is 31 to 32767.
-    pub(crate) fn new(
-        alloc: Global,
-        modem: Modem,
-        script: Script,
-        n1: u16,
-    ) -> Result<Mux, ServeFault> {
-        let Ok((near, far)) = ThreadLine::pair(alloc, ROOM) else {
-            return Err(ServeFault::NoMemory);
-        };
-        let sim = made(alloc, far, modem, script, n1)?;
-        Ok(Mux {
-            sim,
-            near,
-            opened: false,
-            over: false,
-        })
-    }
+/// What a turn came to.
+#[derive(Clone, Copy, PartialEq, Eq, Debug)]
+enum Turned {
+    /// Something was done.
+    Moves,
+    /// All is read and done, and all is written.
+    Rests,
+    /// It has closed down.
+    Ends,
+}
 
-    /// Takes octets from the front of these, to the next flag at most, does all that can be done, and writes what is sent behind
-    /// other octets. Gives how many it took.
-    pub(crate) fn take(&mut self, octets: &[u8], out: &mut Vec<u8>) -> Result<usize, ServeFault>
-        ensures bound { IfOk result (λ n. n ≤ length octets.now) }
-    {
-        let end = match octets.iter().position(|octet| *octet == FLAG) {
-            Some(place) => place + 1,
-            None => octets.len(),
-        };
-        let Ok(count) = self.near.try_write(&octets[..end]) else {
-            return Err(ServeFault::NoMemory);
-        };
-        self.go_on(out)?;
-        Ok(count)
-    }
-
-    /// Does all that can be done.
-    pub(crate) fn go_on(&mut self, out: &mut Vec<u8>) -> Result<(), ServeFault> {
-        for _ in 0..TURNS {
-            let turn = self.turn()?;
-            let sent = self.drain(out)?;
-            if self.over || (turn == SimTurn::Idle && sent == 0) {
-                return Ok(());
+/// One turn.
+fn turn(sim: &mut Sim<HeldLine>) -> Result<Turned, ServeFault>
+    ensures goes { SimGoes (λ l. l.received) sent_by sim.old sim.new }
+    ensures side { held_side sim.new.line ≡ held_side sim.old.line }
+    ensures rests { IfOk result (λ turned. turned ≡ Turned.Rests → ComesToRest sim.old sim.new) }
+    ensures ends { IfOk result (λ turned. turned ≡ Turned.Ends → has_ended sim.new ≡ true) }
+{
+    match sim.turn() {
+        Ok(SimTurn::Moved) => Ok(Turned::Moves),
+        Ok(SimTurn::Ended) => Ok(Turned::Ends),
+        Ok(SimTurn::Idle) => {
+            if !sim.unwritten().is_empty() {
+                Err(ServeFault::NoMemory)
+            } else if sim.line().is_read() {
+                Ok(Turned::Rests)
+            } else {
+                Ok(Turned::Moves)
             }
         }
-        Ok(())
+        Err(_) => Err(ServeFault::NoMemory),
     }
+}
 
-    fn turn(&mut self) -> Result<SimTurn, ServeFault> {
-        match self.sim.turn() {
-            Ok(turn) => {
-                self.look(turn);
-                Ok(turn)
-            }
-            Err(_) => Err(ServeFault::NoMemory),
+/// Turns until it has closed down (true), or is at rest (false).
+fn settle(sim: &mut Sim<HeldLine>) -> Result<bool, ServeFault>
+    ensures goes { SimGoes (λ l. l.received) sent_by sim.old sim.new }
+    ensures side { held_side sim.new.line ≡ held_side sim.old.line }
+    ensures rests { IfOk result (λ ended. ended ≡ false → ComesToRest sim.old sim.new) }
+    ensures ends { IfOk result (λ ended. ended ≡ true → has_ended sim.new ≡ true) }
+{
+    for _ in 0..u64::MAX {
+        match turn(sim)? {
+            Turned::Moves => {}
+            Turned::Rests => return Ok(false),
+            Turned::Ends => return Ok(true),
         }
     }
+    Err(ServeFault::GaveUp)
+}
 
-    /// Sees whether it is closed down: a CLD was answered, or 0, which was open, was closed.
-    fn look(&mut self, turn: SimTurn) {
-        let state = self.sim.state(CONTROL);
-        self.over = turn == SimTurn::Ended
-            || (self.opened && turn == SimTurn::Idle && state == ChannelState::Shut);
-        if state == ChannelState::Opened {
-            self.opened = true;
-        }
+/// Whether 0 is open at its end.
+fn is_up(sim: &Sim<HeldLine>) -> bool
+    ensures { (e : End) (past : List Act) → FitsHeld e sim.now past → result ≡ is_open_at_modem 0 past }
+{
+    match sim.state(CONTROL) {
+        ChannelState::Opened => true,
+        _ => false,
     }
+}
 
-    /// Writes what was sent behind other octets, and says how many that were.
-    fn drain(&mut self, out: &mut Vec<u8>) -> Result<usize, ServeFault> {
-        let mut piece = [0u8; 4096];
-        match self.near.try_read(&mut piece) {
-            Ok(count) => {
-                out.extend_from_slice(&piece[..count])?;
-                Ok(count)
-            }
-            Err(_) => Ok(0),
-        }
-    }
+/// Whether it has closed down, or 0 was open and isn't any more.
+fn is_over(ended: bool, was_up: bool, up: bool) -> bool
+    ensures { result ≡ (ended || (was_up && not up)) }
+{
+    ended || (was_up && !up)
+}
 
-    /// Whether it is closed down.
-    pub(crate) fn is_over(&self) -> bool {
-        self.over
-    }
-
-    /// The modem.
-    pub(crate) fn finish(self) -> Modem {
-        let Mux { sim, .. } = self;
-        let (_line, modem) = sim.finish();
-        modem
-    }
+/// Takes a piece, does all that can be done, and writes what is sent behind other octets. Says whether the multiplexer was closed
+/// down: 0 was open and isn't any more, or a CLD was answered.
+pub(crate) fn feed(
+    sim: &mut Sim<HeldLine>,
+    piece: &[u8],
+    out: &mut Vec<u8>,
+) -> Result<bool, ServeFault>
+    ensures { IfOk result (λ over. IsFed sim.old sim.new piece.now out.old.items out.new.items over) }
+{
+    let was_up = is_up(sim);
+    sim.line_mut().put(piece)?;
+    let ended = settle(sim)?;
+    sim.line_mut().take(out)?;
+    Ok(is_over(ended, was_up, is_up(sim)))
 }

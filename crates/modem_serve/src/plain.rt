@@ -1,5 +1,5 @@
 //! A modem at plain command lines.
-ghost use Rattle.std.specs.Prelude.{◌≡◌, ◌++◌, ◌∷◌, [], IfOk, OnOk};
+ghost use Rattle.std.specs.Prelude.{◌≡◌, ◌≤◌, ◌++◌, ◌∷◌, [], None, length, take, IfOk, OnOk};
 ghost use Rattle.at_text.specs.Lines.{kept_run, lines};
 ghost use Rattle.modem_serve.specs.Plain.{entered_by, entered_by_all, modem_by, modem_by_all, plain_after, plain_begun, n1_by, plain_octet, repeated_as, said_by, said_to, said_to_all};
 ghost use Rattle.modem_sim.specs.Pieces.{framed};
@@ -15,7 +15,8 @@ use std::marker::Model;
 /// What the multiplexer takes (27.007, 5.7).
 const RANGES: &[u8] = b"+CMUX: (0),(0),(1-8),(31-32767),(1-255),(0-100),(2-255),(1-255)";
 
-/// A modem at plain command lines. Contracts see all that octets make of it.
+/// A modem at plain command lines. Contracts see all that octets make of it; of octets behind a line that enters the multiplexer it
+/// takes none.
 #[derive(Drop)]
 pub struct PlainMode {
     alloc: Global,
@@ -24,10 +25,10 @@ pub struct PlainMode {
     modem: Modem,
     said: Vec<u8>,
     entered: Option<u16>,
-    behind: Vec<u8>,
 }
 
 impl Model for PlainMode {
+    ghost use Rattle.std.specs.Prelude.{[]};
     ghost use Rattle.modem_serve.specs.Plain.{Plain};
 
     ghost Value = { Plain };
@@ -38,7 +39,7 @@ impl Model for PlainMode {
       modem = p.modem;
       said = p.said.items;
       entered = p.entered;
-      behind = p.behind.items;
+      behind = [];
     } };
 }
 
@@ -144,18 +145,14 @@ impl PlainMode {
             modem,
             said: Vec::new(alloc),
             entered: None,
-            behind: Vec::new(alloc),
         }
     }
 
     /// Takes an octet. After an error nothing is said of it.
     fn push(&mut self, octet: u8) -> Result<(), ServeFault>
+        requires { self.old.entered ≡ None }
         ensures { OnOk result (self.new ≡ plain_octet self.old octet) }
     {
-        if self.entered.is_some() {
-            self.behind.push(octet)?;
-            return Ok(());
-        }
         self.entered = read_octet(
             self.alloc,
             self.n1,
@@ -167,16 +164,21 @@ impl PlainMode {
         Ok(())
     }
 
-    /// Takes octets as they come: answers the lines that end in them, in order, up to one that enters the multiplexer; the octets
-    /// behind that one are kept for the multiplexer. After an error, which is NoMemory, nothing is said of it.
-    #[tactic(auto, unfolding(crate::specs::Plain::plain_after))]
-    pub fn take(&mut self, octets: &[u8]) -> Result<(), ServeFault>
-        ensures { OnOk result (self.new ≡ plain_after self.old octets.now) }
+    /// Takes octets as they come, up to the end of a line that enters the multiplexer, and says how many: answers the lines that end
+    /// in them, in order. After an error, which is NoMemory, nothing is said of it.
+    #[tactic(auto, using(crate::proofs::Feeding::fed_none, crate::proofs::Feeding::fed_more, crate::proofs::Feeding::fed_all))]
+    pub fn feed(&mut self, octets: &[u8]) -> Result<usize, ServeFault>
+        ensures bound { IfOk result (λ n. n ≤ length octets.now) }
+        ensures taken { IfOk result (λ n. self.new ≡ plain_after self.old (take n octets.now)) }
+        ensures all { IfOk result (λ n. self.new.entered ≡ None → n ≡ length octets.now) }
     {
-        for octet in octets {
+        for (count, octet) in octets.iter().enumerate() {
+            if self.entered.is_some() {
+                return Ok(count);
+            }
             self.push(*octet)?;
         }
-        Ok(())
+        Ok(octets.len())
     }
 
     /// What it has said that wasn't handed out.
@@ -193,19 +195,19 @@ impl PlainMode {
         self.said.clear();
     }
 
-    /// The N1 of the multiplexer, once a line has entered it.
+    /// The N1 of the multiplexer, once a line has entered it; nothing behind that line was taken.
     pub fn entered(&self) -> Option<u16>
-        ensures { result ≡ self.now.entered }
+        ensures entered { result ≡ self.now.entered }
+        ensures none_behind { self.now.behind ≡ [] }
     {
         self.entered
     }
 
-    /// The modem, and the octets that belong to the multiplexer.
-    pub fn finish(self) -> (Modem, Vec<u8>)
-        ensures modem { result.0 ≡ self.modem }
-        ensures behind { result.1.items ≡ self.behind }
+    /// The modem.
+    pub fn finish(self) -> Modem
+        ensures { result ≡ self.modem }
     {
-        let PlainMode { modem, behind, .. } = self;
-        (modem, behind)
+        let PlainMode { modem, .. } = self;
+        modem
     }
 }

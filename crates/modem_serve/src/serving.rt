@@ -1,17 +1,18 @@
 //! A modem on a reader and a writer.
-ghost use Rattle.std.specs.Prelude.{◌≡◌, ◌≤◌, ◌<◌, ◌⊎◌, [], false, length, take, None, Some, IfOk, IfSome, OnOk};
+ghost use Rattle.std.specs.Prelude.{◌≡◌, ◌≤◌, ◌<◌, [], false, length, take, None, Some, IfOk, OnOk};
 ghost use Rattle.std.specs.Io.KnownBytes.{Appends, Consumes, IsAtEnd};
 ghost use Rattle.std.specs.List.{list_all};
 ghost use Rattle.at_text.specs.Octets.{is_digit};
 ghost use Rattle.at_cmds.specs.Forms.{is_pin};
-ghost use Rattle.modem_serve.specs.Plain.{plain_after, plain_begun};
-ghost use Rattle.modem_serve.specs.Serving.{Grows, HasBadOption, IsServed, PlainServed, ServesPlain, client_modem, has_bad_pin, unsaid};
+ghost use Rattle.modem_serve.specs.Serving.{HasBadOption, IsAnswered, IsServed, client_modem, has_bad_pin};
+ghost use Rattle.modem_serve.specs.Standing.{IsAtLines, ServedWhole, setting_by};
+ghost use Rattle.modem_sim.specs.declared.state.ModemState.{ModemState};
 
 use crate::fault::{BadOption, ServeFault};
-use crate::mux::Mux;
 use crate::plain::PlainMode;
+use crate::server::{Answering, Mode, Setup};
 use at_cmds::Pin;
-use modem_sim::{Modem, ModemStart, Script, Steps};
+use modem_sim::{Modem, ModemStart, Steps};
 use std::alloc::Global;
 use std::io::{ErrorKind, Read, Write};
 
@@ -27,6 +28,8 @@ pub struct SimOptions {
     pub pin: Option<Pin>,
     /// Whether its commands are repeated until an `ATE0`.
     pub echo: bool,
+    /// What the modem does of its own accord, in each multiplexer anew.
+    pub steps: Steps,
 }
 
 /// Reads once, as much as there is; 0 at the end of the input. A read that was interrupted is made again.
@@ -44,7 +47,7 @@ fn read_some<I: Read>(input: &mut I, piece: &mut [u8]) -> Result<usize, ServeFau
             Err(_) => return Err(ServeFault::Input),
         }
     }
-    Err(ServeFault::Input)
+    Err(ServeFault::GaveUp)
 }
 
 /// Writes octets whole.
@@ -58,186 +61,51 @@ fn put<W: Write>(output: &mut W, octets: &[u8]) -> Result<(), ServeFault>
     }
 }
 
-/// Takes octets at plain lines, and writes what is said.
-fn take_plain<W: Write>(
-    plain: &mut PlainMode,
-    octets: &[u8],
-    output: &mut W,
-) -> Result<(), ServeFault>
-    ensures taken { OnOk result (plain.new ≡ unsaid (plain_after plain.old octets.now)) }
-    ensures written { OnOk result
-        (Appends (W.contents output.old) (W.contents output.new) (plain_after plain.old octets.now).said) }
-{
-    plain.take(octets)?;
-    put(output, plain.said())?;
-    plain.clear_said();
-    Ok(())
-}
-
-/// Plain lines, until one enters the multiplexer, or to the end of the input.
-#[tactic(auto, using(crate::proofs::Served::served_none, crate::proofs::Served::served_more, crate::proofs::Served::served_end))]
-fn serve_plain<I: Read, W: Write>(
-    plain: &mut PlainMode,
+/// Takes all octets of the input as they come, and writes what is said to them before it reads on. What answers isn't named here,
+/// so that nothing about it has to be known where it is let go.
+fn serve<M: Answering, I: Read, W: Write>(
+    setup: &Setup,
+    first: M,
     input: &mut I,
     output: &mut W,
-) -> Result<Option<u16>, ServeFault>
-    requires { plain.old.said ≡ [] }
-    ensures served { OnOk result
-        (PlainServed plain.old plain.new (I.remaining input.old) (I.remaining input.new) (W.contents output.old)
+) -> Result<(), ServeFault>
+    ensures { OnOk result ((m : ModemState) → M.holds (setting_by setup.now m) [] [] first
+        → ServedWhole M.holds (setting_by setup.now m) (I.remaining input.old) (W.contents output.old)
         (W.contents output.new)) }
-    ensures entered { IfOk result (λ n1. n1 ≡ plain.new.entered) }
-    ensures end { IfOk result (λ n1. n1 ≡ None → IsAtEnd (I.remaining input.new)) }
 {
+    let mut now = first;
     let mut piece = [0u8; PIECE];
-    for _ in 0..u64::MAX {
-        if let Some(n1) = plain.entered() {
-            return Ok(Some(n1));
-        }
-        let count = read_some(input, &mut piece)?;
-        if count == 0 {
-            return Ok(None);
-        }
-        take_plain(plain, &piece[..count], output)?;
-    }
-    Err(ServeFault::Input)
-}
-
-/// Takes octets in the multiplexer until it is closed down, and writes what is sent. Gives the octets behind its end.
-#[tactic(auto, using(crate::proofs::Served::grows_by))]
-fn take_mux<'a, W: Write>(
-    alloc: Global,
-    mux: &mut Mux,
-    octets: &'a [u8],
-    output: &mut W,
-) -> Result<&'a [u8], ServeFault>
-    ensures { OnOk result (Grows (W.contents output.old) (W.contents output.new)) }
-{
-    let mut out = Vec::new(alloc);
-    let mut rest = octets;
-    for _ in 0..u64::MAX {
-        if rest.is_empty() || mux.is_over() {
-            break;
-        }
-        let count = mux.take(rest, &mut out)?;
-        rest = &rest[count..];
-    }
-    put(output, out.as_slice())?;
-    Ok(rest)
-}
-
-/// The multiplexer, until it is closed down: gives the octets that were read behind it, or nothing at the end of the input.
-fn serve_mux<I: Read, W: Write>(
-    alloc: Global,
-    mux: &mut Mux,
-    behind: &[u8],
-    input: &mut I,
-    output: &mut W,
-) -> Result<Option<Vec<u8>>, ServeFault>
-    ensures { OnOk result (Grows (W.contents output.old) (W.contents output.new)) }
-{
-    let rest = take_mux(alloc, mux, behind, output)?;
-    if mux.is_over() {
-        return Ok(Some(Vec::from_slice(alloc, rest)?));
-    }
-    let mut piece = [0u8; PIECE];
+    let mut out = Vec::new(setup.alloc);
     for _ in 0..u64::MAX {
         let count = read_some(input, &mut piece)?;
         if count == 0 {
-            return Ok(None);
-        }
-        let rest = take_mux(alloc, mux, &piece[..count], output)?;
-        if mux.is_over() {
-            return Ok(Some(Vec::from_slice(alloc, rest)?));
-        }
-    }
-    Err(ServeFault::Input)
-}
-
-/// The multiplexer from its beginning: gives the modem and the octets behind its end, or nothing at the end of the input.
-fn be_mux<I: Read, W: Write>(
-    alloc: Global,
-    modem: Modem,
-    n1: u16,
-    behind: &[u8],
-    input: &mut I,
-    output: &mut W,
-) -> Result<Option<(Modem, Vec<u8>)>, ServeFault>
-    ensures { OnOk result (Grows (W.contents output.old) (W.contents output.new)) }
-{
-    let script = Script {
-        echo: false,
-        steps: Steps::from(Vec::new(alloc)),
-    };
-    let mut mux = Mux::new(alloc, modem, script, n1)?;
-    match serve_mux(alloc, &mut mux, behind, input, output)? {
-        Some(rest) => Ok(Some((mux.finish(), rest))),
-        None => Ok(None),
-    }
-}
-
-/// Plain lines that begin with these octets, until one enters the multiplexer: gives its N1, or nothing at the end of the input.
-fn serve_plain_again<I: Read, W: Write>(
-    plain: &mut PlainMode,
-    octets: &[u8],
-    input: &mut I,
-    output: &mut W,
-) -> Result<Option<u16>, ServeFault>
-    ensures { OnOk result (Grows (W.contents output.old) (W.contents output.new)) }
-{
-    take_plain(plain, octets, output)?;
-    let entered = serve_plain(plain, input, output)?;
-    Ok(entered)
-}
-
-/// A line has entered the multiplexer, with this N1: multiplexers and plain lines in turn, to the end of the input.
-#[tactic(auto, using(crate::proofs::Served::grows_none))]
-fn serve_on<I: Read, W: Write>(
-    alloc: Global,
-    n1: u16,
-    entered: PlainMode,
-    entered_n1: u16,
-    input: &mut I,
-    output: &mut W,
-) -> Result<(), ServeFault>
-    ensures { OnOk result (Grows (W.contents output.old) (W.contents output.new)) }
-{
-    let mut plain = entered;
-    let mut mux_n1 = entered_n1;
-    for _ in 0..u64::MAX {
-        let (modem, behind) = plain.finish();
-        let Some((modem, rest)) = be_mux(alloc, modem, mux_n1, behind.as_slice(), input, output)?
-        else {
             return Ok(());
-        };
-        plain = PlainMode::new(alloc, n1, modem);
-        match serve_plain_again(&mut plain, rest.as_slice(), input, output)? {
-            Some(n1) => mux_n1 = n1,
-            None => return Ok(()),
         }
+        now = now.take_all(setup, &piece[..count], &mut out)?;
+        put(output, out.as_slice())?;
+        out.clear();
     }
-    Err(ServeFault::Input)
+    Err(ServeFault::GaveUp)
 }
 
-/// Plain lines and multiplexers in turn, to the end of the input.
-fn serve<I: Read, W: Write>(
-    alloc: Global,
-    n1: u16,
+/// A modem at plain lines.
+fn at_lines(setup: &Setup, modem: Modem) -> Mode
+    ensures { IsAtLines setup.now modem result }
+{
+    Mode::Lines(PlainMode::new(setup.alloc, setup.n1, modem))
+}
+
+/// The same, from plain lines on.
+fn serve_client<I: Read, W: Write>(
+    setup: &Setup,
     modem: Modem,
     input: &mut I,
     output: &mut W,
 ) -> Result<(), ServeFault>
-    ensures { OnOk result (IfSome (I.remaining input.old)
-        (ServesPlain (plain_begun n1 modem) (W.contents output.old) (W.contents output.new))) }
+    ensures { OnOk result (IsAnswered (setting_by setup.now modem) (I.remaining input.old)
+        (W.contents output.old) (W.contents output.new)) }
 {
-    let mut plain = PlainMode::new(alloc, n1, modem);
-    let entered = serve_plain(&mut plain, input, output)?;
-    match entered {
-        Some(mux_n1) => {
-            serve_on(alloc, n1, plain, mux_n1, input, output)?;
-            Ok(())
-        }
-        None => Ok(()),
-    }
+    serve(setup, at_lines(setup, modem), input, output)
 }
 
 /// Whether a PIN isn't 4 to 8 digits.
@@ -295,13 +163,18 @@ pub fn sim_run<I: Read, W: Write, E: Write>(
     options: SimOptions,
 ) -> u8
     ensures status { result ≤ 2 }
-    ensures served { result ≡ 0 → IsServed options.n1 options.pin options.echo (I.remaining input.old)
-        (W.contents output.old) (W.contents output.new) }
+    ensures served { result ≡ 0 → IsServed options (I.remaining input.old) (W.contents output.old)
+        (W.contents output.new) }
     ensures refused { result ≡ 2 → HasBadOption options }
     ensures bad { HasBadOption options → (result ≡ 2) × (input.new ≡ input.old) × (output.new ≡ output.old) }
     ensures silent { result ≡ 0 → faults.new ≡ faults.old }
 {
-    let SimOptions { n1, pin, echo } = options;
+    let SimOptions {
+        n1,
+        pin,
+        echo,
+        steps,
+    } = options;
     if !(31..=32767).contains(&n1) {
         return refuse(faults, BadOption::N1);
     }
@@ -314,7 +187,8 @@ pub fn sim_run<I: Read, W: Write, E: Write>(
         ber: 99,
     };
     let modem = Modem::with_words(alloc, start, echo);
-    match serve(alloc, n1, modem, input, output) {
+    let setup = Setup { alloc, n1, steps };
+    match serve_client(&setup, modem, input, output) {
         Ok(()) => 0,
         Err(fault) => give_up(faults, fault),
     }

@@ -1,9 +1,12 @@
 -- What the program prints at its subcommands, by the numbers that its words give.
-use Rattle.std.specs.Prelude.{ℕ, false, List, [], Option, codes}
-use Rattle.clap.specs.Words.{Row, Text}
+use Rattle.std.specs.Prelude.{◌≡◌, ℕ, Bool, true, false, List, [], Option, None, Some, codes}
+use Rattle.clap.specs.Words.{Row, Text, first_value, found_of, one_text}
+use Rattle.clap.specs.declared.ArgMatches.{ArgMatches}
 use Rattle.modem_sim.specs.declared.script.Script.{Script}
 use Rattle.modem_runs.specs.Printed.{IsBenched, IsFramed, IsPrinted, IsReplayed}
-use Rattle.modemctl.specs.Words.{IsGiven}
+use Rattle.modem_serve.specs.declared.serving.SimOptions.{SimOptions}
+use Rattle.modem_serve.specs.Serving.{IsServed}
+use Rattle.modemctl.specs.Words.{IsGiven, raw_in, text_in}
 
 -- these frames were printed, with the N1 of the words
 pub record PrintsFrames (met : Option (Text × List Row)) (input before after : Option (List ℕ)) : Type 0 where
@@ -28,3 +31,26 @@ pub record PrintsBench (met : Option (Text × List Row)) (input before after : O
   pub cut : ℕ
   pub cut_given : IsGiven met (codes "cut") 64 cut
   pub printed : IsPrinted (IsBenched callers cut plain_script) input before after
+
+-- an option without a value is there or not
+abbrev pub IsFlag : Option Text → Bool → Type 0
+IsFlag None given = given ≡ false
+IsFlag (Some t) given = (t ≡ codes "true" → given ≡ true) × (t ≡ codes "false" → given ≡ false)
+
+-- a client was served so, with the N1, the PIN and the echo of the words, by a modem that does nothing of its own accord
+pub record ServesClient (met : Option (Text × List Row)) (input before after : Option (List ℕ)) : Type 0 where
+  pub options : SimOptions
+  pub n1_given : IsGiven met (codes "n1") 31 options.n1
+  pub pin_given : options.pin ≡ raw_in met (codes "pin")
+  pub echo_given : IsFlag (text_in met (codes "echo")) options.echo
+  pub no_steps : options.steps ≡ []
+  pub served : IsServed options input before after
+
+-- the same by the matches of the subcommand
+pub record ServesWith (n1 : ℕ) (m : ArgMatches) (input before after : Option (List ℕ)) : Type 0 where
+  pub options : SimOptions
+  pub n1_is : options.n1 ≡ n1
+  pub pin_is : options.pin ≡ first_value (found_of m) (codes "pin")
+  pub echo_is : IsFlag (one_text (found_of m) (codes "echo")) options.echo
+  pub no_steps : options.steps ≡ []
+  pub served : IsServed options input before after

@@ -1,7 +1,7 @@
 -- The words of the program.
 use Rattle.std.specs.Prelude.{◌≡◌, ◌⊎◌, ℕ, pos, true, List, [], ◌∷◌, Option, None, Some, option_and_then, option_map, codes}
 use Rattle.std.specs.Fmt.{decimal}
-use Rattle.clap.specs.Words.{App, IsAmong, Kinds, Row, Rule, Text, one_of, fault_of, new_app, new_rule, subcommand_of, with_rule, with_subcommand}
+use Rattle.clap.specs.Words.{App, IsAmong, Kinds, Row, Rule, Text, first_of, one_of, fault_of, new_app, new_rule, subcommand_of, with_rule, with_subcommand}
 use Rattle.clap.specs.declared.builder.ArgAction.TheVariants.{Set, SetTrue}
 use Rattle.clap.specs.declared.error.ErrorKind.TheVariants.{DisplayHelp, DisplayVersion}
 use Rattle.clap.specs.declared.builder.ValueParser.TheVariants.{Signed}
@@ -111,6 +111,10 @@ IsNoNumber (Some t) = (n : ℕ) → t ≡ decimal n → ⊥
 -- the text of an option of the subcommand that was met
 abbrev pub text_in : Option (Text × List Row) → (option : Text) → Option Text
 text_in met option = option_and_then (λ p. one_of option p.1) met
+
+-- the same, as it stands in the words
+abbrev pub raw_in : Option (Text × List Row) → (option : Text) → Option Text
+raw_in met option = option_and_then (λ p. first_of option p.1) met
 
 -- the number that the words give for it
 abbrev pub IsGiven : Option (Text × List Row) → (option : Text) → (default : ℕ) → ℕ → Type 0

@@ -1,10 +1,10 @@
 //! The words of the program.
 ghost use Rattle.std.specs.Prelude.{◌≡◌, ◌≢◌, ◌<◌, ◌≤◌, [], map, Some, IfOk, false, codes};
 ghost use Rattle.std.specs.String.{string_bytes};
-ghost use Rattle.clap.specs.Words.{app_of, rule_of, kind_of, subcommand_name_of, subcommand_rows_of};
+ghost use Rattle.clap.specs.Words.{app_of, first_value, found_of, one_text, rule_of, kind_of, subcommand_name_of, subcommand_rows_of};
 ghost use Rattle.modem_runs.specs.Printed.{IsBenched, IsPrinted};
 ghost use Rattle.modem_runs.specs.Stopping.{HasGivenUp};
-ghost use Rattle.modemctl.specs.Benches.{PrintsBench, PrintsFrames, PrintsReplay, plain_script};
+ghost use Rattle.modemctl.specs.Benches.{IsFlag, PrintsBench, PrintsFrames, PrintsReplay, ServesClient, ServesWith, plain_script};
 ghost use Rattle.modemctl.specs.Words.{callers_rule, cut_rule, echo_rule, n1_rule, pin_rule, program_app, fault_in, met_in, named_in, with_three, with_two, AreFor, AsksNoHelp, HasNoNumber};
 
 mod numbers;
@@ -219,11 +219,20 @@ where
 }
 
 /// The PIN that the words give, if they give one.
-fn pin_of(alloc: Global, matches: &ArgMatches<'_>) -> Result<Option<Pin>, AllocError> {
+fn pin_of(alloc: Global, matches: &ArgMatches<'_>) -> Result<Option<Pin>, AllocError>
+    ensures { IfOk result (λ pin. pin ≡ first_value (found_of matches.now) (codes "pin")) }
+{
     match matches.get_str("pin") {
         Some(pin) => Ok(Some(Pin::from(Vec::from_slice(alloc, pin.as_bytes())?))),
         None => Ok(None),
     }
+}
+
+/// Whether commands are repeated.
+fn echo_of(matches: &ArgMatches<'_>) -> bool
+    ensures { IsFlag (one_text (found_of matches.now) (codes "echo")) result }
+{
+    matches.get_flag("echo")
 }
 
 /// Is a modem for a client.
@@ -237,6 +246,8 @@ fn sim_words<I: Read, W: Write, E: Write>(
 ) -> u8
     ensures status { result ≤ 2 }
     ensures bad { result ≡ 2 → output.new ≡ output.old }
+    ensures served { result ≡ 0 → ServesWith n1 matches.now (I.remaining input.old) (W.contents output.old)
+        (W.contents output.new) }
 {
     let Ok(pin) = pin_of(alloc, matches) else {
         return give_up(faults, Stop::NoMemory);
@@ -244,7 +255,8 @@ fn sim_words<I: Read, W: Write, E: Write>(
     let options = SimOptions {
         n1,
         pin,
-        echo: matches.get_flag("echo"),
+        echo: echo_of(matches),
+        steps: Steps::from(Vec::new(alloc)),
     };
     sim_run(alloc, input, output, faults, options)
 }
@@ -273,6 +285,9 @@ where
         (W.contents output.new) }
     ensures bench { result ≡ 0 → subcommand_name_of matches.now ≡ Some (codes "bench")
         → PrintsBench (subcommand_rows_of matches.now) (I.remaining input.old) (W.contents output.old)
+        (W.contents output.new) }
+    ensures sim { result ≡ 0 → subcommand_name_of matches.now ≡ Some (codes "sim")
+        → ServesClient (subcommand_rows_of matches.now) (I.remaining input.old) (W.contents output.old)
         (W.contents output.new) }
 {
     let Some((name, given)) = matches.subcommand() else {
@@ -320,6 +335,9 @@ where
         (W.contents output.new) }
     ensures bench { result ≡ 0 → AreFor (codes "bench") (map string_bytes words.now)
         → PrintsBench (met_in (map string_bytes words.now)) (I.remaining input.old) (W.contents output.old)
+        (W.contents output.new) }
+    ensures sim { result ≡ 0 → AreFor (codes "sim") (map string_bytes words.now)
+        → ServesClient (met_in (map string_bytes words.now)) (I.remaining input.old) (W.contents output.old)
         (W.contents output.new) }
 {
     let command = match program(alloc) {

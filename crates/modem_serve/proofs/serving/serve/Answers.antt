@@ -1,12 +1,32 @@
-use Rattle.std.proofs.Common.{sym, ◌∙◌}
-use Rattle.modem_serve.proofs.Served.{serves_all, serves_on}
+use Rattle.std.proofs.Common.{List, ℕ, subst, take, rules}
+use Rattle.std.specs.Io.KnownBytes.{Appends, Consumes}
+use Rattle.modem_serve.specs.Standing.{setting_by}
+use Rattle.modem_serve.proofs.Served.{served_end, served_more, served_none}
 use Rattle.modem_serve.proofs.serving.serve.Goals as goal
 
-pub returns-in_ok-serve_on-in-Some : goal.returns-in_ok-serve_on-in-Some
-returns-in_ok-serve_on-in-Some g c =
-    serves_on _ _ _ _ _ _ _ _ _ c.new-plain.ensures c.in_ok-entered.ensures.served (sym c.in_ok-entered.ensures.entered ∙ c.in-Some.is) c.in_ok-serve_on-in-Some.ensures
+pub loop-init : goal.loop-init
+loop-init g c = record {
+  so_far = λ m holds.
+      served_none g.M.Answering.holds (setting_by c.args.setup.now m) (g.I.Read.remaining c.args.input.now) (g.W.Write.contents c.args.output.now)
+      c.args.first holds;
+  none_left = c.new-out.ensures.items;
+}
 
-pub returns-in-None : goal.returns-in-None
-returns-in-None g c =
-    serves_all _ _ _ _ _ _ _ c.new-plain.ensures c.in_ok-entered.ensures.served (c.in_ok-entered.ensures.end c.in-None.is)
-    (sym c.in_ok-entered.ensures.entered ∙ c.in-None.is)
+pub loop-preserved : goal.loop-preserved
+loop-preserved g c = record {
+  so_far = λ m holds.
+      served_more g.M.Answering.holds (setting_by c.args.setup.now m) (g.I.Read.remaining c.args.input.now) (g.I.Read.remaining c.loop.input)
+      (g.I.Read.remaining c.read_some.new.input) (g.W.Write.contents c.args.output.now) (g.W.Write.contents c.loop.output)
+      (g.W.Write.contents c.put.new.output) c.loop.now c.in_ok-now.now (take c.in_ok-count.count c.read_some.new.piece) c.loop.out.items
+      c.take_all.new.out.items (c.loop.invariant.so_far m holds) c.in_ok-count.ensures.read (c.in_ok-now.ensures m) c.loop.invariant.none_left
+      (subst (λ (l : List ℕ). Appends (g.W.Write.contents c.loop.output) (g.W.Write.contents c.put.new.output) l) c.as_slice.ensures.value c.in_ok-put.ensures);
+  none_left = c.clear.ensures.items;
+}
+
+pub returns-then-count-eq0 : goal.returns-then-count-eq0
+returns-then-count-eq0 g c = λ m holds.
+    served_end g.M.Answering.holds (setting_by c.args.setup.now m) (g.I.Read.remaining c.args.input.now) (g.I.Read.remaining c.loop.input)
+    (g.I.Read.remaining c.read_some.new.input) (g.W.Write.contents c.args.output.now) (g.W.Write.contents c.loop.output) c.loop.now
+    (c.loop.invariant.so_far m holds)
+    (subst (λ (n : ℕ). Consumes (g.I.Read.remaining c.loop.input) (g.I.Read.remaining c.read_some.new.input) (take n c.read_some.new.piece)) c.if-count-eq0.true c.in_ok-count.ensures.read)
+    (c.in_ok-count.ensures.end c.if-count-eq0.true (search rules))

@@ -7,7 +7,7 @@ use Rattle.clap.proofs.OnLiterals.{clap_on_literals}
 use Rattle.modemctl.specs.Words.{AsksNoHelp, HasNoNumber, program_app, fault_in, met_in, named_in, text_in}
 use Rattle.modem_runs.specs.declared.stop.Stop.TheVariants as Stop
 use Rattle.modem_runs.proofs.outputs.StoppedRuns.{gave_up}
-use Rattle.modemctl.specs.Benches.{PrintsBench, PrintsFrames, PrintsReplay}
+use Rattle.modemctl.specs.Benches.{PrintsBench, PrintsFrames, PrintsReplay, ServesClient}
 use Rattle.modemctl.proofs.words.run.Goals as goal
 
 simple : is_simple program_app ≡ true
@@ -44,6 +44,12 @@ pub returns-in-Ok-try_get_matches_from-clause-bench :
 returns-in-Ok-try_get_matches_from-clause-bench g c zero for =
     subst (λ (m : Option (Text × List Row)). PrintsBench m (g.I.Read.remaining c.args.input.now) (g.W.Write.contents c.args.output.now) (g.W.Write.contents c.run_named.new.output)) (met c.in-Ok-try_get_matches_from.matches _ _ c.in-Ok.ensures (λ e. (c.in-Ok-try_get_matches_from.ensures.matches e).1))
     (c.run_named.ensures.bench zero (named c.in-Ok-try_get_matches_from.matches _ _ c.in-Ok.ensures (λ e. (c.in-Ok-try_get_matches_from.ensures.matches e).1) ∙ for.1))
+
+pub returns-in-Ok-try_get_matches_from-clause-sim :
+    goal.returns-in-Ok-try_get_matches_from-clause-sim
+returns-in-Ok-try_get_matches_from-clause-sim g c zero for =
+    subst (λ (m : Option (Text × List Row)). ServesClient m (g.I.Read.remaining c.args.input.now) (g.W.Write.contents c.args.output.now) (g.W.Write.contents c.run_named.new.output)) (met c.in-Ok-try_get_matches_from.matches _ _ c.in-Ok.ensures (λ e. (c.in-Ok-try_get_matches_from.ensures.matches e).1))
+    (c.run_named.ensures.sim zero (named c.in-Ok-try_get_matches_from.matches _ _ c.in-Ok.ensures (λ e. (c.in-Ok-try_get_matches_from.ensures.matches e).1) ∙ for.1))
 
 -- ## What is wrong with the words
 

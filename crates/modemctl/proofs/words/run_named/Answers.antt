@@ -1,9 +1,10 @@
 -- What was printed, by the numbers that the matches of the subcommand give.
-use Rattle.std.proofs.Common.{◌≡◌, ◌∙◌, ◌⊎◌, ⊎_elim, ℕ, ap, subst, List, Option, None, Some, option_map, codes}
-use Rattle.clap.specs.Words.{Row, Text, found_of, one_of, one_text, rows_of, subcommand_rows_of}
+use Rattle.std.proofs.Common.{◌≡◌, ◌∙◌, ◌⊎◌, ⊎_elim, ℕ, ap, sym, subst, List, Option, None, Some, option_map, codes}
+use Rattle.clap.specs.Words.{Row, Text, first_of, found_of, one_of, one_text, rows_of, subcommand_rows_of}
 use Rattle.clap.specs.declared.ArgMatches.{ArgMatches}
-use Rattle.clap.proofs.WalkLemmas.{one_text-rows}
-use Rattle.modemctl.specs.Words.{HasNoNumber, IsGiven, IsNoNumber, IsNumberOf, text_in}
+use Rattle.clap.proofs.WalkLemmas.{first_value-rows, one_text-rows}
+use Rattle.modemctl.specs.Words.{HasNoNumber, IsGiven, IsNoNumber, IsNumberOf, raw_in, text_in}
+use Rattle.modemctl.specs.Benches.{IsFlag, ServesClient, ServesWith}
 use Rattle.modemctl.proofs.words.run_named.Goals as goal
 
 of_rows : (met : Option (Text × List Row)) (rows : List Row) (option : Text) → Some rows ≡ option_map (λ p. p.1) met → one_of option rows ≡ text_in met option
@@ -74,3 +75,23 @@ returns-in-bench-clause-bench g c zero named = record {
   cut_given = number_in c.args.matches.now c.in-Some.given.now (codes "cut") 64 c.in-Ok.numbers.cut c.in-Some.ensures.rows c.in-Ok.ensures.cut;
   printed = c.bench_plain.ensures.done zero;
 }
+
+raw_of_rows : (met : Option (Text × List Row)) (rows : List Row) (option : Text) → Some rows ≡ option_map (λ p. p.1) met → first_of option rows ≡ raw_in met option
+raw_of_rows None rows option e = cc
+raw_of_rows (Some p) rows option e = let same : Some rows ≡ Some p.1 = e in let rows_are : rows ≡ p.1 = cc in ap (first_of option) rows_are
+
+serves_client : (top m : ArgMatches) (n1 : ℕ) (input before after : Option (List ℕ)) → Some (rows_of (found_of m)) ≡ option_map (λ p. p.1) (subcommand_rows_of top) → IsNumberOf 31 (one_text (found_of m) (codes "n1")) n1
+    → ServesWith n1 m input before after → ServesClient (subcommand_rows_of top) input before after
+serves_client top m n1 input before after rows number serves = record {
+  options = serves.options;
+  n1_given = number_in top m (codes "n1") 31 serves.options.n1 rows (subst (λ (n : ℕ). IsNumberOf 31 (one_text (found_of m) (codes "n1")) n) (sym serves.n1_is) number);
+  pin_given = serves.pin_is ∙ first_value-rows (found_of m) (codes "pin") ∙ raw_of_rows (subcommand_rows_of top) (rows_of (found_of m)) (codes "pin") rows;
+  echo_given = subst (λ (t : Option Text). IsFlag t serves.options.echo) (given_in top m (codes "echo") rows) serves.echo_is;
+  no_steps = serves.no_steps;
+  served = serves.served;
+}
+
+pub returns-in-sim-clause-sim : goal.returns-in-sim-clause-sim
+returns-in-sim-clause-sim g c zero named =
+    serves_client c.args.matches.now c.in-Some.given.now c.in-Ok.numbers.n1 (g.I.Read.remaining c.args.input.now) (g.W.Write.contents c.args.output.now) (g.W.Write.contents c.sim_words.new.output) c.in-Some.ensures.rows c.in-Ok.ensures.n1
+    (c.sim_words.ensures.served zero)

@@ -1,0 +1,80 @@
+//! The octets of a capture.
+ghost use Rattle.std.specs.Prelude.{◌≡◌, ◌+◌, ◌≤◌, ◌++◌, length, vec_len, vec_capacity, OnOk, OnErr};
+ghost use Rattle.mux_capture.specs.Pcap.{captured, direction_octet, file_header, little_endian, packet, packet_of};
+
+use std::alloc::AllocError;
+
+/// Which end sent a frame.
+#[derive(Clone, Copy, PartialEq, Eq, Debug)]
+pub enum Direction {
+    /// The driver, to the modem.
+    ToModem,
+    /// The modem, to the driver.
+    FromModem,
+}
+
+/// When a frame passed.
+#[derive(Clone, Copy, PartialEq, Eq, Debug)]
+pub struct Stamp {
+    /// Seconds since 1970 began, or since the capture did.
+    pub seconds: u32,
+    /// Millionths of a second beyond them, below 1,000,000.
+    pub micros: u32,
+}
+
+/// The octets of a file's header.
+const HEADER: [u8; 24] = [
+    0xD4, 0xC3, 0xB2, 0xA1, 2, 0, 4, 0, 0, 0, 0, 0, 0, 0, 0, 0, 0xFF, 0xFF, 0, 0, 236, 0, 0, 0,
+];
+
+/// Writes the header of a file behind other octets. A want of memory leaves those as they were.
+pub fn push_header(out: &mut Vec<u8>) -> Result<(), AllocError>
+    ensures ok { OnOk result (out.new.items ≡ out.old.items ++ file_header) }
+    ensures err { OnErr result (out.new.items ≡ out.old.items) }
+{
+    out.extend_from_slice(&HEADER)?;
+    Ok(())
+}
+
+/// Writes octets behind others. There is room.
+fn put(octets: &[u8], out: &mut Vec<u8>)
+    requires { vec_len out.old + length octets.now ≤ vec_capacity out.old }
+    ensures items { out.new.items ≡ out.old.items ++ octets.now }
+    ensures length { vec_len out.new ≡ vec_len out.old + length octets.now }
+    ensures room { vec_capacity out.old ≤ vec_capacity out.new }
+{
+    out.extend_from_slice(octets).unwrap();
+}
+
+/// The octet that says which end sent it.
+fn octet_of(direction: Direction) -> u8
+    ensures { result ≡ direction_octet direction }
+{
+    match direction {
+        Direction::ToModem => 0,
+        Direction::FromModem => 1,
+    }
+}
+
+/// Writes the packet of a frame behind other octets: the frame's octets from flag to flag, at most 65533; one of 27.010 has at most
+/// 32774. A want of memory leaves those before as they were.
+pub fn push_packet(
+    stamp: Stamp,
+    direction: Direction,
+    frame: &[u8],
+    out: &mut Vec<u8>,
+) -> Result<(), AllocError>
+    requires { length frame.now ≤ 65533 }
+    ensures ok { OnOk result (out.new.items ≡ out.old.items ++ packet stamp direction frame.now) }
+    ensures err { OnErr result (out.new.items ≡ out.old.items) }
+{
+    let kept = (frame.len() + 2) as u32;
+    out.reserve(frame.len() + 18)?;
+    put(&stamp.seconds.to_le_bytes(), out);
+    put(&stamp.micros.to_le_bytes(), out);
+    put(&kept.to_le_bytes(), out);
+    put(&kept.to_le_bytes(), out);
+    put(&[0, octet_of(direction)], out);
+    put(frame, out);
+    Ok(())
+}
