@@ -1,6 +1,6 @@
-//! A core on the line: a stop holds up the rest of a command.
+//! A core on the line: a stop holds up the rest of a command, and a final code ends it.
 use crate::station::dlci;
-use at_text::CommandLine;
+use at_text::{CommandLine, Dialect};
 use modem_driver::*;
 use mux_frame::{Deframer, FrameView, Kind, write_frame};
 use std::alloc::Global;
@@ -44,6 +44,15 @@ const STOPPED_MIDWAY: &[Step] = &[
     Step::Leaves(b"\xF9\x03\xEF\x09\xE1\x05\x07\x0D\xFB\xF9"),
     Step::Leaves(b"\xF9\x07\xEF\x0D\x6D\x70\x6C\x65\x22\x0D\x3E\xF9"),
     Step::Leaves(b""),
+];
+
+/// Of two commands the second leaves once the first has its final code, `+CMS ERROR:` (27.005, 3.2.5).
+const TWO_COMMANDS: &[Step] = &[
+    Step::Command(b"AT+CMGS=1"),
+    Step::Command(b"AT"),
+    Step::Leaves(b"\xF9\x07\xEF\x15AT+CMGS=1\r\x2C\xF9"),
+    Step::Leaves(b""),
+    Step::Got(b"\xF9\x05\xEF\x23+CMS ERROR: 500\r\n\x8D\xF9"),
 ];
 
 fn took(core: &mut Core, ask: Ask) -> Result<(), Fail> {
@@ -123,4 +132,26 @@ fn play(rt: &impl Abort, alloc: Global, steps: &[Step]) -> Result<(), Fail> {
 #[test]
 fn a_stop_holds_up_the_rest_of_a_command(rt: HostRuntime) -> Result<(), Fail> {
     play(&rt, rt.alloc(), STOPPED_MIDWAY)
+}
+
+/// Two commands by a core of these codes, and what leaves then.
+fn play_two(
+    rt: &impl Abort,
+    alloc: Global,
+    dialect: &Dialect,
+    then: &'static [u8],
+) -> Result<(), Fail> {
+    let mut core = Core::with_dialect(alloc, 31, dialect, &[])?;
+    play_all(rt, alloc, &mut core, OPENED)?;
+    play_all(rt, alloc, &mut core, TWO_COMMANDS)?;
+    play_one(rt, alloc, &mut core, Step::Leaves(then))
+}
+
+#[test]
+fn a_code_of_a_dialect_ends_a_command(rt: HostRuntime) -> Result<(), Fail> {
+    let alloc = rt.alloc();
+    let standard = Dialect::standard(alloc);
+    play_two(&rt, alloc, &standard, b"")?;
+    let common = Dialect::common(alloc)?;
+    play_two(&rt, alloc, &common, b"\xF9\x07\xEF\x07AT\r\xD3\xF9")
 }

@@ -5,6 +5,8 @@
 #[cfg(test)]
 mod desk;
 #[cfg(test)]
+mod dialects;
+#[cfg(test)]
 mod driver;
 #[cfg(test)]
 mod frames;
