@@ -72,9 +72,44 @@ echo_rule = record (new_rule (codes "echo")) { long = Some (codes "echo"); actio
 abbrev pub sim_app : App
 sim_app = with_rule (with_rule (with_rule (new_app (codes "sim")) n1_rule) pin_rule) echo_rule
 
--- the program, with its four subcommands
+-- the same with a modem
+abbrev pub with_four : App
+with_four = with_subcommand with_three sim_app.top
+
+-- the option `--tick`: a number from 10 to 60000, and 100 where it isn't there
+abbrev pub tick_rule : Rule
+tick_rule = record (new_rule (codes "tick")) {
+  long = Some (codes "tick");
+  action = Some Set;
+  value_names = 1;
+  defaults = codes "100" ∷ [];
+  parser = Some (Signed (pos 10) (pos 60000));
+}
+
+-- the option `--quiet-for`: a number from 1 to 60000
+abbrev pub quiet_rule : Rule
+quiet_rule = record (new_rule (codes "quiet-for")) {
+  long = Some (codes "quiet-for");
+  action = Some Set;
+  value_names = 1;
+  parser = Some (Signed (pos 1) (pos 60000));
+}
+
+-- the option `--entry`: a text
+abbrev pub entry_rule : Rule
+entry_rule = record (new_rule (codes "entry")) { long = Some (codes "entry"); action = Some Set; value_names = 1 }
+
+-- the device, a word that has to be there
+abbrev pub device_rule : Rule
+device_rule = record (new_rule (codes "device")) { action = Some Set; value_names = 1; required = true }
+
+-- the subcommand with these and `--n1`
+abbrev pub drive_app : App
+drive_app = with_rule (with_rule (with_rule (with_rule (subcommand_app (codes "drive")) tick_rule) quiet_rule) entry_rule) device_rule
+
+-- the program, with its five subcommands
 abbrev pub program_app : App
-program_app = with_subcommand with_three sim_app.top
+program_app = with_subcommand with_four drive_app.top
 
 -- what is wrong with words, or the help that they ask for; nothing where they name a subcommand to run
 abbrev pub fault_in : List Text → Kinds

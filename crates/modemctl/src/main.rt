@@ -1,10 +1,11 @@
-//! `modemctl` shows the driver of a cellular modem at work: what octets of the line are read as, what the driver does with
-//! requests and octets, and what callers in threads are told by a simulated modem.
+//! `modemctl` drives a cellular modem on a terminal, is one for any client, and shows the driver at work: what octets of the line
+//! are read as, what the driver does with requests and octets, and what callers in threads are told by a simulated modem.
 #![tactic(auto)]
 
 pub mod laws;
 mod words;
 
+pub use modem_drive::drive_run;
 pub use modem_runs::{bench_run, frames_run, replay_run};
 use modem_runs::{Stop, give_up};
 pub use modem_serve::sim_run;
@@ -28,6 +29,7 @@ fn main(rt: HostRuntime) -> ExitCode {
             rt.alloc(),
             words.as_slice(),
             &mut rt.stdin(),
+            rt.stdin(),
             &mut rt.stdout(),
             &mut faults,
         ),

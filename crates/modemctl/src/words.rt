@@ -1,24 +1,29 @@
 //! The words of the program.
-ghost use Rattle.std.specs.Prelude.{◌≡◌, ◌≢◌, ◌<◌, ◌≤◌, [], map, Some, IfOk, false, codes};
+ghost use Rattle.std.specs.Prelude.{◌≡◌, ◌≢◌, ◌<◌, ◌≤◌, ◌⊎◌, [], map, Some, IfOk, false, codes};
 ghost use Rattle.std.specs.String.{string_bytes};
 ghost use Rattle.clap.specs.Words.{app_of, first_value, found_of, one_text, rule_of, kind_of, subcommand_name_of, subcommand_rows_of};
 ghost use Rattle.modem_runs.specs.Printed.{IsBenched, IsPrinted};
 ghost use Rattle.modem_runs.specs.Stopping.{HasGivenUp};
 ghost use Rattle.modemctl.specs.Benches.{IsFlag, PrintsBench, PrintsFrames, PrintsReplay, ServesClient, ServesWith, plain_script};
-ghost use Rattle.modemctl.specs.Words.{callers_rule, cut_rule, echo_rule, n1_rule, pin_rule, program_app, fault_in, met_in, named_in, with_three, with_two, AreFor, AsksNoHelp, HasNoNumber};
+ghost use Rattle.modemctl.specs.Drives.{PrintsDrive};
+ghost use Rattle.modemctl.specs.Words.{callers_rule, cut_rule, echo_rule, n1_rule, pin_rule, program_app, fault_in, met_in, named_in, with_four, with_three, with_two, AreFor, AsksNoHelp, HasNoNumber};
 
+mod driving;
 mod numbers;
 
 use at_cmds::Pin;
 use clap::error::ErrorKind;
 use clap::{Arg, ArgAction, ArgMatches, Command, Error, value_parser};
+use driving::{drive_words, with_drive};
 use modem_runs::{Stop, bench_run, frames_run, give_up, replay_run};
 use modem_serve::{SimOptions, sim_run};
 use modem_sim::{Script, Steps};
 use numbers::{Numbers, numbers_of};
 use std::alloc::{AllocError, AllocGlobal, Global};
+use std::fs::File;
 use std::io::{Read, Write};
 use std::random::RandomSource;
+use std::rt::{Clock, Files};
 use std::sync::Wait;
 use std::thread::Threads;
 
@@ -116,8 +121,9 @@ fn three_commands<'a>(alloc: Global) -> Result<Command<'a>, AllocError>
     command.subcommand(bench)
 }
 
-fn program<'a>(alloc: Global) -> Result<Command<'a>, AllocError>
-    ensures { IfOk result (λ c. app_of c ≡ program_app) }
+/// The same with a modem.
+fn four_commands<'a>(alloc: Global) -> Result<Command<'a>, AllocError>
+    ensures { IfOk result (λ c. app_of c ≡ with_four) }
 {
     let command = three_commands(alloc)?;
     let sim = Command::new(alloc, "sim")
@@ -126,6 +132,14 @@ fn program<'a>(alloc: Global) -> Result<Command<'a>, AllocError>
         .arg(pin_option(alloc))?
         .arg(echo_option(alloc))?;
     command.subcommand(sim)
+}
+
+/// The program with all of them.
+fn program<'a>(alloc: Global) -> Result<Command<'a>, AllocError>
+    ensures { IfOk result (λ c. app_of c ≡ program_app) }
+{
+    let command = four_commands(alloc)?;
+    with_drive(alloc, command)
 }
 
 /// Whether some character is one that moves the cursor or rings a bell, as a line feed.
@@ -262,20 +276,32 @@ fn sim_words<I: Read, W: Write, E: Write>(
 }
 
 /// Runs the subcommand that a parse met.
-fn run_named<R, I: Read, W: Write, E: Write>(
+fn run_named<R, I: Read, J, W: Write, E: Write>(
     rt: &R,
     alloc: Global,
     matches: &ArgMatches<'_>,
     input: &mut I,
+    lines: J,
     output: &mut W,
     faults: &mut E,
 ) -> u8
 where
-    R: Threads + Wait + RandomSource + AllocGlobal + Copy + Send + Drop + 'static,
+    R: Files<File = File>
+        + Threads
+        + Wait
+        + Clock
+        + RandomSource
+        + AllocGlobal
+        + Copy
+        + Send
+        + Drop
+        + 'static,
+    J: Read + Send + Drop + 'static,
     ensures status { result ≤ 2 }
-    ensures bad { result ≡ 2 → output.new ≡ output.old }
+    ensures bad { result ≡ 2 → subcommand_name_of matches.now ≢ Some (codes "drive") → output.new ≡ output.old }
     ensures unread { HasNoNumber (subcommand_rows_of matches.now) → input.new ≡ input.old }
     ensures nothing { result ≡ 1 → subcommand_name_of matches.now ≢ Some (codes "sim")
+        → subcommand_name_of matches.now ≢ Some (codes "drive")
         → HasGivenUp output.old output.new (E.contents faults.old) (E.contents faults.new) result }
     ensures frames { result ≡ 0 → subcommand_name_of matches.now ≡ Some (codes "frames")
         → PrintsFrames (subcommand_rows_of matches.now) (I.remaining input.old) (W.contents output.old)
@@ -289,6 +315,10 @@ where
     ensures sim { result ≡ 0 → subcommand_name_of matches.now ≡ Some (codes "sim")
         → ServesClient (subcommand_rows_of matches.now) (I.remaining input.old) (W.contents output.old)
         (W.contents output.new) }
+    ensures drive { result ≡ 0 → subcommand_name_of matches.now ≡ Some (codes "drive")
+        → PrintsDrive (subcommand_rows_of matches.now) (W.contents output.old) (W.contents output.new) }
+    ensures drive_bad { result ≡ 2 → subcommand_name_of matches.now ≡ Some (codes "drive") → (output.new ≡ output.old)
+        ⊎ PrintsDrive (subcommand_rows_of matches.now) (W.contents output.old) (W.contents output.new) }
 {
     let Some((name, given)) = matches.subcommand() else {
         return 2;
@@ -302,30 +332,43 @@ where
         "replay" => replay_run(alloc, input, output, faults, numbers.n1),
         "bench" => bench_plain(rt, alloc, numbers, input, output, faults),
         "sim" => sim_words(alloc, given, numbers.n1, input, output, faults),
+        "drive" => drive_words(rt, given, numbers.n1, lines, output, faults),
         _ => 2,
     }
 }
 
 /// Runs the subcommand that the words name, the program's own name before them, and gives the exit
-/// status: 0 where it is done, 1 at a fault, 2 at bad words or a bad line.
-pub fn run<R, I: Read, W: Write, E: Write>(
+/// status: 0 where it is done, 1 at a fault, 2 at bad words or a bad line. `lines` is the same input, for a thread of a drive's own.
+pub fn run<R, I: Read, J, W: Write, E: Write>(
     rt: &R,
     alloc: Global,
     words: &[String],
     input: &mut I,
+    lines: J,
     output: &mut W,
     faults: &mut E,
 ) -> u8
 where
-    R: Threads + Wait + RandomSource + AllocGlobal + Copy + Send + Drop + 'static,
+    R: Files<File = File>
+        + Threads
+        + Wait
+        + Clock
+        + RandomSource
+        + AllocGlobal
+        + Copy
+        + Send
+        + Drop
+        + 'static,
+    J: Read + Send + Drop + 'static,
     ensures status { result ≤ 2 }
-    ensures bad { result ≡ 2 → output.new ≡ output.old }
+    ensures bad { result ≡ 2 → (AreFor (codes "drive") (map string_bytes words.now) → ⊥) → output.new ≡ output.old }
     ensures wrong { fault_in (map string_bytes words.now) ≢ []
         → AsksNoHelp (fault_in (map string_bytes words.now)) → 0 < result }
     ensures unread { fault_in (map string_bytes words.now) ≢ [] → input.new ≡ input.old }
     ensures no_number { fault_in (map string_bytes words.now) ≡ []
         → HasNoNumber (met_in (map string_bytes words.now)) → input.new ≡ input.old }
     ensures nothing { result ≡ 1 → named_in (map string_bytes words.now) ≢ Some (codes "sim")
+        → named_in (map string_bytes words.now) ≢ Some (codes "drive")
         → HasGivenUp output.old output.new (E.contents faults.old) (E.contents faults.new) result }
     ensures frames { result ≡ 0 → AreFor (codes "frames") (map string_bytes words.now)
         → PrintsFrames (met_in (map string_bytes words.now)) (I.remaining input.old) (W.contents output.old)
@@ -339,13 +382,17 @@ where
     ensures sim { result ≡ 0 → AreFor (codes "sim") (map string_bytes words.now)
         → ServesClient (met_in (map string_bytes words.now)) (I.remaining input.old) (W.contents output.old)
         (W.contents output.new) }
+    ensures drive { result ≡ 0 → AreFor (codes "drive") (map string_bytes words.now)
+        → PrintsDrive (met_in (map string_bytes words.now)) (W.contents output.old) (W.contents output.new) }
+    ensures drive_bad { result ≡ 2 → AreFor (codes "drive") (map string_bytes words.now) → (output.new ≡ output.old)
+        ⊎ PrintsDrive (met_in (map string_bytes words.now)) (W.contents output.old) (W.contents output.new) }
 {
     let command = match program(alloc) {
         Ok(command) => command,
         Err(_) => return give_up(faults, Stop::NoMemory),
     };
     match command.try_get_matches_from(words) {
-        Ok(matches) => run_named(rt, alloc, &matches, input, output, faults),
+        Ok(matches) => run_named(rt, alloc, &matches, input, lines, output, faults),
         Err(error) => explain(output, faults, &error, words),
     }
 }

@@ -1,5 +1,5 @@
 //! The numbers that the words give.
-ghost use Rattle.std.specs.Prelude.{◌≡◌, IfOk, codes};
+ghost use Rattle.std.specs.Prelude.{◌≡◌, IfOk, codes, decimal, option_map};
 ghost use Rattle.clap.specs.Words.{found_of, one_text};
 ghost use Rattle.modemctl.specs.Words.{IsNumberOf};
 
@@ -32,7 +32,7 @@ struct Decimal {
 
 /// A text is no such number.
 #[derive(Drop)]
-struct NotDecimal;
+pub struct NotDecimal;
 
 impl FromStr for Decimal {
     type Err = NotDecimal;
@@ -54,12 +54,23 @@ impl FromStr for Decimal {
 }
 
 /// The number that an option gives, and else the default.
-fn number_of(matches: &ArgMatches<'_>, option: &str, default: u16) -> Result<u16, NotDecimal>
+pub fn number_of(matches: &ArgMatches<'_>, option: &str, default: u16) -> Result<u16, NotDecimal>
     ensures { IfOk result (IsNumberOf default (one_text (found_of matches.now) option.now)) }
 {
     match matches.try_get_one::<Decimal>(option) {
         Ok(Some(given)) => Ok(given.number),
         Ok(None) => Ok(default),
+        Err(refused) => Err(refused),
+    }
+}
+
+/// The number that an option without a default gives, if it gives one.
+pub fn seconds_of(matches: &ArgMatches<'_>, option: &str) -> Result<Option<u16>, NotDecimal>
+    ensures { IfOk result (λ n. option_map decimal n ≡ one_text (found_of matches.now) option.now) }
+{
+    match matches.try_get_one::<Decimal>(option) {
+        Ok(Some(given)) => Ok(Some(given.number)),
+        Ok(None) => Ok(None),
         Err(refused) => Err(refused),
     }
 }

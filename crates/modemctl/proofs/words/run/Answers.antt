@@ -1,13 +1,14 @@
-use Rattle.std.proofs.Common.{◌≡◌, ◌≢◌, ◌∙◌, ◌<◌, ◌⊎◌, ℕ, ⊎_elim, ap, arith, refl, subst, sym, true, List, [], ◌∷◌, Option, None, Some, option_map, codes}
+use Rattle.std.proofs.Common.{◌≡◌, ◌≢◌, ◌∙◌, ◌<◌, ◌⊎◌, ℕ, ⊎_elim, inl, inr, ap, arith, refl, subst, sym, true, List, [], ◌∷◌, Option, None, Some, option_map, codes}
 use Rattle.clap.specs.Words.{App, HasKind, IsAmong, Kinds, Row, Text, fault_of, is_simple, is_simple_and_free, subcommand_of, subcommand_name_of, subcommand_rows_of}
 use Rattle.clap.specs.declared.ArgMatches.{ArgMatches}
 use Rattle.clap.specs.declared.error.ErrorKind.{ErrorKind}
 use Rattle.clap.specs.declared.error.ErrorKind.TheVariants.{DisplayHelp, DisplayVersion, OutOfMemory}
 use Rattle.clap.proofs.OnLiterals.{clap_on_literals}
-use Rattle.modemctl.specs.Words.{AsksNoHelp, HasNoNumber, program_app, fault_in, met_in, named_in, text_in}
+use Rattle.modemctl.specs.Words.{AsksNoHelp, HasNoNumber, program_app, fault_in, met_in, named_in, text_in, raw_in}
 use Rattle.modem_runs.specs.declared.stop.Stop.TheVariants as Stop
 use Rattle.modem_runs.proofs.outputs.StoppedRuns.{gave_up}
 use Rattle.modemctl.specs.Benches.{PrintsBench, PrintsFrames, PrintsReplay, ServesClient}
+use Rattle.modemctl.specs.Drives.{PrintsDrive}
 use Rattle.modemctl.proofs.words.run.Goals as goal
 
 simple : is_simple program_app ≡ true
@@ -51,6 +52,19 @@ returns-in-Ok-try_get_matches_from-clause-sim g c zero for =
     subst (λ (m : Option (Text × List Row)). ServesClient m (g.I.Read.remaining c.args.input.now) (g.W.Write.contents c.args.output.now) (g.W.Write.contents c.run_named.new.output)) (met c.in-Ok-try_get_matches_from.matches _ _ c.in-Ok.ensures (λ e. (c.in-Ok-try_get_matches_from.ensures.matches e).1))
     (c.run_named.ensures.sim zero (named c.in-Ok-try_get_matches_from.matches _ _ c.in-Ok.ensures (λ e. (c.in-Ok-try_get_matches_from.ensures.matches e).1) ∙ for.1))
 
+pub returns-in-Ok-try_get_matches_from-clause-drive :
+    goal.returns-in-Ok-try_get_matches_from-clause-drive
+returns-in-Ok-try_get_matches_from-clause-drive g c zero for =
+    subst (λ (m : Option (Text × List Row)). PrintsDrive m (g.W.Write.contents c.args.output.now) (g.W.Write.contents c.run_named.new.output)) (met c.in-Ok-try_get_matches_from.matches _ _ c.in-Ok.ensures (λ e. (c.in-Ok-try_get_matches_from.ensures.matches e).1))
+    (c.run_named.ensures.drive zero (named c.in-Ok-try_get_matches_from.matches _ _ c.in-Ok.ensures (λ e. (c.in-Ok-try_get_matches_from.ensures.matches e).1) ∙ for.1))
+
+pub returns-in-Ok-try_get_matches_from-clause-drive_bad :
+    goal.returns-in-Ok-try_get_matches_from-clause-drive_bad
+returns-in-Ok-try_get_matches_from-clause-drive_bad g c two for =
+    ⊎_elim (λ same. inl same)
+    (λ prints. inr (subst (λ (m : Option (Text × List Row)). PrintsDrive m (g.W.Write.contents c.args.output.now) (g.W.Write.contents c.run_named.new.output)) (met c.in-Ok-try_get_matches_from.matches _ _ c.in-Ok.ensures (λ e. (c.in-Ok-try_get_matches_from.ensures.matches e).1)) prints))
+    (c.run_named.ensures.drive_bad two (named c.in-Ok-try_get_matches_from.matches _ _ c.in-Ok.ensures (λ e. (c.in-Ok-try_get_matches_from.ensures.matches e).1) ∙ for.1))
+
 -- ## What is wrong with the words
 
 free : is_simple_and_free program_app ≡ true
@@ -79,6 +93,29 @@ pub returns-in-Ok-try_get_matches_from-clause-wrong :
     goal.returns-in-Ok-try_get_matches_from-clause-wrong
 returns-in-Ok-try_get_matches_from-clause-wrong g c wrong none =
     absurd (wrong (at_program (λ kinds. kinds ≡ []) _ _ c.in-Ok.ensures c.in-Ok-try_get_matches_from.ensures.kinds))
+
+pub returns-in-Ok-try_get_matches_from-clause-bad :
+    goal.returns-in-Ok-try_get_matches_from-clause-bad
+returns-in-Ok-try_get_matches_from-clause-bad g c two other =
+    c.run_named.ensures.bad two (λ is. other (at_program (λ kinds. kinds ≡ []) _ _ c.in-Ok.ensures c.in-Ok-try_get_matches_from.ensures.kinds, sym (named c.in-Ok-try_get_matches_from.matches _ _ c.in-Ok.ensures (λ e. (c.in-Ok-try_get_matches_from.ensures.matches e).1)) ∙ is))
+
+pub returns-in-Err-try_get_matches_from-clause-bad :
+    goal.returns-in-Err-try_get_matches_from-clause-bad
+returns-in-Err-try_get_matches_from-clause-bad g c two other = c.explain.ensures.bad two
+
+pub returns-in-Err-try_get_matches_from-clause-sim :
+    goal.returns-in-Err-try_get_matches_from-clause-sim
+returns-in-Err-try_get_matches_from-clause-sim g c zero for =
+    absurd (is_memory _ _ _ (at_program (λ kinds. HasKind kinds c.in-Err-try_get_matches_from.error) _ _ c.in-Ok.ensures c.in-Err-try_get_matches_from.ensures.kinds) c.explain.ensures.memory zero for.0)
+
+pub returns-in-Err-try_get_matches_from-clause-drive :
+    goal.returns-in-Err-try_get_matches_from-clause-drive
+returns-in-Err-try_get_matches_from-clause-drive g c zero for =
+    absurd (is_memory _ _ _ (at_program (λ kinds. HasKind kinds c.in-Err-try_get_matches_from.error) _ _ c.in-Ok.ensures c.in-Err-try_get_matches_from.ensures.kinds) c.explain.ensures.memory zero for.0)
+
+pub returns-in-Err-try_get_matches_from-clause-drive_bad :
+    goal.returns-in-Err-try_get_matches_from-clause-drive_bad
+returns-in-Err-try_get_matches_from-clause-drive_bad g c two for = inl (c.explain.ensures.bad two)
 
 pub returns-in-Ok-try_get_matches_from-clause-unread :
     goal.returns-in-Ok-try_get_matches_from-clause-unread
@@ -112,12 +149,11 @@ returns-in-Ok-try_get_matches_from-clause-no_number g c right none =
 
 pub returns-in-Ok-try_get_matches_from-clause-nothing :
     goal.returns-in-Ok-try_get_matches_from-clause-nothing
-returns-in-Ok-try_get_matches_from-clause-nothing g c one other_word =
-    c.run_named.ensures.nothing one
-    (λ is. other_word (sym (named c.in-Ok-try_get_matches_from.matches _ _ c.in-Ok.ensures (λ e. (c.in-Ok-try_get_matches_from.ensures.matches e).1)) ∙ is))
+returns-in-Ok-try_get_matches_from-clause-nothing g c one no_sim no_drive =
+    c.run_named.ensures.nothing one (λ is. no_sim (sym (named c.in-Ok-try_get_matches_from.matches _ _ c.in-Ok.ensures (λ e. (c.in-Ok-try_get_matches_from.ensures.matches e).1)) ∙ is)) (λ is. no_drive (sym (named c.in-Ok-try_get_matches_from.matches _ _ c.in-Ok.ensures (λ e. (c.in-Ok-try_get_matches_from.ensures.matches e).1)) ∙ is))
 
 pub returns-in-Err-clause-nothing : goal.returns-in-Err-clause-nothing
-returns-in-Err-clause-nothing g c one other_word = gave_up Stop.NoMemory c.args.output.now _ _ _ _ c.give_up.ensures.status c.give_up.ensures.said (λ other. refl)
+returns-in-Err-clause-nothing g c one no_sim no_drive = gave_up Stop.NoMemory c.args.output.now _ _ _ _ c.give_up.ensures.status c.give_up.ensures.said (λ other. refl)
 
 -- ## Rows
 
@@ -168,3 +204,15 @@ with_a_plus = refl
 text_with_a_plus : text_in (met_in (codes "modemctl" ∷ codes "replay" ∷ codes "--n1" ∷ codes "+31" ∷ [])) (codes "n1") ≡ Some (codes "+31")
 unfolding clap_on_literals
 text_with_a_plus = refl
+
+drive_with_device : fault_in (codes "modemctl" ∷ codes "drive" ∷ codes "/dev/ttyUSB2" ∷ []) ≡ []
+unfolding clap_on_literals
+drive_with_device = refl
+
+drive_alone : fault_in (codes "modemctl" ∷ codes "drive" ∷ []) ≢ []
+unfolding clap_on_literals
+drive_alone e = cc
+
+entry_of_words : raw_in (met_in (codes "modemctl" ∷ codes "drive" ∷ codes "--entry" ∷ codes "AT+CMUX=0,0,5" ∷ codes "/dev/ttyUSB2" ∷ [])) (codes "entry") ≡ Some (codes "AT+CMUX=0,0,5")
+unfolding clap_on_literals
+entry_of_words = refl

@@ -1,10 +1,13 @@
 -- What was printed, by the numbers that the matches of the subcommand give.
-use Rattle.std.proofs.Common.{◌≡◌, ◌∙◌, ◌⊎◌, ⊎_elim, ℕ, ap, sym, subst, List, Option, None, Some, option_map, codes}
-use Rattle.clap.specs.Words.{Row, Text, first_of, found_of, one_of, one_text, rows_of, subcommand_rows_of}
+use Rattle.std.proofs.Common.{◌≡◌, ◌∙◌, ◌⊎◌, ⊎_elim, ℕ, ap, sym, subst, inl, inr, List, Option, None, Some, option_map, codes}
+use Rattle.clap.specs.Words.{Row, Text, first_of, first_value, found_of, one_of, one_text, rows_of, subcommand_rows_of}
 use Rattle.clap.specs.declared.ArgMatches.{ArgMatches}
 use Rattle.clap.proofs.WalkLemmas.{first_value-rows, one_text-rows}
 use Rattle.modemctl.specs.Words.{HasNoNumber, IsGiven, IsNoNumber, IsNumberOf, raw_in, text_in}
 use Rattle.modemctl.specs.Benches.{IsFlag, ServesClient, ServesWith}
+use Rattle.modem_drive.specs.Entry.{entry_for}
+use Rattle.modem_drive.specs.Running.{DroveDevice}
+use Rattle.modemctl.specs.Drives.{PrintsDrive}
 use Rattle.modemctl.proofs.words.run_named.Goals as goal
 
 of_rows : (met : Option (Text × List Row)) (rows : List Row) (option : Text) → Some rows ≡ option_map (λ p. p.1) met → one_of option rows ≡ text_in met option
@@ -14,6 +17,14 @@ of_rows (Some p) rows option e = let same : Some rows ≡ Some p.1 = e in let ro
 -- what the matches of the subcommand have for an option
 given_in : (top m : ArgMatches) (option : Text) → Some (rows_of (found_of m)) ≡ option_map (λ p. p.1) (subcommand_rows_of top) → one_text (found_of m) option ≡ text_in (subcommand_rows_of top) option
 given_in top m option e = one_text-rows (found_of m) option ∙ of_rows (subcommand_rows_of top) (rows_of (found_of m)) option e
+
+of_words : (met : Option (Text × List Row)) (rows : List Row) (option : Text) → Some rows ≡ option_map (λ p. p.1) met → first_of option rows ≡ raw_in met option
+of_words None rows option e = cc
+of_words (Some p) rows option e = let same : Some rows ≡ Some p.1 = e in let rows_are : rows ≡ p.1 = cc in ap (first_of option) rows_are
+
+-- the same as it stands there
+word_given : (top m : ArgMatches) (option : Text) → Some (rows_of (found_of m)) ≡ option_map (λ p. p.1) (subcommand_rows_of top) → first_value (found_of m) option ≡ raw_in (subcommand_rows_of top) option
+word_given top m option e = first_value-rows (found_of m) option ∙ of_words (subcommand_rows_of top) (rows_of (found_of m)) option e
 
 -- the number that they give for it
 number_in : (top m : ArgMatches) (option : Text) (default n : ℕ) → Some (rows_of (found_of m)) ≡ option_map (λ p. p.1) (subcommand_rows_of top) → IsNumberOf default (one_text (found_of m) option) n
@@ -76,16 +87,12 @@ returns-in-bench-clause-bench g c zero named = record {
   printed = c.bench_plain.ensures.done zero;
 }
 
-raw_of_rows : (met : Option (Text × List Row)) (rows : List Row) (option : Text) → Some rows ≡ option_map (λ p. p.1) met → first_of option rows ≡ raw_in met option
-raw_of_rows None rows option e = cc
-raw_of_rows (Some p) rows option e = let same : Some rows ≡ Some p.1 = e in let rows_are : rows ≡ p.1 = cc in ap (first_of option) rows_are
-
 serves_client : (top m : ArgMatches) (n1 : ℕ) (input before after : Option (List ℕ)) → Some (rows_of (found_of m)) ≡ option_map (λ p. p.1) (subcommand_rows_of top) → IsNumberOf 31 (one_text (found_of m) (codes "n1")) n1
     → ServesWith n1 m input before after → ServesClient (subcommand_rows_of top) input before after
 serves_client top m n1 input before after rows number serves = record {
   options = serves.options;
   n1_given = number_in top m (codes "n1") 31 serves.options.n1 rows (subst (λ (n : ℕ). IsNumberOf 31 (one_text (found_of m) (codes "n1")) n) (sym serves.n1_is) number);
-  pin_given = serves.pin_is ∙ first_value-rows (found_of m) (codes "pin") ∙ raw_of_rows (subcommand_rows_of top) (rows_of (found_of m)) (codes "pin") rows;
+  pin_given = serves.pin_is ∙ word_given top m (codes "pin") rows;
   echo_given = subst (λ (t : Option Text). IsFlag t serves.options.echo) (given_in top m (codes "echo") rows) serves.echo_is;
   no_steps = serves.no_steps;
   served = serves.served;
@@ -95,3 +102,19 @@ pub returns-in-sim-clause-sim : goal.returns-in-sim-clause-sim
 returns-in-sim-clause-sim g c zero named =
     serves_client c.args.matches.now c.in-Some.given.now c.in-Ok.numbers.n1 (g.I.Read.remaining c.args.input.now) (g.W.Write.contents c.args.output.now) (g.W.Write.contents c.sim_words.new.output) c.in-Some.ensures.rows c.in-Ok.ensures.n1
     (c.sim_words.ensures.served zero)
+
+prints_drive : (top m : ArgMatches) (n1 : ℕ) (before after : Option (List ℕ)) → Some (rows_of (found_of m)) ≡ option_map (λ p. p.1) (subcommand_rows_of top) → IsNumberOf 31 (one_text (found_of m) (codes "n1")) n1
+    → DroveDevice (entry_for (first_value (found_of m) (codes "entry")) n1) n1 before after None → PrintsDrive (subcommand_rows_of top) before after
+prints_drive top m n1 before after e is drove = record {
+  n1 = n1;
+  given = number_in top m (codes "n1") 31 n1 e is;
+  drove = subst (λ (t : Option Text). DroveDevice (entry_for t n1) n1 before after None) (word_given top m (codes "entry") e) drove;
+}
+
+pub returns-in-drive-clause-drive : goal.returns-in-drive-clause-drive
+returns-in-drive-clause-drive g c zero named =
+    prints_drive c.args.matches.now c.in-Some.given.now c.in-Ok.numbers.n1 _ _ c.in-Some.ensures.rows c.in-Ok.ensures.n1 (c.drive_words.ensures.done zero)
+
+pub returns-in-drive-clause-drive_bad : goal.returns-in-drive-clause-drive_bad
+returns-in-drive-clause-drive_bad g c two named =
+    ⊎_elim (λ same. inl same) (λ drove. inr (prints_drive c.args.matches.now c.in-Some.given.now c.in-Ok.numbers.n1 _ _ c.in-Some.ensures.rows c.in-Ok.ensures.n1 drove)) (c.drive_words.ensures.bad two)

@@ -1,0 +1,138 @@
+//! The words of a drive.
+ghost use Rattle.std.specs.Prelude.{◌≡◌, ◌≤◌, ◌⊎◌, IfOk, None, codes, false};
+ghost use Rattle.clap.specs.Words.{app_of, first_value, found_of, rule_of, with_subcommand};
+ghost use Rattle.modem_drive.specs.Entry.{entry_for, given_text};
+ghost use Rattle.modem_drive.specs.Running.{DroveDevice};
+ghost use Rattle.modemctl.specs.Words.{device_rule, drive_app, entry_rule, quiet_rule, tick_rule};
+
+use crate::words::numbers::{number_of, seconds_of};
+use crate::words::{n1_option, refuse};
+use clap::{Arg, ArgAction, ArgMatches, Command, value_parser};
+use modem_drive::{Settings, drive_run};
+use std::alloc::{AllocError, AllocGlobal, Global};
+use std::fs::File;
+use std::io::{Read, Write};
+use std::rt::{Clock, Files};
+use std::sync::Wait;
+use std::thread::Threads;
+use std::time::Duration;
+
+/// T1 in milliseconds where no word gives it (27.010, 5.7.1).
+const DEFAULT_TICK: u16 = 100;
+
+/// What a drive is for, and what its device has to be.
+const ABOUT: &str =
+    "Drives a modem on a terminal. Set the terminal up first: stty -F DEVICE raw -echo min 0 time 1 -crtscts clocal -hupcl. Each line of the input is a connection, 1 to 61, a blank and a command. An interrupt can't be caught: the modem then stays in the multiplexer, and the next drive, where nothing answers it, begins with a CLD frame";
+
+/// The option `--tick`.
+fn tick_option<'a>(alloc: Global) -> Arg<'a>
+    ensures rule { rule_of result ≡ tick_rule }
+    ensures own { result.global ≡ false }
+{
+    Arg::new(alloc, "tick")
+        .long("tick")
+        .value_name("MS")
+        .help("Milliseconds from tick to tick, 10 to 60000")
+        .action(ArgAction::Set)
+        .default_value("100")
+        .value_parser(value_parser!(u16).range(10..=60000))
+}
+
+/// The option `--quiet-for`.
+fn quiet_option<'a>(alloc: Global) -> Arg<'a>
+    ensures rule { rule_of result ≡ quiet_rule }
+    ensures own { result.global ≡ false }
+{
+    Arg::new(alloc, "quiet-for")
+        .long("quiet-for")
+        .value_name("SECONDS")
+        .help("Closes a connection whose command has no answer for so long, 1 to 60000")
+        .action(ArgAction::Set)
+        .value_parser(value_parser!(u16).range(1..=60000))
+}
+
+/// The option `--entry`.
+fn entry_option<'a>(alloc: Global) -> Arg<'a>
+    ensures rule { rule_of result ≡ entry_rule }
+    ensures own { result.global ≡ false }
+{
+    Arg::new(alloc, "entry")
+        .long("entry")
+        .value_name("TEXT")
+        .help("What enters the multiplexer, in place of AT+CMUX=0")
+        .action(ArgAction::Set)
+}
+
+/// The word for the device.
+fn device_word<'a>(alloc: Global) -> Arg<'a>
+    ensures rule { rule_of result ≡ device_rule }
+    ensures own { result.global ≡ false }
+{
+    Arg::new(alloc, "device")
+        .value_name("DEVICE")
+        .help("The terminal that the modem is on")
+        .required(true)
+        .action(ArgAction::Set)
+}
+
+/// A program with the subcommand `drive` beside those that it has.
+pub fn with_drive<'a>(alloc: Global, command: Command<'a>) -> Result<Command<'a>, AllocError>
+    ensures { IfOk result (λ c. app_of c ≡ with_subcommand (app_of command.entry) drive_app.top) }
+{
+    let drive = Command::new(alloc, "drive")
+        .about(ABOUT)
+        .arg(n1_option(alloc))?
+        .arg(tick_option(alloc))?
+        .arg(quiet_option(alloc))?
+        .arg(entry_option(alloc))?
+        .arg(device_word(alloc))?;
+    command.subcommand(drive)
+}
+
+/// What the words say of how the device is driven. Refused: the option of which the text is no number.
+fn settings_of<'a>(matches: &ArgMatches<'a>, n1: u16) -> Result<Settings<'a>, &'static str>
+    ensures n1 { IfOk result (λ s. s.n1 ≡ n1) }
+    ensures entry { IfOk result (λ s. given_text s.entry ≡ first_value (found_of matches.now) (codes "entry")) }
+{
+    let Ok(tick) = number_of(matches, "tick", DEFAULT_TICK) else {
+        return Err("tick");
+    };
+    let Ok(quiet_for) = seconds_of(matches, "quiet-for") else {
+        return Err("quiet-for");
+    };
+    Ok(Settings {
+        n1,
+        entry: matches.get_str("entry"),
+        tick: Duration::from_millis(u64::from(tick)),
+        quiet_for: quiet_for.map(|seconds| Duration::from_secs(u64::from(seconds))),
+    })
+}
+
+/// Drives a modem on the device that the words name.
+pub fn drive_words<R, I, W, E>(
+    rt: &R,
+    matches: &ArgMatches<'_>,
+    n1: u16,
+    input: I,
+    output: &mut W,
+    faults: &mut E,
+) -> u8
+where
+    R: Files<File = File> + Threads + Wait + Clock + AllocGlobal + Copy + Send + Drop + 'static,
+    I: Read + Send + Drop + 'static,
+    W: Write,
+    E: Write,
+    ensures status { result ≤ 2 }
+    ensures done { result ≡ 0
+        → DroveDevice (entry_for (first_value (found_of matches.now) (codes "entry")) n1) n1 (W.contents output.old) (W.contents output.new) None }
+    ensures bad { result ≡ 2 → (output.new ≡ output.old)
+        ⊎ DroveDevice (entry_for (first_value (found_of matches.now) (codes "entry")) n1) n1 (W.contents output.old) (W.contents output.new) None }
+{
+    let Some(path) = matches.get_str("device") else {
+        return 2;
+    };
+    match settings_of(matches, n1) {
+        Ok(settings) => drive_run(rt, path, input, output, faults, settings),
+        Err(option) => refuse(faults, option),
+    }
+}
