@@ -7,8 +7,8 @@ ghost use Rattle.modem_ends.specs.OneModemRows.{RightAnswer, RightLine, WrongAns
 
 use modem_ends::laws;
 
-/// Of every list of what happened at the two ends of one line. The premise (`IsOneModem`): the driver is the initiator (27.010, 5.1),
-/// its part of the list keeps the laws of a driver's history, and of its callers none uses a number twice; the modem's part keeps
+/// Of every list of what happened at the two ends of one line. The premise (`IsOneModem`): the driver is the initiator (27.010, 5.1)
+/// and sees lines by the standard's codes, its part of the list keeps the laws of a driver's history, and of its callers none uses a number twice; the modem's part keeps
 /// those of a simulated modem's, and each line that it announces is unsolicited (27.007, 9); at every point the frames that came at
 /// each end are the first that the other sent; and each connection is asked for once at most.
 ///
