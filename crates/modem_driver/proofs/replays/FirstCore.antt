@@ -1,9 +1,6 @@
 -- A new core that listens to every kind stands in the past in which nothing has happened.
-use Rattle.std.specs.Prelude.{◌≡◌, ℕ, true, List, [], ◌∷◌, refl}
-use Rattle.std.specs.List.{Contains}
+use Rattle.std.specs.Prelude.{◌≡◌, ℕ, true, [], refl}
 use Rattle.std.proofs.Common.{arith, sym, subst, length, ◌||◌, ◌==◌, false}
-use Rattle.at_text.specs.declared.unsolicited.UrcKind.{UrcKind}
-use Rattle.at_text.specs.declared.unsolicited.UrcKind.TheVariants.{Ring, Cring, Creg, Cgreg, Cgev, Ciev, Other}
 use Rattle.mux_station.specs.declared.role.Role.TheVariants.{Initiator}
 use Rattle.mux_station.specs.Stations.{new_station}
 use Rattle.mux_station.specs.Fitting as station_fits

@@ -1,7 +1,7 @@
 -- The kinds that a desk listens to.
-use Rattle.std.proofs.Common.{ap, sym, ◌∙◌, subst, arith}
+use Rattle.std.proofs.Common.{ap, sym, ◌∙◌, arith}
 use Rattle.std.proofs.lemmas.List.Elements.{Contains-append_right}
-use Rattle.std.specs.Prelude.{◌≡◌, ℕ, zero, suc, ◌+◌, ◌==◌, ◌<◌, ◌||◌, Bool, true, false, List, [], ◌∷◌, refl, Contains}
+use Rattle.std.specs.Prelude.{◌≡◌, zero, suc, ◌<◌, ◌||◌, Bool, true, false, List, [], ◌∷◌, refl, Contains}
 use Rattle.at_text.specs.declared.unsolicited.UrcKind.{UrcKind}
 use Rattle.at_text.specs.Kinds.{is_same_kind}
 use Rattle.at_text.proofs.SameKinds.{same_place, same_itself}

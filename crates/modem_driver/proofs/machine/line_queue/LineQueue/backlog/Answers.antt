@@ -1,5 +1,5 @@
 -- It is counted.
-use Rattle.std.proofs.Common.{ap, sym, ◌∙◌, subst, ◌≡◌, ◌<◌, arith, slice_index_or}
+use Rattle.std.proofs.Common.{ap, ◌∙◌, ◌≡◌, ◌<◌, arith}
 use Rattle.modem_history.specs.Sessions.{backlog_in}
 use Rattle.modem_driver.specs.LineQueues.{LineQueue}
 use Rattle.modem_driver.proofs.sessions.LineCounts.{counts_channel}

@@ -1,5 +1,5 @@
 -- The last is counted.
-use Rattle.std.proofs.Common.{sym, ◌∙◌, ◌≡◌, ◌<◌, arith}
+use Rattle.std.proofs.Common.{◌∙◌, ◌≡◌, ◌<◌, arith}
 use Rattle.modem_driver.proofs.sessions.LineCounts.{channel_room, kind_room}
 use Rattle.modem_driver.proofs.machine.line_queue.LineQueue.push_back_reserved.Goals as goal
 

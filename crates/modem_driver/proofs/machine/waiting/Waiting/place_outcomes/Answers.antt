@@ -1,5 +1,5 @@
 -- Each is offered in its turn.
-use Rattle.std.proofs.Common.{ap, sym, ◌∙◌, arith, refl, length}
+use Rattle.std.proofs.Common.{ap, sym, ◌∙◌, arith, refl}
 use Rattle.std.proofs.lemmas.Bool.{eqb-true}
 use Rattle.std.proofs.lemmas.List.{nil_from_length}
 use Rattle.modem_driver.proofs.sessions.FirstOffers.{none_held}
