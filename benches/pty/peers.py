@@ -52,12 +52,12 @@ class Place:
     def log(self, name):
         return (self.folder / name).read_bytes().decode(errors="replace")
 
-    def modem(self, program=None):
+    def modem(self, program=None, name="modem"):
         """`modemctl sim` on a terminal, all that goes either way kept: the terminal's path."""
-        path = self.folder / "modem"
+        path = self.folder / name
         program = program or f"{TOP}/modemctl sim"
-        kept = ["-r", str(self.folder / "sent"), "-R", str(self.folder / "said")]
-        self.start("socat", *kept, f"pty,raw,echo=0,link={path}", f"EXEC:{program}", log="socat")
+        kept = ["-r", f"{path}.sent", "-R", f"{path}.said"]
+        self.start("socat", *kept, f"pty,raw,echo=0,link={path}", f"EXEC:{program}", log=f"{name}.socat")
         self.await_path(path)
         return str(path)
 
@@ -86,9 +86,9 @@ class Place:
             time.sleep(0.1)
         sys.exit(f"{name} didn't come")
 
-    def print_refused(self):
+    def print_refused(self, name="modem"):
         """Which command lines the modem didn't answer by OK."""
-        talk = self.talk()
+        talk = self.talk(name)
         others = dict.fromkeys(f"{line.decode(errors='replace').strip()} ({(code or b'nothing').decode()})" for _, line, code in talk if code != b"OK")
         print(f"{len(talk)} command lines; not answered by OK: {'; '.join(others) or 'none'}")
 
@@ -100,9 +100,9 @@ class Place:
             time.sleep(0.1)
         sys.exit(f"{path} didn't come")
 
-    def talk(self):
+    def talk(self, name):
         """Each command line that the client sent, with its connection (None where plain) and its final code."""
-        sent, said = (texts((self.folder / name).read_bytes()) for name in ("sent", "said"))
+        sent, said = (texts((self.folder / f"{name}.{way}").read_bytes()) for way in ("sent", "said"))
         return [(dlci, *pair) for dlci in sent for pair in zip_longest(commands(sent[dlci]), codes(said.get(dlci, b"")))]
 
 
