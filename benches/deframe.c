@@ -1,6 +1,15 @@
 /* Measures the deframer: it decodes buffers through the static library of mux_frame_c, and prints
  * how long that takes for each octet, as a multiple of memchr over the same buffer and beside a
- * plain decoder, and beside oFono's reader where it is linked with that. ./run builds and runs it. */
+ * plain decoder, and beside oFono's reader where it is linked with that. With the name of a row it goes
+ * once over that row's octets, for a count of instructions. ./run builds and runs it.
+ *
+ * Buffers have 4 MiB, the last three 64 KiB, of UIH frames each between two flags of its own, at N1 4089
+ * where nothing else is said. In rows with bad check octets each fourth frame has another one. The
+ * deframer is fed at most 4096 octets at a time, and asked for frames until none is at hand; its counts
+ * have to be those of the plain decoder. memchr runs once without a hit, which is the speed of memory,
+ * and once from flag to flag. A time is the best of 8 slices of at least 4 ms of processor time; the
+ * passes take turns, 9 times. The table has the middle ratio, and in brackets how far lowest and highest
+ * lie apart. "Blocks" counts takings of memory: two, when the deframer is made. */
 #include <stdbool.h>
 #include <stdint.h>
 #include <stdio.h>
@@ -255,6 +264,28 @@ static void measure(const struct buffer *b)
 	fflush(stdout);
 }
 
+/* The deframer once over this row, and oFono's reader, each of which can be counted by itself: how many frames and octets it is. */
+static void go_once(const struct buffer *b)
+{
+	struct counts read = deframe(b);
+
+	printf("%zu %zu\n", read.frames, b->length);
+#ifdef OFONO
+	ofono(b);
+#endif
+}
+
+/* The row that is gone over once, or none: all are measured. */
+static const char *only;
+
+static void take_row(const struct buffer *b)
+{
+	if (!only)
+		measure(b);
+	else if (strcmp(only, b->name) == 0)
+		go_once(b);
+}
+
 enum { LONG = 4089 }; /* an N1 with which candidates are up to 4096 octets long */
 
 static void print_head(void)
@@ -297,7 +328,7 @@ static void measure_frames(void)
 			damage(&b);
 		else if (rows[k].damage == CHECK)
 			spoil(&b, rows[k].info);
-		measure(&b);
+		take_row(&b);
 	}
 }
 
@@ -316,7 +347,7 @@ static void measure_random(void)
 		for (size_t i = 0; i < b.length && !rows[k].flags; i++)
 			if (octets[i] == FLAG)
 				octets[i] = 0;
-		measure(&b);
+		take_row(&b);
 	}
 }
 
@@ -333,13 +364,15 @@ static void measure_hostile(void)
 		struct buffer b = { rows[k].name, LONG, octets, OCTETS / 64 };
 
 		fill_with(&b, rows[k].text, rows[k].length);
-		measure(&b);
+		take_row(&b);
 	}
 }
 
-int main(void)
+int main(int count, char **words)
 {
-	print_head();
+	only = count > 1 ? words[1] : NULL;
+	if (!only)
+		print_head();
 	measure_frames();
 	measure_random();
 	measure_hostile();
