@@ -1,4 +1,4 @@
--- What the values behind the names of commands stand for: the table of texts, the other way round.
+-- How the value behind a command's name is read: the table of texts, the other way round.
 use Rattle.std.specs.Prelude.{◌≡◌, ℕ, ◌==◌, ◌&&◌, true, false, List, [], ◌∷◌, drop, Option, Some, None, Result, Ok, Err, nat_eq, if◌then◌else◌, codes}
 use Rattle.std.specs.List.{starts_with}
 use Rattle.std.specs.Option.{option_map_or}

@@ -43,7 +43,7 @@ abbrev pub is_of_kind : UrcKind × List ℕ → Bool
 is_of_kind (Uncalled, l) = false
 is_of_kind (kind, l) = true
 
--- where each command begins with no window open, no line is lost or counted twice
+-- no line is lost or counted twice, where each command begins with no window open
 pub record NoneLost (dialect : Dialect) (ms : List Mark) : Type 0 where
   -- each line is seen once, as part of an answer, as an echo, or announced
   pub each : length (seen_in dialect ms) ≡ length (lines_of ms)

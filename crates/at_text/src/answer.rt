@@ -13,7 +13,7 @@ pub struct AnswerLine {
 }
 
 impl AnswerLine {
-    /// The same line once more.
+    /// A copy of the line.
     pub fn copy(&self) -> Result<AnswerLine, AllocError>
         ensures { IfOk result (λ copy. copy ≡ self.now) }
     {
@@ -87,7 +87,7 @@ impl AnswerLines {
         AnswerLines { lines }
     }
 
-    /// The same lines once more.
+    /// A copy of the lines.
     pub fn copy(&self) -> Result<AnswerLines, AllocError>
         ensures { IfOk result (λ copy. copy ≡ self.now) }
     {

@@ -50,7 +50,7 @@ impl LineReader {
         }
     }
 
-    /// Reads an octet, and lends the line that it ends, until the next call.
+    /// Reads an octet. If it ends a line, lends that line until the next call.
     pub fn push(&mut self, octet: u8) -> Option<Line<'_>>
         ensures line { lines_in result ≡ lines (self.old ++ octet ∷ []) }
         ensures past { (octets : List ℕ) → HasRead self.old octets
@@ -70,7 +70,7 @@ impl LineReader {
         self.has_ended = false;
     }
 
-    /// A reader that has read the same.
+    /// A copy of the reader.
     pub fn copy(&self) -> LineReader
         ensures { result ≡ self.now }
     {

@@ -64,7 +64,7 @@ pub record OnOneLineFrom (b : Beginning) (at : LineAt) (e : End) (line : List En
   pub newer : List EndAct
   pub on : AreOnOneLine b at e (newer ++ line) p
 
--- whatever such list they had, it goes on to one that they have
+-- whatever joint list that is one line's the two had, it goes on to one that they have
 unfoldable pub StaysOneLine : (old new : Pair) → Type 0
 StaysOneLine old new =
     (b : Beginning) (at : LineAt) (e : End) (line : List EndAct) → AreOnOneLine b at e line old

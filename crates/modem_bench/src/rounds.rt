@@ -188,11 +188,12 @@ fn steps<R: Wait + Drop>(
     Ok(Rest::UsedUp)
 }
 
-/// Runs a session and a simulated modem, each at one of two lines in memory, in rounds: in each the session is polled once, at most
-/// `cut` octets are carried each way, and the simulated modem makes the turns of a poll. Callers submit before it and between two
-/// calls of it. It ends after the first round in which both have ended or have nothing to do, no octets were carried and the modem
-/// sent none, or after which one of them has sent `room` octets; at the latest after so many rounds. Refusals: the fault of the session, or else that of the simulated modem, after
-/// the first round that has one.
+/// Runs a session and a simulated modem, each at one of two lines in memory, in rounds: in each the session is polled
+/// once, at most `cut` octets are carried each way, and the simulated modem makes the turns of a poll. Callers submit
+/// before it and between two calls of it. It ends after the first round in which both have ended or have nothing to do,
+/// no octets were carried and the modem sent none; or after which one of them has sent `room` octets; at the latest
+/// after `rounds` rounds. Refusals: the fault of the session, or else that of the simulated modem, after the first
+/// round that has one.
 ///
 /// Whatever joint list of acts the two had before, it goes on to one that they have after it; and where they began at new lines,
 /// with one N1, it stays one line's: what came at each end are the first frames that the other sent. In each such list in which

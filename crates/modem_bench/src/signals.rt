@@ -58,7 +58,7 @@ impl From<io::Error> for Fault {
     }
 }
 
-/// Why the bench was given up: the fault that the thread gave that was the first to give one.
+/// Why the bench was given up: the first fault that a thread gave.
 #[derive(Drop)]
 pub struct Reason<'a> {
     pub fault: Fault,
@@ -135,7 +135,7 @@ impl Signals {
         }
     }
 
-    /// Whether it goes on, and else why it was given up.
+    /// `Ok` while the bench goes on, else why it was given up.
     pub fn check(&self) -> Result<(), Reason<'_>>
         ensures { IfErr result (λ r. r.shown.of ≡ (arc_value self.now.shared).fault.id) }
     {

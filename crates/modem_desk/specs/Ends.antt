@@ -129,15 +129,15 @@ pub record Changes (at : ℕ → Type 0) (how : ℕ → ℕ → Type 0) (old new
   pub here : (k : ℕ) → at k → how (slice_index_or old k 0) (slice_index_or new k 0)
   pub others : (k : ℕ) → (at k → ⊥) → slice_index_or new k 0 ≡ slice_index_or old k 0
 
--- it fell by one at most
+-- a count fell by one at most
 abbrev pub FallsByOne : ℕ → ℕ → Type 0
 FallsByOne old new = old ≤ new + 1
 
--- it is 0 now
+-- a count is 0 now
 abbrev pub RunsOut : ℕ → ℕ → Type 0
 RunsOut old new = new ≡ 0
 
--- it is one more, but never above u64::MAX
+-- a count is one more, but never above u64::MAX
 abbrev pub RisesByOne : ℕ → ℕ → Type 0
 RisesByOne old new = new ≡ min (old + 1) (2 ^ 64 - 1)
 

@@ -18,7 +18,7 @@ pub record IsCounted (rs : List Request) : Type 0 where
   pub first : ℕ
   pub numbered : IsNumbered first rs
 
--- so are those of each caller among these: no caller used a number twice
+-- the requests of each caller among these are numbered one after the other: no caller used a number twice
 abbrev pub AreNumbered : List Request → Type 0
 AreNumbered rs = (n : ℕ) → IsCounted (of_caller n rs)
 

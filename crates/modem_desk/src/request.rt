@@ -23,7 +23,7 @@ pub enum Ask {
 }
 
 impl Ask {
-    /// The same ask once more.
+    /// A copy of the ask.
     pub fn copy(&self) -> Result<Ask, AllocError>
         ensures { IfOk result (λ copy. copy ≡ self.now) }
     {
@@ -52,7 +52,7 @@ pub struct Request {
 }
 
 impl Request {
-    /// The same request once more.
+    /// A copy of the request.
     pub fn copy(&self) -> Result<Request, AllocError>
         ensures { IfOk result (λ copy. copy ≡ self.now) }
     {
@@ -118,7 +118,7 @@ impl Answer {
         }
     }
 
-    /// The same answer once more.
+    /// A copy of the answer.
     pub fn copy(&self) -> Result<Answer, AllocError>
         ensures { IfOk result (λ copy. copy ≡ self.now) }
     {
@@ -152,7 +152,7 @@ pub struct Outcome {
 }
 
 impl Outcome {
-    /// The same outcome once more.
+    /// A copy of the outcome.
     pub fn copy(&self) -> Result<Outcome, AllocError>
         ensures { IfOk result (λ copy. copy ≡ self.now) }
     {
@@ -174,7 +174,7 @@ pub struct Urc {
 }
 
 impl Urc {
-    /// The same line once more.
+    /// A copy of the line.
     pub fn copy(&self) -> Result<Urc, AllocError>
         ensures { IfOk result (λ copy. copy ≡ self.now) }
     {

@@ -30,8 +30,8 @@ use Rattle.modem_history.specs.Wholes.{CompleteCalls, UsesOnce, taken_requests}
 
 -- ## What is kept
 
--- the station, the lanes of the connections 0 to 61, the requests in hand, the rules of one's own by which lines
--- are seen, the kinds that are listened to, and whether the line is lost
+-- what a core keeps: its station, the lanes of the connections 0 to 61, the requests in hand, the dialect's
+-- own rules, the kinds that are listened to, and whether the line is lost
 pub record Core : Type 0 where
   pub station : Station
   pub lanes : List Lane
@@ -44,7 +44,7 @@ pub record Core : Type 0 where
 abbrev pub dialect_in : Core → Dialect
 dialect_in v = dialect_of v.rules
 
--- nothing has happened yet
+-- a core to which nothing has happened yet, with these rules of a dialect
 abbrev pub core_by : Rules → ℕ → List UrcKind → Core
 core_by rules n1 kinds = record {
   station = new_station Initiator n1;
@@ -55,7 +55,7 @@ core_by rules n1 kinds = record {
   lost = false;
 }
 
--- and at a standard modem
+-- a core to which nothing has happened yet, by the standard's codes
 abbrev pub new_core : ℕ → List UrcKind → Core
 new_core n1 kinds = core_by no_rules n1 kinds
 
@@ -158,6 +158,7 @@ pub record GoesOn (s : Setting) (new : Core) (past : List Act) (a : Act) (acts :
   pub fits : Fits new (after past acts)
   pub run : IsRun s (after past acts)
 
--- whatever the setting and the past
+-- in every setting, and after every past in which the act may come, the core goes on with the act and all
+-- that it calls for
 unfoldable pub Handles : Core → Core → Act → List Act → Type 0
 Handles old new a acts = (s : Setting) (past : List Act) → MayCome s old past a → GoesOn s new past a acts

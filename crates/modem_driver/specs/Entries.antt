@@ -27,7 +27,7 @@ pub record Entry : Type 0 where
   pub written : ℕ
   pub kept : List ℕ
 
--- nothing is sent or read yet
+-- an entry that has sent and read nothing yet
 abbrev pub entry_begun : Entry
 entry_begun = record { written = 0; kept = [] }
 
@@ -72,7 +72,7 @@ abbrev pub Comes : ℕ → LineView → LineView → Entry → Option Final → 
 Comes made first now entry None = IsUnderWay (made + 1) first now entry
 Comes made first now entry (Some code) = EntryEnds made first now (answer_by code)
 
--- one call, whatever went before
+-- one call on the line, after any calls before it
 unfoldable pub EntryGoesOn : LineView → LineView → Entry → Entry → Option Final → Type 0
 EntryGoesOn old new was entry code =
     (made : ℕ) → (first : LineView) → IsUnderWay made first old was → Comes made first new entry code

@@ -1,4 +1,5 @@
--- An entry into the multiplexer in one call: a try, and once more behind a CLD frame where nothing answered (27.007, 5.7).
+-- An entry into the multiplexer in one call: a try, and a second one behind a CLD frame where nothing
+-- answered (27.007, 5.7).
 use Rattle.std.specs.Prelude.{◌≡◌, ℕ, ◌+◌, ◌-◌, ◌^◌, min, ◌≤◌, Bool, true, false, List, [], ◌∷◌, ◌++◌, codes}
 use Rattle.mux_frame.specs.Spelling.{spelled}
 use Rattle.at_text.specs.declared.finals.Final.{Final}

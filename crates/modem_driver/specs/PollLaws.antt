@@ -66,7 +66,7 @@ pub record IsSession {X : Type 0} (look : X → LineView) (s : SessionState X) :
   pub past : List Act
   pub fits : FitsAll b look s past
 
--- where its line is lost, its turns come to Failed, whatever else they do
+-- where a session's line is lost its turns come to Failed, whatever else they do
 unfoldable pub LostFails : {X : Type 0} → (X → LineView) → Type 0
 LostFails {X} look =
     (old new : SessionState X) (ran : Result Bool SessionFault) → IsSession look old
@@ -90,7 +90,7 @@ CallsTheLine {X} look =
     → (look old.line).calls < 2 ^ 64 - 1 → RunsTurns look old new (Ok more)
     → (look old.line).calls < (look new.line).calls
 
--- where its line is lost and no poll gave an end, a future of it gives Failed
+-- where a session's line is lost and no poll gave an end, its future gives Failed
 unfoldable pub LostGivesFailed : {X : Type 0} → (X → LineView) → Type 0
 LostGivesFailed {X} look =
     (s : SessionState X) (given : Result Ended SessionFault) → IsSession look s → has_lost_line s ≡ true

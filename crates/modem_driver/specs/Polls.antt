@@ -81,12 +81,12 @@ given_by k (Ok more) =
     if has_ended k then progress.Ended (Ok Stopped) else if more then progress.More else progress.Idle
 given_by k (Err why) = progress.Ended (Err why)
 
--- the end that there is in it
+-- the end that a poll's turns led to, if they led to one
 abbrev pub end_in : Progress → Option (Result Ended SessionFault)
 end_in (progress.Ended end) = Some end
 end_in _ = None
 
--- the end that one gave
+-- the end that an earlier poll gave, if one did
 abbrev pub end_given : Course → Option (Result Ended SessionFault)
 end_given (course.Ended end) = Some end
 end_given _ = None
@@ -127,7 +127,7 @@ abbrev pub PollSays : Beginning → SessionView → List Act → Result Ended Se
 PollSays b v past (Err fault.NoMemory) = Unit {0}
 PollSays b v past end = IsEnd b v past end
 
--- in every history that it fits
+-- in every history that the session fits, what the poll gave is its end
 abbrev pub SaysEnd : {X : Type 0} → (X → LineView) → SessionState X → Result Ended SessionFault → Type 0
 SaysEnd look s given =
     (b : Beginning) (past : List Act) → FitsAll b look s past → PollSays b (session_view look s) past given

@@ -19,7 +19,7 @@ use Rattle.modem_history.specs.Acts.{Act, Told, Heard}
 unfoldable pub Listens : (UrcKind → Bool) → List UrcKind → Type 0
 Listens listens kinds = (kind : UrcKind) → (listens kind ≡ true) ↔ Contains kinds kind
 
--- of the request whose command is under way
+-- whose request it is, and which
 abbrev pub owner_of : Request → Owner
 owner_of r = record { caller = r.caller; number = r.number }
 
@@ -69,7 +69,7 @@ read_each dialect listens d owner v [] = v
 read_each dialect listens d owner v (c ∷ octets) =
     read_each dialect listens d owner (read_on dialect listens d owner v (c ∷ [])) octets
 
--- whatever is listened to
+-- one octet is read, whatever is listened to
 unfoldable pub ReadsOctet : (dialect : Dialect) → List UrcKind → code.Reading → ℕ → Read → Read → Type 0
 ReadsOctet dialect kinds r c old new =
     (listens : UrcKind → Bool) → Listens listens kinds
@@ -80,7 +80,7 @@ ReadsAll dialect kinds r octets old new =
     (listens : UrcKind → Bool) → Listens listens kinds
     → new ≡ read_each dialect listens r.dlci.number r.owner old octets
 
--- so much was said
+-- these acts are said behind the others, whatever is listened to
 unfoldable pub ReportSays : List UrcKind → code.Reading → ((UrcKind → Bool) → List Act) → List Act → List Act
     → Type 0
 ReportSays kinds r said old new =

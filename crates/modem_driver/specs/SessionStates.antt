@@ -37,7 +37,7 @@ pub record Kept : Type 0 where
   pub faulty : Bool
   pub course : Course
 
--- nothing has happened yet
+-- what a session keeps to which nothing has happened yet, with these rules of a dialect
 abbrev pub kept_by : Rules → ℕ → List UrcKind → Kept
 kept_by rules n1 kinds = record {
   core = core_by rules n1 kinds;
@@ -51,11 +51,11 @@ kept_by rules n1 kinds = record {
   course = GoesOn;
 }
 
--- and at a standard modem
+-- what a session keeps to which nothing has happened yet, by the standard's codes
 abbrev pub new_kept : ℕ → List UrcKind → Kept
 new_kept n1 kinds = kept_by no_rules n1 kinds
 
--- a session over a line of any type
+-- a session: its line, which may be of any type, its desk's end, and what it keeps beside them
 pub record SessionState (X : Type 0) : Type 0 where
   pub line : X
   pub driver : DriverView
@@ -71,7 +71,7 @@ KeepsItsEnd old new = KeepsEnd old.kept.course new.kept.course
 
 -- ## What a history speaks of
 
--- a line of any type, by its trait's words
+-- what a history sees of a line of any type
 abbrev pub line_by : {X : Type 0} → (received sent : X → List ℕ) → (calls failures empty_reads stalled_writes : X → ℕ)
     → X → LineView
 line_by received sent calls failures empty_reads stalled_writes x = record {
@@ -83,7 +83,7 @@ line_by received sent calls failures empty_reads stalled_writes x = record {
   stalled_writes = stalled_writes x;
 }
 
--- the desk's end
+-- what a history sees of the desk's end
 abbrev pub end_of : DriverView → EndView
 end_of d = record {
   taken = d.taken;
@@ -151,7 +151,7 @@ beginning_of n1 l d = beginning_by standard n1 l d
 
 -- ## Calls
 
--- a tick, whatever the session began with
+-- a tick of a session, whatever it began with
 unfoldable pub Ticks : {X : Type 0} → (X → LineView) → (old new : SessionState X) → Type 0
 Ticks look old new =
     GoesTick (session_view look old) (session_view look new) (λ b. FitsInside b look old)

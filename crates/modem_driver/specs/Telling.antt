@@ -1,4 +1,4 @@
--- What the requests in hand are told by what happened, in the words that a core has for it.
+-- What the requests in hand are told, by what happened.
 use Rattle.std.specs.Prelude.{◌≡◌, ℕ, ◌≤◌, Bool, List, [], ◌∷◌, ◌++◌, length, Option, Some, None, is_none, if◌then◌else◌}
 use Rattle.mux_station.specs.declared.role.ChannelState.{ChannelState}
 use Rattle.mux_station.specs.declared.role.ChannelState.TheVariants as is
@@ -80,7 +80,7 @@ abbrev pub told_to : (Ask → Option Answer) → List Request → List Act
 told_to says [] = []
 told_to says (r ∷ rs) = said_to r (says r.ask) ++ told_to says rs
 
--- those who are told nothing
+-- the requests that are told nothing
 abbrev pub left_by : (Ask → Option Answer) → List Request → List Request
 left_by says [] = []
 left_by says (r ∷ rs) = if is_none (says r.ask) then r ∷ left_by says rs else left_by says rs

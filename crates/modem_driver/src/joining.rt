@@ -1,4 +1,4 @@
-//! What was read on a fork of a window goes on behind what came before.
+//! Joins what was read on a fork of a window to what came before.
 ghost use Rattle.std.specs.Prelude.{◌≡◌, map, position, OnOk, OnErr};
 ghost use Rattle.modem_history.specs.Acts.{act_of};
 ghost use Rattle.at_text.specs.Forks.{lines_so_far};

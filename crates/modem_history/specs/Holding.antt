@@ -1,4 +1,5 @@
--- Which connections are held, since too many of their lines wait for a listener (own; 27.010, 5.4.6.3.7).
+-- Which connections are held because too many of their lines wait for a listener. The bounds are this
+-- driver's own; a hold is an MSC of 27.010, 5.4.6.3.7.
 use Rattle.std.specs.Prelude.{◌≡◌, ℕ, ◌==◌, ◌&&◌, ◌||◌, not, Bool, true, false, List, [], ◌∷◌, if◌then◌else◌}
 use Rattle.mux_station.specs.declared.role.Role.{Role}
 use Rattle.mux_station.specs.Opening.{is_open}

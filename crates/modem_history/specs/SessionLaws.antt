@@ -1,4 +1,4 @@
--- What it says of a session that it fits a history.
+-- What follows where a session fits a history.
 use Rattle.std.specs.Prelude.{◌≡◌, ℕ, not, Bool, true, false, List, [], ◌++◌, filter, None, length, ◌≤◌}
 use Rattle.std.specs.List.{list_any}
 use Rattle.mux_frame.specs.Frames.{Frame}
@@ -25,7 +25,7 @@ fresh b = record {
   unannounced = [];
 }
 
--- it fits the empty history
+-- a new session fits the empty history
 unfoldable pub BeginsFitting : Beginning → Type 0
 BeginsFitting b = SessionFits b (fresh b) []
 

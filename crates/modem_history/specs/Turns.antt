@@ -1,5 +1,5 @@
--- What the answers of a turn mean: Moved, WriterFull, Waiting, Blocked and Idle, and its faults; and what a
--- tick does.
+-- What the answers of a turn mean (Moved, WriterFull, Waiting, Blocked, Idle), what its faults mean, and
+-- what a tick does.
 use Rattle.std.specs.Prelude.{◌≡◌, ◌≢◌, ℕ, zero, suc, ◌+◌, ◌-◌, ◌^◌, ◌<◌, ◌≤◌, ◌==◌, ◌||◌, not, nat_le, nat_lt, min, ◌⊎◌, Bool, true, false, List, [], ◌∷◌, ◌++◌, length, take, map, flat_map, Option, Some, None, option_to_list}
 use Rattle.std.specs.List.{list_all, list_any}
 use Rattle.mux_frame.specs.Frames.{Frame}

@@ -56,7 +56,7 @@ pub record Wired : Type 0 where
 abbrev pub nothing_wired : Wired
 nothing_wired = record { came = []; gone = [] }
 
--- it fits a past, in which these frames came and went
+-- an end fits a past, in which these frames came and went
 pub record Fits (e : End) (w : Wired) (c : Core) (past : List Act) : Type 0 where
   pub setting_is : stations.setting_of c.station ≡ setting e
   pub echo_is : c.echo ≡ e.echo
@@ -85,7 +85,7 @@ pub record GoesFrom (may : Act → Bool) (e : End) (w : Wired) (past : List Act)
   pub only : list_all may later.newer ≡ true
   pub fits : Fits e w c now
 
--- whatever past it fits, it goes on by acts of a kind to one that it fits
+-- whatever past it fits, an end goes on by acts of a kind to one that it fits
 abbrev pub Goes : (Act → Bool) → Core → Core → Type 0
 Goes may old new = (e : End) (w : Wired) (past : List Act) → Fits e w old past → GoesFrom may e w past new
 
@@ -128,7 +128,7 @@ opens_in c f = is_on Sabm f.dlci f && ((f.dlci == 0) || is_opened (stations.chan
 abbrev pub closes_in : Core → Frame → Bool
 closes_in c f = is_opened (stations.channel_at c.station 0).state && brings_command cld f
 
--- it is noted that all are closed
+-- what was noted says that all connections closed
 abbrev pub closes_all : Noted → Bool
 closes_all AllClosed = true
 closes_all _ = false
@@ -137,7 +137,7 @@ closes_all _ = false
 abbrev pub counted_in : Core → ℕ → ℕ → Core
 counted_in c d count = record c { boxes = map (box_heard d count) c.boxes; come = counted (c.come + count) }
 
--- another modem, and another box of this connection, where so many lines ended
+-- the end with this modem and this box of a connection, on which so many lines ended
 abbrev pub kept_in : Core → ℕ → ModemState → Box → ℕ → Bool → Core
 kept_in c d m b count closes =
     counted_in (record c { modem = m; boxes = slice_set c.boxes d b; closed = c.closed || closes }) d count
@@ -158,7 +158,7 @@ pub record Takes (old new : Core) (f : Frame) : Type 0 where
 
 -- ## What is handed to the station
 
--- another box of this connection
+-- the end with this box of a connection
 abbrev pub boxed : Core → ℕ → Box → Core
 boxed c d b = record c { boxes = slice_set c.boxes d b }
 
@@ -270,7 +270,7 @@ pub record HasReleased (c : Core) : Type 0 where
 abbrev pub over : Box → ℕ
 over b = if is_released b.hold then 1 else 0
 
--- so many are
+-- on how many connections a hold is over, and what it held back is still kept apart
 abbrev pub holds_over : List Box → ℕ
 holds_over [] = 0
 holds_over (b ∷ boxes) = over b + holds_over boxes

@@ -71,7 +71,7 @@ ChangesNothingBefore start pin =
     → IsTextOf line (PinEnter pin) → tells_network c ≡ true → (ask : List ℕ) → IsTextOf ask c
     → answered (reached start (lines ++ line ∷ [])) c ask ≡ answered (reached (unlocked_start start) []) c ask
 
--- of a modem with this PIN
+-- the laws of a modem with this PIN
 pub record KeepsPin (start : ModemStart) (pin : List ℕ) : Type 0 where
   pub wants : WantsPin start pin
   pub locks : Locks start pin
@@ -79,7 +79,7 @@ pub record KeepsPin (start : ModemStart) (pin : List ℕ) : Type 0 where
   pub refuses : RefusesBefore start pin
   pub changes_nothing : ChangesNothingBefore start pin
 
--- one without a PIN is ready
+-- a modem without a PIN is ready
 abbrev pub IsReadyAlways : ModemStart → Type 0
 IsReadyAlways start =
     (lines : List (List ℕ)) → Tells (reached start lines) PinQuery (λ r. r ≡ Ok (Pin state.Ready))

@@ -252,7 +252,7 @@ domain_name Evolved = codes "+CEREG: "
 abbrev pub registration_text : Domain → ℕ → Bool → List ℕ
 registration_text d n registered = domain_name d ++ decimal n ++ codes "," ++ status_text n registered
 
--- how changes of a registration are reported
+-- how changes of the registration of this domain are reported, 0 to 2
 abbrev pub reports_of : Words → Domain → ℕ
 reports_of w Packet = w.packet_reports
 reports_of w Evolved = w.evolved_reports
@@ -266,7 +266,7 @@ abbrev pub word_refusal : ModemState → Word → Option ℕ
 word_refusal s Subscriber = lock_error s.lock
 word_refusal s _ = None
 
--- what it is told before OK
+-- what a command of the second table is told before OK
 abbrev pub word_told : Words → ModemState → Word → List (List ℕ)
 word_told w s Identity = codes "Cimbaloty simulated modem" ∷ []
 word_told w s Manufacturer = codes "Cimbaloty" ∷ []
@@ -291,7 +291,7 @@ switched n w s =
     else if n == 1 then record s { oper = Automatic; words = Some (record w { functionality = n }) }
     else record s { oper = Deregister; attached = false; words = Some (record w { functionality = n }) }
 
--- the state after it
+-- the state after a command of the second table
 abbrev pub word_after : Words → ModemState → Word → ModemState
 word_after w s Reset = record s {
   reports = 0;
@@ -366,7 +366,7 @@ abbrev pub final_text : Option (List ℕ) → List ℕ
 final_text None = codes "OK"
 final_text (Some error) = error
 
--- a report of a registration, where they are on
+-- the report of a registration, where reports are on
 abbrev pub report_texts : List ℕ → ℕ → Bool → List (List ℕ)
 report_texts name n registered = if n == 0 then [] else (name ++ status_text n registered) ∷ []
 

@@ -41,7 +41,8 @@ pub record HandsOne (e : End) (w : Wired) (past : List Act) (d : ℕ) (c : Core)
   pub from : MayOffer e w past d c some
   pub all : IsHandedOn c d
 
--- whatever past it fits; and it says whether it handed on octets, or let go a hold that was over
+-- octets are handed to the station on one connection, whatever past the end fits; moved says whether any
+-- were, or a hold that was over was let go
 pub record OffersOn (old new : Core) (d : ℕ) (moved : Bool) : Type 0 where
   pub some : Bool
   pub hands : (e : End) (w : Wired) (past : List Act) → Fits e w old past → HandsOne e w past d new some
@@ -59,7 +60,8 @@ pub record HandsFrom (e : End) (w : Wired) (past : List Act) (c : Core) (some : 
   pub brings : list_any is_handing from.later.newer ≡ some
   pub all : AllHanded c
 
--- whatever past it fits; and it says whether it handed on octets, or let go a hold that was over
+-- octets are handed to the station on all connections, whatever past the end fits; moved says whether any
+-- were, or a hold that was over was let go
 pub record OffersAll (old new : Core) (moved : Bool) : Type 0 where
   pub some : Bool
   pub hands : (e : End) (w : Wired) (past : List Act) → Fits e w old past → HandsFrom e w past new some
@@ -212,7 +214,7 @@ pub record StoodStill (k : Kept) (t : Exchange) : Type 0 where
   pub reads : k.unfed ≡ [] → t.read ≡ Some (record { room = 512; octets = [] })
   pub waits : k.deframer.next ≡ None → k.unfed ≡ []
 
--- each part was done once, and so much came of it
+-- each part of a turn was done once, and moved says whether anything came of it
 pub record GoesOnce {X : Type 0} (see : Sight X) (old new : SimState X) (moved : Bool) : Type 0 where
   pub exchange : Exchange
   pub exchanges : Exchanges see old new exchange

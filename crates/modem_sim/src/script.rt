@@ -12,8 +12,8 @@ pub struct Script {
     pub steps: Steps,
 }
 
-/// A step of a script. It is due once so many command lines have come, on all connections together. Due steps are done
-/// in their order, each once the connections that it names are open.
+/// A step of a script. It is due once that many command lines have come, on all connections together. Due steps are
+/// done in their order, each once the connections that it names are open.
 ///
 /// A step on connection 0 other than Flow and CloseDown is passed over, and so is one with a line that has no octet, more
 /// than 512, or a CR or LF.

@@ -88,7 +88,7 @@ impl Lock {
         }
     }
 
-    /// The same once more.
+    /// A copy.
     fn copy(&self) -> Result<Lock, AllocError>
         ensures { IfOk result (λ copy. copy ≡ self.now) }
     {
@@ -119,7 +119,7 @@ impl Lock {
 impl ModemState {
     ghost use Rattle.modem_sim.specs.Steps.{is_registered, refusal_of, after_refusal, after_command};
 
-    /// The same state once more.
+    /// A copy of the state.
     pub(crate) fn copy(&self) -> Result<ModemState, AllocError>
         ensures { IfOk result (λ copy. copy ≡ self.now) }
     {
@@ -311,7 +311,7 @@ impl Words {
     }
 }
 
-/// The same choice once more.
+/// A copy of the choice.
 fn oper_copy(oper: &OperChoice) -> Result<OperChoice, AllocError>
     ensures { IfOk result (λ copy. copy ≡ oper.now) }
 {

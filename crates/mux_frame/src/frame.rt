@@ -45,7 +45,7 @@ impl Kind {
     }
 }
 
-/// A frame whose information is lent.
+/// A frame whose information is lent, as a deframer gives it and `write_frame` takes it.
 #[derive(Clone, Copy, Debug)]
 pub struct FrameView<'a> {
     pub dlci: Dlci,
@@ -57,7 +57,7 @@ pub struct FrameView<'a> {
     pub info: &'a [u8],
 }
 
-/// A frame with its information.
+/// A frame that owns its information.
 #[derive(Drop, Debug)]
 pub struct FrameBuf {
     pub dlci: Dlci,

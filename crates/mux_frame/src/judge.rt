@@ -25,7 +25,7 @@ pub(crate) struct Header {
     pub(crate) check: u8,
 }
 
-/// What a candidate is, by the octets that have come after a flag.
+/// What a candidate can still become, by the octets after its flag.
 #[derive(Clone, Copy)]
 pub(crate) enum Verdict {
     /// They can become a frame.

@@ -1,4 +1,4 @@
--- The frames that a frame calls for, as they are made.
+-- The frames that a received frame calls for, as the code makes them.
 use Rattle.std.specs.Prelude.{List, [], ◌∷◌, ◌++◌, Option, None, Some}
 use Rattle.mux_frame.specs.Frames.{Frame}
 use Rattle.mux_station.specs.declared.control_frame.ControlFrame.{ControlFrame}

@@ -30,7 +30,7 @@ front_frame octets = record {
   info = take (info_len octets) (drop (lead_len octets) octets);
 }
 
--- so many frames from the front on
+-- the first so many frames that the octets spell
 unfoldable pub read_frames : ℕ → List ℕ → List Frame
 read_frames zero octets = []
 read_frames (suc n) octets = front_frame octets ∷ read_frames n (drop (front_len octets) octets)

@@ -34,7 +34,7 @@ pub record StationFits (v : Station) (past : List Act) : Type 0 where
   pub queue_is : queue past ≡ v.queue
   pub last_is : last_sender past ≡ v.last
 
--- whatever past it fits, the station goes on with this act and all the frames that it calls for; its role and
+-- whatever past it fits, the station goes on with this act and all frames that it calls for; its role and
 -- N1 stay
 pub record StationHandles (old new : Station) (a : Act) : Type 0 where
   pub setting : setting_of new ≡ setting_of old
@@ -54,7 +54,7 @@ SeesThePast v past c =
     StationFits v past → call_dlci c < 62
     → refused_in v c ≡ refused (setting_of v) (station_view (setting_of v) past) c
 
--- and so is a frame that comes
+-- a frame that comes is refused by what a station keeps just where it is refused by each past that it fits
 abbrev pub SeesTheFrame : Station → List Act → Frame → Type 0
 SeesTheFrame v past f =
     StationFits v past → f.dlci < 62

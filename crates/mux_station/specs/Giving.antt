@@ -83,7 +83,8 @@ pub record SendsNext (r : Role) (d : ℕ) (past : List Act) : Type 0 where
   pub some : length (data_out r d past) < length (offered r d past)
   pub alone : queue past ≡ []
 
--- whatever past the station fits, it goes on with what it gives on, and a lawful and complete past stays so
+-- whatever past the station fits, it fits that with what it gives on, and a lawful and complete past stays
+-- so
 pub record GivesOn (v : Station) : Type 0 where
   pub fits :
       (past : List Act) → StationFits v past

@@ -32,11 +32,11 @@ nsc = 0x13
 abbrev pub is_command : Message → Bool
 is_command m = (m.octet / 2) % 2 == 1
 
--- the type octet of a response, as that of its command
+-- the type octet of the command that a response answers
 abbrev pub command_of : ℕ → ℕ
 command_of octet = octet + 2
 
--- and the other way round
+-- the type octet of the response to a command
 abbrev pub response_of : ℕ → ℕ
 response_of octet = octet - 2
 

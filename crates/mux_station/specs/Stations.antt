@@ -10,7 +10,7 @@ use Rattle.mux_station.specs.Acts.{Call, Offer}
 use Rattle.mux_station.specs.Tables.{octets_of, message_frame}
 use Rattle.mux_station.specs.Sending.{StationSetting, StationView, Waiting, got_refused, refused, or_else, without_room}
 
--- one connection: its state, its own stop, and the octets in its send ring
+-- what a station keeps of one connection: its state, its own stop, and the octets in its send ring
 pub record Channel : Type 0 where
   pub state : State
   pub is_stopped : Bool
@@ -19,8 +19,8 @@ pub record Channel : Type 0 where
 abbrev pub shut_channel : Channel
 shut_channel = record { state = IsShut; is_stopped = false; waiting = [] }
 
--- the connections 0 to 61, the stop of all, the probe that waits, the control queue, and the connection that
--- last sent data
+-- what a station keeps: the connections 0 to 61, the stop of all, the probe that waits, the control queue,
+-- and the connection that last sent data
 pub record Station : Type 0 where
   pub role : Role
   pub n1 : ℕ
@@ -47,7 +47,7 @@ new_station r n1 = record {
 abbrev pub setting_of : Station → StationSetting
 setting_of v = record { role = v.role; n1 = v.n1 }
 
--- what a call sees
+-- what a call sees of a station
 abbrev pub seen_in : Station → StationView
 seen_in v = record { state = λ d. (channel_at v d).state; queued = octets_of v.queue; probe = v.probe }
 

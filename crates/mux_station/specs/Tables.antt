@@ -85,12 +85,12 @@ octets_of (f ∷ fs) = written_length f + octets_of fs
 abbrev pub has_room : ℕ → ℕ → Frame → Bool
 has_room n1 queued f = nat_le (queued + written_length f) (4096 + n1)
 
--- and so many frames, each behind the ones before it; no frames always do
+-- these frames fit one after the other; no frames always do
 abbrev pub have_room : ℕ → ℕ → List Frame → Bool
 have_room n1 queued [] = true
 have_room n1 queued (f ∷ fs) = has_room n1 queued f && have_room n1 (queued + written_length f) fs
 
--- which is to say that the sum of their octets does
+-- frames fit where the sum of their octets does
 abbrev pub HasRoomBySum : ℕ → ℕ → Frame → List Frame → Type 0
 HasRoomBySum n1 queued f fs = have_room n1 queued (f ∷ fs) ≡ nat_le (queued + octets_of (f ∷ fs)) (4096 + n1)
 
