@@ -289,7 +289,7 @@ impl Window {
         }
     }
 
-    /// What a line of no kind is.
+    /// What a line of no kind is. The echo is looked at before the final code: no command line is a final code.
     fn place_solicited(&mut self, dialect: &Dialect, line: &[u8]) -> Result<Seen, AllocError>
         ensures seen { IfOk result (λ seen. seen ≡ solicited_by (dialect_of dialect.now) self.old line.now) }
         ensures after { OnOk result (self.new ≡ after_solicited (dialect_of dialect.now) self.old line.now) }

@@ -35,7 +35,8 @@ pub struct Said {
     pub moved: bool,
 }
 
-/// The turns of a poll of a simulated modem, and what the last one answers.
+/// The turns of a poll of a simulated modem, and what the last one answers: `advance` gives nothing both where it is
+/// idle and after 64.
 fn turns(sim: &mut Sim<CutLine>) -> Result<SimTurn, SimError>
     ensures runs { RunsFar sim.old sim.new result }
     ensures goes { SimGoes sight_in.received sight_in.sent sim.old sim.new }

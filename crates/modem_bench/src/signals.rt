@@ -126,7 +126,8 @@ impl Signals {
         }
     }
 
-    /// Gives the bench up for this fault, unless it was given up before, and answers why it is given up.
+    /// Gives the bench up for this fault, unless it was given up before, and answers why it is given up. It may wait
+    /// for another thread that gives the bench up at the same time.
     pub fn give_up<R: Wait>(&self, rt: &R, fault: Fault) -> Reason<'_>
         ensures { result.shown.of ≡ (arc_value self.now.shared).fault.id }
     {

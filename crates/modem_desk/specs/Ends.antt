@@ -1,4 +1,6 @@
--- What contracts see of a caller, of a listener and of the driver's end, and the desk books.
+-- What contracts see of a caller, of a listener and of the driver's end, and the desk books. A view also
+-- has what an end has seen of its ring, so that handing back and finding nothing can be promised as far as
+-- that goes.
 use Rattle.std.specs.Prelude.{◌≡◌, ◌≢◌, ℕ, zero, suc, ◌+◌, ◌-◌, ◌^◌, min, ◌∷◌, map, ◌<◌, ◌≤◌, ◌++◌, List, [], length, slice_index_or, replicate, Contains}
 use mathlib.Core.Option.{some}
 use lib.ListN.{get_elem?}

@@ -54,7 +54,8 @@ impl Core {
         self.station.waiting(dlci) <= usize::from(self.n1)
     }
 
-    /// A command whose last octets go out next begins its window.
+    /// A command whose last octets go out next begins its window. That is done before the frame is sent: a frame that
+    /// is lent keeps the core lent too.
     fn begin_next(&mut self)
         ensures after { self.new ≡ begun_next self.old }
         ensures sender { SendsTruly self.old.station }

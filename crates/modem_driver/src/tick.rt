@@ -1,4 +1,5 @@
-//! What a core does at a tick.
+//! What a core does at a tick. The frames that it calls for are read from the end of the control queue, since only the
+//! station knows which of them fitted.
 ghost use Rattle.std.specs.Prelude.{◌≡◌, ◌+◌, ◌≤◌, ◌&&◌, ◌++◌, map, option_map, slice_get, IfOk, OnErr};
 ghost use Rattle.std.specs.List.{list_any};
 ghost use Rattle.mux_frame.specs.Frames.{kept_frame};

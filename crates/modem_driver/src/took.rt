@@ -90,7 +90,7 @@ fn tell_once(
 impl Core {
     /// Takes a request, which is told its outcome at once or is in hand from then on. After a loss of the line it is
     /// told LineLost, and while 128 requests are in hand Busy. Refusal: 1 NoMemory, which changes nothing and hands the
-    /// request back.
+    /// request back. It may come after a loss too, since two acts have to be kept.
     #[tactic(auto, using(crate::proofs::holds::OtherCalls::keeps_took))]
     pub fn took(&mut self, request: Request) -> Result<Vec<Act>, (CoreError, Request)>
         ensures past { IfOk result (λ acts.

@@ -1,4 +1,5 @@
--- What happens. A past is written with its newest act first.
+-- What happens. A past is written with its newest act first, since most questions to it are about its end.
+-- A station knows no requests, and so has acts of its own: `wire` is what it knows of these.
 use Rattle.std.specs.Prelude.{ℕ, ◌==◌, ◌&&◌, ◌++◌, not, Bool, List, [], ◌∷◌, filter, filter_map, Option, Some, None}
 use Rattle.mux_frame.specs.Frames.{Frame, kept_frame}
 use Rattle.mux_station.specs.Acts as station

@@ -13,7 +13,7 @@ last_held r d (Held e ∷ past) = (e == d) || last_held r d past
 last_held r d (Freed e ∷ past) = not (e == d) && last_held r d past
 last_held r d (a ∷ past) = if opens_here r d past a then false else last_held r d past
 
--- d is held: it is open, and was held since it opened and not freed since
+-- d is held: it is open, and was held since it opened and not freed since; so a close forgets it
 abbrev pub is_held : Role → ℕ → List Act → Bool
 is_held r d past = is_open r d (wire past) && last_held r d past
 

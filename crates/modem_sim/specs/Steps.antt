@@ -1,4 +1,5 @@
--- The modem: what it answers to a command line, and its state afterwards
+-- The modem, by three tables (what a command is refused with, the state after it, what it tells), which the
+-- law that an answer is read back shares: what it answers to a command line, and its state afterwards
 -- (V.250, 5.2 and 5.7; 27.007, 7.2, 7.3, 8.3, 8.5, 9.1, 9.2, 10.1.1, 10.1.9).
 use Rattle.std.specs.Prelude.{ℕ, ◌-◌, ◌==◌, nat_lt, Bool, true, false, List, [], ◌∷◌, ◌++◌, map, fold, Option, Some, None, unwrap_or, if◌then◌else◌, codes}
 use Rattle.std.specs.Fmt.{decimal}

@@ -1,4 +1,4 @@
-//! A simulated modem as a future.
+//! A simulated modem as a future. It keeps no handle, since no turn waits.
 ghost use Rattle.std.specs.Prelude.{◌≡◌, ◌+◌, ◌≤◌};
 ghost use Rattle.modem_sim.specs.Sims.{SimGoes, end_given, sight};
 ghost use Rattle.modem_sim.specs.Polls.{Polls, Runs, with_given};

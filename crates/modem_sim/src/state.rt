@@ -22,7 +22,7 @@ const NO_NETWORK_SERVICE: u32 = 30;
 pub(crate) enum Lock {
     /// Nothing.
     Ready,
-    /// It wants this PIN, and takes so many tries.
+    /// It wants this PIN, and takes so many tries. The PIN is forgotten once it is right: no other state looks at it.
     NeedPin { pin: Pin, tries: u8 },
     /// It wants its PUK.
     NeedPuk,

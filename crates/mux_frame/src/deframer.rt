@@ -15,7 +15,8 @@ use circular_buffer::HeapCircularBuffer;
 use std::alloc::Global;
 use std::marker::Model;
 
-/// The least room of the ring, in octets. With so much a short frame seldom wraps round the ring's end.
+/// The least room of the ring, in octets. N1 + 7 would do; but with so much a short frame seldom wraps round the ring's
+/// end, and whoever reads 4096 octets at a time can feed them all at once.
 const LEAST_ROOM: usize = 8192;
 
 /// How many octets the ring has room for: at least N1 + 7, which is a whole frame: two flags, address, control, two length octets,

@@ -21,7 +21,7 @@ pub record ChannelFits (r : Role) (d : ℕ) (past : List Act) (c : Channel) : Ty
   pub ring_is : is_opened c.state ≡ true → offered r d past ≡ data_out r d past ++ c.waiting
 
 pub record StationFits (v : Station) (past : List Act) : Type 0 where
-  -- a station is told of no loss of the line
+  -- a station is told of no loss of the line: whoever holds it drops it then
   pub live : list_any is_loss past ≡ false
   pub channels_are : (d : ℕ) → d < 62 → ChannelFits v.role d past (channel_at v d)
   pub others_shut :

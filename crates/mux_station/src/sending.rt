@@ -99,7 +99,8 @@ impl Station {
         }
     }
 
-    /// The connection whose data `next_frame` would give; `None` where it would give a control frame, or nothing.
+    /// The connection whose data `next_frame` would give; `None` where it would give a control frame, or nothing. For a
+    /// caller that lends the frame on, and so can't look at it first.
     #[tactic(auto, using(crate::proofs::turns::NextData::sender_alone))]
     pub fn next_sender(&self) -> Option<Dlci>
         ensures value { option_map dlci_of result ≡ next_sender self.now self.now.queue }
