@@ -21,7 +21,7 @@ abbrev pub led_by : List AnswerLine → Option OpenWindow → Option OpenWindow
 led_by ls None = None
 led_by ls (Some o) = Some (record o { lines = ls ++ o.lines })
 
--- and before those of an answer that is whole
+-- what a line is on a fork, with these lines before those of an answer that is whole
 abbrev pub led_seen : List AnswerLine → Seen → Seen
 led_seen ls (Done more) = Done (ls ++ more)
 led_seen ls seen = seen

@@ -38,7 +38,7 @@ announced ls seen = filter_map (λ p. option_map (λ kind. (kind, p.0)) (kind_of
 abbrev pub unsolicited_in : Dialect → List (List ℕ) → List (UrcKind × List ℕ)
 unsolicited_in dialect ls = filter_map (λ l. option_map (λ kind. (kind, l)) (dialect.kind_of l)) ls
 
--- it is of a kind other than Other
+-- a line is of a kind other than Other
 abbrev pub is_of_kind : UrcKind × List ℕ → Bool
 is_of_kind (Uncalled, l) = false
 is_of_kind (kind, l) = true

@@ -59,7 +59,7 @@ pub record AreOnOneLine (b : Beginning) (at : LineAt) (e : End) (line : List End
   pub crossed : AreCrossed p.near.line p.far.line
   pub taken : TookFormed b p.near
 
--- they have a list that goes on from this one
+-- the two have a joint list, one line's, that goes on from this one
 pub record OnOneLineFrom (b : Beginning) (at : LineAt) (e : End) (line : List EndAct) (p : Pair) : Type 0 where
   pub newer : List EndAct
   pub on : AreOnOneLine b at e (newer ++ line) p

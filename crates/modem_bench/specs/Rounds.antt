@@ -146,7 +146,7 @@ pub record AreJoined (b : Beginning) (at : LineAt) (e : End) (line : List EndAct
   pub near : FitsAll b look_in p.near (driver_past line)
   pub far : FitsSim sight_in.received sight_in.sent at e p.far (modem_past line)
 
--- they fit a list that goes on from this one
+-- the two fit a joint list that goes on from this one
 pub record JoinedFrom (b : Beginning) (at : LineAt) (e : End) (line : List EndAct) (p : Pair) : Type 0 where
   pub newer : List EndAct
   pub joined : AreJoined b at e (newer ++ line) p

@@ -45,7 +45,7 @@ pub record GoesOut (old new : TurnState) : Type 0 where
 
 -- ## Octets that go out
 
--- these octets of those that wait went out first
+-- an endpoint gave these octets, the first of those that waited for the line
 unfoldable pub CopiesOut : (old new : Kept) → List ℕ → Type 0
 CopiesOut old new octets = (l : LineView) → KeptMoves l (with_sent l octets) old new
 
@@ -66,7 +66,7 @@ KeptIsDrained k = (l : LineView) (d : DriverView) → IsDrained (turn_state l d 
 
 -- ## Octets that come
 
--- these octets came, and the deframer took them
+-- an endpoint took these octets, and its deframer has them
 unfoldable pub FeedsFrom : (old new : Kept) → List ℕ → Type 0
 FeedsFrom old new octets = (l : LineView) → KeptMoves l (with_received l octets) old new
 

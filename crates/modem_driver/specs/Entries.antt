@@ -48,7 +48,7 @@ pub record SeesCode (kept : List ℕ) (octet : ℕ) (code : Option Final) : Type
   pub past : (octets : List ℕ) → HasRead kept octets → lines (octets ++ octet ∷ []) ≡ lines octets ++ given
   pub code_is : code ≡ code_in given
 
--- so many calls were made since the line was as at first, and no final code has come
+-- an entry is under way: so many calls were made since the line was as at first, and no final code has come
 pub record IsUnderWay (made : ℕ) (first now : LineView) (entry : Entry) : Type 0 where
   pub read : List ℕ
   pub sent_are : now.sent ≡ first.sent ++ take entry.written entry_text

@@ -110,7 +110,7 @@ AnswersOwn b past =
 abbrev pub HearsEach : Beginning → List Act → Type 0
 HearsEach b past = (d : ℕ) → was_heard d past ≡ listened_on (driving b) d past
 
--- and those of its kind stand once in what the listener took, in what waited for it, or in what wasn't
+-- the lines heard of a listener's kind stand once in what it took, in what waited for it, or in what wasn't
 -- announced
 abbrev pub Announces : Run → List Act → ℕ → ListenerView → Type 0
 Announces run past i l =

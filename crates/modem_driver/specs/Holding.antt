@@ -76,7 +76,7 @@ abbrev pub LacksRoom : Setting → List Act → ℕ → Option Bool → Type 0
 LacksRoom s past d None = ⊥
 LacksRoom s past d (Some go) = has_flow_room s past d go ≡ false
 
--- it has one, if one is called for
+-- the frame that is called for, if one is, has a place in the control queue
 abbrev pub HasPlace : Setting → List Act → ℕ → Option Bool → Type 0
 HasPlace s past d None = Unit {0}
 HasPlace s past d (Some go) = has_flow_room s past d go ≡ true

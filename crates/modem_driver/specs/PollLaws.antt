@@ -27,7 +27,7 @@ pub data MovesThrough {X : Type 0} (look : X → LineView) (b : Beginning) (old 
       → TakesSteps b (session_view look mid) (session_view look new) t before acts
       → MovesThrough look b old past (n + 1) new (after before acts)
 
--- the same of all turns of a poll
+-- all turns of a poll: each session on the way fits the history so far, and each turn is one in it
 pub data RunsThrough {X : Type 0} (look : X → LineView) (b : Beginning) (old : SessionState X)
     (past : List Act) (new : SessionState X) : List Act → Result Bool SessionFault → Type 0 where
   all_through : (now : List Act) → MovesThrough look b old past 64 new now

@@ -30,7 +30,7 @@ has_ended k =
 
 -- ## Its turns
 
--- it went on by some acts, the same whatever it began with and whatever history it had
+-- a session went on by some acts, the same whatever it began with and whatever history it had
 unfoldable pub SessionGoesOn : {X : Type 0} → (X → LineView) → (old new : SessionState X) → Type 0
 SessionGoesOn look old new =
     Goes (session_view look old) (session_view look new) (λ b. FitsInside b look old)
@@ -46,7 +46,8 @@ pub record MakesTurn {X : Type 0} (look : X → LineView) (old new : SessionStat
   pub turned : HasTurned (standing_of look old) (standing_of look new)
   pub takes : TakesMore old.driver new.driver
 
--- the same, that ends in this fault; after one other than want of memory the line is lost
+-- a turn that ends in this fault, of a session that hasn't ended; after one other than want of memory the
+-- line is lost
 pub record MakesFault {X : Type 0} (look : X → LineView) (old new : SessionState X)
     (why : SessionFault) : Type 0 where
   pub going : has_ended old.kept ≡ false
@@ -55,7 +56,7 @@ pub record MakesFault {X : Type 0} (look : X → LineView) (old new : SessionSta
   pub takes : TakesMore old.driver new.driver
   pub lost : LeavesLost why new
 
--- so many turns, each where it hasn't ended, and each of which answers Moved
+-- turns that all answer Moved, each of a session that hasn't ended
 pub data MovesOn {X : Type 0} (look : X → LineView) (old : SessionState X) : ℕ → SessionState X → Type 0 where
   moves_none : MovesOn look old 0 old
   moves_once : (n : ℕ) (mid new : SessionState X) → MovesOn look old n mid
@@ -103,7 +104,7 @@ abbrev pub with_given : {X : Type 0} → Option (Result Ended SessionFault) → 
 with_given None s = s
 with_given (Some end) s = with_end end s
 
--- it makes its turns, gives what they lead to, and keeps that
+-- a poll makes its turns, gives what they lead to, and keeps that
 pub record PollsOn {X : Type 0} (look : X → LineView) (old new : SessionState X) (given : Progress) :
     Type 0 where
   pub mid : SessionState X

@@ -57,7 +57,7 @@ marks_for (_ ∷ acts) = marks_for acts
 abbrev pub after_call : List Act → Piece → List Act
 after_call past p = after (after past (p.first ∷ p.more)) (marks_for p.more)
 
--- and after the data that goes out then
+-- the past after a piece: its call, and the data that goes out then
 abbrev pub with_piece : List Act → Piece → List Act
 with_piece past p = after (after_call past p) (map Sent p.data_frames)
 

@@ -38,7 +38,7 @@ said_as listens d owner line (line_is.TheVariants.Done ls) = done_by owner ls
 said_as listens d owner line (Unsolicited kind) = heard_by listens d kind line
 said_as listens d owner line line_is.TheVariants.Other = heard_by listens d Other line
 
--- and of lines, one after the other
+-- what is said of lines, one after the other
 abbrev pub said_lines : Dialect → (UrcKind → Bool) → ℕ → Option Owner → Option OpenWindow → List (List ℕ) → List Act
 said_lines dialect listens d owner w [] = []
 said_lines dialect listens d owner w (l ∷ ls) =

@@ -145,7 +145,7 @@ beginning_by dialect n1 l d = record {
   desk = end_of d;
 }
 
--- and at a standard modem
+-- a session that begins over a line and a desk's end, at a modem of the standard's codes
 abbrev pub beginning_of : ℕ → LineView → DriverView → Beginning
 beginning_of n1 l d = beginning_by standard n1 l d
 
@@ -167,7 +167,8 @@ abbrev pub AreFormed : List Request → Type 0
 AreFormed [] = Unit {0}
 AreFormed (q ∷ qs) = IsFormedAsk q.ask × AreFormed qs
 
--- the same desk, whose end took these requests more, each of a caller of that desk and of its form
+-- the desk's end stays one of its desk, and took these requests more, each of a caller of that desk and of
+-- its form
 pub record TakesMore (old new : DriverView) : Type 0 where
   pub desk : new.desk ≡ old.desk
   pub more : List Request

@@ -128,7 +128,7 @@ KeptReads before later old new moved =
     (d : DriverView) → ReadsOn (record { line = before; driver = d; kept = old })
     (record { line = later; driver = d; kept = new }) moved
 
--- so many of the octets that wait are given to the deframer
+-- the first octets that wait are given to the deframer
 pub record Feeds (old new : Kept) (count : ℕ) : Type 0 where
   pub takes : TakesIn old.deframer (take count old.unfed) new.deframer
   pub bound : new.deframer.n1 ≡ old.deframer.n1

@@ -57,7 +57,7 @@ pub record Adds (old new : Kept) (waiting : List Urc) (most : ℕ) (acts : List 
   pub may : list_all (may_act waiting) acts ≡ true
   pub few_got : length (gots acts) ≤ most
 
--- that is so after every history
+-- `Adds` holds after every history that the session fits
 unfoldable pub AddsAll : (old new : TurnState) → List Urc → ℕ → List Act → Type 0
 AddsAll old new waiting most acts =
     (b : Beginning) (past : List Act) → StandingFits b old past

@@ -48,7 +48,7 @@ wire_act Lost = Some station.Lost
 wire_act Given = Some station.Given
 wire_act _ = None
 
--- and of a past
+-- what the station has of a past
 abbrev pub wire : List Act → List station.Act
 wire acts = filter_map wire_act acts
 

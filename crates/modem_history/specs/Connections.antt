@@ -29,7 +29,7 @@ info_got d [] = []
 info_got d (Got f ∷ acts) = info_got d acts ++ info_of d f
 info_got d (_ ∷ acts) = info_got d acts
 
--- the same of those that were sent
+-- the information of the UIH frames on d that were sent among the acts (newest first), joined
 abbrev pub info_sent : ℕ → List Act → List ℕ
 info_sent d [] = []
 info_sent d (Sent f ∷ acts) = info_sent d acts ++ info_of d f
@@ -166,7 +166,8 @@ pub record IsPlaced (r : Role) (d : ℕ) (commands : List (List ℕ)) (past : Li
 unfoldable pub PlacesAll : Role → List Act → Type 0
 PlacesAll r past = (d : ℕ) (commands : List (List ℕ)) → IsPlaced r d commands past
 
--- and so in each opening: its lines, and of the commands beside it those that are wholly sent
+-- what is placed on d in each opening are its lines, and those of the commands beside it that are wholly
+-- sent
 pub record ArePlacedInEach (r : Role) (d : ℕ) (commands : List (List (List ℕ)))
     (past : List Act) : Type 0 where
   pub lines_are : map lines_of (all_placed r d commands past) ≡ map lines (all_information_got r d past)

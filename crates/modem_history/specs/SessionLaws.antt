@@ -51,7 +51,7 @@ pub record SendsSpellings (b : Beginning) (v : SessionView) (past : List Act) : 
   pub rest : List ℕ
   pub joins : v.line.sent ++ rest ≡ b.line.sent ++ octets_of_frames (sents past)
 
--- these frames were given on first
+-- these are the first frames that the past gave on
 pub record AreGivenOn (fs : List Frame) (past : List Act) : Type 0 where
   pub more : List Frame
   pub given_are : given_on past ≡ fs ++ more

@@ -99,8 +99,8 @@ pub record HandsBack (t : Exchange) : Type 0 where
   pub outcomes : (c : ℕ) → caller_outcomes c t.told_back ≡ take 1 (caller_outcomes c t.still_told)
   pub lines : (k : UrcKind) → of_kind k t.heard_back ≡ take 1 (of_kind k t.still_heard)
 
--- so the turn exchanged with its line and its desk: it read only where all octets that had come were fed, and
--- asked the desk for a request only where none was kept aside; it handled one frame at most
+-- what the turn exchanged with its line and its desk: it read only where all octets that had come were fed,
+-- and asked the desk for a request only where none was kept aside; it handled one frame at most
 pub record Exchanges (old new : SessionView) (t : Exchange) (acts : List Act) : Type 0 where
   pub came : new.line.received ≡ old.line.received ++ octets_read t.read
   pub room : ReadHasRoom t.read

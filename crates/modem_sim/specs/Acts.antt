@@ -26,7 +26,7 @@ pub record End : Type 0 where
 abbrev pub end_of : ℕ → ModemState → Script → End
 end_of n1 modem script = record { n1 = n1; echo = script.echo; steps = script.steps; modem = modem }
 
--- it is the responder
+-- whose history the station has: it is the responder
 abbrev pub setting : End → StationSetting
 setting e = record { role = Responder; n1 = e.n1 }
 

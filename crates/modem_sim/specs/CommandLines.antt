@@ -45,7 +45,7 @@ begins_at Between c = is_sign c
 begins_at Basic c = is_sign c && not (is_digit c)
 begins_at _ c = false
 
--- it belongs to the command that has begun: blanks do between quotes alone (5.2.1, 5.4.2.2)
+-- an octet belongs to the command that has begun: blanks do between quotes alone (5.2.1, 5.4.2.2)
 abbrev pub goes_on_at : Place → ℕ → Bool
 goes_on_at Basic c = is_digit c
 goes_on_at Ampersand c = not (is_blank c)

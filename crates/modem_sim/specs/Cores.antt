@@ -78,7 +78,7 @@ pub record IsLater (past now : List Act) : Type 0 where
   pub newer : List Act
   pub joins : newer ++ past ≡ now
 
--- it fits what the past went on to by acts of a kind
+-- an end fits what the past went on to by acts of a kind
 pub record GoesFrom (may : Act → Bool) (e : End) (w : Wired) (past : List Act) (c : Core) : Type 0 where
   pub now : List Act
   pub later : IsLater past now
@@ -99,7 +99,7 @@ wire_after (f ∷ fs) past = wire_after fs (Wire (station.Sent f) ∷ past)
 abbrev pub after_wire_act : End → List Act → station.Act → List Act
 after_wire_act e past a = wire_after (sending.called_frames (setting e) (wire past) a) (Wire a ∷ past)
 
--- whatever past it fits, it fits that with the frame behind it and all that this calls for
+-- whatever past an end fits, it fits that with the frame behind it and all that this calls for
 abbrev pub EndGoesOn : Core → Core → Frame → Type 0
 EndGoesOn old new f =
     (e : End) (w : Wired) (past : List Act) → Fits e w old past
@@ -181,13 +181,13 @@ pub data IsGivenOn (past : List Act) (f : Frame) : (now : List Act) → Type 0 w
       (later : List Frame) → sending.queue (wire past) ≡ f ∷ later → IsGivenOn past f (Wire station.Given ∷ past)
   sent_now : sending.queue (wire past) ≡ [] → IsGivenOn past f (Wire (station.Sent f) ∷ past)
 
--- it fits the past with a frame that it gives on
+-- an end fits the past with a frame that it gives on
 pub record GivesFrom (e : End) (w : Wired) (past : List Act) (f : Frame) (c : Core) : Type 0 where
   pub now : List Act
   pub given : IsGivenOn past f now
   pub fits : Fits e (record w { gone = w.gone ++ f ∷ [] }) c now
 
--- whatever past it fits, it goes on with the frame that it gives on
+-- whatever past an end fits, it goes on with the frame that it gives on
 abbrev pub GivesOut : Core → Type 0
 GivesOut c =
     (f : Frame) → next_given c.station c.station.queue ≡ Some f → (e : End) (w : Wired) (past : List Act)

@@ -36,7 +36,7 @@ echoed echo line = if echo then Echo line ∷ [] else []
 abbrev pub reply : Bool → ModemState → List ℕ → List Piece
 reply echo m line = echoed (echoes echo m) line ++ answers (step m line).answer
 
--- and for lines, one after the other
+-- what a modem writes for command lines, one after the other
 abbrev pub replies : Bool → ModemState → List (List ℕ) → List Piece
 replies echo m [] = []
 replies echo m (line ∷ lines) = reply echo m line ++ replies echo (step m line).state lines

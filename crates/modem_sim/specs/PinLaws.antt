@@ -22,7 +22,7 @@ pub data WrongTries (pin : List ℕ) : List (List ℕ) → ℕ → Type 0 where
       (line : List ℕ) (lines : List (List ℕ)) (n : ℕ) → WrongTries pin lines n
       → ((entered : List ℕ) → ¬ IsTextOf line (PinEnter entered)) → WrongTries pin (lines ++ line ∷ []) n
 
--- it wants the PIN, while fewer than three tries were wrong and none was right
+-- a modem wants its PIN, while fewer than three tries were wrong and none was right
 abbrev pub WantsPin : ModemStart → List ℕ → Type 0
 WantsPin start pin =
     (lines : List (List ℕ)) (n : ℕ) → WrongTries pin lines n → n < 3
@@ -64,7 +64,8 @@ RefusesBefore start pin =
 abbrev pub unlocked_start : ModemStart → ModemStart
 unlocked_start start = record start { pin = None }
 
--- and nothing of it has changed once it is ready: it tells what one tells that starts without a PIN
+-- what a modem is told before it is ready changes nothing of it: once ready it tells what one tells that
+-- starts without a PIN
 abbrev pub ChangesNothingBefore : ModemStart → List ℕ → Type 0
 ChangesNothingBefore start pin =
     (lines : List (List ℕ)) (line : List ℕ) (n : ℕ) (c : Command) → WrongTries pin lines n → n < 3

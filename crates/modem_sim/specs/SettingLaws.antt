@@ -110,7 +110,7 @@ abbrev pub sets_oper : Command → Bool
 sets_oper (OperChoose choice) = true
 sets_oper _ = false
 
--- it is named by its number (format 2)
+-- an operator is named by its number (format 2)
 abbrev pub IsNamed : List ℕ → Option NamedOper → Type 0
 IsNamed oper None = ⊥
 IsNamed oper (Some named) = (named.format ≡ 2) × (named.oper ≡ oper)

@@ -41,7 +41,7 @@ pub record KeptFits (e : End) (came went : List ℕ) (k : Kept) (past : List Act
   pub deframes : Deframes taken wired.came k.deframer
   pub went_is : went ++ k.out ≡ flat_map spelling.spelled wired.gone
 
--- it fits what the past went on to by acts of a kind
+-- what is kept fits what the past went on to by acts of a kind
 pub record KeptFrom (may : Act → Bool) (e : End) (came went : List ℕ) (past : List Act) (k : Kept) :
     Type 0 where
   pub now : List Act

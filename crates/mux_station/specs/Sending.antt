@@ -76,7 +76,7 @@ refused_by_state v (Offer d octets) =
 abbrev pub without_room : StationSetting → StationView → List Frame → Option StationError
 without_room s v fs = if have_room s.n1 v.queued fs then None else Some NoRoom
 
--- which is the last refusal
+-- the last refusal of a call: no place in the control queue for the frames that it asks for
 abbrev pub if_no_room : StationSetting → StationView → Call → Option StationError
 if_no_room s v c = without_room s v (frames_asked s.role c)
 
