@@ -9,6 +9,7 @@ use std::mem;
 /// One line of an answer, without its line end (V.250, 5.7.1).
 #[derive(Drop, Debug, PartialEq, Eq)]
 pub struct AnswerLine {
+    /// Its octets. A reader keeps at most 512.
     pub text: Text,
 }
 

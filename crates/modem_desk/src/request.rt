@@ -46,8 +46,11 @@ impl Ask {
 /// One request of one caller. A caller uses no number twice.
 #[derive(Drop, Debug)]
 pub struct Request {
+    /// The caller's number at its desk, from 0.
     pub caller: u8,
+    /// The number that its caller gave it.
     pub number: u64,
+    /// What is asked for.
     pub ask: Ask,
 }
 
@@ -146,8 +149,11 @@ impl Answer {
 /// What a caller is told of one request.
 #[derive(Drop, Debug)]
 pub struct Outcome {
+    /// The caller whose request it answers.
     pub caller: u8,
+    /// The number of that request.
     pub number: u64,
+    /// How it ended.
     pub answer: Answer,
 }
 
@@ -168,8 +174,11 @@ impl Outcome {
 /// An unsolicited line.
 #[derive(Drop, Debug)]
 pub struct Urc {
+    /// Its kind, `Other` for a line of no kind.
     pub kind: UrcKind,
+    /// The connection on which it came.
     pub dlci: Dlci,
+    /// Its octets without the line end, of which the driver keeps at most 512 (V.250, 5.7).
     pub line: Text,
 }
 

@@ -19,7 +19,9 @@ pub struct Script {
 /// than 512, or a CR or LF.
 #[derive(Drop, Debug)]
 pub struct Step {
+    /// How many command lines have to have come.
     pub after: u64,
+    /// What is done then.
     pub act: StepAct,
 }
 

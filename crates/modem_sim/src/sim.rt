@@ -30,6 +30,7 @@ pub enum SimTurn {
 /// Why a simulated modem wasn't made, and all that was handed in.
 #[derive(Drop)]
 pub struct SimRefused<L: SerialLine> {
+    /// BadN1 or NoMemory.
     pub why: SimError,
     pub line: L,
     pub modem: Modem,
