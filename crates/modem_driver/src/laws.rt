@@ -87,10 +87,10 @@ pub fn endings()
     ensures going_on { IsNoGoing }
 {}
 
-/// The turns of a poll, over a line that shows itself. Whatever history the session had, each state on the way fits
-/// that history and what came since, and each turn is a turn in it. So a lost line gives Failed alone, and no loss is
-/// kept back or given as Stopped. Where octets wait, or all that came were fed, the line is called: a body that makes
-/// no turn, or ticks instead, makes no poll. No poll adds a tick to a history, and the desk is asked in vain at most 64
+/// The turns of a poll, over a line that is its own view. Whatever history the session had, each state on the way fits
+/// that history and what came since, and each turn is one in it. So a lost line gives Failed alone, and no loss is kept
+/// back or given as Stopped. Where octets wait, or all that came were fed, the line is called: a body that makes no
+/// turn, or ticks instead, makes no poll. No poll adds a tick to a history, and the desk is asked in vain at most 64
 /// times. Six bodies make no poll of a session that has just begun: no turn, a tick, a loss kept back or given as
 /// Stopped, 65 turns, and a turn behind one that found nothing to do.
 #[tactic(auto, using(crate::proofs::sessions::PollLaws::runs_in_histories, crate::proofs::sessions::PollLaws::lost_fails, crate::proofs::sessions::PollLaws::no_loss_is_kept_back, crate::proofs::sessions::PollLaws::no_loss_is_stopped, crate::proofs::sessions::PollLaws::calls_the_line, crate::proofs::sessions::PollLaws::lost_gives_failed, crate::proofs::rows::PollRowFacts::is_lost_session, crate::proofs::rows::PollRowFacts::no_polls, crate::proofs::rows::LivePollRowFacts::reads_the_line, crate::proofs::rows::LivePollRowFacts::no_tick_is_a_poll, crate::proofs::rows::LivePollRowFacts::no_tick_in_a_poll, crate::proofs::rows::LivePollRowFacts::asks_per_turn, crate::proofs::rows::LivePollRowFacts::is_new_session, crate::proofs::rows::LivePollRowFacts::no_live_polls))]
