@@ -25,6 +25,7 @@ look_in =
     line_by (λ l. l.received) (λ l. l.sent) (λ l. l.calls) (λ l. l.failures) (λ l. l.empty_reads)
     (λ l. l.stalled_writes)
 
+-- what a simulated modem's turn sees of a line in memory
 abbrev pub sight_in : Sight CutState
 sight_in =
     sight (λ l. l.received) (λ l. l.sent) (λ l. l.calls) (λ l. l.failures) (λ l. l.empty_reads)
@@ -35,6 +36,7 @@ pub record Pair : Type 0 where
   pub near : SessionState CutState
   pub far : SimState CutState
 
+-- a session and a simulated modem, each at its line
 abbrev pub pair : SessionState CutState → SimState CutState → Pair
 pair near far = record { near = near; far = far }
 

@@ -34,6 +34,7 @@ begun_on v (Some d) =
     if nat_le (length (channel_at v.station d).waiting) v.station.n1
     then begun_by v d (option_map line_of (first_on d v.hand)) else v
 
+-- the core, the window begun of the command whose last octets go out next
 abbrev pub begun_next : Core → Core
 begun_next v = begun_on v (next_sender v.station v.station.queue)
 

@@ -59,6 +59,7 @@ core_by rules n1 kinds = record {
 abbrev pub new_core : ℕ → List UrcKind → Core
 new_core n1 kinds = core_by no_rules n1 kinds
 
+-- the lane of d
 abbrev pub lane_at : Core → ℕ → Lane
 lane_at v d = slice_index_or v.lanes d new_lane
 
@@ -77,6 +78,7 @@ abbrev pub is_closing : ChannelState → Bool
 is_closing is.Closing = true
 is_closing _ = false
 
+-- the state that is shown is Opened
 abbrev pub shows_opened : ChannelState → Bool
 shows_opened is.Opened = true
 shows_opened _ = false
@@ -123,6 +125,7 @@ abbrev pub RunsUnless : Bool → Core → List Act → Type 0
 RunsUnless true v past = v.hand ≡ []
 RunsUnless false v past = Runs v past
 
+-- a core fits a past: each thing that it keeps is what the past says
 pub record Fits (v : Core) (past : List Act) : Type 0 where
   pub hand_is : in_hand past ≡ v.hand
   pub lost_is : is_lost past ≡ v.lost

@@ -25,6 +25,7 @@ abbrev pub asks_stop : Ask → Bool
 asks_stop Stop = true
 asks_stop _ = false
 
+-- the request asks for a Stop
 abbrev pub is_stop : Request → Bool
 is_stop q = asks_stop q.ask
 
@@ -80,6 +81,7 @@ KeepsEnd old new = (end : Result Ended SessionFault) → old ≡ course.Ended en
 
 -- ## How it is noted
 
+-- whose request it is, and which
 abbrev pub asker_of : Request → Asker
 asker_of q = record { caller = q.caller; number = q.number }
 
@@ -93,6 +95,7 @@ abbrev pub is_answered : Option Asker → List Act → Bool
 is_answered None acts = false
 is_answered (Some s) acts = list_any (is_end_of s) acts
 
+-- how far a session has come on the way to its end: an answered Stop takes it on
 abbrev pub course_after : Course → (answered : Bool) → Course
 course_after course.GoesOn true = course.Stopped
 course_after c _ = c

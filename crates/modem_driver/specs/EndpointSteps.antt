@@ -61,6 +61,7 @@ pub record IsDrained (s : TurnState) : Type 0 where
   pub idle : CoreIsIdle s.kept.core
   pub none_left : (b : Beginning) (past : List Act) → StandingFits b s past → next_out (driving b) past ≡ None
 
+-- nothing waits for the line, whatever line and desk's end there are
 unfoldable pub KeptIsDrained : Kept → Type 0
 KeptIsDrained k = (l : LineView) (d : DriverView) → IsDrained (turn_state l d k)
 

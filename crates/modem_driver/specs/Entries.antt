@@ -11,11 +11,13 @@ use Rattle.modem_history.specs.Entering.{EntryAnswer, Entered, Refused, NoAnswer
 use Rattle.modem_driver.specs.declared.entering.EntryError.{EntryError}
 use Rattle.modem_driver.specs.declared.entering.EntryError.TheVariants as error
 
+-- an entry's refusal, as the definitions name it
 abbrev pub entry_answer : EntryError → EntryAnswer
 entry_answer error.Refused = Refused
 entry_answer error.NoAnswer = NoAnswer
 entry_answer error.Line = LineFailed
 
+-- what a final code says of an entry
 abbrev pub answer_by : Final → EntryAnswer
 answer_by Good = Entered
 answer_by Error = Refused
@@ -77,6 +79,7 @@ unfoldable pub EntryGoesOn : LineView → LineView → Entry → Entry → Optio
 EntryGoesOn old new was entry code =
     (made : ℕ) → (first : LineView) → IsUnderWay made first old was → Comes made first new entry code
 
+-- the line failed in a call of the entry
 unfoldable pub Fails : LineView → LineView → Entry → Type 0
 Fails old new was =
     (made : ℕ) → (first : LineView) → IsUnderWay made first old was → EntryEnds made first new LineFailed

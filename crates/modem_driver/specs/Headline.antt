@@ -154,5 +154,6 @@ pub record Headline (run : Run) : Type 0 where
   pub announces : Each (Announces run past) run.listeners
   pub holds : Each (Holds run) run.callers
 
+-- the law: every settled run has the headline
 unfoldable pub IsHeadline : Run → Type 0
 IsHeadline run = IsSettled run → Headline run

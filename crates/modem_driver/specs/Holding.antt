@@ -81,10 +81,12 @@ abbrev pub HasPlace : Setting → List Act → ℕ → Option Bool → Type 0
 HasPlace s past d None = Unit {0}
 HasPlace s past d (Some go) = has_flow_room s past d go ≡ true
 
+-- what a backlog calls for has no place in the control queue, by every past
 unfoldable pub HasNoRoom : Core → ℕ → (lines : ℕ) → Type 0
 HasNoRoom v d lines =
     (s : Setting) (past : List Act) → MayAsk s v past → LacksRoom s past d (due_by s past d lines)
 
+-- what a backlog calls for has a place in the control queue, by every past
 unfoldable pub FindsRoom : Core → ℕ → (lines : ℕ) → Type 0
 FindsRoom v d lines =
     (s : Setting) (past : List Act) → MayAsk s v past → HasPlace s past d (due_by s past d lines)
@@ -103,9 +105,11 @@ TurnsFlow old new d go acts =
     (s : Setting) (past : List Act) → MayAsk s old past
     → GoesOn s new past (flow_act d go) acts × HoldsFit new (after past acts)
 
+-- the MSC that would hold or free d has no place in the control queue
 unfoldable pub CannotTurn : Core → ℕ → (go : Bool) → Type 0
 CannotTurn v d go = (s : Setting) (past : List Act) → MayAsk s v past → LacksRoom s past d (Some go)
 
+-- the MSC that holds or frees d has a place in the control queue
 unfoldable pub CanTurn : Core → ℕ → (go : Bool) → Type 0
 CanTurn v d go = (s : Setting) (past : List Act) → MayAsk s v past → HasPlace s past d (Some go)
 

@@ -8,9 +8,11 @@ pub record Lane : Type 0 where
   pub window : Option OpenWindow
   pub held : Bool
 
+-- the lane of a connection that has just opened
 abbrev pub new_lane : Lane
 new_lane = record { kept = []; window = None; held = false }
 
+-- the lane of d among these
 abbrev pub lane_in : List Lane → ℕ → Lane
 lane_in lanes d = slice_index_or lanes d new_lane
 

@@ -94,9 +94,11 @@ OffersFirst {X} key at known now later held more_held old new moved =
 
 -- ## Outcomes and lines
 
+-- the caller whose outcome it is
 abbrev pub caller_of : Outcome → ℕ
 caller_of o = o.caller
 
+-- the place of a line's kind
 abbrev pub place_of : Urc → ℕ
 place_of u = kind_place u.kind
 
@@ -104,6 +106,7 @@ place_of u = kind_place u.kind
 abbrev pub IsRingOf : ℕ → ℕ → Type 0
 IsRingOf n i = i ≡ n
 
+-- the desk has a caller n
 abbrev pub IsCaller : DeskId → ℕ → Type 0
 IsCaller d n = n < length d.rings
 
@@ -113,6 +116,7 @@ pub record IsListenerOf (kinds : List UrcKind) (n i : ℕ) : Type 0 where
   pub is_place : kind_place kind ≡ n
   pub is_at : get_elem? kinds i ≡ some kind
 
+-- somebody listens to the kind at place n
 pub record IsHeard (kinds : List UrcKind) (n : ℕ) : Type 0 where
   pub kind : UrcKind
   pub is_place : kind_place kind ≡ n

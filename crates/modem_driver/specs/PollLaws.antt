@@ -78,6 +78,7 @@ NoLossIsKeptBack {X} look =
     (old new : SessionState X) (more : Bool) → IsSession look old → has_lost_line new ≡ true
     → ¬ RunsTurns look old new (Ok more)
 
+-- a session whose line is lost doesn't give Stopped
 unfoldable pub NoLossIsStopped : {X : Type 0} → (X → LineView) → Type 0
 NoLossIsStopped {X} look =
     (old new : SessionState X) → IsSession look old → has_lost_line new ≡ true

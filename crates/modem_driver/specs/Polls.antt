@@ -17,6 +17,7 @@ use Rattle.modem_driver.specs.SessionTurns.{TakesTurn, Faults, HasTurned, Leaves
 
 -- ## The end
 
+-- a Stop of the session was answered
 abbrev pub is_stopped : Course → Bool
 is_stopped course.Stopped = true
 is_stopped _ = false
@@ -97,6 +98,7 @@ abbrev pub kept_end : Course → Result Ended SessionFault → Course
 kept_end c (Err fault.NoMemory) = c
 kept_end c end = course.Ended end
 
+-- the session, which keeps this as its end, but for want of memory
 abbrev pub with_end : {X : Type 0} → Result Ended SessionFault → SessionState X → SessionState X
 with_end end s = record s { kept = record s.kept { course = kept_end s.kept.course end } }
 
@@ -118,6 +120,7 @@ abbrev pub PollsFrom : {X : Type 0} → (X → LineView) → Course → (old new
 PollsFrom look (course.Ended end) old new given = (given ≡ progress.Ended end) × (new ≡ old)
 PollsFrom look _ old new given = PollsOn look old new given
 
+-- a poll: an end that an earlier one gave is given again; else it makes its turns
 abbrev pub Polls : {X : Type 0} → (X → LineView) → (old new : SessionState X) → Progress → Type 0
 Polls look old new given = PollsFrom look old.kept.course old new given
 

@@ -28,6 +28,7 @@ HasRoom v a has = (s : Setting) (past : List Act) → StandsIn s v past → fits
 abbrev pub cut_to : ℕ → Frame → Frame
 cut_to room f = record f { info = take room f.info }
 
+-- the act by which a frame is sent, with as much of its information as there is room for
 abbrev pub sent_in : ℕ → Option Frame → List Act
 sent_in room None = []
 sent_in room (Some f) = Sent (cut_to room f) ∷ []

@@ -23,10 +23,12 @@ Listens listens kinds = (kind : UrcKind) → (listens kind ≡ true) ↔ Contain
 abbrev pub owner_of : Request → Owner
 owner_of r = record { caller = r.caller; number = r.number }
 
+-- the answer of the command under way, told to its request, if there is one
 abbrev pub done_by : Option Owner → List AnswerLine → List Act
 done_by None ls = []
 done_by (Some o) ls = Told (record { caller = o.caller; number = o.number; answer = Done ls }) ∷ []
 
+-- a line is heard where its kind is listened to
 abbrev pub heard_by : (UrcKind → Bool) → ℕ → UrcKind → List ℕ → List Act
 heard_by listens d kind line = if listens kind then Heard kind d line ∷ [] else []
 
@@ -75,6 +77,7 @@ ReadsOctet dialect kinds r c old new =
     (listens : UrcKind → Bool) → Listens listens kinds
     → new ≡ read_on dialect listens r.dlci.number r.owner old (c ∷ [])
 
+-- octets are read one after the other, whatever is listened to
 unfoldable pub ReadsAll : (dialect : Dialect) → List UrcKind → code.Reading → List ℕ → Read → Read → Type 0
 ReadsAll dialect kinds r octets old new =
     (listens : UrcKind → Bool) → Listens listens kinds

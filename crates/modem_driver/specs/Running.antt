@@ -52,6 +52,7 @@ pub record Running : Type 0 where
   pub core : Core
   pub acts : List Act
 
+-- what the code keeps between two events, as the definitions see it
 abbrev pub running_of : code.Running → Running
 running_of r = record { core = r.core; acts = map act_of r.acts.items }
 
@@ -98,6 +99,7 @@ pub record StepsAlone (a : Act) (d d' : Deframing) (old new : Running) : Type 0 
   pub steps : Steps a old new
   pub same : d' ≡ d
 
+-- what one event does to deframer and core
 abbrev pub HandlesEvent : Event → Deframing → Deframing → Running → Running → Type 0
 HandlesEvent (event.Ask q) d d' old new = StepsAlone (Took q) d d' old new
 HandlesEvent (event.Octets x) d d' old new = Hears x d d' old new

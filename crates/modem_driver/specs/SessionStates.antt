@@ -163,6 +163,7 @@ IsFormedAsk (Command d line) = refusal_of line ≡ None
 IsFormedAsk (Probe octets) = length octets ≤ 16
 IsFormedAsk _ = Unit {0}
 
+-- each of the requests is of its form
 abbrev pub AreFormed : List Request → Type 0
 AreFormed [] = Unit {0}
 AreFormed (q ∷ qs) = IsFormedAsk q.ask × AreFormed qs

@@ -40,5 +40,6 @@ abbrev pub is_probe_up : Up → Bool
 is_probe_up UpProbe = true
 is_probe_up (UpChannel d) = false
 
+-- the tick gave the probe up
 abbrev pub is_probe_given : GivenUp → Bool
 is_probe_given u = is_probe_up (up_of u)

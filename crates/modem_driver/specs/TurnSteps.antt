@@ -29,6 +29,7 @@ pub record TurnState : Type 0 where
   pub driver : DriverView
   pub kept : Kept
 
+-- a session as its steps see it
 abbrev pub turn_state : LineView → DriverView → Kept → TurnState
 turn_state l d k = record { line = l; driver = d; kept = k }
 

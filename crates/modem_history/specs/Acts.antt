@@ -9,6 +9,7 @@ use Rattle.modem_desk.specs.declared.request.Answer.{Answer}
 use Rattle.modem_desk.specs.declared.request.Outcome.{Outcome}
 use Rattle.modem_history.specs.declared.act.Act as code
 
+-- what happens to a driver
 pub data Act : Type 0 where
   Took : Request → Act
   Got : Frame → Act

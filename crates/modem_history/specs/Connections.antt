@@ -163,6 +163,7 @@ pub record IsPlaced (r : Role) (d : ℕ) (commands : List (List ℕ)) (past : Li
   pub commands_are : begun_in (placed r d commands past)
       ≡ wholly_sent (length (information_sent r d past)) commands
 
+-- the law of `IsPlaced`, of every connection and commands
 unfoldable pub PlacesAll : Role → List Act → Type 0
 PlacesAll r past = (d : ℕ) (commands : List (List ℕ)) → IsPlaced r d commands past
 
@@ -175,6 +176,7 @@ pub record ArePlacedInEach (r : Role) (d : ℕ) (commands : List (List (List ℕ
       ≡ map (λ (p : List (List ℕ) × List ℕ). wholly_sent (length p.1) p.0)
       (zip commands (all_information_sent r d past))
 
+-- the law of `ArePlacedInEach`, of every connection and as many lists of commands as it has openings
 unfoldable pub PlacesEach : Role → List Act → Type 0
 PlacesEach r past =
     (d : ℕ) (commands : List (List (List ℕ))) → length commands ≡ length (openings r d past)
@@ -188,5 +190,6 @@ pub record IsSaidAlike (r : Role) (past : List Act) : Type 0 where
   pub placed_same : (d : ℕ) (commands : List (List ℕ))
       → placed r d commands (without_calls past) ≡ placed r d commands past
 
+-- the law of `IsSaidAlike`
 unfoldable pub NeedsNoCalls : Role → List Act → Type 0
 NeedsNoCalls r past = IsSaidAlike r past

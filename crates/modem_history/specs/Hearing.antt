@@ -61,6 +61,7 @@ pub record Hears (s : Setting) (d : ℕ) (past : List Act) : Type 0 where
   pub in_order : was_heard d past ++ to_be_heard d (owed s past) ≡ listened_on s d past
   pub each_once : AreNoneLost s.dialect (all_marks s.role d past)
 
+-- the law of `Hears`, of every connection
 unfoldable pub HearsInOrder : Setting → List Act → Type 0
 HearsInOrder s past = (d : ℕ) → Hears s d past
 

@@ -90,6 +90,7 @@ pub record SessionSays (b : Beginning) (v : SessionView) (past : List Act) : Typ
   pub in_hand : HandIsUntold past
   pub once : TellsOnce b v
 
+-- what a session says of each history that it fits
 unfoldable pub FitsSays : Beginning → SessionView → List Act → Type 0
 FitsSays b v past = SessionFits b v past → SessionSays b v past
 
@@ -111,11 +112,13 @@ KeepsHistory b old new core later =
 abbrev pub by_test : (Beginning → List Act → Bool) → Beginning → List Act → Type 0
 by_test test b past = test b past ≡ true
 
+-- one call after another is as one call
 unfoldable pub CallsRunOn : Type 0
 CallsRunOn =
     (old mid new : SessionView) (first second third : Beginning → List Act → Bool)
     → RunsOn old mid new (by_test first) (by_test second) (by_test third)
 
+-- a session that had a history has one after a call
 unfoldable pub CallsKeepHistory : Beginning → Type 0
 CallsKeepHistory b =
     (old new : SessionView) (core later : Beginning → List Act → Bool)

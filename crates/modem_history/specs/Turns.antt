@@ -156,6 +156,7 @@ pub data TurnAnswer : Type 0 where
   Blocked : UrcKind → TurnAnswer
   Idle : TurnAnswer
 
+-- the answer is Moved
 abbrev pub says_moved : TurnAnswer → Bool
 says_moved Moved = true
 says_moved _ = false

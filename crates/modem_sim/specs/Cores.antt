@@ -45,6 +45,7 @@ counted n = min n (2 ^ 64 - 1)
 abbrev pub that_act : List Step → List Step
 that_act steps = filter (λ (s : Step). acts s.act) steps
 
+-- what is kept of d
 abbrev pub box_at : Core → ℕ → Box
 box_at c d = slice_index_or c.boxes d fresh_box
 
@@ -53,6 +54,7 @@ pub record Wired : Type 0 where
   pub came : List Frame
   pub gone : List Frame
 
+-- no frame has come or gone
 abbrev pub nothing_wired : Wired
 nothing_wired = record { came = []; gone = [] }
 
@@ -105,6 +107,7 @@ EndGoesOn old new f =
     (e : End) (w : Wired) (past : List Act) → Fits e w old past
     → Fits e (record w { came = w.came ++ f ∷ [] }) new (after_wire_act e past (station.Got f))
 
+-- the octets that a frame brings to an open connection
 abbrev pub octets_in : Core → Frame → List ℕ
 octets_in c f =
     if is_data_frame f && is_opened (stations.channel_at c.station f.dlci).state then f.info else []
@@ -167,11 +170,13 @@ pub record IsHanded (c : Core) (d : ℕ) : Type 0 where
   pub unsent : (d == 0) ≡ false → (stations.channel_at c.station d).waiting ≡ [] → (box_at c d).unsent ≡ []
   pub released : is_released (box_at c d).hold ≡ false
 
+-- if d is open, all of its octets are handed on
 abbrev pub IsHandedOn : Core → ℕ → Type 0
 IsHandedOn c d = is_opened (stations.channel_at c.station d).state ≡ true → IsHanded c d
 
 -- ## What goes out
 
+-- the end after the next frame has gone out
 abbrev pub gone_on : Core → Core
 gone_on c = record c { station = station_after c.station c.station.queue }
 
@@ -203,6 +208,7 @@ boxes_done (Hold d e) boxes =
     slice_set boxes d.number (box_holding e.number (slice_index_or boxes d.number fresh_box))
 boxes_done _ boxes = boxes
 
+-- the step closes the multiplexer down
 abbrev pub closes_by : StepAct → Bool
 closes_by CloseDown = true
 closes_by _ = false

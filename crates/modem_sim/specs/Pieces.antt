@@ -22,9 +22,11 @@ octets_of (Echo line) = line ++ 0xd ∷ []
 octets_of (Answer line) = framed line
 octets_of (Announced line) = framed line
 
+-- the octets of pieces, joined
 abbrev pub pieces_octets : List Piece → List ℕ
 pieces_octets pieces = flat_map octets_of pieces
 
+-- the lines of an answer, as pieces
 abbrev pub answers : List AnswerLine → List Piece
 answers ls = map (λ l. Answer l.text) ls
 

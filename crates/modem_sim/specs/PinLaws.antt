@@ -118,6 +118,7 @@ pub record FollowsNetwork (s : ModemState) (reg pin oper attachment attach : Lis
   pub attached :
       answered s AttachQuery attachment ≡ Ok (Attached true) → is_home (answered s RegQuery reg) ≡ true
 
+-- the law: whatever lines a modem was given, registration, PIN and attachment go together
 abbrev pub FollowsNetworkAlways : ModemStart → Type 0
 FollowsNetworkAlways start =
     (lines : List (List ℕ)) (reg pin oper attachment attach : List ℕ) → Asks reg pin oper attachment attach

@@ -118,6 +118,7 @@ abbrev pub kept_end :
 kept_end before (Err why.NoMemory) = before
 kept_end before given = Some given
 
+-- the simulated modem, which keeps what a poll gave as its end, but for want of memory
 abbrev pub with_given : {X : Type 0} → Option (Result SimTurn SimError) → SimState X → SimState X
 with_given None s = s
 with_given (Some given) s = record s { kept = record s.kept { end = kept_end s.kept.end given } }
@@ -137,6 +138,7 @@ abbrev pub PollsFrom :
 PollsFrom see (Some end) old new given = (given ≡ Some end) × (new ≡ old)
 PollsFrom see None old new given = PollsOn see old new given
 
+-- a poll: an end that an earlier one gave is given again; else it makes its turns
 unfoldable pub Polls :
     {X : Type 0} → Sight X → (old new : SimState X)
     → Option (Result SimTurn SimError) → Type 0

@@ -73,6 +73,7 @@ pub record IsFirstOf {A : Type 0} (xs ys : List A) : Type 0 where
 abbrev pub is_answer_line : AnswerLine → Bool
 is_answer_line line = is_line line.text && not (has_at line.text)
 
+-- each line of an answer is one line as the other end reads it, and no command line
 abbrev pub AnswersInLines : ModemStart → Type 0
 AnswersInLines start =
     (before : List (List ℕ)) (line : List ℕ)

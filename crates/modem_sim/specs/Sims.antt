@@ -87,6 +87,7 @@ pub record Sight (X : Type 0) : Type 0 where
   pub empty_reads : X → ℕ
   pub stalled_writes : X → ℕ
 
+-- what is seen of a line, by its trait's words
 abbrev pub sight :
     {X : Type 0} → (received sent : X → List ℕ) → (calls failures empty_reads stalled_writes : X → ℕ) → Sight X
 sight received sent calls failures empty_reads stalled_writes = record {

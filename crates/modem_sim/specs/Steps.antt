@@ -187,6 +187,7 @@ error_text mode number =
     else if mode == 1 then codes "+CME ERROR: " ++ decimal number
     else codes "+CME ERROR: " ++ unwrap_or (cme_text number) []
 
+-- a line of an answer with this text
 abbrev pub line_of : List ℕ → AnswerLine
 line_of text = record { text = text }
 
@@ -228,6 +229,7 @@ oper_name format number =
     else if format == 1 then codes "N" ++ number
     else number
 
+-- the operator in the form that was asked for: how it was chosen, and its name
 abbrev pub named_oper_text : ℕ → OperChoice → List ℕ
 named_oper_text format Automatic =
     codes "+COPS: 0," ++ decimal format ++ codes "," ++ in_quotes (oper_name format (codes "00101")) ++ codes ",7"
@@ -245,6 +247,7 @@ abbrev pub status_text : ℕ → Bool → List ℕ
 status_text n false = codes "0"
 status_text n true = codes "1" ++ cell_text n
 
+-- how the lines of a domain begin
 abbrev pub domain_name : Domain → List ℕ
 domain_name Packet = codes "+CGREG: "
 domain_name Evolved = codes "+CEREG: "
@@ -258,6 +261,7 @@ abbrev pub reports_of : Words → Domain → ℕ
 reports_of w Packet = w.packet_reports
 reports_of w Evolved = w.evolved_reports
 
+-- what a modem with words keeps, with this way of reporting a domain
 abbrev pub with_reports : Words → Domain → ℕ → Words
 with_reports w Packet n = record w { packet_reports = n }
 with_reports w Evolved n = record w { evolved_reports = n }
@@ -311,9 +315,11 @@ pub record Ran : Type 0 where
   pub told : List AnswerLine
   pub error : Option (List ℕ)
 
+-- no command of the line was done yet
 abbrev pub nothing_ran : ModemState → Ran
 nothing_ran s = record { state = s; told = []; error = None }
 
+-- what a command of the first table comes to, refused or carried out
 abbrev pub ran_command : Option ℕ → Ran → Command → Ran
 ran_command None r c = record {
   state = after_command r.state c;
@@ -326,6 +332,7 @@ ran_command (Some number) r c = record {
   error = Some (error_text r.state.errors number);
 }
 
+-- what a command of the second table comes to, refused or carried out
 abbrev pub ran_word : Option ℕ → Words → Ran → Word → Ran
 ran_word None w r x = record {
   state = word_after w r.state x;
@@ -338,6 +345,7 @@ ran_word (Some number) w r x = record r { error = Some (error_text r.state.error
 abbrev pub ran_unknown : Ran → Ran
 ran_unknown r = record r { error = Some (codes "ERROR") }
 
+-- what a command that isn't of the first table comes to
 abbrev pub ran_other : Option Words → Ran → Option Word → Ran
 ran_other (Some w) r (Some x) = ran_word (word_refusal r.state x) w r x
 ran_other words r word = ran_unknown r
@@ -352,6 +360,7 @@ abbrev pub ran_unless : Option (List ℕ) → Ran → List ℕ → Ran
 ran_unless (Some error) r text = r
 ran_unless None r text = ran_text (command_of text) r text
 
+-- what the next command of the line comes to, unless one before it was refused
 abbrev pub ran_next : Ran → List ℕ → Ran
 ran_next r text = ran_unless r.error r text
 
@@ -360,6 +369,8 @@ abbrev pub divided_by : Option Command → List ℕ → Option (List (List ℕ))
 divided_by (Some c) line = Some (line ∷ [])
 divided_by None line = commands_in line
 
+-- the commands of a line: itself, where it is a command of the first table, or else those that it is
+-- divided into
 unfoldable pub line_commands : List ℕ → Option (List (List ℕ))
 line_commands line = divided_by (command_of line) line
 
@@ -377,6 +388,7 @@ domain_reports (Some w) registered =
     report_texts (codes "+CGREG: ") w.packet_reports registered
     ++ report_texts (codes "+CEREG: ") w.evolved_reports registered
 
+-- the reports of all registrations whose reports are on
 abbrev pub all_reports : ModemState → Bool → List (List ℕ)
 all_reports s registered =
     report_texts (codes "+CREG: ") s.reports registered ++ domain_reports s.words registered

@@ -33,6 +33,7 @@ pub data MayOffer (e : End) (w : Wired) (past : List Act) (d : ℕ) (c : Core) :
   offers_none : Fits e w c past → MayOffer e w past d c false
   offers_some : OffersFrom e w past d c → MayOffer e w past d c true
 
+-- whatever past an end fits, octets of d were handed to its station
 abbrev pub Offering : Core → Core → ℕ → Type 0
 Offering old new d = (e : End) (w : Wired) (past : List Act) → Fits e w old past → OffersFrom e w past d new
 
@@ -140,6 +141,7 @@ pub record TakesFrame (old new : Kept) : Type 0 where
       (e : End) (came went : List ℕ) (past : List Act) → KeptFits e came went old past
       → KeptFits e came went new (after_wire_act e past (station.Got frame))
 
+-- no frame was taken, since there was none or no room for what it calls for
 pub record TakesNone (old new : Kept) : Type 0 where
   pub same : new ≡ old
   pub none : HasNoneToTake old
@@ -193,6 +195,7 @@ pub data LeavesUndone (k : Kept) : Type 0 where
 
 -- ## All of them together
 
+-- what is kept, at this line
 abbrev pub at_line : {X : Type 0} → X → Kept → SimState X
 at_line line k = record { line = line; kept = k }
 

@@ -68,5 +68,6 @@ or_else None other = other
 abbrev pub word_in : List ℕ → Option Word
 word_in t = or_else (basic_word t) (or_else (identity_word t) (or_else (phone_word t) (report_word t)))
 
+-- the command of the second table that a text is, its letters in either case
 unfoldable pub word_of : List ℕ → Option Word
 word_of text = word_in (lowered text)

@@ -91,6 +91,7 @@ unfoldable pub by_end : Header → Option ℕ → Option ℕ → Verdict
 by_end h None close = unfinished
 by_end h (Some x) close = if x == h.check then by_flag h close else refused
 
+-- the verdict by the octets behind the header
 abbrev pub by_rest : List ℕ → Verdict → Verdict
 by_rest t unfinished = unfinished
 by_rest t refused = refused

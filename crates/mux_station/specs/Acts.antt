@@ -13,6 +13,7 @@ pub data Call : Type 0 where
   -- an offer that was taken
   Offer : (dlci : ℕ) → (octets : List ℕ) → Call
 
+-- what happens at an end of the line
 pub data Act : Type 0 where
   Called : Call → Act
   Got : Frame → Act

@@ -5,6 +5,7 @@ use Rattle.mux_station.specs.declared.control_frame.ControlFrame.{ControlFrame}
 use Rattle.mux_station.specs.declared.answers.Answers.{Answers}
 use Rattle.mux_station.specs.ControlFrames.{control_frame}
 
+-- the frame that is kept, if there is one
 abbrev pub frames_in : Option ControlFrame → List Frame
 frames_in None = []
 frames_in (Some f) = control_frame f ∷ []

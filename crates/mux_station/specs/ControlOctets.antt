@@ -21,6 +21,7 @@ info_len octets =
 unfoldable pub front_len : List ℕ → ℕ
 front_len octets = lead_len octets + info_len octets + 2
 
+-- the control frame in front
 unfoldable pub front_frame : List ℕ → Frame
 front_frame octets = record {
   dlci = slice_index octets 1 / 4;

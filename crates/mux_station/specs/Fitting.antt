@@ -20,6 +20,7 @@ pub record ChannelFits (r : Role) (d : ℕ) (past : List Act) (c : Channel) : Ty
   pub stop_is : is_opened c.state ≡ true → last_said (got_says (msc_says d)) (since r d past) ≡ c.is_stopped
   pub ring_is : is_opened c.state ≡ true → offered r d past ≡ data_out r d past ++ c.waiting
 
+-- a station fits a past
 pub record StationFits (v : Station) (past : List Act) : Type 0 where
   -- a station is told of no loss of the line: whoever holds it drops it then
   pub live : list_any is_loss past ≡ false

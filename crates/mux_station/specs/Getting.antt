@@ -24,6 +24,7 @@ turned Stays s = s
 turned Opens s = IsOpened
 turned Shuts s = IsShut
 
+-- the connection opens
 abbrev pub is_opens : Turn → Bool
 is_opens Opens = true
 is_opens _ = false
@@ -43,6 +44,7 @@ abbrev pub answer_frames : Role → ℕ → Option Kind → List Frame
 answer_frames r d None = []
 answer_frames r d (Some k) = written r k d [] ∷ []
 
+-- the frames of a row of a table: its UA or DM, and an MSC where the connection opens
 abbrev pub row_frames : Role → ℕ → Option Kind → Turn → List Frame
 row_frames r d answer t = answer_frames r d answer ++ (if is_opens t then msc_after_opening r d else [])
 
@@ -54,9 +56,11 @@ all_turned_in v s = record v {
   probe = None;
 }
 
+-- the station, d turned to another state; 0 shuts all others
 abbrev pub turned_on : Station → ℕ → State → Station
 turned_on v d s = if d == 0 then all_turned_in v s else turned_in v d s
 
+-- the station, d turned as a row of a table says
 abbrev pub turned_by : Station → ℕ → Turn → Station
 turned_by v d Stays = v
 turned_by v d Opens = turned_on v d IsOpened

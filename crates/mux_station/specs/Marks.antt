@@ -9,6 +9,7 @@ use Rattle.mux_station.specs.Stations.{Channel, shut_channel}
 abbrev pub may_send : Channel → Bool
 may_send c = is_opened c.state && (not c.is_stopped && not (length c.waiting == 0))
 
+-- a bit as a number
 abbrev pub bit_of : Bool → ℕ
 bit_of true = 1
 bit_of false = 0

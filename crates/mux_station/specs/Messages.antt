@@ -45,6 +45,7 @@ abbrev pub msc_dlci : List ℕ → ℕ
 msc_dlci [] = 0
 msc_dlci (d ∷ rest) = d / 4
 
+-- the FC bit of an MSC says that no frames can be accepted
 abbrev pub msc_stops : List ℕ → Bool
 msc_stops [] = false
 msc_stops (d ∷ []) = false

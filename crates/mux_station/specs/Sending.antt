@@ -113,6 +113,7 @@ queue (_ ∷ past) = queue past
 abbrev pub is_test_or_response : ℕ → Bool
 is_test_or_response octet = (octet == test) || (command_of octet == test)
 
+-- an NSC's value is the type of a Test command or response
 abbrev pub names_test : List ℕ → Bool
 names_test (octet ∷ []) = is_test_or_response octet
 names_test _ = false
@@ -154,6 +155,7 @@ probe_of s (a ∷ past) =
     record { state = λ d. state_of s.role d past; queued = octets_of (queue past); probe = before } in
     probe_begun (refused_act s v a) a (probe_after s (zero_stays s past a) before a)
 
+-- what a call sees of a past
 abbrev pub station_view : StationSetting → List Act → StationView
 station_view s past =
     record { state = λ d. state_of s.role d past; queued = octets_of (queue past); probe = probe_of s past }
