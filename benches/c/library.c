@@ -15,8 +15,9 @@
 static _Thread_local long left = -1;    /* allocations until one is refused; none is where it is negative */
 void *__real_malloc(size_t size);
 void *__real_realloc(void *at, size_t size);
-void *__wrap_malloc(size_t size) { return left >= 0 && left-- == 0 ? NULL : __real_malloc(size); }
-void *__wrap_realloc(void *at, size_t size) { return left >= 0 && left-- == 0 ? NULL : __real_realloc(at, size); }
+static _Thread_local size_t asked_for;  /* octets, over all allocations */
+void *__wrap_malloc(size_t size) { asked_for += size; return left >= 0 && left-- == 0 ? NULL : __real_malloc(size); }
+void *__wrap_realloc(void *at, size_t size) { asked_for += size; return left >= 0 && left-- == 0 ? NULL : __real_realloc(at, size); }
 
 /* ---- A driver and its modem ---- */
 
@@ -402,11 +403,23 @@ static bool one_refused(long place, unsigned long *refused)
 	return was_refused;
 }
 
+/* How many octets a driver takes when it is made. */
+static void memory_of_new(void)
+{
+	struct cimbaloty c = { 0 };
+
+	asked_for = 0;
+	CHECK(cimbaloty_new(&c, 31, 0, 1) == CIMBALOTY_OK);
+	printf("library: a driver at N1 31 takes %zu octets when it is made\n", asked_for);
+	cimbaloty_free(&c);
+}
+
 int main(void)
 {
 	unsigned long refused = 0;
 	long place = 0;
 
+	memory_of_new();
 	refusals();
 	rooms();
 	cuts();

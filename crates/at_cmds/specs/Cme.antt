@@ -26,7 +26,7 @@ cme_text n =
 abbrev pub cme_numbers : List ℕ
 cme_numbers = 0 ∷ 3 ∷ 4 ∷ 10 ∷ 11 ∷ 12 ∷ 13 ∷ 14 ∷ 15 ∷ 16 ∷ 30 ∷ 31 ∷ 32 ∷ 100 ∷ []
 
--- this is the text of that number
+-- this is the text of the number
 abbrev pub is_text_of : List ℕ → ℕ → Bool
 is_text_of text n = option_map_or (λ words. bytes_eq words text) (cme_text n) false
 

@@ -10,11 +10,13 @@ use Rattle.at_cmds.specs.declared.error.CmdError.{CmdError}
 use Rattle.at_cmds.specs.declared.error.CmdError.TheVariants.{BadPin, BadApn, BadNumber, NoMemory}
 use Rattle.at_cmds.specs.Forms.{numeral, in_quotes, is_pin, is_oper, is_apn, is_cid, is_mode}
 
+-- the name of a kind of addresses
 abbrev pub pdp_text : Pdp → List ℕ
 pdp_text Ip = codes "IP"
 pdp_text Ipv6 = codes "IPV6"
 pdp_text Ipv4v6 = codes "IPV4V6"
 
+-- the text that defines a context
 abbrev pub context_text : ℕ → Pdp → List ℕ → List ℕ
 context_text cid pdp apn =
     codes "AT+CGDCONT=" ++ numeral cid ++ codes "," ++ in_quotes (pdp_text pdp) ++ codes "," ++ in_quotes apn

@@ -106,6 +106,7 @@ named_from name i (line ∷ lines) =
     if starts_with nat_eq line.text name then Some (i, drop (length name) line.text)
     else named_from name (i + 1) lines
 
+-- the first line that begins with this name: its index, and what follows the name
 unfoldable pub first_named : List ℕ → List AnswerLine → Option (ℕ × List ℕ)
 first_named name lines = named_from name 0 lines
 
@@ -135,9 +136,11 @@ abbrev pub contexts_unless : Option ℕ → List AnswerLine → Result Reply Rep
 contexts_unless None lines = Ok (Contexts (filter_map context_in lines))
 contexts_unless (Some index) lines = Err (Malformed index)
 
+-- the contexts that the lines tell, or the first line that isn't of their form
 unfoldable pub contexts_of : List AnswerLine → Result Reply ReplyFault
 contexts_of lines = contexts_unless (position_from is_malformed_context 0 lines) lines
 
+-- the operator that a line tells
 abbrev pub oper_reply_of : List ℕ → Option Reply
 oper_reply_of text = do
   x ← oper_of (parameters text)

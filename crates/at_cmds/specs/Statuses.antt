@@ -3,6 +3,7 @@ use Rattle.std.specs.Prelude.{ℕ, List, ◌++◌, ◌==◌, if◌then◌else◌
 use Rattle.at_cmds.specs.declared.registration.RegistrationStatus.{RegistrationStatus}
 use Rattle.at_cmds.specs.declared.registration.RegistrationStatus.TheVariants.{NotRegistered, Home, Searching, Denied, Unknown, Roaming, Other}
 
+-- the meaning of a registration status
 abbrev pub status_of : ℕ → RegistrationStatus
 status_of stat =
     if stat == 0 then NotRegistered

@@ -1,4 +1,4 @@
--- What the values behind the names of commands stand for: the table of texts, the other way round.
+-- How the value behind a command's name is read: the table of texts, the other way round.
 use Rattle.std.specs.Prelude.{◌≡◌, ℕ, ◌==◌, ◌&&◌, true, false, List, [], ◌∷◌, drop, Option, Some, None, Result, Ok, Err, nat_eq, if◌then◌else◌, codes}
 use Rattle.std.specs.List.{starts_with}
 use Rattle.std.specs.Option.{option_map_or}
@@ -19,18 +19,21 @@ abbrev pub after_equals : List ℕ → Option (List ℕ)
 after_equals [] = None
 after_equals (c ∷ text) = if c == 61 then Some text else None
 
+-- the PIN that a value sets
 abbrev pub pin_in : List ℕ → Option (List ℕ)
 pin_in value = do
   text ← after_equals value
   pin ← unquoted text
   if is_pin pin then Some pin else None
 
+-- the mode, 0 to 2, that a value sets
 abbrev pub mode_in : List ℕ → Option ℕ
 mode_in value = do
   text ← after_equals value
   n ← numeral_in text
   if is_mode n then Some n else None
 
+-- the operator's number that a value chooses by hand
 abbrev pub oper_in : List ℕ → Option (List ℕ)
 oper_in value =
     if starts_with nat_eq value (codes "=1,2,") then (do
@@ -38,6 +41,7 @@ oper_in value =
       if is_oper oper then Some oper else None)
     else None
 
+-- the kind of addresses of this name
 abbrev pub pdp_in : List ℕ → Option Pdp
 pdp_in text =
     if bytes_eq text (codes "IP") then Some Ip
@@ -45,6 +49,7 @@ pdp_in text =
     else if bytes_eq text (codes "IPV4V6") then Some Ipv4v6
     else None
 
+-- the context that these parameters are
 abbrev pub context_value : List (List ℕ) → Option (ℕ × Pdp × List ℕ)
 context_value (cid ∷ pdp ∷ apn ∷ []) = do
   n ← numeral_in cid
@@ -54,6 +59,7 @@ context_value (cid ∷ pdp ∷ apn ∷ []) = do
   if is_cid n && is_apn a then Some (n, k, a) else None
 context_value _ = None
 
+-- the context that a value defines
 abbrev pub context_set_in : List ℕ → Option (ℕ × Pdp × List ℕ)
 context_set_in value = do
   text ← after_equals value

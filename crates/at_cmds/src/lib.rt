@@ -1,4 +1,5 @@
-//! Typed commands and replies of a modem (3GPP TS 27.007, clauses 5 to 10), in the line syntax of ITU-T V.250, clause 5.
+//! Typed commands and replies of a modem (3GPP TS 27.007, clauses 5 to 10), in the line syntax of ITU-T V.250, clause
+//! 5. `Command::line` writes a command and `Command::read` reads one; `Reply::read` reads an answer.
 #![tactic(auto)]
 
 mod answers;

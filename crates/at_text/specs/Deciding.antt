@@ -16,6 +16,7 @@ use Rattle.at_text.specs.Refusals.{count, text_of, pattern_of, is_well_named, is
 abbrev pub lent : PatternRef → Pattern
 lent p = pattern p.form p.text.now
 
+-- the line is of both rules
 abbrev pub both_take : Pattern → Pattern → List ℕ → Bool
 both_take p q line = takes p line && takes q line
 

@@ -11,17 +11,17 @@ abbrev pub lines_so_far : Option OpenWindow → List AnswerLine
 lines_so_far None = []
 lines_so_far (Some o) = o.lines
 
--- the same command, with none of its lines
+-- a fork of a window: the same command, with none of its lines
 abbrev pub forked : Option OpenWindow → Option OpenWindow
 forked None = None
 forked (Some o) = Some (record o { lines = [] })
 
--- these lines came before those of the window
+-- a window with these lines before its own
 abbrev pub led_by : List AnswerLine → Option OpenWindow → Option OpenWindow
 led_by ls None = None
 led_by ls (Some o) = Some (record o { lines = ls ++ o.lines })
 
--- and before those of an answer that is whole
+-- what a line is on a fork, with these lines before those of an answer that is whole
 abbrev pub led_seen : List AnswerLine → Seen → Seen
 led_seen ls (Done more) = Done (ls ++ more)
 led_seen ls seen = seen

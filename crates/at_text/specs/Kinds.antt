@@ -15,5 +15,6 @@ kind_place Ciev = 5
 kind_place Other = 6
 kind_place (Own number) = 7 + number
 
+-- two kinds are the same: they have one place
 abbrev pub is_same_kind : UrcKind → UrcKind → Bool
 is_same_kind = on kind_place nat_eq

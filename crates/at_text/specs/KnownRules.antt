@@ -31,8 +31,10 @@ common_urcs =
     ∷ urc 7 (codes "CTZE") (pattern Prefix (codes "+CTZE:"))
     ∷ []
 
+-- the rules of `Dialect::common`
 abbrev pub common : Rules
 common = record { finals = cms_error ∷ []; urcs = common_urcs }
 
+-- the rules of `Dialect::dialling`
 abbrev pub dialling : Rules
 dialling = record { finals = cms_error ∷ call_codes; urcs = common_urcs }

@@ -63,6 +63,6 @@ after_solicited dialect (Some o) line =
     else if dialect.is_final line then None
     else Some (with_line o line)
 
--- and after any line
+-- the window after a line
 abbrev pub after_line : Dialect → Option OpenWindow → List ℕ → Option OpenWindow
 after_line dialect window line = if is_solicited dialect line then after_solicited dialect window line else window

@@ -57,6 +57,7 @@ Refuses rules rule Command = TakesCommand (pattern_of rule)
 Refuses rules rule Ambiguous = IsAmbiguous (dialect_of (with_rule rules rule))
 Refuses rules rule NoMemory = Unit {0}
 
+-- the number of a refusal
 abbrev pub dialect_error_number : DialectError → ℕ
 dialect_error_number TooManyRules = 1
 dialect_error_number NoText = 2

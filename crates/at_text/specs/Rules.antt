@@ -32,9 +32,11 @@ goes_on OpenReport rest = begins is_digit (skip_blanks rest) && is_without_numbe
 abbrev pub takes : Pattern → List ℕ → Bool
 takes p line = starts_with nat_eq line p.text && goes_on p.form (drop (length p.text) line)
 
+-- a rule of this form and text
 abbrev pub pattern : Form → List ℕ → Pattern
 pattern form text = record { form = form; text = text }
 
+-- a rule of unsolicited lines, with the name and the number of their kind
 abbrev pub urc : ℕ → List ℕ → Pattern → Urc
 urc kind name p = record { kind = kind; name = name; pattern = p }
 
@@ -43,6 +45,7 @@ pub record Rules : Type 0 where
   pub finals : List Pattern
   pub urcs : List Urc
 
+-- no rules of a dialect's own
 abbrev pub no_rules : Rules
 no_rules = record { finals = []; urcs = [] }
 

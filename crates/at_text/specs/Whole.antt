@@ -38,12 +38,12 @@ announced ls seen = filter_map (λ p. option_map (λ kind. (kind, p.0)) (kind_of
 abbrev pub unsolicited_in : Dialect → List (List ℕ) → List (UrcKind × List ℕ)
 unsolicited_in dialect ls = filter_map (λ l. option_map (λ kind. (kind, l)) (dialect.kind_of l)) ls
 
--- it is of a kind other than Other
+-- a line is of a kind other than Other
 abbrev pub is_of_kind : UrcKind × List ℕ → Bool
 is_of_kind (Uncalled, l) = false
 is_of_kind (kind, l) = true
 
--- where each command begins with no window open, no line is lost or counted twice
+-- no line is lost or counted twice, where each command begins with no window open
 pub record NoneLost (dialect : Dialect) (ms : List Mark) : Type 0 where
   -- each line is seen once, as part of an answer, as an echo, or announced
   pub each : length (seen_in dialect ms) ≡ length (lines_of ms)

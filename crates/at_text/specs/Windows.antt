@@ -1,5 +1,5 @@
-use Rattle.at_text.specs.Dialects.{Dialect, is_solicited}
 -- Which lines answer which command, by their place alone (V.250, 5.2.3, 5.7.1).
+use Rattle.at_text.specs.Dialects.{Dialect, is_solicited}
 use Rattle.std.specs.Prelude.{◌≡◌, ℕ, Bool, List, [], ◌∷◌, ◌++◌, length, filter, map, Option, Some, None, if◌then◌else◌}
 use Rattle.std.specs.List.{list_any, last_or}
 use Rattle.std.specs.Str.{bytes_eq}

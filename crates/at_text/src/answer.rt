@@ -9,11 +9,12 @@ use std::mem;
 /// One line of an answer, without its line end (V.250, 5.7.1).
 #[derive(Drop, Debug, PartialEq, Eq)]
 pub struct AnswerLine {
+    /// Its octets. A reader keeps at most 512.
     pub text: Text,
 }
 
 impl AnswerLine {
-    /// The same line once more.
+    /// A copy of the line.
     pub fn copy(&self) -> Result<AnswerLine, AllocError>
         ensures { IfOk result (λ copy. copy ≡ self.now) }
     {
@@ -87,7 +88,7 @@ impl AnswerLines {
         AnswerLines { lines }
     }
 
-    /// The same lines once more.
+    /// A copy of the lines.
     pub fn copy(&self) -> Result<AnswerLines, AllocError>
         ensures { IfOk result (λ copy. copy ≡ self.now) }
     {

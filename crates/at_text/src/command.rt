@@ -30,7 +30,8 @@ impl Model for CommandLine {
 
 #[tactic(auto, using(crate::proofs::CommandTexts::refused_long, crate::proofs::CommandTexts::taken))]
 impl CommandLine {
-    /// This text as a command line, without its CR. It is refused by the first of: 1 NoAt, 2 BadOctet, 3 TooLong, 4 NoMemory.
+    /// A command line of this text, given without its CR. Refused with the first that applies: 1 NoAt, 2 BadOctet, 3
+    /// TooLong, 4 NoMemory.
     pub fn new(alloc: Global, text: &[u8]) -> Result<CommandLine, TextError>
         ensures { MatchOption (refusal_of text.now)
             (MatchResult result (λ line. line ≡ text.now) (λ why. why ≡ TextError.NoMemory))
@@ -59,7 +60,7 @@ impl CommandLine {
         self.text.as_slice()
     }
 
-    /// The same line once more.
+    /// A copy of the line.
     pub fn copy(&self) -> Result<CommandLine, AllocError>
         ensures { IfOk result (λ copy. copy ≡ self.now) }
     {

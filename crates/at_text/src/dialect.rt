@@ -60,7 +60,7 @@ impl Dialect {
         }
     }
 
-    /// The same rules once more. 8 NoMemory.
+    /// A copy of the rules. Refused with 8 NoMemory.
     pub fn copy(&self) -> Result<Dialect, DialectError>
         ensures copy { IfOk result (λ copy. copy ≡ self.now) }
         ensures refused { IfErr result (λ why. why ≡ DialectError.NoMemory) }
@@ -194,8 +194,8 @@ impl Dialect {
         }
     }
 
-    /// One more final rule, behind those that there are. It is refused by the first of: 1 TooManyRules, 2 NoText,
-    /// 3 TextTooLong, 4 LineEnd, 6 Command, 7 Ambiguous, 8 NoMemory, and the dialect stays as it was.
+    /// Adds a final rule behind the others. Refused with the first that applies, and the dialect stays as it was: 1
+    /// TooManyRules, 2 NoText, 3 TextTooLong, 4 LineEnd, 6 Command, 7 Ambiguous, 8 NoMemory.
     pub fn add_final(&mut self, form: Form, text: &[u8]) -> Result<(), DialectError>
         ensures added { OnOk result (self.new ≡ with_rule self.old (FinalRule form text.now)) }
         ensures taken { OnOk result (HasNoReasonBelow 8 self.old (FinalRule form text.now)) }
@@ -212,9 +212,9 @@ impl Dialect {
         }
     }
 
-    /// One more rule of unsolicited lines, behind those that there are. Its kind is that of the first of them with
-    /// the same name, else one of its own. It is refused by the first of: 1 TooManyRules, 2 NoText, 3 TextTooLong,
-    /// 4 LineEnd, 5 BadName, 6 Command, 7 Ambiguous, 8 NoMemory, and the dialect stays as it was.
+    /// Adds a rule of unsolicited lines behind the others. Its kind is that of the first rule of the same name, else a
+    /// new one. Refused with the first that applies, and the dialect stays as it was: 1 TooManyRules, 2 NoText, 3
+    /// TextTooLong, 4 LineEnd, 5 BadName, 6 Command, 7 Ambiguous, 8 NoMemory.
     pub fn add_unsolicited(
         &mut self,
         form: Form,

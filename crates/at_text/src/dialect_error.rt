@@ -2,7 +2,7 @@
 use std::alloc::{AllocError, AllocFailed};
 use thiserror::Error;
 
-/// Why a dialect took no further rule.
+/// Why a dialect refuses a rule.
 #[derive(Clone, Copy, Debug, PartialEq, Eq, Error)]
 pub enum DialectError {
     /// 1: it has 64 rules already.

@@ -1,4 +1,6 @@
-//! AT commands as text: command lines, lines, final codes, unsolicited kinds and windows (ITU-T V.250, clause 5; 3GPP TS 27.007, clause 9).
+//! AT commands as text (ITU-T V.250, clause 5; 3GPP TS 27.007, clause 9). `CommandLine` is a line to send, `LineReader`
+//! reads lines from octets, `Window` tells which lines answer a command, and a `Dialect` says which lines are final
+//! codes and which are unsolicited.
 #![tactic(auto)]
 
 mod answer;

@@ -3,7 +3,7 @@ ghost use Rattle.std.specs.Prelude.{◌≡◌, ◌≤◌, length, IsTrue};
 ghost use Rattle.std.specs.List.{list_all};
 ghost use Rattle.at_text.specs.Octets.{is_digit, skip_blanks as from_first, decimal, number_in as number_of};
 
-/// A text from its first octet on that is no blank.
+/// The text without its leading blanks.
 pub fn skip_blanks(text: &[u8]) -> &[u8]
     ensures { result.now ≡ from_first text.now }
 {

@@ -14,6 +14,7 @@ const LINE_LEN: usize = 512;
 /// A line without its line end, cut to its first 512 octets (V.250, 5.7).
 #[derive(Clone, Copy, Debug, PartialEq, Eq)]
 pub struct Line<'a> {
+    /// Its octets. A reader keeps at most 512.
     pub text: &'a [u8],
 }
 
@@ -50,7 +51,7 @@ impl LineReader {
         }
     }
 
-    /// Reads an octet, and lends the line that it ends, until the next call.
+    /// Reads an octet. If it ends a line, lends that line until the next call.
     pub fn push(&mut self, octet: u8) -> Option<Line<'_>>
         ensures line { lines_in result ≡ lines (self.old ++ octet ∷ []) }
         ensures past { (octets : List ℕ) → HasRead self.old octets
@@ -70,7 +71,7 @@ impl LineReader {
         self.has_ended = false;
     }
 
-    /// A reader that has read the same.
+    /// A copy of the reader.
     pub fn copy(&self) -> LineReader
         ensures { result ≡ self.now }
     {

@@ -18,20 +18,20 @@ pub(crate) const TEXT_LEN: usize = 64;
 /// How many octets a text and an ending have at most.
 const LINE_LEN: usize = TEXT_LEN + 1;
 
-/// Which lines with a rule's text at their front are lines of the rule.
+/// How a line goes on behind the text of its rule. A line of a rule begins with the rule's text.
 #[derive(Clone, Copy, PartialEq, Eq, Debug)]
 pub enum Form {
-    /// The text alone.
+    /// Not at all: the line is the text alone.
     Line,
-    /// All of them.
+    /// In any way.
     Prefix,
-    /// Those that go on with any blanks and a quote.
+    /// With any blanks and then a quote.
     Quoted,
-    /// Those that go on with any blanks and a digit, and have no comma behind the text, or any blanks and a
-    /// quote behind the first one: `+CREG: 1`, `+CREG: 1,"00A1"`, and not `+CREG: 0,1`.
+    /// With any blanks and then a digit. Behind the text there is no comma, or the first is followed by any blanks and
+    /// a quote: `+CREG: 1`, `+CREG: 1,"00A1"`, and not `+CREG: 0,1`.
     Report,
-    /// Those that go on with any blanks and a digit, and have no comma behind the text, or anything but any
-    /// blanks and a digit behind the first one: `+CEREG: 3,,,,0,11`, and not `+CEREG: 0,1`.
+    /// With any blanks and then a digit. Behind the text there is no comma, or the first is followed by anything but
+    /// any blanks and a digit: `+CEREG: 3,,,,0,11`, and not `+CEREG: 0,1`.
     OpenReport,
 }
 
@@ -69,8 +69,8 @@ impl PatternRef<'_> {
     }
 
     #[tactic(auto, unfolding(crate::specs::Deciding::can_meet))]
-    /// Whether some line is of both rules, where their texts are short: the longer text is, or it with a quote or
-    /// a digit behind it.
+    /// Whether some line is of both rules, where their texts are short: the longer text, or the longer text with a
+    /// quote or a digit behind it.
     pub(crate) fn meets(self, other: PatternRef<'_>) -> bool
         ensures { result ≡ can_meet (lent self.entry) (lent other.entry) }
     {
@@ -163,7 +163,7 @@ impl Urc {
     }
 }
 
-/// The same rules once more.
+/// A copy of the rules.
 pub(crate) fn copy_patterns(patterns: &Vec<Pattern>) -> Result<Vec<Pattern>, AllocError>
     ensures { IfOk result (λ copies. copies.items ≡ patterns.now.items) }
 {
@@ -174,7 +174,7 @@ pub(crate) fn copy_patterns(patterns: &Vec<Pattern>) -> Result<Vec<Pattern>, All
     Ok(copies)
 }
 
-/// The same rules once more.
+/// A copy of the rules.
 pub(crate) fn copy_urcs(urcs: &Vec<Urc>) -> Result<Vec<Urc>, AllocError>
     ensures { IfOk result (λ copies. copies.items ≡ urcs.now.items) }
 {

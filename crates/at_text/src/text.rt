@@ -34,7 +34,7 @@ impl Text {
         octets
     }
 
-    /// The same octets once more.
+    /// A copy of the octets.
     pub fn copy(&self) -> Result<Text, AllocError>
         ensures { IfOk result (λ copy. copy ≡ self.now) }
     {

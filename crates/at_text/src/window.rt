@@ -144,7 +144,7 @@ impl Window {
         self.open.is_none()
     }
 
-    /// The command has wholly been sent: its window begins. Condition: `idle()`.
+    /// Begins the window of a command that has wholly been sent. Requires `idle()`.
     pub fn begin(&mut self, line: &CommandLine)
         requires { IsNone self.old }
         ensures opens { self.new ≡ Some (opened line.now) }
@@ -154,7 +154,7 @@ impl Window {
         self.open = Some(Open::begun(self.alloc, line));
     }
 
-    /// Forgets the command and what came of its answer.
+    /// Forgets the command and what has come of its answer.
     pub fn drop_command(&mut self)
         ensures none { self.new ≡ None }
         ensures past { (dialect : Codes) → FitsMarks dialect self.new [] }
@@ -162,7 +162,8 @@ impl Window {
         self.open = None;
     }
 
-    /// Says what the next line is, where it ends, by the standard's codes. 4 NoMemory leaves the window as it was, so that the same line can be shown again.
+    /// Says what the next line is, by the standard's codes. Refused with 4 NoMemory, which leaves the window as it was:
+    /// the same line can be shown again.
     pub fn see(&mut self, line: &[u8]) -> Result<Seen, TextError>
         ensures seen { IfOk result (λ seen. seen ≡ seen_by standard self.old line.now) }
         ensures after { OnOk result (self.new ≡ after_line standard self.old line.now) }
@@ -190,7 +191,7 @@ impl Window {
         Ok(seen)
     }
 
-    /// A window that fits the same past. 4 NoMemory.
+    /// A copy, which fits the same past. Refused with 4 NoMemory.
     pub fn copy(&self) -> Result<Window, TextError>
         ensures copy { IfOk result (λ copy. copy ≡ self.now) }
         ensures refused { IfErr result (λ why. why ≡ TextError.NoMemory) }
@@ -223,7 +224,7 @@ impl Window {
         }
     }
 
-    /// Keeps the memory for the lines of a fork that the window before kept, which this one stands for now.
+    /// Takes over the memory that the window before kept for the lines of its forks.
     pub fn take_room(&mut self, before: &mut Window)
         ensures same { self.new ≡ self.old }
         ensures before { before.new ≡ before.old }
@@ -231,7 +232,7 @@ impl Window {
         mem::swap(&mut self.room, &mut before.room);
     }
 
-    /// The lines so far come before these, and are gone from the window. 4 NoMemory leaves both as they were.
+    /// Moves the lines so far to the front of these. Refused with 4 NoMemory, which leaves both as they were.
     pub fn lead(&mut self, lines: &mut AnswerLines) -> Result<(), TextError>
         ensures lines { OnOk result (lines.new ≡ lines_so_far self.old ++ lines.old) }
         ensures left { OnOk result (self.new ≡ forked self.old) }
@@ -246,8 +247,8 @@ impl Window {
         Ok(())
     }
 
-    /// Where a command is under way, the lines so far of the window before come before its own, and are gone
-    /// from that one. 4 NoMemory leaves both as they were.
+    /// Where a command is under way, moves the lines so far of the window before to the front of its own. Refused with
+    /// 4 NoMemory, which leaves both as they were.
     pub fn follow(&mut self, before: &mut Window) -> Result<(), TextError>
         ensures ok { OnOk result (self.new ≡ led_by (lines_so_far before.old) self.old) }
         ensures left { OnOk result (
@@ -288,7 +289,7 @@ impl Window {
         }
     }
 
-    /// What a line of no kind is.
+    /// What a line of no kind is. The echo is looked at before the final code: no command line is a final code.
     fn place_solicited(&mut self, dialect: &Dialect, line: &[u8]) -> Result<Seen, AllocError>
         ensures seen { IfOk result (λ seen. seen ≡ solicited_by (dialect_of dialect.now) self.old line.now) }
         ensures after { OnOk result (self.new ≡ after_solicited (dialect_of dialect.now) self.old line.now) }

@@ -47,7 +47,7 @@ pub record Works (old new : CallerView) (asks : List Ask) (outcomes : List Outco
   pub got : new.got ≡ old.got ++ taken
   pub same : IsPermutation taken outcomes
 
--- it asked for these openings more, in order, and each was told Opened
+-- the caller asked for these openings more, in order, and each was told Opened
 pub record Opens (old new : CallerView) (asks : List Ask) : Type 0 where
   pub place : new.place ≡ old.place
   pub asked_are : asked new ≡ asked old ++ asks
@@ -56,13 +56,13 @@ pub record Opens (old new : CallerView) (asks : List Ask) : Type 0 where
   pub one_each : length told ≡ length asks
   pub opened : All (λ (o : Outcome). o.answer ≡ answer.Opened) told
 
--- it opened 0, and then each connection below this one that the submissions are for, in rising order
+-- the caller opened 0, and then each connection below n that the submissions are for, in rising order
 pub record OpensAll (all : List Submission) (n : ℕ) (old new : CallerView) : Type 0 where
   pub openings : List Ask
   pub are_openings : AreOpenings all n openings
   pub opens : Opens old new openings
 
--- it asked for a Stop more, and it was told Stopped or NoAnswer
+-- the caller asked for a Stop more, and was told Stopped or NoAnswer
 pub record Stops (old new : CallerView) : Type 0 where
   pub place : new.place ≡ old.place
   pub asked_are : asked new ≡ asked old ++ ask.Stop ∷ []

@@ -13,7 +13,7 @@ use Rattle.modem_driver.specs.SessionStates.{SessionEnds, FitsAll, SessionState,
 use Rattle.modem_bench.specs.Faults.{session_fault}
 use Rattle.modem_bench.specs.declared.signals.Fault.{Fault}
 
--- it has done nothing yet, and neither has its desk
+-- the session has done nothing yet, and neither has its desk
 pub record IsBegun {X : Type 0} (look : X → LineView) (s : SessionState X) : Type 0 where
   pub start : Beginning
   pub fits : FitsAll start look s []
@@ -59,8 +59,8 @@ pub record Continues {X : Type 0} (look : X → LineView) (old new : SessionStat
   pub takes : TakesMore old.driver new.driver
   pub goes : SessionGoesOn look old new
 
--- it was finished, which left what each of its histories says, and then its desk was settled with these
--- callers and listeners
+-- the session was finished, which left what each of its histories says, and then its desk was settled with
+-- these callers and listeners
 pub record IsOver {X : Type 0} (look : X → LineView) (s : SessionState X) (cs : List CallerView)
     (ls : List ListenerView) (settled : Settled) : Type 0 where
   pub leftovers : Leftovers
@@ -70,7 +70,8 @@ pub record IsOver {X : Type 0} (look : X → LineView) (s : SessionState X) (cs 
       DeskBooks s.driver cs ls settled.left.items (map vec_items settled.untaken.items)
       (map vec_items settled.unheard.items)
 
--- the same, and some settlement came of it
+-- the session was finished, its desk was settled with these callers and listeners, and some settlement came
+-- of it
 pub record WasSettled {X : Type 0} (look : X → LineView) (s : SessionState X) (cs : List CallerView)
     (ls : List ListenerView) : Type 0 where
   pub settled : Settled

@@ -1,22 +1,22 @@
--- What a fault is told as.
+-- Which fault a bench reports for each error of its parts.
 use Rattle.std.specs.declared.io.ErrorKind.{ErrorKind}
 use Rattle.std.specs.declared.io.ErrorKind.TheVariants as kind
 use Rattle.modem_driver.specs.declared.session.error.SessionFault.{SessionFault}
 use Rattle.modem_sim.specs.declared.error.SimError.{SimError}
 use Rattle.modem_bench.specs.declared.signals.Fault.{Fault}
 
--- an executor that can't be made
+-- the fault for an executor that can't be made
 abbrev pub executor_fault : ErrorKind → Fault
 executor_fault kind.OutOfMemory = Fault.NoMemory
 executor_fault _ = Fault.GaveUp
 
--- a session that fails: once its line has failed it only says so again
+-- the fault for a session that fails: once its line has failed it only says so again
 abbrev pub session_fault : SessionFault → Fault
 session_fault SessionFault.NoMemory = Fault.NoMemory
 session_fault SessionFault.Line = Fault.Line
 session_fault SessionFault.Failed = Fault.Line
 
--- a simulated modem that fails; no turn of one refuses its N1
+-- the fault for a simulated modem that fails; no turn of one refuses its N1
 abbrev pub sim_fault : SimError → Fault
 sim_fault SimError.NoMemory = Fault.NoMemory
 sim_fault SimError.Line = Fault.Line

@@ -59,12 +59,12 @@ pub record AreOnOneLine (b : Beginning) (at : LineAt) (e : End) (line : List End
   pub crossed : AreCrossed p.near.line p.far.line
   pub taken : TookFormed b p.near
 
--- they have a list that goes on from this one
+-- the two have a joint list, one line's, that goes on from this one
 pub record OnOneLineFrom (b : Beginning) (at : LineAt) (e : End) (line : List EndAct) (p : Pair) : Type 0 where
   pub newer : List EndAct
   pub on : AreOnOneLine b at e (newer ++ line) p
 
--- whatever such list they had, it goes on to one that they have
+-- whatever joint list that is one line's the two had, it goes on to one that they have
 unfoldable pub StaysOneLine : (old new : Pair) → Type 0
 StaysOneLine old new =
     (b : Beginning) (at : LineAt) (e : End) (line : List EndAct) → AreOnOneLine b at e line old

@@ -25,6 +25,7 @@ look_in =
     line_by (λ l. l.received) (λ l. l.sent) (λ l. l.calls) (λ l. l.failures) (λ l. l.empty_reads)
     (λ l. l.stalled_writes)
 
+-- what a simulated modem's turn sees of a line in memory
 abbrev pub sight_in : Sight CutState
 sight_in =
     sight (λ l. l.received) (λ l. l.sent) (λ l. l.calls) (λ l. l.failures) (λ l. l.empty_reads)
@@ -35,6 +36,7 @@ pub record Pair : Type 0 where
   pub near : SessionState CutState
   pub far : SimState CutState
 
+-- a session and a simulated modem, each at its line
 abbrev pub pair : SessionState CutState → SimState CutState → Pair
 pair near far = record { near = near; far = far }
 
@@ -115,7 +117,8 @@ pub record GoesOnRound (cut : ℕ) (old new : Pair) : Type 0 where
   pub round : IsRound cut old new says
   pub none : judged says ≡ None
 
--- a round by which they end: by what the two came to in it; or, where that ends nothing, by a line that is full
+-- a round by which the rounds end: by what the two came to in it; or, where that ends nothing, by a line
+-- that is full
 pub data IsLastRound (cut room : ℕ) (old new : Pair) : Result Rest Fault → Type 0 where
   judged_so :
       (says : Says) (end : Result Rest Fault) → IsRound cut old new says → judged says ≡ Some end
@@ -131,7 +134,7 @@ pub data Rounds (cut : ℕ) (old : Pair) : ℕ → Pair → Type 0 where
       (n : ℕ) (mid new : Pair) → Rounds cut old n mid → GoesOnRound cut mid new
       → Rounds cut old (n + 1) new
 
--- they end by the first round that ends them, or where all are used up
+-- the rounds end by the first round that ends them, or where all are used up
 pub data EndsInRounds (cut room rounds : ℕ) (old new : Pair) : Result Rest Fault → Type 0 where
   by_round :
       (n : ℕ) (mid : Pair) (end : Result Rest Fault) → n < rounds → Rounds cut old n mid
@@ -145,12 +148,12 @@ pub record AreJoined (b : Beginning) (at : LineAt) (e : End) (line : List EndAct
   pub near : FitsAll b look_in p.near (driver_past line)
   pub far : FitsSim sight_in.received sight_in.sent at e p.far (modem_past line)
 
--- they fit a list that goes on from this one
+-- the two fit a joint list that goes on from this one
 pub record JoinedFrom (b : Beginning) (at : LineAt) (e : End) (line : List EndAct) (p : Pair) : Type 0 where
   pub newer : List EndAct
   pub joined : AreJoined b at e (newer ++ line) p
 
--- whatever joint list they had, it goes on to one that they have
+-- whatever joint list of acts the two had, it goes on to one that they have
 unfoldable pub JoinsOn : (old new : Pair) → Type 0
 JoinsOn old new =
     (b : Beginning) (at : LineAt) (e : End) (line : List EndAct) → AreJoined b at e line old

@@ -38,13 +38,13 @@ AreOut all n (c ∷ cs) (h ∷ hs) = IsOut all n c h × AreOut all (n + 1) cs hs
 abbrev pub IsBack : Work → Worked → Type 0
 IsBack h w = Works h.promise.was.value w.caller h.promise.asks.value.items w.outcomes.items
 
--- it stands behind those that were back before
+-- a caller comes back from its thread, behind those that were back before
 pub record ComesBack (h : Work) (old new : List Worked) : Type 0 where
   pub worked : Worked
   pub is_back : IsBack h worked
   pub items : new ≡ old ++ worked ∷ []
 
--- all are back, each from the thread at its place
+-- all callers are back, each from the thread at its place
 unfoldable pub AreBack : List Work → List Worked → Type 0
 AreBack [] [] = Unit {0}
 AreBack [] (w ∷ ws) = ⊥

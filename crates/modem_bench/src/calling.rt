@@ -107,7 +107,8 @@ fn in_order(outcomes: Vec<Outcome>) -> Vec<Outcome>
     sorted
 }
 
-/// Whether these outcomes answer the requests of these numbers, each the one at its place.
+/// Whether these outcomes answer the requests of these numbers, each the one at its place. By the headline they do;
+/// comparing them lets the clause stand in the caller's own thread.
 fn answer_all(numbers: &[u64], outcomes: &[Outcome]) -> bool
     ensures { result ≡ true → AreAnswers numbers.now outcomes.now }
 {

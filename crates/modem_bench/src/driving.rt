@@ -67,7 +67,7 @@ impl<L: SerialLine + Drop, R: Wait + Drop> Driven<'_, L, R> {
     }
 }
 
-/// Takes out what is there. Here too the session may be anything, so that its parts cost nothing.
+/// Takes out what is there. Generic, because proving the drop for a concrete session is slow.
 fn take_out<S>(place: &mut Option<S>) -> S
     requires { IsSome place.old }
     ensures taken { place.old ≡ Some result }

@@ -1,4 +1,5 @@
-//! A bench: callers, the driver and a simulated modem, in threads of their own.
+//! A bench: callers, the driver and a simulated modem, in threads of their own (`run_bench`), or a session and a
+//! simulated modem in rounds in one thread (`meet`, `run_in_rounds`).
 #![tactic(auto)]
 
 mod calling;

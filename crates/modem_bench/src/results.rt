@@ -4,8 +4,7 @@ ghost use Rattle.std.specs.Prelude.{◌≡◌, IfErr, IfOk, Err, Ok};
 use crate::signals::Fault;
 use std::thread::SpawnError;
 
-/// What was made, beside what is kept. That something is dropped where nothing was made costs less to prove here, where it may
-/// be anything.
+/// Pairs what was made with what is kept. Generic, because proving the drop for a concrete value is slow.
 pub fn beside<A: Drop, K: Drop, E: Drop>(made: Result<A, E>, kept: K) -> Result<(A, K), E>
     ensures made { IfOk result (λ r. made ≡ Ok r.0) }
     ensures kept { IfOk result (λ r. r.1 ≡ kept) }
@@ -17,7 +16,7 @@ pub fn beside<A: Drop, K: Drop, E: Drop>(made: Result<A, E>, kept: K) -> Result<
     }
 }
 
-/// What came of two threads, unless one failed.
+/// The results of two threads, unless one failed.
 pub fn both<A: Drop, B: Drop>(
     first: Result<A, Fault>,
     second: Result<B, Fault>,

@@ -35,7 +35,8 @@ pub struct Said {
     pub moved: bool,
 }
 
-/// The turns of a poll of a simulated modem, and what the last one answers.
+/// The turns of a poll of a simulated modem, and what the last one answers: `advance` gives nothing both where it is
+/// idle and after 64.
 fn turns(sim: &mut Sim<CutLine>) -> Result<SimTurn, SimError>
     ensures runs { RunsFar sim.old sim.new result }
     ensures goes { SimGoes sight_in.received sight_in.sent sim.old sim.new }
@@ -188,11 +189,12 @@ fn steps<R: Wait + Drop>(
     Ok(Rest::UsedUp)
 }
 
-/// Runs a session and a simulated modem, each at one of two lines in memory, in rounds: in each the session is polled once, at most
-/// `cut` octets are carried each way, and the simulated modem makes the turns of a poll. Callers submit before it and between two
-/// calls of it. It ends after the first round in which both have ended or have nothing to do, no octets were carried and the modem
-/// sent none, or after which one of them has sent `room` octets; at the latest after so many rounds. Refusals: the fault of the session, or else that of the simulated modem, after
-/// the first round that has one.
+/// Runs a session and a simulated modem, each at one of two lines in memory, in rounds: in each the session is polled
+/// once, at most `cut` octets are carried each way, and the simulated modem makes the turns of a poll. Callers submit
+/// before it and between two calls of it. It ends after the first round in which both have ended or have nothing to do,
+/// no octets were carried and the modem sent none; or after which one of them has sent `room` octets; at the latest
+/// after `rounds` rounds. Refusals: the fault of the session, or else that of the simulated modem, after the first
+/// round that has one.
 ///
 /// Whatever joint list of acts the two had before, it goes on to one that they have after it; and where they began at new lines,
 /// with one N1, it stays one line's: what came at each end are the first frames that the other sent. In each such list in which

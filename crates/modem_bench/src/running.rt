@@ -220,9 +220,9 @@ where
     settle_run(rt, alloc, session, back, listeners)
 }
 
-/// Runs a bench: what each caller was told for each thing that the submissions ask of it, in their order. `cut`, 1 to 65536, is
-/// how many octets may be under way each way. The simulated modem has its default start and this script. Refusals: why the bench
-/// was given up; NoMemory too for another cut.
+/// Runs a bench, and gives what each caller was told for each thing that the submissions ask of it, in their order.
+/// `cut` is how many octets may be under way each way, 1 to 65536. The simulated modem has its default start and this
+/// script. Refused with the fault for which the bench was given up, and with NoMemory for another cut.
 pub fn run_bench<R>(
     rt: &R,
     alloc: Global,
@@ -239,7 +239,7 @@ where
     run_bench_within(rt, alloc, submissions, callers, cut, script, POLLS)
 }
 
-/// Runs a bench whose session is polled so often at most; it is given up then.
+/// As `run_bench`, but gives the bench up after this many polls of its session.
 pub fn run_bench_within<R>(
     rt: &R,
     alloc: Global,

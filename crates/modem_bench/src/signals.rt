@@ -58,7 +58,7 @@ impl From<io::Error> for Fault {
     }
 }
 
-/// Why the bench was given up: the fault that the thread gave that was the first to give one.
+/// Why the bench was given up: the first fault that a thread gave.
 #[derive(Drop)]
 pub struct Reason<'a> {
     pub fault: Fault,
@@ -126,7 +126,8 @@ impl Signals {
         }
     }
 
-    /// Gives the bench up for this fault, unless it was given up before, and answers why it is given up.
+    /// Gives the bench up for this fault, unless it was given up before, and answers why it is given up. It may wait
+    /// for another thread that gives the bench up at the same time.
     pub fn give_up<R: Wait>(&self, rt: &R, fault: Fault) -> Reason<'_>
         ensures { result.shown.of ≡ (arc_value self.now.shared).fault.id }
     {
@@ -135,7 +136,7 @@ impl Signals {
         }
     }
 
-    /// Whether it goes on, and else why it was given up.
+    /// `Ok` while the bench goes on, else why it was given up.
     pub fn check(&self) -> Result<(), Reason<'_>>
         ensures { IfErr result (λ r. r.shown.of ≡ (arc_value self.now.shared).fault.id) }
     {

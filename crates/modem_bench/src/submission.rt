@@ -10,8 +10,11 @@ use std::alloc::{AllocError, Global};
 /// What one caller asks for: a command line on a connection that isn't 0.
 #[derive(Drop, Debug)]
 pub struct Submission {
+    /// The caller's number, from 0.
     pub caller: u8,
+    /// The connection, 1 to 61.
     pub dlci: Dlci,
+    /// The command line.
     pub line: CommandLine,
 }
 

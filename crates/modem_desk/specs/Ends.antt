@@ -1,4 +1,6 @@
--- What contracts see of a caller, of a listener and of the driver's end, and the desk books.
+-- What contracts see of a caller, of a listener and of the driver's end, and the desk books. A view also
+-- has what an end has seen of its ring, so that handing back and finding nothing can be promised as far as
+-- that goes.
 use Rattle.std.specs.Prelude.{◌≡◌, ◌≢◌, ℕ, zero, suc, ◌+◌, ◌-◌, ◌^◌, min, ◌∷◌, map, ◌<◌, ◌≤◌, ◌++◌, List, [], length, slice_index_or, replicate, Contains}
 use mathlib.Core.Option.{some}
 use lib.ListN.{get_elem?}
@@ -21,10 +23,12 @@ pub record RingId : Type 0 where
   pub heap : Global
 
 module _ {T P : Type 0} where
+  -- the ring that a producer is of
   abbrev pub ring_of_producer : Producer T Global P → RingId
   ring_of_producer p =
       record { words = p.end.words; slots = p.end.slots; names = p.end.names; heap = p.end.heap }
 
+  -- the ring that a consumer is of
   abbrev pub ring_of_consumer : Consumer T Global P → RingId
   ring_of_consumer c =
       record { words = c.end.words; slots = c.end.slots; names = c.end.names; heap = c.end.heap }
@@ -87,9 +91,11 @@ count_from first (suc n) = count_from first n ++ (first + n) ∷ []
 abbrev pub IsNumbered : ℕ → List Request → Type 0
 IsNumbered first rs = map (λ r. r.number) rs ≡ count_from first (length rs)
 
+-- a caller's place
 abbrev pub place_of : CallerView → Place
 place_of c = c.place
 
+-- a listener's subscription
 abbrev pub subscription_of : ListenerView → Subscription
 subscription_of l = l.subscription
 
@@ -129,15 +135,15 @@ pub record Changes (at : ℕ → Type 0) (how : ℕ → ℕ → Type 0) (old new
   pub here : (k : ℕ) → at k → how (slice_index_or old k 0) (slice_index_or new k 0)
   pub others : (k : ℕ) → (at k → ⊥) → slice_index_or new k 0 ≡ slice_index_or old k 0
 
--- it fell by one at most
+-- a count fell by one at most
 abbrev pub FallsByOne : ℕ → ℕ → Type 0
 FallsByOne old new = old ≤ new + 1
 
--- it is 0 now
+-- a count is 0 now
 abbrev pub RunsOut : ℕ → ℕ → Type 0
 RunsOut old new = new ≡ 0
 
--- it is one more, but never above u64::MAX
+-- a count is one more, but never above u64::MAX
 abbrev pub RisesByOne : ℕ → ℕ → Type 0
 RisesByOne old new = new ≡ min (old + 1) (2 ^ 64 - 1)
 

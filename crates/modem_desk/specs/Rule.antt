@@ -13,12 +13,12 @@ use Rattle.modem_desk.specs.Ends.{IsNumbered}
 abbrev pub of_caller : ℕ → List Request → List Request
 of_caller n = filter (λ r. r.caller == n)
 
--- they are numbered one after the other from some number
+-- these requests are numbered one after the other from some number
 pub record IsCounted (rs : List Request) : Type 0 where
   pub first : ℕ
   pub numbered : IsNumbered first rs
 
--- so are those of each caller among these: no caller used a number twice
+-- the requests of each caller among these are numbered one after the other: no caller used a number twice
 abbrev pub AreNumbered : List Request → Type 0
 AreNumbered rs = (n : ℕ) → IsCounted (of_caller n rs)
 
@@ -40,7 +40,7 @@ driver given taken known = record {
   waiting = [];
 }
 
--- the same at a settlement, where it knows what waits too
+-- what the driver's pass knows at a settlement: also what waits
 abbrev pub draining : ℕ → List Request → List Known → List Request → View
 draining given taken known waiting = record {
   drives = true;

@@ -11,7 +11,7 @@ use Rattle.modem_desk.specs.declared.settling.Room.{Room}
 use Rattle.modem_desk.specs.Rule.{known}
 use Rattle.modem_desk.specs.Ends.{CallerView, ListenerView, DeskId, Each, IsAt, IsSubscribed}
 
--- so many lists, all empty, with room for this much each
+-- this many lists, all empty, with room for so much each
 abbrev pub AreRooms : {T : Type 0} → ℕ → ℕ → List (Vec T Global) → Type 0
 AreRooms count each vs = (length vs ≡ count) × All (λ v. (v.items ≡ []) × (each ≤ vec_capacity v)) vs
 

@@ -23,7 +23,7 @@ pub enum Ask {
 }
 
 impl Ask {
-    /// The same ask once more.
+    /// A copy of the ask.
     pub fn copy(&self) -> Result<Ask, AllocError>
         ensures { IfOk result (λ copy. copy ≡ self.now) }
     {
@@ -46,13 +46,16 @@ impl Ask {
 /// One request of one caller. A caller uses no number twice.
 #[derive(Drop, Debug)]
 pub struct Request {
+    /// The caller's number at its desk, from 0.
     pub caller: u8,
+    /// The number that its caller gave it.
     pub number: u64,
+    /// What is asked for.
     pub ask: Ask,
 }
 
 impl Request {
-    /// The same request once more.
+    /// A copy of the request.
     pub fn copy(&self) -> Result<Request, AllocError>
         ensures { IfOk result (λ copy. copy ≡ self.now) }
     {
@@ -118,7 +121,7 @@ impl Answer {
         }
     }
 
-    /// The same answer once more.
+    /// A copy of the answer.
     pub fn copy(&self) -> Result<Answer, AllocError>
         ensures { IfOk result (λ copy. copy ≡ self.now) }
     {
@@ -146,13 +149,16 @@ impl Answer {
 /// What a caller is told of one request.
 #[derive(Drop, Debug)]
 pub struct Outcome {
+    /// The caller whose request it answers.
     pub caller: u8,
+    /// The number of that request.
     pub number: u64,
+    /// How it ended.
     pub answer: Answer,
 }
 
 impl Outcome {
-    /// The same outcome once more.
+    /// A copy of the outcome.
     pub fn copy(&self) -> Result<Outcome, AllocError>
         ensures { IfOk result (λ copy. copy ≡ self.now) }
     {
@@ -168,13 +174,16 @@ impl Outcome {
 /// An unsolicited line.
 #[derive(Drop, Debug)]
 pub struct Urc {
+    /// Its kind, `Other` for a line of no kind.
     pub kind: UrcKind,
+    /// The connection on which it came.
     pub dlci: Dlci,
+    /// Its octets without the line end, of which the driver keeps at most 512 (V.250, 5.7).
     pub line: Text,
 }
 
 impl Urc {
-    /// The same line once more.
+    /// A copy of the line.
     pub fn copy(&self) -> Result<Urc, AllocError>
         ensures { IfOk result (λ copy. copy ≡ self.now) }
     {

@@ -1,4 +1,6 @@
-//! How a desk is settled.
+//! How a desk is settled. A pass of the queue knows only its own view. So each caller's pass comes back and puts its
+//! number and list into the driver's view; then the last pop, which finds nothing, shows that nothing else waits. A pop
+//! also records how much waits.
 ghost use Rattle.std.specs.Prelude.{◌≡◌, ◌+◌, ◌≤◌, ◌<◌, [], ◌∷◌, ◌++◌, length, map, true, false, vec_capacity, vec_len, vec_items, slice_index_or, IfOk, IfErr, ℕ, All};
 ghost use mathlib.Core.Option.{some};
 ghost use lib.ListN.{get_elem?};

@@ -34,18 +34,19 @@ begun_on v (Some d) =
     if nat_le (length (channel_at v.station d).waiting) v.station.n1
     then begun_by v d (option_map line_of (first_on d v.hand)) else v
 
+-- the core, the window begun of the command whose last octets go out next
 abbrev pub begun_next : Core → Core
 begun_next v = begun_on v (next_sender v.station v.station.queue)
 
--- the next frame has gone out
+-- the core after the next frame has gone out
 abbrev pub gone_on : Core → Core
 gone_on v = if v.lost then v else record (begun_next v) { station = station_after v.station v.station.queue }
 
--- what goes out is what every history says
+-- what goes out is what every history that the core fits says
 unfoldable pub GoesOut : Core → Option Outgoing → Type 0
 GoesOut v o = (s : Setting) (past : List Act) → StandsIn s v past → o ≡ next_out s past
 
--- and the core fits every history with it, which goes on lawful and complete
+-- after the next frame has gone out the core fits every history with it, which goes on lawful and complete
 unfoldable pub CoreGoesOn : Core → Type 0
 CoreGoesOn v = (s : Setting) (past : List Act) → StandsIn s v past → StandsIn s (gone_on v) (after_out s past)
 

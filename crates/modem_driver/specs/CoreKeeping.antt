@@ -1,4 +1,4 @@
--- How a core keeps what it keeps.
+-- The invariant of a core's fields.
 use Rattle.std.specs.Prelude.{◌≡◌, ℕ, ◌≤◌, List, length}
 use Rattle.mux_station.specs.declared.role.Role.TheVariants.{Initiator}
 use Rattle.mux_station.specs.Stations.{Station}

@@ -30,8 +30,8 @@ use Rattle.modem_history.specs.Wholes.{CompleteCalls, UsesOnce, taken_requests}
 
 -- ## What is kept
 
--- the station, the lanes of the connections 0 to 61, the requests in hand, the rules of one's own by which lines
--- are seen, the kinds that are listened to, and whether the line is lost
+-- what a core keeps: its station, the lanes of the connections 0 to 61, the requests in hand, the dialect's
+-- own rules, the kinds that are listened to, and whether the line is lost
 pub record Core : Type 0 where
   pub station : Station
   pub lanes : List Lane
@@ -44,7 +44,7 @@ pub record Core : Type 0 where
 abbrev pub dialect_in : Core → Dialect
 dialect_in v = dialect_of v.rules
 
--- nothing has happened yet
+-- a core to which nothing has happened yet, with these rules of a dialect
 abbrev pub core_by : Rules → ℕ → List UrcKind → Core
 core_by rules n1 kinds = record {
   station = new_station Initiator n1;
@@ -55,10 +55,11 @@ core_by rules n1 kinds = record {
   lost = false;
 }
 
--- and at a standard modem
+-- a core to which nothing has happened yet, by the standard's codes
 abbrev pub new_core : ℕ → List UrcKind → Core
 new_core n1 kinds = core_by no_rules n1 kinds
 
+-- the lane of d
 abbrev pub lane_at : Core → ℕ → Lane
 lane_at v d = slice_index_or v.lanes d new_lane
 
@@ -77,6 +78,7 @@ abbrev pub is_closing : ChannelState → Bool
 is_closing is.Closing = true
 is_closing _ = false
 
+-- the state that is shown is Opened
 abbrev pub shows_opened : ChannelState → Bool
 shows_opened is.Opened = true
 shows_opened _ = false
@@ -123,6 +125,7 @@ abbrev pub RunsUnless : Bool → Core → List Act → Type 0
 RunsUnless true v past = v.hand ≡ []
 RunsUnless false v past = Runs v past
 
+-- a core fits a past: each thing that it keeps is what the past says
 pub record Fits (v : Core) (past : List Act) : Type 0 where
   pub hand_is : in_hand past ≡ v.hand
   pub lost_is : is_lost past ≡ v.lost
@@ -158,6 +161,7 @@ pub record GoesOn (s : Setting) (new : Core) (past : List Act) (a : Act) (acts :
   pub fits : Fits new (after past acts)
   pub run : IsRun s (after past acts)
 
--- whatever the setting and the past
+-- in every setting, and after every past in which the act may come, the core goes on with the act and all
+-- that it calls for
 unfoldable pub Handles : Core → Core → Act → List Act → Type 0
 Handles old new a acts = (s : Setting) (past : List Act) → MayCome s old past a → GoesOn s new past a acts

@@ -132,5 +132,6 @@ pub record DeskHeadline (run : DeskRun) : Type 0 where
       run.listeners
   pub holds : Each (HoldsOver run) run.callers
 
+-- the law: every settled desk has its headline
 unfoldable pub IsDeskHeadline : DeskRun → Type 0
 IsDeskHeadline run = IsDeskSettled run → DeskHeadline run

@@ -1,4 +1,4 @@
--- Ends of a session, worked by hand: what is one, and what isn't.
+-- Worked ends of a session, right and wrong.
 use Rattle.std.specs.Prelude.{ℕ, Bool, List, [], ◌∷◌, ◌++◌, None, codes}
 use Rattle.mux_frame.specs.declared.frame.Kind.TheVariants.{Sabm, Ua, Uih}
 use Rattle.modem_desk.specs.declared.request.Ask.TheVariants.{OpenChannel, Probe, Stop}

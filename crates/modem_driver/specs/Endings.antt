@@ -25,10 +25,11 @@ abbrev pub asks_stop : Ask → Bool
 asks_stop Stop = true
 asks_stop _ = false
 
+-- the request asks for a Stop
 abbrev pub is_stop : Request → Bool
 is_stop q = asks_stop q.ask
 
--- a Stop is told so once it has ended: it was answered, or given up at the fourth tick
+-- by this answer a Stop has ended: it was answered, or given up at the fourth tick
 abbrev pub ends_stop : Answer → Bool
 ends_stop Stopped = true
 ends_stop NoAnswer = true
@@ -80,19 +81,21 @@ KeepsEnd old new = (end : Result Ended SessionFault) → old ≡ course.Ended en
 
 -- ## How it is noted
 
+-- whose request it is, and which
 abbrev pub asker_of : Request → Asker
 asker_of q = record { caller = q.caller; number = q.number }
 
--- the act tells this one that its Stop has ended
+-- the act tells this asker that its Stop has ended
 abbrev pub is_end_of : Asker → Act → Bool
 is_end_of s (Told o) = ((s.caller == o.caller) && (s.number == o.number)) && ends_stop o.answer
 is_end_of s _ = false
 
--- one of the acts tells it to whom a Stop is in hand
+-- one of the acts tells the asker of the Stop in hand that it has ended
 abbrev pub is_answered : Option Asker → List Act → Bool
 is_answered None acts = false
 is_answered (Some s) acts = list_any (is_end_of s) acts
 
+-- how far a session has come on the way to its end: an answered Stop takes it on
 abbrev pub course_after : Course → (answered : Bool) → Course
 course_after course.GoesOn true = course.Stopped
 course_after c _ = c

@@ -45,7 +45,7 @@ pub record GoesOut (old new : TurnState) : Type 0 where
 
 -- ## Octets that go out
 
--- these octets of those that wait went out first
+-- an endpoint gave these octets, the first of those that waited for the line
 unfoldable pub CopiesOut : (old new : Machine) → List ℕ → Type 0
 CopiesOut old new octets = (l : LineView) → MachineMoves l (with_sent l octets) old new
 
@@ -61,12 +61,13 @@ pub record IsDrained (s : TurnState) : Type 0 where
   pub idle : CoreIsIdle s.machine.core
   pub none_left : (b : Beginning) (past : List Act) → StandingFits b s past → next_out (driving b) past ≡ None
 
+-- nothing waits for the line, whatever line and desk's end there are
 unfoldable pub MachineIsDrained : Machine → Type 0
 MachineIsDrained k = (l : LineView) (d : DriverView) → IsDrained (turn_state l d k)
 
 -- ## Octets that come
 
--- these octets came, and the deframer took them
+-- an endpoint took these octets, and its deframer has them
 unfoldable pub FeedsFrom : (old new : Machine) → List ℕ → Type 0
 FeedsFrom old new octets = (l : LineView) → MachineMoves l (with_received l octets) old new
 

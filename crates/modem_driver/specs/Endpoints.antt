@@ -29,11 +29,11 @@ pub record EndpointState : Type 0 where
   pub machine : Machine
   pub next : ℕ
 
--- nothing has happened yet
+-- an endpoint to which nothing has happened yet, with these rules of a dialect
 abbrev pub endpoint_by : Rules → ℕ → List UrcKind → ℕ → EndpointState
 endpoint_by rules n1 kinds first = record { machine = machine_by rules n1 kinds; next = first }
 
--- and at a standard modem
+-- an endpoint to which nothing has happened yet, by the standard's codes
 abbrev pub new_endpoint : ℕ → List UrcKind → ℕ → EndpointState
 new_endpoint n1 kinds first = endpoint_by no_rules n1 kinds first
 
@@ -62,20 +62,20 @@ LeadsOver before later here there old new acts =
     (b : Beginning) (past : List Act) → EndpointFits b before here old past
     → EndpointFits b later there new (after past acts)
 
--- it begins at a modem with these codes: over each line, and each desk's end that listens to these kinds, it fits the
--- empty history
+-- an endpoint begins at a modem with these codes: over each line, and each desk's end that listens to these
+-- kinds, it fits the empty history
 unfoldable pub BeginsBy : Dialect → ℕ → List UrcKind → EndpointState → Type 0
 BeginsBy dialect n1 kinds e =
     (l : LineView) (d : DriverView) → d.desk.kinds ≡ kinds
     → EndpointFits (beginning_by dialect n1 l d) l d e []
 
--- and at a standard modem
+-- an endpoint begins at a modem of the standard's codes
 abbrev pub Begins : ℕ → List UrcKind → EndpointState → Type 0
 Begins n1 kinds e = BeginsBy standard n1 kinds e
 
 -- ## Octets for the line
 
--- by some acts, frames that went out, the line took these octets
+-- frames went out by some acts, and the line took these octets
 pub record GivesOctets (l : LineView) (d : DriverView) (old new : EndpointState) (octets : List ℕ) : Type 0 where
   pub acts : List Act
   pub leads : LeadsOver l (with_sent l octets) d d old new acts
@@ -113,7 +113,8 @@ MachineSays k all None = all × (k.deframer.next ≡ None)
 MachineSays k all (Some OutputFirst) = WantsRoom k
 MachineSays k all (Some NoMemory) = k.deframer.next ≢ None
 
--- what the endpoint says: the same, or there was no memory, behind the last octet, for the MSC of a connection
+-- what an endpoint answers to input: it is as `KeptSays` has it, or there was no memory, behind the last
+-- octet, for the MSC of a connection
 abbrev pub Says : EndpointState → (all : Type 0) → Option Blocked → Type 0
 Says e all (Some NoMemory) = (e.machine.deframer.next ≢ None) ⊎ all
 Says e all says = MachineSays e.machine all says

@@ -11,11 +11,13 @@ use Rattle.modem_history.specs.Entering.{EntryAnswer, Entered, Refused, NoAnswer
 use Rattle.modem_driver.specs.declared.entering.EntryError.{EntryError}
 use Rattle.modem_driver.specs.declared.entering.EntryError.TheVariants as error
 
+-- an entry's refusal, as the definitions name it
 abbrev pub entry_answer : EntryError → EntryAnswer
 entry_answer error.Refused = Refused
 entry_answer error.NoAnswer = NoAnswer
 entry_answer error.Line = LineFailed
 
+-- what a final code says of an entry
 abbrev pub answer_by : Final → EntryAnswer
 answer_by Good = Entered
 answer_by Error = Refused
@@ -27,7 +29,7 @@ pub record Entry : Type 0 where
   pub written : ℕ
   pub kept : List ℕ
 
--- nothing is sent or read yet
+-- an entry that has sent and read nothing yet
 abbrev pub entry_begun : Entry
 entry_begun = record { written = 0; kept = [] }
 
@@ -48,7 +50,7 @@ pub record SeesCode (kept : List ℕ) (octet : ℕ) (code : Option Final) : Type
   pub past : (octets : List ℕ) → HasRead kept octets → lines (octets ++ octet ∷ []) ≡ lines octets ++ given
   pub code_is : code ≡ code_in given
 
--- so many calls were made since the line was as at first, and no final code has come
+-- an entry is under way: so many calls were made since the line was as at first, and no final code has come
 pub record IsUnderWay (made : ℕ) (first now : LineView) (entry : Entry) : Type 0 where
   pub read : List ℕ
   pub sent_are : now.sent ≡ first.sent ++ take entry.written entry_text
@@ -72,11 +74,12 @@ abbrev pub Comes : ℕ → LineView → LineView → Entry → Option Final → 
 Comes made first now entry None = IsUnderWay (made + 1) first now entry
 Comes made first now entry (Some code) = EntryEnds made first now (answer_by code)
 
--- one call, whatever went before
+-- one call on the line, after any calls before it
 unfoldable pub EntryGoesOn : LineView → LineView → Entry → Entry → Option Final → Type 0
 EntryGoesOn old new was entry code =
     (made : ℕ) → (first : LineView) → IsUnderWay made first old was → Comes made first new entry code
 
+-- the line failed in a call of the entry
 unfoldable pub Fails : LineView → LineView → Entry → Type 0
 Fails old new was =
     (made : ℕ) → (first : LineView) → IsUnderWay made first old was → EntryEnds made first new LineFailed

@@ -1,4 +1,4 @@
--- An entry into the multiplexer, step by step, by a text of the caller's (27.007, 5.7; V.250, 5.2.1).
+-- An entry into the multiplexer, step by step, with the caller's text (27.007, 5.7; V.250, 5.2.1).
 use Rattle.std.specs.Prelude.{◌≡◌, ℕ, ◌+◌, ◌<◌, ◌≤◌, ◌⊎◌, true, false, List, [], ◌∷◌, ◌++◌, length, take, Option, Some, None}
 use Rattle.std.specs.List.{list_any}
 use Rattle.at_text.specs.Finals.{is_final, final_of}
@@ -51,7 +51,7 @@ StepsTo first now entry Moved = IsAsked first now entry
 StepsTo first now entry Idle = IsAsked first now entry
 StepsTo first now entry (Answered code) = IsAnswered first now entry.text code
 
--- one step, from wherever the entry began
+-- one step, after any steps before it
 unfoldable pub EntryStepsOn : (old new : LineView) → (was now : EntryView) → EntryStep → Type 0
 EntryStepsOn old new was now said = (first : LineView) → IsAsked first old was → StepsTo first new now said
 

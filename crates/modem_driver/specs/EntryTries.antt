@@ -1,4 +1,5 @@
--- An entry into the multiplexer in one call: a try, and once more behind a CLD frame where nothing answered (27.007, 5.7).
+-- An entry into the multiplexer in one call: a try, and a second one behind a CLD frame where nothing
+-- answered (27.007, 5.7).
 use Rattle.std.specs.Prelude.{◌≡◌, ℕ, ◌+◌, ◌-◌, ◌^◌, min, ◌≤◌, Bool, true, false, List, [], ◌∷◌, ◌++◌, codes}
 use Rattle.mux_frame.specs.Spelling.{spelled}
 use Rattle.at_text.specs.declared.finals.Final.{Final}
@@ -19,7 +20,7 @@ pub record IsUnanswered (first now : LineView) (text : List ℕ) : Type 0 where
   pub text_is : entry.text ≡ text
   pub asked : IsAsked first now entry
 
--- where the ranges are asked first, they were, and any final code came; else nothing was done
+-- the ranges were asked where they are to be asked first, and any final code came; else nothing was done
 pub data HasAskedFirst (first : LineView) : (ranges : Bool) → (now : LineView) → Type 0 where
   asked_none : HasAskedFirst first false first
   asked_ranges : (now : LineView) (code : Final) → IsAnswered first now ranges_text code → HasAskedFirst first true now
@@ -70,8 +71,8 @@ pub record IsTurnedDown (first now : LineView) (ranges : Bool) (text : List ℕ)
 abbrev pub KeepsUp : (asked_before asked_after calls_before calls_after : ℕ) → Type 0
 KeepsUp a b c d = min (c + (b - a)) (2 ^ 64 - 1) ≤ d
 
--- so far nothing answered a text: how an entry by it stands, how often the line was called at least, and how often
--- patience was asked
+-- an entry by a text that nothing has answered: how it stands, how often the line was called at least, and
+-- how often patience was asked
 pub record IsAsking (first now : LineView) (text : List ℕ) (made : ℕ) (entry : EntryView) (before after : ℕ) : Type 0 where
   pub asked : IsAsked first now entry
   pub text_is : entry.text ≡ text

@@ -13,22 +13,22 @@ abbrev pub has_lines : Answer → Bool
 has_lines (Done ls) = true
 has_lines _ = false
 
--- these lines came before its own
+-- an answer with these lines before its own
 abbrev pub led_answer : List AnswerLine → Answer → Answer
 led_answer ls (Done more) = Done (ls ++ more)
 led_answer ls answer = answer
 
--- the lines of an answer are told
+-- the act tells the lines of an answer
 abbrev pub tells_lines : Act → Bool
 tells_lines (Told o) = has_lines o.answer
 tells_lines _ = false
 
--- and these came before them
+-- an act by which an answer is told, with these lines before the answer's own
 abbrev pub led : List AnswerLine → Act → Act
 led ls (Told o) = Told (record o { answer = led_answer ls o.answer })
 led ls a = a
 
--- in the first answer that is told
+-- acts with these lines before those of the first answer that is told
 abbrev pub led_first : List AnswerLine → List Act → List Act
 led_first ls [] = []
 led_first ls (a ∷ acts) = if tells_lines a then led ls a ∷ acts else a ∷ led_first ls acts

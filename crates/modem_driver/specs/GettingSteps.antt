@@ -1,4 +1,4 @@
--- A step by which the frame at hand is handled.
+-- The step of a turn that handles the frame at hand.
 use Rattle.std.specs.Prelude.{Bool}
 use Rattle.modem_desk.specs.Ends.{DriverView}
 use Rattle.modem_history.specs.Sessions.{LineView}

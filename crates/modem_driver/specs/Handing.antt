@@ -31,14 +31,14 @@ abbrev pub HandsOn : Station → Station → ℕ → Option (List ℕ) → Type 
 HandsOn old new d None = new ≡ old
 HandsOn old new d (Some line) = OffersLine old new d line
 
--- the first command on d is in hand no more, and the next one is offered
+-- a command on d has its answer: it is in hand no more, and the next one is offered
 pub record EndsCommand (old new : Core) (d : ℕ) : Type 0 where
   pub station : Station
   pub new_is : new ≡ record old { station = station; hand = without_first (commands_on d) old.hand }
   pub next : HandsOn old.station station d
       (option_map line_of (first_on d (without_first (commands_on d) old.hand)))
 
--- where that command has its answer; and else nothing more
+-- the core ends the command under way on d where that has its answer, and else stays
 abbrev pub EndedBy : Bool → Core → Core → ℕ → Type 0
 EndedBy true kept new d = EndsCommand kept new d
 EndedBy false kept new d = new ≡ kept
@@ -51,7 +51,7 @@ ReadsFrame v f lane acts =
     ≡ read_each (dialect_in v) listens f.dlci (option_map owner_of (first_on f.dlci v.hand))
     (record { kept = (lane_at v f.dlci).kept; window = (lane_at v f.dlci).window; acts = Got f ∷ [] }) f.info
 
--- and where it is read on a fork of that lane's window
+-- the frame's information is read on a fork of its lane's window, whatever is listened to
 unfoldable pub ReadsApart : Core → Frame → Lane → List Act → Type 0
 ReadsApart v f lane acts =
     (listens : UrcKind → Bool) → Listens listens v.kinds

@@ -110,7 +110,7 @@ AnswersOwn b past =
 abbrev pub HearsEach : Beginning → List Act → Type 0
 HearsEach b past = (d : ℕ) → was_heard d past ≡ listened_on (driving b) d past
 
--- and those of its kind stand once in what the listener took, in what waited for it, or in what wasn't
+-- the lines heard of a listener's kind stand once in what it took, in what waited for it, or in what wasn't
 -- announced
 abbrev pub Announces : Run → List Act → ℕ → ListenerView → Type 0
 Announces run past i l =
@@ -154,5 +154,6 @@ pub record Headline (run : Run) : Type 0 where
   pub announces : Each (Announces run past) run.listeners
   pub holds : Each (Holds run) run.callers
 
+-- the law: every settled run has the headline
 unfoldable pub IsHeadline : Run → Type 0
 IsHeadline run = IsSettled run → Headline run

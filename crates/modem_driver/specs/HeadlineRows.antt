@@ -1,5 +1,5 @@
--- Places of a request at the end of a run, right ones and wrong ones, and commands that leave in a wrong
--- order.
+-- Worked examples: right and wrong places of a request at the end of a run, and commands that leave in a
+-- wrong order.
 use Rattle.std.specs.Prelude.{ℕ, List, [], ◌∷◌, ◌++◌, codes}
 use Rattle.modem_desk.specs.declared.request.Ask.TheVariants.{Command, Stop}
 use Rattle.modem_desk.specs.declared.request.Answer.TheVariants.{NotOpen, Stopped}

@@ -1,4 +1,4 @@
--- What a backlog of lines calls for, and that a core knows which connections are held.
+-- What a backlog of lines calls for, and what a core knows of which connections are held.
 use Rattle.std.specs.Prelude.{◌≡◌, ℕ, ◌<◌, ◌==◌, ◌&&◌, ◌||◌, not, nat_le, nat_lt, Bool, true, false, List, [], ◌∷◌, Option, Some, None, if◌then◌else◌}
 use Rattle.mux_station.specs.declared.role.Role.TheVariants.{Initiator}
 use Rattle.mux_station.specs.Opening.{is_open}
@@ -25,7 +25,7 @@ abbrev pub flow_act : ℕ → (go : Bool) → Act
 flow_act d true = Freed d
 flow_act d false = Held d
 
--- its acts: with it an MSC goes into the control queue
+-- the acts of holding or freeing a connection: it is marked, and an MSC goes into the control queue
 abbrev pub acts_due : ℕ → (go : Option Bool) → List Act
 acts_due d None = []
 acts_due d (Some go) = flow_act d go ∷ Sent (msc_frame Initiator d (if go then ready else held_up)) ∷ []
@@ -36,7 +36,7 @@ due_by s past d lines =
     if is_lost past || (d == 0) then None
     else flow_due (is_open s.role d (wire past)) (is_held s.role d past) lines
 
--- the same by what a core keeps
+-- whether a backlog calls for holding or freeing d, by what a core keeps
 abbrev pub due_in : Core → ℕ → ℕ → Option Bool
 due_in v d lines =
     if v.lost || (d == 0) then None
@@ -60,7 +60,7 @@ FlowsOn s old new past d None acts = (acts ≡ []) × (new ≡ old)
 FlowsOn s old new past d (Some go) acts =
     GoesOn s new past (flow_act d go) acts × HoldsFit new (after past acts)
 
--- whatever the setting and the past
+-- in every setting and past that the core fits, a backlog leads to what it calls for there
 unfoldable pub Flows : Core → Core → ℕ → (lines : ℕ) → List Act → Type 0
 Flows old new d lines acts =
     (s : Setting) (past : List Act) → MayAsk s old past
@@ -76,15 +76,17 @@ abbrev pub LacksRoom : Setting → List Act → ℕ → Option Bool → Type 0
 LacksRoom s past d None = ⊥
 LacksRoom s past d (Some go) = has_flow_room s past d go ≡ false
 
--- it has one, if one is called for
+-- the frame that is called for, if one is, has a place in the control queue
 abbrev pub HasPlace : Setting → List Act → ℕ → Option Bool → Type 0
 HasPlace s past d None = Unit {0}
 HasPlace s past d (Some go) = has_flow_room s past d go ≡ true
 
+-- what a backlog calls for has no place in the control queue, by every past
 unfoldable pub HasNoRoom : Core → ℕ → (lines : ℕ) → Type 0
 HasNoRoom v d lines =
     (s : Setting) (past : List Act) → MayAsk s v past → LacksRoom s past d (due_by s past d lines)
 
+-- what a backlog calls for has a place in the control queue, by every past
 unfoldable pub FindsRoom : Core → ℕ → (lines : ℕ) → Type 0
 FindsRoom v d lines =
     (s : Setting) (past : List Act) → MayAsk s v past → HasPlace s past d (due_by s past d lines)
@@ -97,15 +99,17 @@ CallsForNothing v = (d lines : ℕ) → d < 62 → lines < 256 → Flows v v d l
 unfoldable pub NeverDue : Core → ℕ → Type 0
 NeverDue v d = (s : Setting) (past : List Act) (lines : ℕ) → MayAsk s v past → due_by s past d lines ≡ None
 
--- the same of the act that it is
+-- in every setting and past that the core fits, the connection is held or freed
 unfoldable pub TurnsFlow : Core → Core → ℕ → (go : Bool) → List Act → Type 0
 TurnsFlow old new d go acts =
     (s : Setting) (past : List Act) → MayAsk s old past
     → GoesOn s new past (flow_act d go) acts × HoldsFit new (after past acts)
 
+-- the MSC that would hold or free d has no place in the control queue
 unfoldable pub CannotTurn : Core → ℕ → (go : Bool) → Type 0
 CannotTurn v d go = (s : Setting) (past : List Act) → MayAsk s v past → LacksRoom s past d (Some go)
 
+-- the MSC that holds or frees d has a place in the control queue
 unfoldable pub CanTurn : Core → ℕ → (go : Bool) → Type 0
 CanTurn v d go = (s : Setting) (past : List Act) → MayAsk s v past → HasPlace s past d (Some go)
 
@@ -115,7 +119,7 @@ KeepsHeld old new a acts =
     (s : Setting) (past : List Act) → MayCome s old past a → HoldsFit old past
     → HoldsFit new (after past acts)
 
--- and so does what goes out
+-- what goes out keeps what is held
 unfoldable pub KeepsHeldOut : Core → Type 0
 KeepsHeldOut v =
     (s : Setting) (past : List Act) → StandsIn s v past → HoldsFit v past

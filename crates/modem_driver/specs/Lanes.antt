@@ -2,19 +2,21 @@
 use Rattle.std.specs.Prelude.{◌≡◌, ℕ, Bool, false, List, [], length, Option, None, Some, is_none, slice_set, slice_index_or, if◌then◌else◌}
 use Rattle.at_text.specs.OpenWindow.{OpenWindow, opened}
 
--- its unfinished line, its window, and whether it is held
+-- what is kept of a connection: its unfinished line, its window, and whether it is held
 pub record Lane : Type 0 where
   pub kept : List ℕ
   pub window : Option OpenWindow
   pub held : Bool
 
+-- the lane of a connection that has just opened
 abbrev pub new_lane : Lane
 new_lane = record { kept = []; window = None; held = false }
 
+-- the lane of d among these
 abbrev pub lane_in : List Lane → ℕ → Lane
 lane_in lanes d = slice_index_or lanes d new_lane
 
--- every connection has one; and where none may be held, none is
+-- every connection has its lane; and where none may be held, none is
 pub record AreLanes (lanes : List Lane) (may_hold : Bool) : Type 0 where
   pub all : length lanes ≡ 62
   pub free : may_hold ≡ false → (d : ℕ) → (lane_in lanes d).held ≡ false

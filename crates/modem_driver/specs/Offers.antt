@@ -27,7 +27,7 @@ abbrev pub Enters : Bool → Station → Station → ℕ → List ℕ → Type 0
 Enters true old new d text = new ≡ old
 Enters false old new d text = TakesLine old new d text
 
--- it was, where no other command of the connection is in hand
+-- a command's line is offered where no other command of its connection is in hand
 pub record OffersFirstCommand (hand : List Request) (old new : Station) (d : ℕ) (text : List ℕ) : Type 0 where
   pub setting : setting_of new ≡ setting_of old
   pub enters : Enters (list_any (commands_on d) hand) old new d text

@@ -94,9 +94,11 @@ OffersFirst {X} key at known now later held more_held old new moved =
 
 -- ## Outcomes and lines
 
+-- the caller whose outcome it is
 abbrev pub caller_of : Outcome → ℕ
 caller_of o = o.caller
 
+-- the place of a line's kind
 abbrev pub place_of : Urc → ℕ
 place_of u = kind_place u.kind
 
@@ -106,38 +108,42 @@ LeavesAll kinds held lines =
     (k : UrcKind) → Contains kinds k → slice_index_or held (kind_place k) false ≡ false
     → of_key place_of (kind_place k) lines ≡ []
 
--- the ring of a caller, and a caller of the desk
+-- the ring of caller n
 abbrev pub IsRingOf : ℕ → ℕ → Type 0
 IsRingOf n i = i ≡ n
 
+-- the desk has a caller n
 abbrev pub IsCaller : DeskId → ℕ → Type 0
 IsCaller d n = n < length d.rings
 
--- the rings of a kind's listeners, and a kind that is listened to
+-- the ring of a listener of the kind at place n
 pub record IsListenerOf (kinds : List UrcKind) (n i : ℕ) : Type 0 where
   pub kind : UrcKind
   pub is_place : kind_place kind ≡ n
   pub is_at : get_elem? kinds i ≡ some kind
 
+-- somebody listens to the kind at place n
 pub record IsHeard (kinds : List UrcKind) (n : ℕ) : Type 0 where
   pub kind : UrcKind
   pub is_place : kind_place kind ≡ n
   pub listened : Contains kinds kind
 
--- the rings of callers, and those of listeners
+-- the callers' rings, as the desk's end knows them
 abbrev pub caller_rings : DriverView → Rings Outcome
 caller_rings d = record { given = d.told; free = d.free; back = d.told_back }
 
+-- the listeners' rings, as the desk's end knows them
 abbrev pub listener_rings : DriverView → Rings Urc
 listener_rings d = record { given = d.announced; free = d.free_lines; back = d.announced_back }
 
--- nothing else changed at the desk's end
+-- the desk's end changed by telling callers alone
 pub record TellsAlone (old new : DriverView) : Type 0 where
   pub desk : new.desk ≡ old.desk
   pub taken : new.taken ≡ old.taken
   pub found_none : new.found_none ≡ old.found_none
   pub listeners : listener_rings new ≡ listener_rings old
 
+-- the desk's end changed by announcing lines alone
 pub record AnnouncesAlone (old new : DriverView) : Type 0 where
   pub desk : new.desk ≡ old.desk
   pub taken : new.taken ≡ old.taken

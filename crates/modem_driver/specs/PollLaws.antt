@@ -27,7 +27,7 @@ pub data MovesThrough {X : Type 0} (look : X → LineView) (b : Beginning) (old 
       → TakesSteps b (session_view look mid) (session_view look new) t before acts
       → MovesThrough look b old past (n + 1) new (after before acts)
 
--- the same of all turns of a poll
+-- all turns of a poll: each session on the way fits the history so far, and each turn is one in it
 pub data RunsThrough {X : Type 0} (look : X → LineView) (b : Beginning) (old : SessionState X)
     (past : List Act) (new : SessionState X) : List Act → Result Bool SessionFault → Type 0 where
   all_through : (now : List Act) → MovesThrough look b old past 64 new now
@@ -66,7 +66,7 @@ pub record IsSession {X : Type 0} (look : X → LineView) (s : SessionState X) :
   pub past : List Act
   pub fits : FitsAll b look s past
 
--- where its line is lost, its turns come to Failed, whatever else they do
+-- where a session's line is lost its turns come to Failed, whatever else they do
 unfoldable pub LostFails : {X : Type 0} → (X → LineView) → Type 0
 LostFails {X} look =
     (old new : SessionState X) (ran : Result Bool SessionFault) → IsSession look old
@@ -78,6 +78,7 @@ NoLossIsKeptBack {X} look =
     (old new : SessionState X) (more : Bool) → IsSession look old → has_lost_line new ≡ true
     → ¬ RunsTurns look old new (Ok more)
 
+-- a session whose line is lost doesn't give Stopped
 unfoldable pub NoLossIsStopped : {X : Type 0} → (X → LineView) → Type 0
 NoLossIsStopped {X} look =
     (old new : SessionState X) → IsSession look old → has_lost_line new ≡ true
@@ -90,7 +91,7 @@ CallsTheLine {X} look =
     → (look old.line).calls < 2 ^ 64 - 1 → RunsTurns look old new (Ok more)
     → (look old.line).calls < (look new.line).calls
 
--- where its line is lost and no poll gave an end, a future of it gives Failed
+-- where a session's line is lost and no poll gave an end, its future gives Failed
 unfoldable pub LostGivesFailed : {X : Type 0} → (X → LineView) → Type 0
 LostGivesFailed {X} look =
     (s : SessionState X) (given : Result Ended SessionFault) → IsSession look s → has_lost_line s ≡ true

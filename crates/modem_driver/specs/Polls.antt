@@ -17,6 +17,7 @@ use Rattle.modem_driver.specs.SessionTurns.{TakesTurn, Faults, HasTurned, Leaves
 
 -- ## The end
 
+-- a Stop of the session was answered
 abbrev pub is_stopped : Course → Bool
 is_stopped course.Stopped = true
 is_stopped _ = false
@@ -30,7 +31,7 @@ has_ended k =
 
 -- ## Its turns
 
--- it went on by some acts, the same whatever it began with and whatever history it had
+-- a session went on by some acts, the same whatever it began with and whatever history it had
 unfoldable pub SessionGoesOn : {X : Type 0} → (X → LineView) → (old new : SessionState X) → Type 0
 SessionGoesOn look old new =
     Goes (session_view look old) (session_view look new) (λ b. FitsInside b look old)
@@ -46,7 +47,8 @@ pub record MakesTurn {X : Type 0} (look : X → LineView) (old new : SessionStat
   pub turned : HasTurned (standing_of look old) (standing_of look new)
   pub takes : TakesMore old.driver new.driver
 
--- the same, that ends in this fault; after one other than want of memory the line is lost
+-- a turn that ends in this fault, of a session that hasn't ended; after one other than want of memory the
+-- line is lost
 pub record MakesFault {X : Type 0} (look : X → LineView) (old new : SessionState X)
     (why : SessionFault) : Type 0 where
   pub going : has_ended old.machine ≡ false
@@ -55,7 +57,7 @@ pub record MakesFault {X : Type 0} (look : X → LineView) (old new : SessionSta
   pub takes : TakesMore old.driver new.driver
   pub lost : LeavesLost why new
 
--- so many turns, each where it hasn't ended, and each of which answers Moved
+-- turns that all answer Moved, each of a session that hasn't ended
 pub data MovesOn {X : Type 0} (look : X → LineView) (old : SessionState X) : ℕ → SessionState X → Type 0 where
   moves_none : MovesOn look old 0 old
   moves_once : (n : ℕ) (mid new : SessionState X) → MovesOn look old n mid
@@ -81,12 +83,12 @@ given_by k (Ok more) =
     if has_ended k then progress.Ended (Ok Stopped) else if more then progress.More else progress.Idle
 given_by k (Err why) = progress.Ended (Err why)
 
--- the end that there is in it
+-- the end that a poll's turns led to, if they led to one
 abbrev pub end_in : Progress → Option (Result Ended SessionFault)
 end_in (progress.Ended end) = Some end
 end_in _ = None
 
--- the end that one gave
+-- the end that an earlier poll gave, if one did
 abbrev pub end_given : Course → Option (Result Ended SessionFault)
 end_given (course.Ended end) = Some end
 end_given _ = None
@@ -96,6 +98,7 @@ abbrev pub kept_end : Course → Result Ended SessionFault → Course
 kept_end c (Err fault.NoMemory) = c
 kept_end c end = course.Ended end
 
+-- the session, which keeps this as its end, but for want of memory
 abbrev pub with_end : {X : Type 0} → Result Ended SessionFault → SessionState X → SessionState X
 with_end end s = record s { machine = record s.machine { course = kept_end s.machine.course end } }
 
@@ -103,7 +106,7 @@ abbrev pub with_given : {X : Type 0} → Option (Result Ended SessionFault) → 
 with_given None s = s
 with_given (Some end) s = with_end end s
 
--- it makes its turns, gives what they lead to, and keeps that
+-- a poll makes its turns, gives what they lead to, and keeps that
 pub record PollsOn {X : Type 0} (look : X → LineView) (old new : SessionState X) (given : Progress) :
     Type 0 where
   pub mid : SessionState X
@@ -117,6 +120,7 @@ abbrev pub PollsFrom : {X : Type 0} → (X → LineView) → Course → (old new
 PollsFrom look (course.Ended end) old new given = (given ≡ progress.Ended end) × (new ≡ old)
 PollsFrom look _ old new given = PollsOn look old new given
 
+-- a poll: an end that an earlier one gave is given again; else it makes its turns
 abbrev pub Polls : {X : Type 0} → (X → LineView) → (old new : SessionState X) → Progress → Type 0
 Polls look old new given = PollsFrom look old.machine.course old new given
 
@@ -127,7 +131,7 @@ abbrev pub PollSays : Beginning → SessionView → List Act → Result Ended Se
 PollSays b v past (Err fault.NoMemory) = Unit {0}
 PollSays b v past end = IsEnd b v past end
 
--- in every history that it fits
+-- in every history that the session fits, what the poll gave is its end
 abbrev pub SaysEnd : {X : Type 0} → (X → LineView) → SessionState X → Result Ended SessionFault → Type 0
 SaysEnd look s given =
     (b : Beginning) (past : List Act) → FitsAll b look s past → PollSays b (session_view look s) past given

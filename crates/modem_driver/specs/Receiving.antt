@@ -1,4 +1,4 @@
--- What a core makes of a frame that comes.
+-- What a received frame does to a core.
 use Rattle.std.specs.Prelude.{◌≡◌, ℕ, ◌&&◌, Bool, List, [], ◌∷◌, length, take, max, Option, None, Some, slice_set, if◌then◌else◌}
 use Rattle.mux_frame.specs.Frames.{Frame}
 use Rattle.mux_station.specs.Written.{is_data_frame}
@@ -18,16 +18,17 @@ use Rattle.modem_driver.specs.CoreGoing.{StandsIn}
 abbrev pub fits_in : Setting → List Act → Act → Bool
 fits_in s past a = have_room s.n1 (octets_of (queue (wire past))) (frames s (seen s past) a)
 
--- whatever the setting and the past, they fit, or they don't
+-- what the frame calls for fits into the control queue by every past, or by none
 unfoldable pub HasRoom : Core → Act → Bool → Type 0
 HasRoom v a has = (s : Setting) (past : List Act) → StandsIn s v past → fits_in s past a ≡ has
 
 -- ## A frame that is sent for it
 
--- as much of the information as there is room for
+-- the frame with as much of its information as there is room for
 abbrev pub cut_to : ℕ → Frame → Frame
 cut_to room f = record f { info = take room f.info }
 
+-- the act by which a frame is sent, with as much of its information as there is room for
 abbrev pub sent_in : ℕ → Option Frame → List Act
 sent_in room None = []
 sent_in room (Some f) = Sent (cut_to room f) ∷ []
@@ -38,10 +39,10 @@ answer_room f = max (length f.info) 4
 
 -- ## What is kept
 
--- a connection that opens starts afresh
+-- the lanes, where that of a connection that opens starts afresh
 abbrev pub afresh_if : Bool → ℕ → List Lane → List Lane
 afresh_if opens d lanes = if opens then slice_set lanes d new_lane else lanes
 
--- data of a connection that is open
+-- the frame is data of a connection that is open
 abbrev pub reads_data : Core → Frame → Bool
 reads_data v f = is_opened (channel_at v.station f.dlci).state && is_data_frame f

@@ -1,4 +1,4 @@
--- What a request is told that is refused at once.
+-- What a request that is refused at once is told.
 use Rattle.mux_station.specs.declared.error.StationError.{StationError}
 use Rattle.mux_station.specs.declared.error.StationError.TheVariants as station
 use Rattle.modem_desk.specs.declared.request.Request.{Request}
@@ -14,6 +14,6 @@ refusal_answer station.AlreadyOpen = AlreadyOpen
 refusal_answer station.ControlChannel = ControlChannel
 refusal_answer _ = Busy
 
--- the outcome of a request
+-- the act by which a request is told this
 abbrev pub told_act : Request → Answer → Act
 told_act r answer = act.Told (record { caller = r.caller; number = r.number; answer = answer })

@@ -34,8 +34,8 @@ octets events = flat_map event_octets events
 
 -- ## Pieces
 
--- one request, frame, tick or loss; the frames, outcomes and lines that follow it; and the data that goes out
--- then
+-- one request, frame, tick or loss; the frames, outcomes and lines that follow it; and the data that goes
+-- out then. Data stands apart, since the marks of the control frames stand between it and the other acts.
 pub record Piece : Type 0 where
   pub first : Act
   pub more : List Act
@@ -57,7 +57,7 @@ marks_for (_ ∷ acts) = marks_for acts
 abbrev pub after_call : List Act → Piece → List Act
 after_call past p = after (after past (p.first ∷ p.more)) (marks_for p.more)
 
--- and after the data that goes out then
+-- the past after a piece: its call, and the data that goes out then
 abbrev pub with_piece : List Act → Piece → List Act
 with_piece past p = after (after_call past p) (map Sent p.data_frames)
 
@@ -86,8 +86,9 @@ ArePieces s past (p ∷ ps) = IsPiece s past p × ArePieces s (with_piece past p
 
 -- ## What the events begin
 
--- what the events begin pieces with, after these octets: each request, tick and loss where it comes, and each
--- frame at the first event after which Reads gives it in the octets so far
+-- what the events begin pieces with, after these octets: each request, tick and loss where it comes, and
+-- each frame at the first event after which Reads gives it in the octets so far; else a replay could invent
+-- a frame, or lose the line by itself
 pub data BegunBy (n1 : ℕ) : List ℕ → List Event → List Act → Type 0 where
   ends : (heard : List ℕ) → BegunBy n1 heard [] []
   asks : (heard : List ℕ) (q : Request) (events : List Event) (firsts : List Act)

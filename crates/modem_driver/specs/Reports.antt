@@ -19,14 +19,16 @@ use Rattle.modem_history.specs.Acts.{Act, Told, Heard}
 unfoldable pub Listens : (UrcKind → Bool) → List UrcKind → Type 0
 Listens listens kinds = (kind : UrcKind) → (listens kind ≡ true) ↔ Contains kinds kind
 
--- of the request whose command is under way
+-- whose request it is, and which
 abbrev pub owner_of : Request → Owner
 owner_of r = record { caller = r.caller; number = r.number }
 
+-- the answer of the command under way, told to its request, if there is one
 abbrev pub done_by : Option Owner → List AnswerLine → List Act
 done_by None ls = []
 done_by (Some o) ls = Told (record { caller = o.caller; number = o.number; answer = Done ls }) ∷ []
 
+-- a line is heard where its kind is listened to
 abbrev pub heard_by : (UrcKind → Bool) → ℕ → UrcKind → List ℕ → List Act
 heard_by listens d kind line = if listens kind then Heard kind d line ∷ [] else []
 
@@ -38,7 +40,7 @@ said_as listens d owner line (line_is.TheVariants.Done ls) = done_by owner ls
 said_as listens d owner line (Unsolicited kind) = heard_by listens d kind line
 said_as listens d owner line line_is.TheVariants.Other = heard_by listens d Other line
 
--- and of lines, one after the other
+-- what is said of lines, one after the other
 abbrev pub said_lines : Dialect → (UrcKind → Bool) → ℕ → Option Owner → Option OpenWindow → List (List ℕ) → List Act
 said_lines dialect listens d owner w [] = []
 said_lines dialect listens d owner w (l ∷ ls) =
@@ -69,18 +71,19 @@ read_each dialect listens d owner v [] = v
 read_each dialect listens d owner v (c ∷ octets) =
     read_each dialect listens d owner (read_on dialect listens d owner v (c ∷ [])) octets
 
--- whatever is listened to
+-- one octet is read, whatever is listened to
 unfoldable pub ReadsOctet : (dialect : Dialect) → List UrcKind → code.Reading → ℕ → Read → Read → Type 0
 ReadsOctet dialect kinds r c old new =
     (listens : UrcKind → Bool) → Listens listens kinds
     → new ≡ read_on dialect listens r.dlci.number r.owner old (c ∷ [])
 
+-- octets are read one after the other, whatever is listened to
 unfoldable pub ReadsAll : (dialect : Dialect) → List UrcKind → code.Reading → List ℕ → Read → Read → Type 0
 ReadsAll dialect kinds r octets old new =
     (listens : UrcKind → Bool) → Listens listens kinds
     → new ≡ read_each dialect listens r.dlci.number r.owner old octets
 
--- so much was said
+-- these acts are said behind the others, whatever is listened to
 unfoldable pub ReportSays : List UrcKind → code.Reading → ((UrcKind → Bool) → List Act) → List Act → List Act
     → Type 0
 ReportSays kinds r said old new =

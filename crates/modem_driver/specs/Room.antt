@@ -22,7 +22,7 @@ unfoldable pub BeginEmpty : List Act → List Piece → Type 0
 BeginEmpty past [] = Unit {0}
 BeginEmpty past (p ∷ ps) = (queue (wire past) ≡ []) × BeginEmpty (with_piece past p) ps
 
--- so it is in every replay
+-- in every replay each piece begins where all control frames are given on
 unfoldable pub EachBeginsEmpty : ℕ → List Event → List Act → Type 0
 EachBeginsEmpty n1 events acts = (r : Replays n1 events acts) → BeginEmpty [] r.pieces
 

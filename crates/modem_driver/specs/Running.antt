@@ -39,7 +39,7 @@ pub record SendsSome (old new : Core) (before acts : List Act) : Type 0 where
   pub acts_are : acts ≡ before ++ map Sent frames
   pub out : (s : Setting) (past : List Act) → StandsIn s old past → WentOut s new past frames
 
--- and there is none that may go out
+-- frames go out, and then none is left that may
 pub record SendsAll (old new : Core) (before acts : List Act) : Type 0 where
   pub some : SendsSome old new before acts
   pub none_left : (s : Setting) (past : List Act) → (h : StandsIn s old past)
@@ -52,6 +52,7 @@ pub record Running : Type 0 where
   pub core : Core
   pub acts : List Act
 
+-- what the code keeps between two events, as the definitions see it
 abbrev pub running_of : code.Running → Running
 running_of r = record { core = r.core; acts = map act_of r.acts.items }
 
@@ -72,7 +73,7 @@ pub record Goes (s : Setting) (past : List Act) (a : Act) (old new : Running) : 
   pub is_piece : IsPiece s past piece
   pub drained : Drained s new.core (with_piece past piece)
 
--- where no caller's number comes twice
+-- one act and all that it leads to, in every setting and past in which no caller uses a number twice
 unfoldable pub Steps : Act → Running → Running → Type 0
 Steps a old new =
     (s : Setting) (past : List Act) → Drained s old.core past → UsesOnce (taken_requests (a ∷ past))
@@ -98,6 +99,7 @@ pub record StepsAlone (a : Act) (d d' : Deframing) (old new : Running) : Type 0 
   pub steps : Steps a old new
   pub same : d' ≡ d
 
+-- what one event does to deframer and core
 abbrev pub HandlesEvent : Event → Deframing → Deframing → Running → Running → Type 0
 HandlesEvent (event.Ask q) d d' old new = StepsAlone (Took q) d d' old new
 HandlesEvent (event.Octets x) d d' old new = Hears x d d' old new

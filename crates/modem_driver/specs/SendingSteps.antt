@@ -1,4 +1,4 @@
--- A step by which the next frame goes out.
+-- The step of a turn that puts the next frame into the output.
 use Rattle.std.specs.Prelude.{Bool}
 use Rattle.modem_desk.specs.Ends.{DriverView}
 use Rattle.modem_history.specs.Sessions.{LineView}

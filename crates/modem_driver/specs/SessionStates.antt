@@ -40,7 +40,7 @@ pub record Machine : Type 0 where
   pub course : Course
   pub delays : List (Option Delay)
 
--- nothing has happened yet
+-- what a session keeps to which nothing has happened yet, with these rules of a dialect
 abbrev pub machine_by : Rules → ℕ → List UrcKind → Machine
 machine_by rules n1 kinds = record {
   core = core_by rules n1 kinds;
@@ -55,11 +55,11 @@ machine_by rules n1 kinds = record {
   delays = replicate 62 None;
 }
 
--- and at a standard modem
+-- what a session keeps to which nothing has happened yet, by the standard's codes
 abbrev pub new_machine : ℕ → List UrcKind → Machine
 new_machine n1 kinds = machine_by no_rules n1 kinds
 
--- a session over a line of any type
+-- a session: its line, which may be of any type, its desk's end, and what it keeps beside them
 pub record SessionState (X : Type 0) : Type 0 where
   pub line : X
   pub driver : DriverView
@@ -75,7 +75,7 @@ KeepsItsEnd old new = KeepsEnd old.machine.course new.machine.course
 
 -- ## What a history speaks of
 
--- a line of any type, by its trait's words
+-- what a history sees of a line of any type
 abbrev pub line_by : {X : Type 0} → (received sent : X → List ℕ) → (calls failures empty_reads stalled_writes : X → ℕ)
     → X → LineView
 line_by received sent calls failures empty_reads stalled_writes x = record {
@@ -87,7 +87,7 @@ line_by received sent calls failures empty_reads stalled_writes x = record {
   stalled_writes = stalled_writes x;
 }
 
--- the desk's end
+-- what a history sees of the desk's end
 abbrev pub end_of : DriverView → EndView
 end_of d = record {
   taken = d.taken;
@@ -150,13 +150,13 @@ beginning_by dialect n1 l d = record {
   desk = end_of d;
 }
 
--- and at a standard modem
+-- a session that begins over a line and a desk's end, at a modem of the standard's codes
 abbrev pub beginning_of : ℕ → LineView → DriverView → Beginning
 beginning_of n1 l d = beginning_by standard n1 l d
 
 -- ## Calls
 
--- a tick, whatever the session began with
+-- a tick of a session, whatever it began with
 unfoldable pub Ticks : {X : Type 0} → (X → LineView) → (old new : SessionState X) → Type 0
 Ticks look old new =
     GoesTick (session_view look old) (session_view look new) (λ b. FitsInside b look old)
@@ -168,11 +168,13 @@ IsFormedAsk (Command d line) = refusal_of line ≡ None
 IsFormedAsk (Probe octets) = length octets ≤ 16
 IsFormedAsk _ = Unit {0}
 
+-- each of the requests is of its form
 abbrev pub AreFormed : List Request → Type 0
 AreFormed [] = Unit {0}
 AreFormed (q ∷ qs) = IsFormedAsk q.ask × AreFormed qs
 
--- the same desk, whose end took these requests more, each of a caller of that desk and of its form
+-- the desk's end stays one of its desk, and took these requests more, each of a caller of that desk and of
+-- its form
 pub record TakesMore (old new : DriverView) : Type 0 where
   pub desk : new.desk ≡ old.desk
   pub more : List Request

@@ -68,6 +68,7 @@ turn_answer (Turn.Waiting caller) = TurnAnswer.Waiting caller
 turn_answer (Turn.Blocked kind) = TurnAnswer.Blocked kind
 turn_answer Turn.Idle = TurnAnswer.Idle
 
+-- a session's fault, as the definitions name it
 abbrev pub fault_of : SessionFault → TurnFault
 fault_of SessionFault.NoMemory = TurnFault.NoMemory
 fault_of SessionFault.Line = TurnFault.LineFailed
@@ -75,11 +76,13 @@ fault_of SessionFault.Failed = TurnFault.Failed
 
 -- ## Turns and faults, whatever the session began with
 
+-- a session's turn that ends in this answer
 unfoldable pub TakesTurn : {X : Type 0} → (X → LineView) → (old new : SessionState X) → TurnAnswer → Type 0
 TakesTurn look old new says =
     GoesTurn (session_view look old) (session_view look new) (λ b. FitsInside b look old)
     (λ b. FitsInside b look new) says
 
+-- a session's turn that ends in this fault
 unfoldable pub Faults : {X : Type 0} → (X → LineView) → (old new : SessionState X) → TurnFault → Type 0
 Faults look old new says =
     GoesFault (session_view look old) (session_view look new) (λ b. FitsInside b look old)
@@ -123,12 +126,13 @@ MachineWrites before later old new moved =
     (d : DriverView) → Writes (record { line = before; driver = d; machine = old })
     (record { line = later; driver = d; machine = new }) moved
 
+-- the step that reads and feeds, whatever the desk's end is
 unfoldable pub MachineReads : (before later : LineView) → (old new : Machine) → (moved : Bool) → Type 0
 MachineReads before later old new moved =
     (d : DriverView) → ReadsOn (record { line = before; driver = d; machine = old })
     (record { line = later; driver = d; machine = new }) moved
 
--- so many of the octets that wait are given to the deframer
+-- the first octets that wait are given to the deframer
 pub record Feeds (old new : Machine) (count : ℕ) : Type 0 where
   pub takes : TakesIn old.deframer (take count old.unfed) new.deframer
   pub bound : new.deframer.n1 ≡ old.deframer.n1

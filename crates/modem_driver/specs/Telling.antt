@@ -1,4 +1,4 @@
--- What the requests in hand are told by what happened, in the words that a core has for it.
+-- What the requests in hand are told, by what happened.
 use Rattle.std.specs.Prelude.{◌≡◌, ℕ, ◌≤◌, Bool, List, [], ◌∷◌, ◌++◌, length, Option, Some, None, is_none, if◌then◌else◌}
 use Rattle.mux_station.specs.declared.role.ChannelState.{ChannelState}
 use Rattle.mux_station.specs.declared.role.ChannelState.TheVariants as is
@@ -52,6 +52,7 @@ abbrev pub probe_told : ChannelState → Happened → Answer → Option Answer
 probe_told is.Opened h why = probe_happened h
 probe_told _ h why = Some why
 
+-- what a Stop that waits no more is told: LineLost at a loss, NoAnswer at a tick, else Stopped
 abbrev pub stop_outcome : Happened → Answer
 stop_outcome happened.Lost = LineLost
 stop_outcome (happened.Tick given_up) = NoAnswer
@@ -76,11 +77,12 @@ abbrev pub said_to : Request → Option Answer → List Act
 said_to r None = []
 said_to r (Some answer) = act.Told (record { caller = r.caller; number = r.number; answer = answer }) ∷ []
 
+-- what each of the requests is told, in their order
 abbrev pub told_to : (Ask → Option Answer) → List Request → List Act
 told_to says [] = []
 told_to says (r ∷ rs) = said_to r (says r.ask) ++ told_to says rs
 
--- those who are told nothing
+-- the requests that are told nothing
 abbrev pub left_by : (Ask → Option Answer) → List Request → List Request
 left_by says [] = []
 left_by says (r ∷ rs) = if is_none (says r.ask) then r ∷ left_by says rs else left_by says rs

@@ -23,13 +23,13 @@ is_asking (IsOpening n) = true
 is_asking (IsClosing n) = true
 is_asking _ = false
 
--- as its state is shown
+-- a connection in this state waits for an answer to its SABM or DISC
 abbrev pub shown_asking : ChannelState → Bool
 shown_asking Opening = true
 shown_asking Closing = true
 shown_asking _ = false
 
--- how many of so many connections from d on
+-- how many of so many connections from d on wait for an answer
 unfoldable pub asking_from : Station → (d : ℕ) → (count : ℕ) → ℕ
 asking_from v d zero = 0
 asking_from v d (suc count) =
@@ -40,5 +40,6 @@ abbrev pub is_probe_up : Up → Bool
 is_probe_up UpProbe = true
 is_probe_up (UpChannel d) = false
 
+-- the tick gave the probe up
 abbrev pub is_probe_given : GivenUp → Bool
 is_probe_given u = is_probe_up (up_of u)

@@ -29,6 +29,7 @@ pub record TurnState : Type 0 where
   pub driver : DriverView
   pub machine : Machine
 
+-- a session as its steps see it
 abbrev pub turn_state : LineView → DriverView → Machine → TurnState
 turn_state l d k = record { line = l; driver = d; machine = k }
 
@@ -57,7 +58,7 @@ pub record Adds (old new : Machine) (waiting : List Urc) (most : ℕ) (acts : Li
   pub may : list_all (may_act waiting) acts ≡ true
   pub few_got : length (gots acts) ≤ most
 
--- that is so after every history
+-- `Adds` holds after every history that the session fits
 unfoldable pub AddsAll : (old new : TurnState) → List Urc → ℕ → List Act → Type 0
 AddsAll old new waiting most acts =
     (b : Beginning) (past : List Act) → StandingFits b old past

@@ -49,7 +49,7 @@ pub record TakesAside (old new : Machine) : Type 0 where
     unannounced = new.unannounced;
   }
 
--- where there is one
+-- the request that is aside is taken, if there is one
 abbrev pub TakesIf : (moved : Bool) → (old new : Machine) → Type 0
 TakesIf true old new = TakesAside old new
 TakesIf false old new = (old.aside ≡ None) × (new ≡ old)

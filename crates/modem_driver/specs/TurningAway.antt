@@ -26,7 +26,8 @@ pub record Offline : Type 0 where
 abbrev pub line_lost : Request → Outcome
 line_lost q = record { caller = q.caller; number = q.number; answer = LineLost }
 
--- it begins with what a session left: everyone in hand is told LineLost, behind the outcomes that waited
+-- a desk without a line begins with what a session left: everyone in hand is told LineLost, behind the
+-- outcomes that waited
 abbrev pub offline_from : (in_hand : List Request) → (unplaced : List Outcome) → (unannounced : List Urc) → Offline
 offline_from in_hand unplaced unannounced =
     record { unplaced = unplaced ++ map line_lost in_hand; unannounced = unannounced }

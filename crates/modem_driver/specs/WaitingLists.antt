@@ -21,7 +21,7 @@ pub record Puts (old new : WaitingLists) (a : Act) : Type 0 where
       → map heard_as new.lines ≡ map heard_as old.lines ++ lines_heard (a ∷ [])
   pub room : old.room ≤ new.room + length (lines_heard (a ∷ []))
 
--- and so do acts
+-- acts put what they tell and announce behind the others, where there is room
 pub record Keeps (old new : WaitingLists) (acts : List Act) : Type 0 where
   pub outcomes : length old.outcomes + length (outcomes_told acts) ≤ 128
       → new.outcomes ≡ old.outcomes ++ outcomes_told acts

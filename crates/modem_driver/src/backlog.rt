@@ -1,4 +1,4 @@
-//! What a core does about lines that wait for their listener.
+//! Holds a connection of which too many lines wait for their listener, and frees it (27.010, 5.4.6.3.7).
 ghost use Rattle.std.specs.Prelude.{◌≡◌, ◌≢◌, ◌==◌, ◌||◌, [], ◌∷◌, false, true, length, map, Some, None, if◌then◌else◌, IfOk, OnErr, OnOk};
 ghost use Rattle.std.specs.Result.{result_err};
 ghost use Rattle.mux_station.specs.States.{is_opened};
@@ -19,9 +19,9 @@ use mux_frame::Dlci;
 use mux_station::ChannelState;
 
 impl Core {
-    /// So many lines of a connection wait for a place at their listener: from 256 on the other end is
-    /// asked to stop sending on it, and below 128 to go on, by an MSC (27.010, 5.4.6.3.7). Refusals: 3
-    /// NoRoom in the control queue, looked at first; 1 NoMemory. Both change nothing.
+    /// Tells the core how many lines of a connection wait for a place at their listener. From 256 on it asks the other
+    /// end to stop sending, and below 128 to go on, by an MSC (27.010, 5.4.6.3.7). Refusals, which change nothing: 3
+    /// NoRoom in the control queue, checked first; 1 NoMemory.
     pub fn backlog(&mut self, dlci: Dlci, lines: usize) -> Result<Vec<Act>, CoreError>
         ensures past { IfOk result (λ acts.
             Flows self.old self.new dlci.number lines (map act_of acts.items)) }
@@ -46,7 +46,7 @@ impl Core {
         !self.lost && self.is_open(dlci)
     }
 
-    /// Whether no connection is held: then fewer than 256 lines that wait call for nothing.
+    /// Whether no connection is held. Fewer than 256 waiting lines then call for nothing.
     #[tactic(auto, using(crate::proofs::holds::HeldAndFreed::free_flows))]
     pub(crate) fn holds_none(&self) -> bool
         ensures { result ≡ true → CallsForNothing self.now }

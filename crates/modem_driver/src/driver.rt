@@ -1,4 +1,4 @@
-//! The driver between its callers and the line.
+//! The core: the driver without line, desk, threads and clock.
 ghost use Rattle.std.specs.Prelude.{◌≡◌, ◌≢◌, ◌↔◌, ◌+◌, ◌<◌, ◌≤◌, ◌⊎◌, List, [], length, replicate, map, find, option_map, vec_capacity, true, IfOk, IsErrOf, OnOk, OnErr};
 ghost use Rattle.modem_history.specs.Acts.{Act as Happening, act_of, Lost};
 ghost use Rattle.modem_driver.specs.Endings.{asker_of, is_stop};
@@ -20,7 +20,7 @@ use mux_station::{ChannelState, Role, Station, StationError};
 use std::alloc::Global;
 use std::marker::Model;
 
-/// The driver: it takes requests, frames and ticks, and says what comes of them.
+/// The core of the driver. It takes requests, frames and ticks, and answers with the acts that follow.
 #[derive(Drop)]
 pub struct Core {
     pub(crate) alloc: Global,
@@ -55,8 +55,9 @@ impl Model for Core {
 }
 
 impl Core {
-    /// A driver of a standard modem with nothing open that listens to these kinds. N1 is how many octets of
-    /// information a frame may have. Refusals: 2 BadN1 where it isn't 31 to 32767, checked first; 1 NoMemory.
+    /// A core with nothing open, for a modem of the standard's codes, that listens to these kinds. N1 is the most
+    /// octets of information that a frame may have. Refusals: 2 BadN1 where it isn't 31 to 32767, checked first; 1
+    /// NoMemory.
     #[tactic(auto, using(crate::proofs::cores::NewCore::new_fits, crate::proofs::holds::OtherCalls::nothing_held))]
     pub fn new(alloc: Global, n1: u16, kinds: &[UrcKind]) -> Result<Core, CoreError>
         ensures ok { IfOk result (λ c. c ≡ new_core n1 kinds.now) }
@@ -69,7 +70,7 @@ impl Core {
         Core::with_dialect(alloc, n1, &standard, kinds)
     }
 
-    /// The same, of a modem whose codes are those of this dialect, of which it takes a copy.
+    /// As `new`, for a modem whose codes are those of this dialect. It takes a copy of the dialect.
     #[tactic(auto, using(crate::proofs::cores::NewCore::new_fits, crate::proofs::holds::OtherCalls::nothing_held))]
     pub fn with_dialect(
         alloc: Global,
@@ -106,7 +107,7 @@ impl Core {
         })
     }
 
-    /// How many octets of information a frame may have, as `new` was told.
+    /// N1: the most octets of information that a frame may have.
     pub fn n1(&self) -> u16
         ensures { result ≡ self.now.station.n1 }
     {

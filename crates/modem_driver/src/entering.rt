@@ -28,7 +28,7 @@ pub enum EntryError {
     /// 1: the answer ended with another final code than `OK`.
     #[error("the modem refuses")]
     Refused,
-    /// 2: no final code came in so many calls.
+    /// 2: no final code came while the entry could wait.
     #[error("no answer")]
     NoAnswer,
     /// 3: the line failed.
@@ -154,8 +154,8 @@ pub(crate) fn see(reader: &mut LineReader, octet: u8) -> Option<Final>
 }
 
 /// Enters the multiplexer: writes `AT+CMUX=0` and CR, then reads octet by octet to the end of the first line that is a
-/// final code. It makes at most so many calls on the line. Refusals: 1 Refused, where the code isn't `OK`; 2 NoAnswer,
-/// where none came in so many calls; 3 Line, where the line failed.
+/// final code. It makes at most `turns` calls on the line. Refusals: 1 Refused, where the code isn't `OK`; 2 NoAnswer,
+/// where none came in `turns` calls; 3 Line, where the line failed.
 pub fn enter<L: SerialLine>(line: &mut L, turns: u32) -> Result<(), EntryError>
     ensures entered { OnOk result (IsEntry turns (line_by L.received L.sent L.calls L.failures L.empty_reads L.stalled_writes line.old)
         (line_by L.received L.sent L.calls L.failures L.empty_reads L.stalled_writes line.new) Entered) }

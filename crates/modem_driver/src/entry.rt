@@ -1,4 +1,4 @@
-//! Entering the multiplexer step by step, by a text of the caller's (27.007, 5.7).
+//! Entering the multiplexer step by step, with the caller's text (27.007, 5.7).
 ghost use Rattle.std.specs.Prelude.{◌≡◌, ◌+◌, ◌<◌, ◌≤◌, ◌==◌, ◌++◌, [], length, IfOk, OnOk, OnErr};
 ghost use Rattle.serial_line.specs.Counts.{one_more};
 ghost use Rattle.modem_driver.specs.SessionStates.{line_by};
@@ -14,7 +14,7 @@ use std::marker::Model;
 /// CLD, a command, on connection 0.
 const CLOSE_DOWN: &[u8] = &[0xF9, 0x03, 0xEF, 0x05, 0xC3, 0x01, 0xF2, 0xF9];
 
-/// What a step of an entry came to.
+/// What a step of an entry did.
 #[derive(Clone, Copy, PartialEq, Eq, Debug)]
 pub enum EntryStep {
     /// Octets of the text were sent, or one was read.
@@ -25,12 +25,13 @@ pub enum EntryStep {
     Answered(Final),
 }
 
-/// An entry into the multiplexer under way: it sends a text, and then reads octet by octet to the end of the first line that is a
-/// final code, however much comes before it. The caller says when it has waited long enough, by its own time or count of steps.
+/// An entry into the multiplexer under way: it sends a text, and then reads octet by octet to the end of the first line
+/// that is a final code, however much comes before it. The caller decides when it has waited long enough, by a clock or
+/// a count of steps.
 ///
-/// The text is any octets, with the CR that ends the command: `AT+CMUX=0,0,5,127` and CR, say, with an entry by `AT+CMUX=?` and
-/// CR before it. Where nothing answers, the modem may still be in the multiplexer, left there by a driver that was killed: send it
-/// `close_down`, by an entry that is let go once all is sent, and try once more.
+/// The text is any octets, CR included: `AT+CMUX=0,0,5,127` and CR, say. An entry by `AT+CMUX=?` and CR can go before
+/// it, to ask for the ranges. Where nothing answers, a driver that was killed may have left the modem in the
+/// multiplexer. Then send `close_down` by an entry of its own, drop that once all is sent, and try again.
 ///
 /// Contracts see the text, how many of its octets were sent, and what is kept of the unfinished line.
 #[derive(Drop)]
@@ -71,8 +72,8 @@ impl<'a> Entry<'a> {
         self.written == self.text.len()
     }
 
-    /// One call on the line: it offers it the rest of the text, or reads an octet where all was sent. It fails where the line does,
-    /// and may be made again.
+    /// Makes one call on the line: offers the rest of the text, or reads one octet once all is sent. Fails where the
+    /// line fails, and may then be called again.
     pub fn step<L: SerialLine>(&mut self, line: &mut L) -> Result<EntryStep, LineFault>
         ensures text { self.new.text ≡ self.old.text }
         ensures goes { IfOk result (λ said.
@@ -150,8 +151,8 @@ fn step_by(code: Option<Final>) -> EntryStep
     }
 }
 
-/// The frame that closes a multiplexer down, as whoever opened it sends it (27.010, 5.4.6.3.3): from then on the modem is at plain
-/// commands.
+/// The octets of a CLD command on connection 0, as an initiator sends it (27.010, 5.4.6.3.3). It ends the multiplexer:
+/// the modem then takes plain command lines.
 pub fn close_down() -> &'static [u8]
     ensures { result.now ≡ spelled close_down_frame }
 {

@@ -1,4 +1,4 @@
-//! Entering the multiplexer in one call, by a text of the caller's and for as long as the caller says (27.007, 5.7).
+//! Entering the multiplexer in one call, with the caller's text and for as long as the caller says (27.007, 5.7).
 ghost use Rattle.std.specs.Prelude.{◌≡◌, ◌≢◌, ◌+◌, ◌-◌, ◌^◌, ◌≤◌, ◌⊎◌, [], true, false, IfOk, IfErr, OnOk, Bool, ℕ, Err};
 ghost use Rattle.serial_line.specs.Counts.{one_more};
 ghost use Rattle.at_text.specs.declared.finals.Final.TheVariants.{Good};
@@ -31,7 +31,7 @@ pub trait Patience {
         ensures over { result ≡ false → is_over self.new ≡ true }
         ensures counted { asked self.new ≡ one_more (asked self.old) };
 
-    /// What follows has as long again.
+    /// Starts the wait afresh: what follows has as long again.
     fn renew(&mut self)
         ensures { asked self.new ≡ asked self.old };
 }
@@ -150,7 +150,7 @@ fn judge(code: Final) -> Result<(), EntryError>
     }
 }
 
-/// A try, and where nothing answered it, a CLD frame and one more.
+/// A try; where nothing answers it, a CLD frame and a second try.
 #[tactic(auto, using(crate::proofs::EntryTries::replied_at_once))]
 fn try_twice<L: SerialLine, P: Patience>(
     line: &mut L,
@@ -186,11 +186,11 @@ fn try_twice<L: SerialLine, P: Patience>(
 }
 
 #[tactic(auto, using(crate::proofs::EntryTries::turned_down))]
-/// Enters the multiplexer by a text of the caller's: any octets, with the CR that ends the command, as `AT+CMUX=0,0,5,127` and CR.
-/// Where `ranges` says so it asks `AT+CMUX=?` before it, and goes on whatever is answered. However much comes before an answer, it
-/// reads on to the first line that is a final code. Where nothing answered the modem may still be in the multiplexer, left there by
-/// a driver that was killed: then it sends a CLD frame, and tries once more. Patience is asked after each step, and renewed for the
-/// CLD frame and for the second try.
+/// Enters the multiplexer with the caller's text: any octets, CR included, as `AT+CMUX=0,0,5,127` and CR. With `ranges`
+/// it asks `AT+CMUX=?` first, and goes on whatever is answered. However much comes before, it reads on to the first
+/// line that is a final code. Where nothing answers, a driver that was killed may have left the modem in the
+/// multiplexer: it then sends a CLD frame and tries a second time. Patience is asked after each step, and renewed for
+/// the CLD frame and for the second try.
 ///
 /// Refusals: 1 Refused, where the code isn't `OK`; 2 NoAnswer, where patience was used up in the second try or with the CLD frame,
 /// or the line's count of calls is at `u64::MAX`; 3 Line, where the line failed.

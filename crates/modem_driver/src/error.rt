@@ -1,11 +1,11 @@
-//! Why the driver refuses.
+//! Why the core refuses a call.
 ghost use Rattle.std.specs.Prelude.{◌≡◌};
 ghost use Rattle.modem_driver.specs.declared.error.CoreError.TheVariants.{NoMemory};
 
 use std::alloc::{AllocError, AllocFailed};
 use thiserror::Error;
 
-/// Why the driver refuses a call, which then changed nothing.
+/// Why the core refuses a call. A refused call changes nothing.
 #[derive(Clone, Copy, PartialEq, Eq, Debug, Error)]
 pub enum CoreError {
     /// 1: an allocation was refused.

@@ -1,4 +1,4 @@
-//! What comes to the driver.
+//! The events of a replay.
 ghost use Rattle.std.specs.Prelude.{◌≡◌};
 
 use modem_desk::Request;
@@ -42,7 +42,7 @@ impl Octets {
     }
 }
 
-/// What comes to the driver.
+/// One event of a replay.
 #[derive(Drop, Debug)]
 pub enum Event {
     /// A caller's request.

@@ -1,4 +1,5 @@
-//! What was read on a fork of a window goes on behind what came before.
+//! Joins what was read on a fork of a window to what came before. A fork has the window's command and none of its
+//! lines; it is joined when nothing can fail any more. So want of memory changes nothing, and no line is copied twice.
 ghost use Rattle.std.specs.Prelude.{◌≡◌, map, position, OnOk, OnErr};
 ghost use Rattle.modem_history.specs.Acts.{act_of};
 ghost use Rattle.at_text.specs.Forks.{lines_so_far};

@@ -18,10 +18,10 @@ ghost use Rattle.modem_driver.specs.TurningAway.{TurnsOn};
 ghost use Rattle.modem_driver.specs.PollLaws.{RunsInHistories, LostFails, NoLossIsKeptBack, NoLossIsStopped, CallsTheLine, LostGivesFailed};
 
 /// The requests taken, frames got, ticks and losses of a replay are those that its events bring, in their order, and no
-/// others. So no replay loses the line by itself, gets a frame of which no octet came, or drops a request. Of each command
-/// all data frames but the last have N1 octets of information: a command of 41 octets leaves in frames of 31 and 10, not
-/// of 20 and 21, where N1 is 31. Each call begins where no control frame waits, and then all fits: so no request is told
-/// Busy for want of room, no frame that comes is refused for it, and a tick leaves no connection out.
+/// others. So no replay loses the line by itself, gets a frame of which no octet came, or drops a request. Of each
+/// command all data frames but the last have N1 octets of information: at N1 31 a command of 41 octets leaves in frames
+/// of 31 and 10, not of 20 and 21. Each call begins where no control frame waits, and then all fits: so no request is
+/// told Busy for want of room, no frame that comes is refused for it, and a tick leaves no connection out.
 #[tactic(auto, using(crate::proofs::replays::FirstActs::brought, crate::proofs::replays::FirstActs::no_loss, crate::proofs::replays::FirstActs::no_invention, crate::proofs::replays::FirstActs::no_request_dropped, crate::proofs::replays::FullFrames::full, crate::proofs::replays::FullFrames::no_halves, crate::proofs::replays::EmptyQueues::begin_empty, crate::proofs::replays::EmptyQueues::fits_empty, crate::proofs::replays::RoomInReplays::never_wants_room, crate::proofs::replays::RoomInReplays::busy_wanted, crate::proofs::replays::RoomInReplays::busy_under_way, crate::proofs::replays::RoomInReplays::place_wanted))]
 pub fn replays()
     ensures brought { (n1 : ℕ) (events : List Event) (acts : List Act)
@@ -42,11 +42,12 @@ pub fn replays()
 {}
 
 /// The headline, of every run whose desk was settled with the driver's end that `finish` gave and with all its callers:
-/// at every moment what left on a connection since it opened is a prefix of its callers' command lines taken since then,
-/// each once, each caller's in its submitted order, none after a close; each answered command has just its solicited lines
-/// up to its final code; each subscribed unsolicited line was announced once; and every caller holds each of its outcomes
-/// once. Of each command all data frames but the last have N1 octets of information, in every history of a session. A
-/// request that has two places, or none, is refused, and so are commands that left in another order.
+/// at every moment what left on a connection since it opened is a prefix of its callers' command lines taken since
+/// then, each once, each caller's in its submitted order, none after a close; each answered command has just its
+/// solicited lines up to its final code; each subscribed unsolicited line was announced once; and every caller holds
+/// each of its outcomes once. Of each command all data frames but the last have N1 octets of information, in every
+/// history of a session. The definitions refuse a request with two places or with none, and commands that left in
+/// another order.
 #[tactic(auto, using(crate::proofs::law_proofs::Headlines::headline, crate::proofs::replays::FullFrames::sends_full, crate::proofs::rows::HeadlineRowFacts::all_right_places, crate::proofs::rows::HeadlineRowFacts::all_wrong_places, crate::proofs::rows::HeadlineRowFacts::other_order))]
 pub fn headlines()
     ensures headline { (run : Run) → IsHeadline run }
@@ -56,26 +57,26 @@ pub fn headlines()
     ensures order { IsOtherOrder }
 {}
 
-/// The headline of a desk, whatever sessions it had one after the other, on the same driver's end, and whether or not their
-/// lines failed: each of them keeps what the headline says of one; over all of them each subscribed unsolicited line was
-/// announced once, and every caller holds each of its outcomes once, those that were turned away between two sessions too.
+/// The headline of a desk that had several sessions in turn on the same driver's end, whether or not their lines
+/// failed. Each session keeps what the headline says of one. Over all of them each subscribed unsolicited line was
+/// announced once, and every caller holds each of its outcomes once, also of requests turned away between two sessions.
 #[tactic(auto, using(crate::proofs::law_proofs::DeskHeadlines::desk_headline))]
 pub fn desks()
     ensures headline { (run : DeskRun) → IsDeskHeadline run }
 {}
 
-/// Passes of a desk without a line, one after the other, turn away all that each of them did: of each caller, what was told
-/// and what still waits are the outcomes that waited and then a LineLost for each of its requests; of each listener, what was
-/// announced and what still waits are the lines that waited.
+/// Passes of a desk without a line, one after the other, lose nothing and invent nothing. Of each caller, what was told
+/// and what still waits are the outcomes that waited, and then a LineLost for each of its requests. Of each listener,
+/// what was announced and what still waits are the lines that waited.
 #[tactic(auto, using(crate::proofs::sessions::OfflinePasses::turns_on))]
 pub fn turning_away()
     ensures passes { TurnsOn }
 {}
 
-/// Worked ends of a session, computed by the definitions: a Stop that is answered or given up has ended, and neither one that
-/// a loss of the line ends nor a probe that is given up; the session has ended where all frames sent are written and all
-/// outcomes told, and stays so; where an octet or an outcome waits it hasn't. A session whose Stop has ended doesn't go on as if
-/// none had.
+/// Worked ends of a session, computed by the definitions. A Stop that is answered or given up has ended; one that a
+/// loss of the line ends hasn't, nor does a probe that is given up end it. The session has ended where all frames sent
+/// are written and all outcomes told, and stays so; where an octet or an outcome waits it hasn't. A session whose Stop
+/// has ended doesn't go on as if none had.
 #[tactic(auto, using(crate::proofs::rows::EndingRowFacts::all_stopped, crate::proofs::rows::EndingRowFacts::none_stopped, crate::proofs::rows::EndingRowFacts::right_ending, crate::proofs::rows::EndingRowFacts::stays_ended, crate::proofs::rows::EndingRowFacts::no_endings, crate::proofs::rows::EndingRowFacts::no_going))]
 pub fn endings()
     ensures stopped { list_all ends_in stopped_rows ≡ true }
@@ -86,12 +87,12 @@ pub fn endings()
     ensures going_on { IsNoGoing }
 {}
 
-/// The turns of a poll, over a line that shows itself: whatever history the session had, each session on the way fits that
-/// history and what came since, and each turn is one in it. So where the line is lost nothing but Failed comes of them, no
-/// loss of the line is kept back or given as Stopped, and where octets wait, or all that came were fed, the line is called: a
-/// body that makes no turn, or ticks instead, makes no poll. No history has a tick more behind a poll, and the desk is asked
-/// in vain at most 64 times. So of a session that has just begun six bodies make no poll: no turn, a tick, a loss kept back or
-/// given as Stopped, 65 turns, and a turn behind one that found nothing to do.
+/// The turns of a poll, over a line that is its own view. Whatever history the session had, each state on the way fits
+/// that history and what came since, and each turn is one in it. So a lost line gives Failed alone, and no loss is kept
+/// back or given as Stopped. Where octets wait, or all that came were fed, the line is called: a body that makes no
+/// turn, or ticks instead, makes no poll. No poll adds a tick to a history, and the desk is asked in vain at most 64
+/// times. Six bodies make no poll of a session that has just begun: no turn, a tick, a loss kept back or given as
+/// Stopped, 65 turns, and a turn behind one that found nothing to do.
 #[tactic(auto, using(crate::proofs::sessions::PollLaws::runs_in_histories, crate::proofs::sessions::PollLaws::lost_fails, crate::proofs::sessions::PollLaws::no_loss_is_kept_back, crate::proofs::sessions::PollLaws::no_loss_is_stopped, crate::proofs::sessions::PollLaws::calls_the_line, crate::proofs::sessions::PollLaws::lost_gives_failed, crate::proofs::rows::PollRowFacts::is_lost_session, crate::proofs::rows::PollRowFacts::no_polls, crate::proofs::rows::LivePollRowFacts::reads_the_line, crate::proofs::rows::LivePollRowFacts::no_tick_is_a_poll, crate::proofs::rows::LivePollRowFacts::no_tick_in_a_poll, crate::proofs::rows::LivePollRowFacts::asks_per_turn, crate::proofs::rows::LivePollRowFacts::is_new_session, crate::proofs::rows::LivePollRowFacts::no_live_polls))]
 pub fn polls()
     ensures histories { RunsInHistories (λ (l : LineView). l) }

@@ -1,4 +1,7 @@
-//! The driver of a cellular modem: requests of callers in, frames out, and outcomes back.
+//! The driver of a cellular modem: requests of callers in, frames out, and outcomes back. `enter`, `Entry` and
+//! `enter_by` bring the modem into the multiplexer (3GPP TS 27.007, 5.7). Then a `Session` drives it over a line and a
+//! desk, or an `Endpoint` is fed with octets and requests by its caller. `replay` plays a list of events. `laws` says
+//! what is proved of whole runs.
 #![tactic(auto)]
 
 mod act_list;

@@ -1,4 +1,4 @@
-//! Frames that come.
+//! Handles received frames (27.010, 5.4).
 ghost use Rattle.std.specs.Prelude.{List, None, ◌≡◌, ◌≢◌, ◌≤◌, ◌<◌, ◌+◌, ◌-◌, ◌++◌, ◌∷◌, ◌&&◌, not, [], true, false, length, map, slice_get, slice_set, position, option_map, is_some, is_none, IfOk, OnOk, OnErr, vec_capacity};
 ghost use Rattle.mux_frame.specs.Frames.{frame_of, kept_frame};
 ghost use Rattle.mux_frame.specs.Spelling.{most_info};
@@ -276,9 +276,9 @@ impl Core {
             && is_opened(self.station.state(frame.dlci))
     }
 
-    /// Handles a frame that came. The condition is that its information is at most N1 octets, and empty
-    /// in a kind other than UIH. Refusals, which change nothing: 3 NoRoom where not all frames that it
-    /// calls for fit into the control queue, looked at first; 1 NoMemory.
+    /// Handles a received frame. Requires that its information is at most N1 octets, and empty in a kind other than
+    /// UIH. Refusals, which change nothing: 3 NoRoom where not all frames that it calls for fit into the control queue,
+    /// checked first; 1 NoMemory.
     pub fn got(&mut self, frame: FrameView<'_>) -> Result<Vec<Act>, CoreError>
         requires { length frame.info.now ≤ most_info self.old.station.n1 frame.kind }
         ensures past { IfOk result (λ acts.

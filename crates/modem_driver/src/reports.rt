@@ -1,4 +1,4 @@
-//! What is said of the lines of a connection.
+//! Reads the lines of a connection, and says what each is.
 ghost use Rattle.std.specs.Prelude.{◌≡◌, ◌↔◌, ℕ, List, [], ◌∷◌, ◌++◌, true, map, Some, None, OnOk, IfOk};
 ghost use Rattle.std.specs.List.{Contains};
 ghost use Rattle.modem_history.specs.Acts.{act_of};

@@ -1,4 +1,4 @@
-//! A replay of what came to the driver.
+//! Plays a list of events.
 ghost use Rattle.std.specs.Prelude.{◌≡◌, ◌≢◌, ◌↔◌, ◌<◌, ◌≤◌, ◌⊎◌, ◌++◌, [], ◌∷◌, map, length, None, OnOk, IfOk, IsErrOf, Err};
 ghost use Rattle.mux_frame.specs.Frames.{frame_of};
 ghost use Rattle.mux_frame.specs.Spelling.{most_info};
@@ -187,9 +187,10 @@ fn handle(deframer: &mut Deframer, running: &mut Running, event: &Event) -> Resu
     }
 }
 
-/// The whole history of events, each handled in its turn: what was asked and got, what was sent,
-/// heard and told. After each request, frame, tick and loss everything goes out that may. N1 is 31 to
-/// 32767 octets (3GPP TS 27.010 5.7.2); NoRoom doesn't come.
+/// Plays events through a core, each in its turn, and gives all acts in order: requests taken, frames got and sent,
+/// lines heard, outcomes told. One deframer reads them all: a frame that begins in one event may end in a later one.
+/// After each request, frame, tick and loss everything goes out that may. Refusals: 2 BadN1 where N1 isn't 31 to 32767
+/// (27.010, 5.7.2), 1 NoMemory. NoRoom doesn't come.
 pub fn replay(alloc: Global, n1: u16, events: &[Event]) -> Result<Vec<Act>, CoreError>
     ensures bad_n1 { IsErrOf result CoreError.BadN1 ↔ ((n1 < 31) ⊎ (32767 < n1)) }
     ensures others { result ≢ Err CoreError.NoRoom }

@@ -54,7 +54,8 @@ impl Core {
         self.station.waiting(dlci) <= usize::from(self.n1)
     }
 
-    /// A command whose last octets go out next begins its window.
+    /// A command whose last octets go out next begins its window. That is done before the frame is sent: a frame that
+    /// is lent keeps the core lent too.
     fn begin_next(&mut self)
         ensures after { self.new ≡ begun_next self.old }
         ensures sender { SendsTruly self.old.station }
@@ -67,10 +68,9 @@ impl Core {
         }
     }
 
-    /// The next frame for the line, lent, which is then no longer kept: the first of the control
-    /// queue; where that is empty, data of the connection whose turn it is, as many octets as wait
-    /// there and at most N1, which are 1024 or fewer. After a loss of the line there is none. It takes
-    /// no memory.
+    /// Takes out the next frame for the line and lends it: the first of the control queue, or where that is empty data
+    /// of the connection whose turn it is. Of data it has as many octets as wait there, at most N1 and at most 1024.
+    /// After a loss of the line there is none. It takes no memory.
     pub fn outgoing(&mut self) -> Option<Outgoing<'_>>
         ensures frame { GoesOut self.old (option_map outgoing_of result) }
         ensures past { CoreGoesOn self.old }

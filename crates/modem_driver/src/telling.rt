@@ -1,4 +1,4 @@
-//! What the requests in hand are told.
+//! Tells the requests in hand their outcomes.
 ghost use Rattle.std.specs.Prelude.{◌≡◌, ◌≤◌, ◌++◌, length};
 ghost use Rattle.modem_driver.specs.Telling.{why_shut, probe_happened, stop_outcome, told_by, told_to, left_by};
 ghost use Rattle.modem_driver.specs.Cores.{state_shown};

@@ -1,4 +1,5 @@
-//! What a core does at a tick.
+//! What a core does at a tick. The frames that it calls for are read from the end of the control queue, since only the
+//! station knows which of them fitted.
 ghost use Rattle.std.specs.Prelude.{◌≡◌, ◌+◌, ◌≤◌, ◌&&◌, ◌++◌, map, option_map, slice_get, IfOk, OnErr};
 ghost use Rattle.std.specs.List.{list_any};
 ghost use Rattle.mux_frame.specs.Frames.{kept_frame};
@@ -21,8 +22,8 @@ use mux_station::{ChannelState, GivenUp, Station};
 use std::alloc::Global;
 
 impl Core {
-    /// A tick: SABM and DISC that weren't answered are sent again, and at the fourth tick what waits is
-    /// given up. Refusal: 1 NoMemory, which changes nothing.
+    /// One T1 has passed: SABM and DISC that weren't answered are sent again, and at the fourth tick what waits is
+    /// given up (27.010, 5.4.1, 5.4.2 and 5.7.3). Refusal: 1 NoMemory, which changes nothing.
     pub fn tick(&mut self) -> Result<Vec<Act>, CoreError>
         ensures past { IfOk result (λ acts. Handles self.old self.new Tick (map act_of acts.items)) }
         ensures holds { IfOk result (λ acts. KeepsHeld self.old self.new Tick (map act_of acts.items)) }

@@ -1,4 +1,4 @@
-//! What comes of a request.
+//! Takes requests.
 ghost use Rattle.std.specs.Prelude.{◌≡◌, ◌∷◌, [], ◌<◌, ◌≤◌, ◌++◌, length, map, false, IfOk, IfErr, OnErr};
 ghost use Rattle.modem_history.specs.Acts.{act_of, Took};
 ghost use Rattle.std.specs.List.{list_any};
@@ -50,7 +50,7 @@ fn told(request: &Request, answer: Answer) -> Act
     })
 }
 
-/// The acts of a request, with room for so many more, and the request once more.
+/// The acts of a request, with room for `more` acts, and a copy of the request.
 fn begin(
     alloc: Global,
     request: Request,
@@ -88,9 +88,9 @@ fn tell_once(
 }
 
 impl Core {
-    /// A request is taken: it is told at once, or is in hand from then on. After a loss of the line it is
-    /// told LineLost, and Busy while 128 requests are in hand. Refusal: 1 NoMemory, which changes
-    /// nothing and hands the request back.
+    /// Takes a request, which is told its outcome at once or is in hand from then on. After a loss of the line it is
+    /// told LineLost, and while 128 requests are in hand Busy. Refusal: 1 NoMemory, which changes nothing and hands the
+    /// request back. It may come after a loss too, since two acts have to be kept.
     #[tactic(auto, using(crate::proofs::holds::OtherCalls::keeps_took))]
     pub fn took(&mut self, request: Request) -> Result<Vec<Act>, (CoreError, Request)>
         ensures past { IfOk result (λ acts.

@@ -1,4 +1,4 @@
-//! Frames as the driver asks for them to be sent (27.010, 5.2.1 and 5.4.6).
+//! Frames as an initiator writes them (27.010, 5.2.1 and 5.4.6).
 ghost use Rattle.std.specs.Prelude.{◌≡◌, ◌≤◌, [], length, IfOk};
 ghost use Rattle.mux_frame.specs.Frames.{kept_frame};
 ghost use Rattle.mux_station.specs.declared.role.Role.TheVariants.{Initiator};

@@ -1,4 +1,5 @@
--- What happens. A past is written with its newest act first.
+-- What happens. A past is written with its newest act first, since most questions to it are about its end.
+-- A station knows no requests, and so has acts of its own: `wire` is what it knows of these.
 use Rattle.std.specs.Prelude.{ℕ, ◌==◌, ◌&&◌, ◌++◌, not, Bool, List, [], ◌∷◌, filter, filter_map, Option, Some, None}
 use Rattle.mux_frame.specs.Frames.{Frame, kept_frame}
 use Rattle.mux_station.specs.Acts as station
@@ -8,6 +9,7 @@ use Rattle.modem_desk.specs.declared.request.Answer.{Answer}
 use Rattle.modem_desk.specs.declared.request.Outcome.{Outcome}
 use Rattle.modem_history.specs.declared.act.Act as code
 
+-- what happens to a driver
 pub data Act : Type 0 where
   Took : Request → Act
   Got : Frame → Act
@@ -47,7 +49,7 @@ wire_act Lost = Some station.Lost
 wire_act Given = Some station.Given
 wire_act _ = None
 
--- and of a past
+-- what the station has of a past
 abbrev pub wire : List Act → List station.Act
 wire acts = filter_map wire_act acts
 

@@ -100,7 +100,7 @@ seen_behind s past owing = record {
   run = λ d. run_on s.role d past;
 }
 
--- where nothing is owed
+-- what a call sees of a past in which nothing is owed
 abbrev pub seen : Setting → List Act → HistoryView
 seen s past = seen_behind s past []
 
@@ -114,7 +114,7 @@ asking r (Command d line) = []
 asking r (Probe octets) = message_frame r test octets ∷ []
 asking r Stop = message_frame r cld [] ∷ []
 
--- they fit into the control queue
+-- each of these frames fits into the control queue
 abbrev pub all_have_room : Setting → HistoryView → List Frame → Bool
 all_have_room s v [] = true
 all_have_room s v (f ∷ fs) = has_room s.n1 v.queued f && all_have_room s v fs
@@ -276,6 +276,6 @@ calls_seeing s v a =
 abbrev pub calls : Setting → List Act → Act → List Act
 calls s past a = calls_seeing s (seen s past) a
 
--- the same where so much is owed: a request to which an outcome is owed is told no other
+-- what an act calls for while this is owed: a request to which an outcome is owed is told no other
 abbrev pub calls_behind : Setting → List Act → (owing : List Act) → Act → List Act
 calls_behind s past owing a = calls_seeing s (seen_behind s past owing) a

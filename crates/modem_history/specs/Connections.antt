@@ -29,7 +29,7 @@ info_got d [] = []
 info_got d (Got f ∷ acts) = info_got d acts ++ info_of d f
 info_got d (_ ∷ acts) = info_got d acts
 
--- the same of those that were sent
+-- the information of the UIH frames on d that were sent among the acts (newest first), joined
 abbrev pub info_sent : ℕ → List Act → List ℕ
 info_sent d [] = []
 info_sent d (Sent f ∷ acts) = info_sent d acts ++ info_of d f
@@ -163,10 +163,12 @@ pub record IsPlaced (r : Role) (d : ℕ) (commands : List (List ℕ)) (past : Li
   pub commands_are : begun_in (placed r d commands past)
       ≡ wholly_sent (length (information_sent r d past)) commands
 
+-- the law of `IsPlaced`, of every connection and commands
 unfoldable pub PlacesAll : Role → List Act → Type 0
 PlacesAll r past = (d : ℕ) (commands : List (List ℕ)) → IsPlaced r d commands past
 
--- and so in each opening: its lines, and of the commands beside it those that are wholly sent
+-- what is placed on d in each opening are its lines, and those of the commands beside it that are wholly
+-- sent
 pub record ArePlacedInEach (r : Role) (d : ℕ) (commands : List (List (List ℕ)))
     (past : List Act) : Type 0 where
   pub lines_are : map lines_of (all_placed r d commands past) ≡ map lines (all_information_got r d past)
@@ -174,6 +176,7 @@ pub record ArePlacedInEach (r : Role) (d : ℕ) (commands : List (List (List ℕ
       ≡ map (λ (p : List (List ℕ) × List ℕ). wholly_sent (length p.1) p.0)
       (zip commands (all_information_sent r d past))
 
+-- the law of `ArePlacedInEach`, of every connection and as many lists of commands as it has openings
 unfoldable pub PlacesEach : Role → List Act → Type 0
 PlacesEach r past =
     (d : ℕ) (commands : List (List (List ℕ))) → length commands ≡ length (openings r d past)
@@ -187,5 +190,6 @@ pub record IsSaidAlike (r : Role) (past : List Act) : Type 0 where
   pub placed_same : (d : ℕ) (commands : List (List ℕ))
       → placed r d commands (without_calls past) ≡ placed r d commands past
 
+-- the law of `IsSaidAlike`
 unfoldable pub NeedsNoCalls : Role → List Act → Type 0
 NeedsNoCalls r past = IsSaidAlike r past

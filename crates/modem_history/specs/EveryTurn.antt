@@ -95,7 +95,8 @@ abbrev pub ReadsWhereFed : Option Read → List ℕ → Type 0
 ReadsWhereFed None unfed = unfed ≢ []
 ReadsWhereFed (Some r) unfed = 1 ≤ r.room
 
--- and of what waits to be fed some was, unless a frame is at hand
+-- the line was read where all octets that had come were fed; and of what waits to be fed some was, unless a
+-- frame is at hand
 pub record ReadsOn (old new : SessionView) (t : Exchange) : Type 0 where
   pub reads : ReadsWhereFed t.read old.unfed
   pub empty : new.line.empty_reads ≡ empty_after t.read old.line.empty_reads
@@ -104,7 +105,7 @@ pub record ReadsOn (old new : SessionView) (t : Exchange) : Type 0 where
 
 -- ## The frame at hand
 
--- it was got, or there was no room for what it calls for
+-- the frame at hand was got, or there was no room for what it calls for
 pub data Handles (b : Beginning) (hand : Option Frame) (before acts : List Act) : Type 0 where
   gets : gots acts ≡ option_to_list hand → Handles b hand before acts
   waits : (f : Frame) → hand ≡ Some f → has_room_for b before f ≡ false → gots acts ≡ []

@@ -1,4 +1,6 @@
--- What goes out next (27.010, 5.4): the control queue in its order, and where it is empty data.
+-- What goes out next (27.010, 5.4): the control queue in its order, and where it is empty data. It says
+-- which of several lawful frames goes. A session's history and a replay's pieces keep it; another end's
+-- history need not, so it is no part of `Lawful`.
 use Rattle.std.specs.Prelude.{◌≡◌, ℕ, ◌+◌, ◌-◌, ◌==◌, ◌&&◌, not, Bool, List, [], ◌∷◌, length, take, drop, find, Option, None, Some, option_map, true, false, if◌then◌else◌}
 use Rattle.std.specs.List.{concat, range_with_len}
 use Rattle.mux_frame.specs.Frames.{Frame}

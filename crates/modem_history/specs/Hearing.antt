@@ -61,9 +61,10 @@ pub record Hears (s : Setting) (d : ℕ) (past : List Act) : Type 0 where
   pub in_order : was_heard d past ++ to_be_heard d (owed s past) ≡ listened_on s d past
   pub each_once : AreNoneLost s.dialect (all_marks s.role d past)
 
+-- the law of `Hears`, of every connection
 unfoldable pub HearsInOrder : Setting → List Act → Type 0
 HearsInOrder s past = (d : ℕ) → Hears s d past
 
--- where nothing is owed, all of it was heard
+-- where nothing is owed, every line that was to be heard was heard
 unfoldable pub HearsAll : Setting → List Act → Type 0
 HearsAll s past = Complete s past → (d : ℕ) → was_heard d past ≡ listened_on s d past

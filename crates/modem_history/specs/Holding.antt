@@ -1,4 +1,5 @@
--- Which connections are held, since too many of their lines wait for a listener (own; 27.010, 5.4.6.3.7).
+-- Which connections are held because too many of their lines wait for a listener. The bounds are this
+-- driver's own; a hold is an MSC of 27.010, 5.4.6.3.7.
 use Rattle.std.specs.Prelude.{◌≡◌, ℕ, ◌==◌, ◌&&◌, ◌||◌, not, Bool, true, false, List, [], ◌∷◌, if◌then◌else◌}
 use Rattle.mux_station.specs.declared.role.Role.{Role}
 use Rattle.mux_station.specs.Opening.{is_open}
@@ -12,7 +13,7 @@ last_held r d (Held e ∷ past) = (e == d) || last_held r d past
 last_held r d (Freed e ∷ past) = not (e == d) && last_held r d past
 last_held r d (a ∷ past) = if opens_here r d past a then false else last_held r d past
 
--- d is held: it is open, and was held since it opened and not freed since
+-- d is held: it is open, and was held since it opened and not freed since; so a close forgets it
 abbrev pub is_held : Role → ℕ → List Act → Bool
 is_held r d past = is_open r d (wire past) && last_held r d past
 

@@ -51,6 +51,7 @@ earlier_accepted r d (_ ∷ past) = earlier_accepted r d past
 abbrev pub all_accepted : Role → ℕ → List Act → List (List Request)
 all_accepted r d past = earlier_accepted r d past ++ accepted r d past ∷ []
 
+-- the command line that is asked to be sent, or nothing
 abbrev pub line_in : Ask → List ℕ
 line_in (Command d line) = line
 line_in _ = []

@@ -10,7 +10,7 @@ use Rattle.modem_desk.specs.declared.request.Urc.{Urc}
 abbrev pub standard_kinds : List UrcKind
 standard_kinds = Ring ∷ Cring ∷ Creg ∷ Cgreg ∷ Cgev ∷ Ciev ∷ Other ∷ []
 
--- it is among the kinds
+-- the kind is among these
 abbrev pub is_listened : List UrcKind → UrcKind → Bool
 is_listened kinds k = list_any (is_same_kind k) kinds
 

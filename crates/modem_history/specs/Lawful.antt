@@ -54,7 +54,7 @@ Once s past f =
     IsTrue (starts_with nat_eq (concat (texts (accepted s.role f.dlci past)))
     (information_out s.role f.dlci past ++ f.info))
 
--- it reaches into a command only if the ones before have their final codes
+-- a data frame reaches into a command only if the commands before have their final codes
 abbrev pub InTurn : Setting → List Act → Frame → Type 0
 InTurn s past f =
     IsTrue (nat_le (reached_in (length (information_out s.role f.dlci past ++ f.info))

@@ -18,7 +18,7 @@ unfoldable pub AreMarksPlaced : Setting → List Act → Type 0
 AreMarksPlaced s past =
     (d : ℕ) → marks s.role d past ≡ placed s.role d (map line_of (accepted s.role d past)) (wire past)
 
--- and so they are in each of its openings
+-- in each opening of d the commands accepted in it go out on it, and are placed there among its lines
 unfoldable pub AreAllMarksPlaced : Setting → List Act → Type 0
 AreAllMarksPlaced s past =
     (d : ℕ) → all_marks s.role d past
@@ -40,7 +40,7 @@ AreReadAsSent commands out =
     AreCommandLines commands → IsPrefixOf out (concat (with_cr commands))
     → lines out ≡ wholly_sent (length out) commands
 
--- and so of the commands that were accepted on a connection
+-- of the commands accepted on a connection the other end reads just those that are wholly sent
 unfoldable pub ReadsAccepted : Setting → List Act → Type 0
 ReadsAccepted s past =
     (d : ℕ) → AreCommandLines (map line_of (accepted s.role d past))

@@ -1,4 +1,4 @@
--- Requests by whose they are and what they ask for.
+-- Requests by their caller, and by what they ask for.
 use Rattle.std.specs.Prelude.{ℕ, ◌==◌, ◌&&◌, not, Bool, true, List, [], ◌∷◌, if◌then◌else◌}
 use Rattle.std.specs.List.{list_all}
 use Rattle.modem_desk.specs.declared.request.Request.{Request}

@@ -1,4 +1,4 @@
--- What it says of a session that it fits a history.
+-- What follows where a session fits a history.
 use Rattle.std.specs.Prelude.{◌≡◌, ℕ, not, Bool, true, false, List, [], ◌++◌, filter, None, length, ◌≤◌}
 use Rattle.std.specs.List.{list_any}
 use Rattle.mux_frame.specs.Frames.{Frame}
@@ -25,7 +25,7 @@ fresh b = record {
   unannounced = [];
 }
 
--- it fits the empty history
+-- a new session fits the empty history
 unfoldable pub BeginsFitting : Beginning → Type 0
 BeginsFitting b = SessionFits b (fresh b) []
 
@@ -51,7 +51,7 @@ pub record SendsSpellings (b : Beginning) (v : SessionView) (past : List Act) : 
   pub rest : List ℕ
   pub joins : v.line.sent ++ rest ≡ b.line.sent ++ octets_of_frames (sents past)
 
--- these frames were given on first
+-- these are the first frames that the past gave on
 pub record AreGivenOn (fs : List Frame) (past : List Act) : Type 0 where
   pub more : List Frame
   pub given_are : given_on past ≡ fs ++ more
@@ -90,6 +90,7 @@ pub record SessionSays (b : Beginning) (v : SessionView) (past : List Act) : Typ
   pub in_hand : HandIsUntold past
   pub once : TellsOnce b v
 
+-- what a session says of each history that it fits
 unfoldable pub FitsSays : Beginning → SessionView → List Act → Type 0
 FitsSays b v past = SessionFits b v past → SessionSays b v past
 
@@ -111,11 +112,13 @@ KeepsHistory b old new core later =
 abbrev pub by_test : (Beginning → List Act → Bool) → Beginning → List Act → Type 0
 by_test test b past = test b past ≡ true
 
+-- one call after another is as one call
 unfoldable pub CallsRunOn : Type 0
 CallsRunOn =
     (old mid new : SessionView) (first second third : Beginning → List Act → Bool)
     → RunsOn old mid new (by_test first) (by_test second) (by_test third)
 
+-- a session that had a history has one after a call
 unfoldable pub CallsKeepHistory : Beginning → Type 0
 CallsKeepHistory b =
     (old new : SessionView) (core later : Beginning → List Act → Bool)

@@ -194,7 +194,8 @@ pub record ToldTo (b : Beginning) (v : SessionView) (past : List Act) (c : ℕ) 
   pub told_are : at_place c v.desk.told ≡ at_place c b.desk.told ++ since
   pub outcomes_are : since ++ caller_outcomes c v.unplaced ≡ caller_outcomes c (outcomes past)
 
--- that is so of each caller, and none waits for a caller that the desk hasn't
+-- what each caller was told since the session began, and then what waits for it, are its outcomes of the
+-- history; and none waits for a caller that the desk hasn't
 pub record FitsTold (b : Beginning) (v : SessionView) (past : List Act) : Type 0 where
   pub each : (c : ℕ) → ToldTo b v past c
   pub callers : list_all (λ (o : Outcome). nat_lt o.caller b.callers) v.unplaced ≡ true

@@ -1,5 +1,5 @@
--- What the answers of a turn mean: Moved, WriterFull, Waiting, Blocked and Idle, and its faults; and what a
--- tick does.
+-- What the answers of a turn mean (Moved, WriterFull, Waiting, Blocked, Idle), what its faults mean, and
+-- what a tick does.
 use Rattle.std.specs.Prelude.{◌≡◌, ◌≢◌, ℕ, zero, suc, ◌+◌, ◌-◌, ◌^◌, ◌<◌, ◌≤◌, ◌==◌, ◌||◌, not, nat_le, nat_lt, min, ◌⊎◌, Bool, true, false, List, [], ◌∷◌, ◌++◌, length, take, map, flat_map, Option, Some, None, option_to_list}
 use Rattle.std.specs.List.{list_all, list_any}
 use Rattle.mux_frame.specs.Frames.{Frame}
@@ -99,8 +99,8 @@ pub record HandsBack (t : Exchange) : Type 0 where
   pub outcomes : (c : ℕ) → caller_outcomes c t.told_back ≡ take 1 (caller_outcomes c t.still_told)
   pub lines : (k : UrcKind) → of_kind k t.heard_back ≡ take 1 (of_kind k t.still_heard)
 
--- so the turn exchanged with its line and its desk: it read only where all octets that had come were fed, and
--- asked the desk for a request only where none was kept aside; it handled one frame at most
+-- what the turn exchanged with its line and its desk: it read only where all octets that had come were fed,
+-- and asked the desk for a request only where none was kept aside; it handled one frame at most
 pub record Exchanges (old new : SessionView) (t : Exchange) (acts : List Act) : Type 0 where
   pub came : new.line.received ≡ old.line.received ++ octets_read t.read
   pub room : ReadHasRoom t.read
@@ -156,6 +156,7 @@ pub data TurnAnswer : Type 0 where
   Blocked : UrcKind → TurnAnswer
   Idle : TurnAnswer
 
+-- the answer is Moved
 abbrev pub says_moved : TurnAnswer → Bool
 says_moved Moved = true
 says_moved _ = false

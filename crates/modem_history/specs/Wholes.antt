@@ -69,6 +69,7 @@ pub record GoesOn (s : Setting) (past acts : List Act) : Type 0 where
   pub lawful : Lawful s (after past acts)
   pub complete : Complete s (after past acts)
 
+-- a call that does just what its first act calls for keeps a lawful and complete past so
 unfoldable pub CallGoesOn : Setting → List Act → Act → Type 0
 CallGoesOn s past a =
     is_first a ≡ true → OnHeld s.role past a → Lawful s past → Complete s past
@@ -90,6 +91,7 @@ pub record AreInTurn (s : Setting) (d : ℕ) (past : List Act) : Type 0 where
   pub first : begun_in (marks s.role d past)
       ≡ map line_of (whole_after (length (information_out s.role d past)) (accepted s.role d past))
 
+-- on every connection commands begin in turn
 unfoldable pub BeginsInTurn : Setting → List Act → Type 0
 BeginsInTurn s past = (d : ℕ) → AreInTurn s d past
 

@@ -9,6 +9,7 @@ use Rattle.modem_sim.specs.declared.script.Step.{Step}
 use Rattle.modem_sim.specs.declared.script.StepAct.{StepAct}
 use Rattle.modem_sim.specs.declared.state.ModemState.{ModemState}
 
+-- what happens at a simulated modem
 pub data Act : Type 0 where
   -- at its station
   Wire : station.Act → Act
@@ -23,10 +24,11 @@ pub record End : Type 0 where
   pub steps : List Step
   pub modem : ModemState
 
+-- an end with this N1, modem and script
 abbrev pub end_of : ℕ → ModemState → Script → End
 end_of n1 modem script = record { n1 = n1; echo = script.echo; steps = script.steps; modem = modem }
 
--- it is the responder
+-- whose history the station has: it is the responder
 abbrev pub setting : End → StationSetting
 setting e = record { role = Responder; n1 = e.n1 }
 
@@ -50,9 +52,11 @@ abbrev pub is_handing : Act → Bool
 is_handing (Wire (station.Called (station.Offer d octets))) = true
 is_handing _ = false
 
+-- any act at all
 abbrev pub any_act : Act → Bool
 any_act a = true
 
+-- d is open at the modem's end
 abbrev pub is_open_at_modem : ℕ → List Act → Bool
 is_open_at_modem d past = opening.is_open Responder d (wire past)
 

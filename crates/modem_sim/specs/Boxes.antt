@@ -13,6 +13,7 @@ pub record Waited : Type 0 where
   pub dlci : ℕ
   pub over : Bool
 
+-- the hold that the code keeps, as the definitions see it
 abbrev pub waited_of : Wanted → Waited
 waited_of w = record { dlci = w.dlci.number; over = w.over }
 
@@ -24,6 +25,7 @@ pub record Box : Type 0 where
   pub held : List ℕ
   pub hold : Option Waited
 
+-- what is kept of a connection that has just opened
 abbrev pub fresh_box : Box
 fresh_box = record { run = []; unsent = []; held = []; hold = None }
 
@@ -53,6 +55,7 @@ abbrev pub queue_by : Option Waited → Box → List ℕ
 queue_by None b = b.unsent
 queue_by (Some w) b = b.held
 
+-- the octets behind which goes what is said next
 abbrev pub queue_of : Box → List ℕ
 queue_of b = queue_by b.hold b
 
@@ -67,6 +70,7 @@ pub record Brought : Type 0 where
   pub run : List ℕ
   pub said : List ℕ
 
+-- the box after a frame's octets: the replies to the lines that ended stand behind what was said before
 abbrev pub box_taken : Brought → Box → Box
 box_taken x b = record (said_with b.hold b x.said) { run = x.run }
 
@@ -83,6 +87,7 @@ abbrev pub hold_heard : ℕ → ℕ → Option Waited → Option Waited
 hold_heard n count None = None
 hold_heard n count (Some w) = Some (record w { over = w.over || ((n == w.dlci) && nat_lt 0 count) })
 
+-- the box after so many lines have ended on n
 abbrev pub box_heard : ℕ → ℕ → Box → Box
 box_heard n count b = record b { hold = hold_heard n count b.hold }
 

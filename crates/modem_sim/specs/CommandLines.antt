@@ -12,6 +12,7 @@ is_semicolon c = c == 59
 abbrev pub is_letter_a : ℕ → Bool
 is_letter_a c = c == 65 || c == 97
 
+-- the letter T, in either case
 abbrev pub is_letter_t : ℕ → Bool
 is_letter_t c = c == 84 || c == 116
 
@@ -45,7 +46,7 @@ begins_at Between c = is_sign c
 begins_at Basic c = is_sign c && not (is_digit c)
 begins_at _ c = false
 
--- it belongs to the command that has begun: blanks do between quotes alone (5.2.1, 5.4.2.2)
+-- an octet belongs to the command that has begun: blanks do between quotes alone (5.2.1, 5.4.2.2)
 abbrev pub goes_on_at : Place → ℕ → Bool
 goes_on_at Basic c = is_digit c
 goes_on_at Ampersand c = not (is_blank c)
@@ -59,6 +60,7 @@ pub record Read : Type 0 where
   pub whole : List (List ℕ)
   pub begun : List ℕ
 
+-- a line of which nothing is read yet
 abbrev pub nothing_read : Read
 nothing_read = record { place = Before; whole = []; begun = [] }
 
@@ -66,6 +68,7 @@ nothing_read = record { place = Before; whole = []; begun = [] }
 abbrev pub one_begun : List ℕ → List (List ℕ)
 one_begun begun = if nat_lt 0 (length begun) then begun ∷ [] else []
 
+-- a line so far, after one more octet
 abbrev pub read_octet : Read → ℕ → Read
 read_octet r c =
     if begins_at r.place c then record {
@@ -82,6 +85,7 @@ is_before_at Before = true
 is_before_at Letter = true
 is_before_at _ = false
 
+-- the commands of a line that ends here; none where it has no AT
 abbrev pub commands_read : Read → Option (List (List ℕ))
 commands_read r = if is_before_at r.place then None else Some (r.whole ++ one_begun r.begun)
 

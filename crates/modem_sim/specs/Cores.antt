@@ -45,6 +45,7 @@ counted n = min n (2 ^ 64 - 1)
 abbrev pub that_act : List Step → List Step
 that_act steps = filter (λ (s : Step). acts s.act) steps
 
+-- what is kept of d
 abbrev pub box_at : Core → ℕ → Box
 box_at c d = slice_index_or c.boxes d fresh_box
 
@@ -53,10 +54,11 @@ pub record Wired : Type 0 where
   pub came : List Frame
   pub gone : List Frame
 
+-- no frame has come or gone
 abbrev pub nothing_wired : Wired
 nothing_wired = record { came = []; gone = [] }
 
--- it fits a past, in which these frames came and went
+-- an end fits a past, in which these frames came and went
 pub record Fits (e : End) (w : Wired) (c : Core) (past : List Act) : Type 0 where
   pub setting_is : stations.setting_of c.station ≡ setting e
   pub echo_is : c.echo ≡ e.echo
@@ -78,14 +80,14 @@ pub record IsLater (past now : List Act) : Type 0 where
   pub newer : List Act
   pub joins : newer ++ past ≡ now
 
--- it fits what the past went on to by acts of a kind
+-- an end fits what the past went on to by acts of a kind
 pub record GoesFrom (may : Act → Bool) (e : End) (w : Wired) (past : List Act) (c : Core) : Type 0 where
   pub now : List Act
   pub later : IsLater past now
   pub only : list_all may later.newer ≡ true
   pub fits : Fits e w c now
 
--- whatever past it fits, it goes on by acts of a kind to one that it fits
+-- whatever past it fits, an end goes on by acts of a kind to one that it fits
 abbrev pub Goes : (Act → Bool) → Core → Core → Type 0
 Goes may old new = (e : End) (w : Wired) (past : List Act) → Fits e w old past → GoesFrom may e w past new
 
@@ -99,12 +101,13 @@ wire_after (f ∷ fs) past = wire_after fs (Wire (station.Sent f) ∷ past)
 abbrev pub after_wire_act : End → List Act → station.Act → List Act
 after_wire_act e past a = wire_after (sending.called_frames (setting e) (wire past) a) (Wire a ∷ past)
 
--- whatever past it fits, it fits that with the frame behind it and all that this calls for
+-- whatever past an end fits, it fits that with the frame behind it and all that this calls for
 abbrev pub EndGoesOn : Core → Core → Frame → Type 0
 EndGoesOn old new f =
     (e : End) (w : Wired) (past : List Act) → Fits e w old past
     → Fits e (record w { came = w.came ++ f ∷ [] }) new (after_wire_act e past (station.Got f))
 
+-- the octets that a frame brings to an open connection
 abbrev pub octets_in : Core → Frame → List ℕ
 octets_in c f =
     if is_data_frame f && is_opened (stations.channel_at c.station f.dlci).state then f.info else []
@@ -128,7 +131,7 @@ opens_in c f = is_on Sabm f.dlci f && ((f.dlci == 0) || is_opened (stations.chan
 abbrev pub closes_in : Core → Frame → Bool
 closes_in c f = is_opened (stations.channel_at c.station 0).state && brings_command cld f
 
--- it is noted that all are closed
+-- what was noted says that all connections closed
 abbrev pub closes_all : Noted → Bool
 closes_all AllClosed = true
 closes_all _ = false
@@ -137,7 +140,7 @@ closes_all _ = false
 abbrev pub counted_in : Core → ℕ → ℕ → Core
 counted_in c d count = record c { boxes = map (box_heard d count) c.boxes; come = counted (c.come + count) }
 
--- another modem, and another box of this connection, where so many lines ended
+-- the end with this modem and this box of a connection, on which so many lines ended
 abbrev pub kept_in : Core → ℕ → ModemState → Box → ℕ → Bool → Core
 kept_in c d m b count closes =
     counted_in (record c { modem = m; boxes = slice_set c.boxes d b; closed = c.closed || closes }) d count
@@ -158,7 +161,7 @@ pub record Takes (old new : Core) (f : Frame) : Type 0 where
 
 -- ## What is handed to the station
 
--- another box of this connection
+-- the end with this box of a connection
 abbrev pub boxed : Core → ℕ → Box → Core
 boxed c d b = record c { boxes = slice_set c.boxes d b }
 
@@ -167,11 +170,13 @@ pub record IsHanded (c : Core) (d : ℕ) : Type 0 where
   pub unsent : (d == 0) ≡ false → (stations.channel_at c.station d).waiting ≡ [] → (box_at c d).unsent ≡ []
   pub released : is_released (box_at c d).hold ≡ false
 
+-- if d is open, all of its octets are handed on
 abbrev pub IsHandedOn : Core → ℕ → Type 0
 IsHandedOn c d = is_opened (stations.channel_at c.station d).state ≡ true → IsHanded c d
 
 -- ## What goes out
 
+-- the end after the next frame has gone out
 abbrev pub gone_on : Core → Core
 gone_on c = record c { station = station_after c.station c.station.queue }
 
@@ -181,13 +186,13 @@ pub data IsGivenOn (past : List Act) (f : Frame) : (now : List Act) → Type 0 w
       (later : List Frame) → sending.queue (wire past) ≡ f ∷ later → IsGivenOn past f (Wire station.Given ∷ past)
   sent_now : sending.queue (wire past) ≡ [] → IsGivenOn past f (Wire (station.Sent f) ∷ past)
 
--- it fits the past with a frame that it gives on
+-- an end fits the past with a frame that it gives on
 pub record GivesFrom (e : End) (w : Wired) (past : List Act) (f : Frame) (c : Core) : Type 0 where
   pub now : List Act
   pub given : IsGivenOn past f now
   pub fits : Fits e (record w { gone = w.gone ++ f ∷ [] }) c now
 
--- whatever past it fits, it goes on with the frame that it gives on
+-- whatever past an end fits, it goes on with the frame that it gives on
 abbrev pub GivesOut : Core → Type 0
 GivesOut c =
     (f : Frame) → next_given c.station c.station.queue ≡ Some f → (e : End) (w : Wired) (past : List Act)
@@ -203,6 +208,7 @@ boxes_done (Hold d e) boxes =
     slice_set boxes d.number (box_holding e.number (slice_index_or boxes d.number fresh_box))
 boxes_done _ boxes = boxes
 
+-- the step closes the multiplexer down
 abbrev pub closes_by : StepAct → Bool
 closes_by CloseDown = true
 closes_by _ = false
@@ -270,7 +276,7 @@ pub record HasReleased (c : Core) : Type 0 where
 abbrev pub over : Box → ℕ
 over b = if is_released b.hold then 1 else 0
 
--- so many are
+-- on how many connections a hold is over, and what it held back is still kept apart
 abbrev pub holds_over : List Box → ℕ
 holds_over [] = 0
 holds_over (b ∷ boxes) = over b + holds_over boxes

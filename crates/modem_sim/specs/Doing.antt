@@ -62,13 +62,13 @@ pub record IsDue (e : End) (past : List Act) (act : StepAct) : Type 0 where
   pub come : nat_le next.after (length (heard past)) ≡ true
   pub open_are : list_all (λ d. is_open_at_modem d past) (named_by act) ≡ true
 
--- it closes down: a CLD is asked for, or comes while 0 is open (27.010, 5.4.6.3.3)
+-- the act closes down: a CLD is asked for, or comes while 0 is open (27.010, 5.4.6.3.3)
 abbrev pub closes_down : List Act → station.Act → Bool
 closes_down past (station.Called station.Stop) = true
 closes_down past (station.Got f) = is_open_at_modem 0 past && brings_command cld f
 closes_down past _ = false
 
--- it has closed down
+-- the past has closed down
 abbrev pub is_closed_down : List Act → Bool
 is_closed_down [] = false
 is_closed_down (Did step ∷ past) = is_closed_down past

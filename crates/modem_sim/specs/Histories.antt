@@ -1,4 +1,4 @@
--- The laws of a simulated modem's history, and what it is for its octets and its modem to fit one.
+-- The laws of a simulated modem's history, and when its octets and its modem fit one.
 use Rattle.std.specs.Prelude.{◌≡◌, ◌≢◌, ℕ, ◌<◌, nat_eq, true, false, List, [], ◌∷◌, ◌++◌, length, take, map, filter, Some, None}
 use Rattle.std.specs.List.{starts_with, flat_map}
 use Rattle.mux_frame.specs.Frames.{Frame}

@@ -22,9 +22,11 @@ octets_of (Echo line) = line ++ 0xd ∷ []
 octets_of (Answer line) = framed line
 octets_of (Announced line) = framed line
 
+-- the octets of pieces, joined
 abbrev pub pieces_octets : List Piece → List ℕ
 pieces_octets pieces = flat_map octets_of pieces
 
+-- the lines of an answer, as pieces
 abbrev pub answers : List AnswerLine → List Piece
 answers ls = map (λ l. Answer l.text) ls
 
@@ -36,7 +38,7 @@ echoed echo line = if echo then Echo line ∷ [] else []
 abbrev pub reply : Bool → ModemState → List ℕ → List Piece
 reply echo m line = echoed (echoes echo m) line ++ answers (step m line).answer
 
--- and for lines, one after the other
+-- what a modem writes for command lines, one after the other
 abbrev pub replies : Bool → ModemState → List (List ℕ) → List Piece
 replies echo m [] = []
 replies echo m (line ∷ lines) = reply echo m line ++ replies echo (step m line).state lines

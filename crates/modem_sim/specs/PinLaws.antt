@@ -22,7 +22,7 @@ pub data WrongTries (pin : List ℕ) : List (List ℕ) → ℕ → Type 0 where
       (line : List ℕ) (lines : List (List ℕ)) (n : ℕ) → WrongTries pin lines n
       → ((entered : List ℕ) → ¬ IsTextOf line (PinEnter entered)) → WrongTries pin (lines ++ line ∷ []) n
 
--- it wants the PIN, while fewer than three tries were wrong and none was right
+-- a modem wants its PIN, while fewer than three tries were wrong and none was right
 abbrev pub WantsPin : ModemStart → List ℕ → Type 0
 WantsPin start pin =
     (lines : List (List ℕ)) (n : ℕ) → WrongTries pin lines n → n < 3
@@ -64,14 +64,15 @@ RefusesBefore start pin =
 abbrev pub unlocked_start : ModemStart → ModemStart
 unlocked_start start = record start { pin = None }
 
--- and nothing of it has changed once it is ready: it tells what one tells that starts without a PIN
+-- what a modem is told before it is ready changes nothing of it: once ready it tells what one tells that
+-- starts without a PIN
 abbrev pub ChangesNothingBefore : ModemStart → List ℕ → Type 0
 ChangesNothingBefore start pin =
     (lines : List (List ℕ)) (line : List ℕ) (n : ℕ) (c : Command) → WrongTries pin lines n → n < 3
     → IsTextOf line (PinEnter pin) → tells_network c ≡ true → (ask : List ℕ) → IsTextOf ask c
     → answered (reached start (lines ++ line ∷ [])) c ask ≡ answered (reached (unlocked_start start) []) c ask
 
--- of a modem with this PIN
+-- the laws of a modem with this PIN
 pub record KeepsPin (start : ModemStart) (pin : List ℕ) : Type 0 where
   pub wants : WantsPin start pin
   pub locks : Locks start pin
@@ -79,7 +80,7 @@ pub record KeepsPin (start : ModemStart) (pin : List ℕ) : Type 0 where
   pub refuses : RefusesBefore start pin
   pub changes_nothing : ChangesNothingBefore start pin
 
--- one without a PIN is ready
+-- a modem without a PIN is ready
 abbrev pub IsReadyAlways : ModemStart → Type 0
 IsReadyAlways start =
     (lines : List (List ℕ)) → Tells (reached start lines) PinQuery (λ r. r ≡ Ok (Pin state.Ready))
@@ -117,6 +118,7 @@ pub record FollowsNetwork (s : ModemState) (reg pin oper attachment attach : Lis
   pub attached :
       answered s AttachQuery attachment ≡ Ok (Attached true) → is_home (answered s RegQuery reg) ≡ true
 
+-- the law: whatever lines a modem was given, registration, PIN and attachment go together
 abbrev pub FollowsNetworkAlways : ModemStart → Type 0
 FollowsNetworkAlways start =
     (lines : List (List ℕ)) (reg pin oper attachment attach : List ℕ) → Asks reg pin oper attachment attach

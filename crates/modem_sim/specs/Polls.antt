@@ -95,7 +95,7 @@ pub data RunsThrough {X : Type 0} (see : Sight X) (at : LineAt) (e : End) (old :
       → MovesThrough see at e old past n mid between → RefusedTo see at e between now mid new why
       → RunsThrough see at e old past new now (Some (Err why))
 
--- they go on to a past that it fits
+-- the turns of a poll go on to a past that the simulated modem fits
 pub record RunsFrom {X : Type 0} (see : Sight X) (at : LineAt) (e : End) (old : SimState X) (past : List Act)
     (new : SimState X) (given : Option (Result SimTurn SimError)) : Type 0 where
   pub now : List Act
@@ -103,7 +103,7 @@ pub record RunsFrom {X : Type 0} (see : Sight X) (at : LineAt) (e : End) (old : 
   pub fits : FitsSim see.received see.sent at e new now
   pub runs : RunsThrough see at e old past new now given
 
--- whatever past it fitted before
+-- the turns of a poll, whatever past the simulated modem fitted before
 abbrev pub RunsInHistories :
     {X : Type 0} → Sight X → (old new : SimState X) → Option (Result SimTurn SimError) → Type 0
 RunsInHistories see old new given =
@@ -118,11 +118,12 @@ abbrev pub kept_end :
 kept_end before (Err why.NoMemory) = before
 kept_end before given = Some given
 
+-- the simulated modem, which keeps what a poll gave as its end, but for want of memory
 abbrev pub with_given : {X : Type 0} → Option (Result SimTurn SimError) → SimState X → SimState X
 with_given None s = s
 with_given (Some given) s = record s { kept = record s.kept { end = kept_end s.kept.end given } }
 
--- it makes its turns, gives what they lead to, and keeps that
+-- a poll makes its turns, gives what they lead to, and keeps that
 pub record PollsOn {X : Type 0} (see : Sight X) (old new : SimState X)
     (given : Option (Result SimTurn SimError)) : Type 0 where
   pub mid : SimState X
@@ -137,6 +138,7 @@ abbrev pub PollsFrom :
 PollsFrom see (Some end) old new given = (given ≡ Some end) × (new ≡ old)
 PollsFrom see None old new given = PollsOn see old new given
 
+-- a poll: an end that an earlier one gave is given again; else it makes its turns
 unfoldable pub Polls :
     {X : Type 0} → Sight X → (old new : SimState X)
     → Option (Result SimTurn SimError) → Type 0
@@ -171,7 +173,7 @@ pub record HadFailed {X : Type 0} (failures : X → ℕ) (old new : SimState X) 
   pub now : has_failed new ≡ true
   pub none_failed : failures new.line ≡ failures old.line
 
--- it has closed down and all is written, and its line is sound
+-- the simulated modem has closed down, all is written, and its line is sound
 pub record EndsSound {X : Type 0} (failures : X → ℕ) (old new : SimState X) : Type 0 where
   pub ended : has_ended new ≡ true
   pub sound : StaysSound failures old new

@@ -45,7 +45,7 @@ all_of replies = flat_map (λ (ls : List (List ℕ)). ls) replies
 
 -- ## What is asked of it
 
--- it is a modem that started so, after some lines
+-- a modem that started with some start, after some lines
 pub record IsModem (m : ModemState) : Type 0 where
   pub start : ModemStart
   pub before : List (List ℕ)
@@ -58,7 +58,7 @@ AnnouncesUnsolicited [] = Unit {0}
 AnnouncesUnsolicited (Did (Announce d line) ∷ past) = (is_solicited standard line ≡ false) × AnnouncesUnsolicited past
 AnnouncesUnsolicited (_ ∷ past) = AnnouncesUnsolicited past
 
--- it is asked for d once at most
+-- the other end asks for d once at most
 abbrev pub IsAskedOnce : ℕ → List Act → Type 0
 IsAskedOnce d past = length (filter (is_on Sabm d) (frames_got (wire past))) ≤ 1
 
@@ -73,6 +73,7 @@ pub record IsFirstOf {A : Type 0} (xs ys : List A) : Type 0 where
 abbrev pub is_answer_line : AnswerLine → Bool
 is_answer_line line = is_line line.text && not (has_at line.text)
 
+-- each line of an answer is one line as the other end reads it, and no command line
 abbrev pub AnswersInLines : ModemStart → Type 0
 AnswersInLines start =
     (before : List (List ℕ)) (line : List ℕ)

@@ -55,6 +55,7 @@ abbrev pub TellsReports : ℕ → Answer → Type 0
 TellsReports n (Ok (Reg m registration)) = m ≡ n
 TellsReports n _ = ⊥
 
+-- how registration is reported, once set, is told until it is set again
 abbrev pub KeepsReports : ModemStart → Type 0
 KeepsReports start =
     (n : ℕ) (s : ModemState) → IsSet start (RegReport n) sets_reports s → Tells s RegQuery (TellsReports n)
@@ -70,6 +71,7 @@ refused_as zero = codes "ERROR"
 refused_as (suc zero) = codes "+CME ERROR: 3"
 refused_as (suc (suc n)) = codes "+CME ERROR: operation not allowed"
 
+-- how errors are told, once set, stays until it is set again
 abbrev pub KeepsErrors : ModemStart → Type 0
 KeepsErrors start =
     (n : ℕ) (s : ModemState) → IsSet start (ErrorMode n) sets_errors s
@@ -83,6 +85,7 @@ sets_attached (AttachSet on) = true
 sets_attached (OperChoose Deregister) = true
 sets_attached _ = false
 
+-- attachment, once set, is told until it is set again
 abbrev pub KeepsAttached : ModemStart → Type 0
 KeepsAttached start =
     (on : Bool) (s : ModemState) → IsSet start (AttachSet on) sets_attached s
@@ -98,6 +101,7 @@ abbrev pub TellsContext : Context → Answer → Type 0
 TellsContext c (Ok (Contexts cs)) = find (λ (x : Context). x.cid == c.cid) cs ≡ Some c
 TellsContext c _ = ⊥
 
+-- a context, once set, is told until its number is set again
 abbrev pub KeepsContext : ModemStart → Type 0
 KeepsContext start =
     (cid : ℕ) (pdp : Pdp) (apn : List ℕ) (s : ModemState)
@@ -110,7 +114,7 @@ abbrev pub sets_oper : Command → Bool
 sets_oper (OperChoose choice) = true
 sets_oper _ = false
 
--- it is named by its number (format 2)
+-- an operator is named by its number (format 2)
 abbrev pub IsNamed : List ℕ → Option NamedOper → Type 0
 IsNamed oper None = ⊥
 IsNamed oper (Some named) = (named.format ≡ 2) × (named.oper ≡ oper)
@@ -122,6 +126,7 @@ TellsOper (Manual oper) (Ok (Oper mode named)) = (mode ≡ 1) × IsNamed oper na
 TellsOper Deregister (Ok (Oper mode named)) = (mode ≡ 2) × (named ≡ None)
 TellsOper choice _ = ⊥
 
+-- the choice of an operator, once made, is told until it is made again
 abbrev pub KeepsOper : ModemStart → Type 0
 KeepsOper start =
     (choice : OperChoice) (s : ModemState) → IsSet start (OperChoose choice) sets_oper s

@@ -41,7 +41,7 @@ pub record KeptFits (e : End) (came went : List ℕ) (k : Kept) (past : List Act
   pub deframes : Deframes taken wired.came k.deframer
   pub went_is : went ++ k.out ≡ flat_map spelling.spelled wired.gone
 
--- it fits what the past went on to by acts of a kind
+-- what is kept fits what the past went on to by acts of a kind
 pub record KeptFrom (may : Act → Bool) (e : End) (came went : List ℕ) (past : List Act) (k : Kept) :
     Type 0 where
   pub now : List Act
@@ -49,17 +49,18 @@ pub record KeptFrom (may : Act → Bool) (e : End) (came went : List ℕ) (past 
   pub only : list_all may later.newer ≡ true
   pub fits : KeptFits e came went k now
 
--- whatever past it fits, it goes on by acts of a kind to one that it fits, with the line as it was
+-- whatever past it fits, what is kept goes on by acts of a kind to one that it fits, with the line as it
+-- was
 abbrev pub KeptGoes : (Act → Bool) → Kept → Kept → Type 0
 KeptGoes may old new =
     (e : End) (came went : List ℕ) (past : List Act) → KeptFits e came went old past
     → KeptFrom may e came went past new
 
--- it has closed down, and all is written
+-- the modem has closed down, and all is written
 abbrev pub is_ended : Kept → Bool
 is_ended k = k.core.closed && ((length k.out == 0) && (length k.core.station.queue == 0))
 
--- how it begins
+-- what a simulated modem keeps as it begins
 pub record BeginsAt (n1 : ℕ) (v : stations.Station) (boxes : List Box) (own_n1 : ℕ) (unfed : List ℕ)
     (d : Deframing) (out : List ℕ) : Type 0 where
   pub station_is : v ≡ stations.new_station Responder n1
@@ -86,6 +87,7 @@ pub record Sight (X : Type 0) : Type 0 where
   pub empty_reads : X → ℕ
   pub stalled_writes : X → ℕ
 
+-- what is seen of a line, by its trait's words
 abbrev pub sight :
     {X : Type 0} → (received sent : X → List ℕ) → (calls failures empty_reads stalled_writes : X → ℕ) → Sight X
 sight received sent calls failures empty_reads stalled_writes = record {
@@ -102,7 +104,7 @@ pub record SimState (X : Type 0) : Type 0 where
   pub line : X
   pub kept : Kept
 
--- it has closed down, and all is written
+-- the simulated modem has closed down, and all is written
 abbrev pub has_ended : {X : Type 0} → SimState X → Bool
 has_ended s = is_ended s.kept
 
@@ -143,7 +145,7 @@ pub record SimFrom {X : Type 0} (received sent : X → List ℕ) (at : LineAt) (
   pub later : IsLater past now
   pub fits : FitsSim received sent at e s now
 
--- whatever past it fits, it goes on to one that it fits
+-- whatever past it fits, a simulated modem goes on to one that it fits
 abbrev pub SimGoes : {X : Type 0} → (received sent : X → List ℕ) → SimState X → SimState X → Type 0
 SimGoes received sent old new =
     (at : LineAt) (e : End) (past : List Act) → FitsSim received sent at e old past
@@ -166,7 +168,7 @@ pub record Simulates (e : End) (came went : List ℕ) (k : Kept) (past : List Ac
 abbrev pub state_shown : ℕ → List Act → ChannelState
 state_shown d past = as_shown (state_of Responder d (wire past))
 
--- it has closed down, and all frames sent are written
+-- the past has closed down, and all frames sent in it are written
 pub record IsOver (went : List ℕ) (past : List Act) : Type 0 where
   pub closed : is_closed_down past ≡ true
   pub written : went ≡ flat_map spelling.spelled (sent past)

@@ -1,4 +1,5 @@
--- The modem: what it answers to a command line, and its state afterwards
+-- The modem, by three tables (what a command is refused with, the state after it, what it tells), which the
+-- law that an answer is read back shares: what it answers to a command line, and its state afterwards
 -- (V.250, 5.2 and 5.7; 27.007, 7.2, 7.3, 8.3, 8.5, 9.1, 9.2, 10.1.1, 10.1.9).
 use Rattle.std.specs.Prelude.{ℕ, ◌-◌, ◌==◌, nat_lt, Bool, true, false, List, [], ◌∷◌, ◌++◌, map, fold, Option, Some, None, unwrap_or, if◌then◌else◌, codes}
 use Rattle.std.specs.Fmt.{decimal}
@@ -186,6 +187,7 @@ error_text mode number =
     else if mode == 1 then codes "+CME ERROR: " ++ decimal number
     else codes "+CME ERROR: " ++ unwrap_or (cme_text number) []
 
+-- a line of an answer with this text
 abbrev pub line_of : List ℕ → AnswerLine
 line_of text = record { text = text }
 
@@ -227,6 +229,7 @@ oper_name format number =
     else if format == 1 then codes "N" ++ number
     else number
 
+-- the operator in the form that was asked for: how it was chosen, and its name
 abbrev pub named_oper_text : ℕ → OperChoice → List ℕ
 named_oper_text format Automatic =
     codes "+COPS: 0," ++ decimal format ++ codes "," ++ in_quotes (oper_name format (codes "00101")) ++ codes ",7"
@@ -244,6 +247,7 @@ abbrev pub status_text : ℕ → Bool → List ℕ
 status_text n false = codes "0"
 status_text n true = codes "1" ++ cell_text n
 
+-- how the lines of a domain begin
 abbrev pub domain_name : Domain → List ℕ
 domain_name Packet = codes "+CGREG: "
 domain_name Evolved = codes "+CEREG: "
@@ -252,11 +256,12 @@ domain_name Evolved = codes "+CEREG: "
 abbrev pub registration_text : Domain → ℕ → Bool → List ℕ
 registration_text d n registered = domain_name d ++ decimal n ++ codes "," ++ status_text n registered
 
--- how changes of a registration are reported
+-- how changes of the registration of this domain are reported, 0 to 2
 abbrev pub reports_of : Words → Domain → ℕ
 reports_of w Packet = w.packet_reports
 reports_of w Evolved = w.evolved_reports
 
+-- what a modem with words keeps, with this way of reporting a domain
 abbrev pub with_reports : Words → Domain → ℕ → Words
 with_reports w Packet n = record w { packet_reports = n }
 with_reports w Evolved n = record w { evolved_reports = n }
@@ -266,7 +271,7 @@ abbrev pub word_refusal : ModemState → Word → Option ℕ
 word_refusal s Subscriber = lock_error s.lock
 word_refusal s _ = None
 
--- what it is told before OK
+-- what a command of the second table is told before OK
 abbrev pub word_told : Words → ModemState → Word → List (List ℕ)
 word_told w s Identity = codes "Cimbaloty simulated modem" ∷ []
 word_told w s Manufacturer = codes "Cimbaloty" ∷ []
@@ -291,7 +296,7 @@ switched n w s =
     else if n == 1 then record s { oper = Automatic; words = Some (record w { functionality = n }) }
     else record s { oper = Deregister; attached = false; words = Some (record w { functionality = n }) }
 
--- the state after it
+-- the state after a command of the second table
 abbrev pub word_after : Words → ModemState → Word → ModemState
 word_after w s Reset = record s {
   reports = 0;
@@ -310,9 +315,11 @@ pub record Ran : Type 0 where
   pub told : List AnswerLine
   pub error : Option (List ℕ)
 
+-- no command of the line was done yet
 abbrev pub nothing_ran : ModemState → Ran
 nothing_ran s = record { state = s; told = []; error = None }
 
+-- what a command of the first table comes to, refused or carried out
 abbrev pub ran_command : Option ℕ → Ran → Command → Ran
 ran_command None r c = record {
   state = after_command r.state c;
@@ -325,6 +332,7 @@ ran_command (Some number) r c = record {
   error = Some (error_text r.state.errors number);
 }
 
+-- what a command of the second table comes to, refused or carried out
 abbrev pub ran_word : Option ℕ → Words → Ran → Word → Ran
 ran_word None w r x = record {
   state = word_after w r.state x;
@@ -337,6 +345,7 @@ ran_word (Some number) w r x = record r { error = Some (error_text r.state.error
 abbrev pub ran_unknown : Ran → Ran
 ran_unknown r = record r { error = Some (codes "ERROR") }
 
+-- what a command that isn't of the first table comes to
 abbrev pub ran_other : Option Words → Ran → Option Word → Ran
 ran_other (Some w) r (Some x) = ran_word (word_refusal r.state x) w r x
 ran_other words r word = ran_unknown r
@@ -351,6 +360,7 @@ abbrev pub ran_unless : Option (List ℕ) → Ran → List ℕ → Ran
 ran_unless (Some error) r text = r
 ran_unless None r text = ran_text (command_of text) r text
 
+-- what the next command of the line comes to, unless one before it was refused
 abbrev pub ran_next : Ran → List ℕ → Ran
 ran_next r text = ran_unless r.error r text
 
@@ -359,6 +369,8 @@ abbrev pub divided_by : Option Command → List ℕ → Option (List (List ℕ))
 divided_by (Some c) line = Some (line ∷ [])
 divided_by None line = commands_in line
 
+-- the commands of a line: itself, where it is a command of the first table, or else those that it is
+-- divided into
 unfoldable pub line_commands : List ℕ → Option (List (List ℕ))
 line_commands line = divided_by (command_of line) line
 
@@ -366,7 +378,7 @@ abbrev pub final_text : Option (List ℕ) → List ℕ
 final_text None = codes "OK"
 final_text (Some error) = error
 
--- a report of a registration, where they are on
+-- the report of a registration, where reports are on
 abbrev pub report_texts : List ℕ → ℕ → Bool → List (List ℕ)
 report_texts name n registered = if n == 0 then [] else (name ++ status_text n registered) ∷ []
 
@@ -376,6 +388,7 @@ domain_reports (Some w) registered =
     report_texts (codes "+CGREG: ") w.packet_reports registered
     ++ report_texts (codes "+CEREG: ") w.evolved_reports registered
 
+-- the reports of all registrations whose reports are on
 abbrev pub all_reports : ModemState → Bool → List (List ℕ)
 all_reports s registered =
     report_texts (codes "+CREG: ") s.reports registered ++ domain_reports s.words registered

@@ -12,7 +12,7 @@ use Rattle.modem_sim.specs.Cores.{Core, Fits, GoesFrom, HasNoneToDo, HasReleased
 use Rattle.modem_sim.specs.Sims.{Kept, KeptFits, LineAt, Sight, SimState, FitsSim}
 use Rattle.modem_sim.specs.Turns.{DoesEach, Exchanges, Exchange, HandsOn, Leaves, NoneIsThere, ReadHasRoom, Offers, Read, Write, calls_made, count_after, empty_after, has_moved, left_of, octets_read, octets_written, stalled_after}
 
--- whatever past it fits, it still does
+-- what is kept still fits whatever past it fitted
 abbrev pub KeptStays : Kept → Kept → Type 0
 KeptStays old new =
     (e : End) (came went : List ℕ) (past : List Act) → KeptFits e came went old past
@@ -33,15 +33,17 @@ pub data MayOffer (e : End) (w : Wired) (past : List Act) (d : ℕ) (c : Core) :
   offers_none : Fits e w c past → MayOffer e w past d c false
   offers_some : OffersFrom e w past d c → MayOffer e w past d c true
 
+-- whatever past an end fits, octets of d were handed to its station
 abbrev pub Offering : Core → Core → ℕ → Type 0
 Offering old new d = (e : End) (w : Wired) (past : List Act) → Fits e w old past → OffersFrom e w past d new
 
--- it goes on so, and hands on all of that connection
+-- octets of a connection are handed to the station, if any, and then all of it is handed on
 pub record HandsOne (e : End) (w : Wired) (past : List Act) (d : ℕ) (c : Core) (some : Bool) : Type 0 where
   pub from : MayOffer e w past d c some
   pub all : IsHandedOn c d
 
--- whatever past it fits; and it says whether it handed on octets, or let go a hold that was over
+-- octets are handed to the station on one connection, whatever past the end fits; moved says whether any
+-- were, or a hold that was over was let go
 pub record OffersOn (old new : Core) (d : ℕ) (moved : Bool) : Type 0 where
   pub some : Bool
   pub hands : (e : End) (w : Wired) (past : List Act) → Fits e w old past → HandsOne e w past d new some
@@ -53,21 +55,22 @@ pub record OffersOn (old new : Core) (d : ℕ) (moved : Bool) : Type 0 where
 abbrev pub OthersStay : Core → Core → ℕ → Type 0
 OthersStay old new d = (n : ℕ) → (d == n) ≡ false → box_at new n ≡ box_at old n
 
--- it goes on by handing octets to the station, if any, and hands on all
+-- octets are handed to the station, if any, and then all is handed on
 pub record HandsFrom (e : End) (w : Wired) (past : List Act) (c : Core) (some : Bool) : Type 0 where
   pub from : GoesFrom is_handing e w past c
   pub brings : list_any is_handing from.later.newer ≡ some
   pub all : AllHanded c
 
--- whatever past it fits; and it says whether it handed on octets, or let go a hold that was over
+-- octets are handed to the station on all connections, whatever past the end fits; moved says whether any
+-- were, or a hold that was over was let go
 pub record OffersAll (old new : Core) (moved : Bool) : Type 0 where
   pub some : Bool
   pub hands : (e : End) (w : Wired) (past : List Act) → Fits e w old past → HandsFrom e w past new some
   pub lets_go : moved ≡ true → some ≡ false → holds_over new.boxes < holds_over old.boxes
   pub none : moved ≡ false → some ≡ false
 
--- it goes on to a past in which all is handed to the station, and a frame is given on whose octets are put
--- into the output
+-- the past goes on: all is handed to the station, and a frame is given on whose octets are put into the
+-- output
 pub record PutsFrom (e : End) (came went : List ℕ) (past : List Act) (k : Kept) (some : Bool) : Type 0 where
   pub between : List Act
   pub hands : HandsOn e past between
@@ -78,7 +81,7 @@ pub record PutsFrom (e : End) (came went : List ℕ) (past : List Act) (k : Kept
   pub out : k.out ≡ spelling.spelled frame
   pub fits : KeptFits e came went k now
 
--- or to one in which all is handed to the station, and no frame is there
+-- the past goes on: all is handed to the station, and no frame is there
 pub record NoneFrom (e : End) (came went : List ℕ) (past : List Act) (k : Kept) (some : Bool) : Type 0 where
   pub now : List Act
   pub hands : HandsOn e past now
@@ -116,7 +119,7 @@ pub data HasLoaded (old new : Kept) : Type 0 where
   ready : length old.out < length new.out → HasLoaded old new
   let_go : new.out ≡ old.out → holds_over new.core.boxes < holds_over old.core.boxes → HasLoaded old new
 
--- it says whether octets were handed to the station, or one of these was done
+-- moved says whether octets were handed to the station, or something was loaded
 pub record LoadsBy (old new : Kept) (moved : Bool) : Type 0 where
   pub some : Bool
   pub loads : Loads old new some
@@ -138,6 +141,7 @@ pub record TakesFrame (old new : Kept) : Type 0 where
       (e : End) (came went : List ℕ) (past : List Act) → KeptFits e came went old past
       → KeptFits e came went new (after_wire_act e past (station.Got frame))
 
+-- no frame was taken, since there was none or no room for what it calls for
 pub record TakesNone (old new : Kept) : Type 0 where
   pub same : new ≡ old
   pub none : HasNoneToTake old
@@ -191,10 +195,11 @@ pub data LeavesUndone (k : Kept) : Type 0 where
 
 -- ## All of them together
 
+-- what is kept, at this line
 abbrev pub at_line : {X : Type 0} → X → Kept → SimState X
 at_line line k = record { line = line; kept = k }
 
--- it goes on to a past that it fits, by all that a turn does
+-- by all that a turn does, the past goes on to one that the simulated modem fits
 pub record WentOn {X : Type 0} (see : Sight X) (at : LineAt) (e : End) (past : List Act) (old new : SimState X)
     (t : Exchange) (moved : Bool) : Type 0 where
   pub now : List Act
@@ -212,7 +217,7 @@ pub record StoodStill (k : Kept) (t : Exchange) : Type 0 where
   pub reads : k.unfed ≡ [] → t.read ≡ Some (record { room = 512; octets = [] })
   pub waits : k.deframer.next ≡ None → k.unfed ≡ []
 
--- each part was done once, and so much came of it
+-- each part of a turn was done once, and moved says whether anything came of it
 pub record GoesOnce {X : Type 0} (see : Sight X) (old new : SimState X) (moved : Bool) : Type 0 where
   pub exchange : Exchange
   pub exchanges : Exchanges see old new exchange

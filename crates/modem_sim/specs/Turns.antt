@@ -85,7 +85,7 @@ abbrev pub empty_after : Option Read → ℕ → ℕ
 empty_after None count = count
 empty_after (Some r) count = counted_if_none r.room (length r.octets) count
 
--- so a turn exchanged with its line
+-- what a turn exchanged with its line
 pub record Exchanges {X : Type 0} (see : Sight X) (old new : SimState X) (t : Exchange) : Type 0 where
   pub came : see.received new.line ≡ see.received old.line ++ octets_read t.read
   pub room : ReadHasRoom t.read
@@ -275,7 +275,8 @@ pub data Means {X : Type 0} (see : Sight X) (e : End) (came went : List ℕ) (ol
       → Means see e came went old new t acts past Idle
   is_over : is_ended new.kept ≡ true → Means see e came went old new t acts past Ended
 
--- it goes on to a past that it fits, by all that a turn does, and of that the answer says the truth
+-- by all that a turn does, the past goes on to one that the simulated modem fits; and of that its answer
+-- says the truth
 pub record TurnFrom {X : Type 0} (see : Sight X) (at : LineAt) (e : End) (past : List Act)
     (old new : SimState X) (t : Exchange) (says : SimTurn) : Type 0 where
   pub now : List Act

@@ -15,6 +15,8 @@ pub record IsAsStandard (s : ModemState) (line : List ℕ) : Type 0 where
   pub answer : (step s line).answer ≡ (step (bare s) line).answer ++ map line_of (announced s (step s line).state)
   pub state : bare (step s line).state ≡ (step (bare s) line).state
 
+-- to a command of the first table a modem with words answers as one without, while it names the operator by
+-- its number
 abbrev pub AnswersAsStandard : Type 0
 AnswersAsStandard =
     (s : ModemState) (w : Words) (line : List ℕ) → s.words ≡ Some w → w.oper_format ≡ 2

@@ -18,7 +18,7 @@ basic_word t =
     else if bytes_eq t (codes "ati") || bytes_eq t (codes "ati0") then Some Identity
     else None
 
--- what the modem is: 27.007, 5.1 to 5.4 and 5.6; V.250, 6.1.9
+-- commands that ask what the modem is (27.007, 5.1 to 5.4 and 5.6; V.250, 6.1.9)
 abbrev pub identity_word : List ℕ → Option Word
 identity_word t =
     if bytes_eq t (codes "at+cgmi") then Some Manufacturer
@@ -29,7 +29,8 @@ identity_word t =
     else if bytes_eq t (codes "at+gcap") then Some Capabilities
     else None
 
--- 27.007, 8.2, without a reset; how the operator is named, 7.3
+-- commands for the modem's functions, without a reset (27.007, 8.2), and for the operator's form (27.007,
+-- 7.3)
 abbrev pub phone_word : List ℕ → Option Word
 phone_word t =
     if bytes_eq t (codes "at+cfun?") then Some FunctionalityQuery
@@ -42,7 +43,7 @@ phone_word t =
     else if bytes_eq t (codes "at+cops=3,2") then Some (OperFormat 2)
     else None
 
--- reports of registration: 27.007, 7.2, 10.1.20 and 10.1.22
+-- commands for reports of registration (27.007, 7.2, 10.1.20 and 10.1.22)
 abbrev pub report_word : List ℕ → Option Word
 report_word t =
     if bytes_eq t (codes "at+creg=?") then Some RegForms
@@ -67,5 +68,6 @@ or_else None other = other
 abbrev pub word_in : List ℕ → Option Word
 word_in t = or_else (basic_word t) (or_else (identity_word t) (or_else (phone_word t) (report_word t)))
 
+-- the command of the second table that a text is, its letters in either case
 unfoldable pub word_of : List ℕ → Option Word
 word_of text = word_in (lowered text)

@@ -221,7 +221,7 @@ impl Channel {
     }
 }
 
-/// So many lines ended on a connection, which all of them hear.
+/// So many lines ended on a connection. Every connection hears of each command, so that no count can overflow.
 pub(crate) fn hear_all(channels: &mut Vec<Channel>, dlci: Dlci, ended: usize)
     ensures { channels.new.items ≡ map (box_heard dlci.number ended) channels.old.items }
 {

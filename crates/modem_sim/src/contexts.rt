@@ -16,7 +16,7 @@ pub(crate) struct PdpContext {
 }
 
 impl PdpContext {
-    /// The same context once more.
+    /// A copy of the context.
     fn copy(&self) -> Result<PdpContext, AllocError>
         ensures { IfOk result (λ copy. copy ≡ self.now) }
     {
@@ -61,7 +61,7 @@ impl PdpContexts {
         self.contexts.as_slice()
     }
 
-    /// The same contexts once more.
+    /// A copy of the contexts.
     pub(crate) fn copy(&self) -> Result<PdpContexts, AllocError>
         ensures { IfOk result (λ copy. copy ≡ self.now) }
     {

@@ -9,7 +9,7 @@ pub enum SimError {
     /// 1: memory was refused.
     #[error("out of memory")]
     NoMemory,
-    /// 2: a frame can't have so many octets of information, or is to have too few.
+    /// 2: N1 isn't 31 to 32767.
     #[error("N1 is 31 to 32767")]
     BadN1,
     /// 3: the line failed.

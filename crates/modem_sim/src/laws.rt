@@ -17,29 +17,28 @@ ghost use Rattle.modem_sim.specs.Sims.{IsOver, Kept, KeptFits, Simulates, is_end
 ghost use Rattle.modem_sim.specs.TurnRows.{CallsNothing, EndRows, MovedRows, RightIdle, WantRows, WrongCalls, WrongCounts, WrongFailures, WrongGivings, WrongIdle, WrongTurns};
 ghost use Rattle.modem_sim.specs.HistoryRows.{GoodRows, WrongAnswers, WrongSteps, WrongOtherwise};
 
-/// The command that the step takes a line for is the only one whose text it is, and there is none where it is
-/// no command's.
+/// The step reads a line as the one command whose text it is, and as none where it is no command's.
 #[tactic(auto, using(crate::proofs::modem_steps::ReadCommands::command_reads))]
 pub fn commands()
     ensures { (line : List ℕ) → Reads (IsTextOf line) (Ok (command_of line)) }
 {}
 
-/// Whatever lines a modem was given, it answers the next one well: with one final code, at the end; with no line
-/// that reads as unsolicited; and a command with lines that are read back as the reply that its state says.
+/// Whatever lines a modem was given, it answers the next one well: with one final code, at the end; with no line that
+/// reads as unsolicited; and, to a command, with lines that are read back as the reply that its state says.
 pub fn answers()
     ensures { (start : ModemStart) → IsStart start → AnswersWellAlways start }
 {}
 
-/// A context that is set is found by its number and the others as before; a modem's contexts have numbers of their
-/// own, which rise.
+/// A context that is set is found by its number, and the others are as before. A modem's contexts stand in rising order
+/// of their numbers, each number once.
 #[tactic(auto, using(crate::proofs::law_proofs::ContextOrder::sets_one, crate::proofs::law_proofs::ContextOrder::reached_in_order))]
 pub fn contexts()
     ensures sets { (new : PdpContext) (contexts : List PdpContext) (n : ℕ) → SetsOne new contexts n }
     ensures rise { (start : ModemStart) (lines : List (List ℕ)) → AreInOrder (reached start lines).contexts }
 {}
 
-/// Whatever lines a modem was given: what a line set that it accepted is told later, after whatever lines that don't set the same: reports of
-/// registration, how errors are told, attachment, a context by its number, the operator.
+/// What a modem was told and accepted it tells later, after any lines that don't set the same: reports of registration,
+/// how errors are told, attachment, a context by its number, the operator. It holds whatever lines came before.
 pub fn settings()
     ensures reports { (start : ModemStart) → IsStart start → KeepsReports start }
     ensures errors { (start : ModemStart) → IsStart start → KeepsErrors start }
@@ -48,9 +47,9 @@ pub fn settings()
     ensures oper { (start : ModemStart) → IsStart start → KeepsOper start }
 {}
 
-/// Three wrong PINs lock a modem, whatever comes then; the right one before that makes it ready, and nothing else does. Before it is ready
-/// nothing of its network, its contexts and its attachment changes. It is registered where it is ready and not deregistered, may attach
-/// there, and is attached nowhere else.
+/// Three wrong PINs lock a modem, whatever comes then. The right one before that makes it ready, and nothing else does.
+/// Until it is ready its network, contexts and attachment don't change. It is registered where it is ready and not
+/// deregistered; it may attach there, and is attached nowhere else.
 pub fn pins()
     ensures pin { (start : ModemStart) (pin : List ℕ) → IsStart start → start.pin ≡ Some pin
         → KeepsPin start pin }
@@ -67,8 +66,8 @@ pub fn worked_examples()
     ensures network_left { NetworkLeft }
 {}
 
-/// On a line that is a command of the first table a modem with words answers as one without them, while it tells the operator by its
-/// number, and announces a change of registration behind that.
+/// To a command of the first table a modem with words answers as one without them, while it tells the operator by its
+/// number. Behind the answer it announces a change of registration.
 #[tactic(auto, using(crate::proofs::law_proofs::WordedModems::answers_as_standard))]
 pub fn words()
     ensures { AnswersAsStandard }
@@ -118,8 +117,8 @@ pub fn worked_histories()
     ensures otherwise { WrongOtherwise }
 {}
 
-/// Worked turns: what Idle and Moved say of a right simulated modem, and what they don't say of a wrong one; when its line has failed,
-/// and which end is kept; where memory is wanted, and what a poll doesn't give.
+/// Worked turns of right and wrong simulated modems: what Idle and Moved say, when the line has failed, which end is
+/// kept, where memory is wanted, and what a poll doesn't give.
 #[tactic(auto, using(crate::proofs::rows::TurnRowFacts::right_idle, crate::proofs::rows::TurnRowFacts::wrong_idle, crate::proofs::rows::TurnRowFacts::moved_rows, crate::proofs::rows::TurnRowFacts::wrong_failures, crate::proofs::rows::TurnRowFacts::end_rows, crate::proofs::rows::TurnRowFacts::want_rows, crate::proofs::rows::TurnRowFacts::wrong_givings))]
 pub fn worked_turns()
     ensures right { RightIdle }

@@ -1,4 +1,6 @@
-//! A modem, to test its users with (3GPP TS 27.007, clauses 5 to 10, in the line syntax of ITU-T V.250, clause 5).
+//! A simulated modem, to test its users with. `Modem` answers command lines (3GPP TS 27.007, clauses 5 to 10, in the
+//! line syntax of ITU-T V.250, clause 5). `Sim` puts a modem at the far end of a multiplexed line (3GPP TS 27.010),
+//! with a script of what it does of its own accord.
 #![tactic(auto)]
 
 mod answers;

@@ -100,7 +100,7 @@ impl Modem {
         modem
     }
 
-    /// Whether it repeats a command: where it is to always, and where a modem with words was told to (V.250, 6.2.4).
+    /// Whether it repeats commands (V.250, 6.2.4): with `always`, or where a modem with words was told to.
     pub fn echoes(&self, always: bool) -> bool
         ensures { result ≡ echoes always self.now }
     {
@@ -113,7 +113,7 @@ impl Modem {
         }
     }
 
-    /// The same modem once more.
+    /// A copy of the modem.
     pub fn copy(&self) -> Result<Modem, AllocError>
         ensures { IfOk result (λ copy. copy ≡ self.now) }
     {
@@ -124,9 +124,9 @@ impl Modem {
         })
     }
 
-    /// Does what a command line says, without its CR, and answers it: lines, the last one a final code; a modem with words
-    /// announces a change of registration behind that, and doesn't answer a line without `AT`. At 1 NoMemory the modem is as it
-    /// was.
+    /// Carries out a command line, given without its CR, and answers it in lines, the last a final code. A modem with
+    /// words announces a change of registration behind that, and gives no lines for a line without `AT`. Refused with 1
+    /// NoMemory, which leaves the modem as it was.
     #[tactic(auto, using(crate::proofs::modem_steps::StandardModems::step_standard, crate::proofs::modem_steps::StandardModems::step_worded))]
     pub fn execute(&mut self, line: &[u8]) -> Result<Vec<AnswerLine>, SimError>
         ensures answer { IfOk result (λ answer. answer.items ≡ (step self.old line.now).answer) }

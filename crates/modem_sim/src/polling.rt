@@ -1,4 +1,4 @@
-//! A simulated modem as a future.
+//! A simulated modem as a future. It keeps no handle, since no turn waits.
 ghost use Rattle.std.specs.Prelude.{◌≡◌, ◌+◌, ◌≤◌};
 ghost use Rattle.modem_sim.specs.Sims.{SimGoes, end_given, sight};
 ghost use Rattle.modem_sim.specs.Polls.{Polls, Runs, with_given};
@@ -48,9 +48,9 @@ impl<L: SerialLine> Sim<L> {
         }
     }
 
-    /// What a poll gives, if anything: the end that one gave before, after which nothing is done; else that to which at most 64
-    /// turns lead, which is kept as the end, but for 1 NoMemory. A future of one's own that hands the simulated modem on calls it,
-    /// since of one that is polled only the output is known.
+    /// Makes a poll, and gives its end if it has one: the end that an earlier poll gave, after which nothing is done;
+    /// else that to which at most 64 turns lead, which is kept as the end unless it is 1 NoMemory. For a future of your
+    /// own that hands the simulated modem on: of a future that is polled only the output is known.
     pub fn advance(&mut self) -> Option<Result<SimTurn, SimError>>
         ensures polls { Polls (sight L.received L.sent L.calls L.failures L.empty_reads L.stalled_writes) self.old self.new result }
         ensures goes { SimGoes L.received L.sent self.old self.new }

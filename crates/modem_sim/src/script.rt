@@ -12,14 +12,16 @@ pub struct Script {
     pub steps: Steps,
 }
 
-/// A step of a script. It is due once so many command lines have come, on all connections together. Due steps are done
-/// in their order, each once the connections that it names are open.
+/// A step of a script. It is due once that many command lines have come, on all connections together. Due steps are
+/// done in their order, each once the connections that it names are open and the station has room.
 ///
 /// A step on connection 0 other than Flow and CloseDown is passed over, and so is one with a line that has no octet, more
 /// than 512, or a CR or LF.
 #[derive(Drop, Debug)]
 pub struct Step {
+    /// How many command lines have to have come.
     pub after: u64,
+    /// What is done then.
     pub act: StepAct,
 }
 
@@ -30,8 +32,9 @@ pub enum StepAct {
     Announce(Dlci, Text),
     /// Lets data come on a connection (true) or not: an MSC, for connection 0 an FCon or FCoff (27.010, 5.4.6.3).
     Flow(Dlci, bool),
-    /// Holds back the answers on the first connection until the next command has come on the second. A close of the first
-    /// one, or its opening anew, ends that and drops what was held back.
+    /// Holds back the answers on the first connection until the next command has come on the second; unsolicited lines
+    /// pass. A close of the first one, or its opening anew, ends that and drops what was held back. A later hold takes
+    /// the place of an earlier one.
     Hold(Dlci, Dlci),
     /// Closes a connection (27.010, 5.4.2).
     Disconnect(Dlci),

@@ -15,7 +15,7 @@ use serial_line::SerialLine;
 use std::alloc::Global;
 use std::marker::Model;
 
-/// What a turn came to.
+/// What a turn did.
 #[derive(Clone, Copy, Debug, PartialEq, Eq)]
 pub enum SimTurn {
     /// Octets came, went or were fed, a frame was got, octets were handed on, a step was done or passed over, a hold was let
@@ -27,9 +27,10 @@ pub enum SimTurn {
     Ended,
 }
 
-/// A simulated modem that wasn't made, with what was handed in.
+/// Why a simulated modem wasn't made, and all that was handed in.
 #[derive(Drop)]
 pub struct SimRefused<L: SerialLine> {
+    /// BadN1 or NoMemory.
     pub why: SimError,
     pub line: L,
     pub modem: Modem,
@@ -57,8 +58,9 @@ impl<L: SerialLine> Sim<L> {
     ghost use Rattle.modem_sim.specs.Acts.{Act, End};
     ghost use Rattle.modem_sim.specs.Sims.{LineAt, state_shown};
 
-    /// A simulated modem to which nothing has happened yet, whatever its line did before. N1 is how many octets of information a
-    /// frame may have. Refusals, which hand everything back: 2 BadN1 where N1 isn't 31 to 32767, checked first; 1 NoMemory.
+    /// A simulated modem to which nothing has happened yet, whatever its line did before. N1 is the most octets of
+    /// information that a frame may have. Refusals, which hand everything back: 2 BadN1 where N1 isn't 31 to 32767,
+    /// checked first; 1 NoMemory.
     pub fn new(
         alloc: Global,
         line: L,
@@ -91,9 +93,10 @@ impl<L: SerialLine> Sim<L> {
         }
     }
 
-    /// Does each of these once: the steps that are due; offers the line what is to be written; where all is written, takes the
-    /// next outgoing frame; takes the frame at hand; reads. Refusals: 1 NoMemory, which drops nothing: what took memory is left,
-    /// and the next turn goes on; 3 Line, where the line fails; 4 Failed, in every turn after that, which does nothing.
+    /// Makes one turn: does the steps that are due, offers the line what is to be written, takes the next outgoing
+    /// frame where all is written, takes the frame at hand, and reads. Refusals: 1 NoMemory, which drops nothing: what
+    /// takes memory is left to the next turn; 3 Line, where the line fails; 4 Failed, in every later turn, which does
+    /// nothing.
     pub fn turn(&mut self) -> Result<SimTurn, SimError>
         ensures goes { SimGoes L.received L.sent self.old self.new }
         ensures turn { IfOk result (λ says. GoesTurn
@@ -157,8 +160,8 @@ impl<L: SerialLine> Sim<L> {
         self.kept.out.as_slice()
     }
 
-    /// The line, lent. What it fitted before it fits afterwards, where what was done left the octets received and sent as they
-    /// were.
+    /// Lends the line. The simulated modem still fits its past afterwards, if the octets that the line received and
+    /// sent stay as they were.
     pub fn line_mut(&mut self) -> &mut L
         ensures value { result.now ≡ self.old.line }
         ensures* lent { sem 𝓛
@@ -167,7 +170,7 @@ impl<L: SerialLine> Sim<L> {
         &mut self.line
     }
 
-    /// The line and the modem, as they are.
+    /// Gives back the line and the modem, as they are.
     pub fn finish(self) -> (L, Modem)
         ensures { (result.0 ≡ self.line) × (result.1 ≡ modem_of self) }
     {

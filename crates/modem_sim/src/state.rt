@@ -22,7 +22,7 @@ const NO_NETWORK_SERVICE: u32 = 30;
 pub(crate) enum Lock {
     /// Nothing.
     Ready,
-    /// It wants this PIN, and takes so many tries.
+    /// It wants this PIN, and takes so many tries. The PIN is forgotten once it is right: no other state looks at it.
     NeedPin { pin: Pin, tries: u8 },
     /// It wants its PUK.
     NeedPuk,
@@ -88,7 +88,7 @@ impl Lock {
         }
     }
 
-    /// The same once more.
+    /// A copy.
     fn copy(&self) -> Result<Lock, AllocError>
         ensures { IfOk result (λ copy. copy ≡ self.now) }
     {
@@ -119,7 +119,7 @@ impl Lock {
 impl ModemState {
     ghost use Rattle.modem_sim.specs.Steps.{is_registered, refusal_of, after_refusal, after_command};
 
-    /// The same state once more.
+    /// A copy of the state.
     pub(crate) fn copy(&self) -> Result<ModemState, AllocError>
         ensures { IfOk result (λ copy. copy ≡ self.now) }
     {
@@ -311,7 +311,7 @@ impl Words {
     }
 }
 
-/// The same choice once more.
+/// A copy of the choice.
 fn oper_copy(oper: &OperChoice) -> Result<OperChoice, AllocError>
     ensures { IfOk result (λ copy. copy ≡ oper.now) }
 {

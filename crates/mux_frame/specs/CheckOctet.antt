@@ -30,12 +30,12 @@ added (x ∷ xs) (b ∷ bs) = bit_sum x b ∷ added xs bs
 abbrev pub generator : List Bool
 generator = true ∷ false ∷ false ∷ false ∷ false ∷ false ∷ true ∷ true ∷ true ∷ []
 
--- one place of the long division: the generator is taken off where it goes, and the first bit is gone
+-- one step of the long division: the generator is added where the first bit is set, and that bit is gone
 abbrev pub divided_once : List Bool → List Bool
 divided_once [] = []
 divided_once (b ∷ bs) = drop 1 (if b then added generator (b ∷ bs) else b ∷ bs)
 
--- what n places of the long division leave
+-- what n steps of the long division leave
 abbrev pub divided : ℕ → List Bool → List Bool
 divided zero bs = bs
 divided (suc n) bs = divided n (divided_once bs)

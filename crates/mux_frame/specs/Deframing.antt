@@ -71,14 +71,14 @@ pub record Deframes (taken : List ℕ) (handed : List Frame) (d : Deframing) : T
   pub at_hand : AtHand d.n1 d.undecided d.next
   pub octets : AreOctets d.undecided
 
--- whatever was taken and handed out before, these octets are taken after it
+-- these octets are taken after whatever was taken and handed out before
 abbrev pub TakesIn : Deframing → List ℕ → Deframing → Type 0
 TakesIn old octets new =
     (taken : List ℕ) (handed : List Frame)
     → Deframes taken handed old
     → Deframes (taken ++ octets) handed new
 
--- whatever was taken and handed out before, the frame at hand is handed out after it
+-- the frame at hand is handed out after whatever was taken and handed out before
 abbrev pub HandsOver : Deframing → Deframing → Type 0
 HandsOver old new =
     (taken : List ℕ) (handed : List Frame) (f : Frame)

@@ -1,4 +1,4 @@
--- Verdicts as the code has them.
+-- Verdicts on candidates, as the code keeps them.
 use Rattle.circular_buffer.specs.Buffer.{Buffer}
 use Rattle.std.specs.Prelude.{◌≡◌, ◌≢◌, ℕ, ◌+◌, ◌≤◌, Bool, List, ◌∷◌, Option, None, Some, drop, length, if◌then◌else◌}
 use Rattle.mux_frame.specs.Deframing.{IsFront, IsSettled, SameReading, decision_on, next_in}

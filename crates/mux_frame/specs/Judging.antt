@@ -53,20 +53,20 @@ header_of x y k n indicator = record {
   check = check_octet_of (x ∷ y ∷ indicator);
 }
 
--- by the second length octet, after a first with EA not set
+-- the verdict by the second length octet, where the first has EA not set
 abbrev pub by_second_length : ℕ → ℕ → ℕ → Kind → ℕ → Option ℕ → Verdict
 by_second_length most x y k l None = unfinished
 by_second_length most x y k l (Some h) =
     if nat_lt most (l / 2 + 128 * h) then refused else fits (header_of x y k (l / 2 + 128 * h) (l ∷ h ∷ []))
 
--- by the length octets
+-- the verdict by the length octets
 abbrev pub by_length : ℕ → ℕ → ℕ → Kind → Option ℕ → Option ℕ → Verdict
 by_length most x y k None h = unfinished
 by_length most x y k (Some l) h =
     if nat_lt most (l / 2) then refused else
     (if l % 2 == 1 then fits (header_of x y k (l / 2) (l ∷ [])) else by_second_length most x y k l h)
 
--- by the control octet and those after it
+-- the verdict by the control octet and those after it
 abbrev pub by_kind : ℕ → ℕ → ℕ → Option Kind → Option ℕ → Option ℕ → Verdict
 by_kind n1 x y None l h = refused
 by_kind n1 x y (Some k) l h = by_length (most_info n1 k) x y k l h
@@ -75,22 +75,23 @@ abbrev pub by_control : ℕ → ℕ → Option ℕ → Option ℕ → Option ℕ
 by_control n1 x None l h = unfinished
 by_control n1 x (Some y) l h = by_kind n1 x y (kind_in y) l h
 
--- by the first four octets
+-- the verdict by the first four octets after a flag
 unfoldable pub by_header : ℕ → Option ℕ → Option ℕ → Option ℕ → Option ℕ → Verdict
 by_header n1 None y l h = unfinished
 by_header n1 (Some x) y l h =
     if x % 2 == 1 then (if nat_lt (x / 4) 62 then by_control n1 x y l h else refused) else refused
 
--- by the closing flag
+-- the verdict by the octet where the closing flag should stand
 abbrev pub by_flag : Header → Option ℕ → Verdict
 by_flag h None = unfinished
 by_flag h (Some x) = if x == flag then fits h else refused
 
--- by the check octet and the closing flag
+-- the verdict by the octets where the check octet and the closing flag should stand
 unfoldable pub by_end : Header → Option ℕ → Option ℕ → Verdict
 by_end h None close = unfinished
 by_end h (Some x) close = if x == h.check then by_flag h close else refused
 
+-- the verdict by the octets behind the header
 abbrev pub by_rest : List ℕ → Verdict → Verdict
 by_rest t unfinished = unfinished
 by_rest t refused = refused
@@ -108,7 +109,7 @@ frame_with h info = record { dlci = h.dlci; kind = h.kind; cr = h.cr; pf = h.pf;
 abbrev pub frame_at : Header → List ℕ → Frame
 frame_at h t = frame_with h (take h.info_len (drop h.size t))
 
--- no frame begins so
+-- no frame begins with these octets
 abbrev pub IsRefused : ℕ → List ℕ → Type 0
 IsRefused n1 t = (b x z : List ℕ) (f : Frame) → Spells n1 b f → b ++ flag ∷ x ≡ t ++ z → ⊥
 

@@ -22,8 +22,7 @@ const REMAINDERS: [u8; 256] = [
     0xB4, 0x25, 0x57, 0xC6, 0xB3, 0x22, 0x50, 0xC1, 0xBA, 0x2B, 0x59, 0xC8, 0xBD, 0x2C, 0x5E, 0xCF,
 ];
 
-/// The check octet of these octets: address, control and length octets of a frame (27.010,
-/// 5.2.1.6).
+/// The check octet (FCS) over the address, control and length octets of a frame (27.010, 5.2.1.6).
 pub fn check_octet(octets: &[u8]) -> u8
     ensures { result ≡ check_octet_of octets.now }
 {

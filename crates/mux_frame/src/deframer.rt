@@ -1,4 +1,4 @@
-//! Reads octets as frames, as they come (27.010, 5.2.3, 5.2.5 and 5.2.6.1).
+//! Reads frames from octets as they come (27.010, 5.2.3, 5.2.5 and 5.2.6.1).
 ghost use Rattle.std.specs.Prelude.{◌≡◌, ◌≢◌, ◌↔◌, ◌⊎◌, ◌+◌, ◌-◌, ◌<◌, ◌≤◌, ◌++◌, [], ◌∷◌, List, ℕ, None, Some, length, min, option_map, take, IfOk, IfSome, IsErrOf, IsSome, OnErr, OnOk};
 ghost use Rattle.std.specs.Borrow.{sem};
 ghost use Rattle.std.specs.Io.BufRead.{Rests};
@@ -15,7 +15,8 @@ use circular_buffer::HeapCircularBuffer;
 use std::alloc::Global;
 use std::marker::Model;
 
-/// The least room of the ring, in octets. With so much a short frame seldom wraps round the ring's end.
+/// The least room of the ring, in octets. N1 + 7 would do; but with so much a short frame seldom wraps round the ring's
+/// end, and whoever reads 4096 octets at a time can feed them all at once.
 const LEAST_ROOM: usize = 8192;
 
 /// How many octets the ring has room for: at least N1 + 7, which is a whole frame: two flags, address, control, two length octets,
@@ -26,8 +27,8 @@ fn room_for(n1: u16) -> usize
     (usize::from(n1) + 7).max(LEAST_ROOM)
 }
 
-/// Reads octets as frames, however the octets are cut. Octets that aren't decided yet wait in a ring. A frame lies there until
-/// `advance`. Where it wraps round the ring's end, `peek` puts it into one piece.
+/// Reads frames from octets, however the octets are cut. Undecided octets wait in a ring. A frame stays there until
+/// `advance`; `peek` puts one that wraps round the ring's end into one piece.
 #[derive(Drop)]
 pub struct Deframer {
     octets: HeapCircularBuffer<u8>,
@@ -76,7 +77,7 @@ impl Deframer {
         })
     }
 
-    /// Takes octets from the front of these, as many as there is room for, and says how many.
+    /// Takes as many octets from the front of these as there is room for, and gives their number.
     pub fn feed(&mut self, octets: &[u8]) -> usize
         ensures count { result ≡
             min (length octets.now) (ring_room self.old.n1 - length self.old.undecided) }
@@ -91,7 +92,7 @@ impl Deframer {
         count
     }
 
-    /// The next frame, lent. It stays until `advance`.
+    /// Lends the next frame, if one is whole. It stays until `advance`.
     pub fn peek(&mut self) -> Option<FrameView<'_>>
         ensures frame { option_map frame_of result ≡ self.old.next }
         ensures room { IfSome result (λ f. length f.info.now ≤ most_info self.old.n1 f.kind) }
@@ -118,7 +119,7 @@ impl Deframer {
         }
     }
 
-    /// Appends the rest of what was taken: the octets that aren't decided yet. Requires that no frame is at hand: the last `peek`
+    /// Appends the rest of what was taken: the undecided octets. Requires that no frame is at hand: the last `peek`
     /// answered `None`, and nothing was fed since. Refused with 2 NoMemory, which leaves `out` as it was.
     pub fn rest(&self, out: &mut Vec<u8>) -> Result<(), FrameError>
         requires { self.now.next ≡ None }

@@ -45,27 +45,33 @@ impl Kind {
     }
 }
 
-/// A frame whose information is lent.
+/// A frame whose information is lent, as a deframer gives it and `write_frame` takes it.
 #[derive(Clone, Copy, Debug)]
 pub struct FrameView<'a> {
+    /// The connection, by the address octet (27.010, 5.2.1.2).
     pub dlci: Dlci,
+    /// The kind, by the control octet (27.010, 5.2.1.3).
     pub kind: Kind,
     /// The C/R bit of the address octet.
     pub cr: bool,
     /// The P/F bit of the control octet.
     pub pf: bool,
+    /// The information: at most N1 octets in UIH, none in the other kinds (27.010, 5.2.1.4).
     pub info: &'a [u8],
 }
 
-/// A frame with its information.
+/// A frame that owns its information.
 #[derive(Drop, Debug)]
 pub struct FrameBuf {
+    /// The connection, by the address octet (27.010, 5.2.1.2).
     pub dlci: Dlci,
+    /// The kind, by the control octet (27.010, 5.2.1.3).
     pub kind: Kind,
     /// The C/R bit of the address octet.
     pub cr: bool,
     /// The P/F bit of the control octet.
     pub pf: bool,
+    /// The information: at most N1 octets in UIH, none in the other kinds (27.010, 5.2.1.4).
     pub info: Info,
 }
 

@@ -41,7 +41,7 @@ impl Info {
         octets
     }
 
-    /// The same octets once more.
+    /// A copy of the octets.
     pub fn copy(&self) -> Result<Info, AllocError>
         ensures { IfOk result (λ copy. copy ≡ self.now) }
     {

@@ -1,4 +1,6 @@
-//! Judges candidates: what the octets after a flag can be (27.010, 5.2.1).
+//! Judges candidates: what the octets after a flag can be (27.010, 5.2.1). The check octet covers address, control and
+//! length, so their octets and those where the check octet and the closing flag should stand decide, whatever the
+//! information is.
 ghost use Rattle.std.specs.Prelude.{◌≡◌, ◌+◌, ◌/◌, ◌^◌, ◌<◌, ◌≤◌, Some, drop, length, slice_get};
 ghost use Rattle.mux_frame.specs.Frames.{frame_of};
 ghost use Rattle.mux_frame.specs.Judging.{Means, by_end, by_header, by_length, by_rest, fits, frame_at, kind_in, verdict_on};
@@ -25,7 +27,7 @@ pub(crate) struct Header {
     pub(crate) check: u8,
 }
 
-/// What a candidate is, by the octets that have come after a flag.
+/// What a candidate can still become, by the octets after its flag.
 #[derive(Clone, Copy)]
 pub(crate) enum Verdict {
     /// They can become a frame.

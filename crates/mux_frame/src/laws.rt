@@ -23,8 +23,8 @@ fn text_after_flag(octets: &[u8]) -> Option<&[u8]>
     Some(&octets[place + 1..len])
 }
 
-/// The frames that octets are read as, and their rest, computed over all octets at once (27.010,
-/// 5.2.3, 5.2.5 and 5.2.6.1). Refused with 2 NoMemory.
+/// Reads a whole text at once: its frames, and the rest that may still become one (27.010, 5.2.3, 5.2.5 and 5.2.6.1).
+/// Refused with 2 NoMemory.
 pub fn read_plain(
     alloc: Global,
     n1: u16,
@@ -69,7 +69,7 @@ pub fn one_reading()
     ensures { IsFunction }
 {}
 
-/// Reading on from the rest and the octets after it gives what reading all octets anew gives.
+/// Reading on from the rest gives what reading all octets anew gives.
 pub fn reads_on()
     ensures { ReadsOn }
 {}
@@ -84,7 +84,7 @@ pub fn reads_spelled()
     ensures { ReadsSpelled }
 {}
 
-/// The frames that are read of a beginning of the octets are the first of the frames of all.
+/// The frames read in a beginning of the octets are the first of those read in all octets.
 pub fn reads_beginning()
     ensures { ReadsBeginning }
 {}
@@ -94,7 +94,7 @@ pub fn total_reading()
     ensures { IsTotal }
 {}
 
-/// A deframer hands out just the frames that are read in the octets taken, in order.
+/// A deframer hands out exactly the frames that are read in the octets taken, in order.
 pub fn deframed()
     ensures { IsDeframed }
 {}

@@ -1,5 +1,5 @@
-//! Frames of the basic option of 3GPP TS 27.010. `write_frame` writes them, `Deframer` reads octets
-//! as frames as they come, and `laws::read_plain` reads a whole text at once.
+//! Frames of the basic option of 3GPP TS 27.010 (5.2.1). `write_frame` writes a frame, `Deframer` reads frames from
+//! octets as they come, and `laws::read_plain` reads a whole text at once.
 #![tactic(auto)]
 
 mod check;

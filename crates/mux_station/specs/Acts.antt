@@ -1,4 +1,5 @@
--- What happens at an end of the line. A past is written with its newest act first.
+-- What happens at an end of the line. A past is written with its newest act first. A refused call is no
+-- act: nothing came of it.
 use Rattle.std.specs.Prelude.{ℕ, Bool, List}
 use Rattle.mux_frame.specs.Frames.{Frame}
 
@@ -12,6 +13,7 @@ pub data Call : Type 0 where
   -- an offer that was taken
   Offer : (dlci : ℕ) → (octets : List ℕ) → Call
 
+-- what happens at an end of the line
 pub data Act : Type 0 where
   Called : Call → Act
   Got : Frame → Act

@@ -21,6 +21,7 @@ info_len octets =
 unfoldable pub front_len : List ℕ → ℕ
 front_len octets = lead_len octets + info_len octets + 2
 
+-- the control frame in front
 unfoldable pub front_frame : List ℕ → Frame
 front_frame octets = record {
   dlci = slice_index octets 1 / 4;
@@ -30,7 +31,7 @@ front_frame octets = record {
   info = take (info_len octets) (drop (lead_len octets) octets);
 }
 
--- so many frames from the front on
+-- the first so many frames that the octets spell
 unfoldable pub read_frames : ℕ → List ℕ → List Frame
 read_frames zero octets = []
 read_frames (suc n) octets = front_frame octets ∷ read_frames n (drop (front_len octets) octets)

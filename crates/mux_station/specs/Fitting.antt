@@ -20,8 +20,9 @@ pub record ChannelFits (r : Role) (d : ℕ) (past : List Act) (c : Channel) : Ty
   pub stop_is : is_opened c.state ≡ true → last_said (got_says (msc_says d)) (since r d past) ≡ c.is_stopped
   pub ring_is : is_opened c.state ≡ true → offered r d past ≡ data_out r d past ++ c.waiting
 
+-- a station fits a past
 pub record StationFits (v : Station) (past : List Act) : Type 0 where
-  -- a station is told of no loss of the line
+  -- a station is told of no loss of the line: whoever holds it drops it then
   pub live : list_any is_loss past ≡ false
   pub channels_are : (d : ℕ) → d < 62 → ChannelFits v.role d past (channel_at v d)
   pub others_shut :
@@ -34,7 +35,7 @@ pub record StationFits (v : Station) (past : List Act) : Type 0 where
   pub queue_is : queue past ≡ v.queue
   pub last_is : last_sender past ≡ v.last
 
--- whatever past it fits, the station goes on with this act and all the frames that it calls for; its role and
+-- whatever past it fits, the station goes on with this act and all frames that it calls for; its role and
 -- N1 stay
 pub record StationHandles (old new : Station) (a : Act) : Type 0 where
   pub setting : setting_of new ≡ setting_of old
@@ -54,7 +55,7 @@ SeesThePast v past c =
     StationFits v past → call_dlci c < 62
     → refused_in v c ≡ refused (setting_of v) (station_view (setting_of v) past) c
 
--- and so is a frame that comes
+-- a frame that comes is refused by what a station keeps just where it is refused by each past that it fits
 abbrev pub SeesTheFrame : Station → List Act → Frame → Type 0
 SeesTheFrame v past f =
     StationFits v past → f.dlci < 62

@@ -1,4 +1,4 @@
--- What a station makes of a frame that comes.
+-- What a received frame does to a station.
 use Rattle.std.specs.Prelude.{◌≡◌, ℕ, ◌==◌, ◌&&◌, ◌||◌, Bool, true, false, List, [], ◌∷◌, ◌++◌, Option, None, Some, if◌then◌else◌, slice_set, replicate, unwrap_or}
 use Rattle.mux_frame.specs.Frames.{Frame}
 use Rattle.mux_frame.specs.declared.frame.Kind.{Kind}
@@ -24,6 +24,7 @@ turned Stays s = s
 turned Opens s = IsOpened
 turned Shuts s = IsShut
 
+-- the connection opens
 abbrev pub is_opens : Turn → Bool
 is_opens Opens = true
 is_opens _ = false
@@ -43,6 +44,7 @@ abbrev pub answer_frames : Role → ℕ → Option Kind → List Frame
 answer_frames r d None = []
 answer_frames r d (Some k) = written r k d [] ∷ []
 
+-- the frames of a row of a table: its UA or DM, and an MSC where the connection opens
 abbrev pub row_frames : Role → ℕ → Option Kind → Turn → List Frame
 row_frames r d answer t = answer_frames r d answer ++ (if is_opens t then msc_after_opening r d else [])
 
@@ -54,15 +56,17 @@ all_turned_in v s = record v {
   probe = None;
 }
 
+-- the station, d turned to another state; 0 shuts all others
 abbrev pub turned_on : Station → ℕ → State → Station
 turned_on v d s = if d == 0 then all_turned_in v s else turned_in v d s
 
+-- the station, d turned as a row of a table says
 abbrev pub turned_by : Station → ℕ → Turn → Station
 turned_by v d Stays = v
 turned_by v d Opens = turned_on v d IsOpened
 turned_by v d Shuts = turned_on v d IsShut
 
--- so many frames are put into the control queue
+-- the station, with these frames at the end of its control queue
 abbrev pub queued_in : Station → List Frame → Station
 queued_in v fs = record v { queue = v.queue ++ fs }
 
@@ -91,7 +95,7 @@ probe_answered None m = None
 probe_answered (Some w) m =
     if brings_probe_back w.data_octets (Some m) || refuses_probe (Some m) then None else Some w
 
--- while 0 is Opened
+-- the station after a message while 0 is Opened
 abbrev pub told_in : Station → Message → Station
 told_in v m =
     if m.octet == cld then all_turned_in v IsShut
@@ -101,17 +105,17 @@ told_in v m =
       probe = probe_answered v.probe m;
     }
 
--- in Stopping
+-- the station after a message in Stopping
 abbrev pub ended_in : Station → Message → Station
 ended_in v m = if (m.octet == cld) || (command_of m.octet == cld) then all_turned_in v IsShut else v
 
--- what it calls for, by the state of 0
+-- the frames that a message calls for, by the state of 0
 abbrev pub message_calls : Role → State → Option Message → List Frame
 message_calls r IsOpened (Some m) = response r m
 message_calls r (IsStopping n) (Some m) = if m.octet == cld then response r m else []
 message_calls r s m = []
 
--- and what it makes of the station
+-- the station after a message, by the state of 0
 abbrev pub message_taken : Station → State → Option Message → Station
 message_taken v IsOpened (Some m) = told_in v m
 message_taken v (IsStopping n) (Some m) = ended_in v m
@@ -119,7 +123,7 @@ message_taken v s m = v
 
 -- ## A frame
 
--- by a message, or else by the tables
+-- a frame is read as a message, or else by the tables
 pub record FrameTaken (old new : Station) (f : Frame) : Type 0 where
   pub by_message :
       is_on Uih 0 f ≡ true

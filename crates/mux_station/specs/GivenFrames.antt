@@ -17,5 +17,6 @@ outgoing_of o = record { frame = frame_of o.frame; fresh = o.fresh }
 abbrev pub with_freshness : Bool → Frame → Outgoing
 with_freshness fresh f = record { frame = f; fresh = fresh }
 
+-- the number of a connection
 abbrev pub dlci_of : Dlci → ℕ
 dlci_of d = d.number

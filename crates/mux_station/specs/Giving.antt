@@ -44,6 +44,7 @@ next_sender v [] = next_turn v
 abbrev pub data_frame : Station → ℕ → Frame
 data_frame v d = written v.role Uih d (take v.n1 (channel_at v d).waiting)
 
+-- the station after data of this connection was given on
 abbrev pub data_given : Station → Option ℕ → Station
 data_given v None = v
 data_given v (Some d) = record v {
@@ -61,6 +62,7 @@ abbrev pub next_given : Station → List Frame → Option Frame
 next_given v (f ∷ fs) = Some f
 next_given v [] = option_map (data_frame v) (next_turn v)
 
+-- the station after its next frame was given on
 abbrev pub station_after : Station → List Frame → Station
 station_after v (f ∷ fs) = record v { queue = fs }
 station_after v [] = data_given v (next_turn v)
@@ -83,7 +85,8 @@ pub record SendsNext (r : Role) (d : ℕ) (past : List Act) : Type 0 where
   pub some : length (data_out r d past) < length (offered r d past)
   pub alone : queue past ≡ []
 
--- whatever past the station fits, it goes on with what it gives on, and a lawful and complete past stays so
+-- whatever past the station fits, it fits that with what it gives on, and a lawful and complete past stays
+-- so
 pub record GivesOn (v : Station) : Type 0 where
   pub fits :
       (past : List Act) → StationFits v past

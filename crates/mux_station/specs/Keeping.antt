@@ -1,4 +1,4 @@
--- How a station keeps what it keeps.
+-- The invariant of a station's fields.
 use Rattle.std.specs.Prelude.{◌≡◌, ℕ, ◌+◌, ◌<◌, ◌≤◌, List, length}
 use Rattle.mux_station.specs.declared.station.WaitingProbe.{WaitingProbe}
 use Rattle.mux_station.specs.ControlQueues.{ControlQueue}

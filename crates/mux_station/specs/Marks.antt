@@ -5,10 +5,11 @@ use Rattle.std.specs.List.{find, range_with_len}
 use Rattle.mux_station.specs.States.{is_opened}
 use Rattle.mux_station.specs.Stations.{Channel, shut_channel}
 
--- it is Opened and not stopped by itself, and octets wait in its ring
+-- a connection may send: it is Opened, its own stop isn't set, and octets wait in its ring
 abbrev pub may_send : Channel → Bool
 may_send c = is_opened c.state && (not c.is_stopped && not (length c.waiting == 0))
 
+-- a bit as a number
 abbrev pub bit_of : Bool → ℕ
 bit_of true = 1
 bit_of false = 0

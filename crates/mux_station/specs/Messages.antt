@@ -32,11 +32,11 @@ nsc = 0x13
 abbrev pub is_command : Message → Bool
 is_command m = (m.octet / 2) % 2 == 1
 
--- the type octet of a response, as that of its command
+-- the type octet of the command that a response answers
 abbrev pub command_of : ℕ → ℕ
 command_of octet = octet + 2
 
--- and the other way round
+-- the type octet of the response to a command
 abbrev pub response_of : ℕ → ℕ
 response_of octet = octet - 2
 
@@ -45,6 +45,7 @@ abbrev pub msc_dlci : List ℕ → ℕ
 msc_dlci [] = 0
 msc_dlci (d ∷ rest) = d / 4
 
+-- the FC bit of an MSC says that no frames can be accepted
 abbrev pub msc_stops : List ℕ → Bool
 msc_stops [] = false
 msc_stops (d ∷ []) = false

@@ -43,6 +43,7 @@ by_responder d at_zero IsShut Dm = Nothing
 by_responder d at_zero own Dm = closed_on d
 by_responder d at_zero own k = Nothing
 
+-- what is noted of a frame by the table of its role
 abbrev pub noted_by_table : Role → ℕ → State → State → Kind → Noted
 noted_by_table Initiator d channel own k = by_initiator d own k
 noted_by_table Responder d channel own k = by_responder d ((d == 0) || is_opened channel) own k
@@ -74,6 +75,7 @@ noted_of r v f =
 
 -- ## What that comes to
 
+-- it is noted that the connection opened
 abbrev pub says_open : Noted → Bool
 says_open Opened = true
 says_open Reset = true

@@ -19,7 +19,8 @@ has_data r past d =
     is_open r d past
     && (not (is_stopped r d past) && nat_lt (length (data_out r d past)) (length (offered r d past)))
 
--- in which order connections have their turn after one of them: those above it, then from 1 on
+-- in which order connections have their turn after one of them: those above it, then from 1 on, itself the
+-- last: so it has its turn again where no other has data
 abbrev pub turns_after : ℕ → List ℕ
 turns_after d = range_with_len (d + 1) (61 - d) ++ range_with_len 1 61
 

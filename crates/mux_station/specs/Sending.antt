@@ -76,7 +76,7 @@ refused_by_state v (Offer d octets) =
 abbrev pub without_room : StationSetting → StationView → List Frame → Option StationError
 without_room s v fs = if have_room s.n1 v.queued fs then None else Some NoRoom
 
--- which is the last refusal
+-- the last refusal of a call: no place in the control queue for the frames that it asks for
 abbrev pub if_no_room : StationSetting → StationView → Call → Option StationError
 if_no_room s v c = without_room s v (frames_asked s.role c)
 
@@ -113,6 +113,7 @@ queue (_ ∷ past) = queue past
 abbrev pub is_test_or_response : ℕ → Bool
 is_test_or_response octet = (octet == test) || (command_of octet == test)
 
+-- an NSC's value is the type of a Test command or response
 abbrev pub names_test : List ℕ → Bool
 names_test (octet ∷ []) = is_test_or_response octet
 names_test _ = false
@@ -154,6 +155,7 @@ probe_of s (a ∷ past) =
     record { state = λ d. state_of s.role d past; queued = octets_of (queue past); probe = before } in
     probe_begun (refused_act s v a) a (probe_after s (zero_stays s past a) before a)
 
+-- what a call sees of a past
 abbrev pub station_view : StationSetting → List Act → StationView
 station_view s past =
     record { state = λ d. state_of s.role d past; queued = octets_of (queue past); probe = probe_of s past }

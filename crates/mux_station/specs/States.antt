@@ -16,10 +16,12 @@ pub data State : Type 0 where
   IsClosing : (again : ℕ) → State
   IsStopping : (ticks : ℕ) → State
 
+-- the state is Opened
 abbrev pub is_opened : State → Bool
 is_opened IsOpened = true
 is_opened _ = false
 
+-- the state is Shut
 abbrev pub is_shut : State → Bool
 is_shut IsShut = true
 is_shut _ = false

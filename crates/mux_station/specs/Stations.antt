@@ -10,17 +10,18 @@ use Rattle.mux_station.specs.Acts.{Call, Offer}
 use Rattle.mux_station.specs.Tables.{octets_of, message_frame}
 use Rattle.mux_station.specs.Sending.{StationSetting, StationView, Waiting, got_refused, refused, or_else, without_room}
 
--- one connection: its state, its own stop, and the octets in its send ring
+-- what a station keeps of one connection: its state, its own stop, and the octets in its send ring
 pub record Channel : Type 0 where
   pub state : State
   pub is_stopped : Bool
   pub waiting : List ℕ
 
+-- a connection that is Shut
 abbrev pub shut_channel : Channel
 shut_channel = record { state = IsShut; is_stopped = false; waiting = [] }
 
--- the connections 0 to 61, the stop of all, the probe that waits, the control queue, and the connection that
--- last sent data
+-- what a station keeps: the connections 0 to 61, the stop of all, the probe that waits, the control queue,
+-- and the connection that last sent data
 pub record Station : Type 0 where
   pub role : Role
   pub n1 : ℕ
@@ -30,9 +31,11 @@ pub record Station : Type 0 where
   pub queue : List Frame
   pub last : ℕ
 
+-- what is kept of d
 abbrev pub channel_at : Station → ℕ → Channel
 channel_at v d = slice_index_or v.channels d shut_channel
 
+-- a station to which nothing has happened yet
 abbrev pub new_station : Role → ℕ → Station
 new_station r n1 = record {
   role = r;
@@ -44,10 +47,11 @@ new_station r n1 = record {
   last = 0;
 }
 
+-- whose history a station has
 abbrev pub setting_of : Station → StationSetting
 setting_of v = record { role = v.role; n1 = v.n1 }
 
--- what a call sees
+-- what a call sees of a station
 abbrev pub seen_in : Station → StationView
 seen_in v = record { state = λ d. (channel_at v d).state; queued = octets_of v.queue; probe = v.probe }
 
@@ -55,9 +59,11 @@ seen_in v = record { state = λ d. (channel_at v d).state; queued = octets_of v.
 abbrev pub refused_in : Station → Call → Option StationError
 refused_in v c = refused (setting_of v) (seen_in v) c
 
+-- why a frame that comes is refused, by what a station keeps
 abbrev pub frame_refused_in : Station → Frame → Option StationError
 frame_refused_in v f = got_refused (setting_of v) (seen_in v) f
 
+-- why these frames are refused by the control queue, by what a station keeps
 abbrev pub without_room_in : Station → List Frame → Option StationError
 without_room_in v fs = without_room (setting_of v) (seen_in v) fs
 

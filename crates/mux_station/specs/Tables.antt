@@ -11,6 +11,7 @@ use Rattle.mux_station.specs.States.{State, IsOpening, IsOpened, IsClosing, IsSt
 
 -- ## Single frames
 
+-- the frame that brings a message of this type and value
 abbrev pub message_frame : Role → ℕ → List ℕ → Frame
 message_frame r octet value = written r Uih 0 (spelled_message octet value)
 
@@ -18,6 +19,7 @@ message_frame r octet value = written r Uih 0 (spelled_message octet value)
 abbrev pub ready : ℕ
 ready = 0x8d
 
+-- the signals of an MSC with FC
 abbrev pub held_up : ℕ
 held_up = 0x8f
 
@@ -54,6 +56,8 @@ abbrev pub is_supported : ℕ → Bool
 is_supported octet =
     (octet == test) || ((octet == fcoff) || ((octet == fcon) || ((octet == cld) || (octet == msc))))
 
+-- what answers a message: the response to a supported command, NSC to any other command but NSC, else
+-- nothing
 abbrev pub response : Role → Message → List Frame
 response r m =
     if is_supported m.octet then message_frame r (response_of m.octet) m.value ∷ []
@@ -77,6 +81,7 @@ by_frame r state f =
 
 -- ## Room and ticks
 
+-- how many octets frames are as written
 abbrev pub octets_of : List Frame → ℕ
 octets_of [] = 0
 octets_of (f ∷ fs) = written_length f + octets_of fs
@@ -85,12 +90,12 @@ octets_of (f ∷ fs) = written_length f + octets_of fs
 abbrev pub has_room : ℕ → ℕ → Frame → Bool
 has_room n1 queued f = nat_le (queued + written_length f) (4096 + n1)
 
--- and so many frames, each behind the ones before it; no frames always do
+-- these frames fit one after the other; no frames always do
 abbrev pub have_room : ℕ → ℕ → List Frame → Bool
 have_room n1 queued [] = true
 have_room n1 queued (f ∷ fs) = has_room n1 queued f && have_room n1 (queued + written_length f) fs
 
--- which is to say that the sum of their octets does
+-- frames fit where the sum of their octets does
 abbrev pub HasRoomBySum : ℕ → ℕ → Frame → List Frame → Type 0
 HasRoomBySum n1 queued f fs = have_room n1 queued (f ∷ fs) ≡ nat_le (queued + octets_of (f ∷ fs)) (4096 + n1)
 
@@ -100,6 +105,7 @@ again r d (IsOpening n) = Some (written r (if n == 3 then Disc else Sabm) d [])
 again r d (IsClosing n) = if n == 3 then None else Some (written r Disc d [])
 again r d _ = None
 
+-- the frame, where it fits into the control queue
 abbrev pub if_room : ℕ → ℕ → Option Frame → List Frame
 if_room n1 queued None = []
 if_room n1 queued (Some f) = if has_room n1 queued f then f ∷ [] else []

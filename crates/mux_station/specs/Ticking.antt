@@ -35,6 +35,7 @@ abbrev pub probe_up : Option Waiting → List Up
 probe_up None = []
 probe_up (Some w) = if w.ticks == 3 then UpProbe ∷ [] else []
 
+-- what a tick gives up of so many connections from d on, by what a station keeps
 unfoldable pub given_up_in : Station → ℕ → ℕ → List Up
 given_up_in v d count = given_up v.role v.n1 (λ e. (channel_at v e).state) (octets_of v.queue) d count
 
@@ -44,6 +45,7 @@ noticed v = given_up_in v 0 62 ++ probe_up v.probe
 
 -- ## The station
 
+-- the station, d turned to another state, everything of it afresh
 abbrev pub turned_in : Station → ℕ → State → Station
 turned_in v d state = record v {
   channels = slice_set v.channels d (record { state = state; is_stopped = false; waiting = [] });
@@ -53,6 +55,7 @@ turned_in v d state = record v {
 abbrev pub asked_if : Station → ℕ → State → Frame → Station
 asked_if v d state f = if has_room v.n1 (octets_of v.queue) f then asked_in v d state f else v
 
+-- the station after a tick of d, which is in this state
 abbrev pub ticked_by : Station → ℕ → State → Station
 ticked_by v d IsShut = v
 ticked_by v d IsOpened = v
@@ -63,13 +66,16 @@ ticked_by v d (IsClosing n) =
     if n == 3 then turned_in v d IsShut else asked_if v d (IsClosing (n + 1)) (written v.role Disc d [])
 ticked_by v d (IsStopping n) = turned_in v d (if n == 3 then IsShut else IsStopping (n + 1))
 
+-- the station after a tick of d
 abbrev pub ticked_one : Station → ℕ → Station
 ticked_one v d = ticked_by v d (channel_at v d).state
 
+-- the station after a tick of so many connections from d on
 unfoldable pub ticked_all : Station → ℕ → ℕ → Station
 ticked_all v d zero = v
 ticked_all v d (suc count) = ticked_all (ticked_one v d) (d + 1) count
 
+-- the probe that waits after a tick
 abbrev pub ticked_probe : Option Waiting → Option Waiting
 ticked_probe None = None
 ticked_probe (Some w) = if w.ticks == 3 then None else Some (record w { ticks = w.ticks + 1 })

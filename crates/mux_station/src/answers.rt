@@ -1,4 +1,4 @@
-//! The frames that a frame got calls for.
+//! The frames that a received frame calls for.
 ghost use Rattle.std.specs.Prelude.{◌≡◌, ◌≤◌, []};
 ghost use Rattle.mux_station.specs.Tables.{octets_of, response};
 ghost use Rattle.mux_station.specs.MessagesRead.{message_read};

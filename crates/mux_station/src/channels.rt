@@ -20,8 +20,9 @@ pub const CONNECTIONS: usize = 62;
 /// The control channel.
 pub const CONTROL: Dlci = Dlci { number: 0 };
 
-/// The connections 0 to 61, and a set of bits: bit d is set where connection d may send. It may
-/// where it is Opened, its own stop isn't set, and octets wait in its send ring.
+/// The connections 0 to 61, and a set of bits: bit d is set where connection d may send. It may where it is Opened, its
+/// own stop isn't set, and octets wait in its send ring. The set shows whose turn it is without a look at each
+/// connection.
 #[derive(Drop)]
 pub(crate) struct Channels {
     each: Vec<Channel>,

@@ -17,8 +17,8 @@ use mux_frame::{FrameView, Kind};
 use std::alloc::{AllocError, Global};
 use std::marker::Model;
 
-/// Control frames that wait as the octets that are to be written: each spelled between two flags,
-/// one after another, in room for so many octets.
+/// Control frames that wait as the octets that are to be written: each spelled between two flags, one after another. So
+/// the queue's bound is the room of its ring. A frame is read back from its header when it is given on.
 #[derive(Drop)]
 pub(crate) struct ControlQueue {
     octets: HeapCircularBuffer<u8>,

@@ -8,20 +8,28 @@ use thiserror::Error;
 /// Why a station refuses a call. A refused call changes nothing.
 #[derive(Clone, Copy, PartialEq, Eq, Debug, Error)]
 pub enum StationError {
+    /// 1: the connection, or connection 0, isn't Opened.
     #[error("the connection is not open")]
     NotOpen,
+    /// 2: the connection is Opened.
     #[error("the connection is open already")]
     AlreadyOpen,
+    /// 3: the connection is being opened, closed or stopped, or a probe waits.
     #[error("the connection is being opened or closed, or a probe waits")]
     Busy,
+    /// 4: connection 0 isn't closed alone and carries no data.
     #[error("connection 0 is the control channel")]
     ControlChannel,
+    /// 5: memory was refused.
     #[error("out of memory")]
     NoMemory,
+    /// 6: a probe has more than 16 octets.
     #[error("a probe has at most 16 octets")]
     TooLong,
+    /// 7: no room in the control queue, or in the send ring.
     #[error("no room in the queue")]
     NoRoom,
+    /// 8: N1 isn't 31 to 32767.
     #[error("N1 is 31 to 32767")]
     BadN1,
 }

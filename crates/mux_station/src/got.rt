@@ -1,4 +1,4 @@
-//! Takes frames that come (27.010, 5.4).
+//! Handles received frames (27.010, 5.4).
 ghost use Rattle.std.specs.Prelude.{◌≡◌, ◌==◌, ◌||◌, ◌≤◌, length, true, if◌then◌else◌, Some, None, IfOk, OnOk, OnErr, List};
 ghost use Rattle.std.specs.Result.{result_err};
 ghost use Rattle.mux_frame.specs.Frames.{frame_of};
@@ -200,7 +200,7 @@ impl Station {
         Ok(self.follow(message))
     }
 
-    /// A message in Stopping, which a CLD ends, or the response to ours.
+    /// A message in Stopping, which ends at a CLD command or at the response to ours.
     fn take_stopping(&mut self, message: Message<'_>) -> Result<Noted, StationError>
         ensures refusal { result_err result ≡ without_room_in self.old
             (message_calls self.old.role (IsStopping 0) (Some (message_read message.entry))) }
@@ -262,9 +262,9 @@ impl Station {
         }
     }
 
-    /// Takes a frame that came, queues what it calls for, and says what it did. Requires that its information is at most N1 octets,
-    /// and empty in a kind other than UIH. Refused with 7 NoRoom where the frames that it calls for don't all fit into the control
-    /// queue.
+    /// Handles a received frame: queues the frames that it calls for, and says what it did. Requires that its
+    /// information is at most N1 octets, and empty in a kind other than UIH. Refused with 7 NoRoom where the frames
+    /// that it calls for don't all fit into the control queue.
     pub fn got(&mut self, frame: FrameView<'_>) -> Result<Noted, StationError>
         requires { length frame.info.now ≤ most_info self.old.n1 frame.kind }
         ensures refusal { result_err result ≡ frame_refused_in self.old (frame_of frame.entry) }

@@ -33,8 +33,8 @@ pub fn sendings()
         → GivesBeginning s d past }
 {}
 
-/// A station refuses a call or a frame by what it keeps, and that is just where each past that it fits refuses it. What a frame
-/// calls for has room where the sum of its octets has.
+/// A station refuses a call or a frame exactly where each past that it fits refuses it. The frames that a frame calls
+/// for have room where the sum of their octets has.
 #[tactic(auto, using(crate::proofs::user_calls::ProbeStopFlowOffer::sees_the_past, crate::proofs::received::AnsweredFrames::sees_the_frame, crate::proofs::queues::QueueRoom::room_sum))]
 pub fn refusals()
     ensures calls { (v : Station) (past : List Act) (c : Call) → SeesThePast v past c }
@@ -42,13 +42,14 @@ pub fn refusals()
     ensures room { (n1 queued : ℕ) (f : Frame) (fs : List Frame) → HasRoomBySum n1 queued f fs }
 {}
 
-/// What is noted of a frame is what happened: its connection opened, it is data of an open connection, or all connections closed.
+/// What is noted of a frame is what happened: that its connection opened, that it is data of an open connection, or
+/// that all connections closed.
 pub fn notings()
     ensures { (v : Station) (past : List Act) (f : Frame) → NotedTruly v past f }
 {}
 
-/// The user's calls change nothing but by the frames that they ask for: without the calls a past has the same states, openings and
-/// stops, the same control queue, and the same frames given on.
+/// The user's calls change a past only by the frames that they ask for: without the calls it has the same states,
+/// openings and stops, the same control queue, and the same frames given on.
 pub fn calls()
     ensures { (r : Role) (d : ℕ) (past : List Act) → LeavesNoTrace r d past }
 {}

@@ -1,4 +1,6 @@
-//! One end of the basic option of 3GPP TS 27.010: connections, control messages, flow.
+//! One end of the basic option of 3GPP TS 27.010: `Station` keeps its connections, control messages and flow control.
+//! It takes frames by `got`, its user's calls, and a `tick` for each T1; `next_frame` gives what goes to the line. It
+//! holds no line and no clock.
 #![tactic(auto)]
 
 mod answers;

@@ -1,6 +1,6 @@
-//! What a frame that comes did.
+//! What a received frame did.
 
-/// What a frame came to (27.010, 5.4).
+/// What a received frame did (27.010, 5.4).
 #[derive(Clone, Copy, PartialEq, Eq, Debug)]
 pub enum Noted {
     /// Its connection is open now.

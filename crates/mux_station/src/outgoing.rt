@@ -1,8 +1,8 @@
 //! Frames on their way to the line.
 use mux_frame::FrameView;
 
-/// A frame for the line. `fresh` says that it is data, which is sent now; a control frame was sent
-/// when it was queued.
+/// A frame for the line. `fresh` is set on data, which counts as sent now; a control frame counted as sent when it was
+/// queued.
 #[derive(Clone, Copy)]
 pub struct Outgoing<'a> {
     pub frame: FrameView<'a>,

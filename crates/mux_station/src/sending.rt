@@ -81,9 +81,9 @@ impl Station {
         })
     }
 
-    /// Takes out the next frame for the line and lends it: the first of the control queue, or where that is empty data of the
-    /// connection whose turn it is. Its information is at most 1024 octets. `laws::givings` says what this comes to in each past
-    /// that the station fits.
+    /// Takes out the next frame for the line and lends it: the first of the control queue, or where that is empty data
+    /// of the connection whose turn it is. Its information is at most 1024 octets. `laws::givings` says what this does
+    /// to each past that the station fits.
     #[tactic(auto, using(crate::proofs::turns::ReadyConnections::next_data, crate::proofs::turns::ReadyConnections::after_data, crate::proofs::turns::ReadyConnections::next_control, crate::proofs::turns::ReadyConnections::after_control))]
     pub fn next_frame(&mut self) -> Option<Outgoing<'_>>
         ensures frame { option_map outgoing_of result
@@ -99,7 +99,8 @@ impl Station {
         }
     }
 
-    /// The connection whose data `next_frame` would give; `None` where it would give a control frame, or nothing.
+    /// The connection whose data `next_frame` would give; `None` where it would give a control frame, or nothing. For a
+    /// caller that lends the frame on, and so can't look at it first.
     #[tactic(auto, using(crate::proofs::turns::NextData::sender_alone))]
     pub fn next_sender(&self) -> Option<Dlci>
         ensures value { option_map dlci_of result ≡ next_sender self.now self.now.queue }

@@ -5,6 +5,7 @@ use Rattle.serial_line.specs.declared.line.LineFault.{LineFault}
 use Rattle.serial_line.specs.Counts.{one_more, counted_if_none}
 use Rattle.serial_line.specs.OtherSide.{OtherSide}
 
+-- a line in memory, as contracts see it
 pub record CutState : Type 0 where
   pub received : List ℕ  -- what its reads gave
   pub waiting : List ℕ  -- what the reads to come give

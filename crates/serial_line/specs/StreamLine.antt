@@ -3,6 +3,7 @@ use Rattle.std.specs.Prelude.{◌≡◌, ℕ, List, [], Option}
 use Rattle.serial_line.specs.Counts.{one_more}
 use Rattle.serial_line.specs.declared.stream_line.ZeroRead.{ZeroRead}
 
+-- a line over a reader and a writer, as contracts see it
 pub record StreamState : Type 0 where
   pub received : List ℕ  -- what its reads gave
   pub sent : List ℕ  -- what its writes took

@@ -11,10 +11,10 @@ pub record Track : Type 0 where
 abbrev pub free : Track → ℕ
 free t = t.room - (length t.gone + length t.ahead)
 
--- these come after all others
+-- the tape with these octets behind all others
 abbrev pub with_more : Track → List ℕ → Track
 with_more t octets = record t { ahead = t.ahead ++ octets }
 
--- so many more have passed
+-- the tape after so many more octets have passed
 abbrev pub with_passed : Track → ℕ → Track
 with_passed t n = record t { gone = t.gone ++ take n t.ahead; ahead = drop n t.ahead }

@@ -51,8 +51,9 @@ impl Model for CutLine {
 }
 
 impl CutLine {
-    /// A line on which nothing has happened yet. Each call uses up one entry of its list; with none left there is no limit. Input
-    /// beyond `room` octets isn't kept. Refused with `NoMemory` where memory is refused.
+    /// A line on which nothing has happened yet. Each call uses up one entry of its list, also a call with an empty
+    /// slice; with none left there is no limit. Input beyond `room` octets isn't kept: neither reading nor `take` frees
+    /// any. Refused with `NoMemory` where memory is refused.
     pub fn new(
         alloc: Global,
         input: &[u8],
@@ -152,7 +153,8 @@ impl SerialLine for CutLine {
 
     ghost other_side = { other_side_of };
 
-    /// Gives as many octets as its entry, the buffer and the octets there allow.
+    /// Gives as many octets as its entry, the buffer and the octets there allow. Behind them it leaves the buffer as it
+    /// was.
     fn try_read(&mut self, buffer: &mut [u8]) -> Result<usize, LineFault>
         ensures value { let most = min (length buffer.old) (length self.old.waiting)
             in result ≡ outcome_of self.old.reads self.old.failures most }

@@ -10,7 +10,7 @@ use std::vec::IntoIter;
 pub enum Cut {
     /// At most so many octets go through.
     Upto(usize),
-    /// The call fails.
+    /// The call fails. Where the count of failures is at its greatest value it gives 0 octets instead, and counts.
     Fault,
 }
 

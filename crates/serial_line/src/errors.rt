@@ -11,7 +11,7 @@ pub enum LineError {
     /// 1: memory was refused.
     #[error("out of memory")]
     NoMemory,
-    /// 2: a line between threads has room for 1 to 65536 octets each way.
+    /// 2: the room isn't 1 to 65536 octets each way.
     #[error("a line between threads has room for 1 to 65536 octets")]
     BadRoom,
 }

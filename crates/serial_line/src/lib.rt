@@ -1,5 +1,6 @@
-//! Lines of octets: what a serial line is to its callers, a line in memory whose cuts and faults are
-//! chosen beforehand, a line between two threads, and a line over a reader and a writer.
+//! Lines of octets: what a serial line is to its users (`SerialLine`), a line in memory whose cuts and faults are
+//! chosen beforehand (`CutLine`), a line between two threads (`ThreadLine`), and a line over a reader and a writer
+//! (`StreamLine`).
 #![tactic(auto)]
 
 mod counting;

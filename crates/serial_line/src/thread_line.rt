@@ -103,7 +103,7 @@ impl SerialLine for ThreadLine {
 
     ghost other_side = { λ _. unknown_side };
 
-    /// Gives the octets that are there, as many as the buffer holds.
+    /// Gives the octets that are there, as many as the buffer holds. Behind them it leaves the buffer as it was.
     fn try_read(&mut self, buffer: &mut [u8]) -> Result<usize, LineFault>
         ensures sound { IsOk result }
         ensures bound { IfOk result (λ n. n ≤ length buffer.old) }
