@@ -18,6 +18,7 @@ pub mod laws;
 mod receiving;
 mod reports;
 mod run;
+mod run_by;
 mod sending;
 mod session;
 mod telling;
@@ -36,6 +37,7 @@ pub use event::{Event, Octets};
 pub use modem_desk::{Answer, Ask, Outcome, Request, Urc};
 pub use modem_history::Act;
 pub use run::replay;
+pub use run_by::replay_with_dialect;
 pub use session::{
     Ended, Finished, Offline, OfflineRefused, Progress, Session, SessionError, SessionFault,
     SessionRefused, Turn,
