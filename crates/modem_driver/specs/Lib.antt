@@ -11,6 +11,7 @@ pub mod Refusals
 pub mod Offers
 pub mod SentTexts
 pub mod Replays
+pub mod DialectReplays
 pub mod Running
 pub mod ReplayRows
 pub mod Room

@@ -5,7 +5,7 @@ use Rattle.mux_frame.specs.Frames.{Frame}
 use Rattle.mux_frame.specs.Deframing.{Deframing, Deframes}
 use Rattle.mux_station.specs.GivenFrames.{with_freshness}
 use Rattle.modem_history.specs.Acts.{Act, act_of, Took, Got, Sent, Tick, Lost, Given}
-use Rattle.modem_history.specs.Calls.{Setting, replaying}
+use Rattle.modem_history.specs.Calls.{Setting}
 use Rattle.modem_history.specs.Wholes.{UsesOnce, taken_requests}
 use Rattle.modem_driver.specs.declared.run.Running as code
 use Rattle.modem_driver.specs.declared.event.Event.{Event}
@@ -107,18 +107,18 @@ HandlesEvent event.Tick d d' old new = StepsAlone Tick d d' old new
 HandlesEvent event.Lost d d' old new = StepsAlone Lost d d' old new
 
 -- the pieces of the events so far
-pub record RunsReplay (n1 : ℕ) (done : List Event) (v : Running) : Type 0 where
+pub record RunsReplay (s : Setting) (done : List Event) (v : Running) : Type 0 where
   pub pieces : List Piece
   pub joins : flat_map acts_in pieces ≡ v.acts
-  pub begins : BegunBy n1 [] done (map first_of pieces)
-  pub are_pieces : ArePieces (replaying n1) [] pieces
-  pub drained : Drained (replaying n1) v.core (past_of [] pieces)
+  pub begins : BegunBy s.n1 [] done (map first_of pieces)
+  pub are_pieces : ArePieces s [] pieces
+  pub drained : Drained s v.core (past_of [] pieces)
   pub taken_are : taken_requests (past_of [] pieces) ≡ requests done
 
 -- so far the deframer has handed out these frames, and none is at hand
-pub record SoFar (n1 : ℕ) (events : List Event) (k : ℕ) (v : Running) (d : Deframing) : Type 0 where
+pub record SoFar (s : Setting) (events : List Event) (k : ℕ) (v : Running) (d : Deframing) : Type 0 where
   pub frames : List Frame
   pub deframes : Deframes (octets (take k events)) frames d
   pub idle : d.next ≡ None
-  pub bound : d.n1 ≡ n1
-  pub runs : UsesOnce (requests events) → RunsReplay n1 (take k events) v
+  pub bound : d.n1 ≡ s.n1
+  pub runs : UsesOnce (requests events) → RunsReplay s (take k events) v

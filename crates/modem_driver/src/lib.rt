@@ -22,6 +22,7 @@ mod machine;
 mod receiving;
 mod reports;
 mod run;
+mod run_by;
 mod sending;
 mod session;
 mod telling;
@@ -40,6 +41,7 @@ pub use event::{Event, Octets};
 pub use modem_desk::{Answer, Ask, Outcome, Request, Urc};
 pub use modem_history::Act;
 pub use run::replay;
+pub use run_by::replay_with_dialect;
 pub use session::{
     Ended, Finished, Offline, OfflineRefused, Progress, Session, SessionError, SessionFault,
     SessionRefused, Turn,

@@ -19,7 +19,7 @@ use mux_frame::{Deframer, FrameError, FrameView};
 use std::alloc::{AllocError, Global};
 
 /// The kinds of the standards, and Other.
-const KINDS: [UrcKind; 7] = [
+pub(crate) const KINDS: [UrcKind; 7] = [
     UrcKind::Ring,
     UrcKind::Cring,
     UrcKind::Creg,
@@ -46,10 +46,10 @@ fn send_all(alloc: Global, core: &mut Core, acts: &mut Vec<Act>) -> Result<(), A
 
 /// A replay under way: the driver, and all acts so far.
 #[derive(Drop)]
-struct Running {
-    alloc: Global,
-    core: Core,
-    acts: Vec<Act>,
+pub(crate) struct Running {
+    pub(crate) alloc: Global,
+    pub(crate) core: Core,
+    pub(crate) acts: Vec<Act>,
 }
 
 impl Running {
@@ -167,7 +167,11 @@ fn hear(deframer: &mut Deframer, running: &mut Running, octets: &[u8]) -> Result
 }
 
 /// What one event comes to.
-fn handle(deframer: &mut Deframer, running: &mut Running, event: &Event) -> Result<(), CoreError>
+pub(crate) fn handle(
+    deframer: &mut Deframer,
+    running: &mut Running,
+    event: &Event,
+) -> Result<(), CoreError>
     requires n1 { running.old.core.station.n1 ≡ deframer.old.n1 }
     requires idle { CoreIsIdle running.old.core }
     requires none { deframer.old.next ≡ None }

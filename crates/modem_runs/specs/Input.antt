@@ -28,3 +28,4 @@ IsReason IsBad lines Stop.GaveUp = ⊥
 IsReason IsBad lines Stop.BadN1 = ⊥
 IsReason IsBad lines Stop.BadCallers = ⊥
 IsReason IsBad lines Stop.BadCut = ⊥
+IsReason IsBad lines (Stop.Dialect fault) = ⊥

@@ -8,3 +8,4 @@ pub mod Shown
 pub mod Statuses
 pub mod Stopping
 pub mod Texts
+pub mod Dialects

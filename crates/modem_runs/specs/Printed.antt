@@ -4,6 +4,8 @@ use Rattle.std.specs.Io.KnownBytes.{Appends}
 use Rattle.mux_frame.specs.Frames.{Frame}
 use Rattle.mux_frame.specs.Reading.{Reads}
 use Rattle.modem_history.specs.Acts.{Act}
+use Rattle.at_text.specs.Rules.{Rules}
+use Rattle.modem_driver.specs.DialectReplays.{ReplaysBy}
 use Rattle.modem_driver.specs.Replays.{Replays}
 use Rattle.modem_driver.specs.declared.event.Event.{Event}
 use Rattle.modem_desk.specs.declared.request.Outcome.{Outcome}
@@ -14,7 +16,7 @@ use Rattle.modem_texts.specs.Input.{input_lines}
 use Rattle.modem_bench.specs.Running.{Ran}
 use Rattle.modem_runs.specs.Script.{IsScript}
 use Rattle.modem_runs.specs.Shown.{outcomes_text}
-use Rattle.modem_runs.specs.Texts.{acts_text, frames_text}
+use Rattle.modem_runs.specs.Texts.{acts_text, acts_text_by, frames_text}
 use Rattle.modem_bench.specs.declared.submission.Submission.{Submission}
 
 -- a text stands for octets, and this is printed of the frames that they are read as, and of the rest
@@ -33,6 +35,14 @@ pub record IsReplayed (n1 : ℕ) (text shown : List ℕ) : Type 0 where
   pub script : IsScript 1 (input_lines text) events
   pub replays : Replays n1 events acts
   pub printed : shown ≡ acts_text acts
+
+-- the same at a modem with these rules of its own beside the standard's
+pub record IsReplayedBy (rules : Rules) (n1 : ℕ) (text shown : List ℕ) : Type 0 where
+  pub events : List Event
+  pub acts : List Act
+  pub script : IsScript 1 (input_lines text) events
+  pub replays : ReplaysBy rules n1 events acts
+  pub printed : shown ≡ acts_text_by rules acts
 
 -- a text has what so many callers submit, and this is printed of what they were told for it, each line of a
 -- caller for the line of the text at its place, by a driver over a line with room for so many octets each way

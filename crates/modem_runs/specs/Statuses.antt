@@ -1,9 +1,18 @@
 -- Exit statuses of the program, and what it says at each.
 use Rattle.std.specs.Prelude.{ℕ, List, [], ◌∷◌, ◌++◌, codes}
 use Rattle.std.specs.Fmt.{decimal}
+use Rattle.at_text.specs.declared.dialect_error.DialectError.{DialectError}
 use Rattle.modem_bench.specs.declared.signals.Fault.{Fault}
+use Rattle.modem_runs.specs.declared.stop.DialectFault.{DialectFault}
 use Rattle.modem_runs.specs.declared.stop.Stop.{Stop}
+use Rattle.modem_texts.specs.declared.dialects.DialectRefusal.{DialectRefusal}
 use Rattle.modem_texts.specs.declared.refusal.Refusal.{Refusal}
+
+-- 1 for a dialect that can't be read, 2 for a bad line in it
+abbrev pub dialect_status : DialectFault → ℕ
+dialect_status DialectFault.Unread = 1
+dialect_status (DialectFault.NoRule place) = 2
+dialect_status (DialectFault.Refused place why) = 2
 
 -- 1 for a fault, 2 for words or a line that are bad.
 abbrev pub status_of : Stop → ℕ
@@ -16,8 +25,38 @@ status_of Stop.BadN1 = 2
 status_of Stop.BadCallers = 2
 status_of Stop.BadCut = 2
 status_of (Stop.BadLine _) = 2
+status_of (Stop.Dialect fault) = dialect_status fault
 
--- what is said of it, but for the number of a bad line
+-- what is said of a dialect, but for the number and the reason of a bad line
+abbrev pub dialect_words : DialectFault → List ℕ
+dialect_words DialectFault.Unread = codes "fault: dialect"
+dialect_words (DialectFault.NoRule place) = codes "dialect: bad line "
+dialect_words (DialectFault.Refused place why) = codes "dialect: bad line "
+
+-- the number of a bad line of a dialect, in decimal
+abbrev pub dialect_number : DialectFault → List ℕ
+dialect_number DialectFault.Unread = []
+dialect_number (DialectFault.NoRule place) = decimal place
+dialect_number (DialectFault.Refused place why) = decimal place
+
+-- why a rule is refused
+abbrev pub rule_words : DialectError → List ℕ
+rule_words DialectError.TooManyRules = codes ": a dialect has at most 64 rules"
+rule_words DialectError.NoText = codes ": a rule has a text"
+rule_words DialectError.TextTooLong = codes ": the text of a rule has at most 64 octets"
+rule_words DialectError.LineEnd = codes ": the text of a rule has neither CR nor LF"
+rule_words DialectError.BadName = codes ": the name of a kind has 1 to 64 of the octets 21 to 7E"
+rule_words DialectError.Command = codes ": a line of the rule could be the echo of a command"
+rule_words DialectError.Ambiguous = codes ": some line would both end an answer and be unsolicited"
+rule_words DialectError.NoMemory = codes ": no memory"
+
+-- why a line of a dialect is bad
+abbrev pub dialect_reason : DialectFault → List ℕ
+dialect_reason DialectFault.Unread = []
+dialect_reason (DialectFault.NoRule place) = codes ": no rule"
+dialect_reason (DialectFault.Refused place why) = rule_words why
+
+-- what is said of it, but for the number and the reason of a bad line
 abbrev pub stop_words : Stop → List ℕ
 stop_words Stop.NoMemory = codes "fault: no memory"
 stop_words Stop.Input = codes "fault: input"
@@ -28,6 +67,7 @@ stop_words Stop.BadN1 = codes "error: N1 is 31 to 32767"
 stop_words Stop.BadCallers = codes "error: callers are 1 to 8"
 stop_words Stop.BadCut = codes "error: the cut is 1 to 4096"
 stop_words (Stop.BadLine _) = codes "bad line "
+stop_words (Stop.Dialect fault) = dialect_words fault
 
 -- the number of a bad line, in decimal
 abbrev pub stop_number : Stop → List ℕ
@@ -40,10 +80,24 @@ stop_number Stop.GaveUp = []
 stop_number Stop.BadN1 = []
 stop_number Stop.BadCallers = []
 stop_number Stop.BadCut = []
+stop_number (Stop.Dialect fault) = dialect_number fault
+
+-- why a line of a dialect is bad
+abbrev pub stop_reason : Stop → List ℕ
+stop_reason (Stop.Dialect fault) = dialect_reason fault
+stop_reason (Stop.BadLine place) = []
+stop_reason Stop.NoMemory = []
+stop_reason Stop.Input = []
+stop_reason Stop.Output = []
+stop_reason Stop.Line = []
+stop_reason Stop.GaveUp = []
+stop_reason Stop.BadN1 = []
+stop_reason Stop.BadCallers = []
+stop_reason Stop.BadCut = []
 
 -- what is said of it
 abbrev pub stop_text : Stop → List ℕ
-stop_text stop = stop_words stop ++ stop_number stop
+stop_text stop = stop_words stop ++ stop_number stop ++ stop_reason stop
 
 -- the same as a line
 abbrev pub stop_line : Stop → List ℕ
@@ -53,6 +107,12 @@ stop_line stop = stop_text stop ++ 10 ∷ []
 abbrev pub stop_at : ℕ → Refusal → Stop
 stop_at place Refusal.Bad = Stop.BadLine place
 stop_at place Refusal.NoMemory = Stop.NoMemory
+
+-- why a text is none of a dialect, as the cause of a stop
+abbrev pub stop_at_rule : DialectRefusal → Stop
+stop_at_rule (DialectRefusal.NoRule place) = Stop.Dialect (DialectFault.NoRule place)
+stop_at_rule (DialectRefusal.Refused place why) = Stop.Dialect (DialectFault.Refused place why)
+stop_at_rule DialectRefusal.NoMemory = Stop.NoMemory
 
 -- what a fault of a bench is told as
 abbrev pub stop_of : Fault → Stop

@@ -51,6 +51,7 @@ IsRunStop n1 IsBad input Stop.GaveUp = ⊥
 IsRunStop n1 IsBad input Stop.BadN1 = (n1 < 31) ⊎ (32767 < n1)
 IsRunStop n1 IsBad input Stop.BadCallers = ⊥
 IsRunStop n1 IsBad input Stop.BadCut = ⊥
+IsRunStop n1 IsBad input (Stop.Dialect fault) = ⊥
 IsRunStop n1 IsBad input (Stop.BadLine place) = IfSome input (λ text. IsFirstBad IsBad (input_lines text) place)
 
 -- those of a bench: its line failed, or it didn't come to its end; callers aren't 1 to 8, the cut isn't 1 to 4096
@@ -63,5 +64,6 @@ IsBenchStop callers cut input Stop.GaveUp = Unit {0}
 IsBenchStop callers cut input Stop.BadN1 = ⊥
 IsBenchStop callers cut input Stop.BadCallers = (callers < 1) ⊎ (8 < callers)
 IsBenchStop callers cut input Stop.BadCut = (cut < 1) ⊎ (4096 < cut)
+IsBenchStop callers cut input (Stop.Dialect fault) = ⊥
 IsBenchStop callers cut input (Stop.BadLine place) =
     IfSome input (λ text. IsFirstBad (IsNoSubmission callers) (input_lines text) place)

@@ -4,12 +4,13 @@ use Rattle.std.specs.List.{flat_map}
 use Rattle.std.specs.Int.{from_bool}
 use Rattle.std.specs.Fmt.{decimal}
 use Rattle.hex.specs.Hex.{encode_lower}
+use Rattle.at_text.specs.Rules.{Rules, name_of}
 use Rattle.mux_frame.specs.Frames.{Frame}
 use Rattle.mux_frame.specs.Spelling.{spelled}
 use Rattle.mux_frame.specs.declared.frame.Kind.{Kind}
 use Rattle.modem_desk.specs.declared.request.Ask.{Ask}
 use Rattle.modem_desk.specs.declared.request.Ask.TheVariants as ask
-use Rattle.modem_texts.specs.Texts.{answer_text, line_text, lines_text, urc_text}
+use Rattle.modem_texts.specs.Texts.{answer_text, line_text, lines_text, named_text, urc_text}
 use Rattle.modem_history.specs.Acts.{Act}
 
 abbrev pub kind_text : Kind → List ℕ
@@ -64,3 +65,15 @@ act_text Act.Given = []
 -- what `replay` prints
 abbrev pub acts_text : List Act → List ℕ
 acts_text acts = flat_map act_text acts
+
+-- ## At a modem with rules of its own
+
+-- an act: lines of its own kinds are heard under their names
+abbrev pub act_text_by : Rules → Act → List ℕ
+act_text_by rules (Act.Heard kind d line) =
+    codes "heard " ++ named_text (name_of rules kind) kind ++ codes " " ++ decimal d ++ codes " " ++ line_text line
+    ++ codes "\n"
+act_text_by rules a = act_text a
+
+abbrev pub acts_text_by : Rules → List Act → List ℕ
+acts_text_by rules acts = flat_map (act_text_by rules) acts

@@ -6,6 +6,7 @@ ghost use Rattle.modem_texts.specs.Input.{input_lines};
 ghost use Rattle.modem_runs.specs.Input.{HasBad, IsFirstBad};
 ghost use Rattle.modem_runs.specs.Printed.{IsBenched, IsNoBench, IsPrinted};
 ghost use Rattle.modem_runs.specs.Stopping.{HasGivenUp, HasStopped, IsBenchStop};
+ghost use Rattle.modem_runs.specs.declared.stop.DialectFault.{DialectFault};
 ghost use Rattle.modem_runs.specs.declared.stop.Stop.TheVariants as Stop;
 
 mod showing;
@@ -56,7 +57,8 @@ where
     ensures bad_line { (place : ℕ) → IsErrOf result (Stop.BadLine place)
         → IfSome (I.remaining input.old)
         (λ text. IsFirstBad (IsNoSubmission callers) (input_lines text) place) }
-    ensures others { (result ≢ Err Stop.BadN1) × (result ≢ Err Stop.BadCallers) × (result ≢ Err Stop.BadCut) }
+    ensures others { (result ≢ Err Stop.BadN1) × (result ≢ Err Stop.BadCallers) × (result ≢ Err Stop.BadCut)
+        × ((fault : DialectFault) → result ≢ Err (Stop.Dialect fault)) }
     ensures no_output { result ≢ Err Stop.Output }
 {
     let text = read_whole(alloc, input)?;

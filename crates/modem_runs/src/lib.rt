@@ -3,6 +3,7 @@
 #![tactic(auto)]
 
 mod bench;
+mod dialect_runs;
 mod dump;
 mod framing;
 mod input;
@@ -13,8 +14,9 @@ mod texts;
 mod writing;
 
 pub use bench::bench_run;
+pub use dialect_runs::{dialect_from, replay_with_dialect_run};
 pub use runs::{frames_run, replay_run};
 pub use script::read_script;
-pub use stop::Stop;
-pub use texts::{push_act, push_frame};
+pub use stop::{DialectFault, Stop};
+pub use texts::{push_act, push_act_by, push_frame};
 pub use writing::give_up;

@@ -12,6 +12,7 @@ ghost use Rattle.modem_runs.specs.Input.{HasBad, IsFirstBad};
 ghost use Rattle.modem_runs.specs.Printed.{IsFramed, IsPrinted, IsReplayed};
 ghost use Rattle.modem_runs.specs.Script.{IsNoOrder};
 ghost use Rattle.modem_runs.specs.Stopping.{HasGivenUp, HasStopped, IsRunStop};
+ghost use Rattle.modem_runs.specs.declared.stop.DialectFault.{DialectFault};
 ghost use Rattle.modem_runs.specs.declared.stop.Stop.TheVariants as Stop;
 
 use crate::dump::read_dump;
@@ -27,7 +28,7 @@ use std::alloc::{AllocError, Global};
 use std::io::{Read, Write};
 
 /// Whether frames may have so many octets of information.
-fn takes_n1(n1: u16) -> bool
+pub(crate) fn takes_n1(n1: u16) -> bool
     ensures good { result ≡ true → (31 ≤ n1) × (n1 ≤ 32767) }
     ensures bad { result ≡ false → (n1 < 31) ⊎ (32767 < n1) }
 {
@@ -66,7 +67,8 @@ fn replayed<R: Read>(alloc: Global, input: &mut R, n1: u16) -> Result<String, St
         (λ text. IfSome (R.remaining input.old) (λ all. IsReplayed n1 all (string_bytes text))) }
     ensures bad_line { (place : ℕ) → IsErrOf result (Stop.BadLine place)
         → IfSome (R.remaining input.old) (λ text. IsFirstBad IsNoOrder (input_lines text) place) }
-    ensures others { (result ≢ Err Stop.BadN1) × (result ≢ Err Stop.BadCallers) × (result ≢ Err Stop.BadCut) }
+    ensures others { (result ≢ Err Stop.BadN1) × (result ≢ Err Stop.BadCallers) × (result ≢ Err Stop.BadCut)
+        × ((fault : DialectFault) → result ≢ Err (Stop.Dialect fault)) }
     ensures no_line { (result ≢ Err Stop.Line) × (result ≢ Err Stop.GaveUp) }
     ensures no_output { result ≢ Err Stop.Output }
 {
@@ -84,7 +86,8 @@ fn framed<R: Read>(alloc: Global, input: &mut R, n1: u16) -> Result<String, Stop
         (λ text. IfSome (R.remaining input.old) (λ all. IsFramed n1 all (string_bytes text))) }
     ensures bad_line { (place : ℕ) → IsErrOf result (Stop.BadLine place)
         → IfSome (R.remaining input.old) (λ text. IsFirstBad IsNoDump (input_lines text) place) }
-    ensures others { (result ≢ Err Stop.BadN1) × (result ≢ Err Stop.BadCallers) × (result ≢ Err Stop.BadCut) }
+    ensures others { (result ≢ Err Stop.BadN1) × (result ≢ Err Stop.BadCallers) × (result ≢ Err Stop.BadCut)
+        × ((fault : DialectFault) → result ≢ Err (Stop.Dialect fault)) }
     ensures no_line { (result ≢ Err Stop.Line) × (result ≢ Err Stop.GaveUp) }
     ensures no_output { result ≢ Err Stop.Output }
 {

@@ -1,9 +1,10 @@
 //! Why a run ends without its output.
 ghost use Rattle.std.specs.Prelude.{◌≡◌};
-ghost use Rattle.modem_runs.specs.Statuses.{status_of, stop_at, stop_words};
+ghost use Rattle.modem_runs.specs.Statuses.{dialect_reason, dialect_status, dialect_words, rule_words, status_of, stop_at, stop_at_rule, stop_reason, stop_words};
 ghost use Rattle.modem_runs.specs.declared.stop.Stop.TheVariants.{NoMemory};
 
-use modem_texts::Refusal;
+use at_text::DialectError;
+use modem_texts::{DialectRefusal, Refusal};
 use std::alloc::{AllocError, AllocFailed};
 use std::{error, fmt};
 
@@ -28,6 +29,66 @@ pub enum Stop {
     BadCut,
     /// This line of the input is bad, counted from 1.
     BadLine(u64),
+    /// There is no dialect.
+    Dialect(DialectFault),
+}
+
+/// Why there is no dialect.
+#[derive(Clone, Copy, PartialEq, Eq, Debug)]
+pub enum DialectFault {
+    /// Its text can't be read.
+    Unread,
+    /// This line of its text says no rule, counted from 1.
+    NoRule(u64),
+    /// The rule of this line of its text is refused, counted from 1.
+    Refused(u64, DialectError),
+}
+
+impl DialectFault {
+    fn status(self) -> u8
+        ensures { result ≡ dialect_status self }
+    {
+        match self {
+            DialectFault::Unread => 1,
+            DialectFault::NoRule(_) | DialectFault::Refused(..) => 2,
+        }
+    }
+
+    fn words(self) -> &'static str
+        ensures { result.now ≡ dialect_words self }
+    {
+        match self {
+            DialectFault::Unread => "fault: dialect",
+            DialectFault::NoRule(_) | DialectFault::Refused(..) => "dialect: bad line ",
+        }
+    }
+
+    /// Why a line is bad.
+    fn reason(self) -> &'static str
+        ensures { result.now ≡ dialect_reason self }
+    {
+        match self {
+            DialectFault::Unread => "",
+            DialectFault::NoRule(_) => ": no rule",
+            DialectFault::Refused(_, why) => rule_words(why),
+        }
+    }
+}
+
+/// Why a rule is refused.
+fn rule_words(why: DialectError) -> &'static str
+    ensures { result.now ≡ rule_words why }
+{
+    match why {
+        DialectError::TooManyRules => ": a dialect has at most 64 rules",
+        DialectError::NoText => ": a rule has a text",
+        DialectError::TextTooLong => ": the text of a rule has at most 64 octets",
+        DialectError::LineEnd => ": the text of a rule has neither CR nor LF",
+        DialectError::BadName => ": the name of a kind has 1 to 64 of the octets 21 to 7E",
+        DialectError::Command => ": a line of the rule could be the echo of a command",
+        DialectError::Ambiguous => ": some line would both end an answer and be unsolicited",
+        DialectError::NoMemory => ": no memory",
+    }
 }
 
 impl Stop {
@@ -38,10 +99,11 @@ impl Stop {
         match self {
             Stop::NoMemory | Stop::Input | Stop::Output | Stop::Line | Stop::GaveUp => 1,
             Stop::BadN1 | Stop::BadCallers | Stop::BadCut | Stop::BadLine(_) => 2,
+            Stop::Dialect(fault) => fault.status(),
         }
     }
 
-    /// What is said of it, but for the number of a bad line.
+    /// What is said of it, but for the number and the reason of a bad line.
     pub fn words(self) -> &'static str
         ensures { result.now ≡ stop_words self }
     {
@@ -55,6 +117,17 @@ impl Stop {
             Stop::BadCallers => "error: callers are 1 to 8",
             Stop::BadCut => "error: the cut is 1 to 4096",
             Stop::BadLine(_) => "bad line ",
+            Stop::Dialect(fault) => fault.words(),
+        }
+    }
+
+    /// Why a line of a dialect is bad, else nothing.
+    pub fn reason(self) -> &'static str
+        ensures { result.now ≡ stop_reason self }
+    {
+        match self {
+            Stop::Dialect(fault) => fault.reason(),
+            _ => "",
         }
     }
 
@@ -77,14 +150,30 @@ impl fmt::Display for Stop {
 
     fn fmt<W: fmt::Write>(&self, f: &mut fmt::Formatter<W>) -> fmt::Result {
         let words = self.words();
+        let reason = self.reason();
         match self {
-            Stop::BadLine(place) => write!(f, "{words}{place}"),
+            Stop::BadLine(place)
+            | Stop::Dialect(DialectFault::NoRule(place) | DialectFault::Refused(place, _)) => {
+                write!(f, "{words}{place}{reason}")
+            }
             _ => f.write_str(words),
         }
     }
 }
 
 impl error::Error for Stop {}
+
+impl From<DialectRefusal> for Stop {
+    ghost from_gives = { λ refusal stop. stop ≡ stop_at_rule refusal };
+
+    fn from(refusal: DialectRefusal) -> Stop {
+        match refusal {
+            DialectRefusal::NoRule(place) => Stop::Dialect(DialectFault::NoRule(place)),
+            DialectRefusal::Refused(place, why) => Stop::Dialect(DialectFault::Refused(place, why)),
+            DialectRefusal::NoMemory => Stop::NoMemory,
+        }
+    }
+}
 
 impl From<AllocError> for Stop {
     ghost from_gives = { λ _ e. e ≡ NoMemory };

@@ -5,11 +5,12 @@ ghost use Rattle.hex.specs.Hex.{encode_lower};
 ghost use Rattle.mux_frame.specs.Frames.{frame_of, kept_frame};
 ghost use Rattle.mux_frame.specs.Spelling.{spelled};
 ghost use Rattle.modem_history.specs.Acts.{Act as DriverAct, act_of};
-ghost use Rattle.modem_runs.specs.Texts.{act_text, acts_text, ask_text, frame_text, frames_text, kind_text, octets_text, rest_text};
+ghost use Rattle.modem_runs.specs.Texts.{act_text, act_text_by, acts_text, acts_text_by, ask_text, frame_text, frames_text, kind_text, octets_text, rest_text};
 
+use at_text::Dialect;
 use modem_desk::{Answer, Ask, Outcome, Request};
 use modem_driver::Act;
-use modem_texts::{answer_word, push_heard, push_line, push_lines};
+use modem_texts::{answer_word, push_heard, push_heard_by, push_line, push_lines};
 use mux_frame::{FrameBuf, FrameView, Kind, write_frame};
 use std::alloc::{AllocError, Global};
 use std::fmt::Write;
@@ -174,6 +175,33 @@ pub fn acts_text(alloc: Global, acts: &[Act]) -> Result<String, AllocError>
     let mut text = String::new(alloc);
     for act in acts {
         push_act(alloc, act, &mut text)?;
+    }
+    Ok(text)
+}
+
+/// The same at a modem with the codes of this dialect: lines of its own kinds are heard under their names.
+pub fn push_act_by(
+    alloc: Global,
+    dialect: &Dialect,
+    act: &Act,
+    text: &mut String,
+) -> Result<(), AllocError>
+    ensures { OnOk result
+        (string_bytes text.new ≡ string_bytes text.old ++ act_text_by dialect.now (act_of act.now)) }
+{
+    match act {
+        Act::Heard(urc) => push_heard_by(alloc, dialect, urc, text),
+        _ => push_act(alloc, act, text),
+    }
+}
+
+/// Acts at a modem with the codes of this dialect, in order.
+pub fn acts_text_by(alloc: Global, dialect: &Dialect, acts: &[Act]) -> Result<String, AllocError>
+    ensures { IfOk result (λ text. string_bytes text ≡ acts_text_by dialect.now (map act_of acts.now)) }
+{
+    let mut text = String::new(alloc);
+    for act in acts {
+        push_act_by(alloc, dialect, act, &mut text)?;
     }
     Ok(text)
 }

@@ -6,7 +6,7 @@ ghost use Rattle.modem_runs.specs.Statuses.{status_of, stop_line, stop_number};
 ghost use Rattle.modem_runs.specs.Stopping.{IsBegun};
 ghost use Rattle.modem_runs.specs.declared.stop.Stop.TheVariants as Stop;
 
-use crate::stop::Stop;
+use crate::stop::{DialectFault, Stop};
 use itoa::Buffer;
 use std::io::{ErrorKind, Write};
 
@@ -44,14 +44,18 @@ fn put<W: Write>(output: &mut W, text: &str) -> bool
     output.flush().is_ok()
 }
 
-/// Writes a line of two parts, as far as the writer takes it.
-fn put_line<W: Write>(faults: &mut W, first: &str, second: &str)
-    ensures { IsBegun (W.contents faults.old) (W.contents faults.new) (first.now ++ second.now ++ 10 ∷ []) }
+/// Writes a line of three parts, as far as the writer takes it.
+fn put_line<W: Write>(faults: &mut W, first: &str, second: &str, third: &str)
+    ensures { IsBegun (W.contents faults.old) (W.contents faults.new)
+        (first.now ++ second.now ++ third.now ++ 10 ∷ []) }
 {
     if !write_text(faults, first) {
         return;
     }
     if !write_text(faults, second) {
+        return;
+    }
+    if !write_text(faults, third) {
         return;
     }
     let _ = write_text(faults, "\n");
@@ -62,7 +66,10 @@ fn number_of(stop: Stop, digits: &mut Buffer) -> &str
     ensures { result.now ≡ stop_number stop }
 {
     match stop {
-        Stop::BadLine(place) => digits.format(place),
+        Stop::BadLine(place)
+        | Stop::Dialect(DialectFault::NoRule(place) | DialectFault::Refused(place, _)) => {
+            digits.format(place)
+        }
         _ => "",
     }
 }
@@ -73,7 +80,8 @@ pub fn give_up<E: Write>(faults: &mut E, stop: Stop) -> u8
     ensures said { IsBegun (E.contents faults.old) (E.contents faults.new) (stop_line stop) }
 {
     let mut digits = Buffer::new();
-    put_line(faults, stop.words(), number_of(stop, &mut digits));
+    let number = number_of(stop, &mut digits);
+    put_line(faults, stop.words(), number, stop.reason());
     stop.status()
 }
 

@@ -10,7 +10,7 @@ use denote.Ref.{Bor}
 use Rattle.std.specs.Cmp.Lexicographic.{pointwise}
 use Rattle.std.specs.Str.Iter.{LacksByte}
 use Rattle.std.specs.List.{onto_first}
-use Rattle.memchr.specs.Find.{IsFirst, Passes, is_byte}
+use Rattle.memchr.specs.Find.{IsFirst, IsLast, Nowhere, Passes, is_byte}
 use Rattle.modem_texts.specs.Input.{input_lines, is_at_end}
 
 -- Searches.
@@ -43,6 +43,29 @@ pub cut_at : (c : ℕ) (xs : List ℕ) (k : ℕ) → IsFirst (Is c xs) 0 (length
 cut_at c xs k h =
     let all : take (length xs - (k + 1)) (drop (k + 1) xs) ≡ drop (k + 1) xs = take_all (length xs - (k + 1)) (drop (k + 1) xs) (rw length-drop (omega arith)) in
     rw all (rw add-one (cut_first c xs k h.0.high (λ j l. h.0.before j (omega arith) l) h.1))
+
+-- a text is cut where the last of these octets stands
+abbrev pub IsCutAtLast : ℕ → List ℕ → List ℕ → List ℕ → Type 0
+IsCutAtLast c xs front back = LacksByte c back × (xs ≡ front ++ c ∷ back)
+
+pub lacking_last : (c : ℕ) (xs : List ℕ) → IsLast (Is c xs) 0 (length xs) None → LacksByte c xs
+lacking_last c xs h k l e = h k (omega arith) l (eq-eqb (slice_index xs k) c e)
+
+cut_there : (c : ℕ) (xs : List ℕ) (k : ℕ) → k < length xs → Is c xs k → xs ≡ take k xs ++ c ∷ drop (suc k) xs
+cut_there c [] k l e = absurd (omega (arith, l))
+cut_there c (x ∷ xs) zero l e = ap (λ (y : ℕ). y ∷ xs) (eqb-true x c e)
+cut_there c (x ∷ xs) (suc k) l e = ap (λ (ys : List ℕ). x ∷ ys) (cut_there c xs k (omega (arith, l)) e)
+
+lacks_behind : (c : ℕ) (xs : List ℕ) (k : ℕ) → Nowhere (Is c xs) (k + 1) (length xs) → LacksByte c (drop (suc k) xs)
+lacks_behind c [] k after = lacks_nil c
+lacks_behind c (x ∷ xs) zero after = λ j l e. after (suc j) (omega arith) (omega (arith, l)) (eq-eqb (slice_index xs j) c e)
+lacks_behind c (x ∷ xs) (suc k) after = lacks_behind c xs k (λ j low high is. after (suc j) (omega (arith, low)) (omega (arith, high)) is)
+
+pub cut_last : (c : ℕ) (xs : List ℕ) (k : ℕ) → IsLast (Is c xs) 0 (length xs) (Some k) → IsCutAtLast c xs (take k xs) (take (length xs - (k + 1)) (drop (k + 1) xs))
+cut_last c xs k h =
+    let all : take (length xs - (k + 1)) (drop (k + 1) xs) ≡ drop (k + 1) xs = take_all (length xs - (k + 1)) (drop (k + 1) xs) (rw length-drop (omega arith)) in
+    let back : LacksByte c (drop (suc k) xs) = lacks_behind c xs k h.0.after in
+    rw all (rw add-one (back, cut_there c xs k h.0.high h.1))
 
 pub lacks_head : (c x : ℕ) (xs : List ℕ) → LacksByte c (x ∷ xs) → x ≢ c
 lacks_head c x xs h = h 0 (omega arith)

@@ -1,2 +1,4 @@
 pub mod CutTexts
 pub mod CommandWords
+pub mod RuleLines
+pub mod DialectLines

@@ -1,3 +1,5 @@
 pub mod Input
 pub mod Words
 pub mod Texts
+pub mod DialectNames
+pub mod DialectTexts

@@ -1,10 +1,11 @@
 -- What is printed of outcomes and of lines that were heard.
-use Rattle.std.specs.Prelude.{ℕ, ◌&&◌, nat_le, List, [], ◌∷◌, ◌++◌, codes, if◌then◌else◌}
+use Rattle.std.specs.Prelude.{ℕ, ◌&&◌, nat_le, List, [], ◌∷◌, ◌++◌, codes, if◌then◌else◌, Option, None, Some}
 use Rattle.std.specs.List.{flat_map}
 use Rattle.std.specs.Fmt.{decimal}
 use Rattle.hex.specs.Hex.{encode_lower}
 use Rattle.at_text.specs.declared.answer.AnswerLine.{AnswerLine}
 use Rattle.at_text.specs.declared.unsolicited.UrcKind.{UrcKind}
+use Rattle.at_text.specs.Rules.{Rules, name_of}
 use Rattle.modem_desk.specs.declared.request.Answer.{Answer}
 use Rattle.modem_desk.specs.declared.request.Answer.TheVariants as answer
 use Rattle.modem_desk.specs.declared.request.Urc.{Urc}
@@ -59,3 +60,14 @@ abbrev pub heard_text : Urc → List ℕ
 heard_text u =
     codes "heard " ++ urc_text u.kind ++ codes " " ++ decimal u.dlci.number ++ codes " " ++ line_text u.line
     ++ codes "\n"
+
+-- the word for a kind that has this name
+abbrev pub named_text : Option (List ℕ) → UrcKind → List ℕ
+named_text None kind = urc_text kind
+named_text (Some name) kind = line_text name
+
+-- the same at a modem with rules of its own: the kinds of its own have their names
+abbrev pub heard_text_by : Rules → Urc → List ℕ
+heard_text_by rules u =
+    codes "heard " ++ named_text (name_of rules u.kind) u.kind ++ codes " " ++ decimal u.dlci.number ++ codes " "
+    ++ line_text u.line ++ codes "\n"

@@ -1,12 +1,14 @@
 //! Texts that programs read and print: the lines of an input, commands on connections, outcomes, and lines that are announced.
 #![tactic(auto)]
 
+mod dialects;
 mod lines;
 mod refusal;
 mod told;
 mod words;
 
-pub use lines::{ended_line, next_line, split_once};
+pub use dialects::{DialectRefusal, dialect_named, read_dialect};
+pub use lines::{ended_line, next_line, split_last, split_once};
 pub use refusal::Refusal;
-pub use told::{answer_word, push_heard, push_line, push_lines, push_told};
+pub use told::{answer_word, push_heard, push_heard_by, push_line, push_lines, push_told};
 pub use words::{command_of, connection_of};

@@ -3,7 +3,7 @@ ghost use Rattle.std.specs.Prelude.{◌≡◌, ℕ, ◌<◌, List, [], ◌∷◌
 ghost use Rattle.std.specs.Str.Iter.{LacksByte};
 ghost use Rattle.modem_texts.specs.Input.{input_lines};
 
-use memchr::memchr;
+use memchr::{memchr, memrchr};
 
 /// What stands before the first of these octets, and what behind it.
 #[tactic(auto, using(crate::proofs::CutTexts::lacking, crate::proofs::CutTexts::cut_at))]
@@ -13,6 +13,16 @@ pub fn split_once(text: &[u8], octet: u8) -> Option<(&[u8], &[u8])>
 {
     let place = memchr(octet, text)?;
     Some((&text[..place], &text[place + 1..]))
+}
+
+/// What stands before the last of these octets, and what behind it.
+#[tactic(auto, using(crate::proofs::CutTexts::lacking_last, crate::proofs::CutTexts::cut_last))]
+pub fn split_last(text: &[u8], octet: u8) -> Option<(&[u8], &[u8])>
+    ensures { MatchOption result (LacksByte octet text.now)
+        (λ parts. (LacksByte octet parts.1.now) × (text.now ≡ parts.0.now ++ octet ∷ parts.1.now)) }
+{
+    let last = memrchr(octet, text)?;
+    Some((&text[..last], &text[last + 1..]))
 }
 
 /// The first line of a text that may go on, without its end, and the text behind it: none where no LF stands in the text.

@@ -2,9 +2,9 @@
 ghost use Rattle.std.specs.Prelude.{◌≡◌, ◌++◌, OnOk};
 ghost use Rattle.std.specs.List.{flat_map};
 ghost use Rattle.std.specs.String.{string_bytes};
-ghost use Rattle.modem_texts.specs.Texts.{answer_line_text, answer_text, heard_text, line_text, told_text, urc_text};
+ghost use Rattle.modem_texts.specs.Texts.{answer_line_text, answer_text, heard_text, heard_text_by, line_text, told_text, urc_text};
 
-use at_text::{AnswerLine, UrcKind};
+use at_text::{AnswerLine, Dialect, UrcKind};
 use modem_desk::{Answer, Urc};
 use std::alloc::{AllocError, Global};
 use std::fmt::Write;
@@ -99,6 +99,27 @@ pub fn push_heard(alloc: Global, urc: &Urc, text: &mut String) -> Result<(), All
     let kind = urc_word(urc.kind);
     let dlci = urc.dlci.number();
     write!(text, "heard {kind} {dlci} ")?;
+    push_line(alloc, urc.line.as_slice(), text)?;
+    text.push_str("\n")
+}
+
+/// The same at a modem with the codes of this dialect: a kind of its own is named as its rule names it.
+pub fn push_heard_by(
+    alloc: Global,
+    dialect: &Dialect,
+    urc: &Urc,
+    text: &mut String,
+) -> Result<(), AllocError>
+    ensures { OnOk result
+        (string_bytes text.new ≡ string_bytes text.old ++ heard_text_by dialect.now urc.now) }
+{
+    let Some(name) = dialect.name_of(urc.kind) else {
+        return push_heard(alloc, urc, text);
+    };
+    let dlci = urc.dlci.number();
+    text.push_str("heard ")?;
+    push_line(alloc, name, text)?;
+    write!(text, " {dlci} ")?;
     push_line(alloc, urc.line.as_slice(), text)?;
     text.push_str("\n")
 }

@@ -14,11 +14,13 @@ use Rattle.modem_desk.specs.declared.request.Request.{Request}
 use Rattle.modem_driver.specs.declared.event.Event.{Event}
 use Rattle.modem_driver.specs.declared.event.Event.TheVariants as event
 use Rattle.modem_history.specs.Acts.{Act, Took, Got, Sent, Told, Heard, Tick, Lost, Held, Freed, Given, after}
+use Rattle.at_text.specs.Rules.{Rules}
 use Rattle.modem_history.specs.Calls.{Setting, replaying}
 use Rattle.modem_history.specs.Lawful.{Lawful, Complete}
 use Rattle.modem_history.specs.Wholes.{UsesOnce, taken_requests, is_same, is_said}
 use Rattle.modem_driver.specs.Cores.{Core}
 use Rattle.modem_driver.specs.Replays.{Piece, acts_in, first_of, marks_for, with_piece, past_of, ArePieces, BegunBy, ends, asks, hears, ticks, loses, Replays, request_in, requests, event_octets, octets}
+use Rattle.modem_driver.specs.DialectReplays.{ReplaysBy, replaying_by}
 use Rattle.modem_driver.specs.Running.{Running, Drained, Goes, Steps, StepAll, none_more, one_more, HandlesEvent, RunsReplay, SoFar}
 
 -- ## Events
@@ -166,14 +168,14 @@ went_all s _ past _ _ (one_more f fs old mid new first later) u d =
     }
 
 -- the run goes on
-run_more : (n1 : ℕ) (done more : List Event) (firsts : List Act) (v v' : Running) → (r : RunsReplay n1 done v) → Went (replaying n1) (past_of [] r.pieces) firsts v v'
-    → BegunBy n1 [] (done ++ more) (map first_of r.pieces ++ firsts) → taken_requests (after (past_of [] r.pieces) firsts) ≡ requests (done ++ more) → RunsReplay n1 (done ++ more) v'
-run_more n1 done more firsts v v' r w b t = record {
+run_more : (s : Setting) (done more : List Event) (firsts : List Act) (v v' : Running) → (r : RunsReplay s done v) → Went s (past_of [] r.pieces) firsts v v'
+    → BegunBy s.n1 [] (done ++ more) (map first_of r.pieces ++ firsts) → taken_requests (after (past_of [] r.pieces) firsts) ≡ requests (done ++ more) → RunsReplay s (done ++ more) v'
+run_more s done more firsts v v' r w b t = record {
   pieces = r.pieces ++ w.pieces;
   joins = flat_map-append acts_in r.pieces w.pieces ∙ (ap (λ (x : List Act). x ++ flat_map acts_in w.pieces) r.joins ∙ sym w.acts_are);
-  begins = subst (BegunBy n1 [] (done ++ more)) (sym (map-append first_of r.pieces w.pieces ∙ ap (λ (x : List Act). map first_of r.pieces ++ x) w.firsts_are)) b;
-  are_pieces = pieces_more (replaying n1) r.pieces [] w.pieces r.are_pieces w.are_pieces;
-  drained = subst (Drained (replaying n1) v'.core) (sym (past_more [] r.pieces w.pieces)) w.drained;
+  begins = subst (BegunBy s.n1 [] (done ++ more)) (sym (map-append first_of r.pieces w.pieces ∙ ap (λ (x : List Act). map first_of r.pieces ++ x) w.firsts_are)) b;
+  are_pieces = pieces_more s r.pieces [] w.pieces r.are_pieces w.are_pieces;
+  drained = subst (Drained s v'.core) (sym (past_more [] r.pieces w.pieces)) w.drained;
   taken_are = ap taken_requests (past_more [] r.pieces w.pieces) ∙ (w.taken_same ∙ t);
 }
 
@@ -191,8 +193,8 @@ nothing_complete n1 = refl
 pub record Starts (n1 : ℕ) (v : Core) : Type 0 where
   pub drained : Drained (replaying n1) v []
 
-runs_nothing : (n1 : ℕ) (v : Running) → v.acts ≡ [] → Drained (replaying n1) v.core [] → RunsReplay n1 [] v
-runs_nothing n1 v e d = record {
+runs_nothing : (s : Setting) (v : Running) → v.acts ≡ [] → Drained s v.core [] → RunsReplay s [] v
+runs_nothing s v e d = record {
   pieces = [];
   joins = sym e;
   begins = ends [];
@@ -201,8 +203,8 @@ runs_nothing n1 v e d = record {
   taken_are = refl;
 }
 
-pub so_far_start : (n1 : ℕ) (events : List Event) (v : Running) (d : Deframing) → v.acts ≡ [] → Drained (replaying n1) v.core [] → Deframes [] [] d → d.next ≡ None → d.n1 ≡ n1 → SoFar n1 events 0 v d
-so_far_start n1 events v d e h p idle bound = record { frames = []; deframes = p; idle = idle; bound = bound; runs = λ f. runs_nothing n1 v e h }
+pub so_far_start : (s : Setting) (events : List Event) (v : Running) (d : Deframing) → v.acts ≡ [] → Drained s v.core [] → Deframes [] [] d → d.next ≡ None → d.n1 ≡ s.n1 → SoFar s events 0 v d
+so_far_start s events v d e h p idle bound = record { frames = []; deframes = p; idle = idle; bound = bound; runs = λ f. runs_nothing s v e h }
 
 -- what the deframer handed out is what is read
 reads_so : (n1 : ℕ) (taken_requests : List ℕ) (handed : List Frame) (d : Deframing) → d.n1 ≡ n1 → d.next ≡ None → Deframes taken_requests handed d → Reads n1 taken_requests handed d.undecided
@@ -230,13 +232,13 @@ event_at events k e h is =
     }
 
 -- an event that brings no octets
-unheard : (n1 : ℕ) (events : List Event) (k : ℕ) (e : Event) (a : Act) (v v' : Running) (d d' : Deframing)
-    → At events k e → SoFar n1 events k v d → d' ≡ d → octets (e ∷ []) ≡ [] → d'.next ≡ None → Steps a v v'
-    → ((firsts : List Act) (done : List Event) → BegunBy n1 [] done firsts → BegunBy n1 [] (done ++ e ∷ []) (firsts ++ a ∷ []))
+unheard : (s : Setting) (events : List Event) (k : ℕ) (e : Event) (a : Act) (v v' : Running) (d d' : Deframing)
+    → At events k e → SoFar s events k v d → d' ≡ d → octets (e ∷ []) ≡ [] → d'.next ≡ None → Steps a v v'
+    → ((firsts : List Act) (done : List Event) → BegunBy s.n1 [] done firsts → BegunBy s.n1 [] (done ++ e ∷ []) (firsts ++ a ∷ []))
     → ((past : List Act) (done : List Event) → taken_requests past ≡ requests done → taken_requests (a ∷ past) ≡ requests (done ++ e ∷ []))
-    → SoFar n1 events (k + 1) v' d'
+    → SoFar s events (k + 1) v' d'
 unfolding Steps
-unheard n1 events k e a v v' d d' at so unchanged none idle steps begins takes =
+unheard s events k e a v v' d d' at so unchanged none idle steps begins takes =
     let now = take k events in
     let same : octets (take (k + 1) events) ≡ octets now = ap octets at.next ∙ (octets_more now e ∙ (ap (λ (t : List ℕ). octets now ++ t) none ∙ append-nil (octets now))) in
     record {
@@ -249,30 +251,30 @@ unheard n1 events k e a v v' d d' at so unchanged none idle steps begins takes =
           let past = past_of [] r.pieces in
           let t = takes past now r.taken_are in
           let few : UsesOnce (requests (now ++ e ∷ [])) = few_front (requests (now ++ e ∷ [])) (requests (drop (k + 1) events)) (subst UsesOnce (ap requests at.split ∙ filter_map-append request_in (now ++ e ∷ []) (drop (k + 1) events)) f) in
-          let g = steps (replaying n1) past r.drained (subst UsesOnce (sym t) few) in
-          subst (λ (es : List Event). RunsReplay n1 es v') (sym at.next)
-          (run_more n1 now (e ∷ []) (a ∷ []) v v' r (went_one (replaying n1) past a v v' g) (begins (map first_of r.pieces) now r.begins) t);
+          let g = steps s past r.drained (subst UsesOnce (sym t) few) in
+          subst (λ (es : List Event). RunsReplay s es v') (sym at.next)
+          (run_more s now (e ∷ []) (a ∷ []) v v' r (went_one s past a v v' g) (begins (map first_of r.pieces) now r.begins) t);
     }
 
 takes_none : (e : Event) (past : List Act) (done : List Event) → requests (e ∷ []) ≡ [] → taken_requests past ≡ requests done → taken_requests past ≡ requests (done ++ e ∷ [])
 takes_none e past done none h = h ∙ (sym (append-nil (requests done)) ∙ (ap (λ (x : List Request). requests done ++ x) (sym none) ∙ sym (requests_more done e)))
 
-after_event : (n1 : ℕ) (events : List Event) (k : ℕ) (e : Event) (v v' : Running) (d d' : Deframing)
-    → At events k e → SoFar n1 events k v d → HandlesEvent e d d' v v' → d'.next ≡ None → SoFar n1 events (k + 1) v' d'
-after_event n1 events k (event.Ask q) v v' d d' at so h idle =
-    unheard n1 events k (event.Ask q) (Took q) v v' d d' at so h.same refl idle h.steps (λ firsts done b. begins_ask n1 [] done firsts q b)
+after_event : (s : Setting) (events : List Event) (k : ℕ) (e : Event) (v v' : Running) (d d' : Deframing)
+    → At events k e → SoFar s events k v d → HandlesEvent e d d' v v' → d'.next ≡ None → SoFar s events (k + 1) v' d'
+after_event s events k (event.Ask q) v v' d d' at so h idle =
+    unheard s events k (event.Ask q) (Took q) v v' d d' at so h.same refl idle h.steps (λ firsts done b. begins_ask s.n1 [] done firsts q b)
     (λ past done t. ap (λ (x : List Request). x ++ q ∷ []) t ∙ sym (requests_more done (event.Ask q)))
-after_event n1 events k event.Tick v v' d d' at so h idle =
-    unheard n1 events k event.Tick Tick v v' d d' at so h.same refl idle h.steps (λ firsts done b. begins_tick n1 [] done firsts b) (λ past done t. takes_none event.Tick past done refl t)
-after_event n1 events k event.Lost v v' d d' at so h idle =
-    unheard n1 events k event.Lost Lost v v' d d' at so h.same refl idle h.steps (λ firsts done b. begins_loss n1 [] done firsts b) (λ past done t. takes_none event.Lost past done refl t)
-after_event n1 events k (event.Octets x) v v' d d' at so h idle =
+after_event s events k event.Tick v v' d d' at so h idle =
+    unheard s events k event.Tick Tick v v' d d' at so h.same refl idle h.steps (λ firsts done b. begins_tick s.n1 [] done firsts b) (λ past done t. takes_none event.Tick past done refl t)
+after_event s events k event.Lost v v' d d' at so h idle =
+    unheard s events k event.Lost Lost v v' d d' at so h.same refl idle h.steps (λ firsts done b. begins_loss s.n1 [] done firsts b) (λ past done t. takes_none event.Lost past done refl t)
+after_event s events k (event.Octets x) v v' d d' at so h idle =
     let now = take k events in
-    let bound : d'.n1 ≡ n1 = h.bound ∙ so.bound in
+    let bound : d'.n1 ≡ s.n1 = h.bound ∙ so.bound in
     let more : octets (take (k + 1) events) ≡ octets now ++ x = ap octets at.next ∙ (octets_more now (event.Octets x) ∙ ap (λ (t : List ℕ). octets now ++ t) (append-nil x)) in
     let deframes : Deframes (octets now ++ x) (so.frames ++ h.frames) d' = h.past (octets now) so.frames so.deframes in
-    let before : Reads n1 (octets now) so.frames d.undecided = reads_so n1 (octets now) so.frames d so.bound so.idle so.deframes in
-    let reads : Reads n1 (octets now ++ x) (so.frames ++ h.frames) d'.undecided = reads_so n1 (octets now ++ x) (so.frames ++ h.frames) d' bound idle deframes in
+    let before : Reads s.n1 (octets now) so.frames d.undecided = reads_so s.n1 (octets now) so.frames d so.bound so.idle so.deframes in
+    let reads : Reads s.n1 (octets now ++ x) (so.frames ++ h.frames) d'.undecided = reads_so s.n1 (octets now ++ x) (so.frames ++ h.frames) d' bound idle deframes in
     record {
       frames = so.frames ++ h.frames;
       deframes = subst (λ (t : List ℕ). Deframes t (so.frames ++ h.frames) d') (sym more) deframes;
@@ -282,20 +284,27 @@ after_event n1 events k (event.Octets x) v v' d d' at so h idle =
           let r = so.runs f in
           let past = past_of [] r.pieces in
           let few : UsesOnce (requests now) = few_front (requests now) (requests (event.Octets x ∷ drop (k + 1) events)) (subst UsesOnce (ap requests at.whole ∙ filter_map-append request_in now (event.Octets x ∷ drop (k + 1) events)) f) in
-          let w = went_all (replaying n1) h.frames past v v' h.come (subst UsesOnce (sym r.taken_are) few) r.drained in
+          let w = went_all s h.frames past v v' h.come (subst UsesOnce (sym r.taken_are) few) r.drained in
           let t : taken_requests (after past (map Got h.frames)) ≡ requests (now ++ event.Octets x ∷ []) = taken_got h.frames past ∙ takes_none (event.Octets x) past now refl r.taken_are in
-          subst (λ (es : List Event). RunsReplay n1 es v') (sym at.next)
-          (run_more n1 now (event.Octets x ∷ []) (map Got h.frames) v v' r w (begins_octets n1 [] now (map first_of r.pieces) x so.frames h.frames d.undecided d'.undecided r.begins before reads) t);
+          subst (λ (es : List Event). RunsReplay s es v') (sym at.next)
+          (run_more s now (event.Octets x ∷ []) (map Got h.frames) v v' r w (begins_octets s.n1 [] now (map first_of r.pieces) x so.frames h.frames d.undecided d'.undecided r.begins before reads) t);
     }
 
-pub so_far_step : (n1 : ℕ) (events : List Event) (k : ℕ) (e : Event) (v v' : Running) (d d' : Deframing)
-    → k < length events → e ≡ get_or events k e → SoFar n1 events k v d → HandlesEvent e d d' v v' → d'.next ≡ None → SoFar n1 events (k + 1) v' d'
-so_far_step n1 events k e v v' d d' h is so handles idle = after_event n1 events k e v v' d d' (event_at events k e h is) so handles idle
+pub so_far_step : (s : Setting) (events : List Event) (k : ℕ) (e : Event) (v v' : Running) (d d' : Deframing)
+    → k < length events → e ≡ get_or events k e → SoFar s events k v d → HandlesEvent e d d' v v' → d'.next ≡ None → SoFar s events (k + 1) v' d'
+so_far_step s events k e v v' d d' h is so handles idle = after_event s events k e v v' d d' (event_at events k e h is) so handles idle
 
 -- ## The end
 
 pub so_far_end : (n1 : ℕ) (events : List Event) (v : Running) (d : Deframing) (acts : List Act)
-    → take (length events) events ≡ events → v.acts ≡ acts → SoFar n1 events (length events) v d → UsesOnce (requests events) → Replays n1 events acts
+    → take (length events) events ≡ events → v.acts ≡ acts → SoFar (replaying n1) events (length events) v d → UsesOnce (requests events) → Replays n1 events acts
 so_far_end n1 events v d acts all same so f =
+    let run = so.runs f in
+    record { pieces = run.pieces; joins = run.joins ∙ same; begins = subst (λ (es : List Event). BegunBy n1 [] es (map first_of run.pieces)) all run.begins; are_pieces = run.are_pieces }
+
+-- at a modem with rules of its own
+pub so_far_end_by : (rules : Rules) (n1 : ℕ) (events : List Event) (v : Running) (d : Deframing) (acts : List Act)
+    → take (length events) events ≡ events → v.acts ≡ acts → SoFar (replaying_by rules n1) events (length events) v d → UsesOnce (requests events) → ReplaysBy rules n1 events acts
+so_far_end_by rules n1 events v d acts all same so f =
     let run = so.runs f in
     record { pieces = run.pieces; joins = run.joins ∙ same; begins = subst (λ (es : List Event). BegunBy n1 [] es (map first_of run.pieces)) all run.begins; are_pieces = run.are_pieces }

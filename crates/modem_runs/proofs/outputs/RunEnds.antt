@@ -6,6 +6,7 @@ use Rattle.modem_runs.specs.Printed.{IsPrinted}
 use Rattle.modem_texts.specs.Input.{input_lines}
 use Rattle.modem_runs.specs.Input.{HasBad, IsFirstBad}
 use Rattle.modem_runs.specs.Statuses.{status_of}
+use Rattle.modem_runs.specs.declared.stop.DialectFault.{DialectFault}
 use Rattle.modem_runs.specs.declared.stop.Stop.{Stop}
 
 -- what holds of the octets that were read
@@ -21,7 +22,7 @@ has_bad IsBad (Some text) place h = (place, h)
 pub refused_for : {T : Type 0} (built : Result T Stop) (status : ℕ) (known : Option (List ℕ)) (IsBad : List ℕ → Type 0)
     → MatchResult built (λ _. status ≤ 1) (λ stop. status ≡ status_of stop)
     → ((place : ℕ) → IsErrOf built (Stop.BadLine place) → IfSome known (λ text. IsFirstBad IsBad (input_lines text) place))
-    → (built ≢ Err Stop.BadN1) × (built ≢ Err Stop.BadCallers) × (built ≢ Err Stop.BadCut)
+    → (built ≢ Err Stop.BadN1) × (built ≢ Err Stop.BadCallers) × (built ≢ Err Stop.BadCut) × ((fault : DialectFault) → built ≢ Err (Stop.Dialect fault))
     → status ≡ 2
     → IfSome known (λ text. HasBad IsBad (input_lines text))
 refused_for (Ok x) status known IsBad h line settings e = absurd (omega (arith, h, e))
@@ -33,6 +34,7 @@ refused_for (Err Stop.GaveUp) status known IsBad h line settings e = absurd (ome
 refused_for (Err Stop.BadN1) status known IsBad h line settings e = absurd (settings.0 refl)
 refused_for (Err Stop.BadCallers) status known IsBad h line settings e = absurd (settings.1 refl)
 refused_for (Err Stop.BadCut) status known IsBad h line settings e = absurd (settings.2 refl)
+refused_for (Err (Stop.Dialect fault)) status known IsBad h line settings e = absurd (settings.3 fault refl)
 refused_for (Err (Stop.BadLine place)) status known IsBad h line settings e = has_bad IsBad known place (line place refl)
 
 -- status 0 is that of an output that is written whole
@@ -51,4 +53,7 @@ printed_for bytes (Err Stop.GaveUp) status Makes known before after h w m e = ab
 printed_for bytes (Err Stop.BadCallers) status Makes known before after h w m e = absurd (omega (arith, h, e))
 printed_for bytes (Err Stop.BadCut) status Makes known before after h w m e = absurd (omega (arith, h, e))
 printed_for bytes (Err Stop.BadN1) status Makes known before after h w m e = absurd (omega (arith, h, e))
+printed_for bytes (Err (Stop.Dialect DialectFault.Unread)) status Makes known before after h w m e = absurd (omega (arith, h, e))
+printed_for bytes (Err (Stop.Dialect (DialectFault.NoRule place))) status Makes known before after h w m e = absurd (omega (arith, h, e))
+printed_for bytes (Err (Stop.Dialect (DialectFault.Refused place why))) status Makes known before after h w m e = absurd (omega (arith, h, e))
 printed_for bytes (Err (Stop.BadLine place)) status Makes known before after h w m e = absurd (omega (arith, h, e))

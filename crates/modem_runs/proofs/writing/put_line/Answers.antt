@@ -4,11 +4,21 @@ use Rattle.modem_runs.proofs.writing.put_line.Goals as goal
 
 pub returns-then-not-write_text-2 : goal.returns-then-not-write_text-2
 returns-then-not-write_text-2 g c =
-    begun_first _ _ (c.args.first.now ++ c.args.second.now) (10 ∷ [])
-    (begun_after _ (g.W.Write.contents c.write_text.new.output) _ c.args.first.now c.args.second.now (c.write_text.ensures.whole cc) c.write_text-2.ensures.part)
+    begun_first _ _ (c.args.first.now ++ c.args.second.now ++ c.args.third.now) (10 ∷ [])
+    (begun_first _ _ (c.args.first.now ++ c.args.second.now) c.args.third.now
+    (begun_after _ (g.W.Write.contents c.write_text.new.output) _ c.args.first.now c.args.second.now (c.write_text.ensures.whole cc) c.write_text-2.ensures.part))
+
+pub returns-then-not-write_text-3 : goal.returns-then-not-write_text-3
+returns-then-not-write_text-3 g c =
+    begun_first _ _ (c.args.first.now ++ c.args.second.now ++ c.args.third.now) (10 ∷ [])
+    (begun_after _ (g.W.Write.contents c.write_text-2.new.output) _ (c.args.first.now ++ c.args.second.now) c.args.third.now
+    (appends_more _ (g.W.Write.contents c.write_text.new.output) _ c.args.first.now c.args.second.now (c.write_text.ensures.whole cc) (c.write_text-2.ensures.whole cc))
+    c.write_text-3.ensures.part)
 
 pub returns : goal.returns
 returns g c =
-    begun_after _ (g.W.Write.contents c.write_text-2.new.output) _ (c.args.first.now ++ c.args.second.now) (10 ∷ [])
+    begun_after _ (g.W.Write.contents c.write_text-3.new.output) _ (c.args.first.now ++ c.args.second.now ++ c.args.third.now) (10 ∷ [])
+    (appends_more _ (g.W.Write.contents c.write_text-2.new.output) _ (c.args.first.now ++ c.args.second.now) c.args.third.now
     (appends_more _ (g.W.Write.contents c.write_text.new.output) _ c.args.first.now c.args.second.now (c.write_text.ensures.whole cc) (c.write_text-2.ensures.whole cc))
-    c.write_text-3.ensures.part
+    (c.write_text-3.ensures.whole cc))
+    c.write_text-4.ensures.part

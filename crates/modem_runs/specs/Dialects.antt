@@ -1,0 +1,34 @@
+-- The dialect of an input, and why it has none.
+use Rattle.std.specs.Prelude.{ℕ, List, Option, IfSome}
+use Rattle.at_text.specs.Rules.{Rules}
+use Rattle.modem_texts.specs.DialectTexts.{AreLinesOf, IsDialectRefusal}
+use Rattle.modem_texts.specs.Input.{input_lines}
+use Rattle.modem_texts.specs.declared.dialects.DialectRefusal.{DialectRefusal}
+use Rattle.modem_runs.specs.declared.stop.DialectFault.{DialectFault}
+use Rattle.modem_runs.specs.declared.stop.Stop.{Stop}
+
+-- some text is that of these rules, where what the input had is nobody's to say
+pub record HasText (rules : Rules) : Type 0 where
+  pub text : List ℕ
+  pub lines : AreLinesOf (input_lines text) rules
+
+-- it can't be read, or a line of it is the first bad one, and is so for this reason
+abbrev pub IsDialectFault : (input : Option (List ℕ)) → DialectFault → Type 0
+IsDialectFault input DialectFault.Unread = Unit {0}
+IsDialectFault input (DialectFault.NoRule place) =
+    IfSome input (λ text. IsDialectRefusal (input_lines text) (DialectRefusal.NoRule place))
+IsDialectFault input (DialectFault.Refused place why) =
+    IfSome input (λ text. IsDialectRefusal (input_lines text) (DialectRefusal.Refused place why))
+
+-- the causes for which there is no dialect
+abbrev pub IsDialectStop : (input : Option (List ℕ)) → Stop → Type 0
+IsDialectStop input Stop.NoMemory = Unit {0}
+IsDialectStop input (Stop.Dialect fault) = IsDialectFault input fault
+IsDialectStop input (Stop.BadLine place) = ⊥
+IsDialectStop input Stop.Input = ⊥
+IsDialectStop input Stop.Output = ⊥
+IsDialectStop input Stop.Line = ⊥
+IsDialectStop input Stop.GaveUp = ⊥
+IsDialectStop input Stop.BadN1 = ⊥
+IsDialectStop input Stop.BadCallers = ⊥
+IsDialectStop input Stop.BadCut = ⊥

@@ -1,0 +1,119 @@
+//! A replay at a modem with codes of its own.
+ghost use Rattle.std.specs.Prelude.{◌≡◌, ◌≢◌, ℕ, ◌≤◌, ◌<◌, ◌⊎◌, map, Err, IfErr, IfOk, IfSome, IsErrOf};
+ghost use Rattle.std.specs.String.{string_bytes};
+ghost use Rattle.modem_history.specs.Acts.{act_of};
+ghost use Rattle.modem_history.specs.Wholes.{UsesOnce};
+ghost use Rattle.modem_driver.specs.DialectReplays.{ReplaysBy};
+ghost use Rattle.modem_driver.specs.Replays.{requests};
+ghost use Rattle.modem_texts.specs.DialectTexts.{AreLinesOf};
+ghost use Rattle.modem_texts.specs.Input.{input_lines};
+ghost use Rattle.modem_runs.specs.Dialects.{HasText, IsDialectStop};
+ghost use Rattle.modem_runs.specs.Input.{HasBad, IsFirstBad};
+ghost use Rattle.modem_runs.specs.Printed.{IsPrinted, IsReplayedBy};
+ghost use Rattle.modem_runs.specs.Script.{IsNoOrder};
+ghost use Rattle.modem_runs.specs.Stopping.{HasGivenUp, HasStopped, IsRunStop};
+ghost use Rattle.modem_runs.specs.declared.stop.DialectFault.{DialectFault};
+ghost use Rattle.modem_runs.specs.declared.stop.Stop.TheVariants as Stop;
+
+use crate::input::read_whole;
+use crate::runs::takes_n1;
+use crate::script::read_script;
+use crate::stop::{DialectFault, Stop};
+use crate::texts::acts_text_by;
+use crate::writing::{finish, give_up};
+use at_text::Dialect;
+use modem_driver::{Act, CoreError, Event, replay_with_dialect};
+use modem_texts::read_dialect;
+use std::alloc::{AllocError, Global};
+use std::io::{Read, Write};
+
+/// The dialect whose text `input` has, a rule a line (`modem_texts::read_dialect`). It stops where the text can't be read, at the
+/// first bad line, and where memory is refused.
+pub fn dialect_from<R: Read>(alloc: Global, input: &mut R) -> Result<Dialect, Stop>
+    ensures made { IfOk result
+        (λ dialect. IfSome (R.remaining input.old) (λ text. AreLinesOf (input_lines text) dialect)) }
+    ensures some { IfOk result HasText }
+    ensures refused { IfErr result (IsDialectStop (R.remaining input.old)) }
+{
+    let text = match read_whole(alloc, input) {
+        Ok(text) => text,
+        Err(Stop::NoMemory) => return Err(Stop::NoMemory),
+        Err(_) => return Err(Stop::Dialect(DialectFault::Unread)),
+    };
+    let dialect = read_dialect(alloc, text.as_slice())?;
+    Ok(dialect)
+}
+
+/// What events come to.
+fn acts_by(
+    alloc: Global,
+    n1: u16,
+    dialect: &Dialect,
+    events: &[Event],
+) -> Result<Vec<Act>, AllocError>
+    requires { (31 ≤ n1) × (n1 ≤ 32767) }
+    ensures { IfOk result (λ acts. UsesOnce (requests events.now)
+        → ReplaysBy dialect.now n1 events.now (map act_of acts.items)) }
+{
+    match replay_with_dialect(alloc, n1, dialect, events) {
+        Ok(acts) => Ok(acts),
+        Err(CoreError::NoMemory) => Err(AllocError),
+        Err(CoreError::BadN1 | CoreError::NoRoom) => unreachable!(),
+    }
+}
+
+/// The acts that a script comes to, as text.
+fn replayed_by<R: Read>(
+    alloc: Global,
+    input: &mut R,
+    n1: u16,
+    dialect: &Dialect,
+) -> Result<String, Stop>
+    requires { (31 ≤ n1) × (n1 ≤ 32767) }
+    ensures ok { IfOk result (λ text. IfSome (R.remaining input.old)
+        (λ all. IsReplayedBy dialect.now n1 all (string_bytes text))) }
+    ensures bad_line { (place : ℕ) → IsErrOf result (Stop.BadLine place)
+        → IfSome (R.remaining input.old) (λ text. IsFirstBad IsNoOrder (input_lines text) place) }
+    ensures others { (result ≢ Err Stop.BadN1) × (result ≢ Err Stop.BadCallers) × (result ≢ Err Stop.BadCut)
+        × ((fault : DialectFault) → result ≢ Err (Stop.Dialect fault)) }
+    ensures no_line { (result ≢ Err Stop.Line) × (result ≢ Err Stop.GaveUp) }
+    ensures no_output { result ≢ Err Stop.Output }
+{
+    let script = read_whole(alloc, input)?;
+    let events = read_script(alloc, script.as_slice())?;
+    let acts = acts_by(alloc, n1, dialect, events.as_slice())?;
+    let text = acts_text_by(alloc, dialect, acts.as_slice())?;
+    Ok(text)
+}
+
+/// As `replay_run`, at a modem whose codes are those of this dialect: lines of a kind of its own are heard under its name.
+pub fn replay_with_dialect_run<R: Read, W: Write, E: Write>(
+    alloc: Global,
+    input: &mut R,
+    output: &mut W,
+    faults: &mut E,
+    n1: u16,
+    dialect: &Dialect,
+) -> u8
+    ensures status { result ≤ 2 }
+    ensures done { result ≡ 0 → IsPrinted (IsReplayedBy dialect.now n1) (R.remaining input.old)
+        (W.contents output.old) (W.contents output.new) }
+    ensures stopped { result ≢ 0
+        → HasStopped (IsReplayedBy dialect.now n1) (IsRunStop n1 IsNoOrder (R.remaining input.old))
+        (R.remaining input.old) W.contents output.old output.new (E.contents faults.old) (E.contents faults.new)
+        result }
+    ensures nothing { result ≡ 1 → HasGivenUp output.old output.new (E.contents faults.old)
+        (E.contents faults.new) result }
+    ensures refused { result ≡ 2
+        → ((n1 < 31) ⊎ (32767 < n1))
+        ⊎ IfSome (R.remaining input.old) (λ text. HasBad IsNoOrder (input_lines text)) }
+    ensures bad { result ≡ 2 → output.new ≡ output.old }
+    ensures bad_n1 { (n1 < 31) ⊎ (32767 < n1) → (result ≡ 2) × (input.new ≡ input.old) }
+    ensures silent { result ≡ 0 → faults.new ≡ faults.old }
+{
+    if !takes_n1(n1) {
+        return give_up(faults, Stop::BadN1);
+    }
+    let built = replayed_by(alloc, input, n1, dialect);
+    finish(output, faults, built)
+}

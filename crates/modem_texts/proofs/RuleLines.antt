@@ -1,0 +1,81 @@
+-- Which lines say a rule.
+use Rattle.std.specs.Prelude.{◌≡◌, ◌≢◌, ℕ, ◌==◌, Bool, true, false, List, [], ◌∷◌, ◌++◌, drop, codes, refl, if◌then◌else◌}
+use Rattle.std.proofs.Common.{sym, ap, arith, ◌∙◌}
+use Rattle.std.proofs.lemmas.Bool.{false≢true, eq-eqb}
+use Rattle.std.specs.Str.Iter.{LacksByte}
+use Rattle.at_text.specs.declared.rules.Form.{Form}
+use Rattle.at_text.specs.declared.rules.Form.TheVariants.{Line, Prefix, Quoted, Report, OpenReport}
+use Rattle.at_text.specs.Rules.{FinalRule, UrcRule}
+use Rattle.modem_texts.specs.DialectTexts.{SaysNoRule, SaysRule, form_text}
+use Rattle.modem_texts.proofs.CommandWords.{lacks_middle, same_front}
+use Rattle.modem_texts.proofs.CutTexts.{lacks_cons, lacks_nil}
+
+abbrev head_of : List ℕ → ℕ
+head_of [] = 0
+head_of (c ∷ text) = c
+
+-- ## Forms
+
+abbrev lacks : ℕ → List ℕ → Bool
+lacks c [] = true
+lacks c (x ∷ xs) = if x == c then false else lacks c xs
+
+lacks_step : (c x : ℕ) (xs : List ℕ) (b : Bool) → (x == c) ≡ b → (if b then false else lacks c xs) ≡ true → (x ≢ c) × (lacks c xs ≡ true)
+lacks_step c x xs true e h = absurd (false≢true h)
+lacks_step c x xs false e h = (λ same. false≢true (sym e ∙ eq-eqb x c same), h)
+
+lacks_so : (c : ℕ) (xs : List ℕ) → lacks c xs ≡ true → LacksByte c xs
+lacks_so c [] h = lacks_nil c
+lacks_so c (x ∷ xs) h =
+    let parts = lacks_step c x xs (x == c) refl h in
+    lacks_cons c x xs parts.0 (lacks_so c xs parts.1)
+
+lacks_form : (form : Form) → LacksByte 32 (form_text form)
+lacks_form Line = lacks_so 32 (codes "line") refl
+lacks_form Prefix = lacks_so 32 (codes "prefix") refl
+lacks_form Quoted = lacks_so 32 (codes "quoted") refl
+lacks_form Report = lacks_so 32 (codes "report") refl
+lacks_form OpenReport = lacks_so 32 (codes "open-report") refl
+
+-- words that don't begin with a form and a blank
+abbrev pub HaveNoForm : List ℕ → Type 0
+HaveNoForm words = (form : Form) (rest : List ℕ) → words ≢ form_text form ++ 32 ∷ rest
+
+-- no blank
+pub no_form_alone : (words : List ℕ) → LacksByte 32 words → HaveNoForm words
+no_form_alone words h form rest e = lacks_middle 32 (form_text form) rest (rw (sym e) h)
+
+-- the word before the blank is no form
+pub no_form_first : (words word rest : List ℕ) → LacksByte 32 word → words ≡ word ++ 32 ∷ rest → ((form : Form) → word ≢ form_text form) → HaveNoForm words
+no_form_first words word rest h w unknown form more e =
+    let same = same_front 32 word (form_text form) rest more h (lacks_form form) (sym w ∙ e) in
+    unknown form same.0
+
+-- ## Rules
+
+pub no_final : (words : List ℕ) → HaveNoForm words → SaysNoRule (codes "final " ++ words)
+no_final words h (FinalRule form text) s = h form text (ap (drop 6) s)
+no_final words h (UrcRule form text name) s = absurd (let e = ap head_of s.0 in omega (arith, e))
+
+pub no_unsolicited : (words : List ℕ) → HaveNoForm words → SaysNoRule (codes "unsolicited " ++ words)
+no_unsolicited words h (FinalRule form text) s = absurd (let e = ap head_of s in omega (arith, e))
+no_unsolicited words h (UrcRule form text name) s = h form (text ++ 32 ∷ name) (ap (drop 12) s.0)
+
+-- no name behind the form
+pub no_name : (words : List ℕ) (form : Form) (rest : List ℕ) → words ≡ form_text form ++ 32 ∷ rest → LacksByte 32 rest → SaysNoRule (codes "unsolicited " ++ words)
+no_name words form rest w h (FinalRule other text) s = absurd (let e = ap head_of s in omega (arith, e))
+no_name words form rest w h (UrcRule other text name) s =
+    let same = same_front 32 (form_text form) (form_text other) rest (text ++ 32 ∷ name) (lacks_form form) (lacks_form other) (sym w ∙ ap (drop 12) s.0) in
+    lacks_middle 32 text name (rw (sym same.1) h)
+
+pub is_final : (words text : List ℕ) (form : Form) → words ≡ form_text form ++ 32 ∷ text → SaysRule (codes "final " ++ words) (FinalRule form text)
+is_final words text form e = ap (λ (w : List ℕ). codes "final " ++ w) e
+
+pub is_unsolicited : (words rest text name : List ℕ) (form : Form) → words ≡ form_text form ++ 32 ∷ rest → LacksByte 32 name → rest ≡ text ++ 32 ∷ name → SaysRule (codes "unsolicited " ++ words) (UrcRule form text name)
+is_unsolicited words rest text name form e lacks f =
+    (ap (λ (w : List ℕ). codes "unsolicited " ++ w) e ∙ ap (λ (r : List ℕ). codes "unsolicited " ++ form_text form ++ 32 ∷ r) f, lacks)
+
+-- neither word stands first
+pub no_rule : (line : List ℕ) → ((rest : List ℕ) → line ≢ codes "final " ++ rest) → ((rest : List ℕ) → line ≢ codes "unsolicited " ++ rest) → SaysNoRule line
+no_rule line f u (FinalRule form text) s = f (form_text form ++ 32 ∷ text) s
+no_rule line f u (UrcRule form text name) s = u (form_text form ++ 32 ∷ (text ++ 32 ∷ name)) s.0

@@ -1,0 +1,26 @@
+use Rattle.std.proofs.Common.{sym}
+use Rattle.modem_texts.proofs.DialectLines.{made_add, made_all, made_none, made_pass, refused_there}
+use Rattle.modem_texts.specs.DialectTexts.{rule_in}
+use Rattle.modem_texts.proofs.dialects.read_dialect.Goals as goal
+
+pub loop-line-init : goal.loop-line-init
+loop-line-init c = made_none c.args.text.now c.standard-dialect.result c.standard-dialect.ensures
+
+pub loop-line-preserved-then-is_passed_over : goal.loop-line-preserved-then-is_passed_over
+loop-line-preserved-then-is_passed_over c =
+    made_pass c.args.text.now c.loop-line.left.now c.in-Some.line.now c.in-Some.rest.now c.loop-line.place c.loop-line.dialect
+    c.loop-line.invariant c.in-Some.ensures.cut c.in-Some.ensures.shorter (sym c.if-is_passed_over.ensures)
+
+pub returns-in-Err : goal.returns-in-Err
+returns-in-Err c =
+    rw c.at_line.ensures
+    (refused_there c.args.text.now c.loop-line.left.now c.in-Some.line.now c.in-Some.rest.now c.loop-line.place c.loop-line.dialect (rule_in c.in-Some-rule_of.rule) c.in-Err.why
+    c.loop-line.invariant c.in-Some.ensures.cut c.in-Some-rule_of.ensures c.in-Err.ensures.refused)
+
+pub loop-line-preserved : goal.loop-line-preserved
+loop-line-preserved c =
+    made_add c.args.text.now c.loop-line.left.now c.in-Some.line.now c.in-Some.rest.now c.loop-line.place c.loop-line.dialect c.add_rule.new.dialect (rule_in c.in-Some-rule_of.rule)
+    c.loop-line.invariant c.in-Some.ensures.cut c.in-Some.ensures.shorter c.in-Some-rule_of.ensures c.in_default-add_rule.ensures.taken c.in_default-add_rule.ensures.added
+
+pub returns : goal.returns
+returns c = made_all c.args.text.now c.loop-line.left.now c.loop-line.place c.loop-line.dialect c.loop-line.invariant c.in_default.ensures.cut
