@@ -6,5 +6,6 @@ pub mod Printed
 pub mod Script
 pub mod Shown
 pub mod Statuses
+pub mod Steps
 pub mod Stopping
 pub mod Texts
