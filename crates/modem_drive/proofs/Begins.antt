@@ -14,6 +14,8 @@ use Rattle.modem_driver.specs.SessionStates.{FitsAll, SessionState, beginning_of
 use Rattle.modem_drive.specs.declared.users.UnderWay.{UnderWay}
 use Rattle.modem_drive.specs.declared.users.Users.{Users}
 use Rattle.modem_drive.specs.Asking.{PlanView}
+use Rattle.mux_capture.specs.Passing.{CaptureState}
+use Rattle.modem_drive.specs.CapturedLine.{CapturedState, captured_line}
 use Rattle.serial_line.specs.StreamLine.{StreamState, new_stream}
 use Rattle.serial_line.specs.declared.stream_line.ZeroRead.TheVariants.{Ended}
 use Rattle.modem_drive.specs.Running.{Begins, Drove, DroveDevice, HasEntered, IsNewDesk, device_look, plan_begun}
@@ -63,10 +65,17 @@ drove {X} look text n1 first line s users input before after p end left entered 
 }
 
 -- a line between two rings was
-pub drove_device : (text : List ℕ) (n1 : ℕ) (line : StreamState) (before after : Option (List ℕ)) (r : Result Driven DriveFault) → line ≡ new_stream None None Ended
-    → IfOk r (λ d. Drove device_look text n1 line None before after d.fault d.left) → IfOk r (λ d. DroveDevice text n1 before after d.fault)
-drove_device text n1 line before after (Ok d) same h = record { left = d.left; drove = subst (λ (x : StreamState). Drove device_look text n1 x None before after d.fault d.left) same h }
-drove_device text n1 line before after (Err why) same h = tt
+pub drove_device : (text : List ℕ) (n1 : ℕ) (line : StreamState) (wrapped : CapturedState StreamState) (capture : Option CaptureState) (before after : Option (List ℕ)) (r : Result Driven DriveFault) → line ≡ new_stream None None Ended
+    → wrapped ≡ captured_line line capture
+    → IfOk r (λ d. Drove device_look text n1 wrapped None before after d.fault d.left) → IfOk r (λ d. DroveDevice text n1 before after d.fault)
+drove_device text n1 line wrapped capture before after (Ok d) same is h = record {
+  left = d.left;
+  capture = capture;
+  drove =
+      subst (λ (x : CapturedState StreamState). Drove device_look text n1 x None before after d.fault d.left)
+      (is ∙ ap (λ (l : StreamState). captured_line l capture) same) h;
+}
+drove_device text n1 line wrapped capture before after (Err why) same is h = tt
 
 -- without a fault
 pub drove_well : (text : List ℕ) (n1 : ℕ) (before after : Option (List ℕ)) (r : Result Driven DriveFault) → IsOkAnd r (λ d. d.fault ≡ None)

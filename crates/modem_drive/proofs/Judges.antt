@@ -71,6 +71,7 @@ ended_by said c p (Some fault.NoAnswer) k s = tt
 ended_by said c p (Some fault.NotOpened) k s = tt
 ended_by said c p (Some fault.Closed) k s = tt
 ended_by said c p (Some fault.GaveUp) k s = tt
+ended_by said c p (Some fault.Capture) k s = tt
 
 -- a fault other than a line that hung up
 other_fault : (c : Course) (p : PlanView) (f : DriveFault) → Some f ≢ Some fault.HungUp → HasEndedBy c p (Some f)
@@ -85,6 +86,7 @@ other_fault c p fault.NoAnswer n = tt
 other_fault c p fault.NotOpened n = tt
 other_fault c p fault.Closed n = tt
 other_fault c p fault.GaveUp n = tt
+other_fault c p fault.Capture n = tt
 
 pub ended_otherwise : (c : Course) (p : PlanView) (f : DriveFault) (end : Option DriveFault) → went.Ends (Some f) ≡ went.Ends end → Some f ≢ Some fault.HungUp → HasEndedBy c p end
 ended_otherwise c p f end e n = let same : Some f ≡ end = cc in subst (HasEndedBy c p) same (other_fault c p f n)

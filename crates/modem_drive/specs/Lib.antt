@@ -7,3 +7,4 @@ pub mod Showing
 pub mod Driving
 pub mod Ending
 pub mod Running
+pub mod CapturedLine

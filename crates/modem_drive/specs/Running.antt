@@ -1,6 +1,7 @@
 -- A drive, from its line to its end.
 use Rattle.std.specs.Prelude.{◌≡◌, ℕ, List, [], ◌∷◌, Option, None, IfSome, false, map, replicate}
 use Rattle.serial_line.specs.StreamLine.{StreamState, new_stream}
+use Rattle.mux_capture.specs.Passing.{CaptureState}
 use Rattle.serial_line.specs.declared.stream_line.ZeroRead.TheVariants.{Ended}
 use Rattle.at_text.specs.declared.finals.Final.TheVariants.{Good}
 use Rattle.modem_desk.specs.declared.settling.Settled.{Settled}
@@ -9,6 +10,7 @@ use Rattle.modem_history.specs.Sessions.{LineView}
 use Rattle.modem_driver.specs.EntryTries.{IsRepliedTo}
 use Rattle.modem_driver.specs.SessionStates.{FitsAll, SessionState, beginning_of}
 use Rattle.modem_texts.specs.Input.{input_lines}
+use Rattle.modem_drive.specs.CapturedLine.{CapturedState, captured_line}
 use Rattle.modem_drive.specs.Asking.{LinesAsk, PlanView, asks_of}
 use Rattle.modem_drive.specs.Ending.{HasDriven}
 use Rattle.modem_drive.specs.declared.fault.DriveFault.{DriveFault}
@@ -54,18 +56,19 @@ pub record Drove {X : Type 0} (look : X → LineView) (text : List ℕ) (n1 : �
       → IfSome input (λ octets. LinesAsk (input_lines octets) (asks_of driven.ends.ended.lines.submitted))
 
 -- a line of a device, by its own words
-abbrev pub device_look : StreamState → LineView
+abbrev pub device_look : CapturedState StreamState → LineView
 device_look l = record {
-  received = l.received;
-  sent = l.sent;
-  calls = l.calls;
-  failures = l.failures;
-  empty_reads = l.empty_reads;
-  stalled_writes = l.stalled_writes;
+  received = l.line.received;
+  sent = l.line.sent;
+  calls = l.line.calls;
+  failures = l.line.failures;
+  empty_reads = l.line.empty_reads;
+  stalled_writes = l.line.stalled_writes;
 }
 
 -- A line between two rings, on which nothing had happened, was driven so, with the lines of an input that came through a ring. What
--- the device behind the rings did, and what the input had, is nobody's to say.
+-- the device behind the rings did, and what the input had, is nobody's to say. There may be a capture.
 pub record DroveDevice (text : List ℕ) (n1 : ℕ) (before after : Option (List ℕ)) (end : Option DriveFault) : Type 0 where
   pub left : Settled
-  pub drove : Drove device_look text n1 (new_stream None None Ended) None before after end left
+  pub capture : Option CaptureState
+  pub drove : Drove device_look text n1 (captured_line (new_stream None None Ended) capture) None before after end left

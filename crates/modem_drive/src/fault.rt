@@ -41,6 +41,9 @@ pub enum DriveFault {
     /// The line was lost.
     #[error("fault: hung up")]
     HungUp,
+    /// The capture can't be written. All else was done.
+    #[error("fault: capture")]
+    Capture,
     /// It didn't come to its end.
     #[error("fault: gave up")]
     GaveUp,

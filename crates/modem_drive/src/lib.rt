@@ -5,6 +5,7 @@
 //! threads ring, or until a tick is due. So nothing is done while nothing comes.
 #![tactic(auto)]
 
+mod captured_line;
 mod channels;
 mod device;
 mod driving;

@@ -7,6 +7,7 @@ ghost use Rattle.modem_drive.specs.Entry.{entry_for, given_text};
 ghost use Rattle.modem_drive.specs.Running.{Begins, Drove, DroveDevice, HasEntered, IsNewDesk};
 ghost use Rattle.modem_drive.specs.Showing.{HasShown};
 
+use crate::captured_line::CapturedLine;
 use crate::device::{line_beside, read_beside};
 use crate::driving::{Ticks, drive_on};
 use crate::ending::end_drive;
@@ -21,6 +22,7 @@ use at_text::UrcKind;
 use bell::Bell;
 use modem_desk::{Desk, DriverEnd, Settled};
 use modem_driver::{Session, enter_by};
+use mux_capture::Capture;
 use serial_line::{SerialLine, ZeroRead};
 use std::alloc::{AllocGlobal, Global};
 use std::fs::{File, OpenOptions};
@@ -215,8 +217,8 @@ where
     })
 }
 
-/// Says what a drive left undone, if anything, and gives its status.
-fn say_end<E: Write>(faults: &mut E, ended: Result<Driven, DriveFault>) -> u8
+/// Says what a drive left undone, if anything, and gives its status. `uncaptured` says that its capture failed.
+fn say_end<E: Write>(faults: &mut E, ended: Result<Driven, DriveFault>, uncaptured: bool) -> u8
     ensures status { result ≤ 2 }
     ensures well { result ≢ 1 → IsOkAnd ended (λ d. d.fault ≡ None) }
 {
@@ -228,6 +230,7 @@ fn say_end<E: Write>(faults: &mut E, ended: Result<Driven, DriveFault>) -> u8
             }
             match driven.fault {
                 Some(fault) => say_fault(faults, fault),
+                None if uncaptured => say_fault(faults, DriveFault::Capture),
                 None if driven.was_bad => 2,
                 None => 0,
             }
@@ -255,10 +258,61 @@ fn open_device<R: Files<File = File>>(rt: &R, path: &str) -> Result<(File, File)
     Ok((reader, writer))
 }
 
-/// Drives a modem on a device and an input whose calls wait, each in a thread of its own.
-fn drive_threaded<R, D, O, I, W, E>(
+/// A capture into the file of this path, which is made, or emptied where there is one.
+fn open_capture<R: Files<File = File>>(
+    rt: &R,
+    alloc: Global,
+    path: &str,
+) -> Result<Capture<File>, DriveFault> {
+    let Ok(file) = File::create(rt, path) else {
+        return Err(DriveFault::Capture);
+    };
+    match Capture::begin(alloc, file) {
+        Ok(capture) => Ok(capture),
+        Err(_) => Err(DriveFault::Capture),
+    }
+}
+
+/// What a drive needs before it begins.
+#[derive(Drop)]
+struct Opened {
+    reader: File,
+    writer: File,
+    capture: Option<Capture<File>>,
+    trouble: Bell,
+    share: Bell,
+}
+
+/// The device, and the capture where the settings name a file.
+fn open_all<R: Files<File = File>>(
+    rt: &R,
+    alloc: Global,
+    path: &str,
+    settings: &Settings<'_>,
+) -> Result<Opened, DriveFault> {
+    let (reader, writer) = open_device(rt, path)?;
+    let capture = match settings.capture {
+        Some(path) => Some(open_capture(rt, alloc, path)?),
+        None => None,
+    };
+    let trouble = Bell::new(alloc)?;
+    let share = trouble.share()?;
+    Ok(Opened {
+        reader,
+        writer,
+        capture,
+        trouble,
+        share,
+    })
+}
+
+/// Drives a modem on a device and an input whose calls wait, each in a thread of its own. The frames that pass go into the capture, if
+/// there is one; one that fails ends the bell `trouble`.
+fn drive_threaded<R, D, O, C, I, W, E>(
     rt: &R,
     device: (D, O),
+    capture: Option<Capture<C>>,
+    trouble: Bell,
     input: I,
     output: &mut W,
     faults: &mut E,
@@ -268,6 +322,7 @@ where
     R: Threads + Wait + Clock + AllocGlobal + Copy + Send + Drop + 'static,
     D: Read + Send + Drop + 'static,
     O: Write + Send + Drop + 'static,
+    C: Write + Drop,
     I: Read + Send + Drop + 'static,
     W: Write,
     E: Write,
@@ -284,6 +339,7 @@ where
         input,
     )?;
     let (line, threaded) = made;
+    let line = CapturedLine::new(line, *rt, capture, trouble);
     let ended = drive_over(rt, alloc, &bell, line, input, output, faults, settings);
     threaded.end();
     stop.end();
@@ -291,8 +347,9 @@ where
 }
 
 /// Drives a modem on the device of this path, as `drive_over` does, with the lines of `input`, which a thread of its own reads. The
-/// device is a terminal that is set up so that a read waits a while and then gives nothing. The status is 0 where all is done, 2
-/// where a line of the input was bad and all else is done, and 1 at a fault; at 1 and 2 it says on `faults` why.
+/// device is a terminal that is set up so that a read waits a while and then gives nothing. Where the settings name a file, the frames
+/// that are read and written go there, with their times; where that file can't be written the drive goes on to its end. The status is 0
+/// where all is done, 2 where a line of the input was bad and all else is done, and 1 at a fault; at 1 and 2 it says on `faults` why.
 pub fn drive_run<R, I, W, E>(
     rt: &R,
     path: &str,
@@ -310,10 +367,19 @@ where
     ensures drove { result ≢ 1 → DroveDevice (entry_for (given_text settings.entry.entry) settings.entry.n1) settings.entry.n1
         (W.contents output.old) (W.contents output.new) None }
 {
-    match open_device(rt, path) {
-        Ok(device) => {
-            let ended = drive_threaded(rt, device, input, output, faults, settings);
-            say_end(faults, ended)
+    match open_all(rt, rt.alloc(), path, &settings) {
+        Ok(Opened {
+            reader,
+            writer,
+            capture,
+            trouble,
+            share,
+        }) => {
+            let device = (reader, writer);
+            let ended = drive_threaded(
+                rt, device, capture, share, input, output, faults, settings,
+            );
+            say_end(faults, ended, trouble.is_over())
         }
         Err(fault) => say_fault(faults, fault),
     }

@@ -21,6 +21,8 @@ pub struct Settings<'a> {
     pub tick: Duration,
     /// After so long without an answer to its command a connection is closed. Where it is `None` none is.
     pub quiet_for: Option<Duration>,
+    /// The path of a file for a capture of the frames that pass. Where it is `None` there is none.
+    pub capture: Option<&'a str>,
 }
 
 /// What enters the multiplexer where no text is given, and CR.

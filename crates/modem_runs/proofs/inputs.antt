@@ -7,3 +7,4 @@ pub mod ReadLines
 pub mod Scripts
 pub mod Submissions
 pub mod RequestNumbers
+pub mod StepLines

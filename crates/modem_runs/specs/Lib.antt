@@ -6,6 +6,7 @@ pub mod Printed
 pub mod Script
 pub mod Shown
 pub mod Statuses
+pub mod Steps
 pub mod Stopping
 pub mod Texts
 pub mod Dialects

@@ -4,3 +4,4 @@ pub mod Muxes
 pub mod Pieces
 pub mod Served
 pub mod Stepping
+pub mod Watched

@@ -67,11 +67,11 @@ both_served p xs ys = after_both p xs ys ∙ goes_on (plain_after p xs) ys
 
 -- ## All of the input
 
-keeps_same : (a : Option (List ℕ)) → Keeps a a
+pub keeps_same : (a : Option (List ℕ)) → Keeps a a
 keeps_same None = tt
 keeps_same (Some x) = refl
 
-pub served_none : {X : Type 0} (Holds : Setting → List ℕ → List ℕ → X → Type 0) (s : Setting) (input before : Option (List ℕ)) (now : X) → Holds s [] [] now → ServedSoFar Holds s input input before before now
+unfoldable pub served_none : {X : Type 0} (Holds : Setting → List ℕ → List ℕ → X → Type 0) (s : Setting) (input before : Option (List ℕ)) (now : X) → Holds s [] [] now → ServedSoFar Holds s input input before before now
 served_none Holds s input before now holds = record {
   came = [];
   went = [];
@@ -81,7 +81,7 @@ served_none Holds s input before now holds = record {
 }
 
 -- and more
-pub served_more : {X : Type 0} (Holds : Setting → List ℕ → List ℕ → X → Type 0) (s : Setting) (a b c x y z : Option (List ℕ)) (old new : X) (piece before out : List ℕ) → ServedSoFar Holds s a b x y old → Consumes b c piece → StepsBy Holds s old new piece before out → before ≡ [] → Appends y z out → ServedSoFar Holds s a c x z new
+unfoldable pub served_more : {X : Type 0} (Holds : Setting → List ℕ → List ℕ → X → Type 0) (s : Setting) (a b c x y z : Option (List ℕ)) (old new : X) (piece before out : List ℕ) → ServedSoFar Holds s a b x y old → Consumes b c piece → StepsBy Holds s old new piece before out → before ≡ [] → Appends y z out → ServedSoFar Holds s a c x z new
 served_more Holds s a b c x y z old new piece before out so_far read steps none written =
     let says : out ≡ steps.more = steps.written ∙ ap (λ l. l ++ steps.more) none in
     record {
@@ -93,7 +93,7 @@ served_more Holds s a b c x y z old new piece before out so_far read steps none 
     }
 
 -- and no more
-pub served_end : {X : Type 0} (Holds : Setting → List ℕ → List ℕ → X → Type 0) (s : Setting) (a b c x y : Option (List ℕ)) (now : X) → ServedSoFar Holds s a b x y now → Consumes b c [] → IsAtEnd c → ServedWhole Holds s a x y
+unfoldable pub served_end : {X : Type 0} (Holds : Setting → List ℕ → List ℕ → X → Type 0) (s : Setting) (a b c x y : Option (List ℕ)) (now : X) → ServedSoFar Holds s a b x y now → Consumes b c [] → IsAtEnd c → ServedWhole Holds s a x y
 served_end Holds s a b c x y now so_far read end = record {
   last = now;
   rest = c;
@@ -107,7 +107,7 @@ served_end Holds s a b c x y now so_far read end = record {
   };
 }
 
-answers_by : (s : Setting) (came went : List ℕ) (mode : Mode) → Stands s came went mode → Answers s came went
+pub answers_by : (s : Setting) (came went : List ℕ) (mode : Mode) → Stands s came went mode → Answers s came went
 answers_by s came went (Lines p) at =
     subst (λ (l : List ℕ). Answers s l went) (sym at.came_is) (subst (λ (l : List ℕ). Answers s (at.came_before ++ at.lines) l) (sym at.went_is)
     (at_lines at.came_before at.went_before at.modem at.lines at.begins at.none))
@@ -125,7 +125,7 @@ whole_by s all (Some rest) x y mode so_far end =
       written = so_far.written;
     }
 
-begun_at : (s : Setting) (p : Plain) → p ≡ plain_begun s.n1 s.modem → AtLines s [] [] p
+pub begun_at : (s : Setting) (p : Plain) → p ≡ plain_begun s.n1 s.modem → AtLines s [] [] p
 begun_at s p is = record {
   came_before = [];
   went_before = [];

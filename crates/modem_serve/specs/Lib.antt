@@ -5,3 +5,4 @@ pub mod Plain
 pub mod Requests
 pub mod Serving
 pub mod Standing
+pub mod Watching

@@ -14,6 +14,9 @@ pub enum ServeFault {
     /// The writer failed.
     #[error("fault: output")]
     Output,
+    /// The capture can't be written. All else was done.
+    #[error("fault: capture")]
+    Capture,
     /// The modem, or the input, went on without an end.
     #[error("fault: gave up")]
     GaveUp,

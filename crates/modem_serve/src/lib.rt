@@ -11,8 +11,9 @@ mod requests;
 mod server;
 mod serving;
 mod steps;
+mod watching;
 
 pub use fault::{BadOption, ServeFault};
 pub use plain::PlainMode;
 pub use requests::{MuxRequest, mux_request};
-pub use serving::{SimOptions, sim_run};
+pub use serving::{SimOptions, sim_captured, sim_run};

@@ -1,20 +1,24 @@
 //! A modem on a reader and a writer.
-ghost use Rattle.std.specs.Prelude.{◌≡◌, ◌≤◌, ◌<◌, [], false, length, take, None, Some, IfOk, OnOk};
+ghost use Rattle.std.specs.Prelude.{◌≡◌, ◌≤◌, ◌<◌, [], false, length, take, None, Some, IfOk, IsOk, MatchResult, OnOk};
 ghost use Rattle.std.specs.Io.KnownBytes.{Appends, Consumes, IsAtEnd};
 ghost use Rattle.std.specs.List.{list_all};
 ghost use Rattle.at_text.specs.Octets.{is_digit};
 ghost use Rattle.at_cmds.specs.Forms.{is_pin};
-ghost use Rattle.modem_serve.specs.Serving.{HasBadOption, IsAnswered, IsServed, client_modem, has_bad_pin};
-ghost use Rattle.modem_serve.specs.Standing.{IsAtLines, ServedWhole, setting_by};
+ghost use Rattle.modem_serve.specs.Serving.{HasBadOption, IsAnswered, IsServed, client_modem, has_bad_pin, setting_of};
+ghost use Rattle.modem_serve.specs.Standing.{IsAtLines, setting_by};
+ghost use Rattle.modem_serve.specs.Watching.{IsCaptured, IsWatched, WatchedWhole};
 ghost use Rattle.modem_sim.specs.declared.state.ModemState.{ModemState};
 
 use crate::fault::{BadOption, ServeFault};
 use crate::plain::PlainMode;
 use crate::server::{Answering, Mode, Setup};
+use crate::watching::{Nobody, Recorder, Watcher};
 use at_cmds::Pin;
 use modem_sim::{Modem, ModemStart, Steps};
+use mux_capture::{Capture, Direction};
 use std::alloc::Global;
 use std::io::{ErrorKind, Read, Write};
+use std::rt::Clock;
 
 /// How many octets are read at once.
 const PIECE: usize = 4096;
@@ -63,15 +67,16 @@ fn put<W: Write>(output: &mut W, octets: &[u8]) -> Result<(), ServeFault>
 
 /// Takes all octets of the input as they come, and writes what is said to them before it reads on. What answers isn't named here,
 /// so that nothing about it has to be known where it is let go.
-fn serve<M: Answering, I: Read, W: Write>(
+fn serve<M: Answering, V: Watcher, I: Read, W: Write>(
     setup: &Setup,
     first: M,
+    watcher: &mut V,
     input: &mut I,
     output: &mut W,
 ) -> Result<(), ServeFault>
     ensures { OnOk result ((m : ModemState) → M.holds (setting_by setup.now m) [] [] first
-        → ServedWhole M.holds (setting_by setup.now m) (I.remaining input.old) (W.contents output.old)
-        (W.contents output.new)) }
+        → WatchedWhole M.holds V.sees (setting_by setup.now m) (I.remaining input.old) (W.contents output.old)
+        (W.contents output.new) watcher.old watcher.new) }
 {
     let mut now = first;
     let mut piece = [0u8; PIECE];
@@ -81,8 +86,10 @@ fn serve<M: Answering, I: Read, W: Write>(
         if count == 0 {
             return Ok(());
         }
+        watcher.see(Direction::ToModem, &piece[..count]);
         now = now.take_all(setup, &piece[..count], &mut out)?;
         put(output, out.as_slice())?;
+        watcher.see(Direction::FromModem, out.as_slice());
         out.clear();
     }
     Err(ServeFault::GaveUp)
@@ -96,16 +103,19 @@ fn at_lines(setup: &Setup, modem: Modem) -> Mode
 }
 
 /// The same, from plain lines on.
-fn serve_client<I: Read, W: Write>(
+fn serve_client<V: Watcher, I: Read, W: Write>(
     setup: &Setup,
     modem: Modem,
+    watcher: &mut V,
     input: &mut I,
     output: &mut W,
 ) -> Result<(), ServeFault>
-    ensures { OnOk result (IsAnswered (setting_by setup.now modem) (I.remaining input.old)
+    ensures answered { OnOk result (IsAnswered (setting_by setup.now modem) (I.remaining input.old)
         (W.contents output.old) (W.contents output.new)) }
+    ensures watched { OnOk result (IsWatched V.sees (setting_by setup.now modem) (I.remaining input.old)
+        (W.contents output.old) (W.contents output.new) watcher.old watcher.new) }
 {
-    serve(setup, at_lines(setup, modem), input, output)
+    serve(setup, at_lines(setup, modem), watcher, input, output)
 }
 
 /// Whether a PIN isn't 4 to 8 digits.
@@ -148,6 +158,43 @@ fn refuse<E: Write>(faults: &mut E, why: BadOption) -> u8
     2
 }
 
+/// What serves a client by these options.
+fn begin(alloc: Global, options: SimOptions) -> Result<(Setup, Modem), BadOption>
+    ensures { MatchResult result (λ r. (HasBadOption options → ⊥) × (setting_by r.0 r.1 ≡ setting_of options)) (λ _. HasBadOption options) }
+{
+    let SimOptions {
+        n1,
+        pin,
+        echo,
+        steps,
+    } = options;
+    if !(31..=32767).contains(&n1) {
+        return Err(BadOption::N1);
+    }
+    if has_bad_pin(&pin) {
+        return Err(BadOption::Pin);
+    }
+    let start = ModemStart {
+        pin,
+        rssi: 18,
+        ber: 99,
+    };
+    let modem = Modem::with_words(alloc, start, echo);
+    Ok((Setup { alloc, n1, steps }, modem))
+}
+
+/// Says why it ended before its input, if it did, and gives the status.
+fn end<E: Write>(faults: &mut E, served: Result<(), ServeFault>) -> u8
+    ensures status { result ≤ 1 }
+    ensures well { result ≡ 0 → IsOk served }
+    ensures silent { result ≡ 0 → faults.new ≡ faults.old }
+{
+    match served {
+        Ok(()) => 0,
+        Err(fault) => give_up(faults, fault),
+    }
+}
+
 /// A modem with words for a client that writes `input` and reads `output`: it answers command lines until one enters the multiplexer,
 /// `AT+CMUX=0` with or without further parameters (27.007, 5.7); then it is the other end of the multiplexer until a CLD or a DISC on
 /// 0 closes that down; then it answers command lines again, as the same modem. What is said to the octets of `input` is written before
@@ -169,27 +216,55 @@ pub fn sim_run<I: Read, W: Write, E: Write>(
     ensures bad { HasBadOption options → (result ≡ 2) × (input.new ≡ input.old) × (output.new ≡ output.old) }
     ensures silent { result ≡ 0 → faults.new ≡ faults.old }
 {
-    let SimOptions {
-        n1,
-        pin,
-        echo,
-        steps,
-    } = options;
-    if !(31..=32767).contains(&n1) {
-        return refuse(faults, BadOption::N1);
+    match begin(alloc, options) {
+        Ok((setup, modem)) => {
+            let served = serve_client(&setup, modem, &mut Nobody, input, output);
+            end(faults, served)
+        }
+        Err(why) => refuse(faults, why),
     }
-    if has_bad_pin(&pin) {
-        return refuse(faults, BadOption::Pin);
+}
+
+/// What a capture came to beside what was served.
+fn captured(served: Result<(), ServeFault>, failed: bool) -> Result<(), ServeFault>
+    ensures { IsOk result → IsOk served × (failed ≡ false) }
+{
+    served?;
+    if failed {
+        return Err(ServeFault::Capture);
     }
-    let start = ModemStart {
-        pin,
-        rssi: 18,
-        ber: 99,
-    };
-    let modem = Modem::with_words(alloc, start, echo);
-    let setup = Setup { alloc, n1, steps };
-    match serve_client(&setup, modem, input, output) {
-        Ok(()) => 0,
-        Err(fault) => give_up(faults, fault),
+    Ok(())
+}
+
+/// The same, and the frames of all that is read and written go into a capture with their times, each way and in the order in which
+/// they pass; it is given back. Where it can't be written the client is served to the end, and the status is 1 then.
+pub fn sim_captured<K: Clock, I: Read, W: Write, E: Write, C: Write>(
+    clock: &K,
+    alloc: Global,
+    input: &mut I,
+    output: &mut W,
+    faults: &mut E,
+    options: SimOptions,
+    capture: Capture<C>,
+) -> (u8, Capture<C>)
+    ensures status { result.0 ≤ 2 }
+    ensures served { result.0 ≡ 0 → IsServed options (I.remaining input.old) (W.contents output.old)
+        (W.contents output.new) }
+    ensures captured { result.0 ≡ 0 → IsCaptured options (I.remaining input.old) (W.contents output.old)
+        (W.contents output.new) capture result.1 }
+    ensures refused { result.0 ≡ 2 → HasBadOption options }
+    ensures bad { HasBadOption options → (result.0 ≡ 2) × (input.new ≡ input.old) × (output.new ≡ output.old)
+        × (result.1 ≡ capture) }
+    ensures silent { result.0 ≡ 0 → faults.new ≡ faults.old }
+{
+    match begin(alloc, options) {
+        Ok((setup, modem)) => {
+            let mut recorder = Recorder::new(clock, capture);
+            let served = serve_client(&setup, modem, &mut recorder, input, output);
+            let capture = recorder.into_capture();
+            let ended = captured(served, capture.has_failed());
+            (end(faults, ended), capture)
+        }
+        Err(why) => (refuse(faults, why), capture),
     }
 }

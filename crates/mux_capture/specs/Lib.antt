@@ -1,1 +1,2 @@
 pub mod Pcap
+pub mod Passing

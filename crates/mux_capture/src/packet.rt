@@ -3,6 +3,7 @@ ghost use Rattle.std.specs.Prelude.{◌≡◌, ◌+◌, ◌≤◌, ◌++◌, len
 ghost use Rattle.mux_capture.specs.Pcap.{captured, direction_octet, file_header, little_endian, packet, packet_of};
 
 use std::alloc::AllocError;
+use std::rt::Clock;
 
 /// Which end sent a frame.
 #[derive(Clone, Copy, PartialEq, Eq, Debug)]
@@ -20,6 +21,22 @@ pub struct Stamp {
     pub seconds: u32,
     /// Millionths of a second beyond them, below 1,000,000.
     pub micros: u32,
+}
+
+impl Stamp {
+    /// The time since 1970 began; none has passed where the clock fails, and after 2106 it stays at the last second that a stamp has.
+    pub fn now<K: Clock>(clock: &K) -> Stamp {
+        match clock.since_1970() {
+            Ok(time) => Stamp {
+                seconds: u32::try_from(time.as_secs()).unwrap_or(u32::MAX),
+                micros: time.subsec_micros(),
+            },
+            Err(_) => Stamp {
+                seconds: 0,
+                micros: 0,
+            },
+        }
+    }
 }
 
 /// The octets of a file's header.

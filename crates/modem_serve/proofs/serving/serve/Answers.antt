@@ -1,32 +1,35 @@
 use Rattle.std.proofs.Common.{List, ℕ, subst, take, rules}
 use Rattle.std.specs.Io.KnownBytes.{Appends, Consumes}
+use Rattle.mux_capture.specs.declared.packet.Direction.TheVariants.{FromModem}
 use Rattle.modem_serve.specs.Standing.{setting_by}
-use Rattle.modem_serve.proofs.Served.{served_end, served_more, served_none}
+use Rattle.modem_serve.proofs.Watched.{watched_end, watched_more, watched_none}
 use Rattle.modem_serve.proofs.serving.serve.Goals as goal
 
 pub loop-init : goal.loop-init
 loop-init g c = record {
   so_far = λ m holds.
-      served_none g.M.Answering.holds (setting_by c.args.setup.now m) (g.I.Read.remaining c.args.input.now) (g.W.Write.contents c.args.output.now)
-      c.args.first holds;
+      watched_none g.M.Answering.holds g.V.Watcher.sees (setting_by c.args.setup.now m) (g.I.Read.remaining c.args.input.now) (g.W.Write.contents c.args.output.now)
+      c.args.first c.args.watcher.now holds;
   none_left = c.new-out.ensures.items;
 }
 
 pub loop-preserved : goal.loop-preserved
 loop-preserved g c = record {
   so_far = λ m holds.
-      served_more g.M.Answering.holds (setting_by c.args.setup.now m) (g.I.Read.remaining c.args.input.now) (g.I.Read.remaining c.loop.input)
+      watched_more g.M.Answering.holds g.V.Watcher.sees (setting_by c.args.setup.now m) (g.I.Read.remaining c.args.input.now) (g.I.Read.remaining c.loop.input)
       (g.I.Read.remaining c.read_some.new.input) (g.W.Write.contents c.args.output.now) (g.W.Write.contents c.loop.output)
-      (g.W.Write.contents c.put.new.output) c.loop.now c.in_ok-now.now (take c.in_ok-count.count c.read_some.new.piece) c.loop.out.items
+      (g.W.Write.contents c.put.new.output) c.loop.now c.in_ok-now.now c.args.watcher.now c.loop.watcher c.see.new.self c.see-in-loop.new.self (take c.in_ok-count.count c.read_some.new.piece) c.loop.out.items
       c.take_all.new.out.items (c.loop.invariant.so_far m holds) c.in_ok-count.ensures.read (c.in_ok-now.ensures m) c.loop.invariant.none_left
-      (subst (λ (l : List ℕ). Appends (g.W.Write.contents c.loop.output) (g.W.Write.contents c.put.new.output) l) c.as_slice.ensures.value c.in_ok-put.ensures);
+      (subst (λ (l : List ℕ). Appends (g.W.Write.contents c.loop.output) (g.W.Write.contents c.put.new.output) l) c.as_slice.ensures.value c.in_ok-put.ensures)
+      c.see.ensures
+      (subst (λ (l : List ℕ). g.V.Watcher.sees c.see.new.self c.see-in-loop.new.self FromModem l) c.as_slice-in-loop.ensures.value c.see-in-loop.ensures);
   none_left = c.clear.ensures.items;
 }
 
 pub returns-then-count-eq0 : goal.returns-then-count-eq0
 returns-then-count-eq0 g c = λ m holds.
-    served_end g.M.Answering.holds (setting_by c.args.setup.now m) (g.I.Read.remaining c.args.input.now) (g.I.Read.remaining c.loop.input)
-    (g.I.Read.remaining c.read_some.new.input) (g.W.Write.contents c.args.output.now) (g.W.Write.contents c.loop.output) c.loop.now
+    watched_end g.M.Answering.holds g.V.Watcher.sees (setting_by c.args.setup.now m) (g.I.Read.remaining c.args.input.now) (g.I.Read.remaining c.loop.input)
+    (g.I.Read.remaining c.read_some.new.input) (g.W.Write.contents c.args.output.now) (g.W.Write.contents c.loop.output) c.loop.now c.args.watcher.now c.loop.watcher
     (c.loop.invariant.so_far m holds)
     (subst (λ (n : ℕ). Consumes (g.I.Read.remaining c.loop.input) (g.I.Read.remaining c.read_some.new.input) (take n c.read_some.new.piece)) c.if-count-eq0.true c.in_ok-count.ensures.read)
     (c.in_ok-count.ensures.end c.if-count-eq0.true (search rules))

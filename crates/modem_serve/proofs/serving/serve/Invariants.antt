@@ -1,14 +1,15 @@
--- What came so far was answered by what was written.
+-- What came so far was answered by what was written, and all of it was seen.
 use Rattle.std.specs.Prelude.{◌≡◌, List, ℕ, []}
 use Rattle.modem_sim.specs.declared.state.ModemState.{ModemState}
-use Rattle.modem_serve.specs.Standing.{ServedSoFar, setting_by}
+use Rattle.modem_serve.specs.Standing.{setting_by}
+use Rattle.modem_serve.specs.Watching.{WatchedSoFar}
 use Rattle.modem_serve.proofs.serving.serve.Given as goal
 
 abbrev pub invariant-loop : goal.invariant-loop
 invariant-loop g l = record {
   so_far :
       (m : ModemState) → g.M.Answering.holds (setting_by l.setup m) [] [] l.fn.first
-      → ServedSoFar g.M.Answering.holds (setting_by l.setup m) (g.I.Read.remaining l.initial.input)
-      (g.I.Read.remaining l.input) (g.W.Write.contents l.initial.output) (g.W.Write.contents l.output) l.now;
+      → WatchedSoFar g.M.Answering.holds g.V.Watcher.sees (setting_by l.setup m) (g.I.Read.remaining l.initial.input)
+      (g.I.Read.remaining l.input) (g.W.Write.contents l.initial.output) (g.W.Write.contents l.output) l.now l.initial.watcher l.watcher;
   none_left : l.out.items ≡ [];
 }

@@ -1,0 +1,180 @@
+-- The lines of a modem's script, read line by line.
+use Rattle.std.specs.Prelude.{◌≡◌, ◌≢◌, ℕ, ◌+◌, ◌<◌, ◌%◌, ◌^◌, nat_lt, true, false, List, [], ◌∷◌, ◌++◌, length, drop, codes, refl, Option, Some, None, IfSome, Result, Ok, Err, MatchResult}
+use Rattle.std.specs.Fmt.{decimal}
+use Rattle.std.specs.Str.Iter.{LacksByte}
+use Rattle.std.proofs.Common.{sym, ap, arith, eqb, subst, inl, inr, ◌⊎◌, ◌∙◌}
+use Rattle.std.proofs.lemmas.Fmt.{IsAscii-decimal, decimal_by_steps, parse-decimal}
+use Rattle.std.proofs.lemmas.Bool.{eq-eqb, false≢true}
+use Rattle.std.proofs.lemmas.Str.{IsUtf8-from_ascii}
+use Rattle.std.specs.Cmp.Lexicographic.{pointwise}
+use Rattle.std.specs.Str.{IsUtf8}
+use Rattle.std.specs.Str.Parse.{ParsesUnsigned}
+use Rattle.std.proofs.lemmas.List.{append_assoc, append-nil}
+use Rattle.modem_sim.specs.declared.script.Step.{Step}
+use Rattle.modem_sim.specs.declared.script.StepAct.{StepAct}
+use Rattle.modem_sim.specs.declared.script.StepAct.TheVariants.{Announce, Flow, Hold, Disconnect, CloseDown}
+use Rattle.modem_texts.specs.Words.{number_text}
+use Rattle.modem_texts.specs.Input.{input_lines}
+use Rattle.modem_runs.specs.Input.{IsReason}
+use Rattle.modem_runs.specs.declared.stop.Stop.{Stop}
+use Rattle.modem_runs.specs.declared.stop.Stop.TheVariants as Stop
+use Rattle.modem_runs.specs.Steps.{AreSteps, GivesSteps, IsNoStep, StepsStop, SaysAct, SaysNoAct, SaysNoStep, SaysStep}
+use Rattle.modem_runs.proofs.inputs.ReadLines.{IsRead, read_more}
+use Rattle.modem_texts.proofs.CommandWords.{lacks_middle, lacks_number, same_front}
+use Rattle.modem_texts.proofs.CutTexts.{lacks_cons, lacks_head, lacks_nil, lacks_tail}
+
+-- Numbers.
+
+pub decimal_same : {E : Type 0} (text shown : List ℕ) (number n : ℕ) (r : Result ℕ E) → r ≡ Ok number → n < 2 ^ 64 → text ≡ decimal n → ParsesUnsigned 64 10 text r → shown ≡ decimal number → shown ≡ text
+decimal_same text shown number n r is few same parses shows =
+    let ok : r ≡ Ok n = parse-decimal 64 n text r few few same parses in
+    let both : Ok number ≡ Ok n = sym is ∙ ok in
+    let numbers : number ≡ n = cc in
+    shows ∙ ap decimal numbers ∙ sym same
+
+pub no_decimal : {E : Type 0} (text : List ℕ) (n : ℕ) (why : E) (r : Result ℕ E) → r ≡ Err why → n < 2 ^ 64 → ParsesUnsigned 64 10 text r → text ≢ decimal n
+no_decimal text n why r is few parses same =
+    let ok : r ≡ Ok n = parse-decimal 64 n text r few few same parses in
+    let both : Err why ≡ Ok n = sym is ∙ ok in
+    cc
+
+pub no_text : (word : List ℕ) (n : ℕ) → (IsUtf8 word → ⊥) → n < 2 ^ 64 → word ≢ decimal n
+no_text word n none few same = none (subst IsUtf8 (sym same) (IsUtf8-from_ascii (decimal n) (IsAscii-decimal n few)))
+
+pointwise_same : (xs : List ℕ) → pointwise eqb xs xs ≡ true
+pointwise_same [] = refl
+pointwise_same (c ∷ xs) = rw (eq-eqb c c refl) (pointwise_same xs)
+
+pub not_apart : (xs ys : List ℕ) → xs ≡ ys → false ≡ pointwise eqb xs ys → ⊥
+not_apart xs ys same apart = false≢true (apart ∙ ap (λ (l : List ℕ). pointwise eqb l ys) same ∙ pointwise_same ys)
+
+-- Words that say nothing.
+
+abbrev head_of : List ℕ → ℕ
+head_of [] = 0
+head_of (c ∷ text) = c
+
+-- words after `announce` that are no connection, blank and text
+abbrev AreNoText : List ℕ → Type 0
+AreNoText words = (n : ℕ) (text : List ℕ) → n < 62 → words ≢ number_text n ++ 32 ∷ text
+
+pub announces_nothing : (words : List ℕ) → AreNoText words → SaysNoAct (codes "announce " ++ words)
+announces_nothing words h (Announce d text) s = h d.number text d.in_range (ap (drop 9) s)
+announces_nothing words h (Flow d false) s = absurd (let e = ap head_of s in omega (arith, e))
+announces_nothing words h (Flow d true) s = absurd (let e = ap head_of s in omega (arith, e))
+announces_nothing words h (Hold d x) s = absurd (let e = ap head_of s in omega (arith, e))
+announces_nothing words h (Disconnect d) s = absurd (let e = ap head_of s in omega (arith, e))
+announces_nothing words h CloseDown s = absurd (let e = ap head_of s in omega (arith, e))
+
+pub no_blank_text : (words : List ℕ) → LacksByte 32 words → AreNoText words
+no_blank_text words h n text r e = lacks_middle 32 (number_text n) text (rw (sym e) h)
+
+pub no_connection_text : (words word text : List ℕ) → LacksByte 32 word → words ≡ word ++ 32 ∷ text → ((n : ℕ) → n < 62 → word ≢ number_text n) → AreNoText words
+no_connection_text words word text h w unknown n t r e =
+    let same = same_front 32 word (number_text n) text t h (lacks_number (nat_lt n 10) n) (sym w ∙ e) in
+    unknown n r same.0
+
+-- words after `hold` that aren't two connections
+abbrev AreNotTwo : List ℕ → Type 0
+AreNotTwo words = (n m : ℕ) → n < 62 → m < 62 → words ≢ number_text n ++ 32 ∷ number_text m
+
+pub holds_nothing : (words : List ℕ) → AreNotTwo words → SaysNoAct (codes "hold " ++ words)
+holds_nothing words h (Announce d text) s = absurd (let e = ap head_of s in omega (arith, e))
+holds_nothing words h (Flow d false) s = absurd (let e = ap head_of s in omega (arith, e))
+holds_nothing words h (Flow d true) s = absurd (let e = ap head_of s in omega (arith, e))
+holds_nothing words h (Hold d x) s = h d.number x.number d.in_range x.in_range (ap (drop 5) s)
+holds_nothing words h (Disconnect d) s = absurd (let e = ap head_of s in omega (arith, e))
+holds_nothing words h CloseDown s = absurd (let e = ap head_of s in omega (arith, e))
+
+pub no_blank_two : (words : List ℕ) → LacksByte 32 words → AreNotTwo words
+no_blank_two words h n m r s e = lacks_middle 32 (number_text n) (number_text m) (rw (sym e) h)
+
+pub no_first_of_two : (words word text : List ℕ) → LacksByte 32 word → words ≡ word ++ 32 ∷ text → ((n : ℕ) → n < 62 → word ≢ number_text n) → AreNotTwo words
+no_first_of_two words word text h w unknown n m r s e =
+    let same = same_front 32 word (number_text n) text (number_text m) h (lacks_number (nat_lt n 10) n) (sym w ∙ e) in
+    unknown n r same.0
+
+pub no_second_of_two : (words word text : List ℕ) → LacksByte 32 word → words ≡ word ++ 32 ∷ text → ((n : ℕ) → n < 62 → text ≢ number_text n) → AreNotTwo words
+no_second_of_two words word text h w unknown n m r s e =
+    let same = same_front 32 word (number_text n) text (number_text m) h (lacks_number (nat_lt n 10) n) (sym w ∙ e) in
+    unknown m s same.1
+
+-- Lines that say no step.
+
+lacks_both : (c : ℕ) (front back : List ℕ) → LacksByte c front → LacksByte c back → LacksByte c (front ++ back)
+lacks_both c [] back h i = i
+lacks_both c (x ∷ front) back h i = lacks_cons c x (front ++ back) (lacks_head c x front h) (lacks_both c front back (lacks_tail c x front h) i)
+
+lacks_decimal : (n : ℕ) → n < 2 ^ 64 → LacksByte 32 (decimal n)
+lacks_decimal n h =
+    decimal_by_steps (λ m ds. LacksByte 32 ds)
+    (λ m l. lacks_cons 32 (48 + m) [] (λ e. omega (arith, e)) (lacks_nil 32))
+    (λ m ds l d. lacks_both 32 ds ((48 + m % 10) ∷ []) d (lacks_cons 32 (48 + m % 10) [] (λ e. omega (arith, e)) (lacks_nil 32)))
+    n h
+
+pub no_blank_step : (line : List ℕ) → LacksByte 32 line → SaysNoStep line
+no_blank_step line h s c = lacks_middle 32 (decimal s.after) c.words (rw (sym c.line_is) h)
+
+pub no_number_step : (line word words : List ℕ) → LacksByte 32 word → line ≡ word ++ 32 ∷ words → ((n : ℕ) → n < 2 ^ 64 → word ≢ decimal n) → SaysNoStep line
+no_number_step line word words h w unknown s c =
+    let same = same_front 32 word (decimal s.after) words c.words h (lacks_decimal s.after c.few) (sym w ∙ c.line_is) in
+    unknown s.after c.few same.0
+
+pub no_act_step : (line word words : List ℕ) → LacksByte 32 word → line ≡ word ++ 32 ∷ words → SaysNoAct words → SaysNoStep line
+no_act_step line word words h w none s c =
+    let same = same_front 32 word (decimal s.after) words c.words h (lacks_decimal s.after c.few) (sym w ∙ c.line_is) in
+    none s.act (rw same.1 c.says)
+
+-- Line by line.
+
+-- so many lines are read, and the steps that they say
+pub record AreStepsRead (script left : List ℕ) (steps : List Step) (place : ℕ) : Type 0 where
+  pub read : IsRead IsNoStep script left place
+  pub said : (more : List Step) → AreSteps (input_lines left) more → AreSteps (input_lines script) (steps ++ more)
+
+pub all_steps : (script left : List ℕ) (steps : List Step) (place : ℕ) → AreStepsRead script left steps place → left ≡ [] → AreSteps (input_lines script) steps
+all_steps script left steps place h e =
+    let whole : AreSteps (input_lines script) (steps ++ []) = h.said [] (rw e tt) in
+    rw (sym (append-nil steps)) whole
+
+-- an empty line
+pub step_skipped : (script left line rest : List ℕ) (steps : List Step) (place : ℕ) → AreStepsRead script left steps place → input_lines left ≡ line ∷ input_lines rest → length rest < length left → line ≡ [] → AreStepsRead script rest steps (place + 1)
+step_skipped script left line rest steps place h e l n = record {
+  read = read_more IsNoStep script left line rest place h.read e l (λ b. b.0 n);
+  said = λ more i. h.said more (rw (e, n) i);
+}
+
+says_step : (line : List ℕ) (lines : List (List ℕ)) (s : Step) (steps : List Step) → line ≢ [] → SaysStep line s → AreSteps lines steps → AreSteps (line ∷ lines) (s ∷ steps)
+says_step [] lines s steps f h rest = absurd (f refl)
+says_step (c ∷ line) lines s steps f h rest = (h, rest)
+
+-- a line with a step
+pub step_next : (script left line rest : List ℕ) (steps later : List Step) (place : ℕ) (s : Step) → AreStepsRead script left steps place → input_lines left ≡ line ∷ input_lines rest → length rest < length left → line ≢ [] → SaysStep line s → later ≡ steps ++ s ∷ [] → AreStepsRead script rest later (place + 1)
+step_next script left line rest steps later place s h e l f says n = record {
+  read = read_more IsNoStep script left line rest place h.read e l (λ b. b.1 s says);
+  said = λ more i.
+      rw (n, append_assoc steps (s ∷ []) more)
+      (h.said (s ∷ more) (rw e (says_step line (input_lines rest) s more f says i)));
+}
+
+-- What a reader had.
+
+stops_by : (input : Option (List ℕ)) (octets : List ℕ) (stop : Stop) → IfSome input (λ all. octets ≡ all) → IsReason IsNoStep (input_lines octets) stop → StepsStop input stop
+stops_by input octets Stop.NoMemory whole reason = tt
+stops_by input octets (Stop.BadLine place) whole reason = record { text = octets; whole = whole; bad = reason }
+stops_by input octets Stop.Input whole reason = tt
+stops_by input octets Stop.Output whole reason = reason
+stops_by input octets Stop.Line whole reason = reason
+stops_by input octets Stop.GaveUp whole reason = reason
+stops_by input octets Stop.BadN1 whole reason = reason
+stops_by input octets Stop.BadCallers whole reason = reason
+stops_by input octets Stop.BadCut whole reason = reason
+
+pub steps_by : (input : Option (List ℕ)) (octets read : List ℕ) (r : Result (List Step) Stop) → IfSome input (λ all. octets ≡ all) → read ≡ octets → MatchResult r (AreSteps (input_lines read)) (IsReason IsNoStep (input_lines read))
+    → MatchResult r (GivesSteps input) (StepsStop input)
+steps_by input octets read (Ok steps) whole same h = record { text = octets; whole = whole; say = subst (λ (l : List ℕ). AreSteps (input_lines l) steps) same h }
+steps_by input octets read (Err stop) whole same h = stops_by input octets stop whole (subst (λ (l : List ℕ). IsReason IsNoStep (input_lines l) stop) same h)
+
+pub not_read : (input : Option (List ℕ)) (stop : Stop) → (stop ≡ Stop.NoMemory) ⊎ (stop ≡ Stop.Input) → StepsStop input stop
+not_read input stop (inl is) = subst (StepsStop input) (sym is) tt
+not_read input stop (inr is) = subst (StepsStop input) (sym is) tt

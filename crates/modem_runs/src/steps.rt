@@ -1,0 +1,148 @@
+//! The script of a simulated modem: a line for each thing that it does of its own accord.
+ghost use Rattle.std.specs.Prelude.{◌≡◌, ◌≢◌, ℕ, ◌<◌, ◌^◌, ◌++◌, MatchOption, MatchResult, codes, decimal};
+ghost use Rattle.modem_texts.specs.Input.{input_lines};
+ghost use Rattle.modem_runs.specs.Input.{IsReason};
+ghost use Rattle.modem_runs.specs.Steps.{AreSteps, GivesSteps, IsNoStep, SaysAct, SaysNoAct, SaysNoStep, SaysStep, StepsStop};
+ghost use Rattle.modem_texts.specs.declared.refusal.Refusal.TheVariants as Refusal;
+
+use crate::input::read_whole;
+use crate::stop::Stop;
+use at_text::Text;
+use itoa::Buffer;
+use modem_sim::{Step, StepAct, Steps};
+use modem_texts::{Refusal, connection_of, next_line, split_once};
+use std::alloc::Global;
+use std::io::Read;
+use std::str;
+
+/// A number in decimal, without a sign and leading zeros.
+fn decimal_of(text: &str) -> Option<u64>
+    ensures { MatchOption result ((n : ℕ) → n < 2 ^ 64 → text.now ≢ decimal n) (λ n. text.now ≡ decimal n) }
+{
+    match text.parse::<u64>() {
+        Ok(number) => {
+            if Buffer::new().format(number) == text {
+                Some(number)
+            } else {
+                None
+            }
+        }
+        Err(_) => None,
+    }
+}
+
+/// The same in octets.
+fn number_of(word: &[u8]) -> Option<u64>
+    ensures { MatchOption result ((n : ℕ) → n < 2 ^ 64 → word.now ≢ decimal n) (λ n. word.now ≡ decimal n) }
+{
+    match str::from_utf8(word) {
+        Ok(text) => decimal_of(text),
+        Err(_) => None,
+    }
+}
+
+/// What follows `announce`: a connection, one blank and a text.
+fn announce_of(alloc: Global, words: &[u8]) -> Result<StepAct, Refusal>
+    ensures { MatchResult result (SaysAct (codes "announce " ++ words.now))
+        (λ why. why ≡ Refusal.Bad → SaysNoAct (codes "announce " ++ words.now)) }
+{
+    let Some((word, text)) = split_once(words, b' ') else {
+        return Err(Refusal::Bad);
+    };
+    let dlci = connection_of(word)?;
+    let line = Text::from(Vec::from_slice(alloc, text)?);
+    Ok(StepAct::Announce(dlci, line))
+}
+
+/// What follows `hold`: two connections, and one blank between them.
+fn hold_of(words: &[u8]) -> Result<StepAct, Refusal>
+    ensures { MatchResult result (SaysAct (codes "hold " ++ words.now))
+        (λ why. why ≡ Refusal.Bad → SaysNoAct (codes "hold " ++ words.now)) }
+{
+    let Some((held, awaited)) = split_once(words, b' ') else {
+        return Err(Refusal::Bad);
+    };
+    let held = connection_of(held)?;
+    let awaited = connection_of(awaited)?;
+    Ok(StepAct::Hold(held, awaited))
+}
+
+/// What a modem does, in one word.
+fn word_of(words: &[u8]) -> Option<StepAct>
+    ensures { MatchOption result (words.now ≢ codes "closedown") (SaysAct words.now) }
+{
+    match words {
+        b"closedown" => Some(StepAct::CloseDown),
+        _ => None,
+    }
+}
+
+/// What a modem does.
+fn act_of(alloc: Global, words: &[u8]) -> Result<StepAct, Refusal>
+    ensures { MatchResult result (SaysAct words.now) (λ why. why ≡ Refusal.Bad → SaysNoAct words.now) }
+{
+    if let Some(words) = words.strip_prefix(b"announce ") {
+        return announce_of(alloc, words);
+    }
+    if let Some(word) = words.strip_prefix(b"stop ") {
+        return Ok(StepAct::Flow(connection_of(word)?, false));
+    }
+    if let Some(word) = words.strip_prefix(b"go ") {
+        return Ok(StepAct::Flow(connection_of(word)?, true));
+    }
+    if let Some(words) = words.strip_prefix(b"hold ") {
+        return hold_of(words);
+    }
+    if let Some(word) = words.strip_prefix(b"disconnect ") {
+        return Ok(StepAct::Disconnect(connection_of(word)?));
+    }
+    word_of(words).ok_or(Refusal::Bad)
+}
+
+/// A line that isn't empty: a number of commands, one blank, and what the modem does once so many have come.
+fn step_of(alloc: Global, line: &[u8]) -> Result<Step, Refusal>
+    ensures { MatchResult result (SaysStep line.now) (λ why. why ≡ Refusal.Bad → SaysNoStep line.now) }
+{
+    let Some((word, words)) = split_once(line, b' ') else {
+        return Err(Refusal::Bad);
+    };
+    let Some(after) = number_of(word) else {
+        return Err(Refusal::Bad);
+    };
+    match act_of(alloc, words) {
+        Ok(act) => Ok(Step { after, act }),
+        Err(refusal) => Err(refusal),
+    }
+}
+
+/// The steps of a modem's script: those of its lines that aren't empty, in order. Refusals: the first bad line; NoMemory.
+pub fn read_steps(alloc: Global, script: &[u8]) -> Result<Steps, Stop>
+    ensures { MatchResult result (AreSteps (input_lines script.now)) (IsReason IsNoStep (input_lines script.now)) }
+{
+    let mut steps = Vec::new(alloc);
+    let mut place = 0;
+    let mut left = script;
+    while let Some((line, rest)) = next_line(left) {
+        left = rest;
+        place += 1;
+        if line.is_empty() {
+            continue;
+        }
+        match step_of(alloc, line) {
+            Ok(step) => steps.push(step)?,
+            Err(refusal) => return Err(Stop::at_line(place, refusal)),
+        }
+    }
+    Ok(Steps::from(steps))
+}
+
+/// The steps of the script that a reader has, to its end. Refusals: the first bad line; NoMemory; Input, where the reader fails or
+/// gives no end.
+pub fn steps_from<R: Read>(alloc: Global, input: &mut R) -> Result<Steps, Stop>
+    ensures { MatchResult result (GivesSteps (R.remaining input.old)) (StepsStop (R.remaining input.old)) }
+{
+    match read_whole(alloc, input) {
+        Ok(script) => read_steps(alloc, script.as_slice()),
+        Err(stop) => Err(stop),
+    }
+}

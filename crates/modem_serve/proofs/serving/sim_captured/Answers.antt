@@ -1,0 +1,21 @@
+use Rattle.std.specs.Prelude.{Result, Ok, Err, IsOk, OnOk}
+use Rattle.std.proofs.Common.{ap, sym, subst, ◌∙◌}
+use Rattle.std.proofs.lemmas.Bool.{false≢true}
+use Rattle.mux_capture.specs.Passing.{CaptureState}
+use Rattle.modem_serve.specs.Standing.{setting_by}
+use Rattle.modem_serve.specs.Watching.{IsCaptured}
+use Rattle.modem_serve.proofs.Watched.{is_captured}
+use Rattle.modem_serve.proofs.serving.sim_captured.Goals as goal
+
+done : {T E P : Type 0} (r : Result T E) → IsOk r → OnOk r P → P
+done (Ok x) ok h = h
+done (Err e) ok h = absurd (false≢true ok)
+
+pub returns-in-Ok-clause-captured : goal.returns-in-Ok-clause-captured
+returns-in-Ok-clause-captured g c zero =
+    let both = c.captured-ended.ensures (c.end.ensures.well zero) in
+    subst (λ (new : CaptureState). IsCaptured c.args.options (g.I.Read.remaining c.args.input.now) (g.W.Write.contents c.args.output.now) (g.W.Write.contents c.serve_client-served.new.output) c.args.capture new) (sym c.into_capture-capture.ensures)
+    (subst (λ (old : CaptureState). IsCaptured c.args.options (g.I.Read.remaining c.args.input.now) (g.W.Write.contents c.args.output.now) (g.W.Write.contents c.serve_client-served.new.output) old c.serve_client-served.new.watcher) c.new-recorder.ensures
+    (is_captured c.args.options (setting_by c.in-Ok.setup c.in-Ok.modem) (g.I.Read.remaining c.args.input.now) (g.W.Write.contents c.args.output.now) (g.W.Write.contents c.serve_client-served.new.output) c.new-recorder.result c.serve_client-served.new.watcher
+    c.in-Ok.ensures.1 (done c.serve_client-served.result both.0 c.serve_client-served.ensures.watched)
+    (ap (λ (s : CaptureState). s.failed) (sym c.into_capture-capture.ensures) ∙ sym c.has_failed.ensures ∙ both.1)))
