@@ -63,9 +63,19 @@ enum cimbaloty_status {
 	CIMBALOTY_OUTPUT_FIRST = 21,/* the line has to take octets first: cimbaloty_output */
 	CIMBALOTY_NO_ROOM = 22,     /* the text is longer than the room; the head says how long; it stays */
 	CIMBALOTY_NOTHING = 23,     /* nothing waits */
+	CIMBALOTY_HAS_DIALECT = 24, /* there is a dialect already */
+	CIMBALOTY_NO_DIALECT = 25,  /* there is none */
+	CIMBALOTY_BAD_FORM = 26,    /* no enum cimbaloty_form */
 	CIMBALOTY_NO_AT = 33,       /* a command line begins with AT or at, */
 	CIMBALOTY_BAD_OCTET = 34,   /* has the octets 20 to 7E hex alone, */
-	CIMBALOTY_TOO_LONG = 35     /* and is at most 256 octets long */
+	CIMBALOTY_TOO_LONG = 35,    /* and is at most 256 octets long */
+	CIMBALOTY_TOO_MANY_RULES = 49, /* a dialect has at most 64 rules */
+	CIMBALOTY_NO_TEXT = 50,     /* the text of a rule has 1 to 64 octets, */
+	CIMBALOTY_LONG_TEXT = 51,
+	CIMBALOTY_LINE_END = 52,    /* and neither CR nor LF */
+	CIMBALOTY_BAD_NAME = 53,    /* the name of a rule has 1 to 64 octets 21 to 7E hex */
+	CIMBALOTY_IS_COMMAND = 54,  /* a line of the rule begins with AT or at, as the echo of a command does */
+	CIMBALOTY_AMBIGUOUS = 55    /* some line would both end an answer and be unsolicited */
 };
 
 /* How a request ended. */
@@ -89,10 +99,15 @@ enum cimbaloty_answer {
 enum cimbaloty_kind {
 	CIMBALOTY_RING = 1, CIMBALOTY_CRING = 2, CIMBALOTY_CREG = 3, CIMBALOTY_CGREG = 4,
 	CIMBALOTY_CGEV = 5, CIMBALOTY_CIEV = 6,
-	CIMBALOTY_OTHER = 7         /* a line of none of these that belongs to no answer */
+	CIMBALOTY_OTHER = 7,        /* a line of none of these that belongs to no answer */
+	CIMBALOTY_OWN = 8           /* the first of a dialect's own; the others follow, up to 71 */
 };
 #define CIMBALOTY_BIT(kind) ((uint8_t)(1u << ((kind) - 1)))
 #define CIMBALOTY_ALL_KINDS ((uint8_t)0x7F)
+
+/* The bit of a kind of a dialect's own in a set of such kinds. */
+#define CIMBALOTY_OWN_BIT(kind) (UINT64_C(1) << ((kind) - CIMBALOTY_OWN))
+#define CIMBALOTY_ALL_OWN UINT64_MAX
 
 /* How a connection stands. */
 enum cimbaloty_channel_state {
@@ -116,7 +131,7 @@ struct cimbaloty_outcome {
 struct cimbaloty_line {
 	size_t length;          /* octets of the text */
 	uint8_t dlci;
-	uint8_t kind;           /* enum cimbaloty_kind */
+	uint16_t kind;          /* enum cimbaloty_kind, or a kind of the dialect's own */
 };
 
 /* What is left of a driver. */
@@ -125,6 +140,28 @@ struct cimbaloty_left {
 	size_t outcomes;        /* those that weren't polled */
 	size_t lines;           /* likewise */
 };
+
+/* Which lines with a rule's text at their front are lines of the rule: those that go on behind it so. */
+enum cimbaloty_form {
+	CIMBALOTY_LINE = 1,         /* not at all: the text alone */
+	CIMBALOTY_PREFIX = 2,       /* in any way */
+	CIMBALOTY_QUOTED = 3,       /* by any blanks and a quote */
+	CIMBALOTY_REPORT = 4,       /* by any blanks and a digit, and no comma, or a quote behind the first one: +CREG: 1,"00A1" */
+	CIMBALOTY_OPEN_REPORT = 5   /* by any blanks and a digit, and no digit behind the first comma: +CEREG: 3,,,,0,11 */
+};
+
+/* The codes of a modem: which lines end an answer, and which are unsolicited. All zero is none. Its fields are the
+ * library's: don't read, write or copy them. It may be moved in memory between calls. */
+struct cimbaloty_dialect {
+	void *at;
+	bool is_there;
+};
+
+#ifdef __cplusplus
+#define CIMBALOTY_DIALECT_NONE {}
+#else
+#define CIMBALOTY_DIALECT_NONE { 0 }
+#endif
 
 /* ---- Begin and end -------------------------------------------------------------------------------- */
 
@@ -137,6 +174,12 @@ uint32_t cimbaloty_version(void);
  * give the last one that was used and 1 to have numbers go on after a loss of the line.
  * Refused, by the first of: HAS_DRIVER, BAD_KINDS, BAD_N1, NO_MEMORY; then there is no new one. */
 uint8_t cimbaloty_new(struct cimbaloty *c, uint16_t n1, uint8_t kinds, uint64_t first);
+
+/* The same at a modem of this dialect, of which it takes a copy: the dialect stays, and may be freed or changed.
+ * own: the set of the dialect's own kinds that are kept too; a bit of no kind does nothing.
+ * Refused, by the first of: HAS_DRIVER, BAD_KINDS, BAD_N1, NO_DIALECT, NO_MEMORY; then there is no new one. */
+uint8_t cimbaloty_new_with_dialect(struct cimbaloty *c, struct cimbaloty_dialect *d, uint16_t n1, uint8_t kinds,
+				   uint64_t own, uint64_t first);
 
 /* Ends the driver, if there is one. What wasn't polled is gone. */
 void cimbaloty_free(struct cimbaloty *c);
@@ -159,6 +202,21 @@ uint8_t cimbaloty_line_lost(struct cimbaloty *c);
 
 /* How a connection stands (enum cimbaloty_channel_state); 0 where there is no driver or no such connection. */
 uint8_t cimbaloty_state(struct cimbaloty *c, uint8_t dlci);
+
+/* ---- Dialects ------------------------------------------------------------------------------------- */
+
+/* Each makes a dialect where there is none. Refused: HAS_DIALECT, NO_MEMORY; then there is no new one.
+ *
+ * cimbaloty_dialect_new has the standard's codes alone: OK, ERROR and +CME ERROR: end an answer, and the
+ * kinds 1 to 6 are unsolicited. cimbaloty_dialect_common has +CMS ERROR: too, and kinds of the names CEREG,
+ * C5GREG, CMTI, CDSI, CLIP, CCWA, CTZV and CTZE. cimbaloty_dialect_dialling has beside these NO CARRIER, BUSY,
+ * NO ANSWER and NO DIALTONE, which end an answer: also that of another command, where they come unasked. */
+uint8_t cimbaloty_dialect_new(struct cimbaloty_dialect *d);
+uint8_t cimbaloty_dialect_common(struct cimbaloty_dialect *d);
+uint8_t cimbaloty_dialect_dialling(struct cimbaloty_dialect *d);
+
+/* Frees the dialect, if there is one. */
+void cimbaloty_dialect_free(struct cimbaloty_dialect *d);
 
 /* ---- Requests ------------------------------------------------------------------------------------- */
 
@@ -186,6 +244,10 @@ uint8_t cimbaloty_poll_outcome_at(struct cimbaloty *c, struct cimbaloty_outcome 
 uint8_t cimbaloty_peek_line(struct cimbaloty *c, struct cimbaloty_line *head);
 uint8_t cimbaloty_poll_line_at(struct cimbaloty *c, struct cimbaloty_line *head, uint8_t *text, size_t room);
 uint8_t cimbaloty_finish_at(struct cimbaloty *c, struct cimbaloty_left *left, uint64_t *numbers, size_t room);
+uint8_t cimbaloty_dialect_add_final_at(struct cimbaloty_dialect *d, uint8_t form, const uint8_t *text, size_t length);
+uint8_t cimbaloty_dialect_add_unsolicited_at(struct cimbaloty_dialect *d, uint8_t form, const uint8_t *text, size_t length,
+					     const uint8_t *name, size_t name_length);
+uint16_t cimbaloty_dialect_kind_at(struct cimbaloty_dialect *d, const uint8_t *name, size_t length);
 
 /* The library's own functions owe a valid pointer for length 0 too. These below take NULL there. */
 
@@ -265,13 +327,44 @@ static inline uint8_t cimbaloty_finish(struct cimbaloty *c, struct cimbaloty_lef
 	return cimbaloty_finish_at(c, left, room ? numbers : &none, room);
 }
 
+/* Adds a rule behind those that there are: its lines end an answer. form: enum cimbaloty_form.
+ * Refused, by the first of: NO_DIALECT, BAD_FORM, TOO_MANY_RULES, NO_TEXT, LONG_TEXT, LINE_END, IS_COMMAND,
+ * AMBIGUOUS, NO_MEMORY; then the dialect is as it was. */
+static inline uint8_t cimbaloty_dialect_add_final(struct cimbaloty_dialect *d, uint8_t form, const char *text, size_t length)
+{
+	static const uint8_t none = 0;
+
+	return cimbaloty_dialect_add_final_at(d, form, length ? (const uint8_t *)text : &none, length);
+}
+
+/* Adds a rule behind those that there are: its lines are unsolicited, of the kind of this name. The standard
+ * goes before all rules, and of the rules that take a line the first is asked.
+ * Refused as that of cimbaloty_dialect_add_final, with BAD_NAME behind LINE_END. */
+static inline uint8_t cimbaloty_dialect_add_unsolicited(struct cimbaloty_dialect *d, uint8_t form, const char *text,
+							size_t length, const char *name, size_t name_length)
+{
+	static const uint8_t none = 0;
+
+	return cimbaloty_dialect_add_unsolicited_at(d, form, length ? (const uint8_t *)text : &none, length,
+						    name_length ? (const uint8_t *)name : &none, name_length);
+}
+
+/* The kind of this name, 8 or more, as cimbaloty_poll_line tells it; 0 where no rule has the name, or there is
+ * no dialect. */
+static inline uint16_t cimbaloty_dialect_kind(struct cimbaloty_dialect *d, const char *name, size_t length)
+{
+	static const uint8_t none = 0;
+
+	return cimbaloty_dialect_kind_at(d, length ? (const uint8_t *)name : &none, length);
+}
+
 /* ---- What you owe (nothing checks it) ---------------------------------------------------------------
  *
- *  1. A struct cimbaloty begins as CIMBALOTY_NONE, and these functions alone touch it. Where one was copied
- *     or moved, the other copy isn't used any more.
- *  2. One call at a time on one driver. Calls may come from different threads where your lock, the start or
- *     join of a thread, or a sequentially consistent atomic puts each behind the one before it. Two drivers
- *     share nothing.
+ *  1. A struct cimbaloty begins as CIMBALOTY_NONE, a struct cimbaloty_dialect as CIMBALOTY_DIALECT_NONE, and
+ *     these functions alone touch them. Where one was copied or moved, the other copy isn't used any more.
+ *  2. One call at a time on one driver, and on one dialect. Calls may come from different threads where your
+ *     lock, the start or join of a thread, or a sequentially consistent atomic puts each behind the one before
+ *     it. Two drivers share nothing, and a driver nothing with the dialect that it was made with.
  *  3. A pointer isn't null, but beside a length of 0 above, is aligned for its type, and points to as many
  *     values as the length says, which have been written; where the call writes, nothing else that the call
  *     is given lies there. Lengths are at most PTRDIFF_MAX.
@@ -285,7 +378,7 @@ static inline uint8_t cimbaloty_finish(struct cimbaloty *c, struct cimbaloty_lef
  *
  *  No call reads or writes outside of what it is given or owns, uses memory that was freed, divides by zero,
  *  wraps a sum or runs for ever; and each refusal leaves what is said above. There is one history of requests,
- *  frames, outcomes and lines of a driver, from cimbaloty_new on, such that
+ *  frames, outcomes and lines of a driver, from its making on, such that
  *   - the octets that cimbaloty_input took are read as the frames of the history by the rules of 27.010, each
  *     octet once, in order;
  *   - the octets that cimbaloty_output gave, and then those that wait, are the frames that the history sends;
@@ -295,8 +388,11 @@ static inline uint8_t cimbaloty_finish(struct cimbaloty *c, struct cimbaloty_lef
  *     those of the history, each once and in order: of a command just the lines of its own answer;
  *   - of each kind the unsolicited lines polled, and then those that wait, are those of the history, each once
  *     and in order, and none is part of an answer.
- *  The text of an outcome or a line is at the front of the room as it was kept. A driver says the same to every
- *  thread: it may be passed from one to another.
+ *  Which lines are final codes and which unsolicited, and of which kind, is said by the standard and then by the
+ *  rules that the dialect had as the driver was made. A rule is taken just where nothing above speaks against it:
+ *  no line both ends an answer and is unsolicited.
+ *  The text of an outcome or a line is at the front of the room as it was kept. Drivers and dialects say the same
+ *  to every thread: they may be passed from one to another.
  *
  *  Not proved, and tested: that a call succeeds where there is memory; that memory is given back. Not claimed:
  *  any time or speed, that a modem answers, and anything about code in C. */

@@ -1,7 +1,8 @@
 /* fake.c - a modem at octets: the basic option of 27.010 read and written by hand.
  *
  * AT+N=x is answered by +N: and a number that follows from x and the connection, with a RING before every
- * seventh; AT+LONG=n by n lines; AT+BAD by +CME ERROR: 3; AT+MUTE by nothing; every other command by ERROR. */
+ * seventh; AT+LONG=n by n lines; AT+BAD by +CME ERROR: 3; AT+FAIL by +CMS ERROR: 500; AT+MIXED by two lines with
+ * +CEREG: 2 between them; AT+MUTE by nothing; every other command by ERROR. */
 #include "fake.h"
 #include <stdio.h>
 #include <stdlib.h>
@@ -92,6 +93,10 @@ static void command(struct fake *f, unsigned dlci, const char *line)
 		put_text(f, dlci, "\r\nOK\r\n");
 	} else if (!strcmp(line, "AT+BAD"))
 		put_text(f, dlci, "\r\n+CME ERROR: 3\r\n");
+	else if (!strcmp(line, "AT+FAIL"))
+		put_text(f, dlci, "\r\n+CMS ERROR: 500\r\n");
+	else if (!strcmp(line, "AT+MIXED"))
+		put_text(f, dlci, "\r\n+MIXED: 1\r\n\r\n+CEREG: 2\r\n\r\n+MIXED: 2\r\n\r\nOK\r\n");
 	else if (strcmp(line, "AT+MUTE"))
 		put_text(f, dlci, "\r\nERROR\r\n");
 }

@@ -1,14 +1,8 @@
-/* library.c - the library against the fake modem in one program: refusals, rooms, cuts, losses, two drivers in
+/* library.c - the library against the fake modem in one program: refusals, dialects, rooms, cuts, losses, two drivers in
  * two threads, one driver in four, and each allocation refused in turn. Link with -Wl,--wrap=malloc,--wrap=realloc. */
 #define _POSIX_C_SOURCE 200809L
-#include "cimbaloty.h"
-#include "fake.h"
+#include "pair.h"
 #include <pthread.h>
-#include <stdio.h>
-#include <stdlib.h>
-#include <string.h>
-
-#define CHECK(fact) do { if (!(fact)) { printf("%s:%d: not so: %s\n", __FILE__, __LINE__, #fact); exit(1); } } while (0)
 
 /* ---- Memory ---- */
 
@@ -18,97 +12,6 @@ void *__real_realloc(void *at, size_t size);
 static _Thread_local size_t asked_for;  /* octets, over all allocations */
 void *__wrap_malloc(size_t size) { asked_for += size; return left >= 0 && left-- == 0 ? NULL : __real_malloc(size); }
 void *__wrap_realloc(void *at, size_t size) { asked_for += size; return left >= 0 && left-- == 0 ? NULL : __real_realloc(at, size); }
-
-/* ---- A driver and its modem ---- */
-
-struct pair {
-	struct cimbaloty c;
-	struct fake f;
-	size_t out, in;         /* octets a piece, each way */
-	unsigned long refused;
-};
-
-/* What has to go goes and what the modem says comes, until neither does. */
-static void pump(struct pair *p)
-{
-	uint8_t octets[4096];
-	size_t count, taken, moved;
-
-	do {
-		moved = 0;
-		while ((count = cimbaloty_output(&p->c, octets, p->out)) > 0) {
-			fake_hears(&p->f, octets, count);
-			moved += count;
-		}
-		count = fake_says(&p->f, octets, p->in);
-		for (size_t at = 0; at < count; at += taken) {
-			uint8_t said = cimbaloty_input(&p->c, octets + at, count - at, &taken);
-
-			CHECK(said == CIMBALOTY_OK || said == CIMBALOTY_NO_MEMORY || said == CIMBALOTY_OUTPUT_FIRST);
-			CHECK(taken <= count - at && (said != CIMBALOTY_OK || taken == count - at));
-			p->refused += said == CIMBALOTY_NO_MEMORY;
-			if (said == CIMBALOTY_OUTPUT_FIRST && taken < count - at) {
-				uint8_t more[512];
-				size_t some = cimbaloty_output(&p->c, more, sizeof more);
-
-				CHECK(some > 0);
-				fake_hears(&p->f, more, some);
-			}
-		}
-		moved += count;
-	} while (moved);
-}
-
-static struct pair *begin(size_t out, size_t in)
-{
-	struct pair *p = calloc(1, sizeof *p);
-	uint64_t n;
-
-	CHECK(p);
-	p->out = out;
-	p->in = in;
-	p->f.is_multiplexed = true;
-	CHECK(cimbaloty_new(&p->c, 31, CIMBALOTY_ALL_KINDS, 1) == CIMBALOTY_OK);
-	CHECK(cimbaloty_open(&p->c, 0, &n) == CIMBALOTY_OK && n == 1);
-	pump(p);
-	return p;
-}
-
-static void end(struct pair *p)
-{
-	CHECK(p->f.bad == 0);
-	cimbaloty_free(&p->c);
-	free(p);
-}
-
-/* The next outcome is this, of this request; its text is put behind `text`, with a 0. */
-static void told(struct pair *p, uint64_t number, uint8_t answer, char *text, size_t room)
-{
-	struct cimbaloty_outcome o;
-
-	CHECK(cimbaloty_poll_outcome(&p->c, &o, text, room - 1) == CIMBALOTY_OK);
-	CHECK(o.number == number && o.answer == answer);
-	text[o.length] = 0;
-}
-
-static uint64_t asked(struct pair *p, uint8_t dlci, const char *line)
-{
-	uint64_t n = 0;
-
-	CHECK(cimbaloty_command(&p->c, dlci, line, strlen(line), &n) == CIMBALOTY_OK);
-	return n;
-}
-
-static void opened(struct pair *p, uint8_t dlci, uint64_t number)
-{
-	uint64_t n;
-	char text[8];
-
-	CHECK(cimbaloty_open(&p->c, dlci, &n) == CIMBALOTY_OK && n == number);
-	pump(p);
-	told(p, number, CIMBALOTY_OPENED, text, sizeof text);
-	CHECK(cimbaloty_state(&p->c, dlci) == CIMBALOTY_IS_OPENED);
-}
 
 /* ---- What is tried ---- */
 
@@ -365,17 +268,19 @@ static void passed(void)
 /* A run in which the allocation at this place is refused, and what was refused is called again. */
 static bool one_refused(long place, unsigned long *refused)
 {
-	struct pair *p = calloc(1, sizeof *p);
+	struct pair *p = pair_of(7, 5);
+	struct cimbaloty_dialect d = CIMBALOTY_DIALECT_NONE;
 	char text[4096];
 	uint64_t n;
 
-	CHECK(p);
-	p->out = 7;
-	p->in = 5;
-	p->f.is_multiplexed = true;
 #define AGAIN(call) while ((call) == CIMBALOTY_NO_MEMORY) p->refused++
 	left = place;
-	AGAIN(cimbaloty_new(&p->c, 64, CIMBALOTY_ALL_KINDS, 1));
+	AGAIN(cimbaloty_dialect_common(&d));
+	AGAIN(FINAL(&d, CIMBALOTY_LINE, "SEND FAIL"));
+	AGAIN(UNSOLICITED(&d, CIMBALOTY_LINE, "RDY", "READY"));
+	AGAIN(cimbaloty_new_with_dialect(&p->c, &d, 64, CIMBALOTY_ALL_KINDS, CIMBALOTY_ALL_OWN, 1));
+	uint16_t ready = KIND(&d, "READY");
+	cimbaloty_dialect_free(&d);
 	AGAIN(cimbaloty_open(&p->c, 0, &n));
 	pump(p);
 	AGAIN(cimbaloty_open(&p->c, 1, &n));
@@ -383,6 +288,7 @@ static bool one_refused(long place, unsigned long *refused)
 	AGAIN(cimbaloty_command(&p->c, 1, "AT+LONG=9", 9, &n));
 	pump(p);
 	fake_reports(&p->f, 1, "RING");
+	fake_reports(&p->f, 1, "RDY");
 	pump(p);
 	AGAIN(cimbaloty_tick(&p->c));
 	AGAIN(cimbaloty_close(&p->c, 1, &n));
@@ -397,6 +303,7 @@ static bool one_refused(long place, unsigned long *refused)
 	told(p, 4, CIMBALOTY_SHUT, text, sizeof text);
 	struct cimbaloty_line u;
 	CHECK(cimbaloty_poll_line(&p->c, &u, text, sizeof text) == CIMBALOTY_OK && u.kind == CIMBALOTY_RING);
+	CHECK(cimbaloty_poll_line(&p->c, &u, text, sizeof text) == CIMBALOTY_OK && u.kind == ready && ready == CIMBALOTY_OWN + 8);
 	CHECK(p->f.commands == 1 && p->f.openings == 2);
 	*refused += p->refused;
 	end(p);
@@ -421,6 +328,8 @@ int main(void)
 
 	memory_of_new();
 	refusals();
+	rules();
+	dialects();
 	rooms();
 	cuts();
 	full_and_lost();

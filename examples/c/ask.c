@@ -75,6 +75,7 @@ static unsigned wait_for(struct cimbaloty *c, int fd, uint64_t number, bool *ok)
 int main(int argc, char **argv)
 {
 	struct cimbaloty c = CIMBALOTY_NONE;
+	struct cimbaloty_dialect codes = CIMBALOTY_DIALECT_NONE;
 	uint64_t number;
 	bool ok = false;
 	unsigned said;
@@ -88,8 +89,9 @@ int main(int argc, char **argv)
 		fprintf(stderr, "%s: %s\n", argv[1], fd < 0 ? strerror(errno) : "the modem doesn't answer AT+CMUX=0 by OK");
 		return 2;
 	}
-	if (cimbaloty_new(&c, 31, 0, 1) != CIMBALOTY_OK)
+	if (cimbaloty_dialect_common(&codes) != CIMBALOTY_OK || cimbaloty_new_with_dialect(&c, &codes, 31, 0, 0, 1) != CIMBALOTY_OK)
 		return 2;
+	cimbaloty_dialect_free(&codes);
 	for (uint8_t dlci = 0; dlci < 2; dlci++)
 		if (cimbaloty_open(&c, dlci, &number) != CIMBALOTY_OK || wait_for(&c, fd, number, &ok) != CIMBALOTY_OPENED) {
 			fprintf(stderr, "connection %u doesn't open\n", dlci);

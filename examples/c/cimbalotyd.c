@@ -3,9 +3,9 @@
  * Brings the modem on TTY into the multiplexer, opens connections 1 to COUNT, and gives each to other
  * programs as a pseudo-terminal, DIRECTORY/at1 and so on: a program writes a command line and CR there, and
  * reads its answer, each line between CR LF and CR LF (V.250, 5.7.1). Unsolicited lines come to
- * DIRECTORY/events. What can't be answered is answered by ERROR: a line that is no command or too long, and a
- * command whose connection or line was lost. Where the line hangs up it is opened again. Ends by SIGTERM or
- * SIGINT, having ended the multiplexer. */
+ * DIRECTORY/events. Which lines are what is said by cimbaloty_dialect_common. What can't be answered is
+ * answered by ERROR: a line that is no command or too long, and a command whose connection or line was lost.
+ * Where the line hangs up it is opened again. Ends by SIGTERM or SIGINT, having ended the multiplexer. */
 #define _GNU_SOURCE
 #include "cimbaloty.h"
 #include "line.h"
@@ -41,13 +41,14 @@ static unsigned count;
 /* The line to the modem: what came and isn't taken in, and what goes and isn't written. */
 static struct {
 	struct cimbaloty c;
+	struct cimbaloty_dialect codes;
 	const char *path;
 	int fd;
 	uint8_t in[512], out[512];
 	size_t in_at, in_length, out_at, out_length;
 	uint64_t last;          /* the last number of a request */
 	uint64_t opening;       /* of connection 0 */
-} modem = { CIMBALOTY_NONE, NULL, -1, { 0 }, { 0 }, 0, 0, 0, 0, 0, 0 };
+} modem = { CIMBALOTY_NONE, CIMBALOTY_DIALECT_NONE, NULL, -1, { 0 }, { 0 }, 0, 0, 0, 0, 0, 0 };
 
 static volatile sig_atomic_t is_ending;
 
@@ -182,7 +183,7 @@ static void begin(void)
 	if (modem.fd < 0)
 		return;
 	if (line_enter(modem.fd) != 0
-	    || cimbaloty_new(&modem.c, 31, CIMBALOTY_ALL_KINDS, modem.last + 1) != CIMBALOTY_OK) {
+	    || cimbaloty_new_with_dialect(&modem.c, &modem.codes, 31, CIMBALOTY_ALL_KINDS, CIMBALOTY_ALL_OWN, modem.last + 1) != CIMBALOTY_OK) {
 		close(modem.fd);
 		modem.fd = -1;
 		return;
@@ -357,6 +358,10 @@ int main(int argc, char **argv)
 	}
 	if (cimbaloty_version() != CIMBALOTY_VERSION)
 		say("the library is of version %x, and its header of %x", (unsigned)cimbaloty_version(), CIMBALOTY_VERSION);
+	if (cimbaloty_dialect_common(&modem.codes) != CIMBALOTY_OK) {
+		say("no memory");
+		return 1;
+	}
 	modem.path = argv[1];
 	for (unsigned i = 0; i <= count; i++) {
 		char name[16];
@@ -375,6 +380,7 @@ int main(int argc, char **argv)
 		go_round(timer);
 	stop(timer);
 	cimbaloty_free(&modem.c);
+	cimbaloty_dialect_free(&modem.codes);
 	for (unsigned i = 0; i <= count; i++) {
 		unlink(terminals[i].path);
 		free(terminals[i].out);

@@ -1,4 +1,6 @@
 pub mod Calls
+pub mod DialectCalls
 pub mod Held
+pub mod HeldDialects
 pub mod Numbers
 pub mod Texts

@@ -1,6 +1,6 @@
 //! Kinds of unsolicited lines, as numbers and as sets.
-ghost use Rattle.std.specs.Prelude.{◌≡◌, filter, IfOk};
-ghost use Rattle.modem_c.specs.Numbers.{is_in, kind_bit, kind_number, kinds_in};
+ghost use Rattle.std.specs.Prelude.{◌≡◌, ◌++◌, filter, IfOk, OnOk};
+ghost use Rattle.modem_c.specs.Numbers.{is_in, kind_bit, kind_number, kinds_in, kinds_of_sets, own_kinds_in};
 
 use at_text::UrcKind;
 use std::alloc::{AllocError, Global};
@@ -15,20 +15,11 @@ const KINDS: [UrcKind; 7] = [
     UrcKind::Other,
 ];
 
-/// The number of a kind.
-pub(crate) fn kind_number(kind: UrcKind) -> u8
+/// The number of a kind: 1 to 7, and from 8 on that of a dialect's own.
+pub(crate) fn kind_number(kind: UrcKind) -> u16
     ensures { result ≡ kind_number kind }
 {
-    match kind {
-        UrcKind::Ring => 1,
-        UrcKind::Cring => 2,
-        UrcKind::Creg => 3,
-        UrcKind::Cgreg => 4,
-        UrcKind::Cgev => 5,
-        UrcKind::Ciev => 6,
-        UrcKind::Other => 7,
-        UrcKind::Own(_) => 8,
-    }
+    kind.place() as u16 + 1
 }
 
 /// The bit of a kind in a set.
@@ -65,4 +56,25 @@ pub(crate) fn kinds_in(alloc: Global, kinds: u8) -> Result<Vec<UrcKind>, AllocEr
     ensures { IfOk result (λ v. v.items ≡ kinds_in kinds) }
 {
     chosen(alloc, &KINDS, kinds)
+}
+
+/// Puts the kinds of a dialect's own that are in a set behind these.
+fn add_own_kinds(kinds: &mut Vec<UrcKind>, own: u64) -> Result<(), AllocError>
+    ensures { OnOk result (kinds.new.items ≡ kinds.old.items ++ own_kinds_in own) }
+{
+    for place in 0..64_u8 {
+        if (own >> place) % 2 == 1 {
+            kinds.push(UrcKind::Own(place))?;
+        }
+    }
+    Ok(())
+}
+
+/// The kinds of a set, and those of a dialect's own of another.
+pub(crate) fn kinds_of_sets(alloc: Global, kinds: u8, own: u64) -> Result<Vec<UrcKind>, AllocError>
+    ensures { IfOk result (λ v. v.items ≡ kinds_of_sets kinds own) }
+{
+    let mut kinds = kinds_in(alloc, kinds)?;
+    add_own_kinds(&mut kinds, own)?;
+    Ok(kinds)
 }

@@ -1,6 +1,7 @@
 //! What the calls of C are of an endpoint's.
 ghost use Rattle.modem_c.specs.Calls.{OutputsAreCalls};
 
+use crate::dialects::CimbalotyDialect;
 use crate::driver::Cimbaloty;
 
 /// What an output does is a sequence of an endpoint's calls, over a line that took just its octets. So of any sequence of
@@ -13,7 +14,8 @@ pub fn outputs()
 /// Takes what may pass from one thread to another.
 fn crosses<T: Send>(_value: &T) {}
 
-/// A driver may pass from one thread to another, since it is `Send`: all that it owns says the same to each.
-pub fn threads(driver: &Cimbaloty) {
+/// A driver and a dialect may pass from one thread to another, since they are `Send`: all that they own says the same to each.
+pub fn threads(driver: &Cimbaloty, dialect: &CimbalotyDialect) {
     crosses(driver);
+    crosses(dialect);
 }

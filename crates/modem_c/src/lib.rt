@@ -2,6 +2,7 @@
 //! (`modem_driver::Endpoint`), whose contract it carries through.
 #![tactic(auto)]
 
+mod dialects;
 mod driver;
 mod ending;
 mod handle;
@@ -17,6 +18,7 @@ mod places;
 mod requests;
 mod time;
 
+pub use dialects::CimbalotyDialect;
 pub use driver::Cimbaloty;
 pub use ending::LeftCounts;
 pub use lines::LineHead;

@@ -16,7 +16,7 @@ use std::alloc::Global;
 pub struct LineHead {
     pub length: usize,
     pub dlci: u8,
-    pub kind: u8,
+    pub kind: u16,
 }
 
 /// The head of a line.

@@ -1,12 +1,16 @@
 //! A driver is made and freed.
-ghost use Rattle.std.specs.Prelude.{◌≡◌, ◌≢◌, ◌<◌, ◌≤◌, ◌⊎◌, ◌↔◌, false, None};
-ghost use Rattle.modem_driver.specs.Endpoints.{Begins, new_endpoint};
+ghost use Rattle.std.specs.Prelude.{◌≡◌, ◌≢◌, ◌<◌, ◌≤◌, ◌⊎◌, ◌↔◌, false, None, IfSome};
+ghost use Rattle.at_text.specs.Rules.{dialect_of};
+ghost use Rattle.modem_driver.specs.Endpoints.{Begins, BeginsBy, endpoint_by, new_endpoint};
 ghost use Rattle.modem_c.specs.Calls.{Holds, endpoint_of};
-ghost use Rattle.modem_c.specs.Numbers.{kinds_in};
+ghost use Rattle.modem_c.specs.DialectCalls.{Has, rules_of};
+ghost use Rattle.modem_c.specs.Numbers.{kinds_in, kinds_of_sets};
 
+use crate::dialects::CimbalotyDialect;
 use crate::driver::Cimbaloty;
-use crate::kinds::kinds_in;
-use crate::numbers::{BAD_KINDS, BAD_N1, HAS_DRIVER, NO_MEMORY, OK};
+use crate::kinds::{kinds_in, kinds_of_sets};
+use crate::numbers::{BAD_KINDS, BAD_N1, HAS_DRIVER, NO_DIALECT, NO_MEMORY, OK};
+use at_text::Dialect;
 use modem_driver::{Endpoint, SessionError};
 use std::alloc::Global;
 
@@ -57,6 +61,80 @@ pub extern "C" fn cimbaloty_new(
             Err(_) => NO_MEMORY,
         },
         Err(why) => why.number(),
+    }
+}
+
+/// An endpoint at a modem of this dialect, which listens to the kinds of both sets. The condition is that N1 is one.
+fn make(
+    alloc: Global,
+    dialect: &Dialect,
+    n1: u16,
+    kinds: u8,
+    own: u64,
+    first: u64,
+) -> Option<Box<Endpoint>>
+    requires { (31 ≤ n1) × (n1 ≤ 32767) }
+    ensures made { IfSome result (λ b. b.value ≡ endpoint_by dialect.now n1 (kinds_of_sets kinds own) first) }
+    ensures begins { IfSome result (λ b. BeginsBy (dialect_of dialect.now) n1 (kinds_of_sets kinds own) b.value) }
+{
+    let Ok(kinds) = kinds_of_sets(alloc, kinds, own) else {
+        return None;
+    };
+    let Ok(endpoint) = Endpoint::with_dialect(alloc, n1, dialect, kinds.as_slice(), first) else {
+        return None;
+    };
+    match Box::new(alloc, endpoint) {
+        Ok(endpoint) => Some(endpoint),
+        Err(_) => None,
+    }
+}
+
+/// Makes a driver of a modem of this dialect where there is none.
+#[unsafe(no_mangle)]
+pub extern "C" fn cimbaloty_new_with_dialect(
+    alloc: Global,
+    c: &mut Cimbaloty,
+    d: &mut CimbalotyDialect,
+    n1: u16,
+    kinds: u8,
+    own: u64,
+    first: u64,
+) -> u8
+    ensures made { result ≡ OK → Has d.old (λ r. Holds c.new (λ e.
+        e ≡ endpoint_by r n1 (kinds_of_sets kinds own) first)) }
+    ensures begins { result ≡ OK → Has d.old (λ r. Holds c.new (λ e.
+        BeginsBy (dialect_of r) n1 (kinds_of_sets kinds own) e)) }
+    ensures has_driver { (result ≡ HAS_DRIVER) ↔ (endpoint_of c.old ≢ None) }
+    ensures bad_kinds { endpoint_of c.old ≡ None → ((result ≡ BAD_KINDS) ↔ (127 < kinds)) }
+    ensures bad_n1 { endpoint_of c.old ≡ None → kinds ≤ 127
+        → ((result ≡ BAD_N1) ↔ ((n1 < 31) ⊎ (32767 < n1))) }
+    ensures no_dialect { endpoint_of c.old ≡ None → kinds ≤ 127 → 31 ≤ n1 → n1 ≤ 32767
+        → ((result ≡ NO_DIALECT) ↔ (rules_of d.old ≡ None)) }
+    ensures refused { result ≢ OK → endpoint_of c.new ≡ endpoint_of c.old }
+    ensures stays { rules_of d.new ≡ rules_of d.old }
+    ensures others { result ≢ OK → result ≢ NO_MEMORY → result ≢ BAD_N1 → result ≢ HAS_DRIVER
+        → result ≢ BAD_KINDS → result ≡ NO_DIALECT }
+{
+    if c.is_open() {
+        return HAS_DRIVER;
+    }
+    if kinds > 127 {
+        return BAD_KINDS;
+    }
+    if !is_n1(n1) {
+        return BAD_N1;
+    }
+    let Some(dialect) = d.take(alloc) else {
+        return NO_DIALECT;
+    };
+    let made = make(alloc, &dialect, n1, kinds, own, first);
+    *d = CimbalotyDialect::of(dialect);
+    match made {
+        Some(endpoint) => {
+            *c = Cimbaloty::of(endpoint);
+            OK
+        }
+        None => NO_MEMORY,
     }
 }
 

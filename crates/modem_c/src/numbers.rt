@@ -1,4 +1,5 @@
-//! What calls answer. Refusals of an endpoint and of a text have the numbers of those; a text's stand behind 32.
+//! What calls answer. Refusals of an endpoint, of a text and of a dialect have the numbers of those; a text's stand behind 32, a
+//! dialect's behind 48.
 
 /// It is done.
 pub const OK: u8 = 0;
@@ -39,5 +40,17 @@ pub const NO_ROOM: u8 = 22;
 /// Nothing waits.
 pub const NOTHING: u8 = 23;
 
+/// There is a dialect already.
+pub const HAS_DIALECT: u8 = 24;
+
+/// There is no dialect.
+pub const NO_DIALECT: u8 = 25;
+
+/// There is no such form of a rule.
+pub const BAD_FORM: u8 = 26;
+
 /// The refusals of a text stand behind this number.
 pub const TEXT: u8 = 32;
+
+/// The refusals of a dialect stand behind this number.
+pub const DIALECT: u8 = 48;

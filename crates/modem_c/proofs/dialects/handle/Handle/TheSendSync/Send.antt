@@ -1,0 +1,27 @@
+-- A handle may cross threads, as the dialect that it owns may.
+use Rattle.std.specs.Prelude.{Option, Some, None}
+use mir.Raw.{raw}
+use base.Shift.{Keyless}
+use denote.Memory.{lone}
+use denote.RawPtr.{Ptr}
+use denote.Struct.Struct.{exits_of}
+use denote.Struct.Owning.{shape, fields, to}
+use denote.Param.Send.{IsSend, AllSend, owning_send, struct_send, sendable}
+use Rattle.std.proofs.Crossing as heap
+use Rattle.std.specs.Global.{Global}
+use Rattle.std_alloc.proofs.SendSync.{quiet, lies}
+use Rattle.std_heap.proofs.Global.TheSendSync as allocator
+use Rattle.at_text.specs.contracts.dialect.Dialect as Dialect
+use Rattle.at_text.proofs.dialect.Dialect.TheSendSync.{the_send as dialect}
+use Rattle.modem_c.specs.HeldDialects.{holds}
+use Rattle.modem_c.specs.contracts.dialects.handle.Handle.{the_row, the_type}
+
+held : (a : Global) (p : Ptr) (h : Option Dialect.the_row.Denot) → Keyless (holds a p h)
+held a p None = tt
+held a p (Some e) = (lies Dialect.the_row dialect p e, heap.frees.frees a (raw (lone Dialect.the_row.mir)) p)
+
+pub send : IsSend the_row
+send =
+    let all : AllSend (fields the_type) = (search sendable, (allocator.the_field_send, tt)) in
+    owning_send the_type all (λ h. held h.alloc h.at h.held)
+    (λ k. quiet (to the_type) (exits_of k (fields the_type)) ((struct_send (shape the_type) all).leaving k))
