@@ -33,7 +33,7 @@ impl Threaded {
     }
 }
 
-/// A thread that was spawned. That the closure is dropped where none was costs less to prove here, where it may be anything.
+/// A thread that was spawned. Generic, because proving the drop for a concrete closure is slow.
 fn spawned<H: Drop, F: Drop>(thread: Result<H, SpawnError<F>>) -> Result<(), DriveFault> {
     match thread {
         Ok(_) => Ok(()),

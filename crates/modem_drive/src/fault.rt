@@ -21,25 +21,25 @@ pub enum DriveFault {
     #[error("fault: output")]
     Output,
     /// The device can't be opened.
-    #[error("fault: no such device")]
+    #[error("fault: no such device, or no right to open it, or another program has it")]
     NoDevice,
     /// The device failed or ended before the multiplexer was entered.
-    #[error("fault: not a terminal that is set up, as by: stty -F DEVICE raw -echo min 0 time 1 -crtscts clocal -hupcl")]
+    #[error("fault: not a terminal that is set up, or one that ended before the modem answered; to set one up: stty -F DEVICE raw -echo min 0 time 1 -crtscts clocal -hupcl")]
     NotSetUp,
     /// The modem refused to enter the multiplexer.
-    #[error("fault: refused")]
+    #[error("fault: refused: the modem didn't answer OK to the text that enters the multiplexer (--entry gives another)")]
     Refused,
     /// The modem didn't answer.
-    #[error("fault: no answer")]
+    #[error("fault: no answer to the text that enters the multiplexer, in two tries: is it the modem's port for AT commands, and its speed right?")]
     NoAnswer,
     /// The modem didn't open connection 0.
-    #[error("fault: connection 0 isn't open")]
+    #[error("fault: connection 0 isn't open: the modem entered the multiplexer, and refused it or didn't answer")]
     NotOpened,
     /// The modem ended the multiplexer by itself.
-    #[error("fault: the modem ended the multiplexer")]
+    #[error("fault: the modem ended the multiplexer: commands without an answer were told so")]
     Closed,
     /// The line was lost.
-    #[error("fault: hung up")]
+    #[error("fault: hung up: the line was lost, and commands without an answer were told so")]
     HungUp,
     /// The capture can't be written. All else was done.
     #[error("fault: capture")]
