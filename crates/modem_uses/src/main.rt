@@ -1,18 +1,32 @@
 //! Callers of these crates, to be copied: one in each file, each proved and run.
 #![tactic(auto)]
 
+mod calling;
+mod crew;
 mod desk;
+mod dialect;
+mod driving;
 mod endpoint;
 mod frames;
+mod own_codes;
 mod own_line;
 mod own_modem;
+mod session;
+mod settling;
+mod simulating;
+mod threads;
 mod typed;
 
+use crate::calling::Came;
+use crate::typed::print_signal;
+use at_text::{DialectError, TextError};
 use modem_driver::{RequestError, RequestRefused};
-use std::alloc::{AllocError, Global};
+use std::alloc::{AllocError, AllocFailed, Global};
 use std::io::Print;
 use std::process::ExitCode;
+use std::rt::Clock;
 use std::sync::Wait;
+use std::thread::Threads;
 
 /// Why a use ends early.
 #[derive(Clone, Copy, PartialEq, Eq, Debug)]
@@ -24,6 +38,12 @@ pub enum Stop {
 
 impl From<AllocError> for Stop {
     fn from(_why: AllocError) -> Stop {
+        Stop::NoMemory
+    }
+}
+
+impl<T: Drop> From<AllocFailed<T>> for Stop {
+    fn from(_why: AllocFailed<T>) -> Stop {
         Stop::NoMemory
     }
 }
@@ -40,8 +60,37 @@ impl From<RequestRefused> for Stop {
     }
 }
 
-fn run<R: Wait + Print>(rt: &R, alloc: Global) -> Result<(), Stop> {
-    endpoint::run(rt, alloc)?;
+impl From<TextError> for Stop {
+    fn from(_why: TextError) -> Stop {
+        Stop::NoMemory
+    }
+}
+
+impl From<DialectError> for Stop {
+    fn from(_why: DialectError) -> Stop {
+        Stop::NoMemory
+    }
+}
+
+/// Prints what two callers were told and a listener heard.
+fn print_session<R: Print>(rt: &R, alloc: Global, came: &Came) -> Result<(), Stop> {
+    let (Some(one), Some(two), Some(line)) = (&came.first, &came.second, &came.line) else {
+        return Err(Stop::Unexpected);
+    };
+    print_signal(rt, alloc, one)?;
+    print_signal(rt, alloc, two)?;
+    let _ = rt.println(format_args!("{:?} on {}", line.kind, line.dlci.number()));
+    Ok(())
+}
+
+fn run<R>(rt: &R, alloc: Global) -> Result<(), Stop>
+where
+    R: Threads + Wait + Clock + Print + Sync + Send + Copy + Drop,
+{
+    typed::run(rt, alloc)?;
+    own_codes::run(rt, alloc)?;
+    let came = session::run(rt, alloc)?;
+    print_session(rt, alloc, &came)?;
     own_line::run(rt, alloc)?;
     frames::run(rt, alloc)?;
     desk::run(rt, alloc)

@@ -1,8 +1,13 @@
-//! A typed command and its reply (27.007, 8.5).
+//! A typed command is asked, and its reply read (27.007, 8.5).
 use crate::Stop;
+use crate::endpoint::ask;
+use crate::own_modem::modem_in_memory;
 use at_cmds::{Command, Reply};
 use at_text::CommandLine;
-use modem_driver::{Answer, Outcome};
+use modem_driver::{Answer, Ask, Endpoint, Outcome};
+use modem_sim::Sim;
+use mux_frame::Dlci;
+use serial_line::CutLine;
 use std::alloc::Global;
 use std::io::Print;
 
@@ -14,9 +19,14 @@ pub fn signal_command(alloc: Global) -> Result<CommandLine, Stop> {
     }
 }
 
+/// A request for it on connection 1.
+pub fn signal_ask(alloc: Global) -> Result<Ask, Stop> {
+    Ok(Ask::Command(Dlci::new(1).unwrap(), signal_command(alloc)?))
+}
+
 /// Reads what it was answered.
-pub fn print_signal<R: Print>(rt: &R, alloc: Global, outcome: &Outcome) -> Result<(), Stop> {
-    let Answer::Done(lines) = &outcome.answer else {
+pub fn print_signal<R: Print>(rt: &R, alloc: Global, answer: &Answer) -> Result<(), Stop> {
+    let Answer::Done(lines) = answer else {
         return Err(Stop::Unexpected);
     };
     let _ = match Reply::read(alloc, &Command::Signal, lines.as_slice()) {
@@ -27,4 +37,22 @@ pub fn print_signal<R: Print>(rt: &R, alloc: Global, outcome: &Outcome) -> Resul
         Err(fault) => rt.println(format_args!("{fault}")),
     };
     Ok(())
+}
+
+/// Asks by a driver that listens to nothing.
+fn ask_signal(alloc: Global, modem: &mut Sim<CutLine>) -> Result<Outcome, Stop> {
+    let command = signal_command(alloc)?;
+    match Endpoint::new(alloc, 31, &[], 1) {
+        Ok(mut driver) => ask(&mut driver, modem, Dlci::new(1).unwrap(), command),
+        Err(_) => Err(Stop::NoMemory),
+    }
+}
+
+/// A driver, and a modem at the other end.
+pub fn run<R: Print>(rt: &R, alloc: Global) -> Result<(), Stop> {
+    let outcome = match modem_in_memory(alloc, Vec::new(alloc)) {
+        Ok(mut modem) => ask_signal(alloc, &mut modem)?,
+        Err(stop) => return Err(stop),
+    };
+    print_signal(rt, alloc, &outcome.answer)
 }
