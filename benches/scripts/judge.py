@@ -3,7 +3,7 @@ from bisect import bisect_right
 
 from acts import Got, Heard, Lost, Sent, Tick, Told, Took, Wrong, pieces_of, read_acts
 from frames import message, read, spelled
-from lines import is_final, printed, split, unsolicited
+from lines import printed, split
 from tables import FC_OFF, FC_ON, CLD, MSC, Tables
 
 DLCIS = range(62)
@@ -131,8 +131,8 @@ class Opening:
     """What went over a connection from one opening on: the accepted commands, how many octets of them have left, how many
     are answered, and in their places the commands that left wholly and the lines that came."""
 
-    def __init__(self, dlci):
-        self.dlci = dlci
+    def __init__(self, dlci, dialect):
+        self.dlci, self.dialect = dlci, dialect
         self.accepted = []
         self.text = b""
         self.ends = [0]
@@ -173,14 +173,14 @@ class Opening:
             if begun:
                 command, answer, is_first = begun, [], True
                 continue
-            kind = unsolicited(line)
+            kind = self.dialect.kind(line)
             if kind or not command:
                 yield place, Heard(kind or "OTHER", self.dlci, printed(line))
                 continue
             if not is_first or line != command[1]:
                 answer.append(printed(line))
             is_first = False
-            if is_final(line):
+            if self.dialect.is_final(line):
                 yield place, Told(command[0], "done", answer)
                 command = None
 
@@ -192,8 +192,8 @@ class Opening:
 class Data:
     """What leaves and comes on all connections, over all their openings."""
 
-    def __init__(self, n1):
-        self.n1 = n1
+    def __init__(self, n1, dialect):
+        self.n1, self.dialect = n1, dialect
         self.now = Openings()
         self.live = {}
         self.past = []
@@ -252,12 +252,12 @@ class Data:
             if was[dlci] and not self.now.open[dlci]:
                 self.past.append(self.live.pop(dlci))
         if opens and act.frame.dlci:
-            self.live[act.frame.dlci] = Opening(act.frame.dlci)
+            self.live[act.frame.dlci] = Opening(act.frame.dlci, self.dialect)
 
 
-def check_data(pieces, n1):
+def check_data(pieces, n1, dialect):
     """What leaves, what is answered and what is heard, on each connection over all its openings."""
-    data = Data(n1)
+    data = Data(n1, dialect)
     for place, piece in enumerate(pieces):
         data.piece(place, piece)
     called = {}
@@ -304,13 +304,13 @@ def check_tables(pieces):
             want(now.open[dlci] == (tables.state[dlci] == "opened"), f"connection {dlci} after {first}")
 
 
-def check(script, n1, output):
-    """Raises Wrong where the output is not what these lines may come to."""
+def check(script, n1, dialect, output):
+    """Raises Wrong where the output is not what these lines may come to at a modem of this dialect."""
     acts = read_acts(output)
     pieces = pieces_of(acts)
     check_pieces(pieces, script, n1)
     check_outcomes(acts)
     check_spelled(acts)
-    check_data(pieces, n1)
+    check_data(pieces, n1, dialect)
     check_tables(pieces)
     return acts

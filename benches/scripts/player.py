@@ -25,8 +25,12 @@ COMMANDS = [
 class Player:
     """A script under way, and what the modem knows."""
 
-    def __init__(self, seed):
+    def __init__(self, seed, dialect=None):
         self.rng = random.Random(seed)
+        own = dialect.lines() if dialect else []
+        self.finals = FINALS + [it for it in own if dialect.is_final(it)][:40]
+        self.unsolicited = UNSOLICITED + [it for it in own if dialect.kind(it)][:80]
+        self.plain = PLAIN + own
         self.n1 = self.rng.choice([31, 31, 31, 31, 32, 33, 64, 127, 128, 200, 600, 32767])
         self.script = []
         self.wire = b""
@@ -240,7 +244,7 @@ class Player:
         """A line that is none of a final code, mostly."""
         kind = self.rng.randrange(12)
         if kind < 4:
-            return self.rng.choice(UNSOLICITED)
+            return self.rng.choice(self.unsolicited)
         if kind == 4:
             letters = self.rng.randbytes(1).translate(bytes.maketrans(b"\r\n", b"xx"))
             return self.rng.choice([b"", b"+CREG: 1,", b"OK", b"+CREG: 1"]) + letters * self.rng.choice([30, 200, 509, 511, 512, 513, 700])
@@ -248,7 +252,7 @@ class Player:
             return self.rng.choice(self.commands[dlci])
         if kind == 6:
             return self.rng.randbytes(self.rng.randrange(1, 40)).translate(bytes.maketrans(b"\r\n", b"xx"))
-        return self.rng.choice(PLAIN)
+        return self.rng.choice(self.plain)
 
     def reply(self, dlci):
         """The octets that answer the first command."""
@@ -258,9 +262,9 @@ class Player:
             lines.insert(0 if self.rng.random() < 0.8 else self.rng.randrange(len(lines) + 1), text)
         if self.rng.random() < 0.05:
             lines.insert(0, text)
-        lines.append(self.rng.choice(FINALS))
+        lines.append(self.rng.choice(self.finals))
         if self.rng.random() < 0.1:
-            lines.append(self.rng.choice([*FINALS, *PLAIN, *UNSOLICITED]))
+            lines.append(self.rng.choice([*self.finals, *self.plain, *self.unsolicited]))
         return b"".join(self.wrapped(it) for it in lines)
 
     def wrapped(self, line):
@@ -290,7 +294,7 @@ class Player:
     def announce(self):
         """A line that nobody asked for, sometimes a final code or only a part of a line."""
         dlci = self.some_open()
-        line = self.rng.choice([self.line(dlci), self.rng.choice(UNSOLICITED), self.rng.choice(FINALS + PLAIN)])
+        line = self.rng.choice([self.line(dlci), self.rng.choice(self.unsolicited), self.rng.choice(self.finals + self.plain)])
         octets = self.wrapped(line)
         if self.rng.random() < 0.15:
             octets = octets[: self.rng.randrange(len(octets))]

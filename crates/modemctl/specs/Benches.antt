@@ -3,9 +3,10 @@ use Rattle.std.specs.Prelude.{◌≡◌, ℕ, Bool, true, false, List, [], Optio
 use Rattle.clap.specs.Words.{Row, Text, first_value, found_of, one_text}
 use Rattle.clap.specs.declared.ArgMatches.{ArgMatches}
 use Rattle.modem_sim.specs.declared.script.Script.{Script}
-use Rattle.modem_runs.specs.Printed.{IsBenched, IsFramed, IsPrinted, IsReplayed}
+use Rattle.modem_runs.specs.Printed.{IsBenched, IsFramed, IsPrinted}
 use Rattle.modem_serve.specs.declared.serving.SimOptions.{SimOptions}
 use Rattle.modem_serve.specs.Serving.{IsServed}
+use Rattle.modemctl.specs.Dialects.{PrintsActs}
 use Rattle.modemctl.specs.Words.{IsGiven, raw_in, text_in}
 
 -- these frames were printed, with the N1 of the words
@@ -14,11 +15,11 @@ pub record PrintsFrames (met : Option (Text × List Row)) (input before after : 
   pub given : IsGiven met (codes "n1") 31 n1
   pub printed : IsPrinted (IsFramed n1) input before after
 
--- these acts were printed, with the N1 of the words
+-- these acts were printed, with the N1 of the words, at a modem with the codes of their dialect
 pub record PrintsReplay (met : Option (Text × List Row)) (input before after : Option (List ℕ)) : Type 0 where
   pub n1 : ℕ
   pub given : IsGiven met (codes "n1") 31 n1
-  pub printed : IsPrinted (IsReplayed n1) input before after
+  pub printed : PrintsActs (raw_in met (codes "dialect")) n1 input before after
 
 -- no command is repeated, and nothing is done that no command asks for
 abbrev pub plain_script : Script

@@ -1,3 +1,4 @@
+pub mod Dialects
 pub mod Benches
 pub mod Words
 pub mod Drives

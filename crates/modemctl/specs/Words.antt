@@ -20,6 +20,14 @@ n1_rule = record (new_rule (codes "n1")) {
 abbrev pub subcommand_app : Text → App
 subcommand_app name = with_rule (new_app name) n1_rule
 
+-- the option `--dialect`: a text
+abbrev pub dialect_rule : Rule
+dialect_rule = record (new_rule (codes "dialect")) { long = Some (codes "dialect"); action = Some Set; value_names = 1 }
+
+-- the subcommand with these two options
+abbrev pub replay_app : App
+replay_app = with_rule (subcommand_app (codes "replay")) dialect_rule
+
 -- the option `--callers`: a number from 1 to 8, and 2 where it isn't there
 abbrev pub callers_rule : Rule
 callers_rule = record (new_rule (codes "callers")) {
@@ -54,7 +62,7 @@ wanting_one =
 abbrev pub with_two : App
 with_two =
     with_subcommand (with_subcommand wanting_one (subcommand_app (codes "frames")).top)
-    (subcommand_app (codes "replay")).top
+    replay_app.top
 
 -- the same with a bench
 abbrev pub with_three : App

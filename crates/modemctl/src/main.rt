@@ -6,7 +6,7 @@ pub mod laws;
 mod words;
 
 pub use modem_drive::drive_run;
-pub use modem_runs::{bench_run, frames_run, replay_run};
+pub use modem_runs::{bench_run, frames_run, replay_run, replay_with_dialect_run};
 use modem_runs::{Stop, give_up};
 pub use modem_serve::sim_run;
 use std::env;

@@ -8,14 +8,16 @@ ghost use Rattle.modemctl.specs.Benches.{IsFlag, PrintsBench, PrintsFrames, Prin
 ghost use Rattle.modemctl.specs.Drives.{PrintsDrive};
 ghost use Rattle.modemctl.specs.Words.{callers_rule, cut_rule, echo_rule, n1_rule, pin_rule, program_app, fault_in, met_in, named_in, with_four, with_three, with_two, AreFor, AsksNoHelp, HasNoNumber};
 
+mod dialects;
 mod driving;
 mod numbers;
 
 use at_cmds::Pin;
 use clap::error::ErrorKind;
 use clap::{Arg, ArgAction, ArgMatches, Command, Error, value_parser};
+use dialects::{dialect_option, replay_words};
 use driving::{drive_words, with_drive};
-use modem_runs::{Stop, bench_run, frames_run, give_up, replay_run};
+use modem_runs::{Stop, bench_run, frames_run, give_up};
 use modem_serve::{SimOptions, sim_run};
 use modem_sim::{Script, Steps};
 use numbers::{Numbers, numbers_of};
@@ -101,7 +103,8 @@ fn two_commands<'a>(alloc: Global) -> Result<Command<'a>, AllocError>
         .arg(n1_option(alloc))?;
     let replay = Command::new(alloc, "replay")
         .about("Says what the driver of a modem does with the events of a script")
-        .arg(n1_option(alloc))?;
+        .arg(n1_option(alloc))?
+        .arg(dialect_option(alloc))?;
     Command::new(alloc, "modemctl")
         .about("The driver of a cellular modem, on the basic option of 3GPP TS 27.010")
         .subcommand_required(true)
@@ -329,7 +332,7 @@ where
     };
     match name {
         "frames" => frames_run(alloc, input, output, faults, numbers.n1),
-        "replay" => replay_run(alloc, input, output, faults, numbers.n1),
+        "replay" => replay_words(rt, alloc, given, numbers.n1, input, output, faults),
         "bench" => bench_plain(rt, alloc, numbers, input, output, faults),
         "sim" => sim_words(alloc, given, numbers.n1, input, output, faults),
         "drive" => drive_words(rt, given, numbers.n1, lines, output, faults),

@@ -7,6 +7,7 @@ use Rattle.modemctl.specs.Words.{HasNoNumber, IsGiven, IsNoNumber, IsNumberOf, r
 use Rattle.modemctl.specs.Benches.{IsFlag, ServesClient, ServesWith}
 use Rattle.modem_drive.specs.Entry.{entry_for}
 use Rattle.modem_drive.specs.Running.{DroveDevice}
+use Rattle.modemctl.specs.Dialects.{PrintsActs}
 use Rattle.modemctl.specs.Drives.{PrintsDrive}
 use Rattle.modemctl.proofs.words.run_named.Goals as goal
 
@@ -75,7 +76,9 @@ pub returns-in-replay-clause-replay : goal.returns-in-replay-clause-replay
 returns-in-replay-clause-replay g c zero named = record {
   n1 = c.in-Ok.numbers.n1;
   given = number_in c.args.matches.now c.in-Some.given.now (codes "n1") 31 c.in-Ok.numbers.n1 c.in-Some.ensures.rows c.in-Ok.ensures.n1;
-  printed = c.replay_run.ensures.done zero;
+  printed =
+      subst (λ (t : Option Text). PrintsActs t c.in-Ok.numbers.n1 (g.I.Read.remaining c.args.input.now) (g.W.Write.contents c.args.output.now) (g.W.Write.contents c.replay_words.new.output))
+      (word_given c.args.matches.now c.in-Some.given.now (codes "dialect") c.in-Some.ensures.rows) (c.replay_words.ensures.done zero);
 }
 
 pub returns-in-bench-clause-bench : goal.returns-in-bench-clause-bench

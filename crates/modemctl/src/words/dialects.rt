@@ -1,0 +1,87 @@
+//! The dialect that the words give.
+ghost use Rattle.std.specs.Prelude.{◌≡◌, ◌≢◌, ◌≤◌, IfErr, IfOk, None, codes, false};
+ghost use Rattle.clap.specs.Words.{first_value, found_of, rule_of};
+ghost use Rattle.modem_texts.specs.DialectNames.{dialect_with_name};
+ghost use Rattle.modem_runs.specs.Dialects.{HasText};
+ghost use Rattle.modem_runs.specs.Statuses.{status_of};
+ghost use Rattle.modem_runs.specs.Stopping.{HasGivenUp};
+ghost use Rattle.modem_runs.specs.declared.stop.Stop.TheVariants as Stop;
+ghost use Rattle.modemctl.specs.Dialects.{IsReadyOrRead, PrintsActs};
+ghost use Rattle.modemctl.specs.Words.{dialect_rule};
+
+use at_text::Dialect;
+use clap::{Arg, ArgAction, ArgMatches};
+use modem_runs::{DialectFault, Stop, dialect_from, give_up, replay_run, replay_with_dialect_run};
+use modem_texts::dialect_named;
+use std::alloc::Global;
+use std::fs::File;
+use std::io::{Read, Write};
+use std::rt::Files;
+
+/// The option `--dialect`.
+pub fn dialect_option<'a>(alloc: Global) -> Arg<'a>
+    ensures rule { rule_of result ≡ dialect_rule }
+    ensures own { result.global ≡ false }
+{
+    Arg::new(alloc, "dialect")
+        .long("dialect")
+        .value_name("DIALECT")
+        .help("The codes of the modem: common, dialling, or a file with a rule a line")
+        .action(ArgAction::Set)
+}
+
+/// The dialect of the file of this path.
+fn dialect_in_file<R: Files<File = File>>(
+    rt: &R,
+    alloc: Global,
+    path: &str,
+) -> Result<Dialect, Stop>
+    ensures some { IfOk result HasText }
+{
+    let Ok(mut file) = File::open(rt, path) else {
+        return Err(Stop::Dialect(DialectFault::Unread));
+    };
+    dialect_from(alloc, &mut file)
+}
+
+/// The dialect that comes ready under this name, else that of the file of this name.
+pub fn dialect_by<R: Files<File = File>>(rt: &R, alloc: Global, name: &str) -> Result<Dialect, Stop>
+    ensures named { IfOk result (IsReadyOrRead (dialect_with_name name.now)) }
+{
+    match dialect_named(alloc, name.as_bytes()) {
+        Ok(Some(dialect)) => Ok(dialect),
+        Ok(None) => dialect_in_file(rt, alloc, name),
+        Err(_) => Err(Stop::NoMemory),
+    }
+}
+
+/// Replays the script of `input` at a modem with the codes that the words give.
+pub fn replay_words<R, I, W, E>(
+    rt: &R,
+    alloc: Global,
+    matches: &ArgMatches<'_>,
+    n1: u16,
+    input: &mut I,
+    output: &mut W,
+    faults: &mut E,
+) -> u8
+where
+    R: Files<File = File>,
+    I: Read,
+    W: Write,
+    E: Write,
+    ensures status { result ≤ 2 }
+    ensures bad { result ≡ 2 → output.new ≡ output.old }
+    ensures done { result ≡ 0 → PrintsActs (first_value (found_of matches.now) (codes "dialect")) n1
+        (I.remaining input.old) (W.contents output.old) (W.contents output.new) }
+    ensures nothing { result ≡ 1 → HasGivenUp output.old output.new (E.contents faults.old)
+        (E.contents faults.new) result }
+{
+    let Some(name) = matches.get_str("dialect") else {
+        return replay_run(alloc, input, output, faults, n1);
+    };
+    match dialect_by(rt, alloc, name) {
+        Ok(dialect) => replay_with_dialect_run(alloc, input, output, faults, n1, &dialect),
+        Err(stop) => give_up(faults, stop),
+    }
+}
