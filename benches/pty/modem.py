@@ -83,7 +83,7 @@ class Modem:
         self.count = {}
         self.entered = []
         self.answered = 0
-        self.gone = False
+        self.gone = self.stands_still = False
 
     def write(self, octets):
         while octets:
@@ -175,9 +175,9 @@ class Modem:
                 self.write(frame(dlci, UIH, text[start:start + 31], cr=0))
 
     def run(self):
-        """Goes on until the other end is gone, or this one hangs up."""
+        """Goes on until the other end is gone, or this one hangs up. Where it stands still it reads nothing."""
         while True:
-            ready, _, _ = select.select([self.fd], [], [], 0.05)
+            ready, _, _ = select.select([] if self.stands_still else [self.fd], [], [], 0.05)
             if self.gone:
                 os.close(self.fd)
                 return
