@@ -1,7 +1,15 @@
 /* Measures the deframer: it decodes buffers through the static library of mux_frame_c, and prints
  * how long that takes for each octet, as a multiple of memchr over the same buffer and beside a
- * plain decoder, and beside oFono's reader where it is linked with that. With the name of a row it goes once
- * over that row's octets, for a count of its instructions. ./run builds and runs it. */
+ * plain decoder, and beside oFono's reader where it is linked with that. With the name of a row it goes
+ * once over that row's octets, for a count of instructions. ./run builds and runs it.
+ *
+ * Buffers have 4 MiB, the last three 64 KiB, of UIH frames each between two flags of its own, at N1 4089
+ * where nothing else is said. In rows with bad check octets each fourth frame has another one. The
+ * deframer is fed at most 4096 octets at a time, and asked for frames until none is at hand; its counts
+ * have to be those of the plain decoder. memchr runs once without a hit, which is the speed of memory,
+ * and once from flag to flag. A time is the best of 8 slices of at least 4 ms of processor time; the
+ * passes take turns, 9 times. The table has the middle ratio, and in brackets how far lowest and highest
+ * lie apart. "Blocks" counts takings of memory: two, when the deframer is made. */
 #include <stdbool.h>
 #include <stdint.h>
 #include <stdio.h>

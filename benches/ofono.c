@@ -1,7 +1,8 @@
 /* oFono's reader of the basic option (gatchat/gsm0710.c), fed as its multiplexer feeds it
  * (gatchat/gatmux.c): through a buffer of 4096 octets, where what isn't used up moves to the front. It
  * is of the Debian package ofono, version 1.31-3, whose source is no part of this repository: ./run
- * says how it is given. */
+ * says how it is given. Where a candidate calls for more than the buffer holds its reading ends for
+ * good; here it begins again. */
 #include <glib.h>
 #include <string.h>
 
