@@ -12,10 +12,7 @@ sys.dont_write_bytecode = True
 TOP = pathlib.Path(__file__).resolve().parent.parent.parent
 sys.path.insert(0, str(pathlib.Path(__file__).resolve().parent))
 
-from mux import UIH, check_octet  # noqa: E402
-
-POLL, FLAG = 0x10, 0xF9
-
+from mux import FLAG, POLL, UIH, check_octet  # noqa: E402
 
 failures = []
 
@@ -55,7 +52,9 @@ class Place:
     def modem(self, program=None, name="modem"):
         """`modemctl sim` on a terminal, all that goes either way kept: the terminal's path."""
         path = self.folder / name
-        program = program or f"{TOP}/modemctl sim"
+        if not program:
+            subprocess.run([TOP / "modemctl", "prove"], stdin=subprocess.DEVNULL, check=True)
+            program = f"{TOP}/modemctl sim"
         kept = ["-r", f"{path}.sent", "-R", f"{path}.said"]
         self.start("socat", *kept, f"pty,raw,echo=0,link={path}", f"EXEC:{program}", log=f"{name}.socat")
         self.await_path(path)
