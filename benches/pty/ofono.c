@@ -129,6 +129,7 @@ static void talk(int commands)
 		ask(chats[0], &csq);
 		ask(chats[1], &cops);
 	}
+	g_main_loop_run(loop);
 	ask(chats[0], &report);
 	ask(chats[0], &leave);
 	ask(chats[0], &back);
