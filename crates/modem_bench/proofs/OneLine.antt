@@ -94,10 +94,10 @@ takes_short (Given ∷ past) h = takes_short past h
 history_formed : (b : Beginning) (s : SessionState CutState) (past : List driver.Act) → FitsAll b look_in s past → TookFormed b s → AreFormed (taken_requests past)
 history_formed b s past f t =
     let r = f.session.requests in
-    let both : b.desk.taken ++ t.since ≡ b.desk.taken ++ (taken_requests past ++ option_to_list s.kept.aside) =
-    sym t.taken_are ∙ (r.taken_are ∙ append_assoc b.desk.taken (taken_requests past) (option_to_list s.kept.aside)) in
-    let own = append_cancel_left b.desk.taken t.since (taken_requests past ++ option_to_list s.kept.aside) both in
-    formed_first (taken_requests past) (option_to_list s.kept.aside) (subst AreFormed own t.formed)
+    let both : b.desk.taken ++ t.since ≡ b.desk.taken ++ (taken_requests past ++ option_to_list s.machine.aside) =
+    sym t.taken_are ∙ (r.taken_are ∙ append_assoc b.desk.taken (taken_requests past) (option_to_list s.machine.aside)) in
+    let own = append_cancel_left b.desk.taken t.since (taken_requests past ++ option_to_list s.machine.aside) both in
+    formed_first (taken_requests past) (option_to_list s.machine.aside) (subst AreFormed own t.formed)
 
 took_more : (b : Beginning) (old new : SessionState CutState) → TookFormed b old → TakesMore old.driver new.driver → TookFormed b new
 took_more b old new t m = record {
@@ -139,7 +139,7 @@ near_goes old new far goes takes beyond octets waiting b at e line on =
 
 -- ## The modem's acts
 
-pub far_goes : (near : SessionState CutState) (old new : SimState CutState) → SimGoes sight_in.received sight_in.sent old new → other_side_of new.line ≡ other_side_of old.line → AreOctets near.line.sent → AreOctets near.kept.unwritten
+pub far_goes : (near : SessionState CutState) (old new : SimState CutState) → SimGoes sight_in.received sight_in.sent old new → other_side_of new.line ≡ other_side_of old.line → AreOctets near.line.sent → AreOctets near.machine.unwritten
     → StaysOneLine (pair near old) (pair near new)
 unfolding StaysOneLine
 far_goes near old new goes beyond octets waiting b at e line on =
@@ -256,7 +256,7 @@ begins_on_one_line n1 near_room far_room near_reads near_writes far_reads far_wr
 
 is_one_modem : (p : Pair) (b : Beginning) (at : LineAt) (e : End) (line : List EndAct) → AreOnOneLine b at e line p → AsksOnce (driver_wire line) → AnnouncesUnsolicited (modem_past line) → IsOneModem (driving b) e line
 is_one_modem p b at e line on once announced =
-    let run = is_run b (look_in p.near.line) p.near.driver p.near.kept (driver_past line) on.joined.near in
+    let run = is_run b (look_in p.near.line) p.near.driver p.near.machine (driver_past line) on.joined.near in
     record {
       is_initiator = refl;
       codes = on.began.codes;

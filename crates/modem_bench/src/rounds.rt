@@ -62,7 +62,7 @@ fn are_octets(octets: &[u8])
 /// So is what a session sent and has to send.
 fn near_octets<R: Wait + Drop>(session: &Session<CutLine, R>)
     ensures sent { AreOctets session.now.line.sent }
-    ensures unwritten { AreOctets session.now.kept.unwritten }
+    ensures unwritten { AreOctets session.now.machine.unwritten }
 {
     are_octets(session.line().sent());
     are_octets(session.unwritten());

@@ -43,7 +43,7 @@ pub record IsOutcomeHead (h : OutcomeHead) (o : Outcome) : Type 0 where
 
 -- the first outcome that waits has this head
 abbrev pub ShowsOutcome : EndpointState → OutcomeHead → Type 0
-ShowsOutcome e h = OfFirst e.kept.unplaced (IsOutcomeHead h)
+ShowsOutcome e h = OfFirst e.machine.unplaced (IsOutcomeHead h)
 
 -- the outcome that waited first is given, and waits no more: its head, and its text at the front of the room
 pub record HandsOutcome (e f : EndpointState) (h : OutcomeHead) (before after : List ℕ) : Type 0 where
@@ -62,7 +62,7 @@ pub record IsLineHead (h : LineHead) (u : Urc) : Type 0 where
 
 -- the first line that waits has this head
 abbrev pub ShowsLine : EndpointState → LineHead → Type 0
-ShowsLine e h = OfFirst e.kept.unannounced (IsLineHead h)
+ShowsLine e h = OfFirst e.machine.unannounced (IsLineHead h)
 
 -- the line that waited first is given, and waits no more: its head, and its text at the front of the room
 pub record HandsLine (e f : EndpointState) (h : LineHead) (before after : List ℕ) : Type 0 where

@@ -33,7 +33,7 @@ fn head_of(line: &Urc) -> LineHead
 /// Shows the head of the unsolicited line that waits first.
 fn show(endpoint: &Endpoint, head: &mut LineHead) -> u8
     ensures ok { result ≡ OK → ShowsLine endpoint.now head.new }
-    ensures nothing { (result ≡ NOTHING) ↔ (endpoint.now.kept.unannounced ≡ []) }
+    ensures nothing { (result ≡ NOTHING) ↔ (endpoint.now.machine.unannounced ≡ []) }
     ensures same { result ≡ NOTHING → head.new ≡ head.old }
     ensures others { result ≢ OK → result ≡ NOTHING }
 {
@@ -51,7 +51,7 @@ fn hand(endpoint: &mut Endpoint, head: &mut LineHead, text: &mut [u8]) -> u8
     ensures ok { result ≡ OK → HandsLine endpoint.old endpoint.new head.new text.old text.new }
     ensures no_room { result ≡ NO_ROOM → ShowsLine endpoint.old head.new }
     ensures wants { result ≡ NO_ROOM → length text.old < head.new.length }
-    ensures nothing { (result ≡ NOTHING) ↔ (endpoint.old.kept.unannounced ≡ []) }
+    ensures nothing { (result ≡ NOTHING) ↔ (endpoint.old.machine.unannounced ≡ []) }
     ensures stays { result ≢ OK → endpoint.new ≡ endpoint.old }
     ensures same { result ≢ OK → text.new ≡ text.old }
     ensures head { result ≡ NOTHING → head.new ≡ head.old }
@@ -75,7 +75,7 @@ fn hand(endpoint: &mut Endpoint, head: &mut LineHead, text: &mut [u8]) -> u8
 #[unsafe(no_mangle)]
 pub extern "C" fn cimbaloty_peek_line(alloc: Global, c: &mut Cimbaloty, head: &mut LineHead) -> u8
     ensures ok { result ≡ OK → Holds c.old (λ e. ShowsLine e head.new) }
-    ensures nothing { (result ≡ NOTHING) ↔ Holds c.old (λ e. e.kept.unannounced ≡ []) }
+    ensures nothing { (result ≡ NOTHING) ↔ Holds c.old (λ e. e.machine.unannounced ≡ []) }
     ensures no_driver { (result ≡ NO_DRIVER) ↔ (endpoint_of c.old ≡ None) }
     ensures stays { endpoint_of c.new ≡ endpoint_of c.old }
     ensures same { result ≢ OK → head.new ≡ head.old }
@@ -100,7 +100,7 @@ pub extern "C" fn cimbaloty_poll_line_at(
     ensures ok { result ≡ OK → Goes c.old c.new (λ e f. HandsLine e f head.new text.old text.new) }
     ensures no_room { result ≡ NO_ROOM → Holds c.old (λ e. ShowsLine e head.new) }
     ensures wants { result ≡ NO_ROOM → length text.old < head.new.length }
-    ensures nothing { (result ≡ NOTHING) ↔ Holds c.old (λ e. e.kept.unannounced ≡ []) }
+    ensures nothing { (result ≡ NOTHING) ↔ Holds c.old (λ e. e.machine.unannounced ≡ []) }
     ensures no_driver { (result ≡ NO_DRIVER) ↔ (endpoint_of c.old ≡ None) }
     ensures stays { result ≢ OK → endpoint_of c.new ≡ endpoint_of c.old }
     ensures same { result ≢ OK → text.new ≡ text.old }

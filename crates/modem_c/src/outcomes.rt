@@ -82,7 +82,7 @@ fn head_of(outcome: &Outcome) -> OutcomeHead
 /// Shows the head of the outcome that waits first.
 fn show(endpoint: &Endpoint, head: &mut OutcomeHead) -> u8
     ensures ok { result ≡ OK → ShowsOutcome endpoint.now head.new }
-    ensures nothing { (result ≡ NOTHING) ↔ (endpoint.now.kept.unplaced ≡ []) }
+    ensures nothing { (result ≡ NOTHING) ↔ (endpoint.now.machine.unplaced ≡ []) }
     ensures same { result ≡ NOTHING → head.new ≡ head.old }
     ensures others { result ≢ OK → result ≡ NOTHING }
 {
@@ -100,7 +100,7 @@ fn hand(endpoint: &mut Endpoint, head: &mut OutcomeHead, text: &mut [u8]) -> u8
     ensures ok { result ≡ OK → HandsOutcome endpoint.old endpoint.new head.new text.old text.new }
     ensures no_room { result ≡ NO_ROOM → ShowsOutcome endpoint.old head.new }
     ensures wants { result ≡ NO_ROOM → length text.old < head.new.length }
-    ensures nothing { (result ≡ NOTHING) ↔ (endpoint.old.kept.unplaced ≡ []) }
+    ensures nothing { (result ≡ NOTHING) ↔ (endpoint.old.machine.unplaced ≡ []) }
     ensures stays { result ≢ OK → endpoint.new ≡ endpoint.old }
     ensures same { result ≢ OK → text.new ≡ text.old }
     ensures head { result ≡ NOTHING → head.new ≡ head.old }
@@ -128,7 +128,7 @@ pub extern "C" fn cimbaloty_peek_outcome(
     head: &mut OutcomeHead,
 ) -> u8
     ensures ok { result ≡ OK → Holds c.old (λ e. ShowsOutcome e head.new) }
-    ensures nothing { (result ≡ NOTHING) ↔ Holds c.old (λ e. e.kept.unplaced ≡ []) }
+    ensures nothing { (result ≡ NOTHING) ↔ Holds c.old (λ e. e.machine.unplaced ≡ []) }
     ensures no_driver { (result ≡ NO_DRIVER) ↔ (endpoint_of c.old ≡ None) }
     ensures stays { endpoint_of c.new ≡ endpoint_of c.old }
     ensures same { result ≢ OK → head.new ≡ head.old }
@@ -153,7 +153,7 @@ pub extern "C" fn cimbaloty_poll_outcome_at(
     ensures ok { result ≡ OK → Goes c.old c.new (λ e f. HandsOutcome e f head.new text.old text.new) }
     ensures no_room { result ≡ NO_ROOM → Holds c.old (λ e. ShowsOutcome e head.new) }
     ensures wants { result ≡ NO_ROOM → length text.old < head.new.length }
-    ensures nothing { (result ≡ NOTHING) ↔ Holds c.old (λ e. e.kept.unplaced ≡ []) }
+    ensures nothing { (result ≡ NOTHING) ↔ Holds c.old (λ e. e.machine.unplaced ≡ []) }
     ensures no_driver { (result ≡ NO_DRIVER) ↔ (endpoint_of c.old ≡ None) }
     ensures stays { result ≢ OK → endpoint_of c.new ≡ endpoint_of c.old }
     ensures same { result ≢ OK → text.new ≡ text.old }

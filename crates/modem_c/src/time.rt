@@ -32,7 +32,7 @@ fn answer(done: Result<(), SessionFault>) -> u8
 pub extern "C" fn cimbaloty_tick(alloc: Global, c: &mut Cimbaloty) -> u8
     ensures ticks { result ≡ OK → Goes c.old c.new (λ e f. (l : LineView) (d : DriverView) → Ticks l d e f) }
     ensures refused { (result ≡ NO_MEMORY) ⊎ (result ≡ LINE_LOST) → Goes c.old c.new Refuses }
-    ensures lost { result ≡ LINE_LOST → Holds c.new (λ f. f.kept.core.lost ≡ true) }
+    ensures lost { result ≡ LINE_LOST → Holds c.new (λ f. f.machine.core.lost ≡ true) }
     ensures no_driver { (result ≡ NO_DRIVER) ↔ (endpoint_of c.old ≡ None) }
     ensures none { endpoint_of c.old ≡ None → endpoint_of c.new ≡ None }
     ensures others { result ≢ OK → result ≢ NO_MEMORY → result ≢ LINE_LOST → result ≡ NO_DRIVER }
@@ -49,9 +49,9 @@ pub extern "C" fn cimbaloty_tick(alloc: Global, c: &mut Cimbaloty) -> u8
 #[unsafe(no_mangle)]
 pub extern "C" fn cimbaloty_line_lost(alloc: Global, c: &mut Cimbaloty) -> u8
     ensures loses { result ≡ OK → Goes c.old c.new (λ e f. (l : LineView) (d : DriverView) → Loses l d e f) }
-    ensures gone { result ≡ OK → Holds c.new (λ f. f.kept.core.lost ≡ true) }
+    ensures gone { result ≡ OK → Holds c.new (λ f. f.machine.core.lost ≡ true) }
     ensures refused { (result ≡ NO_MEMORY) ⊎ (result ≡ LINE_LOST) → Goes c.old c.new Refuses }
-    ensures lost { result ≡ LINE_LOST → Holds c.new (λ f. f.kept.core.lost ≡ true) }
+    ensures lost { result ≡ LINE_LOST → Holds c.new (λ f. f.machine.core.lost ≡ true) }
     ensures no_driver { (result ≡ NO_DRIVER) ↔ (endpoint_of c.old ≡ None) }
     ensures none { endpoint_of c.old ≡ None → endpoint_of c.new ≡ None }
     ensures others { result ≢ OK → result ≢ NO_MEMORY → result ≢ LINE_LOST → result ≡ NO_DRIVER }
@@ -67,7 +67,7 @@ pub extern "C" fn cimbaloty_line_lost(alloc: Global, c: &mut Cimbaloty) -> u8
 /// Whether a tick may give something up.
 #[unsafe(no_mangle)]
 pub extern "C" fn cimbaloty_wants_tick(alloc: Global, c: &mut Cimbaloty) -> bool
-    ensures value { (e : EndpointState) → endpoint_of c.old ≡ Some e → result ≡ list_any wants_time e.kept.core.hand }
+    ensures value { (e : EndpointState) → endpoint_of c.old ≡ Some e → result ≡ list_any wants_time e.machine.core.hand }
     ensures none { endpoint_of c.old ≡ None → result ≡ false }
     ensures stays { endpoint_of c.new ≡ endpoint_of c.old }
 {
@@ -96,7 +96,7 @@ fn state_number(state: ChannelState) -> u8
 #[unsafe(no_mangle)]
 pub extern "C" fn cimbaloty_state(alloc: Global, c: &mut Cimbaloty, dlci: u8) -> u8
     ensures value { (e : EndpointState) → endpoint_of c.old ≡ Some e → dlci ≤ 61
-        → result ≡ state_number (state_shown e.kept.core.station e.kept.core.lost dlci) }
+        → result ≡ state_number (state_shown e.machine.core.station e.machine.core.lost dlci) }
     ensures none { (endpoint_of c.old ≡ None) ⊎ (61 < dlci) → result ≡ 0 }
     ensures stays { endpoint_of c.new ≡ endpoint_of c.old }
 {

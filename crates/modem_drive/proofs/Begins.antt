@@ -56,7 +56,7 @@ drove {X} look text n1 first line s users input before after p end left entered 
   through = p;
   driven = driven;
   asked = λ e.
-      let by : HasEndedBy driven.stopped.kept.course p None = subst (HasEndedBy driven.stopped.kept.course p) e driven.by in
+      let by : HasEndedBy driven.stopped.machine.course p None = subst (HasEndedBy driven.stopped.machine.course p) e driven.by in
       all_asked input p users.lines.submitted driven.ends.ended.lines.submitted b.none_asked
       (asks_then _ p p users.lines.submitted driven.mid.lines.submitted driven.ends.ended.lines.submitted driven.asks (asks_same p p driven.mid.lines.submitted driven.ends.ended.lines.submitted refl driven.ends.submits_none))
       by.1 by.2;

@@ -99,7 +99,7 @@ ends_drive look s users kept ended used given driver away end f o p before after
 }
 
 pub has_driven : {X : Type 0} (look : X → LineView) (s t u : SessionState X) (users mid kept : Users) (p q : PlanView) (before between after : Option (List ℕ)) (end : Option DriveFault) (left : Settled)
-    → DrivesOn look s t → GoOn before between users mid → AsksOn p q users.lines.submitted mid.lines.submitted → HasEndedBy t.kept.course q end
+    → DrivesOn look s t → GoOn before between users mid → AsksOn p q users.lines.submitted mid.lines.submitted → HasEndedBy t.machine.course q end
     → u ≡ t → kept ≡ mid → EndsDrive look u kept between after left → HasDriven look s users p q before after end left
 has_driven {X} look s t u users mid kept p q before between after end left drives goes asks by same stays ends = record {
   stopped = t;

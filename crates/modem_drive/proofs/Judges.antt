@@ -4,8 +4,8 @@ use Rattle.std.proofs.Common.{ap, sym, subst, ◌∙◌}
 use Rattle.modem_history.specs.Sessions.{LineView}
 use Rattle.modem_driver.specs.Polls.{Polls, PollsFrom, end_in, with_given}
 use Rattle.modem_driver.specs.SessionStates.{SessionState}
-use Rattle.modem_driver.specs.declared.session.ending.Course.{Course}
-use Rattle.modem_driver.specs.declared.session.ending.Course.TheVariants as course
+use Rattle.modem_driver.specs.declared.machine.course.Course.{Course}
+use Rattle.modem_driver.specs.declared.machine.course.Course.TheVariants as course
 use Rattle.modem_driver.specs.declared.session.ending.Ended.{Ended}
 use Rattle.modem_driver.specs.declared.session.ending.Ended.TheVariants.{Stopped}
 use Rattle.modem_driver.specs.declared.session.error.SessionFault.{SessionFault}
@@ -27,24 +27,24 @@ kept_itself (Err error.NoMemory) = tt
 kept_itself (Err error.Line) = refl
 kept_itself (Err error.Failed) = refl
 
-pub keeps_given : {X : Type 0} (look : X → LineView) (old new : SessionState X) (given : Progress) → Polls look old new given → KeepsGiven given new.kept.course
-keeps_given {X} look old new given h = by_course old.kept.course refl h
+pub keeps_given : {X : Type 0} (look : X → LineView) (old new : SessionState X) (given : Progress) → Polls look old new given → KeepsGiven given new.machine.course
+keeps_given {X} look old new given h = by_course old.machine.course refl h
   where
-    given_now : (p : Progress) → given ≡ p → KeepsGiven p new.kept.course → KeepsGiven given new.kept.course
-    given_now p e k = subst (λ (q : Progress). KeepsGiven q new.kept.course) (sym e) k
+    given_now : (p : Progress) → given ≡ p → KeepsGiven p new.machine.course → KeepsGiven given new.machine.course
+    given_now p e k = subst (λ (q : Progress). KeepsGiven q new.machine.course) (sym e) k
 
-    polled : (p : Progress) → given ≡ p → (mid : SessionState X) → new ≡ with_given (end_in p) mid → KeepsGiven p new.kept.course
+    polled : (p : Progress) → given ≡ p → (mid : SessionState X) → new ≡ with_given (end_in p) mid → KeepsGiven p new.machine.course
     polled progress.More e mid s = tt
     polled progress.Idle e mid s = tt
-    polled (progress.Ended (Ok Stopped)) e mid s = ap (λ (t : SessionState X). t.kept.course) s
+    polled (progress.Ended (Ok Stopped)) e mid s = ap (λ (t : SessionState X). t.machine.course) s
     polled (progress.Ended (Err error.NoMemory)) e mid s = tt
-    polled (progress.Ended (Err error.Line)) e mid s = ap (λ (t : SessionState X). t.kept.course) s
-    polled (progress.Ended (Err error.Failed)) e mid s = ap (λ (t : SessionState X). t.kept.course) s
+    polled (progress.Ended (Err error.Line)) e mid s = ap (λ (t : SessionState X). t.machine.course) s
+    polled (progress.Ended (Err error.Failed)) e mid s = ap (λ (t : SessionState X). t.machine.course) s
 
-    by_course : (c : Course) → old.kept.course ≡ c → PollsFrom look c old new given → KeepsGiven given new.kept.course
+    by_course : (c : Course) → old.machine.course ≡ c → PollsFrom look c old new given → KeepsGiven given new.machine.course
     by_course (course.Ended end) e k =
         given_now (progress.Ended end) k.0
-        (subst (KeepsGiven (progress.Ended end)) (sym (ap (λ (t : SessionState X). t.kept.course) k.1 ∙ e)) (kept_itself end))
+        (subst (KeepsGiven (progress.Ended end)) (sym (ap (λ (t : SessionState X). t.machine.course) k.1 ∙ e)) (kept_itself end))
     by_course course.GoesOn e k = polled given refl k.mid k.stays
     by_course course.Stopped e k = polled given refl k.mid k.stays
 

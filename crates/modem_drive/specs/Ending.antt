@@ -7,8 +7,8 @@ use Rattle.modem_desk.specs.Ends.{DriverView}
 use Rattle.modem_history.specs.Sessions.{Leftovers, LineView}
 use Rattle.modem_driver.specs.SessionStates.{SessionEnds, SessionState, end_of}
 use Rattle.modem_driver.specs.TurningAway.{Offline, TurnsAway, offline_from}
-use Rattle.modem_driver.specs.declared.session.ending.Course.{Course}
-use Rattle.modem_driver.specs.declared.session.ending.Course.TheVariants as course
+use Rattle.modem_driver.specs.declared.machine.course.Course.{Course}
+use Rattle.modem_driver.specs.declared.machine.course.Course.TheVariants as course
 use Rattle.modem_driver.specs.declared.session.ending.Ended.{Ended}
 use Rattle.modem_driver.specs.declared.session.ending.Ended.TheVariants.{Stopped}
 use Rattle.modem_driver.specs.declared.session.error.SessionFault.{SessionFault}
@@ -78,5 +78,5 @@ pub record HasDriven {X : Type 0} (look : X → LineView) (s : SessionState X) (
   pub between : Option (List ℕ)
   pub goes : GoOn before between users mid
   pub asks : AsksOn p q users.lines.submitted mid.lines.submitted
-  pub by : HasEndedBy stopped.kept.course q end
+  pub by : HasEndedBy stopped.machine.course q end
   pub ends : EndsDrive look stopped mid between after settled

@@ -89,7 +89,7 @@ fn poll<L: SerialLine, R: Wait + Drop, K: Clock>(
     ticks: &mut Ticks,
 ) -> Progress
     ensures drives { DrivesOn (line_by L.received L.sent L.calls L.failures L.empty_reads L.stalled_writes) session.old session.new }
-    ensures ends { KeepsGiven result session.new.kept.course }
+    ensures ends { KeepsGiven result session.new.machine.course }
 {
     let wanted = session.wants_tick();
     tick_if(session, ticks.are_due(clock, wanted));
@@ -165,7 +165,7 @@ fn round<L: SerialLine, R: Wait + Clock + Drop, I: Read, W: Write, E: Write>(
     ensures drives { DrivesOn (line_by L.received L.sent L.calls L.failures L.empty_reads L.stalled_writes) session.old session.new }
     ensures goes { OnOk result (GoOn (W.contents output.old) (W.contents output.new) users.old users.new) }
     ensures asks { OnOk result (AsksOn plan.old plan.new users.old.lines.submitted users.new.lines.submitted) }
-    ensures ends { IfOk result (λ w. (end : Option DriveFault) → w ≡ went.Ends end → HasEndedBy session.new.kept.course plan.new end) }
+    ensures ends { IfOk result (λ w. (end : Option DriveFault) → w ≡ went.Ends end → HasEndedBy session.new.machine.course plan.new end) }
 {
     let said = poll(rt, session, ticks);
     let shown = show(rt, alloc, users, plan, output)?;
@@ -196,7 +196,7 @@ pub fn drive_on<L: SerialLine, R: Wait + Clock + Drop, I: Read, W: Write, E: Wri
     ensures drives { DrivesOn (line_by L.received L.sent L.calls L.failures L.empty_reads L.stalled_writes) session.old session.new }
     ensures goes { OnOk result (GoOn (W.contents output.old) (W.contents output.new) users.old users.new) }
     ensures asks { OnOk result (AsksOn plan.old plan.new users.old.lines.submitted users.new.lines.submitted) }
-    ensures ends { IfOk result (HasEndedBy session.new.kept.course plan.new) }
+    ensures ends { IfOk result (HasEndedBy session.new.machine.course plan.new) }
 {
     let most = Duration::from_secs(LOOK_SECONDS);
     for _ in rt.forever() {

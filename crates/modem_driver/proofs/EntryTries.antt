@@ -19,7 +19,7 @@ use Rattle.modem_driver.specs.declared.entry.EntryStep.{EntryStep}
 use Rattle.modem_driver.specs.declared.entry.EntryStep.TheVariants.{Moved, Idle, Answered}
 
 -- what is in hand is so by every history that fits
-pub hand_wants : {X : Type 0} (look : X → LineView) (s : SessionState X) (says : Bool) → says ≡ list_any wants_time s.kept.core.hand
+pub hand_wants : {X : Type 0} (look : X → LineView) (s : SessionState X) (says : Bool) → says ≡ list_any wants_time s.machine.core.hand
     → (b : Beginning) (past : List Act) → FitsAll b look s past → says ≡ list_any wants_time (in_hand past)
 hand_wants look s says e b past h = e ∙ ap (list_any wants_time) (sym h.inside.fits.hand_is)
 

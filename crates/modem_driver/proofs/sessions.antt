@@ -11,6 +11,8 @@ pub mod CollectedActs
 pub mod StopProgress
 pub mod StopsInHand
 pub mod EndedStops
+pub mod WaitedTicks
+pub mod LineCounts
 pub mod CoreCalls
 pub mod StartAndTick
 pub mod LineOctets

@@ -11,9 +11,9 @@ use Rattle.modem_history.specs.Acts.{Act, Told, after, is_for}
 use Rattle.modem_history.specs.Calls.{is_lost}
 use Rattle.modem_history.specs.Wholes.{taken_requests, outcomes}
 use Rattle.modem_history.specs.Sessions.{Beginning, SessionView, sents, octets_of_frames, caller_outcomes, at_place}
-use Rattle.modem_driver.specs.declared.session.ending.Asker.{Asker}
-use Rattle.modem_driver.specs.declared.session.ending.Course.{Course}
-use Rattle.modem_driver.specs.declared.session.ending.Course.TheVariants as course
+use Rattle.modem_driver.specs.declared.machine.course.Asker.{Asker}
+use Rattle.modem_driver.specs.declared.machine.course.Course.{Course}
+use Rattle.modem_driver.specs.declared.machine.course.Course.TheVariants as course
 use Rattle.modem_driver.specs.declared.session.ending.Ended.{Ended}
 use Rattle.modem_driver.specs.declared.session.ending.Ended.TheVariants as ended
 use Rattle.modem_driver.specs.declared.session.error.SessionFault.{SessionFault}

@@ -72,11 +72,11 @@ OneHistory =
 -- once, in their orders.
 pub record IsAllOf (b : Beginning) (v : World) (past : List Act) : Type 0 where
   pub history : IsHistory b past
-  pub requests : FitsRequests b (seen_by v.line (end_of v.driver) v.endpoint.kept) past
-  pub octets_in : FitsReceived b (seen_by v.line (end_of v.driver) v.endpoint.kept) past
-  pub octets_out : FitsSent b (seen_by v.line (end_of v.driver) v.endpoint.kept) past
-  pub outcomes : FitsTold b (seen_by v.line (end_of v.driver) v.endpoint.kept) past
-  pub lines : FitsHeard b (seen_by v.line (end_of v.driver) v.endpoint.kept) past
+  pub requests : FitsRequests b (seen_by v.line (end_of v.driver) v.endpoint.machine) past
+  pub octets_in : FitsReceived b (seen_by v.line (end_of v.driver) v.endpoint.machine) past
+  pub octets_out : FitsSent b (seen_by v.line (end_of v.driver) v.endpoint.machine) past
+  pub outcomes : FitsTold b (seen_by v.line (end_of v.driver) v.endpoint.machine) past
+  pub lines : FitsHeard b (seen_by v.line (end_of v.driver) v.endpoint.machine) past
 
 -- there is such a history
 pub record HasAll (b : Beginning) (v : World) : Type 0 where

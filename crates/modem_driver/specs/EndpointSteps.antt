@@ -9,7 +9,7 @@ use Rattle.modem_history.specs.GoingOut.{next_out}
 use Rattle.modem_history.specs.Sessions.{Beginning, LineView, driving}
 use Rattle.modem_history.specs.Turns.{has_room_for, is_mark, may_act}
 use Rattle.modem_driver.specs.Running.{CoreIsIdle}
-use Rattle.modem_driver.specs.SessionStates.{Kept, KeptMoves}
+use Rattle.modem_driver.specs.SessionStates.{Machine, MachineMoves}
 use Rattle.modem_driver.specs.TurnSteps.{TurnState, StandingFits, turn_state, Leads}
 
 -- ## Lines
@@ -46,45 +46,45 @@ pub record GoesOut (old new : TurnState) : Type 0 where
 -- ## Octets that go out
 
 -- these octets of those that wait went out first
-unfoldable pub CopiesOut : (old new : Kept) → List ℕ → Type 0
-CopiesOut old new octets = (l : LineView) → KeptMoves l (with_sent l octets) old new
+unfoldable pub CopiesOut : (old new : Machine) → List ℕ → Type 0
+CopiesOut old new octets = (l : LineView) → MachineMoves l (with_sent l octets) old new
 
 -- by some acts these octets went out
-unfoldable pub GivesOut : (old new : Kept) → List ℕ → Type 0
+unfoldable pub GivesOut : (old new : Machine) → List ℕ → Type 0
 GivesOut old new octets =
     (l : LineView) (d : DriverView) → GoesOut (turn_state l d old) (turn_state (with_sent l octets) d new)
 
 -- No octets wait, and no frame: the control queue is empty or the line is lost, and no history has a frame
 -- that is to go out.
 pub record IsDrained (s : TurnState) : Type 0 where
-  pub written : s.kept.unwritten ≡ []
-  pub idle : CoreIsIdle s.kept.core
+  pub written : s.machine.unwritten ≡ []
+  pub idle : CoreIsIdle s.machine.core
   pub none_left : (b : Beginning) (past : List Act) → StandingFits b s past → next_out (driving b) past ≡ None
 
-unfoldable pub KeptIsDrained : Kept → Type 0
-KeptIsDrained k = (l : LineView) (d : DriverView) → IsDrained (turn_state l d k)
+unfoldable pub MachineIsDrained : Machine → Type 0
+MachineIsDrained k = (l : LineView) (d : DriverView) → IsDrained (turn_state l d k)
 
 -- ## Octets that come
 
 -- these octets came, and the deframer took them
-unfoldable pub FeedsFrom : (old new : Kept) → List ℕ → Type 0
-FeedsFrom old new octets = (l : LineView) → KeptMoves l (with_received l octets) old new
+unfoldable pub FeedsFrom : (old new : Machine) → List ℕ → Type 0
+FeedsFrom old new octets = (l : LineView) → MachineMoves l (with_received l octets) old new
 
 -- by some acts these octets came
-unfoldable pub TakesFrom : (old new : Kept) → List ℕ → Type 0
+unfoldable pub TakesFrom : (old new : Machine) → List ℕ → Type 0
 TakesFrom old new octets =
     (l : LineView) (d : DriverView) → Passes (turn_state l d old) (turn_state (with_received l octets) d new)
 
 -- by some acts frames at hand were handled
-unfoldable pub HandlesFrames : (old new : Kept) → Type 0
+unfoldable pub HandlesFrames : (old new : Machine) → Type 0
 HandlesFrames old new = (l : LineView) (d : DriverView) → Passes (turn_state l d old) (turn_state l d new)
 
 -- there is no room for what this frame calls for, and something is left to go out
 pub record LacksRoomFor (s : TurnState) (f : Frame) : Type 0 where
-  pub busy : ¬ CoreIsIdle s.kept.core
+  pub busy : ¬ CoreIsIdle s.machine.core
   pub full : (b : Beginning) (past : List Act) → StandingFits b s past → has_room_for b past f ≡ false
 
 -- a frame at hand lacks room
-unfoldable pub HandLacksRoom : Kept → Type 0
+unfoldable pub HandLacksRoom : Machine → Type 0
 HandLacksRoom k =
     (l : LineView) (d : DriverView) (f : Frame) → k.deframer.next ≡ Some f → LacksRoomFor (turn_state l d k) f

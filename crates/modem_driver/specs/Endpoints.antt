@@ -17,7 +17,7 @@ use Rattle.modem_history.specs.Sessions.{Beginning, LineView, gots, taken_since}
 use Rattle.modem_history.specs.Turns.{HoldsWhereRoom, may_act, may_fail}
 use Rattle.modem_history.specs.Wholes.{is_said}
 use Rattle.modem_driver.specs.EndpointSteps.{HandLacksRoom, IsDrained, goes_out, with_received, with_sent}
-use Rattle.modem_driver.specs.SessionStates.{Kept, beginning_by, kept_by, seen_by, end_of}
+use Rattle.modem_driver.specs.SessionStates.{Machine, beginning_by, machine_by, seen_by, end_of}
 use Rattle.modem_driver.specs.TurnSteps.{StandingFits, turn_state, view_of}
 use Rattle.modem_driver.specs.declared.endpoint.Blocked.{Blocked}
 use Rattle.modem_driver.specs.declared.endpoint.Blocked.TheVariants.{OutputFirst, NoMemory}
@@ -26,19 +26,19 @@ use Rattle.modem_driver.specs.declared.endpoint.Blocked.TheVariants.{OutputFirst
 
 -- what a session keeps, and the number of its next request
 pub record EndpointState : Type 0 where
-  pub kept : Kept
+  pub machine : Machine
   pub next : ℕ
 
 -- nothing has happened yet
 abbrev pub endpoint_by : Rules → ℕ → List UrcKind → ℕ → EndpointState
-endpoint_by rules n1 kinds first = record { kept = kept_by rules n1 kinds; next = first }
+endpoint_by rules n1 kinds first = record { machine = machine_by rules n1 kinds; next = first }
 
 -- and at a standard modem
 abbrev pub new_endpoint : ℕ → List UrcKind → ℕ → EndpointState
 new_endpoint n1 kinds first = endpoint_by no_rules n1 kinds first
 
 -- every octet that came is with the deframer, and no request is kept aside
-pub record HasNoneAside (k : Kept) : Type 0 where
+pub record HasNoneAside (k : Machine) : Type 0 where
   pub fed : k.unfed ≡ []
   pub bare : k.aside ≡ None
 
@@ -52,8 +52,8 @@ is_numbered next q = (q.caller == 0) && nat_lt q.number next
 -- end took since are all of caller 0 and have lower numbers than the next.
 pub record EndpointFits (b : Beginning) (l : LineView) (d : DriverView) (e : EndpointState)
     (past : List Act) : Type 0 where
-  pub stands : StandingFits b (turn_state l d e.kept) past
-  pub numbers : list_all (is_numbered e.next) (taken_since b (seen_by l (end_of d) e.kept)) ≡ true
+  pub stands : StandingFits b (turn_state l d e.machine) past
+  pub numbers : list_all (is_numbered e.next) (taken_since b (seen_by l (end_of d) e.machine)) ≡ true
 
 -- by these acts it led from the one to the other, over such lines and desk's ends, whatever history it had
 unfoldable pub LeadsOver : (before later : LineView) → (here there : DriverView) → (old new : EndpointState)
@@ -84,7 +84,7 @@ pub record GivesOctets (l : LineView) (d : DriverView) (old new : EndpointState)
 
 -- nothing waits for the line
 unfoldable pub HoldsNothingBack : EndpointState → Type 0
-HoldsNothingBack e = (l : LineView) (d : DriverView) → IsDrained (turn_state l d e.kept)
+HoldsNothingBack e = (l : LineView) (d : DriverView) → IsDrained (turn_state l d e.machine)
 
 -- ## Octets of the line
 
@@ -96,27 +96,27 @@ pub record TakesOctets (l : LineView) (d : DriverView) (old new : EndpointState)
   pub acts : List Act
   pub leads : LeadsOver l (with_received l octets) d d old new acts
   pub may : (b : Beginning) (past : List Act) → EndpointFits b l d old past
-      → list_all (may_act new.kept.unannounced) acts ≡ true
+      → list_all (may_act new.machine.unannounced) acts ≡ true
   pub held : (b : Beginning) (past : List Act) → EndpointFits b l d old past → is_lost past ≡ false
       → blocked ≡ None
-      → HoldsWhereRoom b (view_of (turn_state (with_received l octets) d new.kept)) (after past acts)
+      → HoldsWhereRoom b (view_of (turn_state (with_received l octets) d new.machine)) (after past acts)
 
 -- the frame at hand lacks room in the control queue for what it calls for
-pub record WantsRoom (k : Kept) : Type 0 where
+pub record WantsRoom (k : Machine) : Type 0 where
   pub at_hand : k.deframer.next ≢ None
   pub no_room : HandLacksRoom k
 
 -- what it says where no octets are left but for the last: all are taken and no frame is at hand; one at hand
 -- lacks room; or there was no memory for one at hand
-abbrev pub KeptSays : Kept → (all : Type 0) → Option Blocked → Type 0
-KeptSays k all None = all × (k.deframer.next ≡ None)
-KeptSays k all (Some OutputFirst) = WantsRoom k
-KeptSays k all (Some NoMemory) = k.deframer.next ≢ None
+abbrev pub MachineSays : Machine → (all : Type 0) → Option Blocked → Type 0
+MachineSays k all None = all × (k.deframer.next ≡ None)
+MachineSays k all (Some OutputFirst) = WantsRoom k
+MachineSays k all (Some NoMemory) = k.deframer.next ≢ None
 
 -- what the endpoint says: the same, or there was no memory, behind the last octet, for the MSC of a connection
 abbrev pub Says : EndpointState → (all : Type 0) → Option Blocked → Type 0
-Says e all (Some NoMemory) = (e.kept.deframer.next ≢ None) ⊎ all
-Says e all says = KeptSays e.kept all says
+Says e all (Some NoMemory) = (e.machine.deframer.next ≢ None) ⊎ all
+Says e all says = MachineSays e.machine all says
 
 -- ## Requests
 
@@ -142,7 +142,7 @@ pub record HandlesAlone (l : LineView) (d : DriverView) (old new : EndpointState
 
 -- the requests in hand and the outcomes that wait are 128, or all numbers are used up
 abbrev pub IsFull : EndpointState → Type 0
-IsFull e = (128 ≤ length e.kept.core.hand + length e.kept.unplaced) ⊎ (e.next ≡ 2 ^ 64 - 1)
+IsFull e = (128 ≤ length e.machine.core.hand + length e.machine.unplaced) ⊎ (e.next ≡ 2 ^ 64 - 1)
 
 -- a request that asks for this has the next number, and the next is one more
 pub record Numbers (old new : EndpointState) (ask : Ask) (n : ℕ) : Type 0 where
@@ -216,8 +216,8 @@ pub record TellsOne (o : Outcome) (old new : DriverView) : Type 0 where
 -- the outcome that waited first is given, and waits no more; nothing else changes. So it goes on over each
 -- desk's end that told it.
 pub record GivesOutcome (old new : EndpointState) (o : Outcome) : Type 0 where
-  pub first : old.kept.unplaced ≡ o ∷ new.kept.unplaced
-  pub stays : new ≡ record old { kept = record old.kept { unplaced = new.kept.unplaced } }
+  pub first : old.machine.unplaced ≡ o ∷ new.machine.unplaced
+  pub stays : new ≡ record old { machine = record old.machine { unplaced = new.machine.unplaced } }
   pub leads : (l : LineView) (d e : DriverView) → TellsOne o d e → LeadsOver l l d e old new []
 
 -- a desk's end announced this line more to each listener of its kind, and did nothing else
@@ -228,8 +228,8 @@ pub record AnnouncesOne (u : Urc) (old new : DriverView) : Type 0 where
 -- The line that waited first is given, and waits no more; nothing else changes. So it goes on over each desk's
 -- end that announced it.
 pub record GivesLine (old new : EndpointState) (u : Urc) : Type 0 where
-  pub first : old.kept.unannounced ≡ u ∷ new.kept.unannounced
-  pub stays : new ≡ record old { kept = record old.kept { unannounced = new.kept.unannounced } }
+  pub first : old.machine.unannounced ≡ u ∷ new.machine.unannounced
+  pub stays : new ≡ record old { machine = record old.machine { unannounced = new.machine.unannounced } }
   pub leads : (l : LineView) (d e : DriverView) → AnnouncesOne u d e → LeadsOver l l d e old new []
 
 -- what is left: the requests taken and not told, in each history that it fits, and the outcomes and lines that
@@ -238,5 +238,5 @@ pub record Leaves (e : EndpointState) (in_hand_left : List Request) (outcomes : 
     (lines : List Urc) : Type 0 where
   pub hand : (b : Beginning) (l : LineView) (d : DriverView) (past : List Act) → EndpointFits b l d e past
       → in_hand_left ≡ in_hand past
-  pub outcomes_are : outcomes ≡ e.kept.unplaced
-  pub lines_are : lines ≡ e.kept.unannounced
+  pub outcomes_are : outcomes ≡ e.machine.unplaced
+  pub lines_are : lines ≡ e.machine.unannounced

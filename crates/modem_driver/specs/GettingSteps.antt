@@ -2,10 +2,10 @@
 use Rattle.std.specs.Prelude.{Bool}
 use Rattle.modem_desk.specs.Ends.{DriverView}
 use Rattle.modem_history.specs.Sessions.{LineView}
-use Rattle.modem_driver.specs.SessionStates.{Kept}
+use Rattle.modem_driver.specs.SessionStates.{Machine}
 use Rattle.modem_driver.specs.TurnSteps.{turn_state, Gets}
 
 -- the frame at hand is handled, whatever line and desk's end there are; what it says is whether it was
-unfoldable pub KeptGets : (old new : Kept) → (moved : Bool) → Type 0
-KeptGets old new moved =
+unfoldable pub MachineGets : (old new : Machine) → (moved : Bool) → Type 0
+MachineGets old new moved =
     (l : LineView) (d : DriverView) → Gets (turn_state l d old) (turn_state l d new) moved

@@ -25,6 +25,8 @@ pub mod Entries
 pub mod EntrySteps
 pub mod EntryTries
 pub mod WaitingLists
+pub mod LineQueues
+pub mod WaitingTicks
 pub mod EndpointSteps
 pub mod Endpoints
 pub mod EndpointLaws

@@ -3,11 +3,11 @@ use Rattle.std.specs.Prelude.{◌≡◌, ℕ, ◌+◌, ◌-◌, ◌^◌, ◌<◌
 use Rattle.modem_desk.specs.Ends.{DeskId}
 use Rattle.modem_history.specs.Acts.{Act, Tick}
 use Rattle.modem_history.specs.Sessions.{Beginning, LineView}
-use Rattle.modem_driver.specs.declared.session.ending.Course.TheVariants as course
+use Rattle.modem_driver.specs.declared.machine.course.Course.TheVariants as course
 use Rattle.modem_driver.specs.declared.session.ending.Ended.TheVariants.{Stopped}
 use Rattle.modem_driver.specs.declared.session.error.SessionFault.{SessionFault}
 use Rattle.modem_driver.specs.declared.session.polling.Progress.TheVariants as progress
-use Rattle.modem_driver.specs.SessionStates.{SessionState, FitsAll, Ticks, beginning_of, new_kept}
+use Rattle.modem_driver.specs.SessionStates.{SessionState, FitsAll, Ticks, beginning_of, new_machine}
 use Rattle.modem_driver.specs.Polls.{PollsOn, RunsTurns, has_ended}
 use Rattle.modem_driver.specs.PollLaws.{IsSession, RunsThrough}
 use Rattle.modem_driver.specs.PollRows.{bare_desk, first_line, lost_session}
@@ -17,15 +17,15 @@ use Rattle.modem_driver.specs.PollRows.{bare_desk, first_line, lost_session}
 -- Where all octets that came were fed the line is called, with room: so it is no poll that makes no turn.
 unfoldable pub ReadsTheLine : {X : Type 0} → (X → LineView) → Type 0
 ReadsTheLine {X} look =
-    (old new : SessionState X) (more : Bool) → IsSession look old → old.kept.unfed ≡ []
-    → has_ended old.kept ≡ false → (look old.line).calls < 2 ^ 64 - 1 → RunsTurns look old new (Ok more)
+    (old new : SessionState X) (more : Bool) → IsSession look old → old.machine.unfed ≡ []
+    → has_ended old.machine ≡ false → (look old.line).calls < 2 ^ 64 - 1 → RunsTurns look old new (Ok more)
     → (look old.line).calls < (look new.line).calls
 
 -- nor one that ticks in its place
 unfoldable pub NoTickIsAPoll : {X : Type 0} → (X → LineView) → Type 0
 NoTickIsAPoll {X} look =
-    (old new : SessionState X) (more : Bool) → IsSession look old → old.kept.unfed ≡ []
-    → has_ended old.kept ≡ false → (look old.line).calls < 2 ^ 64 - 1 → Ticks look old new
+    (old new : SessionState X) (more : Bool) → IsSession look old → old.machine.unfed ≡ []
+    → has_ended old.machine ≡ false → (look old.line).calls < 2 ^ 64 - 1 → Ticks look old new
     → ¬ RunsTurns look old new (Ok more)
 
 abbrev pub is_tick : Act → Bool
@@ -51,7 +51,7 @@ AsksPerTurn {X} look =
 
 -- nothing has happened
 abbrev pub new_session : DeskId → SessionState LineView
-new_session at = record { line = first_line; driver = bare_desk at; kept = new_kept 31 [] }
+new_session at = record { line = first_line; driver = bare_desk at; machine = new_machine 31 [] }
 
 -- it is one: its history is empty
 unfoldable pub IsNewSession : Type 0
@@ -70,13 +70,13 @@ abbrev pub after_flags : ℕ → DeskId → SessionState LineView
 after_flags n at = record {
   line = record first_line { received = replicate n 0xF9; calls = n };
   driver = record (bare_desk at) { found_none = n };
-  kept = record (new_kept 31 []) { deframer = record { n1 = 31; undecided = 0xF9 ∷ []; next = None } };
+  machine = record (new_machine 31 []) { deframer = record { n1 = 31; undecided = 0xF9 ∷ []; next = None } };
 }
 
 -- where its line was lost and a poll gave Stopped all the same
 abbrev pub lost_and_stopped : DeskId → SessionState LineView
 lost_and_stopped at = record (lost_session at) {
-  kept = record (lost_session at).kept { course = course.Ended (Ok Stopped) };
+  machine = record (lost_session at).machine { course = course.Ended (Ok Stopped) };
 }
 
 -- No turn made, or a tick in its place; a loss of the line kept back, or given as Stopped; 65 turns; a turn

@@ -100,6 +100,12 @@ caller_of o = o.caller
 abbrev pub place_of : Urc → ℕ
 place_of u = kind_place u.kind
 
+-- of no kind that is listened to and isn't held up a line waits
+abbrev pub LeavesAll : (kinds : List UrcKind) → (held : List Bool) → List Urc → Type 0
+LeavesAll kinds held lines =
+    (k : UrcKind) → Contains kinds k → slice_index_or held (kind_place k) false ≡ false
+    → of_key place_of (kind_place k) lines ≡ []
+
 -- the ring of a caller, and a caller of the desk
 abbrev pub IsRingOf : ℕ → ℕ → Type 0
 IsRingOf n i = i ≡ n

@@ -21,7 +21,7 @@ pub data MovesThrough {X : Type 0} (look : X → LineView) (b : Beginning) (old 
     (past : List Act) : ℕ → SessionState X → List Act → Type 0 where
   through_none : FitsAll b look old past → MovesThrough look b old past 0 old past
   through_once : (n : ℕ) (mid new : SessionState X) (before acts : List Act) (t : Exchange)
-      → MovesThrough look b old past n mid before → has_ended mid.kept ≡ false
+      → MovesThrough look b old past n mid before → has_ended mid.machine ≡ false
       → FitsAll b look new (after before acts)
       → IsTurn b (session_view look mid) (session_view look new) t before acts TurnAnswer.Moved
       → TakesSteps b (session_view look mid) (session_view look new) t before acts
@@ -33,15 +33,15 @@ pub data RunsThrough {X : Type 0} (look : X → LineView) (b : Beginning) (old :
   all_through : (now : List Act) → MovesThrough look b old past 64 new now
       → RunsThrough look b old past new now (Ok true)
   ended_through : (n : ℕ) (now : List Act) → n ≤ 64 → MovesThrough look b old past n new now
-      → has_ended new.kept ≡ true → RunsThrough look b old past new now (Ok false)
+      → has_ended new.machine ≡ true → RunsThrough look b old past new now (Ok false)
   rests_through : (n : ℕ) (mid : SessionState X) (before acts : List Act) (t : Exchange) (says : TurnAnswer)
-      → n < 64 → MovesThrough look b old past n mid before → has_ended mid.kept ≡ false
+      → n < 64 → MovesThrough look b old past n mid before → has_ended mid.machine ≡ false
       → FitsAll b look new (after before acts)
       → IsTurn b (session_view look mid) (session_view look new) t before acts says
       → TakesSteps b (session_view look mid) (session_view look new) t before acts
       → says_moved says ≡ false → RunsThrough look b old past new (after before acts) (Ok false)
   fails_through : (n : ℕ) (mid : SessionState X) (before acts : List Act) (t : Exchange) (why : SessionFault)
-      → n < 64 → MovesThrough look b old past n mid before → has_ended mid.kept ≡ false
+      → n < 64 → MovesThrough look b old past n mid before → has_ended mid.machine ≡ false
       → FitsAll b look new (after before acts)
       → IsFault b (session_view look mid) (session_view look new) t before acts (fault_of why)
       → OffersWhatWaits b (session_view look mid) (session_view look new) t
@@ -86,7 +86,7 @@ NoLossIsStopped {X} look =
 -- where octets wait the line is called: so it is no poll that makes no turn, or that ticks instead
 unfoldable pub CallsTheLine : {X : Type 0} → (X → LineView) → Type 0
 CallsTheLine {X} look =
-    (old new : SessionState X) (more : Bool) → IsSession look old → old.kept.unwritten ≢ []
+    (old new : SessionState X) (more : Bool) → IsSession look old → old.machine.unwritten ≢ []
     → (look old.line).calls < 2 ^ 64 - 1 → RunsTurns look old new (Ok more)
     → (look old.line).calls < (look new.line).calls
 
@@ -94,4 +94,4 @@ CallsTheLine {X} look =
 unfoldable pub LostGivesFailed : {X : Type 0} → (X → LineView) → Type 0
 LostGivesFailed {X} look =
     (s : SessionState X) (given : Result Ended SessionFault) → IsSession look s → has_lost_line s ≡ true
-    → end_given s.kept.course ≡ None → Gives look s given → given ≡ Err fault.Failed
+    → end_given s.machine.course ≡ None → Gives look s given → given ≡ Err fault.Failed

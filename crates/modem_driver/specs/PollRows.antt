@@ -5,7 +5,7 @@ use Rattle.modem_history.specs.Acts.{Lost}
 use Rattle.modem_history.specs.Sessions.{LineView}
 use Rattle.modem_driver.specs.declared.session.ending.Ended.TheVariants.{Stopped}
 use Rattle.modem_driver.specs.declared.session.error.SessionFault.TheVariants as fault
-use Rattle.modem_driver.specs.SessionStates.{SessionState, FitsAll, beginning_of, new_kept}
+use Rattle.modem_driver.specs.SessionStates.{SessionState, FitsAll, beginning_of, new_machine}
 use Rattle.modem_driver.specs.Polls.{Gives, RunsTurns}
 
 -- a desk with this queue, without callers and listeners
@@ -30,7 +30,7 @@ abbrev pub lost_session : DeskId → SessionState LineView
 lost_session at = record {
   line = record first_line { calls = 1; failures = 1 };
   driver = bare_desk at;
-  kept = record (new_kept 31 []) { core = record (new_kept 31 []).core { lost = true }; faulty = true };
+  machine = record (new_machine 31 []) { core = record (new_machine 31 []).core { lost = true }; faulty = true };
 }
 
 -- it is one: its history is the loss

@@ -3,8 +3,8 @@ use Rattle.std.specs.Prelude.{◌≡◌, ℕ, ◌+◌, ◌<◌, ◌≤◌, ◌==
 use Rattle.modem_history.specs.Acts.{Act}
 use Rattle.modem_history.specs.Sessions.{Beginning, LineView, SessionView, Goes}
 use Rattle.modem_history.specs.Turns.{TurnAnswer, says_moved}
-use Rattle.modem_driver.specs.declared.session.ending.Course.{Course}
-use Rattle.modem_driver.specs.declared.session.ending.Course.TheVariants as course
+use Rattle.modem_driver.specs.declared.machine.course.Course.{Course}
+use Rattle.modem_driver.specs.declared.machine.course.Course.TheVariants as course
 use Rattle.modem_driver.specs.declared.session.ending.Ended.{Ended}
 use Rattle.modem_driver.specs.declared.session.ending.Ended.TheVariants.{Stopped}
 use Rattle.modem_driver.specs.declared.session.error.SessionFault.{SessionFault}
@@ -12,7 +12,7 @@ use Rattle.modem_driver.specs.declared.session.error.SessionFault.TheVariants as
 use Rattle.modem_driver.specs.declared.session.polling.Progress.{Progress}
 use Rattle.modem_driver.specs.declared.session.polling.Progress.TheVariants as progress
 use Rattle.modem_driver.specs.Endings.{IsEnd}
-use Rattle.modem_driver.specs.SessionStates.{Kept, SessionState, FitsInside, FitsAll, TakesMore, session_view}
+use Rattle.modem_driver.specs.SessionStates.{Machine, SessionState, FitsInside, FitsAll, TakesMore, session_view}
 use Rattle.modem_driver.specs.SessionTurns.{TakesTurn, Faults, HasTurned, LeavesLost, fault_of, standing_of}
 
 -- ## The end
@@ -23,7 +23,7 @@ is_stopped _ = false
 
 -- a Stop was answered by Stopped or NoAnswer, the line isn't lost, no octets and no control frames wait for
 -- it, and no outcome waits for its caller
-abbrev pub has_ended : Kept → Bool
+abbrev pub has_ended : Machine → Bool
 has_ended k =
     is_stopped k.course && (not k.core.lost
     && ((length k.unwritten == 0) && ((length k.core.station.queue == 0) && (length k.unplaced == 0))))
@@ -41,7 +41,7 @@ SessionGoesOn look old new =
 -- callers more and forgot none.
 pub record MakesTurn {X : Type 0} (look : X → LineView) (old new : SessionState X)
     (says : TurnAnswer) : Type 0 where
-  pub going : has_ended old.kept ≡ false
+  pub going : has_ended old.machine ≡ false
   pub turn : TakesTurn look old new says
   pub turned : HasTurned (standing_of look old) (standing_of look new)
   pub takes : TakesMore old.driver new.driver
@@ -49,7 +49,7 @@ pub record MakesTurn {X : Type 0} (look : X → LineView) (old new : SessionStat
 -- the same, that ends in this fault; after one other than want of memory the line is lost
 pub record MakesFault {X : Type 0} (look : X → LineView) (old new : SessionState X)
     (why : SessionFault) : Type 0 where
-  pub going : has_ended old.kept ≡ false
+  pub going : has_ended old.machine ≡ false
   pub fault : Faults look old new (fault_of why)
   pub turned : HasTurned (standing_of look old) (standing_of look new)
   pub takes : TakesMore old.driver new.driver
@@ -66,7 +66,7 @@ pub data MovesOn {X : Type 0} (look : X → LineView) (old : SessionState X) : �
 pub data RunsTurns {X : Type 0} (look : X → LineView)
     (old new : SessionState X) : (more : Result Bool SessionFault) → Type 0 where
   goes_on : MovesOn look old 64 new → RunsTurns look old new (Ok true)
-  ends : (n : ℕ) → n ≤ 64 → MovesOn look old n new → has_ended new.kept ≡ true
+  ends : (n : ℕ) → n ≤ 64 → MovesOn look old n new → has_ended new.machine ≡ true
       → RunsTurns look old new (Ok false)
   rests : (n : ℕ) (mid : SessionState X) (says : TurnAnswer) → n < 64 → MovesOn look old n mid
       → MakesTurn look mid new says → says_moved says ≡ false → RunsTurns look old new (Ok false)
@@ -76,7 +76,7 @@ pub data RunsTurns {X : Type 0} (look : X → LineView)
 -- ## What it gives
 
 -- the fault, or that it has ended; or else whether there may be more to do at once
-abbrev pub given_by : Kept → Result Bool SessionFault → Progress
+abbrev pub given_by : Machine → Result Bool SessionFault → Progress
 given_by k (Ok more) =
     if has_ended k then progress.Ended (Ok Stopped) else if more then progress.More else progress.Idle
 given_by k (Err why) = progress.Ended (Err why)
@@ -97,7 +97,7 @@ kept_end c (Err fault.NoMemory) = c
 kept_end c end = course.Ended end
 
 abbrev pub with_end : {X : Type 0} → Result Ended SessionFault → SessionState X → SessionState X
-with_end end s = record s { kept = record s.kept { course = kept_end s.kept.course end } }
+with_end end s = record s { machine = record s.machine { course = kept_end s.machine.course end } }
 
 abbrev pub with_given : {X : Type 0} → Option (Result Ended SessionFault) → SessionState X → SessionState X
 with_given None s = s
@@ -109,7 +109,7 @@ pub record PollsOn {X : Type 0} (look : X → LineView) (old new : SessionState 
   pub mid : SessionState X
   pub ran : Result Bool SessionFault
   pub runs : RunsTurns look old mid ran
-  pub given_is : given ≡ given_by mid.kept ran
+  pub given_is : given ≡ given_by mid.machine ran
   pub stays : new ≡ with_given (end_in given) mid
 
 -- a poll after an end gives that end, and does nothing
@@ -118,7 +118,7 @@ PollsFrom look (course.Ended end) old new given = (given ≡ progress.Ended end)
 PollsFrom look _ old new given = PollsOn look old new given
 
 abbrev pub Polls : {X : Type 0} → (X → LineView) → (old new : SessionState X) → Progress → Type 0
-Polls look old new given = PollsFrom look old.kept.course old new given
+Polls look old new given = PollsFrom look old.machine.course old new given
 
 -- ## What an output says
 

@@ -1,5 +1,5 @@
 -- What contracts see of a session, and which histories it fits.
-use Rattle.std.specs.Prelude.{◌≡◌, ℕ, ◌<◌, ◌≤◌, ◌++◌, filter, map, Bool, true, false, List, [], ◌∷◌, length, Option, None, nat_lt}
+use Rattle.std.specs.Prelude.{◌≡◌, ℕ, ◌<◌, ◌≤◌, ◌++◌, filter, map, Bool, true, false, List, [], ◌∷◌, length, Option, None, nat_lt, replicate}
 use Rattle.std.specs.List.{list_all}
 use Rattle.mux_frame.specs.Deframing.{Deframing}
 use Rattle.at_text.specs.Dialects.{Dialect, standard}
@@ -18,15 +18,17 @@ use Rattle.modem_history.specs.Turns.{GoesTick, IsTick, LosesLine, may_fail, out
 use Rattle.modem_driver.specs.Cores.{Core, Fits, IsSettingOf, core_by}
 use Rattle.modem_driver.specs.Holding.{HoldsFit}
 use Rattle.modem_driver.specs.Endings.{HasCome, KeepsEnd, is_stop}
-use Rattle.modem_driver.specs.declared.session.ending.Course.{Course}
-use Rattle.modem_driver.specs.declared.session.ending.Course.TheVariants.{GoesOn}
+use Rattle.modem_driver.specs.declared.machine.course.Course.{Course}
+use Rattle.modem_driver.specs.declared.machine.delays.Delay.{Delay}
+use Rattle.modem_driver.specs.WaitingTicks.{AreDelays}
+use Rattle.modem_driver.specs.declared.machine.course.Course.TheVariants.{GoesOn}
 
 -- ## What is kept
 
 -- beside its line and its desk's end: the core, the request kept aside, the octets read and not yet fed, the
--- deframer, the octets, outcomes and lines that wait, whether a call on the line has failed, and how far it
--- has come on the way to its end
-pub record Kept : Type 0 where
+-- deframer, the octets, outcomes and lines that wait, whether a call on the line has failed, how far it has come
+-- on the way to its end, and how long the first command of each connection has waited
+pub record Machine : Type 0 where
   pub core : Core
   pub aside : Option Request
   pub unfed : List ℕ
@@ -36,10 +38,11 @@ pub record Kept : Type 0 where
   pub unannounced : List Urc
   pub faulty : Bool
   pub course : Course
+  pub delays : List (Option Delay)
 
 -- nothing has happened yet
-abbrev pub kept_by : Rules → ℕ → List UrcKind → Kept
-kept_by rules n1 kinds = record {
+abbrev pub machine_by : Rules → ℕ → List UrcKind → Machine
+machine_by rules n1 kinds = record {
   core = core_by rules n1 kinds;
   aside = None;
   unfed = [];
@@ -49,25 +52,26 @@ kept_by rules n1 kinds = record {
   unannounced = [];
   faulty = false;
   course = GoesOn;
+  delays = replicate 62 None;
 }
 
 -- and at a standard modem
-abbrev pub new_kept : ℕ → List UrcKind → Kept
-new_kept n1 kinds = kept_by no_rules n1 kinds
+abbrev pub new_machine : ℕ → List UrcKind → Machine
+new_machine n1 kinds = machine_by no_rules n1 kinds
 
 -- a session over a line of any type
 pub record SessionState (X : Type 0) : Type 0 where
   pub line : X
   pub driver : DriverView
-  pub kept : Kept
+  pub machine : Machine
 
 -- its line is lost: each history that it fits says so too
 abbrev pub has_lost_line : {X : Type 0} → SessionState X → Bool
-has_lost_line s = s.kept.core.lost
+has_lost_line s = s.machine.core.lost
 
 -- an end that a poll gave stays
 abbrev pub KeepsItsEnd : {X : Type 0} → (old new : SessionState X) → Type 0
-KeepsItsEnd old new = KeepsEnd old.kept.course new.kept.course
+KeepsItsEnd old new = KeepsEnd old.machine.course new.machine.course
 
 -- ## What a history speaks of
 
@@ -94,7 +98,7 @@ end_of d = record {
   announced_back = d.announced_back;
 }
 
-abbrev pub seen_by : LineView → EndView → Kept → SessionView
+abbrev pub seen_by : LineView → EndView → Machine → SessionView
 seen_by l e k = record {
   line = l;
   desk = e;
@@ -107,15 +111,15 @@ seen_by l e k = record {
 }
 
 abbrev pub session_view : {X : Type 0} → (X → LineView) → SessionState X → SessionView
-session_view look s = seen_by (look s.line) (end_of s.driver) s.kept
+session_view look s = seen_by (look s.line) (end_of s.driver) s.machine
 
 -- ## Which histories it fits
 
 -- What isn't seen there: the core fits the history of this N1, this desk's kinds and callers, and
 -- knows which connections are held; a call on the line has failed since the session began just where the
--- session knows of one; of the requests in hand one at most is a Stop; and the session has come as far on the
--- way to its end as it knows.
-pub record KeptFits (b : Beginning) (l : LineView) (d : DriverView) (k : Kept)
+-- session knows of one; of the requests in hand one at most is a Stop; the session has come as far on the
+-- way to its end as it knows; and it knows how long commands have waited.
+pub record MachineFits (b : Beginning) (l : LineView) (d : DriverView) (k : Machine)
     (past : List Act) : Type 0 where
   pub setting : IsSettingOf (driving b) k.core
   pub fits : Fits k.core past
@@ -126,9 +130,10 @@ pub record KeptFits (b : Beginning) (l : LineView) (d : DriverView) (k : Kept)
   pub by_fault : k.faulty ≡ true → b.line.failures < l.failures
   pub one_stop : length (filter is_stop (in_hand past)) ≤ 1
   pub come : HasCome b (seen_by l (end_of d) k) past k.course
+  pub delays_are : AreDelays k.delays past
 
 abbrev pub FitsInside : {X : Type 0} → Beginning → (X → LineView) → SessionState X → List Act → Type 0
-FitsInside b look s past = KeptFits b (look s.line) s.driver s.kept past
+FitsInside b look s past = MachineFits b (look s.line) s.driver s.machine past
 
 -- the session fits the history
 abbrev pub FitsAll : {X : Type 0} → Beginning → (X → LineView) → SessionState X → List Act → Type 0
@@ -183,42 +188,42 @@ SessionEnds look s f =
 -- ## What is kept goes on
 
 -- what is kept goes on by these acts, whatever history it had, over the same line and the same desk's end
-unfoldable pub KeptGoes : (old new : Kept) → List Act → Type 0
-KeptGoes old new acts =
+unfoldable pub MachineGoes : (old new : Machine) → List Act → Type 0
+MachineGoes old new acts =
     (b : Beginning) (l : LineView) (d : DriverView)
-    → GoesBy b (seen_by l (end_of d) old) (seen_by l (end_of d) new) (KeptFits b l d old)
-    (KeptFits b l d new) acts
+    → GoesBy b (seen_by l (end_of d) old) (seen_by l (end_of d) new) (MachineFits b l d old)
+    (MachineFits b l d new) acts
 
 -- a tick of what is kept, by some acts
-pub record KeptTicks (old new : Kept) : Type 0 where
+pub record MachineTicks (old new : Machine) : Type 0 where
   pub acts : List Act
-  pub goes : KeptGoes old new acts
+  pub goes : MachineGoes old new acts
   pub tick : (b : Beginning) (l : LineView) (d : DriverView) (past : List Act)
-      → FitsWith b (seen_by l (end_of d) old) (KeptFits b l d old) past
+      → FitsWith b (seen_by l (end_of d) old) (MachineFits b l d old) past
       → IsTick (seen_by l (end_of d) old) (seen_by l (end_of d) new) past acts
 
 -- what is kept goes on by a call on the line, without an act
-unfoldable pub KeptMoves : (before later : LineView) → (old new : Kept) → Type 0
-KeptMoves before later old new =
+unfoldable pub MachineMoves : (before later : LineView) → (old new : Machine) → Type 0
+MachineMoves before later old new =
     (b : Beginning) (d : DriverView)
-    → GoesBy b (seen_by before (end_of d) old) (seen_by later (end_of d) new) (KeptFits b before d old)
-    (KeptFits b later d new) []
+    → GoesBy b (seen_by before (end_of d) old) (seen_by later (end_of d) new) (MachineFits b before d old)
+    (MachineFits b later d new) []
 
 -- what was told waits behind what waited; nothing was heard and no frame handled; and the acts are such as a
 -- turn may have in which the line is lost
-pub record AddsLost (old new : Kept) (acts : List Act) : Type 0 where
+pub record AddsLost (old new : Machine) (acts : List Act) : Type 0 where
   pub outcomes : new.unplaced ≡ old.unplaced ++ outcomes_told acts
   pub lines : map heard_as new.unannounced ≡ map heard_as old.unannounced ++ lines_heard acts
   pub may : (waiting : List Urc) → list_all (may_fail waiting) acts ≡ true
   pub none_got : gots acts ≡ []
 
 -- the line is lost in this step, and no request is in hand any more
-pub record KeptLoses (old new : Kept) : Type 0 where
+pub record MachineLoses (old new : Machine) : Type 0 where
   pub acts : List Act
-  pub goes : KeptGoes old new acts
+  pub goes : MachineGoes old new acts
   pub loses : (b : Beginning) (l : LineView) (d : DriverView) (past : List Act)
-      → FitsWith b (seen_by l (end_of d) old) (KeptFits b l d old) past
+      → FitsWith b (seen_by l (end_of d) old) (MachineFits b l d old) past
       → LosesLine b (seen_by l (end_of d) old) (seen_by l (end_of d) new) past acts
   pub adds : (b : Beginning) (l : LineView) (d : DriverView) (past : List Act)
-      → FitsWith b (seen_by l (end_of d) old) (KeptFits b l d old) past → AddsLost old new acts
+      → FitsWith b (seen_by l (end_of d) old) (MachineFits b l d old) past → AddsLost old new acts
   pub stays : new ≡ record old { core = new.core; unplaced = new.unplaced; unannounced = new.unannounced }

@@ -15,12 +15,12 @@ use Rattle.modem_history.specs.EveryTurn.{GoesTurn, GoesFault}
 use Rattle.modem_driver.specs.declared.session.error.SessionFault.{SessionFault}
 use Rattle.modem_driver.specs.declared.session.turn.Turn.{Turn}
 use Rattle.modem_driver.specs.Endings.{Begins, KeepsEnd}
-use Rattle.modem_driver.specs.SessionStates.{Kept, KeptLoses, SessionState, FitsInside, has_lost_line, session_view}
+use Rattle.modem_driver.specs.SessionStates.{Machine, MachineLoses, SessionState, FitsInside, has_lost_line, session_view}
 use Rattle.modem_driver.specs.TurnSteps.{TurnState, Writes, ReadsOn}
 
 -- a session as its turn sees it
 abbrev pub standing_of : {X : Type 0} → (X → LineView) → SessionState X → TurnState
-standing_of look s = record { line = look s.line; driver = s.driver; kept = s.kept }
+standing_of look s = record { line = look s.line; driver = s.driver; machine = s.machine }
 
 -- ## Which answer it is
 
@@ -37,23 +37,23 @@ pub record IsFirstOf (kind : UrcKind) (us : List Urc) : Type 0 where
   pub is_of : line.kind ≡ kind
 
 -- nothing moved, all octets are written, and an outcome waits
-pub record HasOutcome (k : Kept) (c : ℕ) : Type 0 where
+pub record HasOutcome (k : Machine) (c : ℕ) : Type 0 where
   pub written : k.unwritten ≡ []
   pub waits : IsLeast c k.unplaced
 
 -- nothing moved, all octets are written and all outcomes placed, and a line waits
-pub record HasLine (k : Kept) (kind : UrcKind) : Type 0 where
+pub record HasLine (k : Machine) (kind : UrcKind) : Type 0 where
   pub written : k.unwritten ≡ []
   pub placed : k.unplaced ≡ []
   pub waits : IsFirstOf kind k.unannounced
 
-pub record HasNothing (k : Kept) : Type 0 where
+pub record HasNothing (k : Machine) : Type 0 where
   pub written : k.unwritten ≡ []
   pub placed : k.unplaced ≡ []
   pub announced : k.unannounced ≡ []
 
 -- Moved where something moved; else what still waits says which answer it is.
-abbrev pub Answers : Kept → (moved : Bool) → TurnAnswer → Type 0
+abbrev pub Answers : Machine → (moved : Bool) → TurnAnswer → Type 0
 Answers k moved TurnAnswer.Moved = moved ≡ true
 Answers k moved TurnAnswer.WriterFull = (moved ≡ false) × (k.unwritten ≢ [])
 Answers k moved (TurnAnswer.Waiting c) = (moved ≡ false) × HasOutcome k c
@@ -92,7 +92,7 @@ pub record HasTurned (old new : TurnState) : Type 0 where
   pub taken : Begins old.driver.taken new.driver.taken
   pub told : (c : ℕ) → Begins (at_place c old.driver.told) (at_place c new.driver.told)
   pub announced : (i : ℕ) → Begins (at_place i old.driver.announced) (at_place i new.driver.announced)
-  pub ended : KeepsEnd old.kept.course new.kept.course
+  pub ended : KeepsEnd old.machine.course new.machine.course
 
 -- an outcome waits only where its caller's ring has no place that the desk's end knows to be free, and a line
 -- only where its listener's has none
@@ -111,25 +111,25 @@ LeavesLost SessionFault.Failed s = has_lost_line s ≡ true
 -- after a failing call on the line: the line is lost; or there is no memory for it, and nothing changes; or
 -- it was lost before
 abbrev pub LosesOr : SessionFault → (old new : TurnState) → Type 0
-LosesOr SessionFault.Line old new = (new ≡ record old { kept = new.kept }) × KeptLoses old.kept new.kept
+LosesOr SessionFault.Line old new = (new ≡ record old { machine = new.machine }) × MachineLoses old.machine new.machine
 LosesOr SessionFault.NoMemory old new = new ≡ old
-LosesOr SessionFault.Failed old new = (new ≡ old) × (old.kept.core.lost ≡ true)
+LosesOr SessionFault.Failed old new = (new ≡ old) × (old.machine.core.lost ≡ true)
 
 -- ## Calls on the line
 
 -- a step by a call on the line, whatever the desk's end is
-unfoldable pub KeptWrites : (before later : LineView) → (old new : Kept) → (moved : Bool) → Type 0
-KeptWrites before later old new moved =
-    (d : DriverView) → Writes (record { line = before; driver = d; kept = old })
-    (record { line = later; driver = d; kept = new }) moved
+unfoldable pub MachineWrites : (before later : LineView) → (old new : Machine) → (moved : Bool) → Type 0
+MachineWrites before later old new moved =
+    (d : DriverView) → Writes (record { line = before; driver = d; machine = old })
+    (record { line = later; driver = d; machine = new }) moved
 
-unfoldable pub KeptReads : (before later : LineView) → (old new : Kept) → (moved : Bool) → Type 0
-KeptReads before later old new moved =
-    (d : DriverView) → ReadsOn (record { line = before; driver = d; kept = old })
-    (record { line = later; driver = d; kept = new }) moved
+unfoldable pub MachineReads : (before later : LineView) → (old new : Machine) → (moved : Bool) → Type 0
+MachineReads before later old new moved =
+    (d : DriverView) → ReadsOn (record { line = before; driver = d; machine = old })
+    (record { line = later; driver = d; machine = new }) moved
 
 -- so many of the octets that wait are given to the deframer
-pub record Feeds (old new : Kept) (count : ℕ) : Type 0 where
+pub record Feeds (old new : Machine) (count : ℕ) : Type 0 where
   pub takes : TakesIn old.deframer (take count old.unfed) new.deframer
   pub bound : new.deframer.n1 ≡ old.deframer.n1
   pub few : count ≤ length old.unfed

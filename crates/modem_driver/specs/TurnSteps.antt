@@ -19,7 +19,7 @@ use Rattle.modem_history.specs.GoingOut.{next_out}
 use Rattle.modem_history.specs.EveryTurn.{GivesSome, ReadsWhereFed, count_at, is_check, octets_out, acts_out, goes_in, octets_offered, count_taken, stalled_after, empty_after, asked_in_vain}
 use Rattle.modem_driver.specs.Running.{CoreIsIdle}
 use Rattle.modem_driver.specs.Endings.{KeepsEnd}
-use Rattle.modem_driver.specs.SessionStates.{AreFormed, Kept, KeptFits, seen_by, end_of}
+use Rattle.modem_driver.specs.SessionStates.{AreFormed, Machine, MachineFits, seen_by, end_of}
 
 -- ## What a turn works on
 
@@ -27,16 +27,16 @@ use Rattle.modem_driver.specs.SessionStates.{AreFormed, Kept, KeptFits, seen_by,
 pub record TurnState : Type 0 where
   pub line : LineView
   pub driver : DriverView
-  pub kept : Kept
+  pub machine : Machine
 
-abbrev pub turn_state : LineView → DriverView → Kept → TurnState
-turn_state l d k = record { line = l; driver = d; kept = k }
+abbrev pub turn_state : LineView → DriverView → Machine → TurnState
+turn_state l d k = record { line = l; driver = d; machine = k }
 
 abbrev pub view_of : TurnState → SessionView
-view_of s = seen_by s.line (end_of s.driver) s.kept
+view_of s = seen_by s.line (end_of s.driver) s.machine
 
 abbrev pub inside : Beginning → TurnState → List Act → Type 0
-inside b s past = KeptFits b s.line s.driver s.kept past
+inside b s past = MachineFits b s.line s.driver s.machine past
 
 abbrev pub StandingFits : Beginning → TurnState → List Act → Type 0
 StandingFits b s past = FitsWith b (view_of s) (inside b s) past
@@ -51,7 +51,7 @@ is_more a = not (is_mark a)
 
 -- what the acts told and heard waits behind what waited, they are such as a turn may have while these lines
 -- wait, and so many frames were handled at most
-pub record Adds (old new : Kept) (waiting : List Urc) (most : ℕ) (acts : List Act) : Type 0 where
+pub record Adds (old new : Machine) (waiting : List Urc) (most : ℕ) (acts : List Act) : Type 0 where
   pub outcomes : new.unplaced ≡ old.unplaced ++ outcomes_told acts
   pub lines : map heard_as new.unannounced ≡ map heard_as old.unannounced ++ lines_heard acts
   pub may : list_all (may_act waiting) acts ≡ true
@@ -61,7 +61,7 @@ pub record Adds (old new : Kept) (waiting : List Urc) (most : ℕ) (acts : List 
 unfoldable pub AddsAll : (old new : TurnState) → List Urc → ℕ → List Act → Type 0
 AddsAll old new waiting most acts =
     (b : Beginning) (past : List Act) → StandingFits b old past
-    → Adds old.kept new.kept waiting most acts
+    → Adds old.machine new.machine waiting most acts
 
 -- ## What waits is offered to the desk
 
@@ -71,18 +71,18 @@ pub record Places (old new : TurnState) (moved : Bool) : Type 0 where
   pub told_back : List Outcome
   pub heard_back : List Urc
   pub leads : Leads old new []
-  pub outcomes_back : (c : ℕ) → caller_outcomes c told_back ≡ take 1 (caller_outcomes c new.kept.unplaced)
-  pub lines_back : (k : UrcKind) → of_kind k heard_back ≡ take 1 (of_kind k new.kept.unannounced)
-  pub rings_full : (c : ℕ) → c < length new.driver.desk.rings → caller_outcomes c new.kept.unplaced ≢ []
+  pub outcomes_back : (c : ℕ) → caller_outcomes c told_back ≡ take 1 (caller_outcomes c new.machine.unplaced)
+  pub lines_back : (k : UrcKind) → of_kind k heard_back ≡ take 1 (of_kind k new.machine.unannounced)
+  pub rings_full : (c : ℕ) → c < length new.driver.desk.rings → caller_outcomes c new.machine.unplaced ≢ []
       → slice_index_or new.driver.free c 0 ≡ 0
   pub lines_full : (i : ℕ) (k : UrcKind) → get_elem? new.driver.desk.kinds i ≡ some k
-      → of_kind k new.kept.unannounced ≢ [] → slice_index_or new.driver.free_lines i 0 ≡ 0
+      → of_kind k new.machine.unannounced ≢ [] → slice_index_or new.driver.free_lines i 0 ≡ 0
   -- what a caller was told and a listener was announced is the first of what waited for it
   pub each_told : (c : ℕ) → GivesSome (at_place c old.driver.told) (at_place c new.driver.told)
-      (caller_outcomes c old.kept.unplaced) (caller_outcomes c new.kept.unplaced)
+      (caller_outcomes c old.machine.unplaced) (caller_outcomes c new.machine.unplaced)
   pub each_announced : (i : ℕ) (k : UrcKind) → get_elem? old.driver.desk.kinds i ≡ some k
       → GivesSome (at_place i old.driver.announced) (at_place i new.driver.announced)
-      (of_kind k old.kept.unannounced) (of_kind k new.kept.unannounced)
+      (of_kind k old.machine.unannounced) (of_kind k new.machine.unannounced)
   pub elsewhere : (i : ℕ) → ((k : UrcKind) → ¬ (get_elem? old.driver.desk.kinds i ≡ some k))
       → at_place i new.driver.announced ≡ at_place i old.driver.announced
   pub told_counts : (c : ℕ) → c < length old.driver.desk.rings
@@ -100,7 +100,7 @@ pub record Places (old new : TurnState) (moved : Bool) : Type 0 where
   pub desk_stays : new.driver.desk ≡ old.driver.desk
   pub stays : new ≡ record old {
     driver = new.driver;
-    kept = record old.kept { unplaced = new.kept.unplaced; unannounced = new.kept.unannounced };
+    machine = record old.machine { unplaced = new.machine.unplaced; unannounced = new.machine.unannounced };
   }
 
 -- ## Backlogs are looked at
@@ -110,10 +110,10 @@ pub record Places (old new : TurnState) (moved : Bool) : Type 0 where
 pub record Checks (old new : TurnState) (moved : Bool) : Type 0 where
   pub acts : List Act
   pub leads : Leads old new acts
-  pub adds : AddsAll old new old.kept.unannounced 0 acts
+  pub adds : AddsAll old new old.machine.unannounced 0 acts
   pub moved_is : moved ≡ list_any is_more acts
   pub held : (b : Beginning) (past : List Act) → StandingFits b old past
-      → new.kept.core.lost ≡ false → new.kept.core.station.queue ≡ []
+      → new.machine.core.lost ≡ false → new.machine.core.station.queue ≡ []
       → HoldsByBacklog (view_of new) (after past acts)
   pub looks : moved ≡ false
       → (acts ≡ []) × ((b : Beginning) (past : List Act) → StandingFits b old past
@@ -121,14 +121,14 @@ pub record Checks (old new : TurnState) (moved : Bool) : Type 0 where
   pub are_checks : list_all is_check acts ≡ true
   pub looked : (b : Beginning) (past : List Act) → StandingFits b old past → is_lost past ≡ false
       → HoldsWhereRoom b (view_of new) (after past acts)
-  pub stays : new ≡ record old { kept = record old.kept { core = new.kept.core } }
+  pub stays : new ≡ record old { machine = record old.machine { core = new.machine.core } }
 
 -- Where there was no memory for one of them, those before it are checked.
 pub record ChecksPart (old new : TurnState) : Type 0 where
   pub acts : List Act
   pub leads : Leads old new acts
-  pub adds : AddsAll old new old.kept.unannounced 0 acts
-  pub stays : new ≡ record old { kept = record old.kept { core = new.kept.core } }
+  pub adds : AddsAll old new old.machine.unannounced 0 acts
+  pub stays : new ≡ record old { machine = record old.machine { core = new.machine.core } }
 
 -- ## The next frame goes into the output
 
@@ -138,16 +138,16 @@ pub record SendsOn (old new : TurnState) (moved : Bool) : Type 0 where
   pub leads : Leads old new acts
   pub adds : (waiting : List Urc) → AddsAll old new waiting 0 acts
   pub moved_is : moved ≡ list_any is_more acts
-  pub idle : new.kept.unwritten ≡ [] → (acts ≡ []) × ((new ≡ old) × CoreIsIdle new.kept.core)
-  pub none_left : new.kept.unwritten ≡ [] → (b : Beginning) (past : List Act) → StandingFits b new past
+  pub idle : new.machine.unwritten ≡ [] → (acts ≡ []) × ((new ≡ old) × CoreIsIdle new.machine.core)
+  pub none_left : new.machine.unwritten ≡ [] → (b : Beginning) (past : List Act) → StandingFits b new past
       → next_out (driving b) past ≡ None
-  pub busy : moved ≡ false → old.kept.unwritten ≢ [] → (acts ≡ []) × (new ≡ old)
+  pub busy : moved ≡ false → old.machine.unwritten ≢ [] → (acts ≡ []) × (new ≡ old)
   pub acts_are : (b : Beginning) (past : List Act) → StandingFits b old past
       → acts ≡ acts_out (goes_in b (view_of old) past)
   pub octets_are : (b : Beginning) (past : List Act) → StandingFits b old past
-      → new.kept.unwritten ≡ old.kept.unwritten ++ octets_out (goes_in b (view_of old) past)
+      → new.machine.unwritten ≡ old.machine.unwritten ++ octets_out (goes_in b (view_of old) past)
   pub stays : new ≡ record old {
-    kept = record old.kept { core = new.kept.core; unwritten = new.kept.unwritten };
+    machine = record old.machine { core = new.machine.core; unwritten = new.machine.unwritten };
   }
 
 -- ## Octets are written
@@ -156,20 +156,20 @@ pub record SendsOn (old new : TurnState) (moved : Bool) : Type 0 where
 pub record Writes (old new : TurnState) (moved : Bool) : Type 0 where
   pub write : Option Write
   pub leads : Leads old new []
-  pub offers : Offers write new.kept.unwritten
-  pub offered : octets_offered write ≡ old.kept.unwritten
-  pub left : new.kept.unwritten ≡ drop (count_taken write) old.kept.unwritten
-  pub stalled : new.kept.faulty ≡ false
+  pub offers : Offers write new.machine.unwritten
+  pub offered : octets_offered write ≡ old.machine.unwritten
+  pub left : new.machine.unwritten ≡ drop (count_taken write) old.machine.unwritten
+  pub stalled : new.machine.faulty ≡ false
       → new.line.stalled_writes ≡ stalled_after write old.line.stalled_writes
   pub empty_stays : new.line.empty_reads ≡ old.line.empty_reads
   pub went : new.line.sent ≡ old.line.sent ++ octets_written write
   pub came_none : new.line.received ≡ old.line.received
   pub calls : new.line.calls ≡ counted old.line.calls (calls_made write)
   pub moved_is : moved ≡ nat_lt (length old.line.sent) (length new.line.sent)
-  pub still : moved ≡ false → new.kept.faulty ≡ old.kept.faulty → new.kept ≡ old.kept
+  pub still : moved ≡ false → new.machine.faulty ≡ old.machine.faulty → new.machine ≡ old.machine
   pub stays : new ≡ record old {
     line = new.line;
-    kept = record old.kept { unwritten = new.kept.unwritten; faulty = new.kept.faulty };
+    machine = record old.machine { unwritten = new.machine.unwritten; faulty = new.machine.faulty };
   }
 
 -- ## The frame at hand is handled
@@ -182,18 +182,18 @@ pub record Gets (old new : TurnState) (moved : Bool) : Type 0 where
   pub moved_is : moved ≡ list_any is_more acts
   pub still : moved ≡ false → (acts ≡ []) × (new ≡ old)
   pub got : (b : Beginning) (past : List Act) → StandingFits b old past → moved ≡ true
-      → gots acts ≡ option_to_list old.kept.deframer.next
-  pub ended : KeepsEnd old.kept.course new.kept.course
-  pub no_room : (f : Frame) → moved ≡ false → old.kept.deframer.next ≡ Some f
-      → (¬ CoreIsIdle old.kept.core)
+      → gots acts ≡ option_to_list old.machine.deframer.next
+  pub ended : KeepsEnd old.machine.course new.machine.course
+  pub no_room : (f : Frame) → moved ≡ false → old.machine.deframer.next ≡ Some f
+      → (¬ CoreIsIdle old.machine.core)
       × ((b : Beginning) (past : List Act) → StandingFits b old past → has_room_for b past f ≡ false)
   pub stays : new ≡ record old {
-    kept = record old.kept {
-      core = new.kept.core;
-      deframer = new.kept.deframer;
-      unplaced = new.kept.unplaced;
-      unannounced = new.kept.unannounced;
-      course = new.kept.course;
+    machine = record old.machine {
+      core = new.machine.core;
+      deframer = new.machine.deframer;
+      unplaced = new.machine.unplaced;
+      unannounced = new.machine.unannounced;
+      course = new.machine.course;
     };
   }
 
@@ -208,26 +208,26 @@ pub record ReadsOn (old new : TurnState) (moved : Bool) : Type 0 where
   pub came : new.line.received ≡ old.line.received ++ octets_read read
   pub went_none : new.line.sent ≡ old.line.sent
   pub calls : new.line.calls ≡ counted old.line.calls (calls_made read)
-  pub unfed : length new.kept.unfed ≤ length old.kept.unfed + length (octets_read read)
-  pub reads_fed : read ≢ None → old.kept.unfed ≡ []
+  pub unfed : length new.machine.unfed ≤ length old.machine.unfed + length (octets_read read)
+  pub reads_fed : read ≢ None → old.machine.unfed ≡ []
   pub moved_is : moved ≡ (nat_lt (length old.line.received) (length new.line.received)
-      || nat_lt (length new.kept.unfed) (length old.kept.unfed))
-  pub nothing_came : moved ≡ false → new.kept.faulty ≡ old.kept.faulty → old.kept.unfed ≡ []
-      → (read ≡ Some (record { room = 512; octets = [] })) × (new.kept ≡ old.kept)
-  pub feeds : moved ≡ false → old.kept.unfed ≢ [] → old.kept.deframer.next ≢ None
-  pub reads : ReadsWhereFed read old.kept.unfed
-  pub empty : new.kept.faulty ≡ false
+      || nat_lt (length new.machine.unfed) (length old.machine.unfed))
+  pub nothing_came : moved ≡ false → new.machine.faulty ≡ old.machine.faulty → old.machine.unfed ≡ []
+      → (read ≡ Some (record { room = 512; octets = [] })) × (new.machine ≡ old.machine)
+  pub feeds : moved ≡ false → old.machine.unfed ≢ [] → old.machine.deframer.next ≢ None
+  pub reads : ReadsWhereFed read old.machine.unfed
+  pub empty : new.machine.faulty ≡ false
       → new.line.empty_reads ≡ empty_after read old.line.empty_reads
   pub stalled_stays : new.line.stalled_writes ≡ old.line.stalled_writes
-  pub fewer : new.kept.deframer.next ≡ None → old.kept.unfed ++ octets_read read ≢ []
-      → length new.kept.unfed < length old.kept.unfed + length (octets_read read)
-  pub frame_stays : (f : Frame) → old.kept.deframer.next ≡ Some f → new.kept.deframer.next ≡ Some f
+  pub fewer : new.machine.deframer.next ≡ None → old.machine.unfed ++ octets_read read ≢ []
+      → length new.machine.unfed < length old.machine.unfed + length (octets_read read)
+  pub frame_stays : (f : Frame) → old.machine.deframer.next ≡ Some f → new.machine.deframer.next ≡ Some f
   pub stays : new ≡ record old {
     line = new.line;
-    kept = record old.kept {
-      unfed = new.kept.unfed;
-      deframer = new.kept.deframer;
-      faulty = new.kept.faulty;
+    machine = record old.machine {
+      unfed = new.machine.unfed;
+      deframer = new.machine.deframer;
+      faulty = new.machine.faulty;
     };
   }
 
@@ -245,27 +245,27 @@ pub record TakesOne (old new : TurnState) (moved : Bool) : Type 0 where
   pub callers : list_all (λ (q : Request). nat_lt q.caller (length old.driver.desk.rings))
       (request_given next) ≡ true
   pub formed : AreFormed (request_given next)
-  pub asks_bare : next ≢ None → old.kept.aside ≡ None
-  pub none_aside : new.kept.aside ≡ None
-  pub still : moved ≡ false → (acts ≡ []) × (new.kept ≡ old.kept)
+  pub asks_bare : next ≢ None → old.machine.aside ≡ None
+  pub none_aside : new.machine.aside ≡ None
+  pub still : moved ≡ false → (acts ≡ []) × (new.machine ≡ old.machine)
   pub no_request : moved ≡ false
       → (next ≡ Some None) ⊎ ((b : Beginning) (past : List Act) → StandingFits b new past
-      → length (in_hand past) + length new.kept.unplaced ≡ 128)
+      → length (in_hand past) + length new.machine.unplaced ≡ 128)
   pub desk_stays : (new.driver.desk ≡ old.driver.desk)
       × ((new.driver.told ≡ old.driver.told) × (new.driver.announced ≡ old.driver.announced))
   pub places_stay : (new.driver.free ≡ old.driver.free) × (new.driver.free_lines ≡ old.driver.free_lines)
   pub backs_stay : (new.driver.told_back ≡ old.driver.told_back)
       × (new.driver.announced_back ≡ old.driver.announced_back)
   pub asks : (b : Beginning) (past : List Act) → StandingFits b new past → next ≡ None
-      → old.kept.aside ≡ None → length (in_hand past) + length new.kept.unplaced ≡ 128
+      → old.machine.aside ≡ None → length (in_hand past) + length new.machine.unplaced ≡ 128
   pub found : new.driver.found_none ≡ counted old.driver.found_none (asked_in_vain next)
   pub stays : new ≡ record old {
     driver = new.driver;
-    kept = record old.kept {
-      core = new.kept.core;
+    machine = record old.machine {
+      core = new.machine.core;
       aside = None;
-      unplaced = new.kept.unplaced;
-      unannounced = new.kept.unannounced;
+      unplaced = new.machine.unplaced;
+      unannounced = new.machine.unannounced;
     };
   }
 
@@ -277,11 +277,11 @@ pub record KeepsAside (old new : TurnState) : Type 0 where
   pub callers : list_all (λ (q : Request). nat_lt q.caller (length old.driver.desk.rings))
       (request_given next) ≡ true
   pub formed : AreFormed (request_given next)
-  pub asks_bare : next ≢ None → old.kept.aside ≡ None
-  pub one_aside : (new.kept.aside ≢ None)
-      × (option_to_list new.kept.aside ≡ option_to_list old.kept.aside ++ request_given next)
+  pub asks_bare : next ≢ None → old.machine.aside ≡ None
+  pub one_aside : (new.machine.aside ≢ None)
+      × (option_to_list new.machine.aside ≡ option_to_list old.machine.aside ++ request_given next)
   pub desk_stays : (new.driver.desk ≡ old.driver.desk)
       × ((new.driver.told ≡ old.driver.told) × (new.driver.announced ≡ old.driver.announced))
   pub backs_stay : (new.driver.told_back ≡ old.driver.told_back)
       × (new.driver.announced_back ≡ old.driver.announced_back)
-  pub stays : new ≡ record old { driver = new.driver; kept = record old.kept { aside = new.kept.aside } }
+  pub stays : new ≡ record old { driver = new.driver; machine = record old.machine { aside = new.machine.aside } }

@@ -10,7 +10,7 @@ use crate::act_list::ActList;
 use crate::error::CoreError;
 use crate::hand::Hand;
 use crate::lanes::Lanes;
-use crate::session::Asker;
+use crate::machine::course::Asker;
 use crate::telling::{Happened, state_of, tell};
 use at_text::{Dialect, UrcKind};
 use modem_desk::Request;

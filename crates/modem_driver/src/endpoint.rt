@@ -12,8 +12,8 @@ mod octets_out;
 mod requests;
 mod time;
 
+use crate::machine::Machine;
 use crate::session::SessionError;
-use crate::session::kept::Kept;
 use at_text::{Dialect, UrcKind};
 pub use error::{RequestError, RequestRefused};
 pub use handing::Left;
@@ -24,7 +24,7 @@ use std::marker::Model;
 /// the requests itself.
 #[derive(Drop)]
 pub struct Endpoint {
-    kept: Kept,
+    machine: Machine,
     next: u64,
 }
 
@@ -33,9 +33,9 @@ impl Model for Endpoint {
 
     ghost Value = { EndpointState };
 
-    ghost view = { λ e. record { kept = e.kept; next = e.next } };
+    ghost view = { λ e. record { machine = e.machine; next = e.next } };
 
-    ghost invariant = { λ e. HasNoneAside e.kept };
+    ghost invariant = { λ e. HasNoneAside e.machine };
 }
 
 /// Why a frame at hand isn't handled yet.
@@ -56,7 +56,7 @@ pub struct Input {
 
 impl Input {
     /// All was taken and handled.
-    fn done(taken: usize) -> Input
+    pub(crate) fn done(taken: usize) -> Input
         ensures { result ≡ record { taken = taken; blocked = None } }
     {
         Input {
@@ -66,7 +66,7 @@ impl Input {
     }
 
     /// A frame isn't handled yet.
-    fn blocked(taken: usize, why: Blocked) -> Input
+    pub(crate) fn blocked(taken: usize, why: Blocked) -> Input
         ensures { result ≡ record { taken = taken; blocked = Some why } }
     {
         Input {
@@ -92,8 +92,11 @@ impl Endpoint {
         ensures begins { IfOk result (λ e. Begins n1 kinds.now e) }
         ensures bad_n1 { IsErrOf result why.BadN1 ↔ ((n1 < 31) ⊎ (32767 < n1)) }
     {
-        let kept = Kept::new(alloc, n1, kinds)?;
-        Ok(Endpoint { kept, next: first })
+        let machine = Machine::new(alloc, n1, kinds)?;
+        Ok(Endpoint {
+            machine,
+            next: first,
+        })
     }
 
     /// The same at a modem whose codes are those of this dialect, of which it takes a copy.
@@ -109,7 +112,10 @@ impl Endpoint {
         ensures begins { IfOk result (λ e. BeginsBy (dialect_of dialect.now) n1 kinds.now e) }
         ensures bad_n1 { IsErrOf result why.BadN1 ↔ ((n1 < 31) ⊎ (32767 < n1)) }
     {
-        let kept = Kept::with_dialect(alloc, n1, dialect, kinds)?;
-        Ok(Endpoint { kept, next: first })
+        let machine = Machine::with_dialect(alloc, n1, dialect, kinds)?;
+        Ok(Endpoint {
+            machine,
+            next: first,
+        })
     }
 }

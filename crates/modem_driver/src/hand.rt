@@ -2,7 +2,7 @@
 ghost use Rattle.std.specs.Prelude.{◌≡◌, ◌≤◌, ◌<◌, ◌+◌, ◌++◌, ◌∷◌, [], length, find, option_map, remove, slice_index_or, IfOk, nat_le, vec_capacity};
 ghost use Rattle.modem_driver.specs.Endings.{asker_of, is_stop};
 
-use crate::session::Asker;
+use crate::machine::course::Asker;
 use modem_desk::{Ask, Request};
 use std::alloc::{AllocError, Global};
 use std::marker::Model;

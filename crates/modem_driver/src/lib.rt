@@ -15,6 +15,7 @@ mod joining;
 mod lane;
 mod lanes;
 pub mod laws;
+mod machine;
 mod receiving;
 mod reports;
 mod run;

@@ -2,31 +2,22 @@
 ghost use Rattle.std.specs.Prelude.{◌≡◌, ◌≢◌, ◌↔◌, ◌<◌, ◌⊎◌, [], true, IfOk, IfErr, IsErr, IsErrOf, OnOk, OnErr};
 ghost use Rattle.std.specs.Borrow.{Lends, sem};
 ghost use Rattle.modem_history.specs.Sessions.{LineView};
-ghost use Rattle.modem_driver.specs.SessionStates.{beginning_by, beginning_of, has_lost_line, kept_by, line_by, end_of, FitsAll, KeptFits, SessionEnds, KeepsItsEnd, Ticks};
+ghost use Rattle.modem_driver.specs.SessionStates.{beginning_by, beginning_of, has_lost_line, machine_by, line_by, end_of, FitsAll, MachineFits, SessionEnds, KeepsItsEnd, Ticks};
 ghost use Rattle.at_text.specs.Rules.{dialect_of};
 ghost use Rattle.modem_driver.specs.declared.session.error.SessionError.TheVariants as why;
 ghost use Rattle.modem_driver.specs.declared.session.error.SessionFault.TheVariants as fault;
 
-mod checking;
 mod ending;
 mod error;
-mod exchanging;
-mod getting;
-pub(crate) mod kept;
 mod offline;
-mod placing;
 mod polling;
-mod sending;
-mod taking;
 mod time;
 mod turn;
-pub(crate) mod waiting;
 
+use crate::machine::Machine;
 use at_text::Dialect;
-pub(crate) use ending::Asker;
 pub use ending::Ended;
 pub use error::{SessionError, SessionFault, SessionRefused};
-use kept::Kept;
 use modem_desk::{DriverEnd, Outcome, Request, Urc};
 pub use offline::{Offline, OfflineRefused};
 pub use polling::Progress;
@@ -43,7 +34,7 @@ pub struct Session<L: SerialLine, R: Wait + Drop> {
     rt: R,
     line: L,
     driver: DriverEnd,
-    kept: Kept,
+    machine: Machine,
 }
 
 impl<L: SerialLine, R: Wait + Drop> Model for Session<L, R> {
@@ -51,7 +42,7 @@ impl<L: SerialLine, R: Wait + Drop> Model for Session<L, R> {
 
     ghost Value = { SessionState L };
 
-    ghost view = { λ s. record { line = s.line; driver = s.driver; kept = s.kept } };
+    ghost view = { λ s. record { line = s.line; driver = s.driver; machine = s.machine } };
 }
 
 /// What a session was when it ended: its line, its desk's end, the requests taken and not told, in
@@ -71,13 +62,13 @@ fn begin(
     driver: &DriverEnd,
     n1: u16,
     dialect: &Dialect,
-) -> Result<Kept, SessionError>
-    ensures fresh { IfOk result (λ k. k ≡ kept_by dialect.now n1 driver.now.desk.kinds) }
+) -> Result<Machine, SessionError>
+    ensures fresh { IfOk result (λ k. k ≡ machine_by dialect.now n1 driver.now.desk.kinds) }
     ensures begins { IfOk result (λ k. (l : LineView)
-        → KeptFits (beginning_by (dialect_of dialect.now) n1 l driver.now) l driver.now k []) }
+        → MachineFits (beginning_by (dialect_of dialect.now) n1 l driver.now) l driver.now k []) }
     ensures bad_n1 { IsErrOf result why.BadN1 ↔ ((n1 < 31) ⊎ (32767 < n1)) }
 {
-    Kept::with_dialect(alloc, n1, dialect, driver.kinds())
+    Machine::with_dialect(alloc, n1, dialect, driver.kinds())
 }
 
 impl<L: SerialLine, R: Wait + Drop> Session<L, R> {
@@ -124,11 +115,11 @@ impl<L: SerialLine, R: Wait + Drop> Session<L, R> {
         ensures back { IfErr result (λ e. (e.line ≡ line) × (e.driver ≡ driver)) }
     {
         match begin(alloc, &driver, n1, dialect) {
-            Ok(kept) => Ok(Session {
+            Ok(machine) => Ok(Session {
                 rt,
                 line,
                 driver,
-                kept,
+                machine,
             }),
             Err(why) => Err(SessionRefused { why, line, driver }),
         }
@@ -143,9 +134,9 @@ impl<L: SerialLine, R: Wait + Drop> Session<L, R> {
 
     /// The octets that are to be written and that the line hasn't taken yet.
     pub fn unwritten(&self) -> &[u8]
-        ensures { result.now ≡ self.now.kept.unwritten }
+        ensures { result.now ≡ self.now.machine.unwritten }
     {
-        self.kept.output.as_slice()
+        self.machine.output.as_slice()
     }
 
     /// The line, lent. The session fits afterwards what it fitted before where what was done through
@@ -168,7 +159,7 @@ impl<L: SerialLine, R: Wait + Drop> Session<L, R> {
         ensures failed { (result ≡ Err fault.Failed) ↔ (has_lost_line self.old ≡ true) }
         ensures not_line { result ≢ Err fault.Line }
     {
-        self.kept.tick()?;
+        self.machine.tick()?;
         Ok(())
     }
 
@@ -188,9 +179,9 @@ impl<L: SerialLine, R: Wait + Drop> Session<L, R> {
             rt: _,
             line,
             driver,
-            kept,
+            machine,
         } = self;
-        let (in_hand, unplaced, unannounced) = kept.into_lists();
+        let (in_hand, unplaced, unannounced) = machine.into_lists();
         Finished {
             line,
             driver,

@@ -24,3 +24,5 @@ mod sizes;
 mod station;
 #[cfg(test)]
 mod ticking;
+#[cfg(test)]
+mod waiting;

@@ -10,18 +10,18 @@ use Rattle.modem_history.specs.Acts.{Sent, Given, after}
 use Rattle.modem_history.specs.EveryTurn.{acts_out, goes_in}
 use Rattle.modem_history.specs.GoingOut.{act_out}
 use Rattle.mux_station.specs.GivenFrames.{Outgoing}
-use Rattle.modem_driver.specs.EndpointSteps.{CopiesOut, GivesOut, KeptIsDrained, goes_out, with_sent}
-use Rattle.modem_driver.specs.SendingSteps.{KeptSends}
-use Rattle.modem_driver.specs.SessionStates.{Kept, KeptMoves}
+use Rattle.modem_driver.specs.EndpointSteps.{CopiesOut, GivesOut, MachineIsDrained, goes_out, with_sent}
+use Rattle.modem_driver.specs.SendingSteps.{MachineSends}
+use Rattle.modem_driver.specs.SessionStates.{Machine, MachineMoves}
 use Rattle.modem_driver.specs.TurnSteps.{StandingFits, Leads, turn_state, view_of}
 use Rattle.modem_driver.proofs.sessions.LineOctets.{write_goes}
 use Rattle.modem_driver.proofs.sessions.WholeTurns.{leads_on, leads_still}
 
-pub copies : (old : Kept) (count : ℕ) → CopiesOut old (record old { unwritten = drop count old.unwritten }) (take count old.unwritten)
+pub copies : (old : Machine) (count : ℕ) → CopiesOut old (record old { unwritten = drop count old.unwritten }) (take count old.unwritten)
 unfolding CopiesOut
 copies old count l = write_goes l (with_sent l (take count old.unwritten)) old count refl refl refl
 
-pub gives_none : (k : Kept) → GivesOut k k []
+pub gives_none : (k : Machine) → GivesOut k k []
 unfolding GivesOut Leads
 gives_none k l d = record {
   acts = [];
@@ -37,8 +37,8 @@ one_out : (o : Option Outgoing) → list_all goes_out (acts_out o) ≡ true
 one_out None = refl
 one_out (Some o) = and_from (goes_out (act_out o)) true (act_goes_out o.frame o.fresh) refl
 
-pub gives_sent : (k0 k1 k2 : Kept) (xs : List ℕ) (moved : Bool) → GivesOut k0 k1 xs → KeptSends k1 k2 moved → GivesOut k0 k2 xs
-unfolding GivesOut KeptSends Leads
+pub gives_sent : (k0 k1 k2 : Machine) (xs : List ℕ) (moved : Bool) → GivesOut k0 k1 xs → MachineSends k1 k2 moved → GivesOut k0 k2 xs
+unfolding GivesOut MachineSends Leads
 gives_sent k0 k1 k2 xs moved gives sends l d =
     let p = gives l d in
     let s = sends (with_sent l xs) d in
@@ -52,8 +52,8 @@ gives_sent k0 k1 k2 xs moved gives sends l d =
           list_all-append goes_out p.acts s.acts ∙ and_from (list_all goes_out p.acts) (list_all goes_out s.acts) (p.are_out b past f) here;
     }
 
-pub gives_copied : (k0 k1 k2 : Kept) (xs ys : List ℕ) → GivesOut k0 k1 xs → CopiesOut k1 k2 ys → GivesOut k0 k2 (xs ++ ys)
-unfolding GivesOut CopiesOut KeptMoves Leads
+pub gives_copied : (k0 k1 k2 : Machine) (xs ys : List ℕ) → GivesOut k0 k1 xs → CopiesOut k1 k2 ys → GivesOut k0 k2 (xs ++ ys)
+unfolding GivesOut CopiesOut MachineMoves Leads
 gives_copied k0 k1 k2 xs ys gives out l d =
     let p = gives l d in
     let m : Leads (turn_state (with_sent l xs) d k1) (turn_state (with_sent (with_sent l xs) ys) d k2) [] = λ b past f. out (with_sent l xs) b d past f in
@@ -65,13 +65,13 @@ gives_copied k0 k1 k2 xs ys gives out l d =
     }
 
 -- a frame was taken into the output, and octets of it went out
-pub gives_more : (k0 k1 k2 k3 : Kept) (xs ys zs : List ℕ) (moved : Bool) → GivesOut k0 k1 xs → KeptSends k1 k2 moved → CopiesOut k2 k3 ys → zs ≡ xs ++ ys → GivesOut k0 k3 zs
+pub gives_more : (k0 k1 k2 k3 : Machine) (xs ys zs : List ℕ) (moved : Bool) → GivesOut k0 k1 xs → MachineSends k1 k2 moved → CopiesOut k2 k3 ys → zs ≡ xs ++ ys → GivesOut k0 k3 zs
 gives_more k0 k1 k2 k3 xs ys zs moved gives sends out e =
     subst (GivesOut k0 k3) (sym e) (gives_copied k0 k2 k3 xs ys (gives_sent k0 k1 k2 xs moved gives sends) out)
 
 -- where no octets wait then, nothing was left to go out
-pub is_drained : (k0 k1 : Kept) (moved : Bool) → KeptSends k0 k1 moved → k1.unwritten ≡ [] → KeptIsDrained k1
-unfolding KeptSends KeptIsDrained
+pub is_drained : (k0 k1 : Machine) (moved : Bool) → MachineSends k0 k1 moved → k1.unwritten ≡ [] → MachineIsDrained k1
+unfolding MachineSends MachineIsDrained
 is_drained k0 k1 moved sends none l d =
     let s = sends l d in
     record { written = none; idle = (s.idle none).1.1; none_left = s.none_left none }

@@ -17,7 +17,7 @@ use Rattle.modem_history.specs.Kinds.{is_listened}
 use Rattle.modem_history.specs.Sessions.{LineView, at_place, heard_as}
 use Rattle.modem_driver.specs.Placing.{Gave, Stay, goes_first, of_key, caller_of, place_of}
 use Rattle.modem_driver.specs.Endpoints.{EndpointState, GivesLine, GivesOutcome, LeadsOver, Leaves}
-use Rattle.modem_driver.specs.SessionStates.{Kept, seen_by, end_of}
+use Rattle.modem_driver.specs.SessionStates.{Machine, seen_by, end_of}
 use Rattle.modem_driver.proofs.sessions.DeskOffers.{grows_told, heard_more, none_beyond, told_more}
 use Rattle.at_text.proofs.SameKinds.{same_place}
 use Rattle.modem_driver.proofs.sessions.LineOctets.{loss_with}
@@ -26,8 +26,8 @@ use Rattle.modem_driver.proofs.sessions.RemainingItems.{stay_all}
 use Rattle.modem_driver.proofs.sessions.StopProgress.{begins_whole, come_on, grows_none}
 use Rattle.modem_driver.proofs.sessions.WaitingDeliveries.{told_part, heard_part, sent_part, received_part}
 
-abbrev state_of : ℕ → Kept → EndpointState
-state_of next k = record { kept = k; next = next }
+abbrev state_of : ℕ → Machine → EndpointState
+state_of next k = record { machine = k; next = next }
 
 -- ## An outcome
 
@@ -53,13 +53,13 @@ one_told o ps before now a c = ⊎_elim
     }
 
 -- over a desk's end that told it alone
-tells_alone : (l : LineView) (d : DriverView) (old : Kept) (o : Outcome) (ps : List Outcome) (told : List (List Outcome)) (next : ℕ) → old.unplaced ≡ o ∷ ps → Appends o.caller o d.told told
-    → LeadsOver l l d (record d { told = told }) (record { kept = old; next = next }) (record { kept = record old { unplaced = ps }; next = next }) []
+tells_alone : (l : LineView) (d : DriverView) (old : Machine) (o : Outcome) (ps : List Outcome) (told : List (List Outcome)) (next : ℕ) → old.unplaced ≡ o ∷ ps → Appends o.caller o d.told told
+    → LeadsOver l l d (record d { told = told }) (record { machine = old; next = next }) (record { machine = record old { unplaced = ps }; next = next }) []
 unfolding LeadsOver
 tells_alone l d old o ps told next first a b past fit =
     let f = fit.stands in
     let e : DriverView = record d { told = told } in
-    let new : Kept = record old { unplaced = ps } in
+    let new : Machine = record old { unplaced = ps } in
     let v = seen_by l (end_of d) old in
     let w = seen_by l (end_of e) new in
     let s = f.session in
@@ -87,25 +87,26 @@ tells_alone l d old o ps told next first a b past fit =
           sound = f.inside.sound;
           by_fault = f.inside.by_fault;
           one_stop = f.inside.one_stop;
+          delays_are = f.inside.delays_are;
           come = come_on b v w past [] old.course (λ h. h) (grows_told v w gave (begins_whole l.sent)) f.inside.come;
         };
       };
       numbers = fit.numbers;
     }
 
-pub gives_outcome : (old new : Kept) (next : ℕ) (o : Outcome) → old.unplaced ≡ o ∷ new.unplaced → new ≡ record old { unplaced = new.unplaced }
-    → GivesOutcome (record { kept = old; next = next }) (record { kept = new; next = next }) o
+pub gives_outcome : (old new : Machine) (next : ℕ) (o : Outcome) → old.unplaced ≡ o ∷ new.unplaced → new ≡ record old { unplaced = new.unplaced }
+    → GivesOutcome (record { machine = old; next = next }) (record { machine = new; next = next }) o
 gives_outcome old new next o first stays = record {
   first = first;
-  stays = ap (λ (k : Kept). record { kept = k; next = next }) stays;
+  stays = ap (λ (k : Machine). record { machine = k; next = next }) stays;
   leads = λ l d e tells.
-      subst (λ (k : Kept). LeadsOver l l d e (record { kept = old; next = next }) (record { kept = k; next = next }) []) (sym stays)
-      (subst (λ (x : DriverView). LeadsOver l l d x (record { kept = old; next = next }) (record { kept = record old { unplaced = new.unplaced }; next = next }) []) (sym tells.stays)
+      subst (λ (k : Machine). LeadsOver l l d e (record { machine = old; next = next }) (record { machine = k; next = next }) []) (sym stays)
+      (subst (λ (x : DriverView). LeadsOver l l d x (record { machine = old; next = next }) (record { machine = record old { unplaced = new.unplaced }; next = next }) []) (sym tells.stays)
       (tells_alone l d old o new.unplaced e.told next first tells.told));
 }
 
-pub polls_outcome : (r : Option Outcome) (old new : Kept) (next : ℕ) → MatchOption r ((old.unplaced ≡ []) × (new ≡ old)) (λ o. (old.unplaced ≡ o ∷ new.unplaced) × (new ≡ record old { unplaced = new.unplaced }))
-    → MatchOption r ((old.unplaced ≡ []) × (state_of next new ≡ state_of next old)) (λ o. GivesOutcome (record { kept = old; next = next }) (record { kept = new; next = next }) o)
+pub polls_outcome : (r : Option Outcome) (old new : Machine) (next : ℕ) → MatchOption r ((old.unplaced ≡ []) × (new ≡ old)) (λ o. (old.unplaced ≡ o ∷ new.unplaced) × (new ≡ record old { unplaced = new.unplaced }))
+    → MatchOption r ((old.unplaced ≡ []) × (state_of next new ≡ state_of next old)) (λ o. GivesOutcome (record { machine = old; next = next }) (record { machine = new; next = next }) o)
 polls_outcome None old new next h = (h.0, ap (state_of next) h.1)
 polls_outcome (Some o) old new next h = gives_outcome old new next o h.0 h.1
 
@@ -136,13 +137,13 @@ one_announced kinds u vs before now a i k at = ⊎_elim
     }
 
 -- over a desk's end that announced it alone
-announces_alone : (l : LineView) (d : DriverView) (old : Kept) (u : Urc) (vs : List Urc) (announced : List (List Urc)) (next : ℕ) → old.unannounced ≡ u ∷ vs → Announces d.desk.kinds u d.announced announced
-    → LeadsOver l l d (record d { announced = announced }) (record { kept = old; next = next }) (record { kept = record old { unannounced = vs }; next = next }) []
+announces_alone : (l : LineView) (d : DriverView) (old : Machine) (u : Urc) (vs : List Urc) (announced : List (List Urc)) (next : ℕ) → old.unannounced ≡ u ∷ vs → Announces d.desk.kinds u d.announced announced
+    → LeadsOver l l d (record d { announced = announced }) (record { machine = old; next = next }) (record { machine = record old { unannounced = vs }; next = next }) []
 unfolding LeadsOver
 announces_alone l d old u vs announced next first a b past fit =
     let f = fit.stands in
     let e : DriverView = record d { announced = announced } in
-    let new : Kept = record old { unannounced = vs } in
+    let new : Machine = record old { unannounced = vs } in
     let v = seen_by l (end_of d) old in
     let w = seen_by l (end_of e) new in
     let s = f.session in
@@ -173,31 +174,32 @@ announces_alone l d old u vs announced next first a b past fit =
           sound = f.inside.sound;
           by_fault = f.inside.by_fault;
           one_stop = f.inside.one_stop;
+          delays_are = f.inside.delays_are;
           come = come_on b v w past [] old.course (λ h. h) (grows_none v w refl refl) f.inside.come;
         };
       };
       numbers = fit.numbers;
     }
 
-pub gives_line : (old new : Kept) (next : ℕ) (u : Urc) → old.unannounced ≡ u ∷ new.unannounced → new ≡ record old { unannounced = new.unannounced }
-    → GivesLine (record { kept = old; next = next }) (record { kept = new; next = next }) u
+pub gives_line : (old new : Machine) (next : ℕ) (u : Urc) → old.unannounced ≡ u ∷ new.unannounced → new ≡ record old { unannounced = new.unannounced }
+    → GivesLine (record { machine = old; next = next }) (record { machine = new; next = next }) u
 gives_line old new next u first stays = record {
   first = first;
-  stays = ap (λ (k : Kept). record { kept = k; next = next }) stays;
+  stays = ap (λ (k : Machine). record { machine = k; next = next }) stays;
   leads = λ l d e tells.
-      subst (λ (k : Kept). LeadsOver l l d e (record { kept = old; next = next }) (record { kept = k; next = next }) []) (sym stays)
-      (subst (λ (x : DriverView). LeadsOver l l d x (record { kept = old; next = next }) (record { kept = record old { unannounced = new.unannounced }; next = next }) []) (sym tells.stays)
+      subst (λ (k : Machine). LeadsOver l l d e (record { machine = old; next = next }) (record { machine = k; next = next }) []) (sym stays)
+      (subst (λ (x : DriverView). LeadsOver l l d x (record { machine = old; next = next }) (record { machine = record old { unannounced = new.unannounced }; next = next }) []) (sym tells.stays)
       (announces_alone l d old u new.unannounced e.announced next first tells.announced));
 }
 
-pub polls_line : (r : Option Urc) (old new : Kept) (next : ℕ) → MatchOption r ((old.unannounced ≡ []) × (new ≡ old)) (λ u. (old.unannounced ≡ u ∷ new.unannounced) × (new ≡ record old { unannounced = new.unannounced }))
-    → MatchOption r ((old.unannounced ≡ []) × (state_of next new ≡ state_of next old)) (λ u. GivesLine (record { kept = old; next = next }) (record { kept = new; next = next }) u)
+pub polls_line : (r : Option Urc) (old new : Machine) (next : ℕ) → MatchOption r ((old.unannounced ≡ []) × (new ≡ old)) (λ u. (old.unannounced ≡ u ∷ new.unannounced) × (new ≡ record old { unannounced = new.unannounced }))
+    → MatchOption r ((old.unannounced ≡ []) × (state_of next new ≡ state_of next old)) (λ u. GivesLine (record { machine = old; next = next }) (record { machine = new; next = next }) u)
 polls_line None old new next h = (h.0, ap (state_of next) h.1)
 polls_line (Some u) old new next h = gives_line old new next u h.0 h.1
 
 -- ## What is left
 
-pub leaves : (e : EndpointState) (hand : List Request) (outcomes : List Outcome) (lines : List Urc) → e.kept.aside ≡ None → (length e.kept.core.hand + length (option_to_list e.kept.aside) ≤ 128 → hand ≡ e.kept.core.hand ++ option_to_list e.kept.aside) → outcomes ≡ e.kept.unplaced → lines ≡ e.kept.unannounced
+pub leaves : (e : EndpointState) (hand : List Request) (outcomes : List Outcome) (lines : List Urc) → e.machine.aside ≡ None → (length e.machine.core.hand + length (option_to_list e.machine.aside) ≤ 128 → hand ≡ e.machine.core.hand ++ option_to_list e.machine.aside) → outcomes ≡ e.machine.unplaced → lines ≡ e.machine.unannounced
     → Leaves e hand outcomes lines
 leaves e hand outcomes lines none all outcomes_are lines_are = record {
   hand = λ b l d past fit.
@@ -205,8 +207,8 @@ leaves e hand outcomes lines none all outcomes_are lines_are = record {
       let few = f.session.requests.few in
       let same = f.inside.fits.hand_is in
       let long = ap (length {A = Request}) same in
-      let bare : length (option_to_list e.kept.aside) ≡ 0 = ap (λ (o : Option Request). length (option_to_list o)) none in
-      all (omega (arith, few, long, bare)) ∙ (ap (λ (o : Option Request). e.kept.core.hand ++ option_to_list o) none ∙ (append-nil e.kept.core.hand ∙ sym same));
+      let bare : length (option_to_list e.machine.aside) ≡ 0 = ap (λ (o : Option Request). length (option_to_list o)) none in
+      all (omega (arith, few, long, bare)) ∙ (ap (λ (o : Option Request). e.machine.core.hand ++ option_to_list o) none ∙ (append-nil e.machine.core.hand ∙ sym same));
   outcomes_are = outcomes_are;
   lines_are = lines_are;
 }

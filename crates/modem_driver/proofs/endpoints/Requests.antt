@@ -24,32 +24,32 @@ use Rattle.modem_driver.specs.Cores.{Fits}
 use Rattle.modem_driver.specs.Holding.{HoldsFit}
 use Rattle.modem_driver.specs.EndpointSteps.{HandlesFrames}
 use Rattle.modem_driver.specs.Endpoints.{EndpointFits, Begins, BeginsBy, HasNoneAside, LeadsOver, Numbers, Refuses, TakesRequest, is_numbered, with_taken}
-use Rattle.modem_driver.specs.SessionStates.{Kept, KeptGoes, kept_by, new_kept, seen_by, end_of}
+use Rattle.modem_driver.specs.SessionStates.{Machine, MachineGoes, machine_by, new_machine, seen_by, end_of}
 use Rattle.modem_driver.specs.TurnSteps.{StandingFits, Leads, turn_state}
 use Rattle.modem_driver.specs.TurnTakes.{TakesAside}
 use Rattle.modem_driver.proofs.endpoints.WholeCalls.{leads_over}
 use Rattle.modem_driver.proofs.sessions.LineOctets.{loss_with}
 use Rattle.modem_driver.proofs.sessions.OutcomeCounts.{is_caller}
-use Rattle.modem_driver.proofs.sessions.StartAndTick.{begins_over, kept_begins}
+use Rattle.modem_driver.proofs.sessions.StartAndTick.{begins_over, machine_begins}
 use Rattle.modem_driver.proofs.sessions.StopProgress.{come_on, grows_none}
 use Rattle.modem_driver.proofs.sessions.WaitingDeliveries.{told_part, heard_part, sent_part, received_part}
 
 -- ## The beginning
 
-begins_so : (rules : Rules) (dialect : Dialect) → dialect ≡ dialect_of rules → (n1 : ℕ) (ks : List UrcKind) (k : Kept) (next : ℕ) → k ≡ kept_by rules n1 ks → Fits k.core [] → HoldsFit k.core []
-    → BeginsBy dialect n1 ks (record { kept = k; next = next })
+begins_so : (rules : Rules) (dialect : Dialect) → dialect ≡ dialect_of rules → (n1 : ℕ) (ks : List UrcKind) (k : Machine) (next : ℕ) → k ≡ machine_by rules n1 ks → Fits k.core [] → HoldsFit k.core []
+    → BeginsBy dialect n1 ks (record { machine = k; next = next })
 unfolding BeginsBy
 begins_so rules dialect is n1 ks k next e fits holds l d same =
-    let inside = kept_begins rules dialect is n1 ks k d e (λ m. ((λ c. subst (λ (xs : List UrcKind). Contains xs m) (sym same) c), (λ c. subst (λ (xs : List UrcKind). Contains xs m) same c))) fits holds l in
+    let inside = machine_begins rules dialect is n1 ks k d e (λ m. ((λ c. subst (λ (xs : List UrcKind). Contains xs m) (sym same) c), (λ c. subst (λ (xs : List UrcKind). Contains xs m) same c))) fits holds l in
     record {
       stands = begins_over rules dialect n1 ks k l d e inside;
       numbers = ap (list_all (is_numbered next)) (drop-length d.taken);
     }
 
-pub begins : (rules : Rules) (n1 : ℕ) (ks : List UrcKind) (k : Kept) (next : ℕ) → k ≡ kept_by rules n1 ks → Fits k.core [] → HoldsFit k.core [] → BeginsBy (dialect_of rules) n1 ks (record { kept = k; next = next })
+pub begins : (rules : Rules) (n1 : ℕ) (ks : List UrcKind) (k : Machine) (next : ℕ) → k ≡ machine_by rules n1 ks → Fits k.core [] → HoldsFit k.core [] → BeginsBy (dialect_of rules) n1 ks (record { machine = k; next = next })
 begins rules n1 ks k next e fits holds = begins_so rules (dialect_of rules) refl n1 ks k next e fits holds
 
-pub begins_standard : (n1 : ℕ) (ks : List UrcKind) (k : Kept) (next : ℕ) → k ≡ new_kept n1 ks → Fits k.core [] → HoldsFit k.core [] → Begins n1 ks (record { kept = k; next = next })
+pub begins_standard : (n1 : ℕ) (ks : List UrcKind) (k : Machine) (next : ℕ) → k ≡ new_machine n1 ks → Fits k.core [] → HoldsFit k.core [] → Begins n1 ks (record { machine = k; next = next })
 begins_standard n1 ks k next e fits holds = begins_so no_rules standard (sym no_rules_standard) n1 ks k next e fits holds
 
 -- ## Numbers
@@ -93,14 +93,14 @@ numbered_last n ask qs h =
 is_caller_0 : (n : ℕ) (q : Request) → q.caller ≡ 0 → 1 ≤ n → list_all (is_caller n) (q ∷ []) ≡ true
 is_caller_0 n q e h = grind arith
 
-asks_here : (b : Beginning) (l : LineView) (d : DriverView) (old : Kept) (n : ℕ) (ask : Ask) (past : List Act) → old.aside ≡ None → length old.core.hand + length old.unplaced < 128 → 1 ≤ length d.desk.rings
-    → EndpointFits b l d (record { kept = old; next = n }) past
+asks_here : (b : Beginning) (l : LineView) (d : DriverView) (old : Machine) (n : ℕ) (ask : Ask) (past : List Act) → old.aside ≡ None → length old.core.hand + length old.unplaced < 128 → 1 ≤ length d.desk.rings
+    → EndpointFits b l d (record { machine = old; next = n }) past
     → StandingFits b (turn_state l (with_taken d (record { caller = 0; number = n; ask = ask })) (record old { aside = Some (record { caller = 0; number = n; ask = ask }) })) past
 asks_here b l d old n ask past none room some fit =
     let q : Request = record { caller = 0; number = n; ask = ask } in
     let f = fit.stands in
     let e = with_taken d q in
-    let new : Kept = record old { aside = Some q } in
+    let new : Machine = record old { aside = Some q } in
     let v = seen_by l (end_of d) old in
     let w = seen_by l (end_of e) new in
     let s = f.session in
@@ -136,12 +136,13 @@ asks_here b l d old n ask past none room some fit =
         sound = f.inside.sound;
         by_fault = f.inside.by_fault;
         one_stop = f.inside.one_stop;
+        delays_are = f.inside.delays_are;
         come = come_on b v w past [] old.course (λ h. h) (grows_none v w refl refl) f.inside.come;
       };
     }
 
 -- the numbers that its desk's end took then
-numbered_here : (b : Beginning) (l : LineView) (d : DriverView) (old k : Kept) (n : ℕ) (ask : Ask) (past : List Act) → EndpointFits b l d (record { kept = old; next = n }) past
+numbered_here : (b : Beginning) (l : LineView) (d : DriverView) (old k : Machine) (n : ℕ) (ask : Ask) (past : List Act) → EndpointFits b l d (record { machine = old; next = n }) past
     → list_all (is_numbered (n + 1)) (taken_since b (seen_by l (end_of (with_taken d (record { caller = 0; number = n; ask = ask }))) k)) ≡ true
 numbered_here b l d old k n ask past fit =
     let q : Request = record { caller = 0; number = n; ask = ask } in
@@ -151,9 +152,9 @@ numbered_here b l d old k n ask past fit =
 
 -- ## It is taken
 
-pub takes_request : (k0 k1 k2 : Kept) (n : ℕ) (ask : Ask) → HandlesFrames k0 k1 → k1.aside ≡ None → length k1.core.hand + length k1.unplaced < 128 → TakesAside (record k1 { aside = Some (record { caller = 0; number = n; ask = ask }) }) k2 → (l : LineView) (d : DriverView)
-    → TakesRequest l d (record { kept = k0; next = n }) (record { kept = k2; next = n + 1 }) ask n
-unfolding HandlesFrames KeptGoes LeadsOver Leads
+pub takes_request : (k0 k1 k2 : Machine) (n : ℕ) (ask : Ask) → HandlesFrames k0 k1 → k1.aside ≡ None → length k1.core.hand + length k1.unplaced < 128 → TakesAside (record k1 { aside = Some (record { caller = 0; number = n; ask = ask }) }) k2 → (l : LineView) (d : DriverView)
+    → TakesRequest l d (record { machine = k0; next = n }) (record { machine = k2; next = n + 1 }) ask n
+unfolding HandlesFrames MachineGoes LeadsOver Leads
 takes_request k0 k1 k2 n ask handles none room takes l d =
     let q : Request = record { caller = 0; number = n; ask = ask } in
     let e = with_taken d q in
@@ -161,29 +162,29 @@ takes_request k0 k1 k2 n ask handles none room takes l d =
     record {
       acts = h.acts ++ takes.acts;
       leads = λ some b past f.
-          let mid : EndpointFits b l d (record { kept = k1; next = n }) (after past h.acts) = leads_over l l d k0 k1 n h.acts h.leads b past f in
+          let mid : EndpointFits b l d (record { machine = k1; next = n }) (after past h.acts) = leads_over l l d k0 k1 n h.acts h.leads b past f in
           let asked = asks_here b l d k1 n ask (after past h.acts) none room some mid in
           record {
             stands = subst (λ (p : List Act). StandingFits b (turn_state l e k2) p) (sym (after_both h.acts takes.acts past)) (takes.goes b l e (after past h.acts) asked);
             numbers = numbered_here b l d k1 k2 n ask (after past h.acts) mid;
           };
       may = λ some b past f waiting.
-          let mid : EndpointFits b l d (record { kept = k1; next = n }) (after past h.acts) = leads_over l l d k0 k1 n h.acts h.leads b past f in
+          let mid : EndpointFits b l d (record { machine = k1; next = n }) (after past h.acts) = leads_over l l d k0 k1 n h.acts h.leads b past f in
           let asked = asks_here b l d k1 n ask (after past h.acts) none room some mid in
           list_all-append (may_act waiting) h.acts takes.acts
           ∙ and_from (list_all (may_act waiting) h.acts) (list_all (may_act waiting) takes.acts) (h.may waiting b past f.stands)
           (takes.adds waiting b l e (after past h.acts) asked).may;
     }
 
-pub numbers : (k0 k1 k2 : Kept) (n later : ℕ) (ask : Ask) → HandlesFrames k0 k1 → k1.aside ≡ None → length k1.core.hand + length k1.unplaced < 128 → TakesAside (record k1 { aside = Some (record { caller = 0; number = n; ask = ask }) }) k2 → later ≡ n + 1
-    → Numbers (record { kept = k0; next = n }) (record { kept = k2; next = later }) ask n
+pub numbers : (k0 k1 k2 : Machine) (n later : ℕ) (ask : Ask) → HandlesFrames k0 k1 → k1.aside ≡ None → length k1.core.hand + length k1.unplaced < 128 → TakesAside (record k1 { aside = Some (record { caller = 0; number = n; ask = ask }) }) k2 → later ≡ n + 1
+    → Numbers (record { machine = k0; next = n }) (record { machine = k2; next = later }) ask n
 numbers k0 k1 k2 n later ask handles none room takes e = record {
   number = refl;
   later = e;
-  takes = λ l d. subst (λ (m : ℕ). TakesRequest l d (record { kept = k0; next = n }) (record { kept = k2; next = m }) ask n) (sym e) (takes_request k0 k1 k2 n ask handles none room takes l d);
+  takes = λ l d. subst (λ (m : ℕ). TakesRequest l d (record { machine = k0; next = n }) (record { machine = k2; next = m }) ask n) (sym e) (takes_request k0 k1 k2 n ask handles none room takes l d);
 }
 
-pub refuses : (k0 k1 : Kept) (n : ℕ) → HandlesFrames k0 k1 → Refuses (record { kept = k0; next = n }) (record { kept = k1; next = n })
+pub refuses : (k0 k1 : Machine) (n : ℕ) → HandlesFrames k0 k1 → Refuses (record { machine = k0; next = n }) (record { machine = k1; next = n })
 unfolding HandlesFrames
 refuses k0 k1 n handles = record {
   number = refl;
@@ -197,10 +198,10 @@ refuses k0 k1 n handles = record {
 }
 
 -- the octets are all fed, and none is kept aside
-pub fed_after : (k1 k2 : Kept) (q : Request) → TakesAside (record k1 { aside = Some q }) k2 → k1.unfed ≡ [] → HasNoneAside k2
+pub fed_after : (k1 k2 : Machine) (q : Request) → TakesAside (record k1 { aside = Some q }) k2 → k1.unfed ≡ [] → HasNoneAside k2
 fed_after k1 k2 q takes fed = record {
-  fed = ap (λ (k : Kept). k.unfed) takes.stays ∙ fed;
-  bare = ap (λ (k : Kept). k.aside) takes.stays;
+  fed = ap (λ (k : Machine). k.unfed) takes.stays ∙ fed;
+  bare = ap (λ (k : Machine). k.aside) takes.stays;
 }
 
 -- where a call was refused, whatever it is of
@@ -208,6 +209,6 @@ pub always_err : {A E : Type 0} (P : Type 0) (r : Result A E) → P → OnErr r 
 always_err P (Ok a) p = tt
 always_err P (Err e) p = p
 
-pub refused_by : {A E : Type 0} (r : Result A E) (k0 k1 k2 : Kept) (n : ℕ) → HandlesFrames k0 k1 → OnErr r (k2 ≡ k1) → OnErr r (Refuses (record { kept = k0; next = n }) (record { kept = k2; next = n }))
+pub refused_by : {A E : Type 0} (r : Result A E) (k0 k1 k2 : Machine) (n : ℕ) → HandlesFrames k0 k1 → OnErr r (k2 ≡ k1) → OnErr r (Refuses (record { machine = k0; next = n }) (record { machine = k2; next = n }))
 refused_by (Ok a) k0 k1 k2 n handles same = tt
-refused_by (Err e) k0 k1 k2 n handles same = subst (λ (k : Kept). Refuses (record { kept = k0; next = n }) (record { kept = k; next = n })) (sym same) (refuses k0 k1 n handles)
+refused_by (Err e) k0 k1 k2 n handles same = subst (λ (k : Machine). Refuses (record { machine = k0; next = n }) (record { machine = k; next = n })) (sym same) (refuses k0 k1 n handles)

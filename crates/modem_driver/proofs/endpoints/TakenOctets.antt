@@ -11,8 +11,8 @@ use Rattle.mux_frame.specs.Deframing.{Deframing, TakesIn}
 use Rattle.modem_history.specs.Acts.{after}
 use Rattle.modem_history.specs.Turns.{may_act}
 use Rattle.modem_driver.specs.EndpointSteps.{FeedsFrom, HandLacksRoom, HandlesFrames, LacksRoomFor, Passes, TakesFrom, with_received}
-use Rattle.modem_driver.specs.GettingSteps.{KeptGets}
-use Rattle.modem_driver.specs.SessionStates.{Kept, KeptMoves, KeptGoes}
+use Rattle.modem_driver.specs.GettingSteps.{MachineGets}
+use Rattle.modem_driver.specs.SessionStates.{Machine, MachineMoves, MachineGoes}
 use Rattle.modem_driver.specs.TurnSteps.{TurnState, StandingFits, Leads, AddsAll, turn_state}
 use Rattle.modem_driver.proofs.sessions.LineOctets.{read_goes, feed_goes}
 use Rattle.modem_driver.proofs.sessions.WholeTurns.{leads_on, leads_still}
@@ -31,12 +31,12 @@ passes_both s0 s1 s2 p q = record {
 
 -- ## Frames at hand
 
-pub handles_none : (k : Kept) → HandlesFrames k k
+pub handles_none : (k : Machine) → HandlesFrames k k
 unfolding HandlesFrames Leads
 handles_none k l d = record { acts = []; leads = λ b past f. f; may = λ waiting b past f. refl }
 
-pub handles_one : (k0 k1 k2 : Kept) (moved : Bool) → HandlesFrames k0 k1 → KeptGets k1 k2 moved → HandlesFrames k0 k2
-unfolding HandlesFrames KeptGets AddsAll
+pub handles_one : (k0 k1 k2 : Machine) (moved : Bool) → HandlesFrames k0 k1 → MachineGets k1 k2 moved → HandlesFrames k0 k2
+unfolding HandlesFrames MachineGets AddsAll
 handles_one k0 k1 k2 moved handles gets l d =
     let g = gets l d in
     passes_both (turn_state l d k0) (turn_state l d k1) (turn_state l d k2) (handles l d) (record {
@@ -46,27 +46,27 @@ handles_one k0 k1 k2 moved handles gets l d =
     })
 
 -- one that wasn't handled lacks room
-pub hand_lacks : (k0 k1 : Kept) → KeptGets k0 k1 false → HandLacksRoom k1
-unfolding KeptGets HandLacksRoom
+pub hand_lacks : (k0 k1 : Machine) → MachineGets k0 k1 false → HandLacksRoom k1
+unfolding MachineGets HandLacksRoom
 hand_lacks k0 k1 gets l d =
     let g = gets l d in
-    subst (λ (s : TurnState). (f : Frame) → s.kept.deframer.next ≡ Some f → LacksRoomFor s f) (sym (g.still refl).1)
+    subst (λ (s : TurnState). (f : Frame) → s.machine.deframer.next ≡ Some f → LacksRoomFor s f) (sym (g.still refl).1)
     (λ f at_hand. record { busy = (g.no_room f refl at_hand).0; full = (g.no_room f refl at_hand).1 })
 
 -- ## Octets
 
-pub feeds : (old : Kept) (fed : Deframing) (octets : List ℕ) → old.unfed ≡ [] → TakesIn old.deframer octets fed → fed.n1 ≡ old.deframer.n1 → FeedsFrom old (record old { unfed = []; deframer = fed }) octets
-unfolding FeedsFrom KeptMoves KeptGoes
+pub feeds : (old : Machine) (fed : Deframing) (octets : List ℕ) → old.unfed ≡ [] → TakesIn old.deframer octets fed → fed.n1 ≡ old.deframer.n1 → FeedsFrom old (record old { unfed = []; deframer = fed }) octets
+unfolding FeedsFrom MachineMoves MachineGoes
 feeds old fed octets none takes bound l b d past f =
     let m = with_received l octets in
-    let read : Kept = record old { unfed = octets } in
+    let read : Machine = record old { unfed = octets } in
     let all : take (length octets) octets ≡ octets = take_all (length octets) octets (omega arith) in
     let inn : TakesIn old.deframer (take (length octets) octets) fed = subst (λ (xs : List ℕ). TakesIn old.deframer xs fed) (sym all) takes in
     let g = read_goes l m old octets none refl refl refl b d past f in
     let h = feed_goes read fed (length octets) inn bound b m d past g in
     subst (λ (xs : List ℕ). StandingFits b (turn_state m d (record old { unfed = xs; deframer = fed })) past) (drop-length octets) h
 
-pub takes_none : (k : Kept) → TakesFrom k k []
+pub takes_none : (k : Machine) → TakesFrom k k []
 unfolding TakesFrom Leads
 takes_none k l d = record {
   acts = [];
@@ -74,13 +74,13 @@ takes_none k l d = record {
   may = λ waiting b past f. refl;
 }
 
-pub takes_handled : (k0 k1 k2 : Kept) (xs : List ℕ) → TakesFrom k0 k1 xs → HandlesFrames k1 k2 → TakesFrom k0 k2 xs
+pub takes_handled : (k0 k1 k2 : Machine) (xs : List ℕ) → TakesFrom k0 k1 xs → HandlesFrames k1 k2 → TakesFrom k0 k2 xs
 unfolding TakesFrom HandlesFrames
 takes_handled k0 k1 k2 xs takes handles l d =
     passes_both (turn_state l d k0) (turn_state (with_received l xs) d k1) (turn_state (with_received l xs) d k2) (takes l d) (handles (with_received l xs) d)
 
-takes_fed : (k0 k1 k2 : Kept) (xs ys : List ℕ) → TakesFrom k0 k1 xs → FeedsFrom k1 k2 ys → TakesFrom k0 k2 (xs ++ ys)
-unfolding TakesFrom FeedsFrom KeptMoves Leads
+takes_fed : (k0 k1 k2 : Machine) (xs ys : List ℕ) → TakesFrom k0 k1 xs → FeedsFrom k1 k2 ys → TakesFrom k0 k2 (xs ++ ys)
+unfolding TakesFrom FeedsFrom MachineMoves Leads
 takes_fed k0 k1 k2 xs ys takes fed l d =
     let p = takes l d in
     let m : Leads (turn_state (with_received l xs) d k1) (turn_state (with_received (with_received l xs) ys) d k2) [] = λ b past f. fed (with_received l xs) b d past f in
@@ -92,6 +92,6 @@ takes_fed k0 k1 k2 xs ys takes fed l d =
     }
 
 -- the octets behind those taken came
-pub takes_more : (k0 k1 k2 : Kept) (octets : List ℕ) (taken count : ℕ) → TakesFrom k0 k1 (take taken octets) → FeedsFrom k1 k2 (take count (drop taken octets)) → TakesFrom k0 k2 (take (taken + count) octets)
+pub takes_more : (k0 k1 k2 : Machine) (octets : List ℕ) (taken count : ℕ) → TakesFrom k0 k1 (take taken octets) → FeedsFrom k1 k2 (take count (drop taken octets)) → TakesFrom k0 k2 (take (taken + count) octets)
 takes_more k0 k1 k2 octets taken count takes fed =
     subst (TakesFrom k0 k2) (sym (take-add taken count octets)) (takes_fed k0 k1 k2 (take taken octets) (take count (drop taken octets)) takes fed)

@@ -6,17 +6,17 @@ use Rattle.modem_history.specs.Acts.{Act, after}
 use Rattle.modem_history.specs.Sessions.{LineView}
 use Rattle.modem_driver.specs.EndpointSteps.{HandlesFrames}
 use Rattle.modem_driver.specs.Endpoints.{HasNoneAside, Loses, Ticks, with_failure}
-use Rattle.modem_driver.specs.SessionStates.{Kept, KeptGoes, KeptLoses, KeptMoves, KeptTicks}
+use Rattle.modem_driver.specs.SessionStates.{Machine, MachineGoes, MachineLoses, MachineMoves, MachineTicks}
 use Rattle.modem_driver.specs.TurnSteps.{Leads, turn_state}
 use Rattle.modem_driver.proofs.endpoints.WholeCalls.{leads_over}
 use Rattle.modem_driver.proofs.sessions.LineOctets.{fault_goes}
 use Rattle.modem_driver.proofs.sessions.WholeTurns.{leads_on}
 
-leads_by : (old new : Kept) (acts : List Act) → KeptGoes old new acts → (l : LineView) (d : DriverView) → Leads (turn_state l d old) (turn_state l d new) acts
-unfolding Leads KeptGoes
+leads_by : (old new : Machine) (acts : List Act) → MachineGoes old new acts → (l : LineView) (d : DriverView) → Leads (turn_state l d old) (turn_state l d new) acts
+unfolding Leads MachineGoes
 leads_by old new acts goes l d b past f = goes b l d past f
 
-pub ticks : (k0 k1 k2 : Kept) (next : ℕ) → HandlesFrames k0 k1 → KeptTicks k1 k2 → (l : LineView) (d : DriverView) → Ticks l d (record { kept = k0; next = next }) (record { kept = k2; next = next })
+pub ticks : (k0 k1 k2 : Machine) (next : ℕ) → HandlesFrames k0 k1 → MachineTicks k1 k2 → (l : LineView) (d : DriverView) → Ticks l d (record { machine = k0; next = next }) (record { machine = k2; next = next })
 unfolding HandlesFrames Leads
 ticks k0 k1 k2 next handles tick l d =
     let h = handles l d in
@@ -31,16 +31,16 @@ ticks k0 k1 k2 next handles tick l d =
     }
 
 -- a call has failed
-fails : (k : Kept) (l : LineView) (d : DriverView) → Leads (turn_state l d k) (turn_state (with_failure l) d (record k { faulty = true })) []
-unfolding Leads KeptMoves
+fails : (k : Machine) (l : LineView) (d : DriverView) → Leads (turn_state l d k) (turn_state (with_failure l) d (record k { faulty = true })) []
+unfolding Leads MachineMoves
 fails k l d b past f = fault_goes l (with_failure l) k refl refl refl b d past f
 
-pub loses : (k0 k1 k2 : Kept) (next : ℕ) → HandlesFrames k0 k1 → KeptLoses (record k1 { faulty = true }) k2 → (l : LineView) (d : DriverView) → Loses l d (record { kept = k0; next = next }) (record { kept = k2; next = next })
+pub loses : (k0 k1 k2 : Machine) (next : ℕ) → HandlesFrames k0 k1 → MachineLoses (record k1 { faulty = true }) k2 → (l : LineView) (d : DriverView) → Loses l d (record { machine = k0; next = next }) (record { machine = k2; next = next })
 unfolding HandlesFrames Leads
 loses k0 k1 k2 next handles loss l d =
     let h = handles l d in
     let m = with_failure l in
-    let faulty : Kept = record k1 { faulty = true } in
+    let faulty : Machine = record k1 { faulty = true } in
     let later = leads_on (turn_state l d k1) (turn_state m d faulty) (turn_state m d k2) [] loss.acts (fails k1 l d) (leads_by faulty k2 loss.acts loss.goes m d) in
     record {
       frames = h.acts;
@@ -55,5 +55,5 @@ loses k0 k1 k2 next handles loss l d =
     }
 
 -- the octets are all fed, and none is kept aside
-pub bare_after : (k1 k2 : Kept) → KeptLoses (record k1 { faulty = true }) k2 → HasNoneAside k1 → HasNoneAside k2
-bare_after k1 k2 loss h = record { fed = ap (λ (k : Kept). k.unfed) loss.stays ∙ h.fed; bare = ap (λ (k : Kept). k.aside) loss.stays ∙ h.bare }
+pub bare_after : (k1 k2 : Machine) → MachineLoses (record k1 { faulty = true }) k2 → HasNoneAside k1 → HasNoneAside k2
+bare_after k1 k2 loss h = record { fed = ap (λ (k : Machine). k.unfed) loss.stays ∙ h.fed; bare = ap (λ (k : Machine). k.aside) loss.stays ∙ h.bare }

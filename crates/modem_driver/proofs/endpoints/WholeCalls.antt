@@ -10,9 +10,9 @@ use Rattle.modem_history.specs.Acts.{Act, after}
 use Rattle.modem_history.specs.Sessions.{Beginning, LineView}
 use Rattle.modem_history.specs.Turns.{HoldsWhereRoom, may_act}
 use Rattle.modem_history.proofs.calls.StatesAfterActs.{after_both}
-use Rattle.modem_driver.specs.EndpointSteps.{GivesOut, KeptIsDrained, Passes, TakesFrom, with_received, with_sent}
+use Rattle.modem_driver.specs.EndpointSteps.{GivesOut, MachineIsDrained, Passes, TakesFrom, with_received, with_sent}
 use Rattle.modem_driver.specs.Endpoints.{GivesOctets, HoldsNothingBack, LeadsOver, TakesOctets}
-use Rattle.modem_driver.specs.SessionStates.{Kept}
+use Rattle.modem_driver.specs.SessionStates.{Machine}
 use Rattle.modem_driver.specs.TurnSteps.{TurnState, StandingFits, AddsAll, Checks, ChecksPart, Leads, turn_state, view_of}
 use Rattle.modem_driver.specs.declared.endpoint.Blocked.{Blocked}
 use Rattle.modem_driver.specs.declared.endpoint.Blocked.TheVariants.{NoMemory}
@@ -20,13 +20,13 @@ use Rattle.modem_driver.proofs.sessions.TurnFaults.{none_loses}
 use Rattle.modem_driver.proofs.sessions.WholeTurns.{leads_on}
 
 -- where the desk's end and the next number stay
-pub leads_over : (l m : LineView) (d : DriverView) (k0 k1 : Kept) (next : ℕ) (acts : List Act) → Leads (turn_state l d k0) (turn_state m d k1) acts
-    → LeadsOver l m d d (record { kept = k0; next = next }) (record { kept = k1; next = next }) acts
+pub leads_over : (l m : LineView) (d : DriverView) (k0 k1 : Machine) (next : ℕ) (acts : List Act) → Leads (turn_state l d k0) (turn_state m d k1) acts
+    → LeadsOver l m d d (record { machine = k0; next = next }) (record { machine = k1; next = next }) acts
 unfolding Leads LeadsOver
 leads_over l m d k0 k1 next acts leads b past f = record { stands = leads b past f.stands; numbers = f.numbers }
 
-pub gives_octets : (k0 k1 : Kept) (next : ℕ) (octets : List ℕ) → GivesOut k0 k1 octets → (l : LineView) (d : DriverView)
-    → GivesOctets l d (record { kept = k0; next = next }) (record { kept = k1; next = next }) octets
+pub gives_octets : (k0 k1 : Machine) (next : ℕ) (octets : List ℕ) → GivesOut k0 k1 octets → (l : LineView) (d : DriverView)
+    → GivesOctets l d (record { machine = k0; next = next }) (record { machine = k1; next = next }) octets
 unfolding GivesOut
 gives_octets k0 k1 next octets gives l d =
     let g = gives l d in
@@ -36,15 +36,15 @@ gives_octets k0 k1 next octets gives l d =
       are_out = λ b past f. g.are_out b past f.stands;
     }
 
-pub holds_nothing : (k : Kept) (next : ℕ) → KeptIsDrained k → HoldsNothingBack (record { kept = k; next = next })
-unfolding KeptIsDrained HoldsNothingBack
+pub holds_nothing : (k : Machine) (next : ℕ) → MachineIsDrained k → HoldsNothingBack (record { machine = k; next = next })
+unfolding MachineIsDrained HoldsNothingBack
 holds_nothing k next drained = drained
 
 -- ## Octets that come
 
 -- where it is blocked, no backlog was looked at
-pub takes_blocked : (k0 k1 : Kept) (next : ℕ) (octets : List ℕ) (why : Option Blocked) → TakesFrom k0 k1 octets → is_some why ≡ true → (l : LineView) (d : DriverView)
-    → TakesOctets l d (record { kept = k0; next = next }) (record { kept = k1; next = next }) octets why
+pub takes_blocked : (k0 k1 : Machine) (next : ℕ) (octets : List ℕ) (why : Option Blocked) → TakesFrom k0 k1 octets → is_some why ≡ true → (l : LineView) (d : DriverView)
+    → TakesOctets l d (record { machine = k0; next = next }) (record { machine = k1; next = next }) octets why
 unfolding TakesFrom
 takes_blocked k0 k1 next octets why takes some l d =
     let t = takes l d in
@@ -59,12 +59,12 @@ takes_blocked k0 k1 next octets why takes some l d =
     apart e = cc
 
 -- what looking at the backlogs adds
-record Checked (l : LineView) (d : DriverView) (k0 k1 k2 : Kept) (acts : List Act) : Type 0 where
+record Checked (l : LineView) (d : DriverView) (k0 k1 k2 : Machine) (acts : List Act) : Type 0 where
   leads : Leads (turn_state l d k1) (turn_state l d k2) acts
   may : (b : Beginning) (past : List Act) → StandingFits b (turn_state l d k1) past → list_all (may_act k1.unannounced) acts ≡ true
   stays : k2.unannounced ≡ k1.unannounced
 
-checked_may : (l : LineView) (d : DriverView) (k0 k1 k2 : Kept) (octets : List ℕ) (acts : List Act) → (t : Passes (turn_state l d k0) (turn_state (with_received l octets) d k1)) → Checked (with_received l octets) d k0 k1 k2 acts
+checked_may : (l : LineView) (d : DriverView) (k0 k1 k2 : Machine) (octets : List ℕ) (acts : List Act) → (t : Passes (turn_state l d k0) (turn_state (with_received l octets) d k1)) → Checked (with_received l octets) d k0 k1 k2 acts
     → (b : Beginning) (past : List Act) → StandingFits b (turn_state l d k0) past → list_all (may_act k2.unannounced) (t.acts ++ acts) ≡ true
 unfolding Leads
 checked_may l d k0 k1 k2 octets acts t c b past f =
@@ -73,15 +73,15 @@ checked_may l d k0 k1 k2 octets acts t c b past f =
     ∙ and_from (list_all (may_act k1.unannounced) t.acts) (list_all (may_act k1.unannounced) acts) (t.may k1.unannounced b past f) (c.may b (after past t.acts) (t.leads b past f)))
 
 -- where the backlogs were looked at
-pub takes_octets : (k0 k1 k2 : Kept) (next : ℕ) (octets : List ℕ) (moved : Bool) (why : Option Blocked) → TakesFrom k0 k1 octets → ((l : LineView) (d : DriverView) → Checks (turn_state l d k1) (turn_state l d k2) moved) → (l : LineView) (d : DriverView)
-    → TakesOctets l d (record { kept = k0; next = next }) (record { kept = k2; next = next }) octets why
+pub takes_octets : (k0 k1 k2 : Machine) (next : ℕ) (octets : List ℕ) (moved : Bool) (why : Option Blocked) → TakesFrom k0 k1 octets → ((l : LineView) (d : DriverView) → Checks (turn_state l d k1) (turn_state l d k2) moved) → (l : LineView) (d : DriverView)
+    → TakesOctets l d (record { machine = k0; next = next }) (record { machine = k2; next = next }) octets why
 unfolding TakesFrom AddsAll Leads
 takes_octets k0 k1 k2 next octets moved why takes checks l d =
     let m = with_received l octets in
     let t = takes l d in
     let c = checks m d in
     let all = leads_on (turn_state l d k0) (turn_state m d k1) (turn_state m d k2) t.acts c.acts t.leads c.leads in
-    let checked : Checked m d k0 k1 k2 c.acts = record { leads = c.leads; may = λ b past f. (c.adds b past f).may; stays = ap (λ (s : TurnState). s.kept.unannounced) c.stays } in
+    let checked : Checked m d k0 k1 k2 c.acts = record { leads = c.leads; may = λ b past f. (c.adds b past f).may; stays = ap (λ (s : TurnState). s.machine.unannounced) c.stays } in
     record {
       acts = t.acts ++ c.acts;
       leads = leads_over l m d k0 k2 next (t.acts ++ c.acts) all;
@@ -93,15 +93,15 @@ takes_octets k0 k1 k2 next octets moved why takes checks l d =
     }
 
 -- where there was no memory for the MSC of one of them
-pub takes_part : (k0 k1 k2 : Kept) (next : ℕ) (octets : List ℕ) → TakesFrom k0 k1 octets → ((l : LineView) (d : DriverView) → ChecksPart (turn_state l d k1) (turn_state l d k2)) → (l : LineView) (d : DriverView)
-    → TakesOctets l d (record { kept = k0; next = next }) (record { kept = k2; next = next }) octets (Some NoMemory)
+pub takes_part : (k0 k1 k2 : Machine) (next : ℕ) (octets : List ℕ) → TakesFrom k0 k1 octets → ((l : LineView) (d : DriverView) → ChecksPart (turn_state l d k1) (turn_state l d k2)) → (l : LineView) (d : DriverView)
+    → TakesOctets l d (record { machine = k0; next = next }) (record { machine = k2; next = next }) octets (Some NoMemory)
 unfolding TakesFrom AddsAll
 takes_part k0 k1 k2 next octets takes checks l d =
     let m = with_received l octets in
     let t = takes l d in
     let c = checks m d in
     let all = leads_on (turn_state l d k0) (turn_state m d k1) (turn_state m d k2) t.acts c.acts t.leads c.leads in
-    let checked : Checked m d k0 k1 k2 c.acts = record { leads = c.leads; may = λ b past f. (c.adds b past f).may; stays = ap (λ (s : TurnState). s.kept.unannounced) c.stays } in
+    let checked : Checked m d k0 k1 k2 c.acts = record { leads = c.leads; may = λ b past f. (c.adds b past f).may; stays = ap (λ (s : TurnState). s.machine.unannounced) c.stays } in
     record {
       acts = t.acts ++ c.acts;
       leads = leads_over l m d k0 k2 next (t.acts ++ c.acts) all;

@@ -21,7 +21,7 @@ use Rattle.modem_history.specs.EveryTurn.{Handles, ReadsWhereFed, asked_in_vain,
 use Rattle.modem_history.proofs.law_proofs.SessionLaws.{begins_fitting}
 use Rattle.modem_history.specs.SessionLaws.{BeginsFitting}
 use Rattle.modem_driver.specs.Endings.{Begins}
-use Rattle.modem_driver.specs.SessionStates.{SessionState, Ticks, beginning_of, new_kept}
+use Rattle.modem_driver.specs.SessionStates.{SessionState, Ticks, beginning_of, new_machine}
 use Rattle.modem_driver.specs.SessionTurns.{TakesTurn}
 use Rattle.modem_driver.specs.Polls.{MakesTurn, MovesOn, RunsTurns, ends, goes_on, has_ended, moves_none, moves_once, rests}
 use Rattle.modem_driver.specs.PollLaws.{IsSession, MovesThrough, NoLossIsKeptBack, NoLossIsStopped, all_through, ended_through, fails_through, rests_through, through_none, through_once}
@@ -32,7 +32,7 @@ use Rattle.modem_driver.proofs.sessions.PollLaws.{no_loss_is_kept_back, no_loss_
 use Rattle.at_text.specs.Dialects.{standard}
 use Rattle.at_text.specs.Rules.{no_rules}
 use Rattle.at_text.proofs.NoRules.{no_rules_standard}
-use Rattle.modem_driver.proofs.sessions.StartAndTick.{kept_begins}
+use Rattle.modem_driver.proofs.sessions.StartAndTick.{machine_begins}
 
 never : {P : Type 0} → false ≡ true → P
 never e = cc
@@ -119,7 +119,7 @@ module _ {X : Type 0} (look : X → LineView) where
   record Turned (old new : SessionState X) : Type 0 where
     made : ℕ
     calls : (look new.line).calls ≡ counted (look old.line).calls made
-    reads : old.kept.unfed ≡ [] → 1 ≤ made
+    reads : old.machine.unfed ≡ [] → 1 ≤ made
     in_vain : ℕ
     found : new.driver.found_none ≡ counted old.driver.found_none in_vain
     once : in_vain ≤ 1
@@ -137,7 +137,7 @@ module _ {X : Type 0} (look : X → LineView) where
       record {
         made = calls_made t.write + calls_made t.read;
         calls = is.calls;
-        reads = λ fed. let one = was_read t.read old.kept.unfed fed steps.reads.reads in omega (arith, one);
+        reads = λ fed. let one = was_read t.read old.machine.unfed fed steps.reads.reads in omega (arith, one);
         in_vain = asked_in_vain t.next;
         found = steps.asks.found_none;
         once = asked_once t.next;
@@ -152,11 +152,11 @@ module _ {X : Type 0} (look : X → LineView) where
     none : n ≡ 0 → new ≡ old
     some_more : 1 ≤ n → (look old.line).calls < (look new.line).calls
 
-  calls_on : (old mid new : SessionState X) (n : ℕ) → old.kept.unfed ≡ [] → (look old.line).calls < 2 ^ 64 - 1 → Called old mid n → Turned mid new → Called old new (n + 1)
+  calls_on : (old mid new : SessionState X) (n : ℕ) → old.machine.unfed ≡ [] → (look old.line).calls < 2 ^ 64 - 1 → Called old mid n → Turned mid new → Called old new (n + 1)
   calls_on old mid new zero fed few so turn =
       let same = so.none refl in
       let here : (look mid.line).calls ≡ (look old.line).calls = ap (λ (x : SessionState X). (look x.line).calls) same in
-      let made = turn.reads (ap (λ (x : SessionState X). x.kept.unfed) same ∙ fed) in
+      let made = turn.reads (ap (λ (x : SessionState X). x.machine.unfed) same ∙ fed) in
       let k = turn.made in
       let is : (look new.line).calls ≡ counted_to (2 ^ 64 - 1) (look mid.line).calls k = turn.calls ∙ same_count (look mid.line).calls k in
       let less : (look mid.line).calls < 2 ^ 64 - 1 = subst (λ (n : ℕ). n < 2 ^ 64 - 1) (sym here) few in
@@ -178,7 +178,7 @@ module _ {X : Type 0} (look : X → LineView) where
         some_more = λ e. omega (arith, keeps, rose);
       }
 
-  called : (old new : SessionState X) (n : ℕ) → old.kept.unfed ≡ [] → (look old.line).calls < 2 ^ 64 - 1 → IsSession look old → MovesOn look old n new → Called old new n
+  called : (old new : SessionState X) (n : ℕ) → old.machine.unfed ≡ [] → (look old.line).calls < 2 ^ 64 - 1 → IsSession look old → MovesOn look old n new → Called old new n
   called old _ _ fed few s moves_none = record { bound = omega (arith, few); none = λ e. refl; some_more = λ e. absurd (omega (arith, e)) }
   called old _ _ fed few s (moves_once n mid new moves turn) =
       calls_on old mid new n fed few (called old mid n fed few s moves) (turned_so mid new TurnAnswer.Moved (moves_keep old mid n s moves) turn)
@@ -189,7 +189,7 @@ module _ {X : Type 0} (look : X → LineView) where
   reads_the_line old new _ s fed going few (ends n small moves e) = by n (called old new n fed few s moves)
     where
       by : (m : ℕ) → Called old new m → (look old.line).calls < (look new.line).calls
-      by zero so = never (sym going ∙ (sym (ap (λ (x : SessionState X). has_ended x.kept) (so.none refl)) ∙ e))
+      by zero so = never (sym going ∙ (sym (ap (λ (x : SessionState X). has_ended x.machine) (so.none refl)) ∙ e))
       by (suc m) so = so.some_more (omega arith)
   reads_the_line old new _ s fed going few (rests n mid says small moves turn other) =
       (calls_on old mid new n fed few (called old mid n fed few s moves) (turned_so mid new says (moves_keep old mid n s moves) turn)).some_more (omega arith)
@@ -328,8 +328,8 @@ pub is_new_session : IsNewSession
 unfolding IsNewSession BeginsFitting
 is_new_session at = record {
   session = begins_fitting (beginning_of 31 first_line (bare_desk at));
-  inside = kept_begins no_rules standard (sym no_rules_standard) 31 [] (new_kept 31 []) (bare_desk at) refl (λ m. ((λ c. c), (λ c. c)))
-      (new_fits (new_kept 31 []).core no_rules 31 [] refl (stations.new_fits Initiator 31 (new_kept 31 []).core.station.channels [] refl refl))
+  inside = machine_begins no_rules standard (sym no_rules_standard) 31 [] (new_machine 31 []) (bare_desk at) refl (λ m. ((λ c. c), (λ c. c)))
+      (new_fits (new_machine 31 []).core no_rules 31 [] refl (stations.new_fits Initiator 31 (new_machine 31 []).core.station.channels [] refl refl))
       (record { held_are = λ d small own opened. never opened }) first_line;
 }
 
@@ -354,14 +354,14 @@ first_moves at new turn still =
     let is = turn.turn.turn b [] (is_new_session at) in
     let steps = turn.turn.steps b [] (is_new_session at) in
     let later = turn.turn.goes b [] (is_new_session at) in
-    let taken : taken_requests (after [] acts) ≡ [] = prefix_none (taken_requests (after [] acts)) (option_to_list new.kept.aside) (sym later.session.requests.taken_are ∙ still.taken) in
+    let taken : taken_requests (after [] acts) ≡ [] = prefix_none (taken_requests (after [] acts)) (option_to_list new.machine.aside) (sym later.session.requests.taken_are ∙ still.taken) in
     let none = no_acts b t.still_heard acts is.acts_may (none_got b _ acts steps.handles) later.session.history.lawful taken in
     or_cases _ _ is.moved (λ h. never (sym (ap (list_any (λ a. not (is_mark a))) none) ∙ h))
     (λ h1. or_cases _ _ h1 (no_more 0 (length new.line.received) (ap length still.received))
     (λ h2. or_cases _ _ h2 (no_more 0 (length new.line.sent) (ap length still.sent))
     (λ h3. or_cases _ _ h3 (no_more 0 (amount new.driver.told) (amount_none new.driver.told still.told))
     (λ h4. or_cases _ _ h4 (no_more 0 (amount new.driver.announced) (amount_none new.driver.announced still.announced))
-    (no_more (length new.kept.unfed) 0 refl)))))
+    (no_more (length new.machine.unfed) 0 refl)))))
 
 start_is : (old new : SessionState LineView) (n : ℕ) → MovesOn itself old n new → n ≡ 0 → new ≡ old
 start_is old _ _ moves_none e = refl

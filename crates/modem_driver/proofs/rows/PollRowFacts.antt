@@ -6,6 +6,7 @@ use Rattle.mux_frame.proofs.deframers.DeframerPasts.{past_none}
 use Rattle.modem_history.specs.Acts.{Lost}
 use Rattle.modem_history.specs.Lawful.{Lawful, Complete}
 use Rattle.modem_history.specs.Sessions.{LineView}
+use Rattle.modem_driver.proofs.sessions.WaitedTicks.{delays_none}
 use Rattle.modem_driver.specs.declared.session.ending.Ended.{Ended}
 use Rattle.modem_driver.specs.declared.session.ending.Ended.TheVariants.{Stopped}
 use Rattle.modem_driver.specs.declared.session.error.SessionFault.{SessionFault}
@@ -41,6 +42,7 @@ is_lost_session at = record {
     sound = λ e. never (sym e);
     by_fault = λ e. lit< tt;
     one_stop = lit≤ tt;
+    delays_are = delays_none;
     come = refl;
   };
 }

@@ -25,9 +25,9 @@ use Rattle.modem_driver.specs.declared.session.error.SessionFault.{SessionFault}
 use Rattle.modem_driver.specs.Holding.{CallsForNothing, due_by, flow_due}
 use Rattle.modem_driver.specs.BacklogChecks.{ChecksOne, SettlesOne}
 use Rattle.modem_history.specs.EveryTurn.{is_check}
-use Rattle.modem_driver.specs.SessionStates.{Kept, KeptGoes, seen_by, end_of}
+use Rattle.modem_driver.specs.SessionStates.{Machine, MachineGoes, seen_by, end_of}
 use Rattle.modem_driver.specs.TurnSteps.{Leads, AddsAll, Checks, ChecksPart, turn_state, is_more}
-use Rattle.modem_driver.proofs.sessions.CoreCalls.{FitsKept}
+use Rattle.modem_driver.proofs.sessions.CoreCalls.{FitsMachine}
 use Rattle.modem_driver.proofs.sessions.CollectedActs.{told_both}
 use Rattle.modem_driver.proofs.sessions.ListenedLines.{heard_both}
 use Rattle.modem_driver.proofs.sessions.OneFrame.{none_both}
@@ -121,23 +121,23 @@ holds_by b v past us same live lawful none = record {
 -- ## One after the other
 
 -- those below this number were checked
-pub record ChecksSo (first now : Kept) (number : ℕ) (moved : Bool) : Type 0 where
+pub record ChecksSo (first now : Machine) (number : ℕ) (moved : Bool) : Type 0 where
   pub acts : List Act
-  pub goes : KeptGoes first now acts
+  pub goes : MachineGoes first now acts
   pub none_told : outcomes_told acts ≡ []
   pub none_heard : lines_heard acts ≡ []
   pub none_got : gots acts ≡ []
   pub moved_is : moved ≡ list_any is_more acts
-  pub may : (b : Beginning) (l : LineView) (e : DriverView) (past : List Act) → FitsKept b l e first past → list_all (may_act first.unannounced) acts ≡ true
-  pub settled : (b : Beginning) (l : LineView) (e : DriverView) (past : List Act) → FitsKept b l e first past → now.core.station.queue ≡ [] → (acts ≡ []) × NoneDue b past first.unannounced number
+  pub may : (b : Beginning) (l : LineView) (e : DriverView) (past : List Act) → FitsMachine b l e first past → list_all (may_act first.unannounced) acts ≡ true
+  pub settled : (b : Beginning) (l : LineView) (e : DriverView) (past : List Act) → FitsMachine b l e first past → now.core.station.queue ≡ [] → (acts ≡ []) × NoneDue b past first.unannounced number
   pub looked : moved ≡ false
-      → (acts ≡ []) × ((b : Beginning) (l : LineView) (e : DriverView) (past : List Act) → FitsKept b l e first past → NoneDue b past first.unannounced number ⊎ LacksMscRoom b past)
+      → (acts ≡ []) × ((b : Beginning) (l : LineView) (e : DriverView) (past : List Act) → FitsMachine b l e first past → NoneDue b past first.unannounced number ⊎ LacksMscRoom b past)
   pub are_checks : list_all is_check acts ≡ true
-  pub flowed : (b : Beginning) (l : LineView) (e : DriverView) (past : List Act) → FitsKept b l e first past → NoneDue b (after past acts) first.unannounced number ⊎ LacksMscRoom b (after past acts)
+  pub flowed : (b : Beginning) (l : LineView) (e : DriverView) (past : List Act) → FitsMachine b l e first past → NoneDue b (after past acts) first.unannounced number ⊎ LacksMscRoom b (after past acts)
   pub stays : now ≡ record first { core = now.core }
 
-pub checks_first : (k : Kept) → ChecksSo k k 1 false
-unfolding KeptGoes
+pub checks_first : (k : Machine) → ChecksSo k k 1 false
+unfolding MachineGoes
 checks_first k = record {
   acts = [];
   goes = λ b l e past f. f;
@@ -183,11 +183,11 @@ flowed_more b past acts us number (inl none) one = ⊎_elim (λ (here : due_by (
         (λ (y : (m == number) ≡ false × m ≢ number). let other = y.1 in one.others m (backlog_in m us) y.1 ∙ none m least (omega (arith, other, lt)))
         (eqb_tells m number)
 
-pub checks_more : (first now next : Kept) (number : ℕ) (moved earlier : Bool) → ChecksOne number now next moved → ChecksSo first now number earlier → ChecksSo first next (number + 1) (earlier || moved)
-unfolding KeptGoes
+pub checks_more : (first now next : Machine) (number : ℕ) (moved earlier : Bool) → ChecksOne number now next moved → ChecksSo first now number earlier → ChecksSo first next (number + 1) (earlier || moved)
+unfolding MachineGoes
 checks_more first now next number moved earlier one so = record {
   acts = so.acts ++ one.acts;
-  goes = λ b l e past f. subst (FitsKept b l e next) (sym (after_both so.acts one.acts past)) (one.goes b l e (after past so.acts) (so.goes b l e past f));
+  goes = λ b l e past f. subst (FitsMachine b l e next) (sym (after_both so.acts one.acts past)) (one.goes b l e (after past so.acts) (so.goes b l e past f));
   none_told = told_both so.acts one.acts ∙ (ap (λ (os : List Outcome). os ++ outcomes_told one.acts) so.none_told ∙ one.none_told);
   none_heard = heard_both so.acts one.acts ∙ (ap (λ (hs : List Act). hs ++ lines_heard one.acts) so.none_heard ∙ one.none_heard);
   none_got = none_both so.acts one.acts so.none_got one.none_got;
@@ -195,27 +195,27 @@ checks_more first now next number moved earlier one so = record {
   may = λ b l e past f.
       list_all-append (may_act first.unannounced) so.acts one.acts
       ∙ and_from (list_all (may_act first.unannounced) so.acts) (list_all (may_act first.unannounced) one.acts) (so.may b l e past f)
-      (subst (λ (us : List Urc). list_all (may_act us) one.acts ≡ true) (ap (λ (k : Kept). k.unannounced) so.stays) (one.may b l e (after past so.acts) (so.goes b l e past f)));
+      (subst (λ (us : List Urc). list_all (may_act us) one.acts ≡ true) (ap (λ (k : Machine). k.unannounced) so.stays) (one.may b l e (after past so.acts) (so.goes b l e past f)));
   settled = λ b l e past f empty.
       let here = one.settles b l e (after past so.acts) (so.goes b l e past f) empty in
-      let before = so.settled b l e past f (sym (ap (λ (k : Kept). k.core.station.queue) here.1.0) ∙ empty) in
-      (ap (λ (xs : List Act). xs ++ one.acts) before.0 ∙ here.0, none_more b past so.acts first.unannounced now.unannounced number before.0 (ap (λ (k : Kept). k.unannounced) so.stays) before.1 here.1.1);
+      let before = so.settled b l e past f (sym (ap (λ (k : Machine). k.core.station.queue) here.1.0) ∙ empty) in
+      (ap (λ (xs : List Act). xs ++ one.acts) before.0 ∙ here.0, none_more b past so.acts first.unannounced now.unannounced number before.0 (ap (λ (k : Machine). k.unannounced) so.stays) before.1 here.1.1);
   looked = λ still.
       let parts = or_parts earlier moved still in
       let before = so.looked parts.0 in
       let here = one.looks parts.1 in (
         ap (λ (xs : List Act). xs ++ one.acts) before.0 ∙ here.0,
         λ b l e past f.
-            both_looked b past so.acts first.unannounced now.unannounced number before.0 (ap (λ (k : Kept). k.unannounced) so.stays) (before.1 b l e past f)
+            both_looked b past so.acts first.unannounced now.unannounced number before.0 (ap (λ (k : Machine). k.unannounced) so.stays) (before.1 b l e past f)
             (here.1 b l e (after past so.acts) (so.goes b l e past f)),
       );
   are_checks = list_all-append is_check so.acts one.acts ∙ and_from (list_all is_check so.acts) (list_all is_check one.acts) so.are_checks one.are_checks;
   flowed = λ b l e past f.
       let there = so.goes b l e past f in
-      let one_is = subst (λ (us : List Urc). SettlesOne b (after past so.acts) one.acts number us) (ap (λ (k : Kept). k.unannounced) so.stays) (one.flows b l e (after past so.acts) there) in
+      let one_is = subst (λ (us : List Urc). SettlesOne b (after past so.acts) one.acts number us) (ap (λ (k : Machine). k.unannounced) so.stays) (one.flows b l e (after past so.acts) there) in
       subst (λ (p : List Act). NoneDue b p first.unannounced (number + 1) ⊎ LacksMscRoom b p) (sym (after_both so.acts one.acts past))
       (flowed_more b (after past so.acts) one.acts first.unannounced number (so.flowed b l e past f) one_is);
-  stays = one.stays ∙ ap (λ (k : Kept). record k { core = next.core }) so.stays;
+  stays = one.stays ∙ ap (λ (k : Machine). record k { core = next.core }) so.stays;
 }
 
 -- a list of a connection's lines is no longer than that of all
@@ -224,14 +224,14 @@ few_on d us =
     let both = length-filter_both (λ (u : Urc). u.dlci.number == d) (λ (u : Urc). not (u.dlci.number == d)) (λ u. refl) us in
     omega arith
 
-few_none : (k : Kept) (d : ℕ) → d < 62 → length k.unannounced < 256 → CallsForNothing k.core → ChecksOne d k k false
+few_none : (k : Machine) (d : ℕ) → d < 62 → length k.unannounced < 256 → CallsForNothing k.core → ChecksOne d k k false
 unfolding CallsForNothing
 few_none k d b few free =
     let on = few_on d k.unannounced in
     checks_one k k.core d [] None refl (free d (backlog_in d k.unannounced) b (omega arith))
 
 -- where none is held and fewer than 256 lines wait, none is to be
-pub checks_few : (k : Kept) (n : ℕ) → n < 62 → length k.unannounced < 256 → CallsForNothing k.core → ChecksSo k k (n + 1) false
+pub checks_few : (k : Machine) (n : ℕ) → n < 62 → length k.unannounced < 256 → CallsForNothing k.core → ChecksSo k k (n + 1) false
 checks_few k zero b few free = checks_first k
 checks_few k (suc n) b few free = checks_more k k k (suc n) false false (few_none k (suc n) b few free) (subst (λ (m : ℕ). ChecksSo k k m false) (omega arith) (checks_few k n (omega arith) few free))
 
@@ -241,41 +241,41 @@ same_number o x n h e = subst (λ (y : Option Dlci). IfSome y (λ d. d.number �
 
 -- ## All of them
 
-adds_none : (first now : Kept) (number : ℕ) (moved : Bool) → (so : ChecksSo first now number moved) → (l : LineView) (d : DriverView) → AddsAll (turn_state l d first) (turn_state l d now) first.unannounced 0 so.acts
+adds_none : (first now : Machine) (number : ℕ) (moved : Bool) → (so : ChecksSo first now number moved) → (l : LineView) (d : DriverView) → AddsAll (turn_state l d first) (turn_state l d now) first.unannounced 0 so.acts
 unfolding AddsAll
 adds_none first now number moved so l d b past f = record {
-  outcomes = ap (λ (k : Kept). k.unplaced) so.stays ∙ (sym (append-nil first.unplaced) ∙ ap (λ (os : List Outcome). first.unplaced ++ os) (sym so.none_told));
-  lines = ap (λ (k : Kept). map heard_as k.unannounced) so.stays ∙ (sym (append-nil (map heard_as first.unannounced)) ∙ ap (λ (hs : List Act). map heard_as first.unannounced ++ hs) (sym so.none_heard));
+  outcomes = ap (λ (k : Machine). k.unplaced) so.stays ∙ (sym (append-nil first.unplaced) ∙ ap (λ (os : List Outcome). first.unplaced ++ os) (sym so.none_told));
+  lines = ap (λ (k : Machine). map heard_as k.unannounced) so.stays ∙ (sym (append-nil (map heard_as first.unannounced)) ∙ ap (λ (hs : List Act). map heard_as first.unannounced ++ hs) (sym so.none_heard));
   may = so.may b l d past f;
   few_got = let none = ap length so.none_got in omega arith;
 }
 
-leads_by : (first now : Kept) (acts : List Act) → KeptGoes first now acts → (l : LineView) (d : DriverView) → Leads (turn_state l d first) (turn_state l d now) acts
-unfolding Leads KeptGoes
+leads_by : (first now : Machine) (acts : List Act) → MachineGoes first now acts → (l : LineView) (d : DriverView) → Leads (turn_state l d first) (turn_state l d now) acts
+unfolding Leads MachineGoes
 leads_by first now acts goes l d b past f = goes b l d past f
 
-all_held : (first now : Kept) (moved : Bool) → (so : ChecksSo first now 62 moved) → (l : LineView) (d : DriverView) (b : Beginning) (past : List Act) → FitsKept b l d first past → now.core.lost ≡ false → now.core.station.queue ≡ []
+all_held : (first now : Machine) (moved : Bool) → (so : ChecksSo first now 62 moved) → (l : LineView) (d : DriverView) (b : Beginning) (past : List Act) → FitsMachine b l d first past → now.core.lost ≡ false → now.core.station.queue ≡ []
     → HoldsByBacklog (seen_by l (end_of d) now) (after past so.acts)
-unfolding KeptGoes
+unfolding MachineGoes
 all_held first now moved so l d b past f live empty =
     let s = so.settled b l d past f empty in
     let fits = so.goes b l d past f in
     let here : is_lost past ≡ false = subst (λ (xs : List Act). is_lost (after past xs) ≡ false) s.0 (fits.inside.fits.lost_is ∙ live) in
     subst (λ (xs : List Act). HoldsByBacklog (seen_by l (end_of d) now) (after past xs)) (sym s.0)
-    (holds_by b (seen_by l (end_of d) now) past first.unannounced (ap (λ (k : Kept). k.unannounced) so.stays) here f.session.history.lawful s.1)
+    (holds_by b (seen_by l (end_of d) now) past first.unannounced (ap (λ (k : Machine). k.unannounced) so.stays) here f.session.history.lawful s.1)
 
-all_looked : (first now : Kept) (us : List Urc) (l : LineView) (d : DriverView) (b : Beginning) (past : List Act) → now.unannounced ≡ us → is_lost past ≡ false → FitsKept b l d first past → NoneDue b past us 62 ⊎ LacksMscRoom b past
+all_looked : (first now : Machine) (us : List Urc) (l : LineView) (d : DriverView) (b : Beginning) (past : List Act) → now.unannounced ≡ us → is_lost past ≡ false → FitsMachine b l d first past → NoneDue b past us 62 ⊎ LacksMscRoom b past
     → HoldsWhereRoom b (seen_by l (end_of d) now) past
 all_looked first now us l d b past same live f (inl none) = inl (holds_by b (seen_by l (end_of d) now) past us same live f.session.history.lawful none)
 all_looked first now us l d b past same live f (inr full) = inr full
 
-all_flowed : (first now : Kept) (l : LineView) (d : DriverView) (b : Beginning) (past acts : List Act) → now.unannounced ≡ first.unannounced → is_lost (after past acts) ≡ false → FitsKept b l d now (after past acts)
+all_flowed : (first now : Machine) (l : LineView) (d : DriverView) (b : Beginning) (past acts : List Act) → now.unannounced ≡ first.unannounced → is_lost (after past acts) ≡ false → FitsMachine b l d now (after past acts)
     → NoneDue b (after past acts) first.unannounced 62 ⊎ LacksMscRoom b (after past acts) → HoldsWhereRoom b (seen_by l (end_of d) now) (after past acts)
 all_flowed first now l d b past acts same live f (inl none) = inl (holds_by b (seen_by l (end_of d) now) (after past acts) first.unannounced same live f.session.history.lawful none)
 all_flowed first now l d b past acts same live f (inr full) = inr full
 
-pub checks_all : (first now : Kept) (number : ℕ) (moved : Bool) → number ≡ 62 → ChecksSo first now number moved → (l : LineView) (d : DriverView) → Checks (turn_state l d first) (turn_state l d now) moved
-unfolding KeptGoes
+pub checks_all : (first now : Machine) (number : ℕ) (moved : Bool) → number ≡ 62 → ChecksSo first now number moved → (l : LineView) (d : DriverView) → Checks (turn_state l d first) (turn_state l d now) moved
+unfolding MachineGoes
 checks_all first now number moved last any l d = by_last (subst (λ (n : ℕ). ChecksSo first now n moved) last any)
   where
     by_last : ChecksSo first now 62 moved → Checks (turn_state l d first) (turn_state l d now) moved
@@ -287,22 +287,22 @@ checks_all first now number moved last any l d = by_last (subst (λ (n : ℕ). C
       held = λ b past f live empty. all_held first now moved so l d b past f live empty;
       looks = λ still.
           let k = so.looked still in
-          (k.0, λ b past f live. all_looked first now first.unannounced l d b past (ap (λ (v : Kept). v.unannounced) so.stays) live f (k.1 b l d past f));
+          (k.0, λ b past f live. all_looked first now first.unannounced l d b past (ap (λ (v : Machine). v.unannounced) so.stays) live f (k.1 b l d past f));
       are_checks = so.are_checks;
       looked = λ b past f live.
           let there = so.goes b l d past f in
-          all_flowed first now l d b past so.acts (ap (λ (v : Kept). v.unannounced) so.stays) (none_loses first.unannounced so.acts past (so.may b l d past f) live) there (so.flowed b l d past f);
+          all_flowed first now l d b past so.acts (ap (λ (v : Machine). v.unannounced) so.stays) (none_loses first.unannounced so.acts past (so.may b l d past f) live) there (so.flowed b l d past f);
       stays = ap (turn_state l d) so.stays;
     }
 
-part_of : (first now new : Kept) (number : ℕ) (moved : Bool) → ChecksSo first now number moved → new ≡ now → (l : LineView) (d : DriverView) → ChecksPart (turn_state l d first) (turn_state l d new)
-part_of first now new number moved so same l d = subst (λ (k : Kept). ChecksPart (turn_state l d first) (turn_state l d k)) (sym same) (record {
+part_of : (first now new : Machine) (number : ℕ) (moved : Bool) → ChecksSo first now number moved → new ≡ now → (l : LineView) (d : DriverView) → ChecksPart (turn_state l d first) (turn_state l d new)
+part_of first now new number moved so same l d = subst (λ (k : Machine). ChecksPart (turn_state l d first) (turn_state l d k)) (sym same) (record {
   acts = so.acts;
   leads = leads_by first now so.acts so.goes l d;
   adds = adds_none first now number moved so l d;
   stays = ap (turn_state l d) so.stays;
 })
 
-pub checks_part : (first now new : Kept) (number : ℕ) (moved : Bool) (r : Result Bool SessionFault) → ChecksSo first now number moved → new ≡ now → OnErr r ((l : LineView) (d : DriverView) → ChecksPart (turn_state l d first) (turn_state l d new))
+pub checks_part : (first now new : Machine) (number : ℕ) (moved : Bool) (r : Result Bool SessionFault) → ChecksSo first now number moved → new ≡ now → OnErr r ((l : LineView) (d : DriverView) → ChecksPart (turn_state l d first) (turn_state l d new))
 checks_part first now new number moved (Ok done) so same = tt
 checks_part first now new number moved (Err why) so same = part_of first now new number moved so same

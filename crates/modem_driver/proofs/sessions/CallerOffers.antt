@@ -1,12 +1,12 @@
 -- Outcomes are offered to their callers.
-use Rattle.std.proofs.Common.{sym, ◌∙◌, subst, arith, inl, inr, ⊎_elim}
+use Rattle.std.proofs.Common.{sym, ◌∙◌, subst, arith, inl, inr, ⊎_elim, ap}
 use Rattle.std.proofs.lemmas.Bool.Decides.{eqb_tells}
-use Rattle.std.specs.Prelude.{◌≡◌, ◌≢◌, ℕ, ◌+◌, ◌-◌, ◌<◌, ◌==◌, ◌||◌, ◌⊎◌, Bool, true, false, List, [], ◌∷◌, ◌++◌, length, refl, slice_index_or}
+use Rattle.std.specs.Prelude.{◌≡◌, ◌≢◌, ℕ, ◌+◌, ◌-◌, ◌<◌, ◌==◌, ◌||◌, ◌⊎◌, Bool, true, false, List, [], ◌∷◌, ◌++◌, length, refl, replicate, slice_index_or}
 use Rattle.modem_desk.specs.declared.request.Outcome.{Outcome}
 use Rattle.modem_desk.specs.Ends.{DriverView, DeskId, Appends, Changes, FallsByOne, RunsOut, RisesByOne}
 use Rattle.modem_history.specs.Sessions.{at_place}
 use Rattle.modem_driver.specs.Placing.{Placed, OneFewer, OffersFirst, TellsAlone, caller_of, IsRingOf, IsCaller, caller_rings}
-use Rattle.modem_driver.proofs.sessions.FirstOffers.{either, AreApart, GivesOne, FillsUp, placing_first, placed_last}
+use Rattle.modem_driver.proofs.sessions.FirstOffers.{either, none_held, AreApart, GivesOne, FillsUp, placing_first, placed_last}
 
 -- ## Rings of callers
 
@@ -72,3 +72,8 @@ pub tells_last : (first now : DriverView) (held : List Bool) (waited waits : Lis
 tells_last first now held waited waits left moved none so =
     placed_last caller_of IsRingOf (IsCaller first.desk) (caller_rings first) (caller_rings now) held waited waits moved
     (subst (λ (n : ℕ). OneFewer caller_of IsRingOf (IsCaller first.desk) (caller_rings first) (caller_rings now) held waited waits n moved) none so.fewer)
+
+-- where none waits there is nothing to be done
+pub tells_none : (d : DriverView) (waited : List Outcome) → waited ≡ [] → Placed caller_of IsRingOf (IsCaller d.desk) (caller_rings d) (caller_rings d) waited waited false
+tells_none d waited none =
+    tells_last d d (replicate 256 false) waited waited (0 - 0) false refl (tells_first d (replicate 256 false) waited 0 (none_held 256) (sym (ap (length {A = Outcome}) none)))

@@ -19,10 +19,12 @@ use Rattle.modem_history.proofs.calls.CalledActs.{Saids}
 use Rattle.modem_history.proofs.outcomes.SingleOutcomes.{uses_once}
 use Rattle.modem_history.proofs.requests.RequestsAfterCalls.{distinct_front}
 use Rattle.modem_history.proofs.law_proofs.SessionLaws.{since_are}
+use Rattle.modem_driver.specs.WaitingTicks.{AreDelays}
+use Rattle.modem_driver.proofs.sessions.WaitedTicks.{delays_after}
 use Rattle.modem_driver.specs.Cores.{MayCome, GoesOn, IsRun}
 use Rattle.modem_driver.specs.Holding.{HoldsFit}
 use Rattle.modem_driver.specs.Endings.{HasCome, is_stop}
-use Rattle.modem_driver.specs.SessionStates.{Kept, KeptFits, seen_by, end_of}
+use Rattle.modem_driver.specs.SessionStates.{Machine, MachineFits, seen_by, end_of}
 use Rattle.modem_driver.proofs.sessions.LongerHistories.{taken_after, given_after, room_after, turn_after, has_listener}
 use Rattle.modem_driver.proofs.sessions.OutcomeCounts.{is_caller, hand_counts, callers_told}
 use Rattle.modem_driver.proofs.sessions.ListenedLines.{Hear, all_listened}
@@ -30,24 +32,24 @@ use Rattle.modem_driver.proofs.sessions.WaitingDeliveries.{told_part, heard_part
 use Rattle.modem_driver.proofs.sessions.StopsInHand.{said_stops}
 
 -- the session fits the history
-abbrev pub FitsKept : Beginning → LineView → DriverView → Kept → List Act → Type 0
-FitsKept b l d k past = FitsWith b (seen_by l (end_of d) k) (KeptFits b l d k) past
+abbrev pub FitsMachine : Beginning → LineView → DriverView → Machine → List Act → Type 0
+FitsMachine b l d k past = FitsWith b (seen_by l (end_of d) k) (MachineFits b l d k) past
 
 -- ## Before it
 
 -- no caller used a number twice
-pub distinct_taken : (b : Beginning) (l : LineView) (d : DriverView) (k : Kept) (past : List Act) → FitsKept b l d k past → are_distinct (taken_requests past) ≡ true
+pub distinct_taken : (b : Beginning) (l : LineView) (d : DriverView) (k : Machine) (past : List Act) → FitsMachine b l d k past → are_distinct (taken_requests past) ≡ true
 distinct_taken b l d k past f =
     (distinct_front (taken_requests past) (option_to_list k.aside) (sym (ap are_distinct (since_are b (seen_by l (end_of d) k) past f.session)) ∙ f.session.requests.once)).0
 
 -- each of them is a caller of the desk
-pub callers_taken : (b : Beginning) (l : LineView) (d : DriverView) (k : Kept) (past : List Act) → FitsKept b l d k past → list_all (is_caller b.callers) (taken_requests past) ≡ true
+pub callers_taken : (b : Beginning) (l : LineView) (d : DriverView) (k : Machine) (past : List Act) → FitsMachine b l d k past → list_all (is_caller b.callers) (taken_requests past) ≡ true
 callers_taken b l d k past f =
     (and_parts (list_all (is_caller b.callers) (taken_requests past)) (list_all (is_caller b.callers) (option_to_list k.aside))
     (sym (list_all-append (is_caller b.callers) (taken_requests past) (option_to_list k.aside))
     ∙ (sym (ap (list_all (is_caller b.callers)) (since_are b (seen_by l (end_of d) k) past f.session)) ∙ f.session.requests.callers))).0
 
-pub is_run : (b : Beginning) (l : LineView) (d : DriverView) (k : Kept) (past : List Act) → FitsKept b l d k past → IsRun (driving b) past
+pub is_run : (b : Beginning) (l : LineView) (d : DriverView) (k : Machine) (past : List Act) → FitsMachine b l d k past → IsRun (driving b) past
 is_run b l d k past f = record {
   lawful = f.session.history.lawful;
   complete = f.session.history.complete;
@@ -55,7 +57,7 @@ is_run b l d k past f = record {
   numbers = uses_once (taken_requests past) (distinct_taken b l d k past f);
 }
 
-pub may_come : (b : Beginning) (l : LineView) (d : DriverView) (k : Kept) (past : List Act) (a : Act) → FitsKept b l d k past → taken_requests (a ∷ past) ≡ taken_requests past → MayCome (driving b) k.core past a
+pub may_come : (b : Beginning) (l : LineView) (d : DriverView) (k : Machine) (past : List Act) (a : Act) → FitsMachine b l d k past → taken_requests (a ∷ past) ≡ taken_requests past → MayCome (driving b) k.core past a
 may_come b l d k past a f same = record {
   setting = f.inside.setting;
   fits = f.inside.fits;
@@ -76,12 +78,12 @@ pub record IsBare (a : Act) (past : List Act) : Type 0 where
   pub heard_is : (more : List Act) → lines_heard (a ∷ more) ≡ lines_heard more
 
 -- what was told and heard waits behind the others
-pub record KeepsMore (old new : Kept) (acts : List Act) : Type 0 where
+pub record KeepsMore (old new : Machine) (acts : List Act) : Type 0 where
   pub outcomes : length old.unplaced + length (outcomes_told acts) ≤ 128 → new.unplaced ≡ old.unplaced ++ outcomes_told acts
   pub lines : map heard_as new.unannounced ≡ map heard_as old.unannounced ++ lines_heard acts
 
 -- so few are told that there is room for them
-pub few_told : (b : Beginning) (l : LineView) (d : DriverView) (old new : Kept) (past more : List Act) (a : Act) → FitsKept b l d old past → IsBare a past → GoesOn (driving b) new.core past a (a ∷ more) → Saids more
+pub few_told : (b : Beginning) (l : LineView) (d : DriverView) (old new : Machine) (past more : List Act) (a : Act) → FitsMachine b l d old past → IsBare a past → GoesOn (driving b) new.core past a (a ∷ more) → Saids more
     → length (in_hand (after past (a ∷ more))) + length (outcomes_told (a ∷ more)) ≤ length (in_hand past)
 few_told b l d old new past more a f bare goes said =
     let distinct : are_distinct (taken_requests (a ∷ past)) ≡ true = ap are_distinct bare.taken_is ∙ distinct_taken b l d old past f in
@@ -90,12 +92,12 @@ few_told b l d old new past more a f bare goes said =
     let told = ap (length {A = Outcome}) (bare.told_is more) in
     omega arith
 
-pub call_fits : (b : Beginning) (l : LineView) (d : DriverView) (old new : Kept) (past more : List Act) (a : Act)
-    → FitsKept b l d old past → IsBare a past → GoesOn (driving b) new.core past a (a ∷ more) → HoldsFit new.core (after past (a ∷ more)) → Saids more → Hear (driving b) more → KeepsMore old new (a ∷ more)
+pub call_fits : (b : Beginning) (l : LineView) (d : DriverView) (old new : Machine) (past more : List Act) (a : Act)
+    → FitsMachine b l d old past → IsBare a past → GoesOn (driving b) new.core past a (a ∷ more) → HoldsFit new.core (after past (a ∷ more)) → AreDelays new.delays (a ∷ past) → Saids more → Hear (driving b) more → KeepsMore old new (a ∷ more)
     → new.aside ≡ old.aside → new.unwritten ≡ old.unwritten → new.faulty ≡ old.faulty → HasCome b (seen_by l (end_of d) new) (after past (a ∷ more)) new.course
     → FitsLoss b (seen_by l (end_of d) new) (after past (a ∷ more)) → FitsReceived b (seen_by l (end_of d) new) (after past (a ∷ more))
-    → FitsKept b l d new (after past (a ∷ more))
-call_fits b l d old new past more a f bare goes holds said hear keeps aside unwritten faulty come loss received =
+    → FitsMachine b l d new (after past (a ∷ more))
+call_fits b l d old new past more a f bare goes holds delays said hear keeps aside unwritten faulty come loss received =
     let s = f.session in
     let few = few_told b l d old new past more a f bare goes said in
     let fewer = s.requests.few in
@@ -137,5 +139,6 @@ call_fits b l d old new past more a f bare goes holds said hear keeps aside unwr
         by_fault = λ e. f.inside.by_fault (sym faulty ∙ e);
         one_stop = let few = said_stops more (a ∷ past) said in let same = ap (λ (qs : List Request). length (filter is_stop qs)) bare.hand_is in let before = f.inside.one_stop in omega (arith, few, same, before);
         come = come;
+        delays_are = delays_after new.delays more (a ∷ past) said delays;
       };
     }

@@ -21,7 +21,7 @@ use Rattle.modem_history.specs.EveryTurn.{count_at}
 use Rattle.modem_history.specs.Turns.{amount, counted}
 use Rattle.modem_driver.specs.Placing.{of_key, Gave, Stay, Placed, TellsAlone, AnnouncesAlone, caller_of, place_of, IsRingOf, IsCaller, IsListenerOf, IsHeard, Rings, caller_rings, listener_rings}
 use Rattle.modem_driver.specs.Endings.{Begins}
-use Rattle.modem_driver.specs.SessionStates.{Kept, seen_by, end_of}
+use Rattle.modem_driver.specs.SessionStates.{Machine, seen_by, end_of}
 use Rattle.modem_driver.specs.TurnSteps.{Leads, Places, turn_state}
 use Rattle.modem_driver.proofs.sessions.OutcomeCounts.{is_callers, is_caller}
 use Rattle.modem_driver.proofs.sessions.StopProgress.{Grows, begins_whole, come_on}
@@ -140,11 +140,11 @@ grows_told v w gave sent = record {
   told = λ c. let g = gave c in record { rest = g.since; joins = sym g.given_are };
 }
 
-placed_fits : (l : LineView) (d e : DriverView) (old : Kept) (ps : List Outcome) (vs : List Urc) (told announced : Bool) → PlacedBoth d e old.unplaced ps old.unannounced vs told announced
+placed_fits : (l : LineView) (d e : DriverView) (old : Machine) (ps : List Outcome) (vs : List Urc) (told announced : Bool) → PlacedBoth d e old.unplaced ps old.unannounced vs told announced
     → Leads (turn_state l d old) (turn_state l e (record old { unplaced = ps; unannounced = vs })) []
 unfolding Leads
 placed_fits l d e old ps vs told announced p b past f =
-    let new : Kept = record old { unplaced = ps; unannounced = vs } in
+    let new : Machine = record old { unplaced = ps; unannounced = vs } in
     let v = seen_by l (end_of d) old in
     let w = seen_by l (end_of e) new in
     let s = f.session in
@@ -177,11 +177,12 @@ placed_fits l d e old ps vs told announced p b past f =
         sound = f.inside.sound;
         by_fault = f.inside.by_fault;
         one_stop = f.inside.one_stop;
+        delays_are = f.inside.delays_are;
         come = come_on b v w past [] old.course (λ h. h) (grows_told v w (λ c. p.outcomes.each c c refl) (begins_whole l.sent)) f.inside.come;
       };
     }
 
-pub places : (d m e : DriverView) (old : Kept) (ps : List Outcome) (vs : List Urc) (told announced : Bool) → Placed caller_of IsRingOf (IsCaller d.desk) (caller_rings d) (caller_rings m) old.unplaced ps told → TellsAlone d m
+pub places : (d m e : DriverView) (old : Machine) (ps : List Outcome) (vs : List Urc) (told announced : Bool) → Placed caller_of IsRingOf (IsCaller d.desk) (caller_rings d) (caller_rings m) old.unplaced ps told → TellsAlone d m
     → Placed place_of (IsListenerOf m.desk.kinds) (IsHeard m.desk.kinds) (listener_rings m) (listener_rings e) old.unannounced vs announced → AnnouncesAlone m e
     → (l : LineView) → Places (turn_state l d old) (turn_state l e (record old { unplaced = ps; unannounced = vs })) (told || announced)
 places d m e old ps vs told announced p t q a l =

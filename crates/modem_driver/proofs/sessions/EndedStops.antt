@@ -45,9 +45,9 @@ use Rattle.modem_driver.proofs.sessions.CollectedActs.{told_both}
 use Rattle.modem_driver.specs.Cores as cores
 use Rattle.modem_driver.specs.Cores.{Core, MayCome, Runs, RunsUnless, may_wait, state_shown}
 use Rattle.modem_driver.specs.Endings.{asker_of, asks_stop, ends_stop, has_stopped, is_answered, is_end_of, is_stop, is_stopped_by}
-use Rattle.modem_driver.specs.SessionStates.{Kept}
+use Rattle.modem_driver.specs.SessionStates.{Machine}
 use Rattle.modem_driver.proofs.sessions.LongerHistories.{outcomes_after, taken_after}
-use Rattle.modem_driver.proofs.sessions.CoreCalls.{FitsKept, distinct_taken}
+use Rattle.modem_driver.proofs.sessions.CoreCalls.{FitsMachine, distinct_taken}
 use Rattle.modem_driver.proofs.sessions.OutcomeCounts.{any_left, none_of}
 use Rattle.modem_driver.proofs.sessions.StopProgress.{NoneEnds}
 use Rattle.modem_driver.proofs.sessions.StopsInHand.{any_same, ends, ends_by, later_ends, still_stopped, stopped_both, stops_left, unless_ends}
@@ -147,7 +147,7 @@ told_ends q (Freed d ∷ acts) = told_ends q acts
 told_ends q (Given ∷ acts) = told_ends q acts
 
 -- where nothing is noted, no Stop has ended
-pub none_noted : (b : Beginning) (l : LineView) (d : DriverView) (old : Kept) (past acts more : List Act) (a : Act) → FitsKept b l d old past → acts ≡ a ∷ more → taken_requests (a ∷ past) ≡ taken_requests past → Lawful (driving b) (after past acts) → Saids more → outcomes_told (a ∷ more) ≡ outcomes_told more
+pub none_noted : (b : Beginning) (l : LineView) (d : DriverView) (old : Machine) (past acts more : List Act) (a : Act) → FitsMachine b l d old past → acts ≡ a ∷ more → taken_requests (a ∷ past) ≡ taken_requests past → Lawful (driving b) (after past acts) → Saids more → outcomes_told (a ∷ more) ≡ outcomes_told more
     → is_answered (option_map asker_of (find is_stop old.core.hand)) acts ≡ false → NoneEnds past acts
 none_noted b l d old past acts more a f are bare lawful said told unnoted none = by_end (has_stopped (after past acts)) refl
   where

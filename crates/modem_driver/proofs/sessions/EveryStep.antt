@@ -63,8 +63,8 @@ module _ {s0 s1 s2 s3 s4 s5 s6 s7 : TurnState} {m1 m2 m3 m4 m5 m6 m7 : Bool} whe
 
   -- ## The output
 
-  unwritten_two : Run s0 s1 s2 s3 s4 s5 s6 s7 m1 m2 m3 m4 m5 m6 m7 → s2.kept.unwritten ≡ s0.kept.unwritten
-  unwritten_two r = ap (λ (s : TurnState). s.kept.unwritten) r.checks.stays ∙ ap (λ (s : TurnState). s.kept.unwritten) r.places.stays
+  unwritten_two : Run s0 s1 s2 s3 s4 s5 s6 s7 m1 m2 m3 m4 m5 m6 m7 → s2.machine.unwritten ≡ s0.machine.unwritten
+  unwritten_two r = ap (λ (s : TurnState). s.machine.unwritten) r.checks.stays ∙ ap (λ (s : TurnState). s.machine.unwritten) r.places.stays
 
   abbrev out_of : (r : Run s0 s1 s2 s3 s4 s5 s6 s7 m1 m2 m3 m4 m5 m6 m7) → Beginning → List Act → Option Outgoing
   out_of r b past = goes_in b (view_of s0) (after past r.checks.acts)
@@ -75,11 +75,11 @@ module _ {s0 s1 s2 s3 s4 s5 s6 s7 : TurnState} {m1 m2 m3 m4 m5 m6 m7 : Bool} whe
   sends_are : (r : Run s0 s1 s2 s3 s4 s5 s6 s7 m1 m2 m3 m4 m5 m6 m7) (b : Beginning) (past : List Act) → StandingFits b s0 past → r.sends.acts ≡ acts_out (out_of r b past)
   sends_are r b past f = r.sends.acts_are b (after past r.checks.acts) (fits_two r b past f) ∙ ap acts_out (out_same r b past)
 
-  unwritten_three : (r : Run s0 s1 s2 s3 s4 s5 s6 s7 m1 m2 m3 m4 m5 m6 m7) (b : Beginning) (past : List Act) → StandingFits b s0 past → s3.kept.unwritten ≡ s0.kept.unwritten ++ octets_out (out_of r b past)
+  unwritten_three : (r : Run s0 s1 s2 s3 s4 s5 s6 s7 m1 m2 m3 m4 m5 m6 m7) (b : Beginning) (past : List Act) → StandingFits b s0 past → s3.machine.unwritten ≡ s0.machine.unwritten ++ octets_out (out_of r b past)
   unwritten_three r b past f =
       r.sends.octets_are b (after past r.checks.acts) (fits_two r b past f)
       ∙ (ap (λ (xs : List ℕ). xs ++ octets_out (goes_in b (view_of s2) (after past r.checks.acts))) (unwritten_two r)
-      ∙ ap (λ (o : Option Outgoing). s0.kept.unwritten ++ octets_out o) (out_same r b past))
+      ∙ ap (λ (o : Option Outgoing). s0.machine.unwritten ++ octets_out o) (out_same r b past))
 
   writes_on : (r : Run s0 s1 s2 s3 s4 s5 s6 s7 m1 m2 m3 m4 m5 m6 m7) (b : Beginning) (past : List Act) → StandingFits b s0 past → WritesOn (view_of s0) (view_of s7) (all_exchange r) (octets_out (out_of r b past))
   writes_on r b past f =
@@ -87,9 +87,9 @@ module _ {s0 s1 s2 s3 s4 s5 s6 s7 : TurnState} {m1 m2 m3 m4 m5 m6 m7 : Bool} whe
       record {
         offered = r.writes.offered ∙ three;
         left =
-            ap (λ (s : TurnState). s.kept.unwritten) r.takes.stays
-            ∙ (ap (λ (s : TurnState). s.kept.unwritten) r.reads.stays
-            ∙ (ap (λ (s : TurnState). s.kept.unwritten) r.gets.stays
+            ap (λ (s : TurnState). s.machine.unwritten) r.takes.stays
+            ∙ (ap (λ (s : TurnState). s.machine.unwritten) r.reads.stays
+            ∙ (ap (λ (s : TurnState). s.machine.unwritten) r.gets.stays
             ∙ (r.writes.left ∙ ap (drop (count_taken r.writes.write)) three)));
         stalled =
             ap (λ (l : LineView). l.stalled_writes) (line_at_seven r)
@@ -100,16 +100,16 @@ module _ {s0 s1 s2 s3 s4 s5 s6 s7 : TurnState} {m1 m2 m3 m4 m5 m6 m7 : Bool} whe
 
   -- ## The frame at hand
 
-  next_four : Run s0 s1 s2 s3 s4 s5 s6 s7 m1 m2 m3 m4 m5 m6 m7 → s4.kept.deframer.next ≡ s0.kept.deframer.next
+  next_four : Run s0 s1 s2 s3 s4 s5 s6 s7 m1 m2 m3 m4 m5 m6 m7 → s4.machine.deframer.next ≡ s0.machine.deframer.next
   next_four r =
-      ap (λ (s : TurnState). s.kept.deframer.next) r.writes.stays
-      ∙ (ap (λ (s : TurnState). s.kept.deframer.next) r.sends.stays
-      ∙ (ap (λ (s : TurnState). s.kept.deframer.next) r.checks.stays ∙ ap (λ (s : TurnState). s.kept.deframer.next) r.places.stays))
+      ap (λ (s : TurnState). s.machine.deframer.next) r.writes.stays
+      ∙ (ap (λ (s : TurnState). s.machine.deframer.next) r.sends.stays
+      ∙ (ap (λ (s : TurnState). s.machine.deframer.next) r.checks.stays ∙ ap (λ (s : TurnState). s.machine.deframer.next) r.places.stays))
 
   gots_are : (r : Run s0 s1 s2 s3 s4 s5 s6 s7 m1 m2 m3 m4 m5 m6 m7) (b : Beginning) (past : List Act) → StandingFits b s0 past → gots (all_acts r) ≡ gots r.gets.acts
   unfolding AddsAll
   gots_are r b past f =
-      let us = s1.kept.unannounced in
+      let us = s1.machine.unannounced in
       let two = fits_two r b past f in
       let six = fits_six r b past f in
       third_alone r.checks.acts r.sends.acts r.gets.acts r.takes.acts
@@ -118,9 +118,9 @@ module _ {s0 s1 s2 s3 s4 s5 s6 s7 : TurnState} {m1 m2 m3 m4 m5 m6 m7 : Bool} whe
       (no_gots r.takes.acts (r.takes.adds us b (after past ((r.checks.acts ++ r.sends.acts) ++ r.gets.acts)) six).few_got)
 
   handles : (r : Run s0 s1 s2 s3 s4 s5 s6 s7 m1 m2 m3 m4 m5 m6 m7) (b : Beginning) (past : List Act) → StandingFits b s0 past
-      → Handles b s0.kept.deframer.next (after past (r.checks.acts ++ acts_out (out_of r b past))) (all_acts r)
+      → Handles b s0.machine.deframer.next (after past (r.checks.acts ++ acts_out (out_of r b past))) (all_acts r)
   handles r b past f =
-      subst (λ (xs : List Act). Handles b s0.kept.deframer.next (after past (r.checks.acts ++ xs)) (all_acts r)) (sends_are r b past f)
+      subst (λ (xs : List Act). Handles b s0.machine.deframer.next (after past (r.checks.acts ++ xs)) (all_acts r)) (sends_are r b past f)
       (subst (λ (o : Option Frame). Handles b o (after past (r.checks.acts ++ r.sends.acts)) (all_acts r)) (next_four r) (by_moved m5 refl))
     where
       before : List Act
@@ -132,20 +132,20 @@ module _ {s0 s1 s2 s3 s4 s5 s6 s7 : TurnState} {m1 m2 m3 m4 m5 m6 m7 : Bool} whe
       still : m5 ≡ false → gots (all_acts r) ≡ []
       still e = gots_are r b past f ∙ ap gots (r.gets.still e).0
 
-      by_frame : m5 ≡ false → (o : Option Frame) → s4.kept.deframer.next ≡ o → Handles b s4.kept.deframer.next before (all_acts r)
+      by_frame : m5 ≡ false → (o : Option Frame) → s4.machine.deframer.next ≡ o → Handles b s4.machine.deframer.next before (all_acts r)
       by_frame e None h = gets (still e ∙ ap option_to_list (sym h))
       by_frame e (Some g) h = waits g h ((r.gets.no_room g e h).1 b before four) (still e)
 
-      by_moved : (c : Bool) → m5 ≡ c → Handles b s4.kept.deframer.next before (all_acts r)
+      by_moved : (c : Bool) → m5 ≡ c → Handles b s4.machine.deframer.next before (all_acts r)
       by_moved true e = gets (gots_are r b past f ∙ r.gets.got b before four e)
-      by_moved false e = by_frame e s4.kept.deframer.next refl
+      by_moved false e = by_frame e s4.machine.deframer.next refl
 
   -- ## The input, and a request
 
   reads_fed : (r : Run s0 s1 s2 s3 s4 s5 s6 s7 m1 m2 m3 m4 m5 m6 m7) → ReadsFed (view_of s0) (view_of s7) (all_exchange r)
   reads_fed r =
       let unfed = unfed_at_five r in
-      let last = ap (λ (s : TurnState). s.kept.unfed) r.takes.stays in
+      let last = ap (λ (s : TurnState). s.machine.unfed) r.takes.stays in
       record {
         reads = subst (ReadsWhereFed r.reads.read) unfed r.reads.reads;
         empty =
@@ -154,7 +154,7 @@ module _ {s0 s1 s2 s3 s4 s5 s6 s7 : TurnState} {m1 m2 m3 m4 m5 m6 m7 : Bool} whe
             ∙ (ap (λ (s : TurnState). empty_after r.reads.read s.line.empty_reads) r.gets.stays
             ∙ (ap (empty_after r.reads.read) r.writes.empty_stays ∙ ap (λ (l : LineView). empty_after r.reads.read l.empty_reads) (line_at_three r))));
         feeds = λ none some.
-            let less = r.reads.fewer (sym (ap (λ (s : TurnState). s.kept.deframer.next) r.takes.stays) ∙ none) (subst (λ (xs : List ℕ). xs ++ octets_read r.reads.read ≢ []) (sym unfed) some) in
+            let less = r.reads.fewer (sym (ap (λ (s : TurnState). s.machine.deframer.next) r.takes.stays) ∙ none) (subst (λ (xs : List ℕ). xs ++ octets_read r.reads.read ≢ []) (sym unfed) some) in
             let size = ap length unfed in
             let end = ap length last in
             omega (arith, less, size, end);
@@ -170,13 +170,13 @@ module _ {s0 s1 s2 s3 s4 s5 s6 s7 : TurnState} {m1 m2 m3 m4 m5 m6 m7 : Bool} whe
 
   pub takes_steps : (r : Run s0 s1 s2 s3 s4 s5 s6 s7 m1 m2 m3 m4 m5 m6 m7) (b : Beginning) (past : List Act) → StandingFits b s0 past → TakesSteps b (view_of s0) (view_of s7) (all_exchange r) past (all_acts r)
   takes_steps r b past f =
-      let lines : s1.kept.unannounced ≡ s2.kept.unannounced = sym (ap (λ (s : TurnState). s.kept.unannounced) r.checks.stays) in
+      let lines : s1.machine.unannounced ≡ s2.machine.unannounced = sym (ap (λ (s : TurnState). s.machine.unannounced) r.checks.stays) in
       let looked = r.checks.looked b past (fits_one r b past f) (not_lost b s0 past r.sound_first f) in
       record {
         offers = offers_what_waits b s0 s7 (all_exchange r) past f (went_all r).offers;
         checks = r.checks.acts;
         are_checks = r.checks.are_checks;
-        held = holds_of b (view_of s2) (record (view_of s7) { unannounced = s1.kept.unannounced }) (after past r.checks.acts) lines looked;
+        held = holds_of b (view_of s2) (record (view_of s7) { unannounced = s1.machine.unannounced }) (after past r.checks.acts) lines looked;
         rest = r.gets.acts ++ r.takes.acts;
         acts_are =
             append_assoc (r.checks.acts ++ r.sends.acts) r.gets.acts r.takes.acts

@@ -2,9 +2,10 @@
 use Rattle.std.proofs.Common.{ap, sym, ◌∙◌, subst, arith, ⊎_elim}
 use Rattle.std.proofs.lemmas.Bool.{and_from, and_parts, eqb-true, eqb-false, lt-ltb}
 use Rattle.std.proofs.lemmas.List.{append_assoc, append-nil, length-append, get_or-set_same, get_or-set_other}
+use Rattle.std.proofs.Math.Seq.{drop-append_seam, take-append_seam}
 use Rattle.std.proofs.lemmas.List.Elements.{filter-append}
 use Rattle.std.proofs.lemmas.List.Folds.{list_all-append}
-use Rattle.std.specs.Prelude.{◌≡◌, ◌≢◌, ℕ, zero, suc, replicate, ◌+◌, ◌≤◌, ◌<◌, ◌==◌, ◌||◌, ◌⊎◌, nat_lt, Bool, true, false, List, [], ◌∷◌, ◌++◌, length, take, refl, slice_index_or, slice_set}
+use Rattle.std.specs.Prelude.{◌≡◌, ◌≢◌, ℕ, zero, suc, replicate, ◌+◌, ◌≤◌, ◌<◌, ◌==◌, ◌||◌, ◌⊎◌, nat_lt, Bool, true, false, List, [], ◌∷◌, ◌++◌, length, take, drop, refl, slice_index_or, slice_set}
 use Rattle.std.specs.List.{list_all}
 use Rattle.modem_history.specs.Sessions.{at_place}
 use Rattle.modem_history.specs.EveryTurn.{count_at}
@@ -346,3 +347,59 @@ pub offers_none : {X : Type 0} (key : X → ℕ) (at : ℕ → ℕ → Type 0) (
 unfolding OffersFirst
 offers_none key at known now held old new none before waited left earlier o =
     absurd (let all = ap length o.are ∙ length-append o.waits o.stay in let left_are = o.left_are in omega arith)
+
+-- where of no known key that isn't held up any waits, the others needn't be offered
+pub placed_early : {X : Type 0} (key : X → ℕ) (at : ℕ → ℕ → Type 0) (known : ℕ → Type 0) (before now : Rings X) (held : List Bool) (waited new turned : List X) (left : ℕ) (moved : Bool)
+    → OneFewer key at known before now held waited new left moved → ((n : ℕ) → known n → slice_index_or held n false ≡ false → of_key key n new ≡ []) → turned ≡ drop left new ++ take left new
+    → Placed key at known before now waited turned moved
+placed_early {X} key at known before now held waited new turned left moved o none is =
+    let p = o.placing in
+    let all : o.stay ++ o.waits ≡ turned = sym (is ∙ apart) in
+    record {
+      each = λ n i a. subst (λ (ys : List X). Gave key before.given now.given waited ys n i) all (p.each n i a);
+      in_order = subst (Stay key waited) all p.in_order;
+      elsewhere = p.elsewhere;
+      full = λ n i a kn some. by_held n i a kn some all (slice_index_or held n false) refl;
+      counts = λ n i a kn. by_count n i a kn all (slice_index_or held n false) refl;
+      all = λ q h. sym (ap (list_all q) all) ∙ p.all q h;
+      fewer = subst (λ (ys : List X). length ys ≤ length waited) all p.fewer;
+      grows = p.grows;
+      moved_is = p.moved_is;
+    }
+  where
+    apart : drop left new ++ take left new ≡ o.stay ++ o.waits
+    apart =
+        ap (λ (ys : List X). drop left ys ++ take left ys) o.are
+        ∙ subst (λ (n : ℕ). drop n (o.waits ++ o.stay) ++ take n (o.waits ++ o.stay) ≡ o.stay ++ o.waits) o.left_are
+        (ap (λ (ys : List X). ys ++ take (length o.waits) (o.waits ++ o.stay)) (drop-append_seam o.waits o.stay) ∙ ap (λ (ys : List X). o.stay ++ ys) (take-append_seam o.waits o.stay))
+
+    parts : (n : ℕ) (xs ys : List X) → of_key key n (xs ++ ys) ≡ of_key key n xs ++ of_key key n ys
+    parts n xs ys = filter-append (λ (x : X). key x == n) xs ys
+
+    -- none of a key at all where it isn't held up
+    none_at : (n : ℕ) → known n → slice_index_or held n false ≡ false → of_key key n (o.stay ++ o.waits) ≡ []
+    none_at n kn e =
+        let waits : of_key key n o.waits ++ of_key key n o.stay ≡ [] = sym (parts n o.waits o.stay) ∙ (sym (ap (of_key key n) o.are) ∙ none n kn e) in
+        parts n o.stay o.waits ∙ (ap (λ (ys : List X). ys ++ of_key key n o.waits) (o.placing.free_way n kn e) ∙ front_none (of_key key n o.waits) (of_key key n o.stay) waits)
+      where
+        front_none : (xs ys : List X) → xs ++ ys ≡ [] → xs ≡ []
+        front_none [] ys e = refl
+        front_none (x ∷ xs) ys e = absurd (let long = ap (length {A = X}) e in omega (arith, long))
+
+    by_held : (n i : ℕ) → at n i → known n → of_key key n turned ≢ [] → o.stay ++ o.waits ≡ turned → (c : Bool) → slice_index_or held n false ≡ c → slice_index_or now.free i 0 ≡ 0
+    by_held n i a kn some are true e = o.placing.full n i a kn e
+    by_held n i a kn some are false e = absurd (some (sym (ap (of_key key n) are) ∙ none_at n kn e))
+
+    first_counts : (ys zs : List X) → ys ≢ [] → length (take 1 (ys ++ zs)) ≡ 1
+    first_counts [] zs some = absurd (some refl)
+    first_counts (y ∷ ys) zs some = refl
+
+    by_count : (n i : ℕ) → at n i → known n → o.stay ++ o.waits ≡ turned → (c : Bool) → slice_index_or held n false ≡ c → count_at i now.back ≡ counted (count_at i before.back) (length (take 1 (of_key key n turned)))
+    by_count n i a kn are true e =
+        o.placing.counts n i a kn
+        ∙ (ap (λ (b : Bool). counted (count_at i before.back) (one_if b)) e
+        ∙ ap (counted (count_at i before.back)) (sym (sym (ap (λ (ys : List X). length (take 1 (of_key key n ys))) are) ∙ (ap (λ (ys : List X). length (take 1 ys)) (parts n o.stay o.waits) ∙ first_counts (of_key key n o.stay) (of_key key n o.waits) (o.placing.held_up n e)))))
+    by_count n i a kn are false e =
+        o.placing.counts n i a kn
+        ∙ (ap (λ (b : Bool). counted (count_at i before.back) (one_if b)) e
+        ∙ ap (counted (count_at i before.back)) (sym (sym (ap (λ (ys : List X). length (take 1 (of_key key n ys))) are) ∙ ap (λ (ys : List X). length (take 1 ys)) (none_at n kn e))))

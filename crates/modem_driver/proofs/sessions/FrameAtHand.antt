@@ -21,12 +21,12 @@ use Rattle.modem_driver.specs.Holding.{HoldsFit, KeepsHeld}
 use Rattle.modem_driver.specs.Endings.{HasCome, asker_of, course_after, is_answered, is_stop}
 use Rattle.modem_driver.specs.Receiving.{HasRoom}
 use Rattle.modem_driver.specs.Running.{CoreIsIdle}
-use Rattle.modem_driver.specs.SessionStates.{Kept, seen_by, end_of}
+use Rattle.modem_driver.specs.SessionStates.{Machine, seen_by, end_of}
 use Rattle.modem_driver.specs.TurnSteps.{Leads, Adds, AddsAll}
-use Rattle.modem_driver.specs.GettingSteps.{KeptGets}
+use Rattle.modem_driver.specs.GettingSteps.{MachineGets}
 use Rattle.modem_driver.specs.WaitingLists.{WaitingLists, Keeps}
 use Rattle.modem_driver.proofs.sessions.LongerHistories.{gots_after, losses_after, lost_after}
-use Rattle.modem_driver.proofs.sessions.CoreCalls.{FitsKept, IsBare, KeepsMore, call_fits, few_told, may_come}
+use Rattle.modem_driver.proofs.sessions.CoreCalls.{FitsMachine, IsBare, KeepsMore, call_fits, few_told, may_come}
 use Rattle.modem_driver.proofs.sessions.StopProgress.{come_noted, ended_after, grows_none}
 use Rattle.modem_driver.proofs.sessions.OneBacklog.{said_may}
 use Rattle.modem_driver.proofs.sessions.FrameLines.{few_called}
@@ -44,18 +44,18 @@ abbrev came : Frame → List Act → List Act
 came f acts = Got f ∷ drop 1 acts
 
 -- what handling it comes to
-record Gotten (b : Beginning) (l : LineView) (d : DriverView) (old new : Kept) (past : List Act) (f : Frame) (acts : List Act) : Type 0 where
-  fits : FitsKept b l d new (after past (came f acts))
+record Gotten (b : Beginning) (l : LineView) (d : DriverView) (old new : Machine) (past : List Act) (f : Frame) (acts : List Act) : Type 0 where
+  fits : FitsMachine b l d new (after past (came f acts))
   adds : (waiting : List Urc) → Adds old new waiting 1 (came f acts)
   got : gots (came f acts) ≡ f ∷ []
 
-gotten : (old : Kept) (core : Core) (fed : Deframing) (room : ℕ) (w : WaitingLists) (acts : List Act) (f : Frame)
+gotten : (old : Machine) (core : Core) (fed : Deframing) (room : ℕ) (w : WaitingLists) (acts : List Act) (f : Frame)
     → Handles old.core core (Got f) acts → KeepsHeld old.core core (Got f) acts → Keeps (record { outcomes = old.unplaced; lines = old.unannounced; room = room }) w acts → length f.info ≤ room
     → old.deframer.next ≡ Some f → fed.n1 ≡ old.deframer.n1 → HandsOver old.deframer fed
-    → (b : Beginning) (l : LineView) (d : DriverView) (past : List Act) → FitsKept b l d old past → Gotten b l d old (record old { core = core; deframer = fed; unplaced = w.outcomes; unannounced = w.lines; course = course_after old.course (is_answered (option_map asker_of (find is_stop old.core.hand)) acts) }) past f acts
+    → (b : Beginning) (l : LineView) (d : DriverView) (past : List Act) → FitsMachine b l d old past → Gotten b l d old (record old { core = core; deframer = fed; unplaced = w.outcomes; unannounced = w.lines; course = course_after old.course (is_answered (option_map asker_of (find is_stop old.core.hand)) acts) }) past f acts
 unfolding Handles KeepsHeld
 gotten old core fed room w acts f handles held keeps enough at_hand bound over b l d past fit =
-    let new : Kept = record old { core = core; deframer = fed; unplaced = w.outcomes; unannounced = w.lines; course = course_after old.course (is_answered (option_map asker_of (find is_stop old.core.hand)) acts) } in
+    let new : Machine = record old { core = core; deframer = fed; unplaced = w.outcomes; unannounced = w.lines; course = course_after old.course (is_answered (option_map asker_of (find is_stop old.core.hand)) acts) } in
     let s = driving b in
     let a = Got f in
     let may = may_come b l d old past a fit refl in
@@ -88,8 +88,8 @@ gotten old core fed room w acts f handles held keeps enough at_hand bound over b
     let told = few_told b l d old new past more a fit (got_bare f past) here said in
     let fewer = fit.session.requests.few in
     record {
-      fits = subst (λ (xs : List Act). FitsKept b l d new (after past xs)) (sym same)
-          (call_fits b l d old new past more a fit (got_bare f past) here hold said (calls_hear s (seen s past) a) keep refl refl refl come lost received);
+      fits = subst (λ (xs : List Act). FitsMachine b l d new (after past xs)) (sym same)
+          (call_fits b l d old new past more a fit (got_bare f past) here hold fit.inside.delays_are said (calls_hear s (seen s past) a) keep refl refl refl come lost received);
       adds = λ waiting. subst (Adds old new waiting 1) (sym same) (record {
         outcomes = keep.outcomes (omega (arith, told, fewer));
         lines = keep.lines;
@@ -99,11 +99,11 @@ gotten old core fed room w acts f handles held keeps enough at_hand bound over b
       got = ap gots same ∙ ap (λ (fs : List Frame). fs ++ f ∷ []) (said_none more said);
     }
 
-pub gets_moved : (old : Kept) (core : Core) (fed : Deframing) (room : ℕ) (w : WaitingLists) (acts : List Act) (f : Frame)
+pub gets_moved : (old : Machine) (core : Core) (fed : Deframing) (room : ℕ) (w : WaitingLists) (acts : List Act) (f : Frame)
     → Handles old.core core (Got f) acts → KeepsHeld old.core core (Got f) acts → Keeps (record { outcomes = old.unplaced; lines = old.unannounced; room = room }) w acts → length f.info ≤ room
     → old.deframer.next ≡ Some f → fed.n1 ≡ old.deframer.n1 → HandsOver old.deframer fed
-    → KeptGets old (record old { core = core; deframer = fed; unplaced = w.outcomes; unannounced = w.lines; course = course_after old.course (is_answered (option_map asker_of (find is_stop old.core.hand)) acts) }) true
-unfolding KeptGets Leads AddsAll
+    → MachineGets old (record old { core = core; deframer = fed; unplaced = w.outcomes; unannounced = w.lines; course = course_after old.course (is_answered (option_map asker_of (find is_stop old.core.hand)) acts) }) true
+unfolding MachineGets Leads AddsAll
 gets_moved old core fed room w acts f handles held keeps enough at_hand bound over l d = record {
   acts = came f acts;
   leads = λ b past fit. (gotten old core fed room w acts f handles held keeps enough at_hand bound over b l d past fit).fits;
@@ -125,17 +125,17 @@ keeps_from m w outcomes lines acts same_outcomes same_lines keeps =
 -- ## Where it isn't handled
 
 -- why it isn't: none is at hand, or there is no room for what it calls for
-pub record Remains (v : Kept) : Type 0 where
+pub record Remains (v : Machine) : Type 0 where
   pub busy : (f : Frame) → v.deframer.next ≡ Some f → ¬ CoreIsIdle v.core
   pub full : (f : Frame) → v.deframer.next ≡ Some f → HasRoom v.core (Got f) false
 
-pub none_at_hand : (v : Kept) → v.deframer.next ≡ None → Remains v
+pub none_at_hand : (v : Machine) → v.deframer.next ≡ None → Remains v
 none_at_hand v none = record { busy = λ f e. absurd (apart f (sym none ∙ e)); full = λ f e. absurd (apart f (sym none ∙ e)) }
   where
     apart : (f : Frame) → None ≡ Some f → ⊥
     apart f e = cc
 
-pub stays_at_hand : (v : Kept) (f : Frame) → Some f ≡ v.deframer.next → ¬ CoreIsIdle v.core → HasRoom v.core (Got f) false → Remains v
+pub stays_at_hand : (v : Machine) (f : Frame) → Some f ≡ v.deframer.next → ¬ CoreIsIdle v.core → HasRoom v.core (Got f) false → Remains v
 stays_at_hand v f at_hand idle full = record {
   busy = λ g e. idle;
   full = λ g e. subst (λ (x : Frame). HasRoom v.core (Got x) false) (same f g (at_hand ∙ e)) full;
@@ -148,8 +148,8 @@ no_frames : (n q : ℕ) (fs : List Frame) (gone : Bool) → have_room n q (if go
 no_frames n q fs false h = h
 no_frames n q fs true h = absurd (let x : true ≡ false = h in cc)
 
-still_gets : (old : Kept) → Remains old → KeptGets old old false
-unfolding KeptGets Leads AddsAll HasRoom
+still_gets : (old : Machine) → Remains old → MachineGets old old false
+unfolding MachineGets Leads AddsAll HasRoom
 still_gets old stays l d = record {
   acts = [];
   leads = λ b past fit. fit;
@@ -165,10 +165,10 @@ still_gets old stays l d = record {
   stays = refl;
 }
 
-pub gets_none : (old : Kept) (core : Core) (fed : Deframing) (outcomes : List Outcome) (lines : List Urc) → Remains old → core ≡ old.core → fed ≡ old.deframer → outcomes ≡ old.unplaced → lines ≡ old.unannounced
-    → KeptGets old (record old { core = core; deframer = fed; unplaced = outcomes; unannounced = lines }) false
+pub gets_none : (old : Machine) (core : Core) (fed : Deframing) (outcomes : List Outcome) (lines : List Urc) → Remains old → core ≡ old.core → fed ≡ old.deframer → outcomes ≡ old.unplaced → lines ≡ old.unannounced
+    → MachineGets old (record old { core = core; deframer = fed; unplaced = outcomes; unannounced = lines }) false
 gets_none old core fed outcomes lines stays same_core same_fed same_outcomes same_lines =
-    subst (λ (v : Core). KeptGets old (record old { core = v; deframer = fed; unplaced = outcomes; unannounced = lines }) false) (sym same_core)
-    (subst (λ (v : Deframing). KeptGets old (record old { deframer = v; unplaced = outcomes; unannounced = lines }) false) (sym same_fed)
-    (subst (λ (v : List Outcome). KeptGets old (record old { unplaced = v; unannounced = lines }) false) (sym same_outcomes)
-    (subst (λ (v : List Urc). KeptGets old (record old { unannounced = v }) false) (sym same_lines) (still_gets old stays))))
+    subst (λ (v : Core). MachineGets old (record old { core = v; deframer = fed; unplaced = outcomes; unannounced = lines }) false) (sym same_core)
+    (subst (λ (v : Deframing). MachineGets old (record old { deframer = v; unplaced = outcomes; unannounced = lines }) false) (sym same_fed)
+    (subst (λ (v : List Outcome). MachineGets old (record old { unplaced = v; unannounced = lines }) false) (sym same_outcomes)
+    (subst (λ (v : List Urc). MachineGets old (record old { unannounced = v }) false) (sym same_lines) (still_gets old stays))))

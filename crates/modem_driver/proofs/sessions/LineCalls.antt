@@ -9,8 +9,8 @@ use Rattle.serial_line.specs.Counts.{one_more, counted_if_none}
 use Rattle.modem_history.specs.EveryTurn.{counted_none}
 use Rattle.modem_history.specs.Turns.{counted}
 use Rattle.modem_history.specs.Sessions.{LineView}
-use Rattle.modem_driver.specs.SessionStates.{Kept, KeptGoes, KeptMoves}
-use Rattle.modem_driver.specs.SessionTurns.{Feeds, KeptReads, KeptWrites}
+use Rattle.modem_driver.specs.SessionStates.{Machine, MachineGoes, MachineMoves}
+use Rattle.modem_driver.specs.SessionTurns.{Feeds, MachineReads, MachineWrites}
 use Rattle.modem_driver.specs.TurnSteps.{Leads}
 use Rattle.modem_driver.proofs.sessions.LineOctets.{feed_goes, read_goes, write_goes, fault_goes}
 
@@ -54,8 +54,8 @@ none_before (Some f) p stays e = absurd (both (stays f refl) e)
 
 -- ## Writing
 
-pub writes_none : (l : LineView) (old : Kept) → old.unwritten ≡ [] → KeptWrites l l old old false
-unfolding KeptWrites Leads
+pub writes_none : (l : LineView) (old : Machine) → old.unwritten ≡ [] → MachineWrites l l old old false
+unfolding MachineWrites Leads
 writes_none l old none d = record {
   write = None;
   leads = λ b past f. f;
@@ -72,9 +72,9 @@ writes_none l old none d = record {
   stays = refl;
 }
 
-pub writes_some : (l m : LineView) (old : Kept) (count : ℕ) → old.unwritten ≢ [] → count ≤ length old.unwritten → m.received ≡ l.received → m.sent ≡ l.sent ++ take count old.unwritten → m.failures ≡ l.failures → m.calls ≡ one_more l.calls → m.stalled_writes ≡ counted_if_none (length old.unwritten) count l.stalled_writes → m.empty_reads ≡ l.empty_reads
-    → KeptWrites l m old (record old { unwritten = drop count old.unwritten }) (nat_lt 0 count)
-unfolding KeptWrites Leads KeptMoves
+pub writes_some : (l m : LineView) (old : Machine) (count : ℕ) → old.unwritten ≢ [] → count ≤ length old.unwritten → m.received ≡ l.received → m.sent ≡ l.sent ++ take count old.unwritten → m.failures ≡ l.failures → m.calls ≡ one_more l.calls → m.stalled_writes ≡ counted_if_none (length old.unwritten) count l.stalled_writes → m.empty_reads ≡ l.empty_reads
+    → MachineWrites l m old (record old { unwritten = drop count old.unwritten }) (nat_lt 0 count)
+unfolding MachineWrites Leads MachineMoves
 writes_some l m old count some few received sent failures calls stalled empty d = record {
   write = Some (record { offered = old.unwritten; count = count });
   leads = λ b past f. write_goes l m old count received sent failures b d past f;
@@ -91,9 +91,9 @@ writes_some l m old count some few received sent failures calls stalled empty d 
   stays = refl;
 }
 
-pub writes_failing : (l m : LineView) (old : Kept) → old.unwritten ≢ [] → m.received ≡ l.received → m.sent ≡ l.sent → m.failures ≡ l.failures + 1 → m.calls ≡ one_more l.calls → m.empty_reads ≡ l.empty_reads
-    → KeptWrites l m old (record old { faulty = true }) false
-unfolding KeptWrites Leads KeptMoves
+pub writes_failing : (l m : LineView) (old : Machine) → old.unwritten ≢ [] → m.received ≡ l.received → m.sent ≡ l.sent → m.failures ≡ l.failures + 1 → m.calls ≡ one_more l.calls → m.empty_reads ≡ l.empty_reads
+    → MachineWrites l m old (record old { faulty = true }) false
+unfolding MachineWrites Leads MachineMoves
 writes_failing l m old some received sent failures calls empty d = record {
   write = Some (record { offered = old.unwritten; count = 0 });
   leads = λ b past f. fault_goes l m old received sent failures b d past f;
@@ -119,10 +119,10 @@ left_over xs count few = let rest = length-drop count xs in omega (arith, rest, 
 fed_more : (c rest all : ℕ) → rest + c ≡ all → nat_lt 0 c ≡ nat_lt rest all
 fed_more c rest all e = more_by rest c ∙ ap (nat_lt rest) e
 
-fed_there : (l : LineView) (old : Kept) (fed : Deframing) (count : ℕ) → old.unfed ≢ [] → TakesIn old.deframer (take count old.unfed) fed → fed.n1 ≡ old.deframer.n1 → count ≤ length old.unfed
+fed_there : (l : LineView) (old : Machine) (fed : Deframing) (count : ℕ) → old.unfed ≢ [] → TakesIn old.deframer (take count old.unfed) fed → fed.n1 ≡ old.deframer.n1 → count ≤ length old.unfed
     → (old.deframer.next ≡ None → 0 < length old.unfed → 0 < count) → ((f : Frame) → old.deframer.next ≡ Some f → fed.next ≡ Some f)
-    → KeptReads l l old (record old { unfed = drop count old.unfed; deframer = fed }) (nat_lt 0 count)
-unfolding KeptReads Leads KeptGoes
+    → MachineReads l l old (record old { unfed = drop count old.unfed; deframer = fed }) (nat_lt 0 count)
+unfolding MachineReads Leads MachineGoes
 fed_there l old fed count some takes bound few more stays d = record {
   read = None;
   leads = λ b past f. feed_goes old fed count takes bound b l d past f;
@@ -149,12 +149,12 @@ fed_there l old fed count some takes bound few more stays d = record {
     no_fewer : count ≡ 0 → 0 < count → ⊥
     no_fewer e h = omega (arith, e, h)
 
-pub reads_fed : (l : LineView) (old new : Kept) (count : ℕ) → old.unfed ≢ [] → Feeds old new count → KeptReads l l old new (nat_lt 0 count)
+pub reads_fed : (l : LineView) (old new : Machine) (count : ℕ) → old.unfed ≢ [] → Feeds old new count → MachineReads l l old new (nat_lt 0 count)
 reads_fed l old new count some k =
-    subst (λ (v : Kept). KeptReads l l old v (nat_lt 0 count)) (sym k.stays) (fed_there l old new.deframer count some k.takes k.bound k.few k.some k.frame_stays)
+    subst (λ (v : Machine). MachineReads l l old v (nat_lt 0 count)) (sym k.stays) (fed_there l old new.deframer count some k.takes k.bound k.few k.some k.frame_stays)
 
-pub reads_none : (l m : LineView) (old : Kept) → old.unfed ≡ [] → m.received ≡ l.received ++ [] → m.sent ≡ l.sent → m.failures ≡ l.failures → m.calls ≡ one_more l.calls → m.empty_reads ≡ counted_if_none 512 0 l.empty_reads → m.stalled_writes ≡ l.stalled_writes → KeptReads l m old (record old { unfed = [] }) false
-unfolding KeptReads Leads KeptMoves
+pub reads_none : (l m : LineView) (old : Machine) → old.unfed ≡ [] → m.received ≡ l.received ++ [] → m.sent ≡ l.sent → m.failures ≡ l.failures → m.calls ≡ one_more l.calls → m.empty_reads ≡ counted_if_none 512 0 l.empty_reads → m.stalled_writes ≡ l.stalled_writes → MachineReads l m old (record old { unfed = [] }) false
+unfolding MachineReads Leads MachineMoves
 reads_none l m old none received sent failures calls empty stalled d = record {
   read = Some (record { room = 512; octets = [] });
   leads = λ b past f. read_goes l m old [] none received sent failures b d past f;
@@ -181,8 +181,8 @@ reads_none l m old none received sent failures calls empty stalled d = record {
     or_no true = refl
     or_no false = refl
 
-pub reads_failing : (l m : LineView) (old : Kept) → old.unfed ≡ [] → m.received ≡ l.received → m.sent ≡ l.sent → m.failures ≡ l.failures + 1 → m.calls ≡ one_more l.calls → m.stalled_writes ≡ l.stalled_writes → KeptReads l m old (record old { faulty = true }) false
-unfolding KeptReads Leads KeptMoves
+pub reads_failing : (l m : LineView) (old : Machine) → old.unfed ≡ [] → m.received ≡ l.received → m.sent ≡ l.sent → m.failures ≡ l.failures + 1 → m.calls ≡ one_more l.calls → m.stalled_writes ≡ l.stalled_writes → MachineReads l m old (record old { faulty = true }) false
+unfolding MachineReads Leads MachineMoves
 reads_failing l m old none received sent failures calls stalled d = record {
   read = Some (record { room = 512; octets = [] });
   leads = λ b past f. fault_goes l m old received sent failures b d past f;
@@ -210,10 +210,10 @@ reads_failing l m old none received sent failures calls stalled d = record {
     or_less false = refl
 
 -- octets came, and were given to the deframer at once
-pub reads_some : (l m : LineView) (old : Kept) (came : List ℕ) (fed : Deframing) (count : ℕ) → old.unfed ≡ [] → came ≢ [] → length came ≤ 512 → m.received ≡ l.received ++ came → m.sent ≡ l.sent → m.failures ≡ l.failures → m.calls ≡ one_more l.calls → m.empty_reads ≡ counted_if_none 512 (length came) l.empty_reads → m.stalled_writes ≡ l.stalled_writes
+pub reads_some : (l m : LineView) (old : Machine) (came : List ℕ) (fed : Deframing) (count : ℕ) → old.unfed ≡ [] → came ≢ [] → length came ≤ 512 → m.received ≡ l.received ++ came → m.sent ≡ l.sent → m.failures ≡ l.failures → m.calls ≡ one_more l.calls → m.empty_reads ≡ counted_if_none 512 (length came) l.empty_reads → m.stalled_writes ≡ l.stalled_writes
     → TakesIn old.deframer (take count came) fed → fed.n1 ≡ old.deframer.n1 → count ≤ length came → (old.deframer.next ≡ None → 0 < length came → 0 < count) → ((f : Frame) → old.deframer.next ≡ Some f → fed.next ≡ Some f)
-    → KeptReads l m old (record old { unfed = drop count came; deframer = fed }) true
-unfolding KeptReads Leads KeptMoves KeptGoes
+    → MachineReads l m old (record old { unfed = drop count came; deframer = fed }) true
+unfolding MachineReads Leads MachineMoves MachineGoes
 reads_some l m old came fed count none some few received sent failures calls empty stalled takes bound part more stays d =
     let long : length m.received ≡ length l.received + length came = ap length received ∙ length-append l.received came in
     let least = some_length came some in

@@ -18,10 +18,10 @@ use Rattle.modem_history.specs.Turns.{lines_heard, outcomes_told, may_act, may_f
 use Rattle.modem_history.proofs.calls.CalledActs.{calls_said}
 use Rattle.modem_driver.specs.Cores.{Core, Fits, Handles, GoesOn, RunsUnless}
 use Rattle.modem_driver.specs.Holding.{HoldsFit, KeepsHeld}
-use Rattle.modem_driver.specs.SessionStates.{Kept, KeptGoes, KeptLoses, seen_by, end_of}
+use Rattle.modem_driver.specs.SessionStates.{Machine, MachineGoes, MachineLoses, seen_by, end_of}
 use Rattle.modem_driver.specs.WaitingLists.{WaitingLists, Keeps}
 use Rattle.modem_driver.proofs.sessions.LongerHistories.{gots_after, losses_after, lost_after, taken_after}
-use Rattle.modem_driver.proofs.sessions.CoreCalls.{FitsKept, IsBare, KeepsMore, call_fits, few_told, may_come}
+use Rattle.modem_driver.proofs.sessions.CoreCalls.{FitsMachine, IsBare, KeepsMore, call_fits, few_told, may_come}
 use Rattle.modem_driver.proofs.sessions.StopProgress.{come_on, grows_none}
 use Rattle.modem_driver.proofs.sessions.OneBacklog.{said_may}
 use Rattle.modem_driver.proofs.sessions.ListenedLines.{calls_hear, lines_of_call}
@@ -115,12 +115,12 @@ lost_ends s v =
     ap (λ (fs : List Frame). list_any ends (outcomes_told (map Sent fs ++ tolds v (states_now s v (Lost ∷ map Sent fs)) Lost))) (no_frames s v)
     ∙ later_ends (Unit {0}) v (states_now s v (Lost ∷ [])) Lost v.waiting (λ r _. answer_ends v (states_now s v (Lost ∷ [])) r r.ask) (λ _. tt)
 
-pub loses : (old : Kept) (core : Core) (room : ℕ) (w : WaitingLists) (acts : List Act)
+pub loses : (old : Machine) (core : Core) (room : ℕ) (w : WaitingLists) (acts : List Act)
     → Handles old.core core Lost acts → KeepsHeld old.core core Lost acts → Keeps (record { outcomes = old.unplaced; lines = old.unannounced; room = room }) w acts → old.faulty ≡ true → old.core.lost ≡ false
-    → KeptLoses old (record old { core = core; unplaced = w.outcomes; unannounced = w.lines })
-unfolding KeptGoes Handles KeepsHeld
+    → MachineLoses old (record old { core = core; unplaced = w.outcomes; unannounced = w.lines })
+unfolding MachineGoes Handles KeepsHeld
 loses old core room w acts handles held keeps faulty live =
-    let new : Kept = record old { core = core; unplaced = w.outcomes; unannounced = w.lines } in
+    let new : Machine = record old { core = core; unplaced = w.outcomes; unannounced = w.lines } in
     record {
       acts = acts;
       goes = λ b l d past f.
@@ -142,8 +142,8 @@ loses old core room w acts handles held keeps faulty live =
             by_fault = λ gone. f.inside.by_fault faulty;
           } in
           let come = come_on b (seen_by l (end_of d) old) (seen_by l (end_of d) new) past (Lost ∷ more) old.course (none_ends (Lost ∷ more) past (taken_after more (Lost ∷ past) said) (lost_ends s (seen s past))) (grows_none (seen_by l (end_of d) old) (seen_by l (end_of d) new) refl refl) f.inside.come in
-          subst (λ (xs : List Act). FitsKept b l d new (after past xs)) (sym on.called)
-          (call_fits b l d old new past more Lost f (lost_bare past) here hold said (calls_hear s (seen s past) Lost) keep refl refl refl come lost
+          subst (λ (xs : List Act). FitsMachine b l d new (after past xs)) (sym on.called)
+          (call_fits b l d old new past more Lost f (lost_bare past) here hold f.inside.delays_are said (calls_hear s (seen s past) Lost) keep refl refl refl come lost
           (received_part b (seen_by l (end_of d) old) (seen_by l (end_of d) new) past (after past (Lost ∷ more)) f.session.received refl refl refl (gots_after more (Lost ∷ past) said)));
       loses = λ b l d past f.
           let s = driving b in

@@ -14,7 +14,9 @@ use Rattle.modem_history.specs.Sessions.{Beginning, LineView, EndView, SessionVi
 use Rattle.modem_driver.specs.Cores.{Core, Fits, IsSettingOf}
 use Rattle.modem_driver.specs.Holding.{HoldsFit}
 use Rattle.modem_driver.specs.Endings.{HasCome}
-use Rattle.modem_driver.specs.SessionStates.{Kept, KeptFits, KeptGoes, KeptMoves, seen_by, end_of}
+use Rattle.modem_driver.specs.WaitingTicks.{AreDelays}
+use Rattle.modem_driver.specs.declared.machine.delays.Delay.{Delay}
+use Rattle.modem_driver.specs.SessionStates.{Machine, MachineFits, MachineGoes, MachineMoves, seen_by, end_of}
 use Rattle.modem_driver.proofs.sessions.StopProgress.{come_on, grows_none, grows_sent}
 use Rattle.modem_driver.proofs.sessions.WaitingDeliveries.{told_part, heard_part, sent_part, received_part}
 
@@ -46,10 +48,10 @@ loss_with b old new past f more = record {
 
 -- ## Feeding
 
-pub feed_goes : (old : Kept) (fed : Deframing) (count : ℕ) → TakesIn old.deframer (take count old.unfed) fed → fed.n1 ≡ old.deframer.n1 → KeptGoes old (record old { unfed = drop count old.unfed; deframer = fed }) []
-unfolding KeptGoes
+pub feed_goes : (old : Machine) (fed : Deframing) (count : ℕ) → TakesIn old.deframer (take count old.unfed) fed → fed.n1 ≡ old.deframer.n1 → MachineGoes old (record old { unfed = drop count old.unfed; deframer = fed }) []
+unfolding MachineGoes
 feed_goes old fed count takes bound b l d past f =
-    let new : Kept = record old { unfed = drop count old.unfed; deframer = fed } in
+    let new : Machine = record old { unfed = drop count old.unfed; deframer = fed } in
     let v = seen_by l (end_of d) old in
     let w = seen_by l (end_of d) new in
     let r = f.session.received in
@@ -77,6 +79,7 @@ feed_goes old fed count takes bound b l d past f =
         sound = f.inside.sound;
         by_fault = f.inside.by_fault;
         one_stop = f.inside.one_stop;
+        delays_are = f.inside.delays_are;
         come = come_on b v w past [] old.course (λ h. h) (grows_none v w refl refl) f.inside.come;
       };
     }
@@ -84,8 +87,8 @@ feed_goes old fed count takes bound b l d past f =
 -- ## Reading and writing
 
 -- what else is kept goes on where no call failed
-inside_sound : (b : Beginning) (l m : LineView) (d : DriverView) (old new : Kept) (past : List Act) → KeptFits b l d old past → new.core ≡ old.core → new.faulty ≡ old.faulty → m.failures ≡ l.failures → HasCome b (seen_by m (end_of d) new) past new.course → KeptFits b m d new past
-inside_sound b l m d old new past f core faulty same come = record {
+inside_sound : (b : Beginning) (l m : LineView) (d : DriverView) (old new : Machine) (past : List Act) → MachineFits b l d old past → new.core ≡ old.core → new.delays ≡ old.delays → new.faulty ≡ old.faulty → m.failures ≡ l.failures → HasCome b (seen_by m (end_of d) new) past new.course → MachineFits b m d new past
+inside_sound b l m d old new past f core delays faulty same come = record {
   setting = subst (λ (c : Core). IsSettingOf (driving b) c) (sym core) f.setting;
   fits = subst (λ (c : Core). Fits c past) (sym core) f.fits;
   holds = subst (λ (c : Core). HoldsFit c past) (sym core) f.holds;
@@ -94,12 +97,13 @@ inside_sound b l m d old new past f core faulty same come = record {
   sound = λ h. same ∙ f.sound (sym faulty ∙ h);
   by_fault = λ h. let before = f.by_fault (sym faulty ∙ h) in omega arith;
   one_stop = f.one_stop;
+  delays_are = subst (λ (ds : List (Option Delay)). AreDelays ds past) (sym delays) f.delays_are;
   come = come;
 }
 
 -- and where one did
-inside_faulty : (b : Beginning) (l m : LineView) (d : DriverView) (old new : Kept) (past : List Act) → KeptFits b l d old past → new.core ≡ old.core → new.faulty ≡ true → m.failures ≡ l.failures + 1 → HasCome b (seen_by m (end_of d) new) past new.course → KeptFits b m d new past
-inside_faulty b l m d old new past f core faulty more come = record {
+inside_faulty : (b : Beginning) (l m : LineView) (d : DriverView) (old new : Machine) (past : List Act) → MachineFits b l d old past → new.core ≡ old.core → new.delays ≡ old.delays → new.faulty ≡ true → m.failures ≡ l.failures + 1 → HasCome b (seen_by m (end_of d) new) past new.course → MachineFits b m d new past
+inside_faulty b l m d old new past f core delays faulty more come = record {
   setting = subst (λ (c : Core). IsSettingOf (driving b) c) (sym core) f.setting;
   fits = subst (λ (c : Core). Fits c past) (sym core) f.fits;
   holds = subst (λ (c : Core). HoldsFit c past) (sym core) f.holds;
@@ -108,6 +112,7 @@ inside_faulty b l m d old new past f core faulty more come = record {
   sound = λ h. no_fault (sym h ∙ faulty);
   by_fault = λ h. by_old old.faulty refl;
   one_stop = f.one_stop;
+  delays_are = subst (λ (ds : List (Option Delay)). AreDelays ds past) (sym delays) f.delays_are;
   come = come;
 }
   where
@@ -118,11 +123,11 @@ inside_faulty b l m d old new past f core faulty more come = record {
     by_old false e = let same = f.sound e in omega arith
     by_old true e = let before = f.by_fault e in omega arith
 
-pub read_goes : (l m : LineView) (old : Kept) (came : List ℕ) → old.unfed ≡ [] → m.received ≡ l.received ++ came → m.sent ≡ l.sent → m.failures ≡ l.failures
-    → KeptMoves l m old (record old { unfed = came })
-unfolding KeptMoves
+pub read_goes : (l m : LineView) (old : Machine) (came : List ℕ) → old.unfed ≡ [] → m.received ≡ l.received ++ came → m.sent ≡ l.sent → m.failures ≡ l.failures
+    → MachineMoves l m old (record old { unfed = came })
+unfolding MachineMoves
 read_goes l m old came none received sent failures b d past f =
-    let new : Kept = record old { unfed = came } in
+    let new : Machine = record old { unfed = came } in
     let v = seen_by l (end_of d) old in
     let w = seen_by m (end_of d) new in
     let r = f.session.received in
@@ -136,29 +141,29 @@ read_goes l m old came none received sent failures b d past f =
             deframes = r.deframes;
           })
           (sent_part b v w past past f.session.sent sent refl refl);
-      inside = inside_sound b l m d old new past f.inside refl refl failures (come_on b v w past [] old.course (λ h. h) (grows_none v w sent refl) f.inside.come);
+      inside = inside_sound b l m d old new past f.inside refl refl refl failures (come_on b v w past [] old.course (λ h. h) (grows_none v w sent refl) f.inside.come);
     }
 
 -- a call that failed changed neither list
-pub fault_goes : (l m : LineView) (old : Kept) → m.received ≡ l.received → m.sent ≡ l.sent → m.failures ≡ l.failures + 1
-    → KeptMoves l m old (record old { faulty = true })
-unfolding KeptMoves
+pub fault_goes : (l m : LineView) (old : Machine) → m.received ≡ l.received → m.sent ≡ l.sent → m.failures ≡ l.failures + 1
+    → MachineMoves l m old (record old { faulty = true })
+unfolding MachineMoves
 fault_goes l m old received sent failures b d past f =
-    let new : Kept = record old { faulty = true } in
+    let new : Machine = record old { faulty = true } in
     let v = seen_by l (end_of d) old in
     let w = seen_by m (end_of d) new in
     record {
       session = session_with b v w past f.session refl refl refl refl (loss_with b v w past f.session (omega arith))
           (received_part b v w past past f.session.received received refl refl refl)
           (sent_part b v w past past f.session.sent sent refl refl);
-      inside = inside_faulty b l m d old new past f.inside refl refl failures (come_on b v w past [] old.course (λ h. h) (grows_none v w sent refl) f.inside.come);
+      inside = inside_faulty b l m d old new past f.inside refl refl refl failures (come_on b v w past [] old.course (λ h. h) (grows_none v w sent refl) f.inside.come);
     }
 
-pub write_goes : (l m : LineView) (old : Kept) (count : ℕ) → m.received ≡ l.received → m.sent ≡ l.sent ++ take count old.unwritten → m.failures ≡ l.failures
-    → KeptMoves l m old (record old { unwritten = drop count old.unwritten })
-unfolding KeptMoves
+pub write_goes : (l m : LineView) (old : Machine) (count : ℕ) → m.received ≡ l.received → m.sent ≡ l.sent ++ take count old.unwritten → m.failures ≡ l.failures
+    → MachineMoves l m old (record old { unwritten = drop count old.unwritten })
+unfolding MachineMoves
 write_goes l m old count received sent failures b d past f =
-    let new : Kept = record old { unwritten = drop count old.unwritten } in
+    let new : Machine = record old { unwritten = drop count old.unwritten } in
     let v = seen_by l (end_of d) old in
     let w = seen_by m (end_of d) new in
     let s = f.session.sent in
@@ -174,5 +179,5 @@ write_goes l m old count received sent failures b d past f =
             written = s.written + count;
             of_last = ap (drop count) s.of_last ∙ drop-drop count s.written (last_octets (given_on past));
           });
-      inside = inside_sound b l m d old new past f.inside refl refl failures (come_on b v w past [] old.course (λ h. h) (grows_sent v w head sent refl) f.inside.come);
+      inside = inside_sound b l m d old new past f.inside refl refl refl failures (come_on b v w past [] old.course (λ h. h) (grows_sent v w head sent refl) f.inside.come);
     }

@@ -1,17 +1,18 @@
 -- Lines are offered to the listeners of their kinds.
 use Rattle.std.proofs.Common.{ap, sym, ◌∙◌, subst, arith, inl, inr, ⊎_elim}
-use Rattle.std.proofs.lemmas.Bool.{eq-eqb}
+use Rattle.std.specs.List.{list_any}
+use Rattle.std.proofs.lemmas.Bool.{eq-eqb, lt-ltb, or_parts}
 use Rattle.std.proofs.lemmas.Bool.Decides.{eqb_tells}
-use Rattle.std.specs.Prelude.{◌≡◌, ◌≢◌, ℕ, zero, suc, ◌+◌, ◌-◌, ◌<◌, ◌==◌, ◌||◌, ◌⊎◌, Bool, true, false, List, [], ◌∷◌, length, refl, slice_index_or, Contains, IsTrue, ◌↔◌}
+use Rattle.std.specs.Prelude.{◌≡◌, ◌≢◌, ℕ, zero, suc, ◌+◌, ◌-◌, ◌<◌, ◌==◌, ◌||◌, ◌⊎◌, Bool, true, false, List, [], ◌∷◌, length, refl, replicate, take, drop, not, nat_lt, ◌&&◌, ◌++◌, slice_index_or, Contains, IsTrue, ◌↔◌}
 use mathlib.Core.Option.{some, some-injective, some-ne-none}
 use lib.ListN.{get_elem?}
 use Rattle.at_text.specs.declared.unsolicited.UrcKind.{UrcKind}
 use Rattle.modem_desk.specs.declared.request.Urc.{Urc}
 use Rattle.modem_desk.specs.Ends.{DriverView, DeskId, Announces, Changes, FallsByOne, RunsOut, RisesByOne, Hears}
 use Rattle.at_text.specs.Kinds.{kind_place}
-use Rattle.modem_driver.specs.Placing.{Placed, OneFewer, OffersFirst, AnnouncesAlone, place_of, IsListenerOf, IsHeard, listener_rings}
+use Rattle.modem_driver.specs.Placing.{LeavesAll, Placed, OneFewer, of_key, OffersFirst, AnnouncesAlone, place_of, IsListenerOf, IsHeard, listener_rings}
 use Rattle.at_text.proofs.SameKinds.{same_place}
-use Rattle.modem_driver.proofs.sessions.FirstOffers.{either, AreApart, GivesOne, FillsUp, placing_first, placed_last}
+use Rattle.modem_driver.proofs.sessions.FirstOffers.{either, none_held, AreApart, GivesOne, FillsUp, placing_first, placed_early, placed_last}
 
 -- ## Listeners of kinds
 
@@ -121,3 +122,40 @@ pub announces_last : (first now : DriverView) (held : List Bool) (waited waits :
 announces_last first now held waited waits left moved none so =
     placed_last place_of (IsListenerOf first.desk.kinds) (IsHeard first.desk.kinds) (listener_rings first) (listener_rings now) held waited waits moved
     (subst (λ (n : ℕ). OneFewer place_of (IsListenerOf first.desk.kinds) (IsHeard first.desk.kinds) (listener_rings first) (listener_rings now) held waited waits n moved) none so.fewer)
+
+-- where none waits there is nothing to be done
+pub announces_none : (d : DriverView) (waited : List Urc) → waited ≡ [] → Placed place_of (IsListenerOf d.desk.kinds) (IsHeard d.desk.kinds) (listener_rings d) (listener_rings d) waited waited false
+announces_none d waited none =
+    announces_last d d (replicate 263 false) waited waited (0 - 0) false refl (announces_first d (replicate 263 false) waited 0 (none_held 263) (sym (ap (length {A = Urc}) none)))
+
+-- and where those that are left needn't be offered
+pub announces_early : (first now : DriverView) (held : List Bool) (waited waits turned : List Urc) (left : ℕ) (moved : Bool) → AnnouncesSo first now held waited waits left moved → LeavesAll now.desk.kinds held waits
+    → turned ≡ drop left waits ++ take left waits → Placed place_of (IsListenerOf first.desk.kinds) (IsHeard first.desk.kinds) (listener_rings first) (listener_rings now) waited turned moved
+announces_early first now held waited waits turned left moved so leaves is =
+    placed_early place_of (IsListenerOf first.desk.kinds) (IsHeard first.desk.kinds) (listener_rings first) (listener_rings now) held waited waits turned left moved so.fewer
+    (λ n heard free.
+    let known : Contains now.desk.kinds heard.kind = subst (λ (k : DeskId). Contains k.kinds heard.kind) (sym so.alone.desk) heard.listened in
+    subst (λ (m : ℕ). of_key place_of m waits ≡ []) heard.is_place
+    (leaves heard.kind known (subst (λ (m : ℕ). slice_index_or held m false ≡ false) (sym heard.is_place) free)))
+    is
+
+-- what a look at the counts tells
+pub leaves_all : (kinds : List UrcKind) (held : List Bool) (lines : List Urc) (r : Bool) → r ≡ list_any (λ (k : UrcKind). not (slice_index_or held (kind_place k) false) && nat_lt 0 (length (of_key place_of (kind_place k) lines))) kinds
+    → r ≡ false → LeavesAll kinds held lines
+leaves_all kinds held lines r is none k known free =
+    no_items (of_key place_of (kind_place k) lines)
+    (no_more (slice_index_or held (kind_place k) false) (nat_lt 0 (length (of_key place_of (kind_place k) lines))) free
+    (none_any (λ (m : UrcKind). not (slice_index_or held (kind_place m) false) && nat_lt 0 (length (of_key place_of (kind_place m) lines))) kinds k known (sym is ∙ none)))
+  where
+    no_items : (us : List Urc) → nat_lt 0 (length us) ≡ false → us ≡ []
+    no_items [] e = refl
+    no_items (u ∷ us) e = absurd (is_false (nat_lt 0 (length (u ∷ us))) e (lt-ltb 0 (length (u ∷ us)) (omega arith)))
+
+    no_more : (b c : Bool) → b ≡ false → (not b && c) ≡ false → c ≡ false
+    no_more true c e h = cc
+    no_more false c e h = h
+
+    none_any : (p : UrcKind → Bool) (ks : List UrcKind) (m : UrcKind) → Contains ks m → list_any p ks ≡ false → p m ≡ false
+    none_any p [] m c e = absurd (let lt : c.0 < 0 = c.1 in omega arith)
+    none_any p (x ∷ ks) m (zero, lt, same) e = sym (ap p same) ∙ (or_parts (p x) (list_any p ks) e).0
+    none_any p (x ∷ ks) m (suc i, lt, same) e = none_any p ks m (i, omega arith, same) (or_parts (p x) (list_any p ks) e).1

@@ -22,17 +22,19 @@ use Rattle.modem_history.specs.Lawful.{Lawful, Complete, IsNext, When, owed}
 use Rattle.modem_history.specs.Wholes.{taken_requests}
 use Rattle.modem_history.specs.Sessions.{Beginning, LineView, TakesWithRoom, driving, gots, given_on, octets_of_frames, last_octets, heard_as}
 use Rattle.modem_history.specs.Turns.{outcomes_told, lines_heard, may_act}
+use Rattle.modem_driver.specs.WaitingTicks.{AreDelays}
+use Rattle.modem_driver.specs.declared.machine.delays.Delay.{Delay}
 use Rattle.modem_driver.specs.Cores.{Core}
 use Rattle.modem_driver.specs.CoreGoing.{StandsIn, GoesOut, CoreGoesOn, gone_on}
 use Rattle.modem_history.specs.EveryTurn.{acts_out, octets_out, goes_in}
 use Rattle.modem_history.specs.GoingOut.{SendsInTurn, next_out, out_by, next_to_send, data_of, with_out, after_out}
 use Rattle.modem_driver.specs.Holding.{HoldsFit, KeepsHeldOut}
 use Rattle.modem_driver.specs.Running.{CoreIsIdle}
-use Rattle.modem_driver.specs.SessionStates.{Kept, seen_by, end_of}
+use Rattle.modem_driver.specs.SessionStates.{Machine, seen_by, end_of}
 use Rattle.modem_driver.specs.TurnSteps.{SendsOn, AddsAll, Leads, is_more, turn_state, view_of}
-use Rattle.modem_driver.specs.SendingSteps.{KeptSends}
+use Rattle.modem_driver.specs.SendingSteps.{MachineSends}
 use Rattle.modem_driver.proofs.sessions.LongerHistories.{has_listener}
-use Rattle.modem_driver.proofs.sessions.CoreCalls.{FitsKept, is_run}
+use Rattle.modem_driver.proofs.sessions.CoreCalls.{FitsMachine, is_run}
 use Rattle.modem_driver.proofs.sessions.StopProgress.{come_on, grows_none}
 use Rattle.modem_driver.proofs.sessions.WaitingDeliveries.{told_part, heard_part, received_part}
 use Rattle.modem_driver.proofs.sessions.QueuedInformation.{queue_plain}
@@ -160,22 +162,26 @@ out_few : (c : Bool) (f : Frame) → length (gots (out_act c f ∷ [])) ≤ 0
 out_few true f = omega arith
 out_few false f = omega arith
 
+delays_out : (delays : List (Option Delay)) (c : Bool) (f : Frame) (past : List Act) → AreDelays delays past → AreDelays delays (out_act c f ∷ past)
+delays_out delays true f past are = are
+delays_out delays false f past are = are
+
 counts : (c : Bool) (f : Frame) → c ≡ list_any is_more (out_act c f ∷ [])
 counts true f = refl
 counts false f = refl
 
 -- ## The step
 
-pub stands_in : (b : Beginning) (l : LineView) (d : DriverView) (k : Kept) (past : List Act) → FitsKept b l d k past → StandsIn (driving b) k.core past
+pub stands_in : (b : Beginning) (l : LineView) (d : DriverView) (k : Machine) (past : List Act) → FitsMachine b l d k past → StandsIn (driving b) k.core past
 stands_in b l d k past f = record { setting = f.inside.setting; fits = f.inside.fits; run = is_run b l d k past f }
 
-out_fits : (old : Kept) (c : Bool) (f : Frame) (out : List ℕ) → old.unwritten ≡ [] → length f.info ≤ 1024 → GoesOut old.core (Some (with_freshness c f)) → CoreGoesOn old.core → KeepsHeldOut old.core → (length f.info ≤ most_info 1024 f.kind → out ≡ spelled f)
-    → (b : Beginning) (l : LineView) (d : DriverView) (past : List Act) → FitsKept b l d old past → FitsKept b l d (record old { core = gone_on old.core; unwritten = out }) (out_act c f ∷ past)
+out_fits : (old : Machine) (c : Bool) (f : Frame) (out : List ℕ) → old.unwritten ≡ [] → length f.info ≤ 1024 → GoesOut old.core (Some (with_freshness c f)) → CoreGoesOn old.core → KeepsHeldOut old.core → (length f.info ≤ most_info 1024 f.kind → out ≡ spelled f)
+    → (b : Beginning) (l : LineView) (d : DriverView) (past : List Act) → FitsMachine b l d old past → FitsMachine b l d (record old { core = gone_on old.core; unwritten = out }) (out_act c f ∷ past)
 unfolding GoesOut CoreGoesOn KeepsHeldOut
 out_fits old c f out none short goes on holds writes b l d past fit =
     let s = driving b in
     let a = out_act c f in
-    let new : Kept = record old { core = gone_on old.core; unwritten = out } in
+    let new : Machine = record old { core = gone_on old.core; unwritten = out } in
     let v = seen_by l (end_of d) old in
     let w = seen_by l (end_of d) new in
     let stands = stands_in b l d old past fit in
@@ -225,17 +231,18 @@ out_fits old c f out none short goes on holds writes b l d past fit =
         sound = fit.inside.sound;
         by_fault = fit.inside.by_fault;
         one_stop = subst (λ (qs : List Request). length (filter is_stop qs) ≤ 1) (sym more.hand_is) fit.inside.one_stop;
+        delays_are = delays_out old.delays c f past fit.inside.delays_are;
         come = come_on b v w past (a ∷ []) old.course (none_ends (a ∷ []) past more.taken_is (ap (list_any ends) more.told_are)) (grows_none v w refl refl) fit.inside.come;
       };
     }
 
 -- the frame that goes into the empty output
-goes_now : (b : Beginning) (l : LineView) (d : DriverView) (old : Kept) (o : Outgoing) (past : List Act) → old.unwritten ≡ [] → Some o ≡ next_out (driving b) past → Some o ≡ goes_in b (view_of (turn_state l d old)) past
+goes_now : (b : Beginning) (l : LineView) (d : DriverView) (old : Machine) (o : Outgoing) (past : List Act) → old.unwritten ≡ [] → Some o ≡ next_out (driving b) past → Some o ≡ goes_in b (view_of (turn_state l d old)) past
 goes_now b l d old o past none next = next ∙ ap (λ (xs : List ℕ). if length xs == 0 then next_out (driving b) past else None) (sym none)
 
-pub send_goes : (old : Kept) (o : Outgoing) (out : List ℕ) → old.unwritten ≡ [] → length o.frame.info ≤ 1024 → GoesOut old.core (Some o) → CoreGoesOn old.core → KeepsHeldOut old.core → out ≢ [] → (length o.frame.info ≤ most_info 1024 o.frame.kind → out ≡ spelled o.frame)
-    → KeptSends old (record old { core = gone_on old.core; unwritten = out }) o.fresh
-unfolding KeptSends Leads AddsAll GoesOut CoreGoesOn
+pub send_goes : (old : Machine) (o : Outgoing) (out : List ℕ) → old.unwritten ≡ [] → length o.frame.info ≤ 1024 → GoesOut old.core (Some o) → CoreGoesOn old.core → KeepsHeldOut old.core → out ≢ [] → (length o.frame.info ≤ most_info 1024 o.frame.kind → out ≡ spelled o.frame)
+    → MachineSends old (record old { core = gone_on old.core; unwritten = out }) o.fresh
+unfolding MachineSends Leads AddsAll GoesOut CoreGoesOn
 send_goes old o out none short goes on holds some writes l d =
     let a = out_act o.fresh o.frame in
     record {
@@ -266,8 +273,8 @@ send_goes old o out none short goes on holds some writes l d =
     }
 
 -- where octets wait nothing is done
-pub send_busy : (old : Kept) → old.unwritten ≢ [] → KeptSends old old false
-unfolding KeptSends Leads AddsAll
+pub send_busy : (old : Machine) → old.unwritten ≢ [] → MachineSends old old false
+unfolding MachineSends Leads AddsAll
 send_busy old some l d = record {
   acts = [];
   leads = λ b past fit. fit;
@@ -281,7 +288,7 @@ send_busy old some l d = record {
   stays = refl;
 }
   where
-    none_goes : (b : Beginning) (k : Kept) (past : List Act) → k.unwritten ≢ [] → (if length k.unwritten == 0 then next_out (driving b) past else None) ≡ None
+    none_goes : (b : Beginning) (k : Machine) (past : List Act) → k.unwritten ≢ [] → (if length k.unwritten == 0 then next_out (driving b) past else None) ≡ None
     none_goes b k past wait = by_length (length k.unwritten == 0) refl
       where
         by_length : (c : Bool) → (length k.unwritten == 0) ≡ c → (if c then next_out (driving b) past else None) ≡ None
@@ -289,8 +296,8 @@ send_busy old some l d = record {
         by_length false e = refl
 
 -- and where nothing is left to send
-pub send_none : (old : Kept) (core : Core) → core ≡ old.core → GoesOut old.core None → CoreIsIdle old.core → old.unwritten ≡ [] → KeptSends old (record old { core = core }) false
-unfolding KeptSends Leads AddsAll GoesOut
+pub send_none : (old : Machine) (core : Core) → core ≡ old.core → GoesOut old.core None → CoreIsIdle old.core → old.unwritten ≡ [] → MachineSends old (record old { core = core }) false
+unfolding MachineSends Leads AddsAll GoesOut
 send_none old core same goes idle none l d =
     subst (λ (v : Core). SendsOn (turn_state l d old) (turn_state l d (record old { core = v })) false) (sym same)
     (record {
@@ -306,7 +313,7 @@ send_none old core same goes idle none l d =
       stays = refl;
     })
   where
-    nothing : (b : Beginning) (past : List Act) → FitsKept b l d old past → None ≡ goes_in b (view_of (turn_state l d old)) past
+    nothing : (b : Beginning) (past : List Act) → FitsMachine b l d old past → None ≡ goes_in b (view_of (turn_state l d old)) past
     nothing b past fit = goes (driving b) past (stands_in b l d old past fit) ∙ ap (λ (xs : List ℕ). if length xs == 0 then next_out (driving b) past else None) (sym none)
 
 -- ## Whether octets wait

@@ -16,7 +16,7 @@ use Rattle.modem_history.specs.Sessions.{Beginning, LineView, taken_since, heard
 use Rattle.modem_history.specs.Turns.{counted, request_given, outcomes_told, lines_heard}
 use Rattle.modem_history.proofs.law_proofs.SessionLaws.{since_more}
 use Rattle.modem_driver.specs.declared.session.error.SessionFault.{SessionFault}
-use Rattle.modem_driver.specs.SessionStates.{AreFormed, Kept, KeptGoes, seen_by, end_of}
+use Rattle.modem_driver.specs.SessionStates.{AreFormed, Machine, MachineGoes, seen_by, end_of}
 use Rattle.modem_driver.specs.TurnSteps.{TurnState, StandingFits, Leads, AddsAll, TakesOne, KeepsAside, turn_state}
 use Rattle.modem_driver.specs.TurnTakes.{Fetches, TakesAside, TakesIf}
 use Rattle.modem_driver.proofs.law_proofs.RequestNumbers.{taken_once}
@@ -64,10 +64,10 @@ distinct_behind (suc n) [] h = h
 distinct_behind (suc n) (q ∷ qs) h = distinct_behind n qs (and_parts (list_all (is_apart q) qs) (are_distinct qs) h).1
 
 -- it waits aside: what was taken since the session began has it last
-asks_next : (l : LineView) (d e : DriverView) (old : Kept) (o : Option Request) → old.aside ≡ None → length old.core.hand + length old.unplaced < 128 → Gives d e o → Leads (turn_state l d old) (turn_state l e (record old { aside = o })) []
+asks_next : (l : LineView) (d e : DriverView) (old : Machine) (o : Option Request) → old.aside ≡ None → length old.core.hand + length old.unplaced < 128 → Gives d e o → Leads (turn_state l d old) (turn_state l e (record old { aside = o })) []
 unfolding Leads
 asks_next l d e old o none room g b past f =
-    let new : Kept = record old { aside = o } in
+    let new : Machine = record old { aside = o } in
     let v = seen_by l (end_of d) old in
     let w = seen_by l (end_of e) new in
     let s = f.session in
@@ -105,11 +105,12 @@ asks_next l d e old o none room g b past f =
         sound = f.inside.sound;
         by_fault = f.inside.by_fault;
         one_stop = f.inside.one_stop;
+        delays_are = f.inside.delays_are;
         come = come_on b v w past [] old.course (λ h. h) (grows_none v w refl g.told) f.inside.come;
       };
     }
 
-pub fetches : (l : LineView) (d e : DriverView) (old : Kept) (o : Option Request) → old.aside ≡ None → length old.core.hand + length old.unplaced < 128 → Gives d e o → Fetches (turn_state l d old) (turn_state l e (record old { aside = o }))
+pub fetches : (l : LineView) (d e : DriverView) (old : Machine) (o : Option Request) → old.aside ≡ None → length old.core.hand + length old.unplaced < 128 → Gives d e o → Fetches (turn_state l d old) (turn_state l e (record old { aside = o }))
 fetches l d e old o none room g = record {
   next = Some o;
   leads = asks_next l d e old o none room g;
@@ -133,7 +134,7 @@ leads_still : (s : TurnState) → Leads s s []
 unfolding Leads
 leads_still s b past f = f
 
-pub fetches_none : (l : LineView) (d : DriverView) (k : Kept) → (k.aside ≡ None → 128 ≤ length k.core.hand + length k.unplaced) → Fetches (turn_state l d k) (turn_state l d k)
+pub fetches_none : (l : LineView) (d : DriverView) (k : Machine) → (k.aside ≡ None → 128 ≤ length k.core.hand + length k.unplaced) → Fetches (turn_state l d k) (turn_state l d k)
 fetches_none l d k full = record {
   next = None;
   leads = leads_still (turn_state l d k);
@@ -158,7 +159,7 @@ none_kept : (x y : Option Request) (rest : List Request) → option_to_list x �
 none_kept x None rest e h = refl
 none_kept x (Some q) rest e h = absurd (let long : 0 ≡ length (q ∷ rest) = ap length (sym (ap option_to_list h) ∙ e) in omega arith)
 
-takes_none : (l : LineView) (d e : DriverView) (old mid : Kept) → Fetches (turn_state l d old) (turn_state l e mid) → mid.aside ≡ None → TakesOne (turn_state l d old) (turn_state l e mid) false
+takes_none : (l : LineView) (d e : DriverView) (old mid : Machine) → Fetches (turn_state l d old) (turn_state l e mid) → mid.aside ≡ None → TakesOne (turn_state l d old) (turn_state l e mid) false
 unfolding AddsAll
 takes_none l d e old mid h none =
     let before : old.aside ≡ None = none_kept mid.aside old.aside _ h.aside none in
@@ -168,8 +169,8 @@ takes_none l d e old mid h none =
       acts = [];
       leads = h.leads;
       adds = λ waiting b past f. record {
-        outcomes = ap (λ (k : Kept). k.unplaced) same ∙ sym (append-nil old.unplaced);
-        lines = ap (λ (k : Kept). map heard_as k.unannounced) same ∙ sym (append-nil (map heard_as old.unannounced));
+        outcomes = ap (λ (k : Machine). k.unplaced) same ∙ sym (append-nil old.unplaced);
+        lines = ap (λ (k : Machine). map heard_as k.unannounced) same ∙ sym (append-nil (map heard_as old.unannounced));
         may = refl;
         few_got = omega arith;
       };
@@ -187,15 +188,15 @@ takes_none l d e old mid h none =
       asks = λ b past f asked bare. at_most (h.asks asked bare) b past f;
       found = h.found;
       stays = ap (turn_state l e) (h.stays ∙ (ap (λ (o : Option Request). record old { aside = o }) none
-          ∙ ap (λ (k : Kept). record old { core = k.core; aside = None; unplaced = k.unplaced; unannounced = k.unannounced }) (sym same)));
+          ∙ ap (λ (k : Machine). record old { core = k.core; aside = None; unplaced = k.unplaced; unannounced = k.unannounced }) (sym same)));
     }
   where
     at_most : 128 ≤ length old.core.hand + length old.unplaced → (b : Beginning) (past : List Act) → StandingFits b (turn_state l e mid) past → length (in_hand past) + length mid.unplaced ≡ 128
     at_most full b past f =
         let hand = ap (length {A = Request}) f.inside.fits.hand_is in
         let same = h.stays in
-        let core = ap (λ (k : Kept). length k.core.hand) same in
-        let waits = ap (λ (k : Kept). length k.unplaced) same in
+        let core = ap (λ (k : Machine). length k.core.hand) same in
+        let waits = ap (λ (k : Machine). length k.unplaced) same in
         let few = f.session.requests.few in
         omega arith
 
@@ -203,8 +204,8 @@ none_aside : (o : Option Request) → option_to_list o ≡ [] → o ≡ None
 none_aside None e = refl
 none_aside (Some q) e = absurd (let long : length (q ∷ []) ≡ 0 = ap length e in omega arith)
 
-takes_some : (l : LineView) (d e : DriverView) (old mid new : Kept) → Fetches (turn_state l d old) (turn_state l e mid) → TakesAside mid new → TakesOne (turn_state l d old) (turn_state l e new) true
-unfolding Leads KeptGoes AddsAll
+takes_some : (l : LineView) (d e : DriverView) (old mid new : Machine) → Fetches (turn_state l d old) (turn_state l e mid) → TakesAside mid new → TakesOne (turn_state l d old) (turn_state l e new) true
+unfolding Leads MachineGoes AddsAll
 takes_some l d e old mid new h t = record {
   next = h.next;
   acts = t.acts;
@@ -212,8 +213,8 @@ takes_some l d e old mid new h t = record {
   adds = λ waiting b past f.
       let a = t.adds waiting b l e past (h.leads b past f) in
       record {
-        outcomes = a.outcomes ∙ ap (λ (k : Kept). k.unplaced ++ outcomes_told t.acts) h.stays;
-        lines = a.lines ∙ ap (λ (k : Kept). map heard_as k.unannounced ++ lines_heard t.acts) h.stays;
+        outcomes = a.outcomes ∙ ap (λ (k : Machine). k.unplaced ++ outcomes_told t.acts) h.stays;
+        lines = a.lines ∙ ap (λ (k : Machine). map heard_as k.unannounced ++ lines_heard t.acts) h.stays;
         may = a.may;
         few_got = a.few_got;
       };
@@ -222,7 +223,7 @@ takes_some l d e old mid new h t = record {
   callers = h.callers;
   formed = h.formed;
   asks_bare = h.asks_bare;
-  none_aside = ap (λ (k : Kept). k.aside) t.stays;
+  none_aside = ap (λ (k : Machine). k.aside) t.stays;
   still = λ n. cc;
   no_request = λ n. cc;
   desk_stays = h.desk_stays;
@@ -230,22 +231,22 @@ takes_some l d e old mid new h t = record {
   backs_stay = h.backs_stay;
   asks = λ b past f asked bare. absurd (t.some (none_aside mid.aside (h.aside ∙ (ap (λ (o : Option Request). option_to_list o ++ request_given h.next) bare ∙ ap request_given asked))));
   found = h.found;
-  stays = ap (turn_state l e) (t.stays ∙ ap (λ (k : Kept). record k { core = new.core; aside = None; unplaced = new.unplaced; unannounced = new.unannounced }) h.stays);
+  stays = ap (turn_state l e) (t.stays ∙ ap (λ (k : Machine). record k { core = new.core; aside = None; unplaced = new.unplaced; unannounced = new.unannounced }) h.stays);
 }
 
 -- ## Both
 
-take_two : (d e : DriverView) (old mid new : Kept) (moved : Bool) → ((l : LineView) → Fetches (turn_state l d old) (turn_state l e mid)) → TakesIf moved mid new → (l : LineView) → TakesOne (turn_state l d old) (turn_state l e new) moved
+take_two : (d e : DriverView) (old mid new : Machine) (moved : Bool) → ((l : LineView) → Fetches (turn_state l d old) (turn_state l e mid)) → TakesIf moved mid new → (l : LineView) → TakesOne (turn_state l d old) (turn_state l e new) moved
 take_two d e old mid new true h t l = takes_some l d e old mid new (h l) t
-take_two d e old mid new false h t l = subst (λ (k : Kept). TakesOne (turn_state l d old) (turn_state l e k) false) (sym t.1) (takes_none l d e old mid (h l) t.0)
+take_two d e old mid new false h t l = subst (λ (k : Machine). TakesOne (turn_state l d old) (turn_state l e k) false) (sym t.1) (takes_none l d e old mid (h l) t.0)
 
-pub takes_one : (d e : DriverView) (old mid new : Kept) (r : Result Bool SessionFault) → ((l : LineView) → Fetches (turn_state l d old) (turn_state l e mid)) → IfOk r (λ moved. TakesIf moved mid new)
+pub takes_one : (d e : DriverView) (old mid new : Machine) (r : Result Bool SessionFault) → ((l : LineView) → Fetches (turn_state l d old) (turn_state l e mid)) → IfOk r (λ moved. TakesIf moved mid new)
     → IfOk r (λ moved. (l : LineView) → TakesOne (turn_state l d old) (turn_state l e new) moved)
 takes_one d e old mid new (Ok moved) h t = take_two d e old mid new moved h t
 takes_one d e old mid new (Err why) h t = tt
 
-keep_two : (d e : DriverView) (old mid new : Kept) → ((l : LineView) → Fetches (turn_state l d old) (turn_state l e mid)) → new ≡ mid → mid.aside ≢ None → (l : LineView) → KeepsAside (turn_state l d old) (turn_state l e new)
-keep_two d e old mid new h same some l = subst (λ (k : Kept). KeepsAside (turn_state l d old) (turn_state l e k)) (sym same) (record {
+keep_two : (d e : DriverView) (old mid new : Machine) → ((l : LineView) → Fetches (turn_state l d old) (turn_state l e mid)) → new ≡ mid → mid.aside ≢ None → (l : LineView) → KeepsAside (turn_state l d old) (turn_state l e new)
+keep_two d e old mid new h same some l = subst (λ (k : Machine). KeepsAside (turn_state l d old) (turn_state l e k)) (sym same) (record {
   next = (h l).next;
   leads = (h l).leads;
   taken = (h l).taken;
@@ -258,7 +259,7 @@ keep_two d e old mid new h same some l = subst (λ (k : Kept). KeepsAside (turn_
   stays = ap (turn_state l e) (h l).stays;
 })
 
-pub keeps_aside : (d e : DriverView) (old mid new : Kept) (r : Result Bool SessionFault) → ((l : LineView) → Fetches (turn_state l d old) (turn_state l e mid)) → OnErr r (new ≡ mid) → OnErr r (mid.aside ≢ None)
+pub keeps_aside : (d e : DriverView) (old mid new : Machine) (r : Result Bool SessionFault) → ((l : LineView) → Fetches (turn_state l d old) (turn_state l e mid)) → OnErr r (new ≡ mid) → OnErr r (mid.aside ≢ None)
     → OnErr r ((l : LineView) → KeepsAside (turn_state l d old) (turn_state l e new))
 keeps_aside d e old mid new (Ok moved) h same some = tt
 keeps_aside d e old mid new (Err why) h same some = keep_two d e old mid new h same some

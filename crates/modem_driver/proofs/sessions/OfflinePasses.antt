@@ -17,7 +17,7 @@ use Rattle.modem_history.specs.Sessions.{LineView, at_place, caller_outcomes}
 use Rattle.modem_history.specs.Turns.{amount, counted}
 use Rattle.modem_driver.specs.declared.session.turn.Turn.{Turn}
 use Rattle.modem_driver.specs.Placing.{Placed, TellsAlone, AnnouncesAlone, caller_of, place_of, IsRingOf, IsCaller, IsListenerOf, IsHeard, caller_rings, listener_rings}
-use Rattle.modem_driver.specs.SessionStates.{Kept, new_kept}
+use Rattle.modem_driver.specs.SessionStates.{Machine, new_machine}
 use Rattle.modem_driver.specs.TurnSteps.{Places, turn_state}
 use Rattle.modem_driver.specs.TurningAway.{TurnsOn, RefusesOne, PassesAway, PassSays, line_lost, moves}
 use Rattle.modem_driver.specs.WaitingLists.{WaitingLists}
@@ -29,8 +29,8 @@ no_line : LineView
 no_line = record { received = []; sent = []; calls = 0; failures = 0; empty_reads = 0; stalled_writes = 0 }
 
 -- a session that keeps what waits, and nothing else
-abbrev keeping : WaitingLists → Kept
-keeping w = record (new_kept 31 []) { unplaced = w.outcomes; unannounced = w.lines }
+abbrev keeping : WaitingLists → Machine
+keeping w = record (new_machine 31 []) { unplaced = w.outcomes; unannounced = w.lines }
 
 or_both : (a b c : Bool) → ((a || b) || c) ≡ (a || (b || c))
 or_both true b c = refl

@@ -21,6 +21,9 @@ use Rattle.modem_history.specs.Sessions.{Beginning, LineView, FitsLoss, driving,
 use Rattle.mux_station.proofs.queues.ControlQueues.{octets_more}
 use Rattle.modem_history.specs.Turns.{LacksMscRoom, outcomes_told, lines_heard, may_act}
 use Rattle.modem_history.proofs.calls.CalledActs.{Saids, calls_said}
+use Rattle.modem_driver.specs.WaitingTicks.{AreDelays}
+use Rattle.modem_driver.specs.declared.machine.delays.Delay.{Delay}
+use Rattle.modem_driver.proofs.sessions.WaitedTicks.{delays_flow}
 use Rattle.modem_driver.specs.Cores.{Core, GoesOn, Fits, Runs, RunsUnless, IsSettingOf}
 use Rattle.modem_driver.specs.Holding.{HoldsFit, Flows, FlowsOn, HasNoRoom, LacksRoom, NeverDue, MayAsk, acts_due, due_by, flow_due, flow_act}
 use Rattle.modem_driver.specs.Endings.{HasCome}
@@ -31,17 +34,17 @@ use Rattle.mux_station.specs.Opening.{is_open}
 use Rattle.mux_station.specs.Messages.{msc}
 use Rattle.mux_station.proofs.user_calls.ProbeStopFlowOffer.{no_close_down}
 use Rattle.modem_driver.specs.TurnSteps.{is_more}
-use Rattle.modem_driver.specs.SessionStates.{Kept, KeptGoes, seen_by, end_of}
+use Rattle.modem_driver.specs.SessionStates.{Machine, MachineGoes, seen_by, end_of}
 use Rattle.modem_driver.proofs.cores.StationPasts.{queue_seen}
 use Rattle.modem_driver.proofs.sessions.LongerHistories.{gots_after, losses_after, lost_after, taken_after}
-use Rattle.modem_driver.proofs.sessions.CoreCalls.{FitsKept, IsBare, KeepsMore, call_fits, is_run}
+use Rattle.modem_driver.proofs.sessions.CoreCalls.{FitsMachine, IsBare, KeepsMore, call_fits, is_run}
 use Rattle.modem_driver.proofs.sessions.StopProgress.{come_on, grows_none}
 use Rattle.modem_driver.proofs.sessions.LineOctets.{session_with, loss_with}
 use Rattle.modem_driver.proofs.sessions.ListenedLines.{calls_hear}
 use Rattle.modem_driver.proofs.sessions.WaitingDeliveries.{received_part, sent_part}
 use Rattle.modem_driver.proofs.sessions.StopsInHand.{ends, none_ends}
 
-may_ask : (b : Beginning) (l : LineView) (d : DriverView) (k : Kept) (past : List Act) → FitsKept b l d k past → MayAsk (driving b) k.core past
+may_ask : (b : Beginning) (l : LineView) (d : DriverView) (k : Machine) (past : List Act) → FitsMachine b l d k past → MayAsk (driving b) k.core past
 may_ask b l d k past f = record { setting = f.inside.setting; fits = f.inside.fits; holds = f.inside.holds; run = is_run b l d k past f }
 
 flow_bare : (n : ℕ) (go : Bool) (past : List Act) → IsBare (flow_act n go) past
@@ -105,9 +108,9 @@ due_may us n false opened held go e = flow_may us n opened held go e
 -- ## The step
 
 -- where nothing is called for
-none_fits : (b : Beginning) (l : LineView) (d : DriverView) (old new : Kept) (past : List Act) → FitsKept b l d old past → new.core ≡ old.core → new.aside ≡ old.aside → new.unplaced ≡ old.unplaced → map heard_as new.unannounced ≡ map heard_as old.unannounced
-    → new.unfed ≡ old.unfed → new.deframer ≡ old.deframer → new.unwritten ≡ old.unwritten → new.faulty ≡ old.faulty → new.course ≡ old.course → FitsKept b l d new past
-none_fits b l d old new past f core aside unplaced lines unfed deframer unwritten faulty course =
+none_fits : (b : Beginning) (l : LineView) (d : DriverView) (old new : Machine) (past : List Act) → FitsMachine b l d old past → new.core ≡ old.core → new.delays ≡ old.delays → new.aside ≡ old.aside → new.unplaced ≡ old.unplaced → map heard_as new.unannounced ≡ map heard_as old.unannounced
+    → new.unfed ≡ old.unfed → new.deframer ≡ old.deframer → new.unwritten ≡ old.unwritten → new.faulty ≡ old.faulty → new.course ≡ old.course → FitsMachine b l d new past
+none_fits b l d old new past f core delays aside unplaced lines unfed deframer unwritten faulty course =
     let v = seen_by l (end_of d) old in
     let w = seen_by l (end_of d) new in
     record {
@@ -121,6 +124,7 @@ none_fits b l d old new past f core aside unplaced lines unfed deframer unwritte
         sound = λ h. f.inside.sound (sym faulty ∙ h);
         by_fault = λ h. f.inside.by_fault (sym faulty ∙ h);
         one_stop = f.inside.one_stop;
+        delays_are = subst (λ (ds : List (Option Delay)). AreDelays ds past) (sym delays) f.inside.delays_are;
         come = subst (HasCome b w past) (sym course) (come_on b v w past [] old.course (λ h. h) (grows_none v w refl refl) f.inside.come);
       };
     }
@@ -166,8 +170,8 @@ no_act n go rest e = let long : 0 ≡ length (flow_act n go ∷ rest) = ap lengt
 -- ## The step
 
 -- what a call of a backlog comes to
-record Flown (b : Beginning) (l : LineView) (d : DriverView) (old new : Kept) (n : ℕ) (past acts : List Act) : Type 0 where
-  fits : FitsKept b l d new (after past acts)
+record Flown (b : Beginning) (l : LineView) (d : DriverView) (old new : Machine) (n : ℕ) (past acts : List Act) : Type 0 where
+  fits : FitsMachine b l d new (after past acts)
   may : list_all (may_act old.unannounced) acts ≡ true
   settles : new.core.station.queue ≡ [] → (acts ≡ []) × ((new ≡ old) × (due_by (driving b) past n (backlog_in n old.unannounced) ≡ None))
   flows : SettlesOne b past acts n old.unannounced
@@ -280,21 +284,21 @@ got_due n None = refl
 got_due n (Some true) = refl
 got_due n (Some false) = refl
 
-flown : (old : Kept) (core : Core) (n : ℕ) (acts : List Act) (x : Option Bool) → acts ≡ acts_due n x
-    → (b : Beginning) (l : LineView) (d : DriverView) (past : List Act) → FitsKept b l d old past → (due : Option Bool) → due_by (driving b) past n (backlog_in n old.unannounced) ≡ due → FlowsOn (driving b) old.core core past n due acts
+flown : (old : Machine) (core : Core) (n : ℕ) (acts : List Act) (x : Option Bool) → acts ≡ acts_due n x
+    → (b : Beginning) (l : LineView) (d : DriverView) (past : List Act) → FitsMachine b l d old past → (due : Option Bool) → due_by (driving b) past n (backlog_in n old.unannounced) ≡ due → FlowsOn (driving b) old.core core past n due acts
     → Flown b l d old (record old { core = core }) n past acts
 flown old core n acts x are b l d past f None e on =
-    let new : Kept = record old { core = core } in
-    let here = none_fits b l d old new past f on.1 refl refl refl refl refl refl refl refl in
+    let new : Machine = record old { core = core } in
+    let here = none_fits b l d old new past f on.1 refl refl refl refl refl refl refl refl refl in
     record {
-      fits = subst (λ (xs : List Act). FitsKept b l d new (after past xs)) (sym on.0) here;
+      fits = subst (λ (xs : List Act). FitsMachine b l d new (after past xs)) (sym on.0) here;
       may = ap (list_all (may_act old.unannounced)) on.0;
       settles = λ empty. (on.0, (ap (λ (v : Core). record old { core = v }) on.1, e));
       flows = subst (λ (xs : List Act). SettlesOne b past xs n old.unannounced) (sym on.0) (settles_none b n past old.unannounced (inl e));
     }
 flown old core n acts x are b l d past f (Some go) e on =
     let s = driving b in
-    let new : Kept = record old { core = core } in
+    let new : Machine = record old { core = core } in
     let a = flow_act n go in
     let more = calls s past a in
     let called : acts ≡ a ∷ more = on.0.called in
@@ -316,8 +320,8 @@ flown old core n acts x are b l d past f (Some go) e on =
     let waits : queue (wire (after past acts)) ≡ core.station.queue = ap (λ (xs : List Act). queue (wire (after past xs))) called ∙ live_queue core (after past (a ∷ more)) here.fits live in
     let come = come_on b (seen_by l (end_of d) old) (seen_by l (end_of d) new) past (a ∷ more) old.course (none_ends (a ∷ more) past (taken_after more (a ∷ past) said ∙ (flow_bare n go past).taken_is) (ap (list_any ends) (sym (ap outcomes_told called) ∙ none_told))) (grows_none (seen_by l (end_of d) old) (seen_by l (end_of d) new) refl refl) f.inside.come in
     record {
-      fits = subst (λ (xs : List Act). FitsKept b l d new (after past xs)) (sym called)
-          (call_fits b l d old new past more a f (flow_bare n go past) here hold said (calls_hear s (seen s past) a) keep refl refl refl come lost
+      fits = subst (λ (xs : List Act). FitsMachine b l d new (after past xs)) (sym called)
+          (call_fits b l d old new past more a f (flow_bare n go past) here hold (delays_flow old.delays n go past f.inside.delays_are) said (calls_hear s (seen s past) a) keep refl refl refl come lost
           (received_part b (seen_by l (end_of d) old) (seen_by l (end_of d) new) past (after past (a ∷ more)) f.session.received refl refl refl (gots_after more (a ∷ past) said ∙ no_frame n go past)));
       may = ap (list_all (may_act old.unannounced)) called ∙ and_from (may_act old.unannounced a) (list_all (may_act old.unannounced) more) (due_may old.unannounced n _ _ _ go e) (said_may old.unannounced more said);
       settles = λ empty. absurd (queued x are (sym are ∙ called) (waits ∙ empty));
@@ -352,8 +356,8 @@ no_acts acts e = nil_from_length acts (eqb-true (length acts) 0 (not_false (leng
     not_false true h = refl
     not_false false h = absurd (true_false h)
 
-pub checks_one : (old : Kept) (core : Core) (n : ℕ) (acts : List Act) (x : Option Bool) → acts ≡ acts_due n x → Flows old.core core n (backlog_in n old.unannounced) acts → ChecksOne n old (record old { core = core }) (not (length acts == 0))
-unfolding KeptGoes Flows
+pub checks_one : (old : Machine) (core : Core) (n : ℕ) (acts : List Act) (x : Option Bool) → acts ≡ acts_due n x → Flows old.core core n (backlog_in n old.unannounced) acts → ChecksOne n old (record old { core = core }) (not (length acts == 0))
+unfolding MachineGoes Flows
 checks_one old core n acts x are flows = record {
   acts = acts;
   goes = λ b l d past f. (flown old core n acts x are b l d past f (due_by (driving b) past n (backlog_in n old.unannounced)) refl (flows (driving b) past (may_ask b l d old past f))).fits;
@@ -374,11 +378,11 @@ checks_one old core n acts x are flows = record {
 }
 
 -- nothing was done
-checks_none : (old : Kept) (n : ℕ)
-    → ((b : Beginning) (l : LineView) (d : DriverView) (past : List Act) → FitsKept b l d old past → old.core.station.queue ≡ [] → due_by (driving b) past n (backlog_in n old.unannounced) ≡ None)
-    → ((b : Beginning) (l : LineView) (d : DriverView) (past : List Act) → FitsKept b l d old past → (due_by (driving b) past n (backlog_in n old.unannounced) ≡ None) ⊎ LacksMscRoom b past)
+checks_none : (old : Machine) (n : ℕ)
+    → ((b : Beginning) (l : LineView) (d : DriverView) (past : List Act) → FitsMachine b l d old past → old.core.station.queue ≡ [] → due_by (driving b) past n (backlog_in n old.unannounced) ≡ None)
+    → ((b : Beginning) (l : LineView) (d : DriverView) (past : List Act) → FitsMachine b l d old past → (due_by (driving b) past n (backlog_in n old.unannounced) ≡ None) ⊎ LacksMscRoom b past)
     → ChecksOne n old old false
-unfolding KeptGoes
+unfolding MachineGoes
 checks_none old n h looks = record {
   acts = [];
   goes = λ b l d past f. f;
@@ -394,7 +398,7 @@ checks_none old n h looks = record {
   stays = refl;
 }
 
-pub checks_never : (old : Kept) (n : ℕ) → NeverDue old.core n → ChecksOne n old old false
+pub checks_never : (old : Machine) (n : ℕ) → NeverDue old.core n → ChecksOne n old old false
 unfolding NeverDue
 checks_never old n never =
     checks_none old n (λ b l d past f empty. never (driving b) past (backlog_in n old.unannounced) (may_ask b l d old past f))
@@ -418,7 +422,7 @@ no_msc b past n signals none d = by_open (is_opened ((seen (driving b) past).sta
     by_open true h = full h
     by_open false h = absurd (true_false h)
 
-pub checks_full : (old : Kept) (n : ℕ) → HasNoRoom old.core n (backlog_in n old.unannounced) → ChecksOne n old old false
+pub checks_full : (old : Machine) (n : ℕ) → HasNoRoom old.core n (backlog_in n old.unannounced) → ChecksOne n old old false
 unfolding HasNoRoom
 checks_full old n full = checks_none old n (λ b l d past f empty.
     by_due b past (due_by (driving b) past n (backlog_in n old.unannounced)) refl f.inside.fits empty (full (driving b) past (may_ask b l d old past f)))

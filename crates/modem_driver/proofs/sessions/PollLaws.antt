@@ -12,15 +12,15 @@ use Rattle.modem_history.specs.Acts.{Act, Got, Sent, Given, after, wire}
 use Rattle.modem_history.specs.Calls.{is_loss, is_lost}
 use Rattle.modem_history.specs.Sessions.{Beginning, LineView, given_on, octets_of_frames}
 use Rattle.modem_history.specs.Turns.{Exchange, IsTurn, IsFault, Offers, TurnAnswer, Write, calls_made, counted, octets_written}
-use Rattle.modem_driver.specs.declared.session.ending.Course.{Course}
-use Rattle.modem_driver.specs.declared.session.ending.Course.TheVariants as course
+use Rattle.modem_driver.specs.declared.machine.course.Course.{Course}
+use Rattle.modem_driver.specs.declared.machine.course.Course.TheVariants as course
 use Rattle.modem_driver.specs.declared.session.polling.Progress.{Progress}
 use Rattle.modem_driver.specs.declared.session.polling.Progress.TheVariants as progress
 use Rattle.modem_driver.specs.declared.session.ending.Ended.{Ended}
 use Rattle.modem_driver.specs.declared.session.ending.Ended.TheVariants.{Stopped}
 use Rattle.modem_driver.specs.declared.session.error.SessionFault.{SessionFault}
 use Rattle.modem_driver.specs.declared.session.error.SessionFault.TheVariants as fault
-use Rattle.modem_driver.specs.SessionStates.{Kept, SessionState, FitsAll, has_lost_line, session_view}
+use Rattle.modem_driver.specs.SessionStates.{Machine, SessionState, FitsAll, has_lost_line, session_view}
 use Rattle.modem_driver.specs.SessionTurns.{Faults, TakesTurn, fault_of}
 use Rattle.modem_driver.specs.Polls.{MovesOn, Polls, PollsFrom, PollsOn, Waits, end_given, end_in, ends, fails, given_by, goes_on, has_ended, is_stopped, moves_none, moves_once, rests, waits_none, waits_once}
 use Rattle.modem_driver.specs.PollLaws.{CallsTheLine, LostFails, LostGivesFailed, MovesThrough, NoLossIsKeptBack, NoLossIsStopped, RunsInHistories, RunsThrough, IsSession, all_through, ended_through, fails_through, rests_through, through_none, through_once}
@@ -140,7 +140,7 @@ module _ {X : Type 0} (look : X → LineView) where
       let same = turn.sound in
       omega (arith, more, same)
 
-  not_ended : (k : Kept) → has_ended k ≡ true → k.core.lost ≡ true → ⊥
+  not_ended : (k : Machine) → has_ended k ≡ true → k.core.lost ≡ true → ⊥
   not_ended k e lost =
       let p1 = and_parts (is_stopped k.course) (not k.core.lost && ((length k.unwritten == 0) && ((length k.core.station.queue == 0) && (length k.unplaced == 0)))) e in
       let p2 = and_parts (not k.core.lost) ((length k.unwritten == 0) && ((length k.core.station.queue == 0) && (length k.unplaced == 0))) p1.1 in
@@ -159,7 +159,7 @@ module _ {X : Type 0} (look : X → LineView) where
   -- an end without a fault is one with a sound line
   sound_run : (b : Beginning) (past : List Act) (old new : SessionState X) (now : List Act) → FitsAll b look new now → (more : Bool) → RunsThrough look b old past new now (Ok more) → is_lost now ≡ true → ⊥
   sound_run b past old new _ f _ (all_through now moves) lost = none_moved b past old new 64 now (lit≤ tt) moves lost
-  sound_run b past old new _ f _ (ended_through n now few moves e) lost = not_ended new.kept e (sym f.inside.fits.lost_is ∙ lost)
+  sound_run b past old new _ f _ (ended_through n now few moves e) lost = not_ended new.machine e (sym f.inside.fits.lost_is ∙ lost)
   sound_run b past old new _ f _ (rests_through n mid before acts t says few moves going g turn steps other) lost = sound_turn b mid new t before acts says g turn lost
 
   new_fits : (b : Beginning) (past : List Act) (old new : SessionState X) (n : ℕ) (now : List Act) → MovesThrough look b old past n new now → FitsAll b look new now
@@ -180,7 +180,7 @@ module _ {X : Type 0} (look : X → LineView) where
   lost_run : (b : Beginning) (past : List Act) (old new : SessionState X) (now : List Act) (ran : Result Bool SessionFault) → FitsAll b look old past → RunsThrough look b old past new now ran → is_lost past ≡ true → ran ≡ Err fault.Failed
   lost_run b past old new _ _ f (all_through now moves) lost = absurd (none_moved b past old new 64 now (lit≤ tt) moves (lost_through b past old new 64 now moves lost))
   lost_run b past old new _ _ f (ended_through n now few moves e) lost =
-      absurd (not_ended new.kept e (sym (new_fits b past old new n now moves).inside.fits.lost_is ∙ lost_through b past old new n now moves lost))
+      absurd (not_ended new.machine e (sym (new_fits b past old new n now moves).inside.fits.lost_is ∙ lost_through b past old new n now moves lost))
   lost_run b past old new _ _ f (rests_through n mid before acts t says few moves going g turn steps other) lost =
       absurd (sound_turn b mid new t before acts says g turn (lost_since acts before (lost_through b past old mid n before moves lost)))
   lost_run b past old new _ _ f (fails_through n mid before acts t why few moves going g turn offers) lost =
@@ -203,17 +203,17 @@ module _ {X : Type 0} (look : X → LineView) where
 
   -- where octets wait a turn calls the line
   writes : (b : Beginning) (old new : SessionState X) (t : Exchange) (before acts : List Act) (says : TurnAnswer) → FitsAll b look old before → FitsAll b look new (after before acts)
-      → IsTurn b (session_view look old) (session_view look new) t before acts says → old.kept.unwritten ≢ [] → (w : Option Write) → t.write ≡ w → 1 ≤ calls_made w
+      → IsTurn b (session_view look old) (session_view look new) t before acts says → old.machine.unwritten ≢ [] → (w : Option Write) → t.write ≡ w → 1 ≤ calls_made w
   writes b old new t before acts says f g turn some (Some w) e = lit≤ tt
   writes b old new t before acts says f g turn some None e =
       let o = f.session.sent in
       let n = g.session.sent in
-      let empty : new.kept.unwritten ≡ [] = subst (λ (x : Option Write). Offers x new.kept.unwritten) e turn.offers in
+      let empty : new.machine.unwritten ≡ [] = subst (λ (x : Option Write). Offers x new.machine.unwritten) e turn.offers in
       let went : (look new.line).sent ≡ (look old.line).sent = turn.exchanges.went ∙ (ap (λ (x : Option Write). (look old.line).sent ++ octets_written x) e ∙ append-nil (look old.line).sent) in
       let same : n.since ≡ o.since = append_cancel_left b.line.sent n.since o.since (sym n.sent_are ∙ (went ∙ o.sent_are)) in
       let more = gives_more before acts in
       let later = octets_of_frames more.more in
-      let both : o.since ≡ o.since ++ (old.kept.unwritten ++ later) =
+      let both : o.since ≡ o.since ++ (old.machine.unwritten ++ later) =
       sym same
       ∙ (sym (append-nil n.since)
       ∙ (ap (λ (xs : List ℕ). n.since ++ xs) (sym empty)
@@ -221,11 +221,11 @@ module _ {X : Type 0} (look : X → LineView) where
       ∙ (ap octets_of_frames more.given
       ∙ (flat_map-append spelled (given_on before) more.more
       ∙ (ap (λ (xs : List ℕ). xs ++ later) (sym o.frames_are)
-      ∙ append_assoc o.since old.kept.unwritten later)))))) in
-      let lengths = ap length both ∙ length-append o.since (old.kept.unwritten ++ later) in
-      let parts = length-append old.kept.unwritten later in
-      let none : length old.kept.unwritten ≡ 0 = omega (arith, lengths, parts) in
-      absurd (some (nil_from_length old.kept.unwritten none))
+      ∙ append_assoc o.since old.machine.unwritten later)))))) in
+      let lengths = ap length both ∙ length-append o.since (old.machine.unwritten ++ later) in
+      let parts = length-append old.machine.unwritten later in
+      let none : length old.machine.unwritten ≡ 0 = omega (arith, lengths, parts) in
+      absurd (some (nil_from_length old.machine.unwritten none))
 
   -- the line has no fewer calls behind such turns, and more where octets waited
   record Called (old new : SessionState X) (n : ℕ) : Type 0 where
@@ -253,11 +253,11 @@ module _ {X : Type 0} (look : X → LineView) where
       subst (λ n. (look old.line).calls < n) (sym (counts b old new t before acts says turn)) (some_fewer (2 ^ 64 - 1) (look old.line).calls (calls_made t.write + calls_made t.read) few some)
 
   -- one turn more
-  calls_on : (b : Beginning) (old mid new : SessionState X) (n : ℕ) (t : Exchange) (before acts : List Act) (says : TurnAnswer) → old.kept.unwritten ≢ [] → (look old.line).calls < 2 ^ 64 - 1 → FitsAll b look mid before
+  calls_on : (b : Beginning) (old mid new : SessionState X) (n : ℕ) (t : Exchange) (before acts : List Act) (says : TurnAnswer) → old.machine.unwritten ≢ [] → (look old.line).calls < 2 ^ 64 - 1 → FitsAll b look mid before
       → Called old mid n → FitsAll b look new (after before acts) → IsTurn b (session_view look mid) (session_view look new) t before acts says → Called old new (n + 1)
   calls_on b old mid new zero t before acts says some few f so g turn =
       let same = so.none refl in
-      let waits : mid.kept.unwritten ≢ [] = λ e. some (sym (ap (λ (s : SessionState X). s.kept.unwritten) same) ∙ e) in
+      let waits : mid.machine.unwritten ≢ [] = λ e. some (sym (ap (λ (s : SessionState X). s.machine.unwritten) same) ∙ e) in
       let wrote = writes b mid new t before acts says f g turn waits t.write refl in
       let here : (look mid.line).calls ≡ (look old.line).calls = ap (λ (s : SessionState X). (look s.line).calls) same in
       let less : (look mid.line).calls < 2 ^ 64 - 1 = subst (λ n. n < 2 ^ 64 - 1) (sym here) few in
@@ -278,25 +278,25 @@ module _ {X : Type 0} (look : X → LineView) where
         some = λ e. omega (arith, keeps, rose);
       }
 
-  called : (b : Beginning) (past : List Act) (old new : SessionState X) (n : ℕ) (now : List Act) → old.kept.unwritten ≢ [] → (look old.line).calls < 2 ^ 64 - 1 → MovesThrough look b old past n new now → Called old new n
+  called : (b : Beginning) (past : List Act) (old new : SessionState X) (n : ℕ) (now : List Act) → old.machine.unwritten ≢ [] → (look old.line).calls < 2 ^ 64 - 1 → MovesThrough look b old past n new now → Called old new n
   called b past old _ _ _ some few (through_none f) = record { bound = omega (arith, few); none = λ e. refl; some = λ e. absurd (omega (arith, e)) }
   called b past old _ _ _ some few (through_once n mid new before acts t moves going f turn steps) =
       calls_on b old mid new n t before acts TurnAnswer.Moved some few (new_fits b past old mid n before moves) (called b past old mid n before some few moves) f turn
 
   -- where octets wait it hasn't ended
-  not_written : (k : Kept) → has_ended k ≡ true → k.unwritten ≡ []
+  not_written : (k : Machine) → has_ended k ≡ true → k.unwritten ≡ []
   not_written k e =
       let p1 = and_parts (is_stopped k.course) (not k.core.lost && ((length k.unwritten == 0) && ((length k.core.station.queue == 0) && (length k.unplaced == 0)))) e in
       let p2 = and_parts (not k.core.lost) ((length k.unwritten == 0) && ((length k.core.station.queue == 0) && (length k.unplaced == 0))) p1.1 in
       let p3 = and_parts (length k.unwritten == 0) ((length k.core.station.queue == 0) && (length k.unplaced == 0)) p2.1 in
       nil_from_length k.unwritten (eqb-true (length k.unwritten) 0 p3.0)
 
-  some_moves : (old new : SessionState X) (n : ℕ) → old.kept.unwritten ≢ [] → has_ended new.kept ≡ true → Called old new n → 1 ≤ n
+  some_moves : (old new : SessionState X) (n : ℕ) → old.machine.unwritten ≢ [] → has_ended new.machine ≡ true → Called old new n → 1 ≤ n
   some_moves old new zero some e so =
-      absurd (some (sym (ap (λ (s : SessionState X). s.kept.unwritten) (so.none refl)) ∙ not_written new.kept e))
+      absurd (some (sym (ap (λ (s : SessionState X). s.machine.unwritten) (so.none refl)) ∙ not_written new.machine e))
   some_moves old new (suc n) some e so = omega arith
 
-  ran_calls : (b : Beginning) (past : List Act) (old new : SessionState X) (now : List Act) → old.kept.unwritten ≢ [] → (look old.line).calls < 2 ^ 64 - 1 → (more : Bool) → RunsThrough look b old past new now (Ok more)
+  ran_calls : (b : Beginning) (past : List Act) (old new : SessionState X) (now : List Act) → old.machine.unwritten ≢ [] → (look old.line).calls < 2 ^ 64 - 1 → (more : Bool) → RunsThrough look b old past new now (Ok more)
       → (look old.line).calls < (look new.line).calls
   ran_calls b past old new _ some few _ (all_through now moves) = (called b past old new 64 now some few moves).some (lit≤ tt)
   ran_calls b past old new _ some few _ (ended_through n now small moves e) =
@@ -319,32 +319,32 @@ module _ {X : Type 0} (look : X → LineView) where
       mid_lost : has_lost_line polls.mid ≡ true
       mid_lost = sym (ap has_lost_line polls.stays) ∙ lost
 
-      by_end : (more c : Bool) → has_ended polls.mid.kept ≡ c → progress.Ended (Ok Stopped) ≡ (if c then progress.Ended (Ok Stopped) else if more then progress.More else progress.Idle) → ⊥
-      by_end more true e g = not_ended polls.mid.kept e mid_lost
+      by_end : (more c : Bool) → has_ended polls.mid.machine ≡ c → progress.Ended (Ok Stopped) ≡ (if c then progress.Ended (Ok Stopped) else if more then progress.More else progress.Idle) → ⊥
+      by_end more true e g = not_ended polls.mid.machine e mid_lost
       by_end true false e g = cc
       by_end false false e g = cc
 
-      by : (ran : Result Bool SessionFault) → progress.Ended (Ok Stopped) ≡ given_by polls.mid.kept ran → ⊥
-      by (Ok more) g = by_end more (has_ended polls.mid.kept) refl g
+      by : (ran : Result Bool SessionFault) → progress.Ended (Ok Stopped) ≡ given_by polls.mid.machine ran → ⊥
+      by (Ok more) g = by_end more (has_ended polls.mid.machine) refl g
       by (Err why) g = let x : Some (Ok Stopped) ≡ Some (Err why) = ap end_in g in cc
 
   -- ## What a future of it gives
 
-  on_from : (old new : SessionState X) (given : Progress) → end_given old.kept.course ≡ None → Polls look old new given → PollsOn look old new given
-  on_from old new given none p = by old.kept.course none p
+  on_from : (old new : SessionState X) (given : Progress) → end_given old.machine.course ≡ None → Polls look old new given → PollsOn look old new given
+  on_from old new given none p = by old.machine.course none p
     where
       by : (c : Course) → end_given c ≡ None → PollsFrom look c old new given → PollsOn look old new given
       by course.GoesOn e p = p
       by course.Stopped e p = p
       by (course.Ended end) e p = let x : Some end ≡ None = e in absurd (let y : Some end ≡ None = x in cc)
 
-  lost_polls : (old new : SessionState X) (given : Progress) → IsSession look old → has_lost_line old ≡ true → end_given old.kept.course ≡ None → Polls look old new given
+  lost_polls : (old new : SessionState X) (given : Progress) → IsSession look old → has_lost_line old ≡ true → end_given old.machine.course ≡ None → Polls look old new given
       → given ≡ progress.Ended (Err fault.Failed)
   unfolding LostFails
   lost_polls old new given s lost none polls =
       let on = on_from old new given none polls in
       let failed = lost_fails old on.mid on.ran s lost on.runs in
-      on.given_is ∙ ap (given_by on.mid.kept) failed
+      on.given_is ∙ ap (given_by on.mid.machine) failed
 
   pub lost_gives_failed : LostGivesFailed look
   unfolding LostGivesFailed

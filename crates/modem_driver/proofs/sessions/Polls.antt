@@ -11,8 +11,8 @@ use Rattle.modem_history.specs.Wholes.{outcomes}
 use Rattle.modem_history.specs.Sessions.{Beginning, LineView, caller_outcomes, at_place}
 use Rattle.modem_history.specs.Turns.{TurnAnswer, TurnFault, says_moved}
 use Rattle.modem_history.proofs.law_proofs.SessionLaws.{runs_on}
-use Rattle.modem_driver.specs.declared.session.ending.Course.{Course}
-use Rattle.modem_driver.specs.declared.session.ending.Course.TheVariants as course
+use Rattle.modem_driver.specs.declared.machine.course.Course.{Course}
+use Rattle.modem_driver.specs.declared.machine.course.Course.TheVariants as course
 use Rattle.modem_driver.specs.declared.session.polling.Progress.{Progress}
 use Rattle.modem_driver.specs.declared.session.polling.Progress.TheVariants as progress
 use Rattle.modem_driver.specs.declared.session.ending.Ended.{Ended}
@@ -62,7 +62,7 @@ module _ {X : Type 0} (look : X → LineView) where
   -- ## The end
 
   -- it goes on to an end where every history says so
-  comes_to : (s : SessionState X) (end : Result Ended SessionFault) → ((b : Beginning) (past : List Act) → FitsAll b look s past → IsEnd b (session_view look s) past end) → SessionGoesOn look s (record s { kept = record s.kept { course = course.Ended end } })
+  comes_to : (s : SessionState X) (end : Result Ended SessionFault) → ((b : Beginning) (past : List Act) → FitsAll b look s past → IsEnd b (session_view look s) past end) → SessionGoesOn look s (record s { machine = record s.machine { course = course.Ended end } })
   unfolding SessionGoesOn
   comes_to s end says = record {
     acts = [];
@@ -79,6 +79,7 @@ module _ {X : Type 0} (look : X → LineView) where
         sound = f.inside.sound;
         by_fault = f.inside.by_fault;
         one_stop = f.inside.one_stop;
+        delays_are = f.inside.delays_are;
         come = says b past f;
       };
     };
@@ -94,9 +95,9 @@ module _ {X : Type 0} (look : X → LineView) where
   not_so true e = cc
 
   -- where it has ended, every history says so
-  has_ended_says : (s : SessionState X) → has_ended s.kept ≡ true → (b : Beginning) (past : List Act) → FitsAll b look s past → HasEnded b (session_view look s) past
+  has_ended_says : (s : SessionState X) → has_ended s.machine ≡ true → (b : Beginning) (past : List Act) → FitsAll b look s past → HasEnded b (session_view look s) past
   has_ended_says s e b past f =
-      let k = s.kept in
+      let k = s.machine in
       let p1 = and_parts (is_stopped k.course) (not k.core.lost && ((length k.unwritten == 0) && ((length k.core.station.queue == 0) && (length k.unplaced == 0)))) e in
       let p2 = and_parts (not k.core.lost) ((length k.unwritten == 0) && ((length k.core.station.queue == 0) && (length k.unplaced == 0))) p1.1 in
       let p3 = and_parts (length k.unwritten == 0) ((length k.core.station.queue == 0) && (length k.unplaced == 0)) p2.1 in
@@ -121,7 +122,7 @@ module _ {X : Type 0} (look : X → LineView) where
             subst (Begins _) (sym (t.told_are ∙ ap (λ (os : List Outcome). at_place c b.desk.told ++ os) all)) (begins_whole _);
       }
 
-  pub ends_stopped : (s : SessionState X) → has_ended s.kept ≡ true → SessionGoesOn look s (with_end (Ok Stopped) s)
+  pub ends_stopped : (s : SessionState X) → has_ended s.machine ≡ true → SessionGoesOn look s (with_end (Ok Stopped) s)
   ends_stopped s e = comes_to s (Ok Stopped) (has_ended_says s e)
 
   pub ends_failing : (s : SessionState X) (why : SessionFault) → LeavesLost why s → SessionGoesOn look s (with_end (Err why) s)
@@ -138,7 +139,7 @@ module _ {X : Type 0} (look : X → LineView) where
   says_end b s past (Err fault.Failed) h = h
 
   -- the end that is kept
-  pub ended_says : (s : SessionState X) (end : Result Ended SessionFault) → s.kept.course ≡ course.Ended end → SaysEnd look s end
+  pub ended_says : (s : SessionState X) (end : Result Ended SessionFault) → s.machine.course ≡ course.Ended end → SaysEnd look s end
   ended_says s end e b past f = says_end b s past end (subst (HasCome b (session_view look s) past) e f.inside.come)
 
   pub failing_says : (s : SessionState X) (why : SessionFault) → SaysEnd look (with_end (Err why) s) (Err why)
@@ -147,11 +148,11 @@ module _ {X : Type 0} (look : X → LineView) where
   failing_says s fault.Failed b past f = ended_says (with_end (Err fault.Failed) s) (Err fault.Failed) refl b past f
 
   -- a poll after an end, and one after none
-  pub polls_again : (s : SessionState X) (end : Result Ended SessionFault) → s.kept.course ≡ course.Ended end → Polls look s s (progress.Ended end)
+  pub polls_again : (s : SessionState X) (end : Result Ended SessionFault) → s.machine.course ≡ course.Ended end → Polls look s s (progress.Ended end)
   polls_again s end e = subst (λ (c : Course). PollsFrom look c s s (progress.Ended end)) (sym e) (refl, refl)
 
-  pub polls_on : (old new : SessionState X) (given : Progress) → end_given old.kept.course ≡ None → PollsOn look old new given → Polls look old new given
-  polls_on old new given none p = by old.kept.course none
+  pub polls_on : (old new : SessionState X) (given : Progress) → end_given old.machine.course ≡ None → PollsOn look old new given → Polls look old new given
+  polls_on old new given none p = by old.machine.course none
     where
       by : (c : Course) → end_given c ≡ None → PollsFrom look c old new given
       by course.GoesOn e = p

@@ -15,14 +15,15 @@ use Rattle.modem_history.specs.Turns.{outcomes_told, lines_heard}
 use Rattle.modem_history.proofs.calls.CalledActs.{calls_said}
 use Rattle.modem_history.proofs.outcomes.SingleOutcomes.{uses_once}
 use Rattle.modem_history.proofs.law_proofs.SessionLaws.{since_are}
+use Rattle.modem_driver.proofs.sessions.WaitedTicks.{delays_after}
 use Rattle.modem_driver.specs.Cores.{Core, Handles, GoesOn, MayCome}
 use Rattle.modem_driver.specs.Holding.{HoldsFit, KeepsHeld}
-use Rattle.modem_driver.specs.SessionStates.{Kept, KeptGoes, seen_by, end_of}
+use Rattle.modem_driver.specs.SessionStates.{Machine, MachineGoes, seen_by, end_of}
 use Rattle.modem_driver.specs.TurnSteps.{Adds}
 use Rattle.modem_driver.specs.TurnTakes.{TakesAside}
 use Rattle.modem_driver.specs.WaitingLists.{WaitingLists, Keeps}
 use Rattle.modem_driver.proofs.sessions.LongerHistories.{gots_after, taken_after, given_after, losses_after, lost_after, room_after, turn_after}
-use Rattle.modem_driver.proofs.sessions.CoreCalls.{FitsKept, is_run}
+use Rattle.modem_driver.proofs.sessions.CoreCalls.{FitsMachine, is_run}
 use Rattle.modem_driver.proofs.sessions.OutcomeCounts.{is_caller, hand_counts, callers_told}
 use Rattle.modem_driver.proofs.sessions.StopProgress.{come_on, grows_none}
 use Rattle.modem_driver.proofs.sessions.OneBacklog.{said_may}
@@ -33,10 +34,10 @@ use Rattle.modem_driver.proofs.sessions.EndedStops.{took_none, took_stops}
 use Rattle.mux_station.specs.declared.role.Role.TheVariants.{Initiator}
 
 -- what was taken since the session began is what the history has, with the one kept aside
-all_taken : (b : Beginning) (l : LineView) (d : DriverView) (k : Kept) (q : Request) (past : List Act) → k.aside ≡ Some q → FitsKept b l d k past → taken_since b (seen_by l (end_of d) k) ≡ taken_requests (Took q ∷ past)
+all_taken : (b : Beginning) (l : LineView) (d : DriverView) (k : Machine) (q : Request) (past : List Act) → k.aside ≡ Some q → FitsMachine b l d k past → taken_since b (seen_by l (end_of d) k) ≡ taken_requests (Took q ∷ past)
 all_taken b l d k q past e f = since_are b (seen_by l (end_of d) k) past f.session ∙ ap (λ (o : Option Request). taken_requests past ++ option_to_list o) e
 
-took_may : (b : Beginning) (l : LineView) (d : DriverView) (k : Kept) (q : Request) (past : List Act) → k.aside ≡ Some q → FitsKept b l d k past → MayCome (driving b) k.core past (Took q)
+took_may : (b : Beginning) (l : LineView) (d : DriverView) (k : Machine) (q : Request) (past : List Act) → k.aside ≡ Some q → FitsMachine b l d k past → MayCome (driving b) k.core past (Took q)
 took_may b l d k q past e f = record {
   setting = f.inside.setting;
   fits = f.inside.fits;
@@ -45,21 +46,21 @@ took_may b l d k q past e f = record {
 }
 
 -- what taking it comes to
-record Taken (b : Beginning) (l : LineView) (d : DriverView) (old new : Kept) (past acts : List Act) : Type 0 where
-  fits : FitsKept b l d new (after past acts)
+record Taken (b : Beginning) (l : LineView) (d : DriverView) (old new : Machine) (past acts : List Act) : Type 0 where
+  fits : FitsMachine b l d new (after past acts)
   adds : (waiting : List Urc) → Adds old new waiting 0 acts
 
 -- the request, and what the core's acts are after their first
 abbrev acts_of : Request → List Act → List Act
 acts_of q acts = Took q ∷ drop 1 acts
 
-takes_all : (old : Kept) (core : Core) (room : ℕ) (q : Request) (w : WaitingLists) (acts : List Act) → old.aside ≡ Some q → old.core.station.role ≡ Initiator
+takes_all : (old : Machine) (core : Core) (room : ℕ) (q : Request) (w : WaitingLists) (acts : List Act) → old.aside ≡ Some q → old.core.station.role ≡ Initiator
     → Handles old.core core (Took q) acts → KeepsHeld old.core core (Took q) acts → Keeps (record { outcomes = old.unplaced; lines = old.unannounced; room = room }) w acts
-    → (b : Beginning) (l : LineView) (d : DriverView) (past : List Act) → FitsKept b l d old past
+    → (b : Beginning) (l : LineView) (d : DriverView) (past : List Act) → FitsMachine b l d old past
     → Taken b l d old (record old { core = core; aside = None; unplaced = w.outcomes; unannounced = w.lines }) past (acts_of q acts)
 unfolding Handles KeepsHeld
 takes_all old core room q w acts aside role handles held keeps b l d past f =
-    let new : Kept = record old { core = core; aside = None; unplaced = w.outcomes; unannounced = w.lines } in
+    let new : Machine = record old { core = core; aside = None; unplaced = w.outcomes; unannounced = w.lines } in
     let s = driving b in
     let v = seen_by l (end_of d) old in
     let u = seen_by l (end_of d) new in
@@ -120,16 +121,17 @@ takes_all old core room q w acts aside role handles held keeps b l d past f =
           sound = f.inside.sound;
           by_fault = f.inside.by_fault;
           one_stop = took_stops s old.core past q role may f.inside.one_stop;
+          delays_are = delays_after old.delays more (Took q ∷ past) said f.inside.delays_are;
           come = come_on b v u past (Took q ∷ more) old.course (took_none s old.core past q role may f.session.history.lawful said distinct) (grows_none v u refl refl) f.inside.come;
         };
       };
       adds = λ waiting. record { outcomes = unplaced; lines = lines; may = said_may waiting more said; few_got = said_few more 0 said };
     })
 
-pub takes : (old : Kept) (core : Core) (room : ℕ) (q : Request) (w : WaitingLists) (acts : List Act) → old.aside ≡ Some q → old.core.station.role ≡ Initiator
+pub takes : (old : Machine) (core : Core) (room : ℕ) (q : Request) (w : WaitingLists) (acts : List Act) → old.aside ≡ Some q → old.core.station.role ≡ Initiator
     → Handles old.core core (Took q) acts → KeepsHeld old.core core (Took q) acts → Keeps (record { outcomes = old.unplaced; lines = old.unannounced; room = room }) w acts
     → TakesAside old (record old { core = core; aside = None; unplaced = w.outcomes; unannounced = w.lines })
-unfolding KeptGoes
+unfolding MachineGoes
 takes old core room q w acts aside role handles held keeps = record {
   acts = acts_of q acts;
   goes = λ b l d past f. (takes_all old core room q w acts aside role handles held keeps b l d past f).fits;

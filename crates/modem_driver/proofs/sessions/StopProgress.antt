@@ -15,9 +15,9 @@ use Rattle.modem_history.specs.Sessions.{Beginning, SessionView, at_place}
 use Rattle.modem_history.specs.Turns.{outcomes_told}
 use Rattle.modem_history.proofs.calls.StatesAfterActs.{after_both}
 use Rattle.modem_history.proofs.requests.RequestsInHand.{found_tests}
-use Rattle.modem_driver.specs.declared.session.ending.Asker.{Asker}
-use Rattle.modem_driver.specs.declared.session.ending.Course.{Course}
-use Rattle.modem_driver.specs.declared.session.ending.Course.TheVariants.{GoesOn, Stopped, Ended}
+use Rattle.modem_driver.specs.declared.machine.course.Asker.{Asker}
+use Rattle.modem_driver.specs.declared.machine.course.Course.{Course}
+use Rattle.modem_driver.specs.declared.machine.course.Course.TheVariants.{GoesOn, Stopped, Ended}
 use Rattle.modem_driver.specs.declared.session.ending.Ended.TheVariants as ended
 use Rattle.modem_driver.specs.declared.session.error.SessionFault.TheVariants as fault
 use Rattle.modem_driver.specs.Endings.{Begins, HasCome, HasEnded, KeepsEnd, asker_of, course_after, ends_stop, has_stopped, is_answered, is_end_of, is_stop, is_stopped_by}

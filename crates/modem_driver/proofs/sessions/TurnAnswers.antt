@@ -50,7 +50,7 @@ joined x y z u v w q = cc
 contradicted : {m n : ℕ} → m < n → n ≡ m → ⊥
 contradicted less same = omega (arith, less, same)
 
-pub not_lost : (b : Beginning) (s : TurnState) (past : List Act) → s.kept.faulty ≡ false → StandingFits b s past → is_lost past ≡ false
+pub not_lost : (b : Beginning) (s : TurnState) (past : List Act) → s.machine.faulty ≡ false → StandingFits b s past → is_lost past ≡ false
 not_lost b s past sound f = by_loss (is_lost past) refl
   where
     by_loss : (c : Bool) → is_lost past ≡ c → c ≡ false
@@ -71,7 +71,7 @@ all_given b s past f live none =
     let order = gives_in_order (driving b) past f.session.history.lawful in
     order.sent_are ∙ (ap (λ (fs : List Frame). given_on past ++ fs) (order.waits live ∙ none) ∙ append-nil (given_on past))
 
-pub all_sent : (b : Beginning) (s : TurnState) (past : List Act) → StandingFits b s past → s.kept.unwritten ≡ [] → sents past ≡ given_on past → s.line.sent ≡ b.line.sent ++ octets_of_frames (sents past)
+pub all_sent : (b : Beginning) (s : TurnState) (past : List Act) → StandingFits b s past → s.machine.unwritten ≡ [] → sents past ≡ given_on past → s.line.sent ≡ b.line.sent ++ octets_of_frames (sents past)
 all_sent b s past f written same =
     let q = f.session.sent in
     q.sent_are
@@ -79,10 +79,10 @@ all_sent b s past f written same =
     (sym (append-nil q.since) ∙ (ap (λ (xs : List ℕ). q.since ++ xs) (sym written) ∙ (q.frames_are ∙ ap octets_of_frames (sym same))))
 
 -- where no octets wait to be fed and no frame is at hand, every frame was got
-pub all_got : (b : Beginning) (s : TurnState) (past : List Act) → StandingFits b s past → s.kept.unfed ≡ [] → s.kept.deframer.next ≡ None → AllAreGot b (view_of s) past
+pub all_got : (b : Beginning) (s : TurnState) (past : List Act) → StandingFits b s past → s.machine.unfed ≡ [] → s.machine.deframer.next ≡ None → AllAreGot b (view_of s) past
 all_got b s past f unfed none =
     let r = f.session.received in
-    let d = s.kept.deframer in
+    let d = s.machine.deframer in
     let hand : Reads d.n1 d.undecided [] d.undecided = subst (AtHand d.n1 d.undecided) none r.deframes.at_hand in
     let more : Reads d.n1 (d.undecided ++ []) [] d.undecided = subst (λ (xs : List ℕ). Reads d.n1 xs [] d.undecided) (sym (append-nil d.undecided)) hand in
     let whole : Reads d.n1 (r.fed ++ []) (gots past ++ []) d.undecided = r.deframes.reads [] [] d.undecided more in
@@ -106,9 +106,9 @@ pub record Run (s0 s1 s2 s3 s4 s5 s6 s7 : TurnState) (m1 m2 m3 m4 m5 m6 m7 : Boo
   pub gets : Gets s4 s5 m5
   pub reads : ReadsOn s5 s6 m6
   pub takes : TakesOne s6 s7 m7
-  pub sound_first : s0.kept.faulty ≡ false
-  pub sound_written : s4.kept.faulty ≡ false
-  pub sound_read : s6.kept.faulty ≡ false
+  pub sound_first : s0.machine.faulty ≡ false
+  pub sound_written : s4.machine.faulty ≡ false
+  pub sound_read : s6.machine.faulty ≡ false
 
 module _ {s0 s1 s2 s3 s4 s5 s6 s7 : TurnState} {m1 m2 m3 m4 m5 m6 m7 : Bool} where
   abbrev pub all_exchange : Run s0 s1 s2 s3 s4 s5 s6 s7 m1 m2 m3 m4 m5 m6 m7 → Exchange
@@ -122,32 +122,32 @@ module _ {s0 s1 s2 s3 s4 s5 s6 s7 : TurnState} {m1 m2 m3 m4 m5 m6 m7 : Bool} whe
   went_out r =
       let t = placed r.places in
       let w1 = went_placed s0 s1 m1 r.places in
-      let heard : s1.kept.unannounced ≡ s1.kept.unannounced = refl in
-      let w2 = went_step s0 s1 s2 t 0 0 [] r.checks.acts refl w1 r.checks.leads r.checks.adds (ap (λ (s : TurnState). s.line) r.checks.stays) (ap (λ (s : TurnState). s.driver) r.checks.stays) (ap (λ (s : TurnState). s.kept.unfed) r.checks.stays) (λ end e. ap (λ (s : TurnState). s.kept.course) r.checks.stays ∙ e) in
-      went_step s0 s2 s3 t 0 0 r.checks.acts r.sends.acts refl w2 r.sends.leads (r.sends.adds t.still_heard) (ap (λ (s : TurnState). s.line) r.sends.stays) (ap (λ (s : TurnState). s.driver) r.sends.stays) (ap (λ (s : TurnState). s.kept.unfed) r.sends.stays) (λ end e. ap (λ (s : TurnState). s.kept.course) r.sends.stays ∙ e)
+      let heard : s1.machine.unannounced ≡ s1.machine.unannounced = refl in
+      let w2 = went_step s0 s1 s2 t 0 0 [] r.checks.acts refl w1 r.checks.leads r.checks.adds (ap (λ (s : TurnState). s.line) r.checks.stays) (ap (λ (s : TurnState). s.driver) r.checks.stays) (ap (λ (s : TurnState). s.machine.unfed) r.checks.stays) (λ end e. ap (λ (s : TurnState). s.machine.course) r.checks.stays ∙ e) in
+      went_step s0 s2 s3 t 0 0 r.checks.acts r.sends.acts refl w2 r.sends.leads (r.sends.adds t.still_heard) (ap (λ (s : TurnState). s.line) r.sends.stays) (ap (λ (s : TurnState). s.driver) r.sends.stays) (ap (λ (s : TurnState). s.machine.unfed) r.sends.stays) (λ end e. ap (λ (s : TurnState). s.machine.course) r.sends.stays ∙ e)
 
   -- and as far as the frame at hand was handled
   pub went_got : (r : Run s0 s1 s2 s3 s4 s5 s6 s7 m1 m2 m3 m4 m5 m6 m7) → Went s0 s5 (record (placed r.places) { write = r.writes.write }) 1 ((r.checks.acts ++ r.sends.acts) ++ r.gets.acts)
   went_got r =
       let t = record (placed r.places) { write = r.writes.write } in
       let w4 = went_wrote s0 s3 s4 (placed r.places) 0 (r.checks.acts ++ r.sends.acts) m4 refl refl refl (went_out r) r.writes in
-      went_step s0 s4 s5 t 0 1 (r.checks.acts ++ r.sends.acts) r.gets.acts refl w4 r.gets.leads (r.gets.adds (placed r.places).still_heard) (ap (λ (s : TurnState). s.line) r.gets.stays) (ap (λ (s : TurnState). s.driver) r.gets.stays) (ap (λ (s : TurnState). s.kept.unfed) r.gets.stays) r.gets.ended
+      went_step s0 s4 s5 t 0 1 (r.checks.acts ++ r.sends.acts) r.gets.acts refl w4 r.gets.leads (r.gets.adds (placed r.places).still_heard) (ap (λ (s : TurnState). s.line) r.gets.stays) (ap (λ (s : TurnState). s.driver) r.gets.stays) (ap (λ (s : TurnState). s.machine.unfed) r.gets.stays) r.gets.ended
 
   -- what was unfed and aside stays but in its own step
-  pub unfed_at_five : Run s0 s1 s2 s3 s4 s5 s6 s7 m1 m2 m3 m4 m5 m6 m7 → s5.kept.unfed ≡ s0.kept.unfed
+  pub unfed_at_five : Run s0 s1 s2 s3 s4 s5 s6 s7 m1 m2 m3 m4 m5 m6 m7 → s5.machine.unfed ≡ s0.machine.unfed
   unfed_at_five r =
-      ap (λ (s : TurnState). s.kept.unfed) r.gets.stays
-      ∙ (ap (λ (s : TurnState). s.kept.unfed) r.writes.stays
-      ∙ (ap (λ (s : TurnState). s.kept.unfed) r.sends.stays
-      ∙ (ap (λ (s : TurnState). s.kept.unfed) r.checks.stays ∙ ap (λ (s : TurnState). s.kept.unfed) r.places.stays)))
+      ap (λ (s : TurnState). s.machine.unfed) r.gets.stays
+      ∙ (ap (λ (s : TurnState). s.machine.unfed) r.writes.stays
+      ∙ (ap (λ (s : TurnState). s.machine.unfed) r.sends.stays
+      ∙ (ap (λ (s : TurnState). s.machine.unfed) r.checks.stays ∙ ap (λ (s : TurnState). s.machine.unfed) r.places.stays)))
 
-  pub aside_at_six : Run s0 s1 s2 s3 s4 s5 s6 s7 m1 m2 m3 m4 m5 m6 m7 → s6.kept.aside ≡ s0.kept.aside
+  pub aside_at_six : Run s0 s1 s2 s3 s4 s5 s6 s7 m1 m2 m3 m4 m5 m6 m7 → s6.machine.aside ≡ s0.machine.aside
   aside_at_six r =
-      ap (λ (s : TurnState). s.kept.aside) r.reads.stays
-      ∙ (ap (λ (s : TurnState). s.kept.aside) r.gets.stays
-      ∙ (ap (λ (s : TurnState). s.kept.aside) r.writes.stays
-      ∙ (ap (λ (s : TurnState). s.kept.aside) r.sends.stays
-      ∙ (ap (λ (s : TurnState). s.kept.aside) r.checks.stays ∙ ap (λ (s : TurnState). s.kept.aside) r.places.stays))))
+      ap (λ (s : TurnState). s.machine.aside) r.reads.stays
+      ∙ (ap (λ (s : TurnState). s.machine.aside) r.gets.stays
+      ∙ (ap (λ (s : TurnState). s.machine.aside) r.writes.stays
+      ∙ (ap (λ (s : TurnState). s.machine.aside) r.sends.stays
+      ∙ (ap (λ (s : TurnState). s.machine.aside) r.checks.stays ∙ ap (λ (s : TurnState). s.machine.aside) r.places.stays))))
 
   pub went_all : (r : Run s0 s1 s2 s3 s4 s5 s6 s7 m1 m2 m3 m4 m5 m6 m7) → Went s0 s7 (all_exchange r) 1 (all_acts r)
   went_all r =
@@ -184,7 +184,7 @@ module _ {s0 s1 s2 s3 s4 s5 s6 s7 : TurnState} {m1 m2 m3 m4 m5 m6 m7 : Bool} whe
       let heard = nat_lt (amount s0.driver.announced) (amount s7.driver.announced) in
       let came = nat_lt (length s0.line.received) (length s7.line.received) in
       let wrote = nat_lt (length s0.line.sent) (length s7.line.sent) in
-      let fed = nat_lt (length s7.kept.unfed) (length s0.kept.unfed) in
+      let fed = nat_lt (length s7.machine.unfed) (length s0.machine.unfed) in
       let some : List Act → Bool = λ acts. list_any is_more acts in
       let driver = driver_at_six r in
       let e1 : m1 ≡ (told || heard) =
@@ -197,10 +197,10 @@ module _ {s0 s1 s2 s3 s4 s5 s6 s7 : TurnState} {m1 m2 m3 m4 m5 m6 m7 : Bool} whe
       ∙ ap (λ (xs : List ℕ). nat_lt (length s0.line.sent) (length xs)) (sym (sent_at_seven r))) in
       let e6 : m6 ≡ (came || fed) =
       r.reads.moved_is
-      ∙ (ap (λ (xs : List ℕ). nat_lt (length xs) (length s6.line.received) || nat_lt (length s6.kept.unfed) (length s5.kept.unfed)) (received_at_five r)
-      ∙ (ap (λ (xs : List ℕ). nat_lt (length s0.line.received) (length xs) || nat_lt (length s6.kept.unfed) (length s5.kept.unfed)) (sym (ap (λ (l : LineView). l.received) (line_at_seven r)))
-      ∙ (ap (λ (xs : List ℕ). came || nat_lt (length xs) (length s5.kept.unfed)) (sym (ap (λ (s : TurnState). s.kept.unfed) r.takes.stays))
-      ∙ ap (λ (xs : List ℕ). came || nat_lt (length s7.kept.unfed) (length xs)) (unfed_at_five r)))) in
+      ∙ (ap (λ (xs : List ℕ). nat_lt (length xs) (length s6.line.received) || nat_lt (length s6.machine.unfed) (length s5.machine.unfed)) (received_at_five r)
+      ∙ (ap (λ (xs : List ℕ). nat_lt (length s0.line.received) (length xs) || nat_lt (length s6.machine.unfed) (length s5.machine.unfed)) (sym (ap (λ (l : LineView). l.received) (line_at_seven r)))
+      ∙ (ap (λ (xs : List ℕ). came || nat_lt (length xs) (length s5.machine.unfed)) (sym (ap (λ (s : TurnState). s.machine.unfed) r.takes.stays))
+      ∙ ap (λ (xs : List ℕ). came || nat_lt (length s7.machine.unfed) (length xs)) (unfed_at_five r)))) in
       let acts = list_any-append is_more ((r.checks.acts ++ r.sends.acts) ++ r.gets.acts) r.takes.acts
       ∙ ap (λ (c : Bool). c || some r.takes.acts) (list_any-append is_more (r.checks.acts ++ r.sends.acts) r.gets.acts
       ∙ ap (λ (c : Bool). c || some r.gets.acts) (list_any-append is_more r.checks.acts r.sends.acts)) in
@@ -214,14 +214,14 @@ module _ {s0 s1 s2 s3 s4 s5 s6 s7 : TurnState} {m1 m2 m3 m4 m5 m6 m7 : Bool} whe
   pub record Still (r : Run s0 s1 s2 s3 s4 s5 s6 s7 m1 m2 m3 m4 m5 m6 m7) : Type 0 where
     pub checked : m2 ≡ false
     pub sent : m3 ≡ false
-    pub written : s4.kept ≡ s3.kept
+    pub written : s4.machine ≡ s3.machine
     pub got_none : r.gets.acts ≡ []
     pub got_still : s5 ≡ s4
     pub got : m5 ≡ false
     pub read : m6 ≡ false
     pub took : m7 ≡ false
     pub took_none : r.takes.acts ≡ []
-    pub took_still : s7.kept ≡ s6.kept
+    pub took_still : s7.machine ≡ s6.machine
     pub acts_are : all_acts r ≡ r.checks.acts ++ r.sends.acts
     pub wrote : m4 ≡ false
 
@@ -235,7 +235,7 @@ module _ {s0 s1 s2 s3 s4 s5 s6 s7 : TurnState} {m1 m2 m3 m4 m5 m6 m7 : Bool} whe
       let p6 = or_parts m6 m7 p5.1 in
       let got = r.gets.still p5.0 in
       let took = r.takes.still p6.1 in
-      let sound : s3.kept.faulty ≡ false = ap (λ (s : TurnState). s.kept.faulty) r.sends.stays ∙ (ap (λ (s : TurnState). s.kept.faulty) r.checks.stays ∙ (ap (λ (s : TurnState). s.kept.faulty) r.places.stays ∙ r.sound_first)) in
+      let sound : s3.machine.faulty ≡ false = ap (λ (s : TurnState). s.machine.faulty) r.sends.stays ∙ (ap (λ (s : TurnState). s.machine.faulty) r.checks.stays ∙ (ap (λ (s : TurnState). s.machine.faulty) r.places.stays ∙ r.sound_first)) in
       record {
         checked = p2.0;
         sent = p3.0;
@@ -255,5 +255,5 @@ module _ {s0 s1 s2 s3 s4 s5 s6 s7 : TurnState} {m1 m2 m3 m4 m5 m6 m7 : Bool} whe
       }
 
   -- a call on the line neither failed nor gave octets
-  pub sound_five : (r : Run s0 s1 s2 s3 s4 s5 s6 s7 m1 m2 m3 m4 m5 m6 m7) → Still r → s6.kept.faulty ≡ s5.kept.faulty
-  sound_five r q = r.sound_read ∙ sym (ap (λ (s : TurnState). s.kept.faulty) q.got_still ∙ r.sound_written)
+  pub sound_five : (r : Run s0 s1 s2 s3 s4 s5 s6 s7 m1 m2 m3 m4 m5 m6 m7) → Still r → s6.machine.faulty ≡ s5.machine.faulty
+  sound_five r q = r.sound_read ∙ sym (ap (λ (s : TurnState). s.machine.faulty) q.got_still ∙ r.sound_written)

@@ -14,7 +14,7 @@ use Rattle.modem_history.specs.Sessions.{heard_as}
 use Rattle.modem_history.specs.Turns.{Exchange, TurnFault, PlacesAlone, outcomes_told, lines_heard, may_act, may_fail}
 use Rattle.modem_history.specs.EveryTurn.{GoesFault}
 use Rattle.modem_history.proofs.calls.StatesAfterActs.{after_both}
-use Rattle.modem_driver.specs.SessionStates.{Kept, KeptGoes, KeptLoses, end_of}
+use Rattle.modem_driver.specs.SessionStates.{Machine, MachineGoes, MachineLoses, end_of}
 use Rattle.modem_driver.specs.TurnSteps.{TurnState, StandingFits, Leads, Places, view_of, inside}
 use Rattle.modem_driver.proofs.sessions.CollectedActs.{told_both}
 use Rattle.modem_driver.proofs.sessions.ListenedLines.{heard_both}
@@ -42,7 +42,7 @@ none_loses us (a ∷ acts) past h live =
     one_loses Given e = live
 
 -- there was no memory for a step of a turn
-pub wants_memory : (s0 s : TurnState) (t : Exchange) (acts : List Act) → Went s0 s t 1 acts → (s0.kept.faulty ≡ false) ⊎ PlacesAlone (view_of s0) (view_of s) acts → s0.kept.core.lost ≡ false
+pub wants_memory : (s0 s : TurnState) (t : Exchange) (acts : List Act) → Went s0 s t 1 acts → (s0.machine.faulty ≡ false) ⊎ PlacesAlone (view_of s0) (view_of s) acts → s0.machine.core.lost ≡ false
     → GoesFault (view_of s0) (view_of s) (λ b. inside b s0) (λ b. inside b s) TurnFault.NoMemory
 unfolding Leads
 wants_memory s0 s t acts w sound live = record {
@@ -70,24 +70,24 @@ wants_memory s0 s t acts w sound live = record {
         acts_may = fail_all t.still_heard acts adds.may;
         means = record {
           live = none_loses t.still_heard acts past adds.may (f.inside.fits.lost_is ∙ live);
-          behind = ⊎_elim (λ (e : s0.kept.faulty ≡ false). inl (f.inside.sound e)) (λ (p : PlacesAlone (view_of s0) (view_of s) acts). inr p) sound;
+          behind = ⊎_elim (λ (e : s0.machine.faulty ≡ false). inl (f.inside.sound e)) (λ (p : PlacesAlone (view_of s0) (view_of s) acts). inr p) sound;
         };
       };
 }
 
 -- the line is lost after so much of a turn
-lost_there : (s0 s1 : TurnState) (new : Kept) (t : Exchange) (xs : List Act) → t.next ≡ None → Went s0 s1 t 1 xs → KeptLoses s1.kept new → s0.kept.core.lost ≡ false
-    → GoesFault (view_of s0) (view_of (record s1 { kept = new })) (λ b. inside b s0) (λ b. inside b (record s1 { kept = new })) TurnFault.LineFailed
-unfolding Leads KeptGoes
+lost_there : (s0 s1 : TurnState) (new : Machine) (t : Exchange) (xs : List Act) → t.next ≡ None → Went s0 s1 t 1 xs → MachineLoses s1.machine new → s0.machine.core.lost ≡ false
+    → GoesFault (view_of s0) (view_of (record s1 { machine = new })) (λ b. inside b s0) (λ b. inside b (record s1 { machine = new })) TurnFault.LineFailed
+unfolding Leads MachineGoes
 lost_there s0 s1 new t xs none w k live =
     let still = taken_still s0 s1 t 1 xs none w in
-    let unfed : length new.unfed ≡ length s1.kept.unfed = ap (λ (v : Kept). length v.unfed) k.stays in
+    let unfed : length new.unfed ≡ length s1.machine.unfed = ap (λ (v : Machine). length v.unfed) k.stays in
     record {
       acts = xs ++ k.acts;
       exchange = t;
-      offers = λ b past f. offers_what_waits b s0 (record s1 { kept = new }) t past f (offers_on s0 s1 (record s1 { kept = new }) t w.offers (same_desk s1.driver s1.driver refl));
+      offers = λ b past f. offers_what_waits b s0 (record s1 { machine = new }) t past f (offers_on s0 s1 (record s1 { machine = new }) t w.offers (same_desk s1.driver s1.driver refl));
       goes = λ b past f.
-          subst (StandingFits b (record s1 { kept = new })) (sym (after_both xs k.acts past)) (k.goes b s1.line s1.driver (after past xs) (w.leads b past f));
+          subst (StandingFits b (record s1 { machine = new })) (sym (after_both xs k.acts past)) (k.goes b s1.line s1.driver (after past xs) (w.leads b past f));
       fault = λ b past f.
           let at : StandingFits b s1 (after past xs) = w.leads b past f in
           let first = w.adds b past f in
@@ -133,10 +133,10 @@ lost_there s0 s1 new t xs none w k live =
           };
     }
 
-pub loses_line : (s0 s1 s2 : TurnState) (t : Exchange) (xs : List Act) → t.next ≡ None → Went s0 s1 t 1 xs → s2 ≡ record s1 { kept = s2.kept } → KeptLoses s1.kept s2.kept → s0.kept.core.lost ≡ false
+pub loses_line : (s0 s1 s2 : TurnState) (t : Exchange) (xs : List Act) → t.next ≡ None → Went s0 s1 t 1 xs → s2 ≡ record s1 { machine = s2.machine } → MachineLoses s1.machine s2.machine → s0.machine.core.lost ≡ false
     → GoesFault (view_of s0) (view_of s2) (λ b. inside b s0) (λ b. inside b s2) TurnFault.LineFailed
 loses_line s0 s1 s2 t xs none w same k live =
-    subst (λ (s : TurnState). GoesFault (view_of s0) (view_of s) (λ b. inside b s0) (λ b. inside b s) TurnFault.LineFailed) (sym same) (lost_there s0 s1 s2.kept t xs none w k live)
+    subst (λ (s : TurnState). GoesFault (view_of s0) (view_of s) (λ b. inside b s0) (λ b. inside b s) TurnFault.LineFailed) (sym same) (lost_there s0 s1 s2.machine t xs none w k live)
 
 -- what waits was placed, and nothing else is done
 pub places_alone : (s0 s1 : TurnState) (moved : Bool) → Places s0 s1 moved → PlacesAlone (view_of s0) (view_of s1) []
@@ -144,12 +144,12 @@ places_alone s0 s1 moved p = record {
   no_acts = refl;
   stays =
       ap view_of p.stays
-      ∙ (ap (λ (qs : List Request). record (view_of s0) { desk = record (end_of s1.driver) { taken = qs }; unplaced = s1.kept.unplaced; unannounced = s1.kept.unannounced }) p.taken_stays
-      ∙ ap (λ (n : ℕ). record (view_of s0) { desk = record (end_of s1.driver) { taken = s0.driver.taken; found_none = n }; unplaced = s1.kept.unplaced; unannounced = s1.kept.unannounced }) p.found_stays);
+      ∙ (ap (λ (qs : List Request). record (view_of s0) { desk = record (end_of s1.driver) { taken = qs }; unplaced = s1.machine.unplaced; unannounced = s1.machine.unannounced }) p.taken_stays
+      ∙ ap (λ (n : ℕ). record (view_of s0) { desk = record (end_of s1.driver) { taken = s0.driver.taken; found_none = n }; unplaced = s1.machine.unplaced; unannounced = s1.machine.unannounced }) p.found_stays);
 }
 
 -- the line was lost before
-pub has_failed : (s0 s1 : TurnState) (moved : Bool) → Places s0 s1 moved → s0.kept.core.lost ≡ true
+pub has_failed : (s0 s1 : TurnState) (moved : Bool) → Places s0 s1 moved → s0.machine.core.lost ≡ true
     → GoesFault (view_of s0) (view_of s1) (λ b. inside b s0) (λ b. inside b s1) TurnFault.Failed
 unfolding Leads
 has_failed s0 s1 moved p lost =

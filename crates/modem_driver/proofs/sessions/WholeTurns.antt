@@ -19,7 +19,7 @@ use Rattle.modem_history.specs.Sessions.{Beginning, LineView, at_place, caller_o
 use Rattle.modem_history.specs.Turns.{Write, Read, Exchange, HandsBack, ReadHasRoom, octets_written, octets_read, request_given, calls_made, counted, outcomes_told, lines_heard, may_act}
 use Rattle.modem_history.proofs.calls.StatesAfterActs.{after_both}
 use Rattle.modem_driver.specs.Endings.{Begins, KeepsEnd}
-use Rattle.modem_driver.specs.SessionStates.{Kept}
+use Rattle.modem_driver.specs.SessionStates.{Machine}
 use Rattle.modem_driver.specs.SessionTurns.{HasTurned}
 use Rattle.modem_driver.specs.TurnSteps.{TurnState, StandingFits, Leads, Adds, AddsAll, Places, Writes, ReadsOn, TakesOne, KeepsAside, view_of}
 use Rattle.modem_driver.proofs.sessions.CollectedActs.{told_both}
@@ -40,7 +40,7 @@ leads_still s0 s1 s2 xs l m = subst (Leads s0 s2) (append-nil xs) (leads_on s0 s
 
 -- what its acts told and heard waits behind what still waited, they are such as a turn may have, and so many frames were
 -- handled at most
-pub record AddsTo (t : Exchange) (now : Kept) (most : ℕ) (acts : List Act) : Type 0 where
+pub record AddsTo (t : Exchange) (now : Machine) (most : ℕ) (acts : List Act) : Type 0 where
   pub outcomes : now.unplaced ≡ t.still_told ++ outcomes_told acts
   pub lines : map heard_as now.unannounced ≡ map heard_as t.still_heard ++ lines_heard acts
   pub may : list_all (may_act t.still_heard) acts ≡ true
@@ -48,9 +48,9 @@ pub record AddsTo (t : Exchange) (now : Kept) (most : ℕ) (acts : List Act) : T
 
 -- what waited at first was offered to the desk's end: it was told and announced, or still waits
 pub record OffersAt (start now : TurnState) (still_told : List Outcome) (still_heard : List Urc) (told_back : List Outcome) (heard_back : List Urc) : Type 0 where
-  pub outcomes : (c : ℕ) → GivesSome (at_place c start.driver.told) (at_place c now.driver.told) (caller_outcomes c start.kept.unplaced) (caller_outcomes c still_told)
+  pub outcomes : (c : ℕ) → GivesSome (at_place c start.driver.told) (at_place c now.driver.told) (caller_outcomes c start.machine.unplaced) (caller_outcomes c still_told)
   pub lines : (i : ℕ) (k : UrcKind) → get_elem? start.driver.desk.kinds i ≡ some k
-      → GivesSome (at_place i start.driver.announced) (at_place i now.driver.announced) (of_kind k start.kept.unannounced) (of_kind k still_heard)
+      → GivesSome (at_place i start.driver.announced) (at_place i now.driver.announced) (of_kind k start.machine.unannounced) (of_kind k still_heard)
   pub elsewhere : (i : ℕ) → ((k : UrcKind) → ¬ (get_elem? start.driver.desk.kinds i ≡ some k)) → at_place i now.driver.announced ≡ at_place i start.driver.announced
   pub outcomes_back : (c : ℕ) → c < length start.driver.desk.rings → count_at c now.driver.told_back ≡ counted (count_at c start.driver.told_back) (length (caller_outcomes c told_back))
   pub lines_back : (i : ℕ) (k : UrcKind) → get_elem? start.driver.desk.kinds i ≡ some k → count_at i now.driver.announced_back ≡ counted (count_at i start.driver.announced_back) (length (of_kind k heard_back))
@@ -70,8 +70,8 @@ same_desk old new e = record { told = ap (λ (d : DriverView). d.told) e; announ
 
 pub offers_on : (s0 s1 s2 : TurnState) (t : Exchange) → OffersBy s0 s1 t → StaysAtDesk s1.driver s2.driver → OffersBy s0 s2 t
 offers_on s0 s1 s2 t o d = record {
-  outcomes = λ c. subst (λ (os : List (List Outcome)). GivesSome (at_place c s0.driver.told) (at_place c os) (caller_outcomes c s0.kept.unplaced) (caller_outcomes c t.still_told)) (sym d.told) (o.outcomes c);
-  lines = λ i k e. subst (λ (us : List (List Urc)). GivesSome (at_place i s0.driver.announced) (at_place i us) (of_kind k s0.kept.unannounced) (of_kind k t.still_heard)) (sym d.announced) (o.lines i k e);
+  outcomes = λ c. subst (λ (os : List (List Outcome)). GivesSome (at_place c s0.driver.told) (at_place c os) (caller_outcomes c s0.machine.unplaced) (caller_outcomes c t.still_told)) (sym d.told) (o.outcomes c);
+  lines = λ i k e. subst (λ (us : List (List Urc)). GivesSome (at_place i s0.driver.announced) (at_place i us) (of_kind k s0.machine.unannounced) (of_kind k t.still_heard)) (sym d.announced) (o.lines i k e);
   elsewhere = λ i out. ap (at_place i) d.announced ∙ o.elsewhere i out;
   outcomes_back = λ c lt. ap (count_at c) d.told_back ∙ o.outcomes_back c lt;
   lines_back = λ i k e. ap (count_at i) d.announced_back ∙ o.lines_back i k e;
@@ -115,16 +115,16 @@ pub record Went (start now : TurnState) (t : Exchange) (most : ℕ) (acts : List
   pub calls : now.line.calls ≡ counted start.line.calls (calls_made t.write + calls_made t.read)
   pub taken : now.driver.taken ≡ start.driver.taken ++ request_given t.next
   pub hands_back : HandsBack t
-  pub unfed : length now.kept.unfed ≤ length start.kept.unfed + length (octets_read t.read)
-  pub reads_fed : t.read ≢ None → start.kept.unfed ≡ []
-  pub asks_bare : t.next ≢ None → start.kept.aside ≡ None
-  pub ended : KeepsEnd start.kept.course now.kept.course
+  pub unfed : length now.machine.unfed ≤ length start.machine.unfed + length (octets_read t.read)
+  pub reads_fed : t.read ≢ None → start.machine.unfed ≡ []
+  pub asks_bare : t.next ≢ None → start.machine.aside ≡ None
+  pub ended : KeepsEnd start.machine.course now.machine.course
   pub offers : OffersBy start now t
-  pub adds : (b : Beginning) (past : List Act) → StandingFits b start past → AddsTo t now.kept most acts
+  pub adds : (b : Beginning) (past : List Act) → StandingFits b start past → AddsTo t now.machine most acts
 
 -- what the desk was offered first
 abbrev pub placed : {old new : TurnState} {moved : Bool} → Places old new moved → Exchange
-placed {old} {new} p = record { still_told = new.kept.unplaced; still_heard = new.kept.unannounced; told_back = p.told_back; heard_back = p.heard_back; write = None; read = None; next = None }
+placed {old} {new} p = record { still_told = new.machine.unplaced; still_heard = new.machine.unannounced; told_back = p.told_back; heard_back = p.heard_back; write = None; read = None; next = None }
 
 -- ## The steps
 
@@ -134,7 +134,7 @@ line_still s0 s1 e = ap (λ (l : LineView). l.received) e ∙ sym (append-nil s0
 pub went_placed : (s0 s1 : TurnState) (moved : Bool) (p : Places s0 s1 moved) → Went s0 s1 (placed p) 0 []
 went_placed s0 s1 moved p =
     let line : s1.line ≡ s0.line = ap (λ (s : TurnState). s.line) p.stays in
-    let unfed : s1.kept.unfed ≡ s0.kept.unfed = ap (λ (s : TurnState). s.kept.unfed) p.stays in
+    let unfed : s1.machine.unfed ≡ s0.machine.unfed = ap (λ (s : TurnState). s.machine.unfed) p.stays in
     record {
       leads = p.leads;
       came = ap (λ (l : LineView). l.received) line ∙ sym (append-nil s0.line.received);
@@ -146,11 +146,11 @@ went_placed s0 s1 moved p =
       unfed = let e = ap length unfed in omega (arith, e);
       reads_fed = λ read. absurd (read refl);
       asks_bare = λ asked. absurd (asked refl);
-      ended = λ end e. ap (λ (s : TurnState). s.kept.course) p.stays ∙ e;
+      ended = λ end e. ap (λ (s : TurnState). s.machine.course) p.stays ∙ e;
       offers = record { outcomes = p.each_told; lines = p.each_announced; elsewhere = p.elsewhere; outcomes_back = p.told_counts; lines_back = p.announced_counts };
       adds = λ b past f. record {
-        outcomes = sym (append-nil s1.kept.unplaced);
-        lines = sym (append-nil (map heard_as s1.kept.unannounced));
+        outcomes = sym (append-nil s1.machine.unplaced);
+        lines = sym (append-nil (map heard_as s1.machine.unannounced));
         may = refl;
         few_got = omega arith;
       };
@@ -160,7 +160,7 @@ went_placed s0 s1 moved p =
 pub taken_still : (s0 s1 : TurnState) (t : Exchange) (n : ℕ) (xs : List Act) → t.next ≡ None → Went s0 s1 t n xs → s1.driver.taken ≡ s0.driver.taken
 taken_still s0 s1 t n xs none w = w.taken ∙ (ap (λ (o : Option (Option Request)). s0.driver.taken ++ request_given o) none ∙ append-nil s0.driver.taken)
 
-adds_on : (t : Exchange) (k1 k2 : Kept) (n m : ℕ) (xs ys : List Act) → AddsTo t k1 n xs → Adds k1 k2 t.still_heard m ys → AddsTo t k2 (n + m) (xs ++ ys)
+adds_on : (t : Exchange) (k1 k2 : Machine) (n m : ℕ) (xs ys : List Act) → AddsTo t k1 n xs → Adds k1 k2 t.still_heard m ys → AddsTo t k2 (n + m) (xs ++ ys)
 adds_on t k1 k2 n m xs ys a d = record {
   outcomes =
       d.outcomes
@@ -178,7 +178,7 @@ adds_on t k1 k2 n m xs ys a d = record {
 
 -- a step of the core: the line, what the desk gave and the octets not yet fed stay
 pub went_step : (s0 s1 s2 : TurnState) (t : Exchange) (n m : ℕ) (xs ys : List Act) → t.next ≡ None → Went s0 s1 t n xs → Leads s1 s2 ys → AddsAll s1 s2 t.still_heard m ys
-    → s2.line ≡ s1.line → s2.driver ≡ s1.driver → s2.kept.unfed ≡ s1.kept.unfed → KeepsEnd s1.kept.course s2.kept.course → Went s0 s2 t (n + m) (xs ++ ys)
+    → s2.line ≡ s1.line → s2.driver ≡ s1.driver → s2.machine.unfed ≡ s1.machine.unfed → KeepsEnd s1.machine.course s2.machine.course → Went s0 s2 t (n + m) (xs ++ ys)
 unfolding Leads AddsAll
 went_step s0 s1 s2 t n m xs ys none w leads adds line driver unfed ended =
     let still = taken_still s0 s1 t n xs none w in
@@ -196,11 +196,11 @@ went_step s0 s1 s2 t n m xs ys none w leads adds line driver unfed ended =
       asks_bare = w.asks_bare;
       ended = λ end e. ended end (w.ended end e);
       adds = λ b past f.
-          adds_on t s1.kept s2.kept n m xs ys (w.adds b past f) (adds b (after past xs) (w.leads b past f));
+          adds_on t s1.machine s2.machine n m xs ys (w.adds b past f) (adds b (after past xs) (w.leads b past f));
     }
 
 -- what was told and heard still waits as it did
-adds_still : (t : Exchange) (k1 k2 : Kept) (n : ℕ) (xs : List Act) → AddsTo t k1 n xs → k2.unplaced ≡ k1.unplaced → k2.unannounced ≡ k1.unannounced → AddsTo t k2 n xs
+adds_still : (t : Exchange) (k1 k2 : Machine) (n : ℕ) (xs : List Act) → AddsTo t k1 n xs → k2.unplaced ≡ k1.unplaced → k2.unannounced ≡ k1.unannounced → AddsTo t k2 n xs
 adds_still t k1 k2 n xs a told heard = record { outcomes = told ∙ a.outcomes; lines = ap (map heard_as) heard ∙ a.lines; may = a.may; few_got = a.few_got }
 
 pub went_wrote : (s0 s1 s2 : TurnState) (t : Exchange) (n : ℕ) (xs : List Act) (moved : Bool) → t.next ≡ None → t.write ≡ None → t.read ≡ None → Went s0 s1 t n xs → (k : Writes s1 s2 moved)
@@ -219,12 +219,12 @@ went_wrote s0 s1 s2 t n xs moved none unwritten unread w k =
       taken = ap (λ (d : DriverView). d.taken) same ∙ w.taken;
       offers = offers_on s0 s1 s2 t w.offers (same_desk s1.driver s2.driver same);
       hands_back = record { outcomes = w.hands_back.outcomes; lines = w.hands_back.lines };
-      ended = λ end e. ap (λ (s : TurnState). s.kept.course) k.stays ∙ w.ended end e;
-      unfed = let e = ap (λ (s : TurnState). length s.kept.unfed) k.stays in let before = w.unfed in omega (arith, e, before);
+      ended = λ end e. ap (λ (s : TurnState). s.machine.course) k.stays ∙ w.ended end e;
+      unfed = let e = ap (λ (s : TurnState). length s.machine.unfed) k.stays in let before = w.unfed in omega (arith, e, before);
       reads_fed = w.reads_fed;
       asks_bare = w.asks_bare;
       adds = λ b past f.
-          let a = adds_still t s1.kept s2.kept n xs (w.adds b past f) (ap (λ (s : TurnState). s.kept.unplaced) k.stays) (ap (λ (s : TurnState). s.kept.unannounced) k.stays) in
+          let a = adds_still t s1.machine s2.machine n xs (w.adds b past f) (ap (λ (s : TurnState). s.machine.unplaced) k.stays) (ap (λ (s : TurnState). s.machine.unannounced) k.stays) in
           record { outcomes = a.outcomes; lines = a.lines; may = a.may; few_got = a.few_got };
     }
   where
@@ -238,13 +238,13 @@ counted_both n None (Some r) = refl
 counted_both n (Some w) None = refl
 counted_both n (Some w) (Some r) = omega arith
 
-pub went_read : (s0 s1 s2 : TurnState) (t : Exchange) (n : ℕ) (xs : List Act) (moved : Bool) → t.next ≡ None → t.read ≡ None → s1.kept.unfed ≡ s0.kept.unfed → Went s0 s1 t n xs → (k : ReadsOn s1 s2 moved)
+pub went_read : (s0 s1 s2 : TurnState) (t : Exchange) (n : ℕ) (xs : List Act) (moved : Bool) → t.next ≡ None → t.read ≡ None → s1.machine.unfed ≡ s0.machine.unfed → Went s0 s1 t n xs → (k : ReadsOn s1 s2 moved)
     → Went s0 s2 (record t { read = k.read }) n xs
 went_read s0 s1 s2 t n xs moved none unread same_unfed w k =
     let still = taken_still s0 s1 t n xs none w in
     let same : s2.driver ≡ s1.driver = ap (λ (s : TurnState). s.driver) k.stays in
     let came : s1.line.received ≡ s0.line.received = w.came ∙ (ap (λ (o : Option Read). s0.line.received ++ octets_read o) unread ∙ append-nil s0.line.received) in
-    let before : length s1.kept.unfed ≤ length s0.kept.unfed + 0 = subst (λ (o : Option Read). length s1.kept.unfed ≤ length s0.kept.unfed + length (octets_read o)) unread w.unfed in
+    let before : length s1.machine.unfed ≤ length s0.machine.unfed + 0 = subst (λ (o : Option Read). length s1.machine.unfed ≤ length s0.machine.unfed + length (octets_read o)) unread w.unfed in
     let more = k.unfed in
     let count : s1.line.calls ≡ counted s0.line.calls (calls_made t.write) = w.calls ∙ (ap (λ (o : Option Read). counted s0.line.calls (calls_made t.write + calls_made o)) unread ∙ ap (counted s0.line.calls) (one_alone (calls_made t.write))) in
     record {
@@ -256,19 +256,19 @@ went_read s0 s1 s2 t n xs moved none unread same_unfed w k =
       taken = ap (λ (d : DriverView). d.taken) same ∙ w.taken;
       offers = offers_on s0 s1 s2 t w.offers (same_desk s1.driver s2.driver same);
       hands_back = record { outcomes = w.hands_back.outcomes; lines = w.hands_back.lines };
-      ended = λ end e. ap (λ (s : TurnState). s.kept.course) k.stays ∙ w.ended end e;
+      ended = λ end e. ap (λ (s : TurnState). s.machine.course) k.stays ∙ w.ended end e;
       unfed = omega (arith, before, more);
       reads_fed = λ read. sym same_unfed ∙ k.reads_fed read;
       asks_bare = w.asks_bare;
       adds = λ b past f.
-          let a = adds_still t s1.kept s2.kept n xs (w.adds b past f) (ap (λ (s : TurnState). s.kept.unplaced) k.stays) (ap (λ (s : TurnState). s.kept.unannounced) k.stays) in
+          let a = adds_still t s1.machine s2.machine n xs (w.adds b past f) (ap (λ (s : TurnState). s.machine.unplaced) k.stays) (ap (λ (s : TurnState). s.machine.unannounced) k.stays) in
           record { outcomes = a.outcomes; lines = a.lines; may = a.may; few_got = a.few_got };
     }
   where
     one_alone : (n : ℕ) → n + 0 ≡ n
     one_alone n = omega arith
 
-pub went_took : (s0 s1 s2 : TurnState) (t : Exchange) (n : ℕ) (xs : List Act) (moved : Bool) → t.next ≡ None → s1.kept.aside ≡ s0.kept.aside → Went s0 s1 t n xs → (k : TakesOne s1 s2 moved)
+pub went_took : (s0 s1 s2 : TurnState) (t : Exchange) (n : ℕ) (xs : List Act) (moved : Bool) → t.next ≡ None → s1.machine.aside ≡ s0.machine.aside → Went s0 s1 t n xs → (k : TakesOne s1 s2 moved)
     → Went s0 s2 (record t { next = k.next }) (n + 0) (xs ++ k.acts)
 unfolding Leads AddsAll
 went_took s0 s1 s2 t n xs moved none same_aside w k =
@@ -283,16 +283,16 @@ went_took s0 s1 s2 t n xs moved none same_aside w k =
       taken = k.taken ∙ ap (λ (qs : List Request). qs ++ request_given k.next) still;
       offers = offers_on s0 s1 s2 t w.offers (record { told = k.desk_stays.1.0; announced = k.desk_stays.1.1; told_back = k.backs_stay.0; announced_back = k.backs_stay.1 });
       hands_back = record { outcomes = w.hands_back.outcomes; lines = w.hands_back.lines };
-      ended = λ end e. ap (λ (s : TurnState). s.kept.course) k.stays ∙ w.ended end e;
-      unfed = let e = ap (λ (s : TurnState). length s.kept.unfed) k.stays in let before = w.unfed in omega (arith, e, before);
+      ended = λ end e. ap (λ (s : TurnState). s.machine.course) k.stays ∙ w.ended end e;
+      unfed = let e = ap (λ (s : TurnState). length s.machine.unfed) k.stays in let before = w.unfed in omega (arith, e, before);
       reads_fed = w.reads_fed;
       asks_bare = λ asked. sym same_aside ∙ k.asks_bare asked;
       adds = λ b past f.
-          let a = adds_on t s1.kept s2.kept n 0 xs k.acts (w.adds b past f) (k.adds t.still_heard b (after past xs) (w.leads b past f)) in
+          let a = adds_on t s1.machine s2.machine n 0 xs k.acts (w.adds b past f) (k.adds t.still_heard b (after past xs) (w.leads b past f)) in
           record { outcomes = a.outcomes; lines = a.lines; may = a.may; few_got = a.few_got };
     }
 
-pub went_aside : (s0 s1 s2 : TurnState) (t : Exchange) (n : ℕ) (xs : List Act) → t.next ≡ None → s1.kept.aside ≡ s0.kept.aside → Went s0 s1 t n xs → (k : KeepsAside s1 s2)
+pub went_aside : (s0 s1 s2 : TurnState) (t : Exchange) (n : ℕ) (xs : List Act) → t.next ≡ None → s1.machine.aside ≡ s0.machine.aside → Went s0 s1 t n xs → (k : KeepsAside s1 s2)
     → Went s0 s2 (record t { next = k.next }) n xs
 went_aside s0 s1 s2 t n xs none same_aside w k =
     let still = taken_still s0 s1 t n xs none w in
@@ -306,12 +306,12 @@ went_aside s0 s1 s2 t n xs none same_aside w k =
       taken = k.taken ∙ ap (λ (qs : List Request). qs ++ request_given k.next) still;
       offers = offers_on s0 s1 s2 t w.offers (record { told = k.desk_stays.1.0; announced = k.desk_stays.1.1; told_back = k.backs_stay.0; announced_back = k.backs_stay.1 });
       hands_back = record { outcomes = w.hands_back.outcomes; lines = w.hands_back.lines };
-      ended = λ end e. ap (λ (s : TurnState). s.kept.course) k.stays ∙ w.ended end e;
-      unfed = let e = ap (λ (s : TurnState). length s.kept.unfed) k.stays in let before = w.unfed in omega (arith, e, before);
+      ended = λ end e. ap (λ (s : TurnState). s.machine.course) k.stays ∙ w.ended end e;
+      unfed = let e = ap (λ (s : TurnState). length s.machine.unfed) k.stays in let before = w.unfed in omega (arith, e, before);
       reads_fed = w.reads_fed;
       asks_bare = λ asked. sym same_aside ∙ k.asks_bare asked;
       adds = λ b past f.
-          let a = adds_still t s1.kept s2.kept n xs (w.adds b past f) (ap (λ (s : TurnState). s.kept.unplaced) k.stays) (ap (λ (s : TurnState). s.kept.unannounced) k.stays) in
+          let a = adds_still t s1.machine s2.machine n xs (w.adds b past f) (ap (λ (s : TurnState). s.machine.unplaced) k.stays) (ap (λ (s : TurnState). s.machine.unannounced) k.stays) in
           record { outcomes = a.outcomes; lines = a.lines; may = a.may; few_got = a.few_got };
     }
 

@@ -4,7 +4,6 @@ ghost use Rattle.modem_driver.specs.Cores.{state_shown};
 ghost use Rattle.modem_driver.specs.Endpoints.{GivesLine, GivesOutcome, Leaves};
 
 use crate::endpoint::Endpoint;
-use crate::session::kept::Kept;
 use modem_desk::{Outcome, Request, Urc};
 use mux_frame::Dlci;
 use mux_station::ChannelState;
@@ -18,65 +17,45 @@ pub struct Left {
     pub unsolicited: Vec<Urc>,
 }
 
-impl Kept {
-    /// The outcome that waits first, which waits no more.
-    fn next_outcome(&mut self) -> Option<Outcome>
-        ensures { MatchOption result ((self.old.unplaced ≡ []) × (self.new ≡ self.old))
-            (λ o. (self.old.unplaced ≡ o ∷ self.new.unplaced)
-            × (self.new ≡ record self.old { unplaced = self.new.unplaced })) }
-    {
-        self.waiting.outcomes.pop_front()
-    }
-
-    /// The line that waits first, which waits no more.
-    fn next_line(&mut self) -> Option<Urc>
-        ensures { MatchOption result ((self.old.unannounced ≡ []) × (self.new ≡ self.old))
-            (λ u. (self.old.unannounced ≡ u ∷ self.new.unannounced)
-            × (self.new ≡ record self.old { unannounced = self.new.unannounced })) }
-    {
-        self.waiting.lines.pop_front()
-    }
-}
-
 impl Endpoint {
     /// The outcome that waits first, if one does. It stays.
     pub fn peek_outcome(&self) -> Option<&Outcome>
-        ensures none { IfNone result (self.now.kept.unplaced ≡ []) }
-        ensures some { IfSome result (λ o. take 1 self.now.kept.unplaced ≡ o.now ∷ []) }
+        ensures none { IfNone result (self.now.machine.unplaced ≡ []) }
+        ensures some { IfSome result (λ o. take 1 self.now.machine.unplaced ≡ o.now ∷ []) }
     {
-        self.kept.waiting.outcomes.front()
+        self.machine.waiting.outcomes.front()
     }
 
     /// The outcome that waits first, if one does; it waits no more. It takes no memory.
     pub fn poll_outcome(&mut self) -> Option<Outcome>
-        ensures { MatchOption result ((self.old.kept.unplaced ≡ []) × (self.new ≡ self.old))
+        ensures { MatchOption result ((self.old.machine.unplaced ≡ []) × (self.new ≡ self.old))
             (λ o. GivesOutcome self.old self.new o) }
     {
-        self.kept.next_outcome()
+        self.machine.next_outcome()
     }
 
     /// The unsolicited line that waits first, if one does. It stays.
     pub fn peek_unsolicited(&self) -> Option<&Urc>
-        ensures none { IfNone result (self.now.kept.unannounced ≡ []) }
-        ensures some { IfSome result (λ u. take 1 self.now.kept.unannounced ≡ u.now ∷ []) }
+        ensures none { IfNone result (self.now.machine.unannounced ≡ []) }
+        ensures some { IfSome result (λ u. take 1 self.now.machine.unannounced ≡ u.now ∷ []) }
     {
-        self.kept.waiting.lines.front()
+        self.machine.waiting.lines.front()
     }
 
     /// The unsolicited line that waits first, if one does; it waits no more. It takes no memory. A
     /// connection that was stopped for its lines is freed by the next `handle_input`.
     pub fn poll_unsolicited(&mut self) -> Option<Urc>
-        ensures { MatchOption result ((self.old.kept.unannounced ≡ []) × (self.new ≡ self.old))
+        ensures { MatchOption result ((self.old.machine.unannounced ≡ []) × (self.new ≡ self.old))
             (λ u. GivesLine self.old self.new u) }
     {
-        self.kept.next_line()
+        self.machine.next_line()
     }
 
     /// How a connection stands. After a loss of the line all are Shut.
     pub fn state(&self, dlci: Dlci) -> ChannelState
-        ensures { result ≡ state_shown self.now.kept.core.station self.now.kept.core.lost dlci.number }
+        ensures { result ≡ state_shown self.now.machine.core.station self.now.machine.core.lost dlci.number }
     {
-        self.kept.core.state(dlci)
+        self.machine.core.state(dlci)
     }
 
     /// What is left, without taking memory.
@@ -84,7 +63,7 @@ impl Endpoint {
     pub fn finish(self) -> Left
         ensures { Leaves self result.in_hand.items result.outcomes.items result.unsolicited.items }
     {
-        let (in_hand, outcomes, unsolicited) = self.kept.into_lists();
+        let (in_hand, outcomes, unsolicited) = self.machine.into_lists();
         Left {
             in_hand,
             outcomes,

@@ -1,81 +1,10 @@
 //! Octets that the caller read from its line.
-ghost use Rattle.std.specs.Prelude.{◌≡◌, ◌≢◌, ◌<◌, ◌≤◌, [], length, take, true, None, is_some, OnOk, OnErr};
+ghost use Rattle.std.specs.Prelude.{◌≡◌, ◌≤◌, length, take};
 ghost use Rattle.modem_desk.specs.Ends.{DriverView};
 ghost use Rattle.modem_history.specs.Sessions.{LineView};
-ghost use Rattle.modem_driver.specs.EndpointSteps.{FeedsFrom, HandLacksRoom, HandlesFrames, TakesFrom};
-ghost use Rattle.modem_driver.specs.Endpoints.{KeptSays, Says, TakesOctets};
-ghost use Rattle.modem_driver.specs.declared.session.error.SessionFault.TheVariants as fault;
+ghost use Rattle.modem_driver.specs.Endpoints.{Says, TakesOctets};
 
 use crate::endpoint::{Blocked, Endpoint, Input};
-use crate::session::SessionFault;
-use crate::session::kept::Kept;
-
-impl Kept {
-    /// Handles the frames at hand, one after the other, until none is, or one lacks room for what it
-    /// calls for. Refusal: 1 NoMemory, where the frame that needed it stays at hand.
-    #[tactic(auto, using(crate::proofs::endpoints::TakenOctets::handles_none, crate::proofs::endpoints::TakenOctets::handles_one, crate::proofs::endpoints::TakenOctets::hand_lacks))]
-    pub(crate) fn handle_frames(&mut self) -> Result<(), SessionFault>
-        ensures handles { HandlesFrames self.old self.new }
-        ensures lacks { OnOk result (HandLacksRoom self.new) }
-        ensures at_hand { OnErr result (self.new.deframer.next ≢ None) }
-        ensures unfed { self.new.unfed ≡ self.old.unfed }
-        ensures aside { self.new.aside ≡ self.old.aside }
-        ensures no_memory { OnErr result (result ≡ Err fault.NoMemory) }
-    {
-        while self.get_one()? {}
-        Ok(())
-    }
-
-    /// Whether a frame is at hand.
-    fn has_frame(&mut self) -> bool
-        ensures value { result ≡ is_some self.old.deframer.next }
-        ensures same { self.new ≡ self.old }
-    {
-        self.deframer.peek().is_some()
-    }
-
-    /// Gives the deframer as many of the first of these octets as it takes, and says how many. The
-    /// condition is that none that were read before wait.
-    fn feed_from(&mut self, octets: &[u8]) -> usize
-        requires { self.old.unfed ≡ [] }
-        ensures feeds { FeedsFrom self.old self.new (take result octets.now) }
-        ensures some { self.old.deframer.next ≡ None → 0 < length octets.now → 0 < result }
-        ensures unfed { self.new.unfed ≡ [] }
-        ensures aside { self.new.aside ≡ self.old.aside }
-        ensures few { result ≤ length octets.now }
-    {
-        self.deframer.feed(octets)
-    }
-}
-
-impl Kept {
-    /// Handles the frames at hand, takes octets in, as many of the first as there is room for, and goes
-    /// on so until all are taken and no frame is at hand, or one can't be handled. The condition is
-    /// that none that were read before wait.
-    #[tactic(auto, using(crate::proofs::endpoints::TakenOctets::takes_none, crate::proofs::endpoints::TakenOctets::takes_handled))]
-    fn take_in(&mut self, octets: &[u8]) -> Input
-        requires { self.old.unfed ≡ [] }
-        ensures takes { TakesFrom self.old self.new (take result.taken octets.now) }
-        ensures few { result.taken ≤ length octets.now }
-        ensures says { KeptSays self.new (result.taken ≡ length octets.now) result.blocked }
-        ensures unfed { self.new.unfed ≡ [] }
-        ensures aside { self.new.aside ≡ self.old.aside }
-    {
-        let mut taken = 0;
-        loop {
-            if self.handle_frames().is_err() {
-                return Input::blocked(taken, Blocked::NoMemory);
-            }
-            if self.has_frame() {
-                return Input::blocked(taken, Blocked::OutputFirst);
-            }
-            if taken == octets.len() {
-                return Input::done(taken);
-            }
-            taken += self.feed_from(&octets[taken..]);
-        }
-    }
-}
 
 impl Endpoint {
     /// Takes octets that came, from the front of these, handles the frames that they make, and says how
@@ -91,11 +20,11 @@ impl Endpoint {
         ensures few { result.taken ≤ length octets.now }
         ensures says { Says self.new (result.taken ≡ length octets.now) result.blocked }
     {
-        let input = self.kept.take_in(octets);
+        let input = self.machine.take_in(octets);
         if input.blocked.is_some() {
             return input;
         }
-        let Ok(_moved) = self.kept.check_backlogs() else {
+        let Ok(_moved) = self.machine.check_backlogs() else {
             return Input::blocked(input.taken, Blocked::NoMemory);
         };
         input

@@ -1,45 +1,17 @@
 //! Requests that the caller makes.
-ghost use Rattle.std.specs.Prelude.{◌≡◌, ◌+◌, ◌<◌, nat_le, length, None, Some, IfOk, IfErr, OnOk, OnErr};
+ghost use Rattle.std.specs.Prelude.{◌≡◌, IfOk, IfErr, OnErr};
 ghost use Rattle.modem_driver.specs.Endpoints.{IsFull, Numbers, Refuses};
-ghost use Rattle.modem_driver.specs.TurnTakes.{TakesAside};
 ghost use Rattle.modem_driver.specs.declared.endpoint.error.RequestError.TheVariants as why;
 ghost use Rattle.modem_desk.specs.declared.request.Ask.TheVariants as Ask;
 
 use crate::endpoint::Endpoint;
 use crate::endpoint::error::{RequestError, RequestRefused};
-use crate::session::kept::Kept;
 use at_text::CommandLine;
 use modem_desk::{Ask, Request};
 use mux_frame::{Dlci, ProbeData};
 
 /// The caller of every request of an endpoint.
 const CALLER: u8 = 0;
-
-impl Kept {
-    /// Whether the requests in hand and the outcomes that wait are 128.
-    fn is_full(&self) -> bool
-        ensures { result ≡ nat_le 128 (length self.now.core.hand + length self.now.unplaced) }
-    {
-        self.waiting.count() >= self.core.hand_left()
-    }
-
-    /// Takes a request. It is handed back where there was no memory for it, and nothing changed. The
-    /// condition is that none is kept aside.
-    fn take_request(&mut self, request: Request) -> Result<(), Request>
-        requires { self.old.aside ≡ None }
-        ensures takes { OnOk result (TakesAside (record self.old { aside = Some request }) self.new) }
-        ensures err { OnErr result (self.new ≡ self.old) }
-        ensures back { IfErr result (λ r. r ≡ request) }
-    {
-        match self.core.took(request) {
-            Ok(acts) => {
-                self.waiting.keep(acts);
-                Ok(())
-            }
-            Err((_why, request)) => Err(request),
-        }
-    }
-}
 
 impl Endpoint {
     /// Makes a request, and says its number.
@@ -50,10 +22,10 @@ impl Endpoint {
         ensures full { IfErr result (λ e. e.why ≡ why.Full → IsFull self.new) }
         ensures back { IfErr result (λ e. e.ask ≡ ask) }
     {
-        if self.kept.handle_frames().is_err() {
+        if self.machine.handle_frames().is_err() {
             return Err(RequestRefused::new(RequestError::NoMemory, ask));
         }
-        if self.next == u64::MAX || self.kept.is_full() {
+        if self.next == u64::MAX || self.machine.is_full() {
             return Err(RequestRefused::new(RequestError::Full, ask));
         }
         let number = self.next;
@@ -62,7 +34,7 @@ impl Endpoint {
             number,
             ask,
         };
-        if let Err(request) = self.kept.take_request(request) {
+        if let Err(request) = self.machine.take_request(request) {
             return Err(RequestRefused::new(RequestError::NoMemory, request.ask));
         }
         self.next += 1;

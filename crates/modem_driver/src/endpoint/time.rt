@@ -1,50 +1,16 @@
 //! Time that passes, and the end of the line.
-ghost use Rattle.std.specs.Prelude.{◌≡◌, ◌≢◌, not, true, false, OnOk, OnErr};
+ghost use Rattle.std.specs.Prelude.{◌≡◌, ◌≢◌, List, true, OnOk, OnErr};
 ghost use Rattle.std.specs.List.{list_any};
 ghost use Rattle.modem_desk.specs.Ends.{DriverView};
-ghost use Rattle.modem_history.specs.Sessions.{LineView};
-ghost use Rattle.modem_driver.specs.Endpoints.{Loses, Refuses, Ticks, wants_time};
-ghost use Rattle.modem_driver.specs.SessionStates.{KeptLoses};
+ghost use Rattle.modem_history.specs.Acts.{Act};
+ghost use Rattle.modem_history.specs.Sessions.{Beginning, LineView};
+ghost use Rattle.modem_driver.specs.Endpoints.{EndpointFits, Loses, Refuses, Ticks, wants_time};
+ghost use Rattle.modem_driver.specs.WaitingTicks.{waiting_ticks};
 ghost use Rattle.modem_driver.specs.declared.session.error.SessionFault.TheVariants as fault;
 
 use crate::endpoint::Endpoint;
 use crate::session::SessionFault;
-use crate::session::kept::Kept;
-use modem_desk::{Ask, Request};
-
-/// Whether it is given up after some ticks: it is no command.
-fn wants_time(request: &Request) -> bool
-    ensures { result ≡ wants_time request.now }
-{
-    !matches!(request.ask, Ask::Command(_, _))
-}
-
-impl Kept {
-    /// Whether a tick may give something up.
-    pub(crate) fn wants_tick(&self) -> bool
-        ensures { result ≡ list_any wants_time self.now.core.hand }
-    {
-        self.core.hand.as_slice().iter().any(wants_time)
-    }
-
-    /// A call on the line has failed, and so it is lost: everyone in hand is told so. Refusal: 1
-    /// NoMemory, which changes nothing. The condition is that it wasn't lost before.
-    fn lose_line(&mut self) -> Result<(), SessionFault>
-        requires { self.old.core.lost ≡ false }
-        ensures loses { OnOk result (KeptLoses (record self.old { faulty = true }) self.new) }
-        ensures gone { OnOk result (self.new.core.lost ≡ true) }
-        ensures err { OnErr result (self.new ≡ self.old) }
-        ensures no_memory { OnErr result (result ≡ Err fault.NoMemory) }
-    {
-        let faulty = self.faulty;
-        self.faulty = true;
-        let Ok(()) = self.lose() else {
-            self.faulty = faulty;
-            return Err(SessionFault::NoMemory);
-        };
-        Ok(())
-    }
-}
+use mux_frame::Dlci;
 
 impl Endpoint {
     /// One T1 has passed (27.010, 5.7.3): SABM and DISC that weren't answered are sent again, and at the
@@ -54,18 +20,18 @@ impl Endpoint {
     pub fn tick(&mut self) -> Result<(), SessionFault>
         ensures ticks { OnOk result ((l : LineView) (d : DriverView) → Ticks l d self.old self.new) }
         ensures refused { OnErr result (Refuses self.old self.new) }
-        ensures failed { result ≡ Err fault.Failed → self.new.kept.core.lost ≡ true }
+        ensures failed { result ≡ Err fault.Failed → self.new.machine.core.lost ≡ true }
         ensures not_line { result ≢ Err fault.Line }
     {
-        self.kept.handle_frames()?;
-        self.kept.tick()
+        self.machine.handle_frames()?;
+        self.machine.tick()
     }
 
     /// Whether a tick may give something up: a request that is no command waits for its outcome.
     pub fn wants_tick(&self) -> bool
-        ensures { result ≡ list_any wants_time self.now.kept.core.hand }
+        ensures { result ≡ list_any wants_time self.now.machine.core.hand }
     {
-        self.kept.wants_tick()
+        self.machine.wants_tick()
     }
 
     /// The caller's line has failed or ended: everyone in hand is told LineLost, and nothing is sent any
@@ -74,15 +40,26 @@ impl Endpoint {
     #[tactic(auto, using(crate::proofs::endpoints::Time::loses, crate::proofs::endpoints::Time::bare_after, crate::proofs::endpoints::Requests::refuses))]
     pub fn line_lost(&mut self) -> Result<(), SessionFault>
         ensures loses { OnOk result ((l : LineView) (d : DriverView) → Loses l d self.old self.new) }
-        ensures gone { OnOk result (self.new.kept.core.lost ≡ true) }
+        ensures gone { OnOk result (self.new.machine.core.lost ≡ true) }
         ensures refused { OnErr result (Refuses self.old self.new) }
-        ensures failed { result ≡ Err fault.Failed → self.new.kept.core.lost ≡ true }
+        ensures failed { result ≡ Err fault.Failed → self.new.machine.core.lost ≡ true }
         ensures not_line { result ≢ Err fault.Line }
     {
-        self.kept.handle_frames()?;
-        if self.kept.core.lost {
+        self.machine.handle_frames()?;
+        if self.machine.core.lost {
             return Err(SessionFault::Failed);
         }
-        self.kept.lose_line()
+        self.machine.lose_line()
+    }
+    /// How many ticks in a row have found the command that is the first in hand on this connection there, by every history that
+    /// the endpoint fits: so long its answer hasn't ended. `None` where no command of the connection is in hand; commands behind
+    /// the first one aren't counted. The count stops at `u64::MAX`. Nothing is given up by itself: whoever finds it too high
+    /// can close the connection.
+    #[tactic(auto, using(crate::proofs::sessions::WaitedTicks::endpoint_shows))]
+    pub fn waiting_ticks(&self, dlci: Dlci) -> Option<u64>
+        ensures { (b : Beginning) (l : LineView) (d : DriverView) (past : List Act)
+            → EndpointFits b l d self.now past → result ≡ waiting_ticks dlci.number past }
+    {
+        self.machine.waiting_ticks(dlci)
     }
 }

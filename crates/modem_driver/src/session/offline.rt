@@ -4,8 +4,9 @@ ghost use Rattle.std.specs.VecDeque.{deque_capacity};
 ghost use Rattle.modem_driver.specs.TurningAway.{line_lost, offline_from, PassSays, PassesAway, RefusesOne};
 
 use crate::hand::IN_HAND;
+use crate::machine::line_queue::LineQueue;
+use crate::machine::waiting::Waiting;
 use crate::session::turn::Turn;
-use crate::session::waiting::Waiting;
 use modem_desk::{Answer, DriverEnd, Outcome, Request, Urc};
 use std::alloc::{AllocError, Global};
 use std::collections::VecDeque;
@@ -128,7 +129,10 @@ impl Offline {
         lose_all(&mut outcomes, in_hand);
         put_all(&mut lines, unannounced);
         Ok(Offline {
-            waiting: Waiting { outcomes, lines },
+            waiting: Waiting {
+                outcomes,
+                lines: LineQueue::of(lines),
+            },
         })
     }
 

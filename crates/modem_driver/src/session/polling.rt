@@ -3,12 +3,12 @@ ghost use Rattle.std.specs.Prelude.{◌≡◌, ◌+◌, ◌≤◌, IfErr, IfSome
 ghost use Rattle.modem_driver.specs.SessionStates.{line_by, TakesMore};
 ghost use Rattle.modem_history.specs.Turns.{says_moved};
 ghost use Rattle.modem_driver.specs.SessionTurns.{turn_answer, LeavesLost};
-ghost use Rattle.modem_driver.specs.Polls.{has_ended, is_stopped, end_given, end_in, with_end, SessionGoesOn, RunsTurns, PollsOn, Polls, SaysEnd, Gives};
+ghost use Rattle.modem_driver.specs.Polls.{has_ended, end_given, end_in, with_end, SessionGoesOn, RunsTurns, PollsOn, Polls, SaysEnd, Gives};
 
+use crate::machine::course::Course;
 use crate::session::Session;
-use crate::session::ending::{Course, Ended};
+use crate::session::ending::Ended;
 use crate::session::error::SessionFault;
-use crate::session::kept::Kept;
 use crate::session::turn::Turn;
 use futures::Future;
 use futures::task::{Context, Poll};
@@ -38,34 +38,12 @@ impl Turn {
     }
 }
 
-impl Course {
-    /// Whether a Stop was answered by Stopped or NoAnswer, and no poll gave an end yet.
-    fn is_stopped(self) -> bool
-        ensures { result ≡ is_stopped self }
-    {
-        matches!(self, Course::Stopped)
-    }
-}
-
-impl Kept {
-    /// Whether a Stop was answered by Stopped or NoAnswer, all is written, and no outcome waits.
-    fn has_ended(&self) -> bool
-        ensures { result ≡ has_ended self.now }
-    {
-        self.course.is_stopped()
-            && !self.core.lost
-            && self.output.is_empty()
-            && self.core.station.queue_len() == 0
-            && self.waiting.count() == 0
-    }
-}
-
 impl<L: SerialLine, R: Wait + Drop> Session<L, R> {
     /// Whether it has ended.
     fn has_ended(&self) -> bool
-        ensures { result ≡ has_ended self.now.kept }
+        ensures { result ≡ has_ended self.now.machine }
     {
-        self.kept.has_ended()
+        self.machine.has_ended()
     }
 
     /// At most 64 turns, none behind one that doesn't answer Moved, and none once it has ended. Whether
@@ -96,9 +74,9 @@ impl<L: SerialLine, R: Wait + Drop> Session<L, R> {
 
     /// The end that a poll gave, if one did.
     fn end(&self) -> Option<Result<Ended, SessionFault>>
-        ensures { result ≡ end_given self.now.kept.course }
+        ensures { result ≡ end_given self.now.machine.course }
     {
-        match self.kept.course {
+        match self.machine.course {
             Course::Ended(end) => Some(end),
             _ => None,
         }
@@ -110,7 +88,7 @@ impl<L: SerialLine, R: Wait + Drop> Session<L, R> {
     {
         match given {
             Err(SessionFault::NoMemory) => {}
-            end => self.kept.course = Course::Ended(end),
+            end => self.machine.course = Course::Ended(end),
         }
     }
 

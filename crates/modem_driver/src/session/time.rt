@@ -1,12 +1,14 @@
-//! Whether a session wants ticks.
+//! Whether a session wants ticks, and how long its commands have waited.
 ghost use Rattle.std.specs.Prelude.{◌≡◌, List};
 ghost use Rattle.std.specs.List.{list_any};
 ghost use Rattle.modem_history.specs.Acts.{Act, in_hand};
 ghost use Rattle.modem_history.specs.Sessions.{Beginning};
 ghost use Rattle.modem_driver.specs.Endpoints.{wants_time};
 ghost use Rattle.modem_driver.specs.SessionStates.{FitsAll, line_by};
+ghost use Rattle.modem_driver.specs.WaitingTicks.{waiting_ticks};
 
 use crate::session::Session;
+use mux_frame::Dlci;
 use serial_line::SerialLine;
 use std::sync::Wait;
 
@@ -19,6 +21,19 @@ impl<L: SerialLine, R: Wait + Drop> Session<L, R> {
             → FitsAll b (line_by L.received L.sent L.calls L.failures L.empty_reads L.stalled_writes) self.now past
             → result ≡ list_any wants_time (in_hand past) }
     {
-        self.kept.wants_tick()
+        self.machine.wants_tick()
+    }
+    /// How many ticks in a row have found the command that is the first in hand on this connection there, by every history that
+    /// the session fits: so long its answer hasn't ended. `None` where no command of the connection is in hand; commands behind
+    /// the first one aren't counted. The count stops at `u64::MAX`. Nothing is given up by itself: whoever finds it too high
+    /// can close the connection. A session whose requests in hand are commands alone wants no tick (see `wants_tick`), and
+    /// counts those that it is given.
+    #[tactic(auto, using(crate::proofs::sessions::WaitedTicks::session_shows))]
+    pub fn waiting_ticks(&self, dlci: Dlci) -> Option<u64>
+        ensures { (b : Beginning) (past : List Act)
+            → FitsAll b (line_by L.received L.sent L.calls L.failures L.empty_reads L.stalled_writes) self.now past
+            → result ≡ waiting_ticks dlci.number past }
+    {
+        self.machine.waiting_ticks(dlci)
     }
 }

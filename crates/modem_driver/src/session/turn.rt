@@ -7,7 +7,6 @@ ghost use Rattle.modem_driver.specs.declared.session.error.SessionFault.TheVaria
 
 use crate::session::Session;
 use crate::session::error::SessionFault;
-use crate::session::kept::Kept;
 use at_text::UrcKind;
 use serial_line::SerialLine;
 use std::sync::Wait;
@@ -28,47 +27,26 @@ pub enum Turn {
     Idle,
 }
 
-impl Kept {
-    /// What a turn answers by what still waits.
-    fn answer(&self, moved: bool) -> Turn
-        ensures { Answers self.now moved (turn_answer result) }
-    {
-        if moved {
-            return Turn::Moved;
-        }
-        if !self.output.is_empty() {
-            return Turn::WriterFull;
-        }
-        if let Some(caller) = self.waiting.least_caller() {
-            return Turn::Waiting(caller);
-        }
-        match self.waiting.first_kind() {
-            Some(kind) => Turn::Blocked(kind),
-            None => Turn::Idle,
-        }
-    }
-}
-
 impl<L: SerialLine, R: Wait + Drop> Session<L, R> {
     /// Whether the line is lost.
     fn is_lost(&self) -> bool
         ensures { result ≡ has_lost_line self.now }
     {
-        self.kept.core.lost
+        self.machine.core.lost
     }
 
     /// Whether a call on the line has failed.
     fn is_faulty(&self) -> bool
-        ensures { result ≡ self.now.kept.faulty }
+        ensures { result ≡ self.now.machine.faulty }
     {
-        self.kept.faulty
+        self.machine.faulty
     }
 
     /// What a turn answers.
     fn answer(&self, moved: bool) -> Turn
-        ensures { Answers self.now.kept moved (turn_answer result) }
+        ensures { Answers self.now.machine moved (turn_answer result) }
     {
-        self.kept.answer(moved)
+        self.machine.answer(moved)
     }
 
     /// Offers what waits to the desk.
@@ -77,7 +55,7 @@ impl<L: SerialLine, R: Wait + Drop> Session<L, R> {
             (standing_of (line_by L.received L.sent L.calls L.failures L.empty_reads L.stalled_writes) self.new) result }
         ensures line { self.new.line ≡ self.old.line }
     {
-        self.kept.place(&mut self.driver)
+        self.machine.place(&mut self.driver)
     }
 
     /// Looks at the backlogs.
@@ -91,31 +69,31 @@ impl<L: SerialLine, R: Wait + Drop> Session<L, R> {
         ensures no_memory { OnErr result (result ≡ Err fault.NoMemory) }
         ensures line { self.new.line ≡ self.old.line }
     {
-        self.kept.check_backlogs()
+        self.machine.check_backlogs()
     }
 
     /// Takes the next frame into the output.
-    #[tactic(auto, unfolding(crate::specs::SendingSteps::KeptSends))]
+    #[tactic(auto, unfolding(crate::specs::SendingSteps::MachineSends))]
     fn send_on(&mut self) -> bool
         ensures sends { SendsOn (standing_of (line_by L.received L.sent L.calls L.failures L.empty_reads L.stalled_writes) self.old)
             (standing_of (line_by L.received L.sent L.calls L.failures L.empty_reads L.stalled_writes) self.new) result }
         ensures line { self.new.line ≡ self.old.line }
     {
-        self.kept.send_on()
+        self.machine.send_on()
     }
 
     /// Writes to the line.
-    #[tactic(auto, unfolding(crate::specs::SessionTurns::KeptWrites))]
+    #[tactic(auto, unfolding(crate::specs::SessionTurns::MachineWrites))]
     fn write_on(&mut self) -> bool
         ensures writes { Writes (standing_of (line_by L.received L.sent L.calls L.failures L.empty_reads L.stalled_writes) self.old)
             (standing_of (line_by L.received L.sent L.calls L.failures L.empty_reads L.stalled_writes) self.new) result }
         ensures beyond { L.other_side self.new.line ≡ L.other_side self.old.line }
     {
-        self.kept.write_on(&mut self.line)
+        self.machine.write_on(&mut self.line)
     }
 
     /// Handles the frame at hand.
-    #[tactic(auto, unfolding(crate::specs::GettingSteps::KeptGets))]
+    #[tactic(auto, unfolding(crate::specs::GettingSteps::MachineGets))]
     fn get_one(&mut self) -> Result<bool, SessionFault>
         ensures gets { IfOk result (λ moved. Gets
             (standing_of (line_by L.received L.sent L.calls L.failures L.empty_reads L.stalled_writes) self.old)
@@ -124,17 +102,17 @@ impl<L: SerialLine, R: Wait + Drop> Session<L, R> {
         ensures no_memory { OnErr result (result ≡ Err fault.NoMemory) }
         ensures line { self.new.line ≡ self.old.line }
     {
-        self.kept.get_one()
+        self.machine.get_one()
     }
 
     /// Reads from the line, and feeds.
-    #[tactic(auto, unfolding(crate::specs::SessionTurns::KeptReads))]
+    #[tactic(auto, unfolding(crate::specs::SessionTurns::MachineReads))]
     fn read_on(&mut self) -> bool
         ensures reads { ReadsOn (standing_of (line_by L.received L.sent L.calls L.failures L.empty_reads L.stalled_writes) self.old)
             (standing_of (line_by L.received L.sent L.calls L.failures L.empty_reads L.stalled_writes) self.new) result }
         ensures beyond { L.other_side self.new.line ≡ L.other_side self.old.line }
     {
-        self.kept.read_on(&mut self.line)
+        self.machine.read_on(&mut self.line)
     }
 
     /// Takes a request.
@@ -148,22 +126,22 @@ impl<L: SerialLine, R: Wait + Drop> Session<L, R> {
         ensures no_memory { OnErr result (result ≡ Err fault.NoMemory) }
         ensures line { self.new.line ≡ self.old.line }
     {
-        self.kept.take_one(&mut self.driver, &self.rt)
+        self.machine.take_one(&mut self.driver, &self.rt)
     }
 
     /// A call on the line has failed: the line is lost, and everyone in hand is told so. Answers with
     /// the fault by which the turn ends.
     fn lose_line(&mut self) -> SessionFault
-        requires { self.old.kept.faulty ≡ true }
+        requires { self.old.machine.faulty ≡ true }
         ensures lost { LeavesLost result self.new }
         ensures line { self.new.line ≡ self.old.line }
         ensures loses { LosesOr result (standing_of (line_by L.received L.sent L.calls L.failures L.empty_reads L.stalled_writes) self.old)
             (standing_of (line_by L.received L.sent L.calls L.failures L.empty_reads L.stalled_writes) self.new) }
     {
-        if self.kept.core.lost {
+        if self.machine.core.lost {
             return SessionFault::Failed;
         }
-        match self.kept.lose() {
+        match self.machine.lose() {
             Ok(()) => SessionFault::Line,
             Err(_) => SessionFault::NoMemory,
         }

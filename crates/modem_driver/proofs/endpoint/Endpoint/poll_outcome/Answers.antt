@@ -9,6 +9,6 @@ pub returns : goal.returns
 returns c =
     let e = c.self.inside in
     let r = c.next_outcome.result in
-    let new : EndpointState = record { kept = c.next_outcome.new.self; next = e.next } in
-    subst (λ (v : EndpointState). MatchOption r ((v.kept.unplaced ≡ []) × (new ≡ v)) (λ o. GivesOutcome v new o)) c.self.view_is
-    (polls_outcome r e.kept c.next_outcome.new.self e.next c.next_outcome.ensures)
+    let new : EndpointState = record { machine = c.next_outcome.new.self; next = e.next } in
+    subst (λ (v : EndpointState). MatchOption r ((v.machine.unplaced ≡ []) × (new ≡ v)) (λ o. GivesOutcome v new o)) c.self.view_is
+    (polls_outcome r e.machine c.next_outcome.new.self e.next c.next_outcome.ensures)

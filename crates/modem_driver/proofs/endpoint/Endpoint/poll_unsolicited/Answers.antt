@@ -9,6 +9,6 @@ pub returns : goal.returns
 returns c =
     let e = c.self.inside in
     let r = c.next_line.result in
-    let new : EndpointState = record { kept = c.next_line.new.self; next = e.next } in
-    subst (λ (v : EndpointState). MatchOption r ((v.kept.unannounced ≡ []) × (new ≡ v)) (λ o. GivesLine v new o)) c.self.view_is
-    (polls_line r e.kept c.next_line.new.self e.next c.next_line.ensures)
+    let new : EndpointState = record { machine = c.next_line.new.self; next = e.next } in
+    subst (λ (v : EndpointState). MatchOption r ((v.machine.unannounced ≡ []) × (new ≡ v)) (λ o. GivesLine v new o)) c.self.view_is
+    (polls_line r e.machine c.next_line.new.self e.next c.next_line.ensures)

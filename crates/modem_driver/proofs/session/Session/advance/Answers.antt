@@ -13,7 +13,7 @@ returns-in-Some-clause-gives g c =
     let look = line_by g.L.SerialLine.received g.L.SerialLine.sent g.L.SerialLine.calls g.L.SerialLine.failures g.L.SerialLine.empty_reads g.L.SerialLine.stalled_writes in
     let s = c.args.self.now in
     let end = c.in-Some.end in
-    let kept = given_is s.kept.course end (sym c.end.ensures ∙ c.in-Some.is) in
+    let kept = given_is s.machine.course end (sym c.end.ensures ∙ c.in-Some.is) in
     gives_now look s s end (polls_again look s end kept) (goes_none look s) (ended_says look s end kept)
 
 pub returns-in-None-clause-gives : goal.returns-in-None-clause-gives

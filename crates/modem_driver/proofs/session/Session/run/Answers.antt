@@ -15,14 +15,14 @@ given_where more ended = if ended then progress.Ended (Ok Stopped) else if more 
 
 pub returns-then-has_ended-clause-polls : goal.returns-then-has_ended-clause-polls
 returns-then-has_ended-clause-polls g c =
-    let ended : has_ended c.turns.new.self.kept ≡ true = sym c.has_ended.ensures ∙ c.if-has_ended.true in
+    let ended : has_ended c.turns.new.self.machine ≡ true = sym c.has_ended.ensures ∙ c.if-has_ended.true in
     record { mid = c.turns.new.self; ran = Ok c.in-Ok.more; runs = c.in-Ok.ensures.runs; given_is = sym (ap (given_where c.in-Ok.more) ended); stays = c.keep_end.ensures }
 
 pub returns-then-has_ended-clause-goes : goal.returns-then-has_ended-clause-goes
 returns-then-has_ended-clause-goes g c =
     let look = line_by g.L.SerialLine.received g.L.SerialLine.sent g.L.SerialLine.calls g.L.SerialLine.failures g.L.SerialLine.empty_reads g.L.SerialLine.stalled_writes in
     let mid = c.turns.new.self in
-    let ended : has_ended mid.kept ≡ true = sym c.has_ended.ensures ∙ c.if-has_ended.true in
+    let ended : has_ended mid.machine ≡ true = sym c.has_ended.ensures ∙ c.if-has_ended.true in
     subst (SessionGoesOn look c.args.self.now) (sym c.keep_end.ensures) (goes_then look c.args.self.now mid (with_end (Ok Stopped) mid) c.in-Ok.ensures.goes (ends_stopped look mid ended))
 
 pub returns-then-has_ended-clause-says : goal.returns-then-has_ended-clause-says
@@ -33,13 +33,13 @@ returns-then-has_ended-clause-says g c =
 
 pub returns-then-more-clause-polls : goal.returns-then-more-clause-polls
 returns-then-more-clause-polls g c =
-    let not_yet : has_ended c.turns.new.self.kept ≡ false = sym c.has_ended.ensures ∙ c.if-has_ended.false in
+    let not_yet : has_ended c.turns.new.self.machine ≡ false = sym c.has_ended.ensures ∙ c.if-has_ended.false in
     let all : c.in-Ok.more ≡ true = c.if-more.true in
     record { mid = c.turns.new.self; ran = Ok c.in-Ok.more; runs = c.in-Ok.ensures.runs; given_is = sym (ap (given_where c.in-Ok.more) not_yet ∙ ap (λ (m : Bool). given_where m false) all); stays = refl }
 
 pub returns-else-more-clause-polls : goal.returns-else-more-clause-polls
 returns-else-more-clause-polls g c =
-    let not_yet : has_ended c.turns.new.self.kept ≡ false = sym c.has_ended.ensures ∙ c.if-has_ended.false in
+    let not_yet : has_ended c.turns.new.self.machine ≡ false = sym c.has_ended.ensures ∙ c.if-has_ended.false in
     let few : c.in-Ok.more ≡ false = c.if-more.false in
     record { mid = c.turns.new.self; ran = Ok c.in-Ok.more; runs = c.in-Ok.ensures.runs; given_is = sym (ap (given_where c.in-Ok.more) not_yet ∙ ap (λ (m : Bool). given_where m false) few); stays = refl }
 

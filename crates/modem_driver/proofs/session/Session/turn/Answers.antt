@@ -123,7 +123,7 @@ returns-clause-turns g c =
       sound_read = sym c.is_faulty-3.ensures ∙ c.if-is_faulty-3.false;
     })
     (turn_answer c.answer.result)
-    (subst (λ (m : Bool). Answers c.take_one.new.self.kept m (turn_answer c.answer.result)) (all_or c.place-placed.result c.in-Ok.checked c.send_on-sent.result c.write_on-wrote.result c.in-Ok-get_one.got c.read_on-read.result c.in-Ok-take_one.took) c.answer.ensures)
+    (subst (λ (m : Bool). Answers c.take_one.new.self.machine m (turn_answer c.answer.result)) (all_or c.place-placed.result c.in-Ok.checked c.send_on-sent.result c.write_on-wrote.result c.in-Ok-get_one.got c.read_on-read.result c.in-Ok-take_one.took) c.answer.ensures)
 
 pub returns-clause-turned : goal.returns-clause-turned
 returns-clause-turned g c =
@@ -180,7 +180,7 @@ returns-clause-takes g c =
 pub returns-clause-full : goal.returns-clause-full
 returns-clause-full g c =
     none_free (turn_answer c.answer.result) c.place-placed.ensures.places c.in-Ok.ensures.checks c.send_on-sent.ensures.sends c.write_on-wrote.ensures.writes c.in-Ok-get_one.ensures.gets c.read_on-read.ensures.reads c.in-Ok-take_one.ensures.takes
-    (subst (λ (m : Bool). Answers c.take_one.new.self.kept m (turn_answer c.answer.result)) (all_or c.place-placed.result c.in-Ok.checked c.send_on-sent.result c.write_on-wrote.result c.in-Ok-get_one.got c.read_on-read.result c.in-Ok-take_one.took) c.answer.ensures)
+    (subst (λ (m : Bool). Answers c.take_one.new.self.machine m (turn_answer c.answer.result)) (all_or c.place-placed.result c.in-Ok.checked c.send_on-sent.result c.write_on-wrote.result c.in-Ok-get_one.got c.read_on-read.result c.in-Ok-take_one.took) c.answer.ensures)
 
 pub returns-then-is_lost-clause-beyond : goal.returns-then-is_lost-clause-beyond
 returns-then-is_lost-clause-beyond g c = ap g.L.SerialLine.other_side c.place-placed.ensures.line

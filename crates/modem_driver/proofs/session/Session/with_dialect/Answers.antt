@@ -8,4 +8,4 @@ pub returns-in-Ok-clause-begins : goal.returns-in-Ok-clause-begins
 returns-in-Ok-clause-begins g c =
     let l = line_by g.L.SerialLine.received g.L.SerialLine.sent g.L.SerialLine.calls g.L.SerialLine.failures g.L.SerialLine.empty_reads g.L.SerialLine.stalled_writes c.args.line in
     let rules = c.args.dialect.now in
-    begins_over rules (dialect_of rules) c.args.n1 c.args.driver.desk.kinds c.in-Ok.kept l c.args.driver c.in-Ok.ensures.fresh (c.in-Ok.ensures.begins l)
+    begins_over rules (dialect_of rules) c.args.n1 c.args.driver.desk.kinds c.in-Ok.machine l c.args.driver c.in-Ok.ensures.fresh (c.in-Ok.ensures.begins l)

@@ -1,0 +1,55 @@
+-- The core said what the backlog calls for, or there was no room for it.
+use Rattle.std.proofs.Common.{◌≡◌, ap, sym, ◌∙◌, subst, ℕ, Bool, false}
+use Rattle.std.proofs.lemmas.List.{length-map}
+use Rattle.std.specs.Prelude.{map, not, length, vec_len, Result, Err, IfOk, ◌==◌}
+use Rattle.modem_history.specs.Acts.{act_of}
+use Rattle.modem_history.specs.Sessions.{backlog_in}
+use Rattle.modem_driver.specs.declared.session.error.SessionFault.{SessionFault}
+use Rattle.modem_driver.specs.Cores.{Core}
+use Rattle.modem_driver.specs.Holding.{Flows, HasNoRoom, NeverDue, due_in}
+use Rattle.modem_driver.specs.BacklogChecks.{ChecksOne}
+use Rattle.modem_driver.specs.SessionStates.{Machine}
+use Rattle.modem_driver.proofs.sessions.OneBacklog.{checks_one, checks_never, checks_full}
+use Rattle.modem_driver.proofs.machine.Machine.check_backlog.Goals as goal
+use Rattle.modem_driver.proofs.machine.Machine.check_backlog.Goals.{in-Ok, in-Err-NoRoom, in-Err}
+
+pub returns-then-not-checks-clause-checks : goal.returns-then-not-checks-clause-checks
+returns-then-not-checks-clause-checks c =
+    let d = c.args.dlci.number in
+    let never : NeverDue c.args.self.now.core d = subst (λ (v : Machine). NeverDue v.core d) c.self.view_is (c.checks.ensures c.if-not-checks.true) in
+    checks_never c.args.self.now d never
+
+pub returns-clause-checks : goal.returns-clause-checks
+returns-clause-checks c =
+    let k = c.self.inside in
+    let d = c.args.dlci.number in
+    let old : Machine = record {
+      core = k.core;
+      aside = k.aside;
+      unfed = k.input;
+      deframer = k.deframer;
+      unwritten = k.output;
+      unplaced = k.waiting.outcomes;
+      unannounced = k.waiting.lines;
+      faulty = k.faulty;
+      course = k.course;
+      delays = k.delays;
+    } in
+    let new : Machine = record old { core = c.backlog.new.self } in
+    let lines = c.backlog-lines.ensures in
+    elim c.match-backlog.branch [
+      | in-Ok w ↦
+          let acts = map act_of w.in-Ok.acts.items in
+          let flows : Flows k.core c.backlog.new.self d (backlog_in d k.waiting.lines) acts = subst (λ (n : ℕ). Flows k.core c.backlog.new.self d n acts) lines w.in-Ok.ensures.past in
+          let size : length acts ≡ vec_len w.in-Ok.acts = length-map w.in-Ok.acts.items act_of ∙ sym w.in-Ok.acts.ok.0 in
+          let moved : not (length acts == 0) ≡ not w.is_empty.result = ap (λ (n : ℕ). not (n == 0)) size ∙ ap not (sym w.is_empty.ensures) in
+          subst (λ (r : Result Bool SessionFault). IfOk r (λ m. ChecksOne d c.args.self.now new m)) (sym w.result-is)
+          (subst (λ (v : Machine). ChecksOne d v new (not w.is_empty.result)) c.self.view_is
+          (subst (λ (m : Bool). ChecksOne d old new m) moved (checks_one old c.backlog.new.self d acts (due_in k.core d c.backlog-lines.result) w.in-Ok.ensures.acts flows)))
+      | in-Err-NoRoom w ↦
+          let full : HasNoRoom k.core d (backlog_in d k.waiting.lines) = subst (λ (n : ℕ). HasNoRoom k.core d n) lines (w.in-Err-NoRoom.ensures.no_room (ap Err w.in-Err-NoRoom.field-0-is)) in
+          subst (λ (r : Result Bool SessionFault). IfOk r (λ m. ChecksOne d c.args.self.now new m)) (sym w.result-is)
+          (subst (λ (v : Machine). ChecksOne d v new false) c.self.view_is
+          (subst (λ (v : Core). ChecksOne d old (record old { core = v }) false) (sym w.in-Err-NoRoom.ensures.err) (checks_full old d full)))
+      | in-Err w ↦ subst (λ (r : Result Bool SessionFault). IfOk r (λ m. ChecksOne d c.args.self.now new m)) (sym w.result-is) tt
+    ]

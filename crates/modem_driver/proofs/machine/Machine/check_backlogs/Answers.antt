@@ -1,0 +1,41 @@
+-- One connection after the other is checked.
+use Rattle.std.proofs.Common.{◌≡◌, sym, subst, arith, ℕ}
+use Rattle.std.specs.Prelude.{◌<◌, false, length, refl}
+use Rattle.modem_driver.specs.Holding.{CallsForNothing}
+use Rattle.modem_driver.specs.BacklogChecks.{ChecksOne}
+use Rattle.modem_driver.specs.SessionStates.{Machine}
+use Rattle.modem_driver.proofs.sessions.Backlogs.{checks_few, checks_first, checks_more, checks_all, checks_part, same_number}
+use Rattle.modem_driver.proofs.machine.Machine.check_backlogs.Goals as goal
+
+pub loop-number-init : goal.loop-number-init
+loop-number-init c = checks_first c.args.self.now
+
+pub loop-number-preserved : goal.loop-number-preserved
+loop-number-preserved c =
+    let n = c.loop-number.number in
+    let same = same_number c.new.result c.unwrap.result n c.new.ensures.number c.unwrap.ensures in
+    checks_more c.args.self.now c.loop-number.self c.check_backlog.new.self n c.in_ok-moved.field-0 c.loop-number.moved
+    (subst (λ (m : ℕ). ChecksOne m c.loop-number.self c.check_backlog.new.self c.in_ok-moved.field-0) same c.in_ok-moved.ensures.checks) c.loop-number.invariant
+
+pub returns-clause-checks : goal.returns-clause-checks
+returns-clause-checks c =
+    let most = c.loop-number.auto.number-end in
+    let over = c.loop-number-test.false in
+    checks_all c.args.self.now c.loop-number.self c.loop-number.number c.loop-number.moved (omega arith) c.loop-number.invariant
+
+pub returns-in_err-moved-clause-part : goal.returns-in_err-moved-clause-part
+returns-in_err-moved-clause-part c = checks_part c.args.self.now c.loop-number.self c.check_backlog.new.self c.loop-number.number c.loop-number.moved c.from_residual.result c.loop-number.invariant c.in_err-moved.ensures.err
+
+pub returns-clause-stays : goal.returns-clause-stays
+returns-clause-stays c = c.loop-number.invariant.stays
+
+pub returns-in_err-moved-clause-stays : goal.returns-in_err-moved-clause-stays
+returns-in_err-moved-clause-stays c =
+    subst (λ (k : Machine). k ≡ record c.args.self.now { core = k.core }) (sym c.in_err-moved.ensures.err) c.loop-number.invariant.stays
+
+pub returns-then-holds_none-clause-checks : goal.returns-then-holds_none-clause-checks
+returns-then-holds_none-clause-checks c =
+    let k = c.args.self.now in
+    let few : length k.unannounced < 256 = subst (λ (x : Machine). length x.unannounced < 256) c.self.view_is (subst (λ (n : ℕ). n < 256) c.many.ensures c.if-many-lt256.true) in
+    let free : CallsForNothing k.core = subst (λ (x : Machine). CallsForNothing x.core) c.self.view_is (c.holds_none.ensures c.if-holds_none.true) in
+    checks_all k k 62 false refl (checks_few k 61 (omega arith) few free)

@@ -1,0 +1,52 @@
+-- The desk gives a request or none, or isn't asked.
+use Rattle.std.proofs.Common.{◌≡◌, ap, sym, ◌∙◌, subst, arith, true, false}
+use Rattle.std.specs.Prelude.{is_some}
+use Rattle.modem_history.specs.Sessions.{LineView}
+use Rattle.modem_driver.specs.SessionStates.{Machine}
+use Rattle.modem_driver.specs.TurnSteps.{turn_state}
+use Rattle.modem_driver.specs.TurnTakes.{Fetches}
+use Rattle.modem_driver.proofs.sessions.NextRequest.{fetches, fetches_none, gives, is_none}
+use Rattle.modem_driver.proofs.machine.Machine.fetch.Goals as goal
+
+pub returns-then-is_some : goal.returns-then-is_some
+returns-then-is_some g c =
+    let d = c.args.driver.now in
+    let some : is_some c.self.inside.aside ≡ true = sym c.is_some.ensures ∙ c.if-is_some.true in
+    subst (λ (v : Machine). (l : LineView) → Fetches (turn_state l d v) (turn_state l d v)) c.self.view_is
+    (λ l. fetches_none l d _ (λ none. absurd (cc_none (sym some ∙ ap is_some none))))
+  where
+    cc_none : true ≡ false → ⊥
+    cc_none e = cc
+
+pub returns-then-count-hand_left : goal.returns-then-count-hand_left
+returns-then-count-hand_left g c =
+    let d = c.args.driver.now in
+    let waits = c.count.ensures in
+    let left = c.hand_left.ensures in
+    let full = c.if-count-hand_left.true in
+    subst (λ (v : Machine). (l : LineView) → Fetches (turn_state l d v) (turn_state l d v)) c.self.view_is
+    (λ l. fetches_none l d _ (λ none. omega arith))
+
+pub returns : goal.returns
+returns g c =
+    let d = c.args.driver.now in
+    let h = c.next-next.ensures in
+    let waits = c.count.ensures in
+    let left = c.hand_left.ensures in
+    let room = c.if-count-hand_left.false in
+    let none = is_none c.self.inside.aside (sym c.is_some.ensures ∙ c.if-is_some.false) in
+    let k = c.self.inside in
+    let old : Machine = record {
+      core = k.core;
+      aside = k.aside;
+      unfed = k.input;
+      deframer = k.deframer;
+      unwritten = k.output;
+      unplaced = k.waiting.outcomes;
+      unannounced = k.waiting.lines;
+      faulty = k.faulty;
+      course = k.course;
+      delays = k.delays;
+    } in
+    subst (λ (v : Machine). (l : LineView) → Fetches (turn_state l d v) (turn_state l c.next-next.new.self (record old { aside = c.next-next.result }))) c.self.view_is
+    (λ l. fetches l d c.next-next.new.self old c.next-next.result none (omega arith) (gives d c.next-next.new.self c.next-next.result h.desk.0 h.desk.1 h.desk.2 (h.desk.3, h.desk.4) (h.desk.5, h.desk.6) h.found h.numbered h.taken c.know_next.ensures))

@@ -1,6 +1,0 @@
--- Those before it were checked.
-use Rattle.modem_driver.proofs.sessions.Backlogs.{ChecksSo}
-use Rattle.modem_driver.proofs.session.kept.Kept.check_backlogs.Given as goal
-
-abbrev pub invariant-loop-number : goal.invariant-loop-number
-invariant-loop-number l = ChecksSo l.fn.self l.self l.number l.moved

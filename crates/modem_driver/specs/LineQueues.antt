@@ -1,0 +1,28 @@
+-- Lines that wait for their listeners, with counts of them.
+use Rattle.std.specs.Prelude.{◌≡◌, ℕ, ◌<◌, ◌==◌, List, length, filter, slice_index_or}
+use Rattle.modem_desk.specs.declared.request.Urc.{Urc}
+use Rattle.at_text.specs.Kinds.{kind_place}
+
+-- the lines, and for how many more there is room
+pub record LineQueue : Type 0 where
+  pub items : List Urc
+  pub room : ℕ
+
+-- at each place of the counts stands how many lines have that number
+abbrev pub AreCounts : (number : Urc → ℕ) → (counts : List ℕ) → List Urc → Type 0
+AreCounts number counts lines =
+    (n : ℕ) → n < length counts → slice_index_or counts n 0 ≡ length (filter (λ (u : Urc). number u == n) lines)
+
+-- a line's connection, and the place of its kind
+abbrev pub channel_of : Urc → ℕ
+channel_of u = u.dlci.number
+
+abbrev pub place_of_kind : Urc → ℕ
+place_of_kind u = kind_place u.kind
+
+-- the lines of each of the 62 connections and of each of the 263 kinds are counted
+pub record AreCounted (channels kinds : List ℕ) (lines : List Urc) : Type 0 where
+  pub all_channels : length channels ≡ 62
+  pub all_kinds : length kinds ≡ 263
+  pub by_channel : AreCounts channel_of channels lines
+  pub by_kind : AreCounts place_of_kind kinds lines

@@ -1,0 +1,200 @@
+//! What a session keeps beside its line and its desk's end.
+ghost use Rattle.std.specs.Prelude.{◌≡◌, ◌≢◌, ◌↔◌, ◌+◌, ◌<◌, ◌≤◌, ◌⊎◌, ◌++◌, [], true, false, length, option_to_list, None, IfOk, IsErrOf, OnOk, OnErr};
+ghost use Rattle.modem_driver.specs.Cores.{Fits};
+ghost use Rattle.modem_driver.specs.Endings.{KeepsEnd};
+ghost use Rattle.modem_driver.specs.Holding.{HoldsFit};
+ghost use Rattle.modem_driver.specs.SessionStates.{machine_by, new_machine, MachineLoses, MachineTicks};
+ghost use Rattle.modem_driver.specs.declared.session.error.SessionError.TheVariants as why;
+ghost use Rattle.modem_driver.specs.declared.session.error.SessionFault.TheVariants as fault;
+
+mod answering;
+mod checking;
+pub(crate) mod course;
+pub(crate) mod delays;
+mod exchanging;
+mod getting;
+mod handing;
+pub(crate) mod line_queue;
+mod octets_in;
+mod octets_out;
+mod placing;
+mod requests;
+mod sending;
+mod taking;
+mod time;
+pub(crate) mod waiting;
+
+use crate::driver::Core;
+use crate::error::CoreError;
+use crate::machine::course::Course;
+use crate::machine::delays::Delays;
+use crate::machine::waiting::Waiting;
+use crate::session::{SessionError, SessionFault};
+use at_text::{Dialect, UrcKind};
+use modem_desk::{Outcome, Request, Urc};
+use mux_frame::Deframer;
+use mux_station::WriteBuffer;
+use serial_line::ReadBuffer;
+use std::alloc::{AllocError, Global};
+use std::marker::Model;
+
+/// The core, the octets that come and go, what waits for a place at the desk, a request kept aside,
+/// whether a call on the line has failed, how far it has come on the way to its end, and how long commands
+/// have waited.
+#[derive(Drop)]
+pub(crate) struct Machine {
+    pub(crate) core: Core,
+    pub(crate) aside: Option<Request>,
+    pub(crate) input: ReadBuffer,
+    pub(crate) deframer: Deframer,
+    pub(crate) output: WriteBuffer,
+    pub(crate) waiting: Waiting,
+    pub(crate) faulty: bool,
+    pub(crate) course: Course,
+    pub(crate) delays: Delays,
+}
+
+impl Model for Machine {
+    ghost use Rattle.std.specs.Prelude.{◌≡◌};
+    ghost use Rattle.modem_driver.specs.SessionStates.{Machine};
+
+    ghost Value = { Machine };
+
+    ghost view = { λ k. record {
+      core = k.core;
+      aside = k.aside;
+      unfed = k.input;
+      deframer = k.deframer;
+      unwritten = k.output;
+      unplaced = k.waiting.outcomes;
+      unannounced = k.waiting.lines;
+      faulty = k.faulty;
+      course = k.course;
+      delays = k.delays;
+    } };
+
+    ghost invariant = { λ k. k.core.station.n1 ≡ k.deframer.n1 };
+}
+
+/// Room for the octets that come and go, and for what waits.
+fn make_room(alloc: Global) -> Result<(ReadBuffer, WriteBuffer, Waiting), AllocError>
+    ensures octets { IfOk result (λ room. (room.0 ≡ []) × (room.1 ≡ [])) }
+    ensures waiting { IfOk result (λ room. (room.2.outcomes ≡ []) × (room.2.lines ≡ [])) }
+{
+    let input = ReadBuffer::new(alloc)?;
+    let output = WriteBuffer::new(alloc)?;
+    let waiting = Waiting::new(alloc)?;
+    Ok((input, output, waiting))
+}
+
+impl Machine {
+    /// Nothing has happened yet; it listens to these kinds, at a standard modem. It takes all the room that it needs
+    /// but for lines that wait. Refusals: 2 BadN1, checked first; 1 NoMemory.
+    pub(crate) fn new(alloc: Global, n1: u16, kinds: &[UrcKind]) -> Result<Machine, SessionError>
+        ensures ok { IfOk result (λ k. k ≡ new_machine n1 kinds.now) }
+        ensures past { IfOk result (λ k. Fits k.core []) }
+        ensures held { IfOk result (λ k. HoldsFit k.core []) }
+        ensures bad_n1 { IsErrOf result why.BadN1 ↔ ((n1 < 31) ⊎ (32767 < n1)) }
+    {
+        let standard = Dialect::standard(alloc);
+        Machine::with_dialect(alloc, n1, &standard, kinds)
+    }
+
+    /// The same at a modem whose codes are those of this dialect.
+    pub(crate) fn with_dialect(
+        alloc: Global,
+        n1: u16,
+        dialect: &Dialect,
+        kinds: &[UrcKind],
+    ) -> Result<Machine, SessionError>
+        ensures ok { IfOk result (λ k. k ≡ machine_by dialect.now n1 kinds.now) }
+        ensures past { IfOk result (λ k. Fits k.core []) }
+        ensures held { IfOk result (λ k. HoldsFit k.core []) }
+        ensures bad_n1 { IsErrOf result why.BadN1 ↔ ((n1 < 31) ⊎ (32767 < n1)) }
+    {
+        let core = match Core::with_dialect(alloc, n1, dialect, kinds) {
+            Ok(core) => core,
+            Err(CoreError::BadN1) => return Err(SessionError::BadN1),
+            Err(_) => return Err(SessionError::NoMemory),
+        };
+        let Ok(deframer) = Deframer::new(alloc, n1) else {
+            return Err(SessionError::NoMemory);
+        };
+        let (input, output, waiting) = make_room(alloc)?;
+        Ok(Machine {
+            core,
+            aside: None,
+            input,
+            deframer,
+            output,
+            waiting,
+            faulty: false,
+            course: Course::GoesOn,
+            delays: [None; 62],
+        })
+    }
+
+    /// A tick of the core. Refusals, which change nothing: 3 Failed where the line was lost; 1
+    /// NoMemory.
+    pub(crate) fn tick(&mut self) -> Result<(), SessionFault>
+        ensures ticks { OnOk result (MachineTicks self.old self.new) }
+        ensures unfed { self.new.unfed ≡ self.old.unfed }
+        ensures aside { self.new.aside ≡ self.old.aside }
+        ensures ended { KeepsEnd self.old.course self.new.course }
+        ensures err { OnErr result (self.new ≡ self.old) }
+        ensures failed { (result ≡ Err fault.Failed) ↔ (self.old.core.lost ≡ true) }
+        ensures line { result ≢ Err fault.Line }
+    {
+        if self.core.lost {
+            return Err(SessionFault::Failed);
+        }
+        let stop = self.core.stop();
+        let delays = self.delays_after_tick();
+        let Ok(acts) = self.core.tick() else {
+            return Err(SessionFault::NoMemory);
+        };
+        self.delays = delays;
+        self.course.note(stop, acts.as_slice());
+        self.waiting.keep(acts);
+        Ok(())
+    }
+
+    /// The line is lost: everyone in hand is told so. Refusal: 1 NoMemory, which changes nothing. The
+    /// condition is that a call on the line has failed, and that it wasn't lost before.
+    pub(crate) fn lose(&mut self) -> Result<(), SessionFault>
+        requires faulty { self.old.faulty ≡ true }
+        requires live { self.old.core.lost ≡ false }
+        ensures loses { OnOk result (MachineLoses self.old self.new) }
+        ensures gone { OnOk result (self.new.core.lost ≡ true) }
+        ensures err { OnErr result (self.new ≡ self.old) }
+        ensures no_memory { OnErr result (result ≡ Err fault.NoMemory) }
+    {
+        let Ok(acts) = self.core.lost() else {
+            return Err(SessionFault::NoMemory);
+        };
+        self.waiting.keep(acts);
+        Ok(())
+    }
+
+    /// The requests in hand, and then the one kept aside; the outcomes and the lines that wait. There
+    /// is room for the one kept aside where fewer than 128 are in hand.
+    pub(crate) fn into_lists(self) -> (Vec<Request>, Vec<Outcome>, Vec<Urc>)
+        ensures hand { length self.core.hand + length (option_to_list self.aside) ≤ 128
+            → result.0.items ≡ self.core.hand ++ option_to_list self.aside }
+        ensures outcomes { result.1.items ≡ self.unplaced }
+        ensures lines { result.2.items ≡ self.unannounced }
+    {
+        let Machine {
+            core,
+            aside,
+            waiting,
+            ..
+        } = self;
+        let mut in_hand = core.into_hand();
+        if let Some(request) = aside {
+            let _ = in_hand.push(request);
+        }
+        let (unplaced, unannounced) = waiting.into_lists();
+        (in_hand, unplaced, unannounced)
+    }
+}

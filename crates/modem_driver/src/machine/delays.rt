@@ -1,0 +1,108 @@
+//! How long the commands of connections have waited, counted in ticks.
+ghost use Rattle.std.specs.Prelude.{◌≡◌, ◌<◌};
+ghost use Rattle.modem_driver.specs.WaitingTicks.{asks_on, delay_after, first_command, is_same, ticks_kept, ticks_shown, CountsTick};
+
+use crate::machine::Machine;
+use crate::machine::course::Asker;
+use modem_desk::{Ask, Request};
+use mux_frame::Dlci;
+
+/// How many connections there are, 0 among them.
+const CHANNELS: u8 = 62;
+
+/// Whose command a tick found the first in hand on a connection, and how many ticks in a row did. The count stops at
+/// `u64::MAX`.
+#[derive(Clone, Copy)]
+pub(crate) struct Delay {
+    pub asker: Asker,
+    pub ticks: u64,
+}
+
+/// Of each of the connections 0 to 61 what its last tick found.
+pub(crate) type Delays = [Option<Delay>; 62];
+
+/// Whether it is a command on this connection.
+fn asks_on(number: u8, ask: &Ask) -> bool
+    ensures { result ≡ asks_on number ask.now }
+{
+    match ask {
+        Ask::Command(dlci, _line) => dlci.number() == number,
+        _ => false,
+    }
+}
+
+/// Whose command is the first on a connection.
+fn first_command(hand: &[Request], number: u8) -> Option<Asker>
+    ensures { result ≡ first_command number hand.now }
+{
+    let request = hand.iter().find(|request| asks_on(number, &request.ask))?;
+    Some(Asker {
+        caller: request.caller,
+        number: request.number,
+    })
+}
+
+/// Whether these are the same one.
+fn is_same(who: Asker, other: Asker) -> bool
+    ensures { result ≡ is_same who other }
+{
+    who.caller == other.caller && who.number == other.number
+}
+
+/// How many ticks are kept for this one.
+fn ticks_kept(delay: Option<Delay>, who: Asker) -> u64
+    ensures { result ≡ ticks_kept delay who }
+{
+    match delay {
+        Some(delay) if is_same(who, delay.asker) => delay.ticks,
+        _ => 0,
+    }
+}
+
+/// What is kept of a connection after a tick that found this one's command its first, if there was one.
+fn delay_after(delay: Option<Delay>, first: Option<Asker>) -> Option<Delay>
+    ensures { result ≡ delay_after delay first }
+{
+    let asker = first?;
+    Some(Delay {
+        asker,
+        ticks: ticks_kept(delay, asker).saturating_add(1),
+    })
+}
+
+/// What is kept after a tick that found these in hand.
+fn counted(delays: Delays, hand: &[Request]) -> Delays
+    ensures { CountsTick delays result hand.now }
+{
+    let mut counted = delays;
+    for number in 0..CHANNELS {
+        let place = usize::from(number);
+        counted[place] = delay_after(delays[place], first_command(hand, number));
+    }
+    counted
+}
+
+/// How many ticks are kept for the first command of these in hand on a connection, if there is one.
+fn ticks_shown(delays: &Delays, hand: &[Request], dlci: Dlci) -> Option<u64>
+    ensures { result ≡ ticks_shown delays.now hand.now dlci.number }
+{
+    let who = first_command(hand, dlci.number())?;
+    let delay = delays[usize::from(dlci.number())];
+    Some(ticks_kept(delay, who))
+}
+
+impl Machine {
+    /// What is kept of the connections after a tick.
+    pub(crate) fn delays_after_tick(&self) -> Delays
+        ensures { CountsTick self.now.delays result self.now.core.hand }
+    {
+        counted(self.delays, self.core.hand.as_slice())
+    }
+
+    /// How many ticks the first command in hand on a connection has waited, if there is one.
+    pub(crate) fn waiting_ticks(&self, dlci: Dlci) -> Option<u64>
+        ensures { result ≡ ticks_shown self.now.delays self.now.core.hand dlci.number }
+    {
+        ticks_shown(&self.delays, self.core.hand.as_slice(), dlci)
+    }
+}

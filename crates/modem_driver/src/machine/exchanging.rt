@@ -1,0 +1,65 @@
+//! A session's calls on its line.
+ghost use Rattle.std.specs.Prelude.{◌≡◌, ◌≢◌, [], OnErr, IfOk};
+ghost use Rattle.modem_driver.specs.SessionStates.{line_by};
+ghost use Rattle.modem_driver.specs.SessionTurns.{Feeds, MachineReads, MachineWrites};
+
+use crate::machine::Machine;
+use serial_line::SerialLine;
+
+impl Machine {
+    /// Offers the octets that wait to the line, once, and says whether it took any. Where none wait
+    /// there is no call. A fault is kept in mind.
+    #[tactic(auto, using(crate::proofs::sessions::LineCalls::writes_none))]
+    pub(crate) fn write_on<L: SerialLine>(&mut self, line: &mut L) -> bool
+        ensures writes { MachineWrites (line_by L.received L.sent L.calls L.failures L.empty_reads L.stalled_writes line.old)
+            (line_by L.received L.sent L.calls L.failures L.empty_reads L.stalled_writes line.new) self.old self.new result }
+        ensures beyond { L.other_side line.new ≡ L.other_side line.old }
+    {
+        if self.output.is_empty() {
+            return false;
+        }
+        match line.try_write(self.output.as_slice()) {
+            Ok(count) => {
+                self.output.pass(count);
+                count > 0
+            }
+            Err(_fault) => {
+                self.faulty = true;
+                false
+            }
+        }
+    }
+
+    /// Gives the octets that were read to the deframer, as many of the first as it takes: at least one
+    /// where no frame is at hand. Says how many.
+    pub(crate) fn feed(&mut self) -> usize
+        ensures { Feeds self.old self.new result }
+    {
+        let count = self.deframer.feed(self.input.as_slice());
+        self.input.pass(count);
+        count
+    }
+
+    /// Reads from the line, once, where all octets were given to the deframer; and gives it those that
+    /// wait. Says whether octets came, or were given to it. A fault is kept in mind.
+    pub(crate) fn read_on<L: SerialLine>(&mut self, line: &mut L) -> bool
+        ensures reads { MachineReads (line_by L.received L.sent L.calls L.failures L.empty_reads L.stalled_writes line.old)
+            (line_by L.received L.sent L.calls L.failures L.empty_reads L.stalled_writes line.new) self.old self.new result }
+        ensures beyond { L.other_side line.new ≡ L.other_side line.old }
+    {
+        if !self.input.is_empty() {
+            return self.feed() > 0;
+        }
+        match self.input.read(line) {
+            Ok(0) => false,
+            Ok(_count) => {
+                self.feed();
+                true
+            }
+            Err(_fault) => {
+                self.faulty = true;
+                false
+            }
+        }
+    }
+}

@@ -1,0 +1,43 @@
+//! Frames that are handled.
+ghost use Rattle.std.specs.Prelude.{◌≡◌, ◌≢◌, ◌<◌, length, true, None, IfOk, OnErr};
+ghost use Rattle.modem_driver.specs.GettingSteps.{MachineGets};
+ghost use Rattle.modem_driver.specs.declared.session.error.SessionFault.TheVariants as fault;
+
+use crate::error::CoreError;
+use crate::machine::Machine;
+use crate::session::SessionFault;
+
+impl Machine {
+    /// Handles the frame at hand, and says whether there was one that could be handled. Where there is
+    /// no room in the control queue for what it calls for, it stays at hand and nothing is done.
+    /// Refusal: 1 NoMemory, which changes nothing: the frame stays at hand too.
+    pub(crate) fn get_one(&mut self) -> Result<bool, SessionFault>
+        ensures gets { IfOk result (λ moved. MachineGets self.old self.new moved) }
+        ensures shorter { IfOk result (λ moved. moved ≡ true
+            → length self.new.deframer.undecided < length self.old.deframer.undecided) }
+        ensures unfed { self.new.unfed ≡ self.old.unfed }
+        ensures aside { self.new.aside ≡ self.old.aside }
+        ensures unwritten { self.new.unwritten ≡ self.old.unwritten }
+        ensures err { OnErr result (self.new ≡ self.old) }
+        ensures at_hand { OnErr result (self.old.deframer.next ≢ None) }
+        ensures no_memory { OnErr result (result ≡ Err fault.NoMemory) }
+    {
+        let Some(frame) = self.deframer.peek() else {
+            return Ok(false);
+        };
+        let Ok(()) = self.waiting.make_room(frame.info.len()) else {
+            return Err(SessionFault::NoMemory);
+        };
+        let stop = self.core.stop();
+        match self.core.got(frame) {
+            Ok(acts) => {
+                self.course.note(stop, acts.as_slice());
+                self.waiting.keep(acts);
+                self.deframer.advance();
+                Ok(true)
+            }
+            Err(CoreError::NoRoom) => Ok(false),
+            Err(_) => Err(SessionFault::NoMemory),
+        }
+    }
+}

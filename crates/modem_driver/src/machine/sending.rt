@@ -1,0 +1,26 @@
+//! Frames that go into the output.
+ghost use Rattle.std.specs.Prelude.{◌≡◌};
+ghost use Rattle.modem_driver.specs.SendingSteps.{MachineSends};
+
+use crate::machine::Machine;
+
+impl Machine {
+    /// The next frame's octets go into the output: the first of the control queue, else data. Where
+    /// octets wait, nothing is done. It says whether data was sent: a control frame was sent when it was
+    /// queued. It takes no memory.
+    pub(crate) fn send_on(&mut self) -> bool
+        ensures sends { MachineSends self.old self.new result }
+        ensures unfed { self.new.unfed ≡ self.old.unfed }
+        ensures aside { self.new.aside ≡ self.old.aside }
+        ensures next { self.new.deframer ≡ self.old.deframer }
+    {
+        if !self.output.is_empty() {
+            return false;
+        }
+        let Some(outgoing) = self.core.outgoing() else {
+            return false;
+        };
+        self.output.put(outgoing.frame);
+        outgoing.fresh
+    }
+}

@@ -1,0 +1,151 @@
+//! Outcomes and lines that wait for a place.
+ghost use Rattle.std.specs.Prelude.{◌≡◌, ◌≤◌, [], length, map, IfOk, OnOk, IfSome, IfNone, MatchOption, All, Contains};
+ghost use Rattle.modem_history.specs.Acts.{act_of};
+ghost use Rattle.modem_history.specs.Sessions.{backlog_in};
+ghost use Rattle.modem_driver.specs.SessionTurns.{IsFirstOf, IsLeast};
+ghost use Rattle.modem_driver.specs.WaitingLists.{Keeps, Puts};
+
+use crate::hand::IN_HAND;
+use crate::machine::line_queue::LineQueue;
+use at_text::UrcKind;
+use modem_desk::{Outcome, Urc};
+use modem_history::Act;
+use mux_frame::Dlci;
+use std::alloc::{AllocError, Global};
+use std::collections::VecDeque;
+use std::marker::Model;
+
+/// The outcomes that wait for a place at their callers, and the lines that wait for one at their
+/// listeners, each in their order. Requests in hand, one kept aside and outcomes that wait are
+/// together 128 at most, and for so many outcomes there is room.
+#[derive(Drop)]
+pub(crate) struct Waiting {
+    pub(crate) outcomes: VecDeque<Outcome>,
+    pub(crate) lines: LineQueue,
+}
+
+impl Model for Waiting {
+    ghost use Rattle.std.specs.Prelude.{◌≤◌};
+    ghost use Rattle.std.specs.VecDeque.{deque_capacity};
+    ghost use Rattle.modem_driver.specs.WaitingLists.{WaitingLists};
+
+    ghost Value = { WaitingLists };
+
+    ghost view = { λ w. record {
+      outcomes = w.outcomes.items;
+      lines = w.lines.items;
+      room = w.lines.room;
+    } };
+
+    ghost invariant = { λ w. 128 ≤ deque_capacity w.outcomes };
+}
+
+/// The least of the callers.
+fn least_of(outcomes: &[Outcome]) -> Option<u8>
+    ensures none { IfNone result (outcomes.now ≡ []) }
+    ensures least { IfSome result (λ c. All (λ o. c ≤ o.caller) outcomes.now
+        × Contains (map (λ o. o.caller) outcomes.now) c) }
+{
+    outcomes.iter().map(|outcome| outcome.caller).min()
+}
+
+impl Waiting {
+    /// None so far.
+    pub(crate) fn new(alloc: Global) -> Result<Waiting, AllocError>
+        ensures { IfOk result (λ w. (w.outcomes ≡ []) × (w.lines ≡ [])) }
+    {
+        let outcomes = VecDeque::with_capacity(alloc, IN_HAND)?;
+        Ok(Waiting {
+            outcomes,
+            lines: LineQueue::new(alloc),
+        })
+    }
+
+    /// Makes room for so many more lines.
+    pub(crate) fn make_room(&mut self, more: usize) -> Result<(), AllocError>
+        ensures outcomes { self.new.outcomes ≡ self.old.outcomes }
+        ensures lines { self.new.lines ≡ self.old.lines }
+        ensures room { OnOk result (more ≤ self.new.room) }
+    {
+        self.lines.reserve(more)
+    }
+
+    /// What an act tells or announces waits behind the others.
+    fn put(&mut self, act: Act)
+        ensures { Puts self.old self.new (act_of act) }
+    {
+        match act {
+            Act::Told(outcome) => {
+                let _ = self.outcomes.push_back(outcome);
+            }
+            Act::Heard(line) => self.lines.put(line),
+            _other => {}
+        }
+    }
+
+    /// What the acts tell and announce waits behind the others. There is room where the outcomes that
+    /// wait are then 128 at most, and where room was made for the lines.
+    #[tactic(auto, using(crate::proofs::sessions::CollectedActs::keeps_first, crate::proofs::sessions::CollectedActs::keeps_put, crate::proofs::sessions::CollectedActs::kept_outcomes, crate::proofs::sessions::CollectedActs::kept_lines))]
+    pub(crate) fn keep(&mut self, acts: Vec<Act>)
+        ensures { Keeps self.old self.new (map act_of acts.items) }
+    {
+        for act in acts {
+            self.put(act);
+        }
+    }
+
+    /// How many outcomes wait.
+    pub(crate) fn count(&self) -> usize
+        ensures { result ≡ length self.now.outcomes }
+    {
+        self.outcomes.len()
+    }
+
+    /// How many lines wait.
+    pub(crate) fn many(&self) -> usize
+        ensures { result ≡ length self.now.lines }
+    {
+        self.lines.len()
+    }
+
+    /// How many lines of a connection wait.
+    pub(crate) fn backlog(&self, dlci: Dlci) -> usize
+        ensures { result ≡ backlog_in dlci.number self.now.lines }
+    {
+        self.lines.backlog(dlci)
+    }
+
+    /// The least caller for whom an outcome waits.
+    pub(crate) fn least_caller(&self) -> Option<u8>
+        ensures { MatchOption result (self.now.outcomes ≡ []) (λ c. IsLeast c self.now.outcomes) }
+    {
+        let (front, back) = self.outcomes.as_slices();
+        let Some(first) = least_of(front) else {
+            return None;
+        };
+        match least_of(back) {
+            Some(second) => Some(first.min(second)),
+            None => Some(first),
+        }
+    }
+
+    /// The kind of the line that was heard first of those that wait.
+    #[tactic(auto, using(crate::proofs::sessions::FirstWaiting::none_of))]
+    pub(crate) fn first_kind(&self) -> Option<UrcKind>
+        ensures { MatchOption result (self.now.lines ≡ []) (λ k. IsFirstOf k self.now.lines) }
+    {
+        match self.lines.front() {
+            Some(line) => Some(line.kind),
+            None => None,
+        }
+    }
+
+    /// The outcomes and the lines, without taking memory.
+    pub(crate) fn into_lists(self) -> (Vec<Outcome>, Vec<Urc>)
+        ensures outcomes { result.0.items ≡ self.outcomes }
+        ensures lines { result.1.items ≡ self.lines }
+    {
+        let Waiting { outcomes, lines } = self;
+        (outcomes.into_vec(), lines.into_vec())
+    }
+}
