@@ -200,6 +200,11 @@ bool cimbaloty_wants_tick(struct cimbaloty *c);
  * Refused: NO_DRIVER; LINE_LOST; NO_MEMORY, after which the line isn't lost: call again. */
 uint8_t cimbaloty_line_lost(struct cimbaloty *c);
 
+/* How many ticks in a row have found the command that is the first in hand on a connection there: so long its
+ * answer hasn't ended. Nothing is given up by itself: where it is too many, cimbaloty_close the connection.
+ * Refused: NO_DRIVER, BAD_DLCI, NOTHING where no command of the connection is in hand; *ticks is as it was. */
+uint8_t cimbaloty_waiting_ticks(struct cimbaloty *c, uint8_t dlci, uint64_t *ticks);
+
 /* How a connection stands (enum cimbaloty_channel_state); 0 where there is no driver or no such connection. */
 uint8_t cimbaloty_state(struct cimbaloty *c, uint8_t dlci);
 

@@ -34,6 +34,7 @@ static void refusals(void)
 	CHECK(cimbaloty_output(&none, NULL, 0) == 0 && cimbaloty_state(&none, 0) == 0);
 	CHECK(cimbaloty_tick(&none) == CIMBALOTY_NO_DRIVER && cimbaloty_line_lost(&none) == CIMBALOTY_NO_DRIVER);
 	CHECK(!cimbaloty_wants_tick(&none));
+	CHECK(cimbaloty_waiting_ticks(&none, 99, &n) == CIMBALOTY_NO_DRIVER && n == 99);
 	CHECK(cimbaloty_peek_outcome(&none, &o) == CIMBALOTY_NO_DRIVER && o.number == 7);
 	CHECK(cimbaloty_poll_outcome(&none, &o, NULL, 0) == CIMBALOTY_NO_DRIVER && o.number == 7);
 	CHECK(cimbaloty_poll_line(&none, &u, NULL, 0) == CIMBALOTY_NO_DRIVER && u.kind == 7);
@@ -182,6 +183,34 @@ static void ticks(void)
 	}
 	told(p, n, CIMBALOTY_NO_ANSWER, text, sizeof text);
 	CHECK(!cimbaloty_wants_tick(&p->c));
+	end(p);
+}
+
+/* A command that is never answered waits one tick more at each tick, and those behind it don't; a close ends the wait. */
+static void waits(void)
+{
+	struct pair *p = begin(4096, 4096);
+	char text[64];
+	uint64_t n, ticks = 99;
+
+	told(p, 1, CIMBALOTY_OPENED, text, sizeof text);
+	CHECK(cimbaloty_waiting_ticks(&p->c, 62, &ticks) == CIMBALOTY_BAD_DLCI && ticks == 99);
+	opened(p, 1, 2);
+	CHECK(cimbaloty_waiting_ticks(&p->c, 1, &ticks) == CIMBALOTY_NOTHING && ticks == 99);
+	CHECK(cimbaloty_tick(&p->c) == CIMBALOTY_OK);
+	asked(p, 1, "AT+MUTE");
+	asked(p, 1, "AT+MUTE");
+	pump(p);
+	for (uint64_t i = 0; i < 7; i++) {
+		CHECK(cimbaloty_waiting_ticks(&p->c, 1, &ticks) == CIMBALOTY_OK && ticks == i);
+		CHECK(cimbaloty_tick(&p->c) == CIMBALOTY_OK);
+		pump(p);
+	}
+	CHECK(cimbaloty_waiting_ticks(&p->c, 2, &ticks) == CIMBALOTY_NOTHING && ticks == 6);
+	CHECK(cimbaloty_close(&p->c, 1, &n) == CIMBALOTY_OK && n == 5);
+	pump(p);
+	told(p, 3, CIMBALOTY_CLOSED, text, sizeof text);
+	CHECK(cimbaloty_waiting_ticks(&p->c, 1, &ticks) == CIMBALOTY_NOTHING);
 	end(p);
 }
 
@@ -334,6 +363,7 @@ int main(void)
 	cuts();
 	full_and_lost();
 	ticks();
+	waits();
 	backlog();
 	threads();
 	passed();

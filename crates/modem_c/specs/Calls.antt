@@ -3,9 +3,11 @@ use Rattle.std.specs.Prelude.{◌≡◌, ℕ, List, [], ◌++◌, Option, None, 
 use Rattle.mux_frame.specs.declared.dlci.Dlci.{Dlci}
 use Rattle.modem_desk.specs.declared.request.Ask.{Ask}
 use Rattle.modem_desk.specs.Ends.{DriverView}
-use Rattle.modem_history.specs.Sessions.{LineView}
-use Rattle.modem_driver.specs.Endpoints.{EndpointState, GivesOctets, Numbers, TakesOctets}
+use Rattle.modem_history.specs.Acts.{Act}
+use Rattle.modem_history.specs.Sessions.{Beginning, LineView}
+use Rattle.modem_driver.specs.Endpoints.{EndpointFits, EndpointState, GivesOctets, Numbers, TakesOctets}
 use Rattle.modem_driver.specs.EndpointLaws.{Calls}
+use Rattle.modem_driver.specs.WaitingTicks.{waiting_ticks}
 use Rattle.modem_driver.specs.EndpointSteps.{with_sent}
 use Rattle.modem_driver.specs.declared.endpoint.Blocked.{Blocked}
 use Rattle.modem_c.specs.declared.driver.Cimbaloty.{Cimbaloty}
@@ -35,6 +37,13 @@ pub record NumbersAt (e f : EndpointState) (asks : Dlci → Ask) (dlci n : ℕ) 
   pub connection : Dlci
   pub is_it : connection.number ≡ dlci
   pub numbers : Numbers e f (asks connection) n
+
+-- ## Time
+
+-- by every history that it fits, so many ticks the first command of the connection of this number has waited, where one is in hand
+abbrev pub HasWaited : EndpointState → ℕ → Option ℕ → Type 0
+HasWaited e n ticks =
+    (b : Beginning) (l : LineView) (d : DriverView) (past : List Act) → EndpointFits b l d e past → ticks ≡ waiting_ticks n past
 
 -- ## Octets for the line
 

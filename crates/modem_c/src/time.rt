@@ -6,12 +6,12 @@ ghost use Rattle.modem_history.specs.Sessions.{LineView};
 ghost use Rattle.modem_driver.specs.Cores.{state_shown};
 ghost use Rattle.modem_driver.specs.Endpoints.{EndpointState, Loses, Refuses, Ticks, wants_time};
 ghost use Rattle.modem_driver.specs.Numbers.{session_fault_number};
-ghost use Rattle.modem_c.specs.Calls.{Goes, Holds, endpoint_of};
+ghost use Rattle.modem_c.specs.Calls.{Goes, HasWaited, Holds, endpoint_of};
 ghost use Rattle.modem_c.specs.Numbers.{state_number};
 
 use crate::driver::Cimbaloty;
-use crate::numbers::{LINE_LOST, NO_DRIVER, NO_MEMORY, OK};
-use modem_driver::SessionFault;
+use crate::numbers::{BAD_DLCI, LINE_LOST, NO_DRIVER, NO_MEMORY, NOTHING, OK};
+use modem_driver::{Endpoint, SessionFault};
 use mux_frame::Dlci;
 use mux_station::ChannelState;
 use std::alloc::Global;
@@ -77,6 +77,45 @@ pub extern "C" fn cimbaloty_wants_tick(alloc: Global, c: &mut Cimbaloty) -> bool
     let wanted = endpoint.wants_tick();
     *c = Cimbaloty::of(endpoint);
     wanted
+}
+
+/// How many ticks in a row have found the command that is the first in hand on a connection there, or None where no command
+/// of the connection is in hand.
+fn waiting_ticks(endpoint: &Endpoint, dlci: Dlci) -> Option<u64>
+    ensures { HasWaited endpoint.now dlci.number result }
+{
+    endpoint.waiting_ticks(dlci)
+}
+
+/// Hands out how many ticks in a row have found the command that is the first in hand on a connection there.
+#[unsafe(no_mangle)]
+pub extern "C" fn cimbaloty_waiting_ticks(alloc: Global, c: &mut Cimbaloty, dlci: u8, ticks: &mut u64) -> u8
+    ensures value { result ≡ OK → Holds c.old (λ e. HasWaited e dlci (Some ticks.new)) }
+    ensures nothing { result ≡ NOTHING → Holds c.old (λ e. HasWaited e dlci None) }
+    ensures no_driver { (result ≡ NO_DRIVER) ↔ (endpoint_of c.old ≡ None) }
+    ensures bad_dlci { endpoint_of c.old ≢ None → ((result ≡ BAD_DLCI) ↔ (61 < dlci)) }
+    ensures stays { endpoint_of c.new ≡ endpoint_of c.old }
+    ensures same { result ≢ OK → ticks.new ≡ ticks.old }
+    ensures others { result ≢ OK → result ≢ NOTHING → result ≢ NO_DRIVER → result ≡ BAD_DLCI }
+{
+    if !c.is_open() {
+        return NO_DRIVER;
+    }
+    let Some(dlci) = Dlci::new(dlci) else {
+        return BAD_DLCI;
+    };
+    let Some(endpoint) = c.take(alloc) else {
+        return NO_DRIVER;
+    };
+    let waited = waiting_ticks(&endpoint, dlci);
+    *c = Cimbaloty::of(endpoint);
+    match waited {
+        Some(waited) => {
+            *ticks = waited;
+            OK
+        }
+        None => NOTHING,
+    }
 }
 
 /// The number of a state.
