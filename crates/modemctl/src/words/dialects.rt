@@ -1,11 +1,9 @@
 //! The dialect that the words give.
-ghost use Rattle.std.specs.Prelude.{◌≡◌, ◌≢◌, ◌≤◌, IfErr, IfOk, None, codes, false};
+ghost use Rattle.std.specs.Prelude.{◌≡◌, ◌≤◌, IfOk, codes, false};
 ghost use Rattle.clap.specs.Words.{first_value, found_of, rule_of};
 ghost use Rattle.modem_texts.specs.DialectNames.{dialect_with_name};
 ghost use Rattle.modem_runs.specs.Dialects.{HasText};
-ghost use Rattle.modem_runs.specs.Statuses.{status_of};
 ghost use Rattle.modem_runs.specs.Stopping.{HasGivenUp};
-ghost use Rattle.modem_runs.specs.declared.stop.Stop.TheVariants as Stop;
 ghost use Rattle.modemctl.specs.Dialects.{IsReadyOrRead, PrintsActs};
 ghost use Rattle.modemctl.specs.Words.{dialect_rule};
 

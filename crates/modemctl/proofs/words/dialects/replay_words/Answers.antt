@@ -1,5 +1,5 @@
 -- A replay by the dialect of the words.
-use Rattle.std.proofs.Common.{◌≡◌, ℕ, arith, refl, sym, subst, ◌∙◌, List, Option, None, Some, option_map}
+use Rattle.std.proofs.Common.{◌≡◌, refl, sym, subst, ◌∙◌, Option}
 use Rattle.clap.specs.Words.{Text}
 use Rattle.modem_runs.specs.Statuses.{status_of}
 use Rattle.modem_runs.specs.declared.stop.DialectFault.{DialectFault}
