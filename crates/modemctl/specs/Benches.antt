@@ -3,6 +3,9 @@ use Rattle.std.specs.Prelude.{◌≡◌, ℕ, Bool, true, false, List, [], Optio
 use Rattle.clap.specs.Words.{Row, Text, first_value, found_of, one_text}
 use Rattle.clap.specs.declared.ArgMatches.{ArgMatches}
 use Rattle.modem_sim.specs.declared.script.Script.{Script}
+use Rattle.modem_sim.specs.declared.script.Step.{Step}
+use Rattle.modem_texts.specs.Input.{input_lines}
+use Rattle.modem_runs.specs.Steps.{AreSteps}
 use Rattle.modem_runs.specs.Printed.{IsBenched, IsFramed, IsPrinted}
 use Rattle.modem_serve.specs.declared.serving.SimOptions.{SimOptions}
 use Rattle.modem_serve.specs.Serving.{IsServed}
@@ -38,13 +41,19 @@ abbrev pub IsFlag : Option Text → Bool → Type 0
 IsFlag None given = given ≡ false
 IsFlag (Some t) given = (t ≡ codes "true" → given ≡ true) × (t ≡ codes "false" → given ≡ false)
 
--- a client was served so, with the N1, the PIN and the echo of the words, by a modem that does nothing of its own accord
+-- Without a script nothing is done that no command asks for. With one, these are the steps that the lines of its text say; what
+-- text a file has is nobody's to say.
+abbrev pub AreScripted : (path : Option Text) → List Step → Type 0
+AreScripted None steps = steps ≡ []
+AreScripted (Some path) steps = (text : List ℕ) × AreSteps (input_lines text) steps
+
+-- a client was served so, with the N1, the PIN and the echo of the words, by a modem that does of its own accord what their script says
 pub record ServesClient (met : Option (Text × List Row)) (input before after : Option (List ℕ)) : Type 0 where
   pub options : SimOptions
   pub n1_given : IsGiven met (codes "n1") 31 options.n1
   pub pin_given : options.pin ≡ raw_in met (codes "pin")
   pub echo_given : IsFlag (text_in met (codes "echo")) options.echo
-  pub no_steps : options.steps ≡ []
+  pub steps_given : AreScripted (raw_in met (codes "script")) options.steps
   pub served : IsServed options input before after
 
 -- the same by the matches of the subcommand
@@ -53,5 +62,5 @@ pub record ServesWith (n1 : ℕ) (m : ArgMatches) (input before after : Option (
   pub n1_is : options.n1 ≡ n1
   pub pin_is : options.pin ≡ first_value (found_of m) (codes "pin")
   pub echo_is : IsFlag (one_text (found_of m) (codes "echo")) options.echo
-  pub no_steps : options.steps ≡ []
+  pub steps_are : AreScripted (first_value (found_of m) (codes "script")) options.steps
   pub served : IsServed options input before after

@@ -76,9 +76,19 @@ pin_rule = record (new_rule (codes "pin")) { long = Some (codes "pin"); action =
 abbrev pub echo_rule : Rule
 echo_rule = record (new_rule (codes "echo")) { long = Some (codes "echo"); action = Some SetTrue }
 
+-- the option `--script`: a text
+abbrev pub script_rule : Rule
+script_rule = record (new_rule (codes "script")) { long = Some (codes "script"); action = Some Set; value_names = 1 }
+
+-- the option `--capture`: a text
+abbrev pub capture_rule : Rule
+capture_rule = record (new_rule (codes "capture")) { long = Some (codes "capture"); action = Some Set; value_names = 1 }
+
 -- the subcommand with these options and `--n1`
 abbrev pub sim_app : App
-sim_app = with_rule (with_rule (with_rule (new_app (codes "sim")) n1_rule) pin_rule) echo_rule
+sim_app =
+    with_rule (with_rule (with_rule (with_rule (with_rule (new_app (codes "sim")) n1_rule) pin_rule) echo_rule) script_rule)
+    capture_rule
 
 -- the same with a modem
 abbrev pub with_four : App
@@ -113,7 +123,9 @@ device_rule = record (new_rule (codes "device")) { action = Some Set; value_name
 
 -- the subcommand with these and `--n1`
 abbrev pub drive_app : App
-drive_app = with_rule (with_rule (with_rule (with_rule (subcommand_app (codes "drive")) tick_rule) quiet_rule) entry_rule) device_rule
+drive_app =
+    with_rule (with_rule (with_rule (with_rule (with_rule (subcommand_app (codes "drive")) tick_rule) quiet_rule) entry_rule) capture_rule)
+    device_rule
 
 -- the program, with its five subcommands
 abbrev pub program_app : App

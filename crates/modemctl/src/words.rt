@@ -4,12 +4,14 @@ ghost use Rattle.std.specs.String.{string_bytes};
 ghost use Rattle.clap.specs.Words.{app_of, first_value, found_of, one_text, rule_of, kind_of, subcommand_name_of, subcommand_rows_of};
 ghost use Rattle.modem_runs.specs.Printed.{IsBenched, IsPrinted};
 ghost use Rattle.modem_runs.specs.Stopping.{HasGivenUp};
+ghost use Rattle.modem_serve.specs.Serving.{IsServed};
 ghost use Rattle.modemctl.specs.Benches.{IsFlag, PrintsBench, PrintsFrames, PrintsReplay, ServesClient, ServesWith, plain_script};
 ghost use Rattle.modemctl.specs.Drives.{PrintsDrive};
 ghost use Rattle.modemctl.specs.Words.{callers_rule, cut_rule, echo_rule, n1_rule, pin_rule, program_app, fault_in, met_in, named_in, with_four, with_three, with_two, AreFor, AsksNoHelp, HasNoNumber};
 
 mod dialects;
 mod driving;
+mod files;
 mod numbers;
 
 use at_cmds::Pin;
@@ -17,8 +19,11 @@ use clap::error::ErrorKind;
 use clap::{Arg, ArgAction, ArgMatches, Command, Error, value_parser};
 use dialects::{dialect_option, replay_words};
 use driving::{drive_words, with_drive};
+use files::{
+    capture_at, capture_option, refuse_capture, refuse_script, script_option, steps_of,
+};
 use modem_runs::{Stop, bench_run, frames_run, give_up};
-use modem_serve::{SimOptions, sim_run};
+use modem_serve::{SimOptions, sim_captured, sim_run};
 use modem_sim::{Script, Steps};
 use numbers::{Numbers, numbers_of};
 use std::alloc::{AllocError, AllocGlobal, Global};
@@ -133,7 +138,9 @@ fn four_commands<'a>(alloc: Global) -> Result<Command<'a>, AllocError>
         .about("Is a modem on standard input and output, for any client")
         .arg(n1_option(alloc))?
         .arg(pin_option(alloc))?
-        .arg(echo_option(alloc))?;
+        .arg(echo_option(alloc))?
+        .arg(script_option(alloc))?
+        .arg(capture_option(alloc))?;
     command.subcommand(sim)
 }
 
@@ -252,8 +259,37 @@ fn echo_of(matches: &ArgMatches<'_>) -> bool
     matches.get_flag("echo")
 }
 
+/// Is a modem for a client, with a capture where the words name a file for it.
+fn sim_with<R, I: Read, W: Write, E: Write>(
+    rt: &R,
+    alloc: Global,
+    matches: &ArgMatches<'_>,
+    options: SimOptions,
+    input: &mut I,
+    output: &mut W,
+    faults: &mut E,
+) -> u8
+where
+    R: Files<File = File> + Clock,
+    ensures status { result ≤ 2 }
+    ensures bad { result ≡ 2 → output.new ≡ output.old }
+    ensures served { result ≡ 0 → IsServed options (I.remaining input.old) (W.contents output.old) (W.contents output.new) }
+{
+    let Some(path) = matches.get_str("capture") else {
+        return sim_run(alloc, input, output, faults, options);
+    };
+    match capture_at(rt, alloc, path) {
+        Ok(capture) => {
+            let (status, _) = sim_captured(rt, alloc, input, output, faults, options, capture);
+            status
+        }
+        Err(fault) => refuse_capture(faults, fault),
+    }
+}
+
 /// Is a modem for a client.
-fn sim_words<I: Read, W: Write, E: Write>(
+fn sim_words<R, I: Read, W: Write, E: Write>(
+    rt: &R,
     alloc: Global,
     matches: &ArgMatches<'_>,
     n1: u16,
@@ -261,6 +297,8 @@ fn sim_words<I: Read, W: Write, E: Write>(
     output: &mut W,
     faults: &mut E,
 ) -> u8
+where
+    R: Files<File = File> + Clock,
     ensures status { result ≤ 2 }
     ensures bad { result ≡ 2 → output.new ≡ output.old }
     ensures served { result ≡ 0 → ServesWith n1 matches.now (I.remaining input.old) (W.contents output.old)
@@ -269,13 +307,17 @@ fn sim_words<I: Read, W: Write, E: Write>(
     let Ok(pin) = pin_of(alloc, matches) else {
         return give_up(faults, Stop::NoMemory);
     };
+    let steps = match steps_of(rt, alloc, matches) {
+        Ok(steps) => steps,
+        Err(fault) => return refuse_script(faults, fault),
+    };
     let options = SimOptions {
         n1,
         pin,
         echo: echo_of(matches),
-        steps: Steps::from(Vec::new(alloc)),
+        steps,
     };
-    sim_run(alloc, input, output, faults, options)
+    sim_with(rt, alloc, matches, options, input, output, faults)
 }
 
 /// Runs the subcommand that a parse met.
@@ -334,7 +376,7 @@ where
         "frames" => frames_run(alloc, input, output, faults, numbers.n1),
         "replay" => replay_words(rt, alloc, given, numbers.n1, input, output, faults),
         "bench" => bench_plain(rt, alloc, numbers, input, output, faults),
-        "sim" => sim_words(alloc, given, numbers.n1, input, output, faults),
+        "sim" => sim_words(rt, alloc, given, numbers.n1, input, output, faults),
         "drive" => drive_words(rt, given, numbers.n1, lines, output, faults),
         _ => 2,
     }

@@ -5,6 +5,7 @@ ghost use Rattle.modem_drive.specs.Entry.{entry_for, given_text};
 ghost use Rattle.modem_drive.specs.Running.{DroveDevice};
 ghost use Rattle.modemctl.specs.Words.{device_rule, drive_app, entry_rule, quiet_rule, tick_rule};
 
+use crate::words::files::capture_option;
 use crate::words::numbers::{number_of, seconds_of};
 use crate::words::{n1_option, refuse};
 use clap::{Arg, ArgAction, ArgMatches, Command, value_parser};
@@ -85,6 +86,7 @@ pub fn with_drive<'a>(alloc: Global, command: Command<'a>) -> Result<Command<'a>
         .arg(tick_option(alloc))?
         .arg(quiet_option(alloc))?
         .arg(entry_option(alloc))?
+        .arg(capture_option(alloc))?
         .arg(device_word(alloc))?;
     command.subcommand(drive)
 }
@@ -103,6 +105,7 @@ fn settings_of<'a>(matches: &ArgMatches<'a>, n1: u16) -> Result<Settings<'a>, &'
     Ok(Settings {
         n1,
         entry: matches.get_str("entry"),
+        capture: matches.get_str("capture"),
         tick: Duration::from_millis(u64::from(tick)),
         quiet_for: quiet_for.map(|seconds| Duration::from_secs(u64::from(seconds))),
     })

@@ -4,7 +4,7 @@ use Rattle.clap.specs.Words.{Row, Text, first_of, first_value, found_of, one_of,
 use Rattle.clap.specs.declared.ArgMatches.{ArgMatches}
 use Rattle.clap.proofs.WalkLemmas.{first_value-rows, one_text-rows}
 use Rattle.modemctl.specs.Words.{HasNoNumber, IsGiven, IsNoNumber, IsNumberOf, raw_in, text_in}
-use Rattle.modemctl.specs.Benches.{IsFlag, ServesClient, ServesWith}
+use Rattle.modemctl.specs.Benches.{AreScripted, IsFlag, ServesClient, ServesWith}
 use Rattle.modem_drive.specs.Entry.{entry_for}
 use Rattle.modem_drive.specs.Running.{DroveDevice}
 use Rattle.modemctl.specs.Dialects.{PrintsActs}
@@ -97,7 +97,7 @@ serves_client top m n1 input before after rows number serves = record {
   n1_given = number_in top m (codes "n1") 31 serves.options.n1 rows (subst (λ (n : ℕ). IsNumberOf 31 (one_text (found_of m) (codes "n1")) n) (sym serves.n1_is) number);
   pin_given = serves.pin_is ∙ word_given top m (codes "pin") rows;
   echo_given = subst (λ (t : Option Text). IsFlag t serves.options.echo) (given_in top m (codes "echo") rows) serves.echo_is;
-  no_steps = serves.no_steps;
+  steps_given = subst (λ (t : Option Text). AreScripted t serves.options.steps) (word_given top m (codes "script") rows) serves.steps_are;
   served = serves.served;
 }
 
