@@ -68,3 +68,4 @@ StepsStop input Stop.GaveUp = ⊥
 StepsStop input Stop.BadN1 = ⊥
 StepsStop input Stop.BadCallers = ⊥
 StepsStop input Stop.BadCut = ⊥
+StepsStop input (Stop.Dialect fault) = ⊥
