@@ -80,8 +80,7 @@ impl<L: SerialLine, K: Clock, C: Write> SerialLine for CapturedLine<L, K, C> {
     ghost other_side = { λ l. L.other_side l.line };
 
     /// Reads; the frames that end in what it reads are captured.
-    fn try_read(&mut self, buffer: &mut [u8]) -> Result<usize, LineFault>
-    {
+    fn try_read(&mut self, buffer: &mut [u8]) -> Result<usize, LineFault> {
         let count = self.line.try_read(buffer)?;
         note(
             &self.clock,
@@ -94,8 +93,7 @@ impl<L: SerialLine, K: Clock, C: Write> SerialLine for CapturedLine<L, K, C> {
     }
 
     /// Writes; the frames that end in what it takes are captured.
-    fn try_write(&mut self, octets: &[u8]) -> Result<usize, LineFault>
-    {
+    fn try_write(&mut self, octets: &[u8]) -> Result<usize, LineFault> {
         let count = self.line.try_write(octets)?;
         note(
             &self.clock,

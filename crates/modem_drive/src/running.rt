@@ -368,17 +368,17 @@ where
         (W.contents output.old) (W.contents output.new) None }
 {
     match open_all(rt, rt.alloc(), path, &settings) {
-        Ok(Opened {
-            reader,
-            writer,
-            capture,
-            trouble,
-            share,
-        }) => {
+        Ok(
+            Opened {
+                reader,
+                writer,
+                capture,
+                trouble,
+                share,
+            },
+        ) => {
             let device = (reader, writer);
-            let ended = drive_threaded(
-                rt, device, capture, share, input, output, faults, settings,
-            );
+            let ended = drive_threaded(rt, device, capture, share, input, output, faults, settings);
             say_end(faults, ended, trouble.is_over())
         }
         Err(fault) => say_fault(faults, fault),

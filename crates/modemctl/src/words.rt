@@ -19,9 +19,7 @@ use clap::error::ErrorKind;
 use clap::{Arg, ArgAction, ArgMatches, Command, Error, value_parser};
 use dialects::{dialect_option, replay_words};
 use driving::{drive_words, with_drive};
-use files::{
-    capture_at, capture_option, refuse_capture, refuse_script, script_option, steps_of,
-};
+use files::{capture_at, capture_option, refuse_capture, refuse_script, script_option, steps_of};
 use modem_runs::{Stop, bench_run, frames_run, give_up};
 use modem_serve::{SimOptions, sim_captured, sim_run};
 use modem_sim::{Script, Steps};

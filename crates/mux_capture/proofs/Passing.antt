@@ -1,9 +1,9 @@
 -- Octets that pass, and the frames that are captured of them.
-use Rattle.std.specs.Prelude.{◌≡◌, ℕ, suc, ◌+◌, ◌<◌, ◌≤◌, nat_lt, Bool, true, false, List, [], ◌∷◌, ◌++◌, length, take, drop, map, Option, None, Some, refl, if◌then◌else◌}
+use Rattle.std.specs.Prelude.{◌≡◌, ℕ, suc, ◌+◌, ◌≤◌, Bool, true, false, List, [], ◌∷◌, ◌++◌, length, take, drop, map, Option, None, Some, refl, if◌then◌else◌}
 use Rattle.std.specs.List.{flat_map}
-use Rattle.std.specs.Io.KnownBytes.{Appends, Keeps}
+use Rattle.std.specs.Io.KnownBytes.{Appends}
 use Rattle.std.proofs.Common.{sym, ap, subst, arith, ◌∙◌}
-use Rattle.std.proofs.lemmas.List.{append_assoc, append-nil, length-append, map-append, take-append-drop}
+use Rattle.std.proofs.lemmas.List.{append_assoc, append-nil, length-append, take-append-drop}
 use Rattle.std.proofs.lemmas.Grind.{flat_map-append}
 use Rattle.mux_frame.specs.Frames.{Frame}
 use Rattle.mux_frame.specs.Deframing.{AtHand, Deframes, Deframing}
@@ -15,7 +15,7 @@ use Rattle.mux_capture.specs.declared.packet.Direction.{Direction}
 use Rattle.mux_capture.specs.declared.packet.Direction.TheVariants.{ToModem, FromModem}
 use Rattle.mux_capture.specs.declared.packet.Stamp.{Stamp}
 use Rattle.mux_capture.specs.Pcap.{file_header, packet}
-use Rattle.mux_capture.specs.Passing.{CaptureState, Captures, Catches, Caught, Finds, HasCaptured, Passed, caught_packet, caught_with, frames_in, is_same, more, none, octets_in}
+use Rattle.mux_capture.specs.Passing.{CaptureState, Captures, Caught, Finds, HasCaptured, Passed, caught_packet, caught_with, frames_in, is_same, more, none, octets_in}
 
 -- ## Known octets
 

@@ -1,8 +1,7 @@
 -- Captures in the file format of tcpdump (pcap, version 2.4), each number with its lowest octet first, of link type 236: frames of
 -- 3GPP TS 27.010, each behind two octets.
-use Rattle.std.specs.Prelude.{ℕ, ◌+◌, ◌*◌, ◌≡◌, List, [], ◌∷◌, ◌++◌, length, map}
+use Rattle.std.specs.Prelude.{ℕ, List, ◌∷◌, ◌++◌, length}
 use Rattle.std.specs.Int.{bytes_low_first}
-use Rattle.std.specs.List.{flat_map}
 use Rattle.mux_capture.specs.declared.packet.Direction.{Direction}
 use Rattle.mux_capture.specs.declared.packet.Direction.TheVariants.{ToModem, FromModem}
 use Rattle.mux_capture.specs.declared.packet.Stamp.{Stamp}

@@ -67,7 +67,10 @@ fn deframers(alloc: Global) -> Result<(Deframer, Deframer), CaptureFault>
     ensures past { IfOk result (λ r. Deframes [] [] r.0 × Deframes [] [] r.1) }
     ensures n1 { IfOk result (λ r. (r.0.n1 ≡ 32767) × (r.1.n1 ≡ 32767)) }
 {
-    match (Deframer::new(alloc, MOST_INFO), Deframer::new(alloc, MOST_INFO)) {
+    match (
+        Deframer::new(alloc, MOST_INFO),
+        Deframer::new(alloc, MOST_INFO),
+    ) {
         (Ok(to_modem), Ok(from_modem)) => Ok((to_modem, from_modem)),
         _ => Err(CaptureFault),
     }

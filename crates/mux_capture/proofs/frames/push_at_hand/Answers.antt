@@ -1,8 +1,7 @@
-use Rattle.std.proofs.Common.{sym, ◌∙◌, ap}
+use Rattle.std.proofs.Common.{sym}
 use Rattle.mux_frame.specs.Frames.{frame_of}
-use Rattle.mux_frame.specs.Deframing.{Deframing}
-use Rattle.std.specs.Prelude.{[], refl}
-use Rattle.mux_capture.proofs.Passing.{finds_looked, finds_frame, finds_more}
+use Rattle.std.specs.Prelude.{[]}
+use Rattle.mux_capture.proofs.Passing.{finds_looked, finds_more}
 use Rattle.mux_capture.proofs.frames.push_at_hand.Goals as goal
 
 pub loop-frame-preserved : goal.loop-frame-preserved

@@ -1,5 +1,4 @@
-use Rattle.std.specs.Prelude.{refl, List, ℕ, take, drop}
-use Rattle.std.proofs.Common.{rules, sym, ap, subst, ◌≡◌, ◌∙◌}
+use Rattle.std.proofs.Common.{rules}
 use Rattle.mux_capture.proofs.Passing.{found_all, found_more}
 use Rattle.mux_capture.proofs.frames.push_frames.Goals as goal
 

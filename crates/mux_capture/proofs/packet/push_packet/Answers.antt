@@ -1,4 +1,4 @@
-use Rattle.std.proofs.Common.{◌≡◌, ℕ, ◌+◌, List, [], ◌∷◌, ◌++◌, length, ap, sym, ◌∙◌, refl, append_assoc, arith}
+use Rattle.std.proofs.Common.{◌≡◌, ℕ, ◌+◌, List, [], ◌∷◌, ◌++◌, length, ap, ◌∙◌, refl, append_assoc, arith}
 use Rattle.mux_capture.specs.declared.packet.Direction.{Direction}
 use Rattle.mux_capture.specs.declared.packet.Stamp.{Stamp}
 use Rattle.mux_capture.specs.Pcap.{direction_octet, little_endian, packet}

@@ -1,7 +1,7 @@
-use Rattle.std.specs.Prelude.{List, ℕ, [], Result, Ok, Err, OnOk}
+use Rattle.std.specs.Prelude.{List, ℕ, Result, Ok, Err, OnOk}
 use Rattle.std.proofs.Common.{subst, sym}
 use Rattle.std.specs.Io.KnownBytes.{Appends}
-use Rattle.mux_capture.specs.Passing.{Captures, Finds}
+use Rattle.mux_capture.specs.Passing.{Finds}
 use Rattle.mux_capture.specs.declared.packet.Direction.TheVariants.{ToModem, FromModem}
 use Rattle.mux_capture.proofs.Passing.{captures_from_modem, captures_to_modem}
 use Rattle.mux_capture.proofs.capture.Capture.write.Goals as goal
