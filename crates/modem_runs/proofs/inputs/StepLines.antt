@@ -169,6 +169,7 @@ stops_by input octets Stop.GaveUp whole reason = reason
 stops_by input octets Stop.BadN1 whole reason = reason
 stops_by input octets Stop.BadCallers whole reason = reason
 stops_by input octets Stop.BadCut whole reason = reason
+stops_by input octets (Stop.Dialect fault) whole reason = reason
 
 pub steps_by : (input : Option (List ℕ)) (octets read : List ℕ) (r : Result (List Step) Stop) → IfSome input (λ all. octets ≡ all) → read ≡ octets → MatchResult r (AreSteps (input_lines read)) (IsReason IsNoStep (input_lines read))
     → MatchResult r (GivesSteps input) (StepsStop input)
