@@ -89,7 +89,12 @@ fn waiting_ticks(endpoint: &Endpoint, dlci: Dlci) -> Option<u64>
 
 /// Hands out how many ticks in a row have found the command that is the first in hand on a connection there.
 #[unsafe(no_mangle)]
-pub extern "C" fn cimbaloty_waiting_ticks(alloc: Global, c: &mut Cimbaloty, dlci: u8, ticks: &mut u64) -> u8
+pub extern "C" fn cimbaloty_waiting_ticks(
+    alloc: Global,
+    c: &mut Cimbaloty,
+    dlci: u8,
+    ticks: &mut u64,
+) -> u8
     ensures value { result ≡ OK → Holds c.old (λ e. HasWaited e dlci (Some ticks.new)) }
     ensures nothing { result ≡ NOTHING → Holds c.old (λ e. HasWaited e dlci None) }
     ensures no_driver { (result ≡ NO_DRIVER) ↔ (endpoint_of c.old ≡ None) }
