@@ -14,9 +14,11 @@ pub(crate) fn head(line: &[u8]) -> usize
     ensures value { result ≡ head line.now }
     ensures below { result < 256 }
 {
-    let third = line.get(2).copied().unwrap_or(0);
-    let fourth = line.get(3).copied().unwrap_or(0);
-    (usize::from(third) * 31 + usize::from(fourth)) % HEADS
+    match line {
+        [_, _, third, fourth, ..] => (usize::from(*third) * 31 + usize::from(*fourth)) % HEADS,
+        [_, _, third] => usize::from(*third) * 31 % HEADS,
+        _ => 0,
+    }
 }
 
 /// Whether all lines of a rule have the head of its text.

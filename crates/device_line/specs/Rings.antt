@@ -1,6 +1,6 @@
 -- The ends of rings between a device and its line.
 use Rattle.std.specs.Prelude.{ℕ, List}
-use Rattle.serial_line.specs.ThreadLine.{RingId}
+use Rattle.ring_id.specs.Rings.{RingId}
 
 -- the end that a line reads
 pub record ReaderState : Type 0 where

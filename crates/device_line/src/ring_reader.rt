@@ -18,7 +18,7 @@ pub struct RingReader {
 
 impl Model for RingReader {
     ghost use Rattle.rtrb.specs.Ring.{received, known_items};
-    ghost use Rattle.serial_line.specs.ThreadLine.{ring_of_consumer};
+    ghost use Rattle.ring_id.specs.Rings.{ring_of_consumer};
     ghost use Rattle.device_line.specs.Rings.{ReaderState};
 
     ghost Value = { ReaderState };
@@ -32,7 +32,7 @@ impl Model for RingReader {
 
 impl RingReader {
     ghost use Rattle.rtrb.specs.Ring.{received, known_items};
-    ghost use Rattle.serial_line.specs.ThreadLine.{ring_of_consumer};
+    ghost use Rattle.ring_id.specs.Rings.{ring_of_consumer};
 
     /// Reads from this ring.
     pub fn new(octets: Consumer<u8>) -> RingReader

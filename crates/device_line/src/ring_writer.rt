@@ -20,7 +20,7 @@ pub struct RingWriter {
 
 impl Model for RingWriter {
     ghost use Rattle.rtrb.specs.Ring.{sent, known_free};
-    ghost use Rattle.serial_line.specs.ThreadLine.{ring_of_producer};
+    ghost use Rattle.ring_id.specs.Rings.{ring_of_producer};
     ghost use Rattle.device_line.specs.Rings.{WriterState};
 
     ghost Value = { WriterState };
@@ -34,7 +34,7 @@ impl Model for RingWriter {
 
 impl RingWriter {
     ghost use Rattle.rtrb.specs.Ring.{sent, known_free};
-    ghost use Rattle.serial_line.specs.ThreadLine.{ring_of_producer};
+    ghost use Rattle.ring_id.specs.Rings.{ring_of_producer};
 
     /// A writer to this ring, which rings this bell.
     pub fn new(octets: Producer<u8>, bell: Bell) -> RingWriter

@@ -4,34 +4,12 @@
 use Rattle.std.specs.Prelude.{◌≡◌, ◌≢◌, ℕ, zero, suc, ◌+◌, ◌-◌, ◌^◌, min, ◌∷◌, map, ◌<◌, ◌≤◌, ◌++◌, List, [], length, slice_index_or, replicate, Contains}
 use mathlib.Core.Option.{some}
 use lib.ListN.{get_elem?}
-use denote.RawPtr.{Ptr}
 use Rattle.atomic_table.specs.Seated.{TableId}
-use Rattle.rtrb.specs.Shared.{Names}
-use Rattle.rtrb.specs.declared.producer.Producer.{Producer}
-use Rattle.rtrb.specs.declared.consumer.Consumer.{Consumer}
-use Rattle.std.specs.declared.alloc.Global.{Global}
+use Rattle.ring_id.specs.Rings.{RingId}
 use Rattle.at_text.specs.declared.unsolicited.UrcKind.{UrcKind}
 use Rattle.modem_desk.specs.declared.request.Request.{Request}
 use Rattle.modem_desk.specs.declared.request.Outcome.{Outcome}
 use Rattle.modem_desk.specs.declared.request.Urc.{Urc}
-
--- which ring an end is of
-pub record RingId : Type 0 where
-  pub words : Ptr
-  pub slots : Ptr
-  pub names : Names
-  pub heap : Global
-
-module _ {T P : Type 0} where
-  -- the ring that a producer is of
-  abbrev pub ring_of_producer : Producer T Global P → RingId
-  ring_of_producer p =
-      record { words = p.end.words; slots = p.end.slots; names = p.end.names; heap = p.end.heap }
-
-  -- the ring that a consumer is of
-  abbrev pub ring_of_consumer : Consumer T Global P → RingId
-  ring_of_consumer c =
-      record { words = c.end.words; slots = c.end.slots; names = c.end.names; heap = c.end.heap }
 
 -- a caller's place at a desk: its number, the ring of its outcomes, the number of its first request
 pub record Place : Type 0 where

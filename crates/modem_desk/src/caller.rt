@@ -45,7 +45,8 @@ impl Model for Caller {
     ghost use Rattle.std.specs.Arc.{arc_value};
     ghost use Rattle.crossbeam_queue.specs.Passes.{view as knows, IsPassOf, ruled_capacity};
     ghost use Rattle.rtrb.specs.Ring.{received, known_items, consumer_capacity};
-    ghost use Rattle.modem_desk.specs.Ends.{CallerView, IsNumbered, ring_of_consumer};
+    ghost use Rattle.modem_desk.specs.Ends.{CallerView, IsNumbered};
+    ghost use Rattle.ring_id.specs.Rings.{ring_of_consumer};
 
     ghost Value = { CallerView };
 
@@ -75,7 +76,8 @@ impl Caller {
     ghost use Rattle.crossbeam_queue.specs.Passes.{view, IsPassOf, ruled_capacity};
     ghost use Rattle.rtrb.specs.Ring.{received, known_items, consumer_capacity};
     ghost use Rattle.modem_desk.specs.Rule.{caller};
-    ghost use Rattle.modem_desk.specs.Ends.{IsNumbered, ring_of_consumer};
+    ghost use Rattle.modem_desk.specs.Ends.{IsNumbered};
+    ghost use Rattle.ring_id.specs.Rings.{ring_of_consumer};
     ghost use Rattle.modem_desk.specs.declared.error.SubmitError.TheVariants.{TooMany, Exhausted};
 
     pub(crate) fn new(

@@ -40,7 +40,8 @@ impl Model for DriverEnd {
     ghost use Rattle.crossbeam_queue.specs.Passes.{view as knows, IsPassOf, ruled_capacity};
     ghost use Rattle.rtrb.specs.Ring.{sent, known_free};
     ghost use Rattle.modem_desk.specs.Rule.{driver, AreNumbered};
-    ghost use Rattle.modem_desk.specs.Ends.{DriverView, ring_of_producer, EachOnce};
+    ghost use Rattle.modem_desk.specs.Ends.{DriverView, EachOnce};
+    ghost use Rattle.ring_id.specs.Rings.{ring_of_producer};
 
     ghost Value = { DriverView };
 
@@ -74,7 +75,8 @@ impl DriverEnd {
     ghost use Rattle.crossbeam_queue.specs.Passes.{view, IsPassOf, ruled_capacity};
     ghost use Rattle.rtrb.specs.Ring.{sent};
     ghost use Rattle.modem_desk.specs.Rule.{driver, AreNumbered};
-    ghost use Rattle.modem_desk.specs.Ends.{ring_of_producer, IsFresh, Appends, Announces, Changes, FallsByOne, RisesByOne, RunsOut, Hears};
+    ghost use Rattle.modem_desk.specs.Ends.{IsFresh, Appends, Announces, Changes, FallsByOne, RisesByOne, RunsOut, Hears};
+    ghost use Rattle.ring_id.specs.Rings.{ring_of_producer};
 
     pub(crate) fn new(
         queue: Arc<Queue, Global>,

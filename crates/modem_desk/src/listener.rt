@@ -26,7 +26,8 @@ pub struct Listener {
 impl Model for Listener {
     ghost use Rattle.std.specs.Prelude.{◌≡◌};
     ghost use Rattle.rtrb.specs.Ring.{received, known_items, consumer_capacity};
-    ghost use Rattle.modem_desk.specs.Ends.{ListenerView, ring_of_consumer};
+    ghost use Rattle.modem_desk.specs.Ends.{ListenerView};
+    ghost use Rattle.ring_id.specs.Rings.{ring_of_consumer};
 
     ghost Value = { ListenerView };
 
@@ -45,7 +46,7 @@ impl Model for Listener {
 
 impl Listener {
     ghost use Rattle.rtrb.specs.Ring.{received, known_items, consumer_capacity};
-    ghost use Rattle.modem_desk.specs.Ends.{ring_of_consumer};
+    ghost use Rattle.ring_id.specs.Rings.{ring_of_consumer};
 
     pub(crate) fn new(
         lines: Consumer<Urc>,

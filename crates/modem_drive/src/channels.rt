@@ -1,5 +1,4 @@
 //! Which connections are open, and since when their commands wait.
-use crate::users::CONNECTIONS;
 use modem_desk::Answer;
 use mux_frame::Dlci;
 use std::rt::Clock;
@@ -25,7 +24,7 @@ struct Channel {
 /// All connections.
 #[derive(Drop)]
 pub struct Channels {
-    all: [Channel; CONNECTIONS],
+    all: [Channel; Dlci::COUNT],
     quiet_for: Option<Duration>,
 }
 
@@ -38,7 +37,7 @@ impl Channels {
             since: None,
         };
         Channels {
-            all: [shut; CONNECTIONS],
+            all: [shut; Dlci::COUNT],
             quiet_for,
         }
     }

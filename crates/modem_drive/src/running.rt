@@ -17,12 +17,13 @@ use crate::patience::TimeLimit;
 use crate::plan::Plan;
 use crate::results::beside;
 use crate::settings::{Settings, entry_of};
-use crate::users::{CONNECTIONS, Users};
+use crate::users::Users;
 use at_text::UrcKind;
 use bell::Bell;
 use modem_desk::{Desk, DriverEnd, Settled};
 use modem_driver::{Session, enter_by};
 use mux_capture::Capture;
+use mux_frame::Dlci;
 use serial_line::{SerialLine, ZeroRead};
 use std::alloc::{AllocGlobal, Global};
 use std::fs::{File, OpenOptions};
@@ -75,7 +76,7 @@ fn open_desk(alloc: Global) -> Result<(DriverEnd, Users), DriveFault>
         control,
         listeners,
         under_way: Vec::new(alloc),
-        counts: [0; CONNECTIONS],
+        counts: [0; Dlci::COUNT],
     };
     Ok((driver, users))
 }

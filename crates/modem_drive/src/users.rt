@@ -12,9 +12,6 @@ use modem_desk::{Ask, Caller, Listener};
 use mux_frame::Dlci;
 use std::sync::Wait;
 
-/// How many connections there are.
-pub const CONNECTIONS: usize = 62;
-
 /// A line that waits for its outcome: its request's number, its connection, and its place among that connection's lines, from 1.
 #[derive(Clone, Copy)]
 pub struct UnderWay {
@@ -30,7 +27,7 @@ pub struct Users {
     pub control: Caller,
     pub listeners: Vec<Listener>,
     pub under_way: Vec<UnderWay>,
-    pub counts: [u64; CONNECTIONS],
+    pub counts: [u64; Dlci::COUNT],
 }
 
 impl Users {

@@ -13,10 +13,11 @@ ghost use Rattle.modem_driver.specs.declared.error.CoreError.TheVariants as Core
 use crate::act_list::ActList;
 use crate::driver::Core;
 use crate::error::CoreError;
-use crate::written::{HELD_UP, MSC, READY, message};
+use crate::written::message;
 use modem_history::Act;
 use mux_frame::Dlci;
 use mux_station::ChannelState;
+use mux_station::written::{HELD_UP, MSC, READY};
 
 impl Core {
     /// Tells the core how many lines of a connection wait for a place at their listener. From 256 on it asks the other

@@ -10,7 +10,6 @@ use crate::lane::Lane;
 use at_text::{CommandLine, TextError};
 use modem_history::Act;
 use mux_frame::Dlci;
-use mux_station::CONNECTIONS;
 use std::alloc::{AllocError, Global};
 use std::marker::Model;
 
@@ -36,8 +35,8 @@ impl Model for Lanes {
 fn new_lanes(alloc: Global) -> Result<Vec<Lane>, AllocError>
     ensures { IfOk result (λ ls. ls.items ≡ replicate 62 new_lane) }
 {
-    let mut lanes = Vec::with_capacity(alloc, CONNECTIONS)?;
-    for _ in 0..CONNECTIONS {
+    let mut lanes = Vec::with_capacity(alloc, Dlci::COUNT)?;
+    for _ in 0..Dlci::COUNT {
         lanes.push(Lane::new(alloc))?;
     }
     Ok(lanes)

@@ -130,7 +130,7 @@ impl Machine {
             waiting,
             faulty: false,
             course: Course::GoesOn,
-            delays: [None; 62],
+            delays: [None; Dlci::COUNT],
         })
     }
 

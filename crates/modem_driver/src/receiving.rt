@@ -36,9 +36,6 @@ use modem_history::Act;
 use mux_frame::{Dlci, FrameBuf, FrameView, Info, Kind};
 use mux_station::{ChannelState, Noted, Station};
 
-/// The control channel.
-const CONTROL: Dlci = Dlci { number: 0 };
-
 /// An MSC is a type octet, a length octet and two octets of value.
 const MSC_LEN: usize = 4;
 
@@ -155,11 +152,11 @@ impl Core {
         let mut acts = ActList::with_room(self.alloc, 2 + self.hand.len())?;
         let spare = Vec::with_capacity(self.alloc, frame.info.len().max(MSC_LEN))?;
         acts.push(Act::Got(frame.to_buf(self.alloc)?));
-        let before = self.station.state(CONTROL);
+        let before = self.station.state(Dlci::CONTROL);
         let place = self.station.queue_len();
         let noted = take(&mut self.station, frame);
         push_sent(&mut self.station, place, spare, &mut acts);
-        let ended = has_ended(before, self.station.state(CONTROL));
+        let ended = has_ended(before, self.station.state(Dlci::CONTROL));
         tell(
             &mut self.hand,
             &self.station,

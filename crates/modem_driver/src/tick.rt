@@ -15,7 +15,6 @@ use crate::act_list::ActList;
 use crate::driver::Core;
 use crate::error::CoreError;
 use crate::telling::{Happened, tell};
-use crate::written::CONTROL;
 use modem_history::Act;
 use mux_frame::{Dlci, FrameBuf, Info};
 use mux_station::{ChannelState, GivenUp, Station};
@@ -59,7 +58,7 @@ impl Core {
 fn is_running(station: &Station) -> bool
     ensures { result ≡ is_opened (channel_at station.now 0).state }
 {
-    station.state(CONTROL) == ChannelState::Opened
+    station.state(Dlci::CONTROL) == ChannelState::Opened
 }
 
 /// Whether a connection that stands so waits for an answer to its SABM or DISC.

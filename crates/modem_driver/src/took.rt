@@ -21,10 +21,11 @@ use crate::driver::Core;
 use crate::error::CoreError;
 use crate::hand::Hand;
 use crate::telling::{Happened, tell};
-use crate::written::{CLD, TEST, bare, message};
+use crate::written::{bare, message};
 use modem_desk::{Answer, Ask, Outcome, Request};
 use modem_history::Act;
 use mux_frame::{Dlci, Kind, ProbeData};
+use mux_station::written::{CLD, TEST};
 use mux_station::{ChannelState, Station, StationError};
 use std::alloc::Global;
 

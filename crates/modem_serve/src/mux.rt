@@ -14,9 +14,6 @@ use mux_frame::Dlci;
 use mux_station::ChannelState;
 use std::alloc::Global;
 
-/// The control channel.
-const CONTROL: Dlci = Dlci { number: 0 };
-
 /// A frame begins and ends with it (27.010, 5.2.6.1).
 const FLAG: u8 = 0xF9;
 
@@ -110,7 +107,7 @@ fn settle(sim: &mut Sim<HeldLine>) -> Result<bool, ServeFault>
 fn is_up(sim: &Sim<HeldLine>) -> bool
     ensures { (e : End) (past : List Act) → FitsHeld e sim.now past → result ≡ is_open_at_modem 0 past }
 {
-    match sim.state(CONTROL) {
+    match sim.state(Dlci::CONTROL) {
         ChannelState::Opened => true,
         _ => false,
     }

@@ -8,7 +8,8 @@ ghost use Rattle.modem_sim.specs.Cores.{AtStation, Goes, HasNoneToDo, HasPassed,
 
 use crate::channel::Channel;
 use crate::script::StepAct;
-use crate::sim_core::{CONTROL, SimCore, is_open};
+use crate::sim_core::{SimCore, is_open};
+use mux_frame::Dlci;
 use mux_station::Station;
 use std::alloc::AllocError;
 
@@ -109,7 +110,7 @@ fn are_open(station: &Station, act: &StepAct) -> bool
             is_open(station, *dlci)
         }
         StepAct::Hold(held, awaited) => is_open(station, *held) && is_open(station, *awaited),
-        StepAct::CloseDown => is_open(station, CONTROL),
+        StepAct::CloseDown => is_open(station, Dlci::CONTROL),
     }
 }
 

@@ -11,7 +11,7 @@ ghost use Rattle.modem_sim.specs.Cores.{GivesOut, Goes, HasReleased, IsHandedOn,
 ghost use Rattle.modem_sim.specs.Acts.{is_handing};
 ghost use Rattle.modem_sim.specs.Stills.{OffersAll, OffersOn, Offering, OthersStay};
 
-use crate::sim_core::{CONNECTIONS, SimCore};
+use crate::sim_core::SimCore;
 use mux_frame::Dlci;
 use mux_station::Outgoing;
 use mux_station::laws::givings;
@@ -99,7 +99,7 @@ impl SimCore {
         ensures n1 { self.new.station.n1 ≡ self.old.station.n1 }
     {
         let mut moved = false;
-        for number in 0..CONNECTIONS as u8 {
+        for number in 0..Dlci::COUNT as u8 {
             let offered = self.offer_on(Dlci { number })?;
             moved |= offered;
         }

@@ -21,12 +21,6 @@ use mux_station::{ChannelState, Noted, Role, Station, StationError};
 use std::alloc::{AllocError, Global};
 use std::marker::Model;
 
-/// The control channel.
-pub(crate) const CONTROL: Dlci = Dlci { number: 0 };
-
-/// How many connections there are, 0 among them.
-pub(crate) const CONNECTIONS: usize = 62;
-
 /// A station, its modem, what is kept of each connection, and the script.
 #[derive(Drop)]
 pub(crate) struct SimCore {
@@ -87,8 +81,8 @@ pub(crate) fn is_open(station: &Station, dlci: Dlci) -> bool
 fn shut_channels(alloc: Global) -> Result<Vec<Channel>, AllocError>
     ensures { IfOk result (λ cs. cs.items ≡ replicate 62 fresh_box) }
 {
-    let mut channels = Vec::with_capacity(alloc, CONNECTIONS)?;
-    for _ in 0..CONNECTIONS {
+    let mut channels = Vec::with_capacity(alloc, Dlci::COUNT)?;
+    for _ in 0..Dlci::COUNT {
         channels.push(Channel::new(alloc))?;
     }
     Ok(channels)
@@ -170,7 +164,7 @@ impl SimCore {
         ensures { result ≡ opens_in self.now (frame_of frame.entry) }
     {
         match frame.kind {
-            Kind::Sabm => frame.dlci.number() == 0 || self.is_open(CONTROL),
+            Kind::Sabm => frame.dlci.number() == 0 || self.is_open(Dlci::CONTROL),
             _ => false,
         }
     }
@@ -204,7 +198,7 @@ impl SimCore {
     {
         let opens = self.opens(frame);
         let octets = self.octets_in(frame);
-        let running = self.is_open(CONTROL);
+        let running = self.is_open(Dlci::CONTROL);
         let mut modem = self.modem.copy()?;
         let channel = &self.channels[usize::from(frame.dlci.number())];
         let answered = channel.answered(&mut modem, self.echo, octets)?;

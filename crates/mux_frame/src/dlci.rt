@@ -9,6 +9,12 @@ pub struct Dlci {
 }
 
 impl Dlci {
+    /// How many connections there are, the control channel among them.
+    pub const COUNT: usize = 62;
+
+    /// The control channel (27.010, 5.6).
+    pub const CONTROL: Dlci = Dlci { number: 0 };
+
     /// The connection of this number; `None` unless it is 0 to 61.
     pub fn new(number: u8) -> Option<Dlci>
         ensures some { IsSome result ↔ (number < 62) }

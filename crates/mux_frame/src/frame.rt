@@ -34,7 +34,7 @@ impl Kind {
     }
 
     /// The most octets of information that a frame of this kind may have: N1 in UIH, else none.
-    pub(crate) fn most_info(self, n1: u16) -> u16
+    pub fn most_info(self, n1: u16) -> u16
         ensures value { result ≡ most_info n1 self }
         ensures within { result ≤ n1 }
     {

@@ -12,7 +12,6 @@ ghost use Rattle.mux_station.specs.Stations.{seen_in, refused_in, channel_at, as
 ghost use Rattle.mux_station.specs.Fitting.{StationHandles};
 
 use crate::channel::Stage;
-use crate::channels::CONTROL;
 use crate::control_frame::ControlFrame;
 use crate::error::StationError;
 use crate::repeats::Repeats;
@@ -33,7 +32,7 @@ impl Station {
     pub(crate) fn is_running(&self) -> bool
         ensures { result ≡ is_opened (channel_at self.now 0).state }
     {
-        self.channels.at(CONTROL).stage().is_opened()
+        self.channels.at(Dlci::CONTROL).stage().is_opened()
     }
 
     /// NoRoom where the frame doesn't fit into the control queue.
@@ -149,7 +148,7 @@ impl Station {
         self.check_room(&cld)?;
         self.channels.shut_all();
         self.channels
-            .turn(CONTROL, Stage::Stopping(Repeats::none()));
+            .turn(Dlci::CONTROL, Stage::Stopping(Repeats::none()));
         self.probe = None;
         self.control.push(cld);
         Ok(())

@@ -14,12 +14,6 @@ use mux_frame::Dlci;
 use std::alloc::{AllocError, Global};
 use std::marker::Model;
 
-/// How many connections there are, 0 among them.
-pub const CONNECTIONS: usize = 62;
-
-/// The control channel.
-pub const CONTROL: Dlci = Dlci { number: 0 };
-
 /// The connections 0 to 61, and a set of bits: bit d is set where connection d may send. It may where it is Opened, its
 /// own stop isn't set, and octets wait in its send ring. The set shows whose turn it is without a look at each
 /// connection.
@@ -153,8 +147,8 @@ fn marked(senders: u64, dlci: Dlci, sends: bool) -> u64
 fn shut_channels(alloc: Global) -> Result<Vec<Channel>, AllocError>
     ensures { IfOk result (λ cs. cs.items ≡ replicate 62 shut_channel) }
 {
-    let mut channels = Vec::with_capacity(alloc, CONNECTIONS)?;
-    for _ in 0..CONNECTIONS {
+    let mut channels = Vec::with_capacity(alloc, Dlci::COUNT)?;
+    for _ in 0..Dlci::COUNT {
         channels.push(Channel::new(alloc)?)?;
     }
     Ok(channels)

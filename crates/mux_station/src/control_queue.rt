@@ -7,13 +7,12 @@ ghost use Rattle.mux_station.specs.Written.{written_length};
 ghost use Rattle.mux_station.specs.Tables.{octets_of};
 ghost use Rattle.mux_station.specs.ControlFrames.{control_frame};
 
-use crate::channels::CONTROL;
 use crate::control_frame::ControlFrame;
 use crate::control_octets::{frame_at, place_of};
 use crate::role::Role;
 use crate::write_buffer::WriteBuffer;
 use circular_buffer::HeapCircularBuffer;
-use mux_frame::{FrameView, Kind};
+use mux_frame::{Dlci, FrameView, Kind};
 use std::alloc::{AllocError, Global};
 use std::marker::Model;
 
@@ -54,7 +53,7 @@ impl ControlQueue {
             octets,
             count: 0,
             spelling,
-            looked_at: ControlFrame::bare(Role::Initiator, Kind::Dm, CONTROL),
+            looked_at: ControlFrame::bare(Role::Initiator, Kind::Dm, Dlci::CONTROL),
         })
     }
 

@@ -18,7 +18,6 @@ ghost use Rattle.mux_station.specs.Getting.{FrameTaken, message_calls, message_t
 
 use crate::answers::Answers;
 use crate::channel::Stage;
-use crate::channels::CONTROL;
 use crate::control_frame::ControlFrame;
 use crate::error::StationError;
 use crate::message::Message;
@@ -90,7 +89,7 @@ impl Station {
         ensures { self.new ≡ all_turned_in self.old (stage_state stage) }
     {
         self.channels.shut_all();
-        self.channels.turn(CONTROL, stage);
+        self.channels.turn(Dlci::CONTROL, stage);
         self.all_stopped = false;
         self.probe = None;
     }
@@ -239,7 +238,7 @@ impl Station {
         let Some(message) = Message::read(info) else {
             return Ok(Noted::Nothing);
         };
-        match self.stage(CONTROL) {
+        match self.stage(Dlci::CONTROL) {
             Stage::Opened => self.take_running(message),
             Stage::Stopping(_) => self.take_stopping(message),
             _ => Ok(Noted::Nothing),

@@ -27,7 +27,6 @@ mod tick;
 mod write_buffer;
 pub mod written;
 
-pub use channels::{CONNECTIONS, CONTROL};
 pub use control_frame::ControlFrame;
 pub use error::StationError;
 pub use noted::Noted;

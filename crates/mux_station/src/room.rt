@@ -11,7 +11,6 @@ ghost use Rattle.mux_station.specs.Getting.{message_calls};
 
 use crate::answers::Answers;
 use crate::channel::Stage;
-use crate::channels::CONTROL;
 use crate::message::Message;
 use crate::station::Station;
 use crate::written::CLD;
@@ -26,7 +25,7 @@ impl Station {
         let Some(message) = Message::read(info) else {
             return Answers::none();
         };
-        match self.stage(CONTROL) {
+        match self.stage(Dlci::CONTROL) {
             Stage::Opened => Answers::to_message(self.role(), message),
             Stage::Stopping(_) if message.octet == CLD => {
                 Answers::to_message(self.role(), message)

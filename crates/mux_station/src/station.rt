@@ -7,7 +7,7 @@ ghost use Rattle.mux_station.specs.Stages.{as_shown};
 ghost use Rattle.mux_station.specs.Stations.{new_station, channel_at, stopped_in, all_stopped_in};
 ghost use Rattle.mux_station.specs.Fitting.{StationFits};
 
-use crate::channels::{CONTROL, Channels};
+use crate::channels::Channels;
 use crate::control_queue::ControlQueue;
 use crate::error::StationError;
 use crate::repeats::Repeats;
@@ -123,7 +123,7 @@ impl Station {
     pub(crate) fn is_all_held_up(&self) -> bool
         ensures { result ≡ all_stopped_in self.now }
     {
-        self.channels.at(CONTROL).stage().is_opened() && self.all_stopped
+        self.channels.at(Dlci::CONTROL).stage().is_opened() && self.all_stopped
     }
 
     pub(crate) fn is_held_up(&self, dlci: Dlci) -> bool

@@ -11,7 +11,6 @@ ghost use Rattle.mux_station.specs.Noticing.{up_of};
 ghost use Rattle.mux_station.specs.Fitting.{StationHandles};
 
 use crate::channel::Stage;
-use crate::channels::CONNECTIONS;
 use crate::control_frame::ControlFrame;
 use crate::repeats::Repeats;
 use crate::station::{Station, WaitingProbe};
@@ -146,7 +145,7 @@ impl Station {
         // Looked at so that the proof knows how many there are.
         let _ = &self.channels;
         let mut noticed = ArrayVec::new();
-        for number in 0..CONNECTIONS as u8 {
+        for number in 0..Dlci::COUNT as u8 {
             let dlci = Dlci { number };
             if self.tick_channel(dlci) {
                 noticed.push(GivenUp::Channel(dlci));

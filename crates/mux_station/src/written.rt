@@ -6,7 +6,6 @@ ghost use Rattle.mux_station.specs.Written.{written, written_length};
 ghost use Rattle.mux_station.specs.Tables.{message_frame, msc_frame};
 ghost use Rattle.mux_station.specs.ControlFrames.{control_frame};
 
-use crate::channels::CONTROL;
 use crate::control_frame::ControlFrame;
 use crate::role::Role;
 use arrayvec::ArrayVec;
@@ -71,7 +70,7 @@ impl ControlFrame {
         info.push(octet);
         info.push(2 * value.len() as u8 + 1);
         info.try_extend_from_slice(value).unwrap();
-        ControlFrame::written(role, Kind::Uih, CONTROL, info)
+        ControlFrame::written(role, Kind::Uih, Dlci::CONTROL, info)
     }
 
     /// A modem status command for a connection, with these signals.

@@ -27,7 +27,8 @@ pub struct ThreadLine {
 
 impl Model for ThreadLine {
     ghost use Rattle.rtrb.specs.Ring.{sent, received, known_free, known_items};
-    ghost use Rattle.serial_line.specs.ThreadLine.{EndState, ring_of_producer, ring_of_consumer};
+    ghost use Rattle.serial_line.specs.ThreadLine.{EndState};
+    ghost use Rattle.ring_id.specs.Rings.{ring_of_producer, ring_of_consumer};
 
     ghost Value = { EndState };
 

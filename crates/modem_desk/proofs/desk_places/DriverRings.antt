@@ -8,7 +8,8 @@ use Rattle.std.specs.declared.alloc.Global.{Global}
 use Rattle.rtrb.specs.Ring.{sent, known_free, SameProducer, IsPair}
 use Rattle.rtrb.specs.declared.producer.Producer.{Producer}
 use Rattle.rtrb.specs.declared.consumer.Consumer.{Consumer}
-use Rattle.modem_desk.specs.Ends.{RingId, Appends, Changes, ring_of_producer, ring_of_consumer}
+use Rattle.modem_desk.specs.Ends.{Appends, Changes}
+use Rattle.ring_id.specs.Rings.{RingId, ring_of_producer, ring_of_consumer}
 use Rattle.modem_desk.proofs.queue_rule.CallerPasses.{below_length}
 
 module _ {T P : Type 0} where

@@ -3,7 +3,6 @@ use Rattle.std.proofs.Common.{ap, sym, ◌∙◌, inl, inr, subst, arith, ⊎_el
 use Rattle.std.proofs.lemmas.Bool.{and_from, eqb-true, le-leb, lt-ltb, or_parts}
 use Rattle.std.proofs.lemmas.Bool.Decides.{eqb_tells}
 use Rattle.std.proofs.lemmas.List.{append-nil}
-use Rattle.std.proofs.lemmas.List.Filters.{length-filter_both}
 use Rattle.std.proofs.lemmas.List.Folds.{list_all-append, list_any-append}
 use Rattle.std.specs.Prelude.{◌≡◌, ◌≢◌, ℕ, zero, suc, ◌+◌, ◌≤◌, ◌<◌, ◌==◌, ◌&&◌, ◌||◌, ◌⊎◌, not, Bool, true, false, List, [], ◌∷◌, ◌++◌, length, map, refl, Option, None, Some, if◌then◌else◌, IfSome, Result, Ok, Err, OnErr}
 use Rattle.std.specs.List.{list_all, list_any}
@@ -24,6 +23,7 @@ use Rattle.modem_history.proofs.calls.StatesAfterActs.{after_both}
 use Rattle.modem_driver.specs.declared.session.error.SessionFault.{SessionFault}
 use Rattle.modem_driver.specs.Holding.{CallsForNothing, due_by, flow_due}
 use Rattle.modem_driver.specs.BacklogChecks.{ChecksOne, SettlesOne}
+use Rattle.modem_driver.specs.LineQueues.{AreFewOnEach}
 use Rattle.modem_history.specs.EveryTurn.{is_check}
 use Rattle.modem_driver.specs.SessionStates.{Machine, MachineGoes, seen_by, end_of}
 use Rattle.modem_driver.specs.TurnSteps.{Leads, AddsAll, Checks, ChecksPart, turn_state, is_more}
@@ -218,20 +218,12 @@ checks_more first now next number moved earlier one so = record {
   stays = one.stays ∙ ap (λ (k : Machine). record k { core = next.core }) so.stays;
 }
 
--- a list of a connection's lines is no longer than that of all
-few_on : (d : ℕ) (us : List Urc) → backlog_in d us ≤ length us
-few_on d us =
-    let both = length-filter_both (λ (u : Urc). u.dlci.number == d) (λ (u : Urc). not (u.dlci.number == d)) (λ u. refl) us in
-    omega arith
-
-few_none : (k : Machine) (d : ℕ) → d < 62 → length k.unannounced < 256 → CallsForNothing k.core → ChecksOne d k k false
+few_none : (k : Machine) (d : ℕ) → d < 62 → AreFewOnEach k.unannounced → CallsForNothing k.core → ChecksOne d k k false
 unfolding CallsForNothing
-few_none k d b few free =
-    let on = few_on d k.unannounced in
-    checks_one k k.core d [] None refl (free d (backlog_in d k.unannounced) b (omega arith))
+few_none k d b few free = checks_one k k.core d [] None refl (free d (backlog_in d k.unannounced) b (few d b))
 
--- where none is held and fewer than 256 lines wait, none is to be
-pub checks_few : (k : Machine) (n : ℕ) → n < 62 → length k.unannounced < 256 → CallsForNothing k.core → ChecksSo k k (n + 1) false
+-- where none is held and fewer than 256 lines of each connection wait, none is to be
+pub checks_few : (k : Machine) (n : ℕ) → n < 62 → AreFewOnEach k.unannounced → CallsForNothing k.core → ChecksSo k k (n + 1) false
 checks_few k zero b few free = checks_first k
 checks_few k (suc n) b few free = checks_more k k k (suc n) false false (few_none k (suc n) b few free) (subst (λ (m : ℕ). ChecksSo k k m false) (omega arith) (checks_few k n (omega arith) few free))
 

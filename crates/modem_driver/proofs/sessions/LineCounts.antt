@@ -1,17 +1,19 @@
 -- Lines that come and go are counted.
 use Rattle.std.proofs.Common.{ap, sym, ◌∙◌, subst, arith, inl, inr, take-append-drop}
-use Rattle.std.proofs.lemmas.Bool.{cases_eq, eq-eqb, ne_eqb}
+use Rattle.std.proofs.lemmas.Bool.{cases_eq, eq-eqb, ne_eqb, ltb-true}
 use Rattle.std.proofs.lemmas.List.{get_or-set_same, get_or-set_other, get_or-replicate, length-set, length-append, length-replicate, length-take-le}
 use Rattle.std.proofs.lemmas.List.Elements.{filter-append}
 use Rattle.std.proofs.lemmas.List.Filters.{length-filter_both}
+use Rattle.std.proofs.lemmas.List.Folds.{list_all_at}
 use Rattle.std.proofs.Math.Numerals.{add-one}
 use Rattle.std.proofs.Math.Seq.{take-suc, take-length}
-use Rattle.std.specs.Prelude.{◌≡◌, ◌≢◌, ◌⊎◌, ℕ, suc, ◌+◌, ◌-◌, ◌<◌, ◌≤◌, ◌==◌, Bool, List, [], ◌∷◌, ◌++◌, length, take, drop, filter, slice_index_or, slice_set, refl, replicate, not, if◌then◌else◌}
+use Rattle.std.specs.Prelude.{◌≡◌, ◌≢◌, ◌⊎◌, ℕ, suc, ◌+◌, ◌-◌, ◌<◌, ◌≤◌, ◌==◌, Bool, true, false, nat_lt, List, [], ◌∷◌, ◌++◌, length, take, drop, filter, slice_index_or, slice_set, refl, replicate, not, if◌then◌else◌}
+use Rattle.std.specs.List.{list_all}
 use Rattle.modem_desk.specs.declared.request.Urc.{Urc}
 use Rattle.at_text.specs.Kinds.{kind_place}
 use Rattle.modem_history.specs.Sessions.{backlog_in}
 use Rattle.modem_driver.specs.Placing.{of_key, place_of}
-use Rattle.modem_driver.specs.LineQueues.{AreCounts, AreCounted, channel_of, place_of_kind}
+use Rattle.modem_driver.specs.LineQueues.{AreCounts, AreCounted, AreFewOnEach, channel_of, place_of_kind}
 
 -- how many have this number
 many_of : (Urc → ℕ) → ℕ → List Urc → ℕ
@@ -66,6 +68,31 @@ fewer_than number counts lines n many are small is =
     let same : slice_index_or counts n 0 ≡ many_of number n lines = are n small in
     let few = many_few number n lines in
     omega (arith, same, few, is)
+
+-- ## Few of each connection
+
+-- fewer than 256 in all are fewer of each
+pub few_of_few : (lines : List Urc) → length lines < 256 → AreFewOnEach lines
+unfolding many_of
+few_of_few lines few d b = let on = many_few channel_of d lines in omega (arith, on, few)
+
+-- each count is below 256
+pub few_by_counts : (channels kinds : List ℕ) (lines : List Urc) → AreCounted channels kinds lines → list_all (λ (c : ℕ). nat_lt c 256) channels ≡ true → AreFewOnEach lines
+unfolding many_of
+few_by_counts channels kinds lines are all d b =
+    let small = by_count (nat_lt (slice_index_or channels d 0) 256) refl in
+    let same = are.by_channel d within in
+    omega (arith, small, same)
+  where
+    within : d < length channels
+    within = subst (λ (n : ℕ). d < n) (sym are.all_channels) b
+
+    by_count : (x : Bool) → nat_lt (slice_index_or channels d 0) 256 ≡ x → slice_index_or channels d 0 < 256
+    by_count true e = ltb-true (slice_index_or channels d 0) 256 e
+    by_count false e = absurd (false_true (sym (list_all_at (λ (c : ℕ). nat_lt c 256) channels d 0 within e) ∙ all))
+      where
+        false_true : false ≡ true → ⊥
+        false_true h = cc
 
 -- ## One fewer
 

@@ -11,9 +11,6 @@ use crate::machine::Machine;
 use crate::session::SessionFault;
 use mux_frame::Dlci;
 
-/// How many connections there are, 0 among them.
-const CONNECTIONS: u8 = 62;
-
 impl Machine {
     /// Looks at how many lines of a connection wait: from 256 on it is held, and freed below 128. Where
     /// the MSC has no place in the control queue nothing is done. Whether it was held or freed. Refusal:
@@ -35,7 +32,8 @@ impl Machine {
     }
 
     /// Looks at the backlogs of the connections 1 to 61, in rising order, and says whether any was held
-    /// or freed. None is where fewer than 256 lines wait and nothing is held. Refusal: 1 NoMemory, which leaves those after it as they are.
+    /// or freed. None is where nothing is held and fewer than 256 lines of each wait. Refusal: 1 NoMemory, which leaves
+    /// those after it as they are.
     pub(crate) fn check_backlogs(&mut self) -> Result<bool, SessionFault>
         ensures checks { IfOk result (λ moved. (l : LineView) (d : DriverView)
             → Checks (turn_state l d self.old) (turn_state l d self.new) moved) }
@@ -44,11 +42,11 @@ impl Machine {
         ensures stays { self.new ≡ record self.old { core = self.new.core } }
         ensures no_memory { OnErr result (result ≡ Err fault.NoMemory) }
     {
-        if self.waiting.many() < 256 && self.core.holds_none() {
+        if self.core.holds_none() && self.waiting.is_few() {
             return Ok(false);
         }
         let mut moved = false;
-        for number in 1..CONNECTIONS {
+        for number in 1..Dlci::COUNT as u8 {
             moved |= self.check_backlog(Dlci::new(number).unwrap())?;
         }
         Ok(moved)

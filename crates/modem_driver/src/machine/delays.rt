@@ -7,9 +7,6 @@ use crate::machine::course::Asker;
 use modem_desk::{Ask, Request};
 use mux_frame::Dlci;
 
-/// How many connections there are, 0 among them.
-const CHANNELS: u8 = 62;
-
 /// Whose command a tick found the first in hand on a connection, and how many ticks in a row did. The count stops at
 /// `u64::MAX`.
 #[derive(Clone, Copy)]
@@ -19,7 +16,7 @@ pub(crate) struct Delay {
 }
 
 /// Of each of the connections 0 to 61 what its last tick found.
-pub(crate) type Delays = [Option<Delay>; 62];
+pub(crate) type Delays = [Option<Delay>; Dlci::COUNT];
 
 /// Whether it is a command on this connection.
 fn asks_on(number: u8, ask: &Ask) -> bool
@@ -75,7 +72,7 @@ fn counted(delays: Delays, hand: &[Request]) -> Delays
     ensures { CountsTick delays result hand.now }
 {
     let mut counted = delays;
-    for number in 0..CHANNELS {
+    for number in 0..Dlci::COUNT as u8 {
         let place = usize::from(number);
         counted[place] = delay_after(delays[place], first_command(hand, number));
     }

@@ -1,7 +1,9 @@
 //! Lines that wait for their listeners, with counts of them.
-ghost use Rattle.std.specs.Prelude.{◌≡◌, ◌+◌, ◌-◌, ◌<◌, ◌≤◌, ◌++◌, ◌∷◌, [], length, drop, take, slice_index_or, slice_set, MatchOption, OnOk};
+ghost use Rattle.std.specs.Prelude.{◌≡◌, ◌+◌, ◌-◌, ◌<◌, ◌≤◌, ◌++◌, ◌∷◌, [], true, nat_lt, length, drop, take, slice_index_or, slice_set, MatchOption, OnOk};
+ghost use Rattle.std.specs.List.{list_all};
 ghost use Rattle.at_text.specs.Kinds.{kind_place};
 ghost use Rattle.modem_history.specs.Sessions.{backlog_in};
+ghost use Rattle.modem_driver.specs.LineQueues.{AreFewOnEach};
 ghost use Rattle.modem_driver.specs.Placing.{of_key, place_of};
 
 use at_text::UrcKind;
@@ -14,14 +16,14 @@ use std::marker::Model;
 /// How many places of kinds there are.
 pub(crate) const KINDS: usize = 263;
 
-/// How many connections there are, 0 among them.
-const CHANNELS: usize = 62;
+/// So many lines of one connection hold it.
+const MANY: usize = 256;
 
 /// Lines in the order in which they were heard, and how many of them are of each connection and of each kind.
 #[derive(Drop)]
 pub(crate) struct LineQueue {
     lines: VecDeque<Urc>,
-    channels: [usize; CHANNELS],
+    channels: [usize; Dlci::COUNT],
     kinds: [usize; KINDS],
 }
 
@@ -54,6 +56,13 @@ fn lower(counts: &mut [usize], place: usize)
     counts[place] = counts[place].saturating_sub(1);
 }
 
+/// Whether each of these is below 256.
+fn are_few(counts: &[usize]) -> bool
+    ensures { result ≡ list_all (λ c. nat_lt c 256) counts.now }
+{
+    counts.iter().all(|count| *count < MANY)
+}
+
 impl LineQueue {
     /// No lines.
     #[tactic(auto, using(crate::proofs::sessions::LineCounts::counted_at_first))]
@@ -62,7 +71,7 @@ impl LineQueue {
     {
         LineQueue {
             lines: VecDeque::new(alloc),
-            channels: [0; CHANNELS],
+            channels: [0; Dlci::COUNT],
             kinds: [0; KINDS],
         }
     }
@@ -72,7 +81,7 @@ impl LineQueue {
     pub(crate) fn of(lines: VecDeque<Urc>) -> LineQueue
         ensures { result.items ≡ lines.items }
     {
-        let mut channels = [0; CHANNELS];
+        let mut channels = [0; Dlci::COUNT];
         let mut kinds = [0; KINDS];
         let many = lines.len();
         for place in 0..many {
@@ -158,6 +167,14 @@ impl LineQueue {
         ensures { result ≡ backlog_in dlci.number self.now.items }
     {
         self.channels[usize::from(dlci.number())]
+    }
+
+    /// Whether fewer than 256 are of each connection.
+    #[tactic(auto, using(crate::proofs::sessions::LineCounts::few_of_few, crate::proofs::sessions::LineCounts::few_by_counts))]
+    pub(crate) fn is_few(&self) -> bool
+        ensures { result ≡ true → AreFewOnEach self.now.items }
+    {
+        self.lines.len() < MANY || are_few(&self.channels)
     }
 
     /// How many are of a kind.

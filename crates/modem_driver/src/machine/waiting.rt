@@ -2,6 +2,7 @@
 ghost use Rattle.std.specs.Prelude.{◌≡◌, ◌≤◌, [], length, map, IfOk, OnOk, IfSome, IfNone, MatchOption, All, Contains};
 ghost use Rattle.modem_history.specs.Acts.{act_of};
 ghost use Rattle.modem_history.specs.Sessions.{backlog_in};
+ghost use Rattle.modem_driver.specs.LineQueues.{AreFewOnEach};
 ghost use Rattle.modem_driver.specs.SessionTurns.{IsFirstOf, IsLeast};
 ghost use Rattle.modem_driver.specs.WaitingLists.{Keeps, Puts};
 
@@ -106,6 +107,13 @@ impl Waiting {
         ensures { result ≡ length self.now.lines }
     {
         self.lines.len()
+    }
+
+    /// Whether fewer than 256 lines of each connection wait.
+    pub(crate) fn is_few(&self) -> bool
+        ensures { result ≡ true → AreFewOnEach self.now.lines }
+    {
+        self.lines.is_few()
     }
 
     /// How many lines of a connection wait.

@@ -1,5 +1,6 @@
 use Rattle.std.proofs.Common.{◌∙◌, ap, sym, List, length}
-use Rattle.modem_desk.specs.Ends.{RingId, AreNewCallers}
+use Rattle.modem_desk.specs.Ends.{AreNewCallers}
+use Rattle.ring_id.specs.Rings.{RingId}
 use Rattle.modem_desk.proofs.desk_places.DeskPlaces.{new_callers_on, new_callers_whole, new_subscriptions}
 use Rattle.modem_desk.proofs.desk.open_all.Goals as goal
 

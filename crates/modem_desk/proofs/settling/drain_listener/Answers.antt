@@ -3,7 +3,7 @@ use mathlib.Core.Option.{some}
 use lib.ListN.{get_elem?}
 use Rattle.modem_desk.specs.declared.request.Urc.{Urc}
 use Rattle.modem_desk.proofs.desk_places.DriverRings.{pair_at, place_below, ring_kept, sent_same, sent_at}
-use Rattle.modem_desk.specs.Ends.{RingId, ring_of_producer, ring_of_consumer}
+use Rattle.ring_id.specs.Rings.{RingId, ring_of_producer, ring_of_consumer}
 use Rattle.modem_desk.proofs.settling.drain_listener.Goals as goal
 
 pub index_mut-ring-requires : goal.index_mut-ring-requires

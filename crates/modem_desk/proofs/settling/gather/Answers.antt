@@ -6,7 +6,7 @@ use Rattle.crossbeam_queue.specs.Passes.{view}
 use Rattle.modem_desk.specs.declared.request.Outcome.{Outcome}
 use Rattle.modem_desk.specs.declared.request.Urc.{Urc}
 use Rattle.modem_desk.specs.declared.rule.View.{View}
-use Rattle.modem_desk.specs.Ends.{RingId}
+use Rattle.ring_id.specs.Rings.{RingId}
 use Rattle.modem_desk.specs.Rule.{driver, AllLeft}
 use Rattle.modem_desk.specs.Settling.{known_of, HeldFor, HeardBy}
 use Rattle.modem_desk.proofs.desk_places.ReturnedEnds.{all_left, books}

@@ -8,7 +8,8 @@ use Rattle.std.specs.Vec.Iter.{into_iter_items}
 use mathlib.Core.Option.{some}
 use lib.ListN.{get_elem?}
 use Rattle.modem_desk.specs.declared.request.Urc.{Urc}
-use Rattle.modem_desk.specs.Ends.{ListenerView, RingId}
+use Rattle.modem_desk.specs.Ends.{ListenerView}
+use Rattle.ring_id.specs.Rings.{RingId}
 use Rattle.modem_desk.specs.Settling.{HeardBy}
 use Rattle.modem_desk.proofs.desk_places.ReturnedEnds.{comes, heard_more}
 use Rattle.modem_desk.proofs.settling.gather_lines.Goals as goal

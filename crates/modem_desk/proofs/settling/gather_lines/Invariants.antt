@@ -2,7 +2,7 @@ use Rattle.std.proofs.Common.{◌≡◌, ◌+◌, ◌≤◌, ◌++◌, [], lengt
 use Rattle.std.specs.Prelude.{All, vec_items}
 use Rattle.std.specs.Vec.Iter.{into_iter_items}
 use Rattle.rtrb.specs.Ring.{sent}
-use Rattle.modem_desk.specs.Ends.{ring_of_producer}
+use Rattle.ring_id.specs.Rings.{ring_of_producer}
 use Rattle.modem_desk.specs.Settling.{HeardBy}
 use Rattle.modem_desk.proofs.settling.gather_lines.Given as goal
 

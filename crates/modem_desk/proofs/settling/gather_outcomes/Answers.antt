@@ -11,7 +11,8 @@ use lib.ListN.{get_elem?}
 use Rattle.modem_desk.specs.declared.request.Outcome.{Outcome}
 use Rattle.modem_desk.specs.declared.rule.Known.{Known}
 use Rattle.modem_desk.specs.declared.rule.View.{View}
-use Rattle.modem_desk.specs.Ends.{CallerView, RingId, IsNumbered}
+use Rattle.modem_desk.specs.Ends.{CallerView, IsNumbered}
+use Rattle.ring_id.specs.Rings.{RingId}
 use Rattle.modem_desk.specs.Rule.{driver}
 use Rattle.modem_desk.specs.Settling.{known_of, HeldFor}
 use Rattle.modem_desk.proofs.desk_places.ReturnedEnds.{comes, held_more, each_more}

@@ -3,7 +3,8 @@ use Rattle.std.specs.Prelude.{All, vec_items}
 use Rattle.std.specs.Vec.Iter.{into_iter_items}
 use Rattle.rtrb.specs.Ring.{sent}
 use Rattle.crossbeam_queue.specs.Passes.{view, IsPassOf}
-use Rattle.modem_desk.specs.Ends.{ring_of_producer, Each, IsNumbered}
+use Rattle.modem_desk.specs.Ends.{Each, IsNumbered}
+use Rattle.ring_id.specs.Rings.{ring_of_producer}
 use Rattle.modem_desk.specs.Rule.{driver}
 use Rattle.modem_desk.specs.Settling.{known_of, HeldFor}
 use Rattle.modem_desk.proofs.settling.gather_outcomes.Given as goal

@@ -4,7 +4,7 @@ use lib.ListN.{get_elem?}
 use Rattle.modem_desk.specs.declared.request.Outcome.{Outcome}
 use Rattle.modem_desk.proofs.queue_rule.RuleSteps.{leaves}
 use Rattle.modem_desk.proofs.desk_places.DriverRings.{pair_at, place_below, ring_kept, sent_same, sent_at}
-use Rattle.modem_desk.specs.Ends.{RingId, ring_of_producer, ring_of_consumer}
+use Rattle.ring_id.specs.Rings.{RingId, ring_of_producer, ring_of_consumer}
 use Rattle.modem_desk.proofs.settling.leave.Goals as goal
 
 pub absorb-requires-clause-rule : goal.absorb-requires-clause-rule

@@ -2,7 +2,8 @@ use Rattle.std.proofs.Common.{rules, ℕ, ◌≡◌, sym, ap, ◌∙◌, ◌<◌
 use mathlib.Core.Option.{some}
 use lib.ListN.{get_elem?}
 use Rattle.at_text.specs.declared.unsolicited.UrcKind.{UrcKind}
-use Rattle.modem_desk.specs.Ends.{Changes, DriverView, DeskId, RingId, FallsByOne, RunsOut, RisesByOne, Hears, ring_of_producer, EachOnce}
+use Rattle.modem_desk.specs.Ends.{Changes, DriverView, DeskId, FallsByOne, RunsOut, RisesByOne, Hears, EachOnce}
+use Rattle.ring_id.specs.Rings.{RingId, ring_of_producer}
 use Rattle.modem_desk.proofs.desk_places.DriverRings.{same_rings, sent_appends, sent_same, free_at, free_changes}
 use Rattle.modem_desk.proofs.desk_places.KindPlaces.{or_at, one_place, announces, changes_where}
 use Rattle.modem_desk.proofs.driver.DriverEnd.announce.Goals as goal

@@ -1,6 +1,7 @@
 use Rattle.std.proofs.Common.{rules, ℕ, arith, ◌≡◌, refl, ap, ◌∙◌, ◌<◌, List, length, map, subst, sym}
 use Rattle.std.proofs.lemmas.List.{length-map}
-use Rattle.modem_desk.specs.Ends.{DriverView, DeskId, RingId, FallsByOne, RisesByOne, RunsOut, Changes, ring_of_producer}
+use Rattle.modem_desk.specs.Ends.{DriverView, DeskId, FallsByOne, RisesByOne, RunsOut, Changes}
+use Rattle.ring_id.specs.Rings.{RingId, ring_of_producer}
 use Rattle.modem_desk.proofs.desk_places.DriverRings.{same_rings, sent_appends, sent_same, free_at, free_changes}
 use Rattle.modem_desk.proofs.driver.DriverEnd.tell.Goals as goal
 

@@ -3,6 +3,7 @@ use Rattle.std.proofs.Common.{◌≡◌, sym, subst, arith, ℕ}
 use Rattle.std.specs.Prelude.{◌<◌, false, length, refl}
 use Rattle.modem_driver.specs.Holding.{CallsForNothing}
 use Rattle.modem_driver.specs.BacklogChecks.{ChecksOne}
+use Rattle.modem_driver.specs.LineQueues.{AreFewOnEach}
 use Rattle.modem_driver.specs.SessionStates.{Machine}
 use Rattle.modem_driver.proofs.sessions.Backlogs.{checks_few, checks_first, checks_more, checks_all, checks_part, same_number}
 use Rattle.modem_driver.proofs.machine.Machine.check_backlogs.Goals as goal
@@ -33,9 +34,9 @@ pub returns-in_err-moved-clause-stays : goal.returns-in_err-moved-clause-stays
 returns-in_err-moved-clause-stays c =
     subst (λ (k : Machine). k ≡ record c.args.self.now { core = k.core }) (sym c.in_err-moved.ensures.err) c.loop-number.invariant.stays
 
-pub returns-then-holds_none-clause-checks : goal.returns-then-holds_none-clause-checks
-returns-then-holds_none-clause-checks c =
+pub returns-then-is_few-clause-checks : goal.returns-then-is_few-clause-checks
+returns-then-is_few-clause-checks c =
     let k = c.args.self.now in
-    let few : length k.unannounced < 256 = subst (λ (x : Machine). length x.unannounced < 256) c.self.view_is (subst (λ (n : ℕ). n < 256) c.many.ensures c.if-many-lt256.true) in
+    let few : AreFewOnEach k.unannounced = subst (λ (x : Machine). AreFewOnEach x.unannounced) c.self.view_is (c.is_few.ensures c.if-is_few.true) in
     let free : CallsForNothing k.core = subst (λ (x : Machine). CallsForNothing x.core) c.self.view_is (c.holds_none.ensures c.if-holds_none.true) in
     checks_all k k 62 false refl (checks_few k 61 (omega arith) few free)
