@@ -8,4 +8,5 @@ pub mod Refusing
 pub mod Results
 pub mod Known
 pub mod DialectRowFacts
+pub mod Parts
 pub mod Heading

@@ -1,30 +1,43 @@
--- Which lines a dialect's own rules may take, by their third and fourth octet: most lines of answers are none of them.
-use Rattle.std.specs.Prelude.{◌≡◌, ℕ, ◌+◌, ◌*◌, ◌%◌, nat_le, Bool, true, false, List, length, slice_index, slice_index_or}
-use Rattle.std.specs.List.{list_any}
+-- Where the rules stand that take a line, by its third and fourth octet.
+use Rattle.std.specs.Prelude.{◌≡◌, ◌<◌, ◌≤◌, ℕ, ◌+◌, ◌*◌, ◌%◌, nat_le, Bool, true, List, length, map, Some, slice_index, slice_index_or}
+use Rattle.std.specs.List.{slice_get}
+use Rattle.at_text.specs.declared.heads.Span.{Span}
 use Rattle.at_text.specs.declared.rules.Form.{Form}
 use Rattle.at_text.specs.declared.rules.Form.TheVariants.{Line}
+use Rattle.at_text.specs.declared.rules.Pattern.{Pattern}
 use Rattle.at_text.specs.Rules.{Rules, takes}
 use Rattle.at_text.specs.Refusals.{IsSound}
 
--- a number below 256, where what is missing of a line counts as 0
+-- a number below 64, where what is missing of a line counts as 0
 abbrev pub head : List ℕ → ℕ
-head line = (slice_index line 2 * 31 + slice_index line 3) % 256
+head line = (slice_index line 2 * 31 + slice_index line 3) % 64
 
 -- all lines of a rule have the head of its text
 abbrev pub is_headed : Form → List ℕ → Bool
 is_headed Line text = true
 is_headed _ text = nat_le 4 (length text)
 
--- heads of a table are marked
-abbrev pub IsMarked : List Bool → ℕ → Type 0
-IsMarked heads k = slice_index_or heads k false ≡ true
+-- the span of no places
+abbrev pub no_places : Span
+no_places = record { start = 0; end = 0 }
 
--- the heads of all lines that a rule takes are marked
-pub record AreMarked (rules : Rules) (heads : List Bool) : Type 0 where
-  pub finals : (line : List ℕ) → list_any (λ p. takes p line) rules.finals ≡ true → IsMarked heads (head line)
-  pub urcs : (line : List ℕ) → list_any (λ u. takes u.pattern line) rules.urcs ≡ true → IsMarked heads (head line)
+-- the span of a head
+abbrev pub span_at : List Span → ℕ → Span
+span_at spans k = slice_index_or spans k no_places
 
--- what a dialect keeps: sound rules, and a table of theirs
-pub record IsKept (rules : Rules) (heads : List Bool) : Type 0 where
+-- a place is in a span
+pub record IsIn (place : ℕ) (span : Span) : Type 0 where
+  pub from : span.start ≤ place
+  pub below : place < span.end
+
+-- whenever the rule at a place takes a line, the place is in the span of the line's head
+abbrev pub AreSpanned : List Pattern → List Span → Type 0
+AreSpanned rules spans =
+    (place : ℕ) (rule : Pattern) (line : List ℕ)
+    → slice_get rules place ≡ Some rule → takes rule line ≡ true → IsIn place (span_at spans (head line))
+
+-- what a dialect keeps: sound rules, and spans of the final and of the unsolicited ones
+pub record IsKept (rules : Rules) (final_spans urc_spans : List Span) : Type 0 where
   pub sound : IsSound rules
-  pub marked : AreMarked rules heads
+  pub finals : AreSpanned rules.finals final_spans
+  pub urcs : AreSpanned (map (λ u. u.pattern) rules.urcs) urc_spans

@@ -10,7 +10,7 @@ ghost use Rattle.at_text.specs.StandardRules.{standard_finals, standard_urcs};
 
 use crate::dialect_error::DialectError;
 use crate::finals::{Final, final_of};
-use crate::heads::{HEADS, head, mark, mark_finals, mark_urcs};
+use crate::heads::{HEADS, Span, head, mark, spans_of_finals, spans_of_urcs};
 use crate::known_rules::{common_finals, common_urcs, dialling_finals};
 use crate::rules::{
     Form, Pattern, PatternRef, TEXT_LEN, Urc, copy_patterns, copy_urcs, first_kind, first_place,
@@ -32,8 +32,9 @@ const NAME_LEN: usize = 64;
 pub struct Dialect {
     finals: Vec<Pattern>,
     urcs: Vec<Urc>,
-    // those of all lines that the rules take are marked
-    heads: [bool; HEADS],
+    // for each head of a line, where the rules stand that may take it
+    final_spans: [Span; HEADS],
+    urc_spans: [Span; HEADS],
 }
 
 impl Model for Dialect {
@@ -44,7 +45,7 @@ impl Model for Dialect {
 
     ghost view = { λ d. record { finals = d.finals.items; urcs = d.urcs.items } };
 
-    ghost invariant = { λ d. IsKept (record { finals = d.finals.items; urcs = d.urcs.items }) d.heads };
+    ghost invariant = { λ d. IsKept (record { finals = d.finals.items; urcs = d.urcs.items }) d.final_spans d.urc_spans };
 }
 
 #[tactic(auto, using(crate::proofs::dialects::Heading::kept_standard))]
@@ -56,7 +57,8 @@ impl Dialect {
         Dialect {
             finals: Vec::new(alloc),
             urcs: Vec::new(alloc),
-            heads: [false; HEADS],
+            final_spans: [Span::none(); HEADS],
+            urc_spans: [Span::none(); HEADS],
         }
     }
 
@@ -70,7 +72,8 @@ impl Dialect {
         Ok(Dialect {
             finals,
             urcs,
-            heads: self.heads,
+            final_spans: self.final_spans,
+            urc_spans: self.urc_spans,
         })
     }
 
@@ -87,13 +90,13 @@ impl Dialect {
     {
         let finals = common_finals(alloc)?;
         let urcs = common_urcs(alloc)?;
-        let mut heads = [false; HEADS];
-        mark_finals(&mut heads, &finals);
-        mark_urcs(&mut heads, &urcs);
+        let final_spans = spans_of_finals(&finals);
+        let urc_spans = spans_of_urcs(&urcs);
         Ok(Dialect {
             finals,
             urcs,
-            heads,
+            final_spans,
+            urc_spans,
         })
     }
 
@@ -106,13 +109,13 @@ impl Dialect {
     {
         let finals = dialling_finals(alloc)?;
         let urcs = common_urcs(alloc)?;
-        let mut heads = [false; HEADS];
-        mark_finals(&mut heads, &finals);
-        mark_urcs(&mut heads, &urcs);
+        let final_spans = spans_of_finals(&finals);
+        let urc_spans = spans_of_urcs(&urcs);
         Ok(Dialect {
             finals,
             urcs,
-            heads,
+            final_spans,
+            urc_spans,
         })
     }
 
@@ -132,8 +135,7 @@ impl Dialect {
     {
         match final_of(line) {
             Some(code) => Some(code),
-            None if self.heads[head(line)] => self.own_final_of(line),
-            None => None,
+            None => self.own_final_of(line),
         }
     }
 
@@ -141,8 +143,9 @@ impl Dialect {
     fn own_final_of(&self, line: &[u8]) -> Option<Final>
         ensures { result ≡ option_map Final.Named (position (λ p. takes p line.now) self.now.finals) }
     {
-        let place = first_place(&self.finals, line)?;
-        Some(Final::Named(place as u8))
+        let span = self.final_spans[head(line)];
+        let place = first_place(span.part(&self.finals), line)?;
+        Some(Final::Named(span.start + place as u8))
     }
 
     /// Whether a line is a final code, the last of an answer.
@@ -160,8 +163,10 @@ impl Dialect {
     {
         match unsolicited_of(line) {
             Some(kind) => Some(kind),
-            None if self.heads[head(line)] => first_kind(&self.urcs, line),
-            None => None,
+            None => {
+                let span = self.urc_spans[head(line)];
+                first_kind(span.part(&self.urcs), line)
+            }
         }
     }
 
@@ -205,8 +210,9 @@ impl Dialect {
         match self.final_refusal(form, text) {
             Some(why) => Err(why),
             None => {
+                let place = self.finals.len() as u8;
                 push_pattern(&mut self.finals, form, text)?;
-                mark(&mut self.heads, form, text);
+                mark(&mut self.final_spans, place, form, text);
                 Ok(())
             }
         }
@@ -230,8 +236,9 @@ impl Dialect {
             Some(why) => Err(why),
             None => {
                 let kind = self.kind_number(name);
+                let place = self.urcs.len() as u8;
                 push_urc(&mut self.urcs, kind, name, form, text)?;
-                mark(&mut self.heads, form, text);
+                mark(&mut self.urc_spans, place, form, text);
                 Ok(())
             }
         }

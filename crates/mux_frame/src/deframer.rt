@@ -9,6 +9,7 @@ ghost use Rattle.mux_frame.specs.Spelling.{most_info};
 use crate::error::FrameError;
 use crate::frame::FrameView;
 use crate::judge::front_frame;
+use crate::n1::N1;
 use crate::piece::Piece;
 use crate::settling::{settle, take_in};
 use circular_buffer::HeapCircularBuffer;
@@ -21,10 +22,10 @@ const LEAST_ROOM: usize = 8192;
 
 /// How many octets the ring has room for: at least N1 + 7, which is a whole frame: two flags, address, control, two length octets,
 /// information and check octet. So what a full ring holds is always decided.
-fn room_for(n1: u16) -> usize
-    ensures { result ≡ ring_room n1 }
+fn room_for(n1: N1) -> usize
+    ensures { result ≡ ring_room n1.octets }
 {
-    (usize::from(n1) + 7).max(LEAST_ROOM)
+    (usize::from(n1.octets) + 7).max(LEAST_ROOM)
 }
 
 /// Reads frames from octets, however the octets are cut. Undecided octets wait in a ring. A frame stays there until
@@ -33,7 +34,7 @@ fn room_for(n1: u16) -> usize
 pub struct Deframer {
     octets: HeapCircularBuffer<u8>,
     joined: Piece,
-    n1: u16,
+    n1: N1,
     /// Where a frame is at hand: the place of its check octet, counted from its address octet.
     check_place: Option<usize>,
 }
@@ -45,12 +46,12 @@ impl Model for Deframer {
     ghost Value = { Deframing };
 
     ghost view = { λ d. record {
-      n1 = d.n1;
+      n1 = d.n1.octets;
       undecided = d.octets.items;
-      next = next_in d.n1 d.octets.items;
+      next = next_in d.n1.octets d.octets.items;
     } };
 
-    ghost invariant = { λ d. IsReady d.n1 d.octets.items d.octets.capacity d.joined d.check_place };
+    ghost invariant = { λ d. IsReady d.n1.octets d.octets.items d.octets.capacity d.joined d.check_place };
 }
 
 impl Deframer {
@@ -64,11 +65,11 @@ impl Deframer {
         ensures bad_n1 { IsErrOf result FrameError.BadN1 ↔ ((n1 < 31) ⊎ (32767 < n1)) }
         ensures others { result ≢ Err FrameError.TooLong }
     {
-        if n1 < 31 || n1 > 32767 {
+        let Some(n1) = N1::new(n1) else {
             return Err(FrameError::BadN1);
-        }
+        };
         let octets = HeapCircularBuffer::with_capacity(alloc, room_for(n1))?;
-        let joined = Piece::with_capacity(alloc, usize::from(n1) + 7)?;
+        let joined = Piece::with_capacity(alloc, usize::from(n1.octets) + 7)?;
         Ok(Deframer {
             octets,
             joined,
@@ -88,7 +89,7 @@ impl Deframer {
     {
         let room = self.octets.capacity() - self.octets.len();
         let count = octets.len().min(room);
-        self.check_place = take_in(&mut self.octets, &octets[..count], self.n1);
+        self.check_place = take_in(&mut self.octets, &octets[..count], self.n1.octets);
         count
     }
 
@@ -101,7 +102,7 @@ impl Deframer {
         let Some(place) = self.check_place else {
             return None;
         };
-        let n1 = self.n1;
+        let n1 = self.n1.octets;
         let (front, back) = self.octets.as_slices();
         let whole = self.joined.join(front, back, place + 3);
         Some(front_frame(n1, whole, place))
@@ -115,7 +116,7 @@ impl Deframer {
         ensures past { HandsOver self.old self.new }
     {
         if let Some(place) = self.check_place {
-            self.check_place = settle(&mut self.octets, place + 2, self.n1);
+            self.check_place = settle(&mut self.octets, place + 2, self.n1.octets);
         }
     }
 

@@ -50,7 +50,7 @@ impl Station {
     {
         let dlci = self.next_turn()?;
         let cr = matches!(self.role, Role::Initiator);
-        let most = usize::from(self.n1);
+        let most = usize::from(self.n1.octets);
         self.last = dlci.number();
         let info = self.channels.take_front(dlci, most);
         Some(Outgoing {

@@ -12,7 +12,7 @@ use crate::control_queue::ControlQueue;
 use crate::error::StationError;
 use crate::repeats::Repeats;
 use crate::role::{ChannelState, Role};
-use mux_frame::{Dlci, ProbeData};
+use mux_frame::{Dlci, N1, ProbeData};
 use std::alloc::Global;
 use std::marker::Model;
 
@@ -30,7 +30,7 @@ pub(crate) struct WaitingProbe {
 #[derive(Drop)]
 pub struct Station {
     pub(crate) role: Role,
-    pub(crate) n1: u16,
+    pub(crate) n1: N1,
     pub(crate) channels: Channels,
     pub(crate) all_stopped: bool,
     pub(crate) probe: Option<WaitingProbe>,
@@ -48,7 +48,7 @@ impl Model for Station {
 
     ghost view = { λ s. record {
       role = s.role;
-      n1 = s.n1;
+      n1 = s.n1.octets;
       channels = s.channels;
       all_stopped = s.all_stopped;
       probe = option_map waiting_of s.probe;
@@ -56,7 +56,7 @@ impl Model for Station {
       last = s.last;
     } };
 
-    ghost invariant = { λ s. IsKept s.n1 s.channels s.control s.last };
+    ghost invariant = { λ s. IsKept s.n1.octets s.channels s.control s.last };
 }
 
 impl Station {
@@ -70,11 +70,11 @@ impl Station {
         ensures others { OnErr result
             (IsErrOf result StationError.BadN1 ⊎ IsErrOf result StationError.NoMemory) }
     {
-        if n1 < 31 || n1 > 32767 {
+        let Some(n1) = N1::new(n1) else {
             return Err(StationError::BadN1);
-        }
+        };
         let channels = Channels::new(alloc)?;
-        let control = ControlQueue::new(alloc, QUEUE + usize::from(n1))?;
+        let control = ControlQueue::new(alloc, QUEUE + usize::from(n1.octets))?;
         Ok(Station {
             role,
             n1,
@@ -97,7 +97,7 @@ impl Station {
     pub fn n1(&self) -> u16
         ensures { result ≡ self.now.n1 }
     {
-        self.n1
+        self.n1.octets
     }
 
     /// How a connection stands.

@@ -1,9 +1,7 @@
-use Rattle.at_text.specs.Heads.{head}
-use Rattle.at_text.proofs.dialects.Heading.{kept_all, all_marked, head_below}
+use Rattle.std.proofs.Common.{sym, ◌∙◌}
+use Rattle.at_text.proofs.dialects.Heading.{more_set}
 use Rattle.at_text.proofs.heads.mark.Goals as goal
 
-pub returns-else-is_headed-clause-kept : goal.returns-else-is_headed-clause-kept
-returns-else-is_headed-clause-kept c = λ k h. kept_all c.args.heads.now k c.told-heads h
-
-pub returns-else-is_headed-clause-marked : goal.returns-else-is_headed-clause-marked
-returns-else-is_headed-clause-marked c = λ line h. all_marked (head line) (head_below line)
+pub returns-then-is_headed-clause-more : goal.returns-then-is_headed-clause-more
+returns-then-is_headed-clause-more c = λ line h.
+    rw c.head-head.ensures.value (more_set c.args.spans.now c.args.form c.args.text.now line c.args.place c.with.result c.told-spans (sym c.is_headed.ensures ∙ c.if-is_headed.true) c.with.ensures.more h)

@@ -1,10 +1,10 @@
-use Rattle.std.proofs.Common.{◌≡◌, sym, ◌∙◌, subst, None}
-use Rattle.at_text.specs.Rules.{Rules, with_rule, UrcRule, kind_named}
+use Rattle.std.proofs.Common.{rules, ◌≡◌, length, sym, ◌∙◌, subst, None}
+use Rattle.at_text.specs.Rules.{Rules, with_rule, UrcRule, kind_named, pattern, urc}
 use Rattle.at_text.specs.Heads.{IsKept}
 use Rattle.at_text.specs.Refusals.{IsSound, IsRefused}
 use Rattle.at_text.specs.Deciding.{refusal_of}
 use Rattle.at_text.proofs.dialects.Refusing.{refused, not_refused, no_memory, sound_more}
-use Rattle.at_text.proofs.dialects.Heading.{marked_urc}
+use Rattle.at_text.proofs.dialects.Heading.{spanned_more_urc}
 use Rattle.at_text.proofs.dialects.Results.{if_no_memory}
 use Rattle.at_text.proofs.dialect.Dialect.add_unsolicited.Goals as goal
 
@@ -27,9 +27,12 @@ invariant_of-self-in-None c =
     let kind : c.kind_number-kind.result ≡ kind_named (record { finals = c.self.inside.finals.items; urcs = c.self.inside.urcs.items }) c.args.name.now =
     subst (λ (r : Rules). c.kind_number-kind.result ≡ kind_named r c.args.name.now) (sym c.self.view_is) c.kind_number-kind.ensures in
     let inside : Rules = record { finals = c.self.inside.finals.items; urcs = c.self.inside.urcs.items } in
-    let kept : IsKept (with_rule inside rule) c.mark.new.heads = record {
+    let last : c.len-place.result ≡ length c.self.inside.urcs.items = search rules in
+    let kept : IsKept (with_rule inside rule) c.self.inside.final_spans c.mark.new.spans = record {
       sound = sound_more inside rule c.self.invariant.sound fits;
-      marked = marked_urc inside c.self.inside.heads c.mark.new.heads c.args.form c.args.text.now c.args.name.now c.self.invariant.marked c.mark.ensures.kept c.mark.ensures.marked;
+      finals = c.self.invariant.finals;
+      urcs = spanned_more_urc inside.urcs (urc (kind_named inside c.args.name.now) c.args.name.now (pattern c.args.form c.args.text.now)) c.len-place.result c.self.inside.urc_spans c.mark.new.spans
+          last c.self.invariant.urcs c.mark.ensures.kept c.mark.ensures.more;
     } in
     rw (c.in_ok-push_urc-in-None.ensures.ok, kind) kept
 

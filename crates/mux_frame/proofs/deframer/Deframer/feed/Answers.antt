@@ -13,13 +13,13 @@ take_in-self-inside-requires-clause-octets c =
 
 pub returns-clause-some : goal.returns-clause-some
 returns-clause-some c = λ none some.
-    let e : next_in c.self.inside.n1 c.self.inside.octets.items ≡ None = ap (λ d. d.next) c.self.view_is ∙ none in
-    let l : length c.self.inside.octets.items ≤ c.self.inside.n1 + 6 = undecided_short c.self.inside.n1 c.self.inside.octets.items c.self.invariant.settled.octets c.self.invariant.settled.decided e in
+    let e : next_in c.self.inside.n1.octets c.self.inside.octets.items ≡ None = ap (λ d. d.next) c.self.view_is ∙ none in
+    let l : length c.self.inside.octets.items ≤ c.self.inside.n1.octets + 6 = undecided_short c.self.inside.n1.octets c.self.inside.octets.items c.self.invariant.settled.octets c.self.invariant.settled.decided e in
     let r = c.min-count.ensures in
     let s = c.capacity.ensures.capacity in
     let t = c.len.ensures.len in
     let k = c.self.invariant.settled.room in
-    let m = le-max_left (c.self.inside.n1 + 7) 8192 in
+    let m = le-max_left (c.self.inside.n1.octets + 7) 8192 in
     omega (arith, l, r, s, t, k, m)
 
 pub returns-clause-stays : goal.returns-clause-stays
@@ -27,8 +27,8 @@ returns-clause-stays c = λ f some.
     let u = c.self.inside.octets.items in
     let x = take c.min-count.result c.args.octets.now in
     let p : AreOctets c.args.octets.now = λ i. let h = c.type_inv.octets i in omega (arith, h) in
-    let e : next_in c.self.inside.n1 u ≡ Some f = ap (λ d. d.next) c.self.view_is ∙ some in
-    let s = next_stays c.self.inside.n1 u x f c.self.invariant.settled.octets (octets_both u x c.self.invariant.settled.octets (octets-take c.min-count.result c.args.octets.now p)) c.self.invariant.settled.decided e in
+    let e : next_in c.self.inside.n1.octets u ≡ Some f = ap (λ d. d.next) c.self.view_is ∙ some in
+    let s = next_stays c.self.inside.n1.octets u x f c.self.invariant.settled.octets (octets_both u x c.self.invariant.settled.octets (octets-take c.min-count.result c.args.octets.now p)) c.self.invariant.settled.decided e in
     let k = c.take_in-self-inside.ensures.kept s.decided in
     rw k s.next
 
@@ -37,4 +37,4 @@ returns-clause-past c = λ taken handed p.
     let u = c.self.inside.octets.items in
     let x = take c.min-count.result c.args.octets.now in
     let q = subst (Deframes taken handed) (sym c.self.view_is) p in
-    past_fed c.self.inside.n1 taken x u c.take_in-self-inside.new.octets.items handed _ q c.take_in-self-inside.ensures.reads c.take_in-self-inside.ensures.octets c.take_in-self-inside.ensures.decided
+    past_fed c.self.inside.n1.octets taken x u c.take_in-self-inside.new.octets.items handed _ q c.take_in-self-inside.ensures.reads c.take_in-self-inside.ensures.octets c.take_in-self-inside.ensures.decided

@@ -5,11 +5,11 @@ use Rattle.mux_frame.proofs.deframer.Deframer.new.Goals as goal
 
 pub returns-clause-ok : goal.returns-clause-ok
 unfolding next_in
-returns-clause-ok c = rw c.in_ok-octets.ensures refl
+returns-clause-ok c = rw (c.in_ok-octets.ensures, c.in-Some.ensures.octets) refl
 
 pub returns-clause-past : goal.returns-clause-past
 unfolding next_in
-returns-clause-past c = rw c.in_ok-octets.ensures (past_none c.args.n1)
+returns-clause-past c = rw (c.in_ok-octets.ensures, c.in-Some.ensures.octets) (past_none c.args.n1)
 
 pub invariant_of-result : goal.invariant_of-result
 unfolding next_in
