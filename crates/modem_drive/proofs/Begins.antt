@@ -5,12 +5,13 @@ use lib.ListN.{get_elem?}
 use Rattle.std.specs.Io.KnownBytes.{Appends}
 use Rattle.std.proofs.lemmas.List.Elements.{All-nil}
 use Rattle.at_text.specs.declared.unsolicited.UrcKind.{UrcKind}
+use Rattle.at_text.specs.Rules.{Rules, dialect_of}
 use Rattle.std.proofs.Common.{sym, subst, arith, ◌∙◌, ap, append-nil}
 use Rattle.modem_desk.specs.Ends.{AreSubscribed, CallerView, DriverView, IsWhole, ListenerView, Opened, place_of, subscription_of}
 use Rattle.modem_desk.specs.declared.request.Outcome.{Outcome}
 use Rattle.modem_desk.specs.declared.request.Request.{Request}
 use Rattle.modem_history.specs.Sessions.{LineView}
-use Rattle.modem_driver.specs.SessionStates.{FitsAll, SessionState, beginning_of}
+use Rattle.modem_driver.specs.SessionStates.{FitsAll, SessionState, beginning_by}
 use Rattle.modem_drive.specs.declared.users.UnderWay.{UnderWay}
 use Rattle.modem_drive.specs.declared.users.Users.{Users}
 use Rattle.modem_drive.specs.Asking.{PlanView}
@@ -18,7 +19,7 @@ use Rattle.mux_capture.specs.Passing.{CaptureState}
 use Rattle.modem_drive.specs.CapturedLine.{CapturedState, captured_line}
 use Rattle.serial_line.specs.StreamLine.{StreamState, new_stream}
 use Rattle.serial_line.specs.declared.stream_line.ZeroRead.TheVariants.{Ended}
-use Rattle.modem_drive.specs.Running.{Begins, Drove, DroveDevice, HasEntered, IsNewDesk, device_look, plan_begun}
+use Rattle.modem_drive.specs.Running.{Begins, Drove, DroveDevice, HasEntered, IsNewDesk, device_look, kinds_by, plan_begun}
 use Rattle.modem_drive.specs.declared.running.Driven.{Driven}
 use Rattle.modem_drive.specs.Ending.{HasDriven, HasEndedBy}
 use Rattle.modem_drive.specs.declared.fault.DriveFault.{DriveFault}
@@ -26,34 +27,36 @@ use Rattle.modem_drive.proofs.Asks.{all_asked, asks_same, asks_then}
 use Rattle.modem_desk.specs.declared.settling.Settled.{Settled}
 use Rattle.modem_drive.specs.Showing.{HasShown, IsLine, IsRightPiece, count_on}
 
-pub begins : {X : Type 0} (look : X → LineView) (n1 : ℕ) (line : X) (d : DriverView) (s : SessionState X) (users : Users)
-    → FitsAll (beginning_of n1 (look line) d) look s [] → (s.line ≡ line) × (s.driver ≡ d) → IsNewDesk d → IsWhole d.desk (map place_of (users.lines ∷ users.control ∷ []))
-    → AreSubscribed d.desk (map subscription_of users.listeners.items) → ((out : Option (List ℕ)) → HasShown out out users) → users.lines.submitted ≡ [] → Begins look n1 line s users
-begins look n1 line d s users fits same new whole subscribed shown none_asked = record {
-  new = subst IsNewDesk (sym same.1) new;
+pub begins : {X : Type 0} (look : X → LineView) (rules : Rules) (n1 : ℕ) (line : X) (d : DriverView) (s : SessionState X) (users : Users)
+    → FitsAll (beginning_by (dialect_of rules) n1 (look line) d) look s [] → (s.line ≡ line) × (s.driver ≡ d) → IsNewDesk rules d → IsWhole d.desk (map place_of (users.lines ∷ users.control ∷ []))
+    → AreSubscribed d.desk (map subscription_of users.listeners.items) → ((out : Option (List ℕ)) → HasShown out out users) → users.lines.submitted ≡ [] → users.dialect ≡ rules → Begins look rules n1 line s users
+begins look rules n1 line d s users fits same new whole subscribed shown none_asked dialect = record {
+  new = subst (IsNewDesk rules) (sym same.1) new;
   at_line = same.0;
-  fits = subst (λ (x : DriverView). FitsAll (beginning_of n1 (look line) x) look s []) (sym same.1) fits;
+  fits = subst (λ (x : DriverView). FitsAll (beginning_by (dialect_of rules) n1 (look line) x) look s []) (sym same.1) fits;
   whole = subst (λ (x : DriverView). IsWhole x.desk (map place_of (users.lines ∷ users.control ∷ []))) (sym same.1) whole;
   subscribed = subst (λ (x : DriverView). AreSubscribed x.desk (map subscription_of users.listeners.items)) (sym same.1) subscribed;
   shown = shown;
   none_asked = none_asked;
+  dialect = dialect;
 }
 
 -- the same, and it was driven to its end
-pub drove : {X : Type 0} (look : X → LineView) (text : List ℕ) (n1 : ℕ) (first line : X) (s : SessionState X) (users : Users) (input before after : Option (List ℕ)) (p : PlanView) (end : Option DriveFault) (left : Settled)
-    → HasEntered text (look first) (look line) → Begins look n1 line s users → HasDriven look s users (plan_begun input) p before after end left → Drove look text n1 first input before after end left
-drove {X} look text n1 first line s users input before after p end left entered b driven = record {
+pub drove : {X : Type 0} (look : X → LineView) (rules : Rules) (text : List ℕ) (n1 : ℕ) (first line : X) (s : SessionState X) (users : Users) (input before after : Option (List ℕ)) (p : PlanView) (end : Option DriveFault) (left : Settled)
+    → HasEntered text (look first) (look line) → Begins look rules n1 line s users → HasDriven look s users (plan_begun input) p before after end left → Drove look rules text n1 first input before after end left
+drove {X} look rules text n1 first line s users input before after p end left entered b driven = record {
   session = s;
   entered = subst (λ (x : X). HasEntered text (look first) (look x)) (sym b.at_line) entered;
   users = users;
   begins = record {
     new = b.new;
     at_line = refl;
-    fits = subst (λ (x : X). FitsAll (beginning_of n1 (look x) s.driver) look s []) (sym b.at_line) b.fits;
+    fits = subst (λ (x : X). FitsAll (beginning_by (dialect_of rules) n1 (look x) s.driver) look s []) (sym b.at_line) b.fits;
     whole = b.whole;
     subscribed = b.subscribed;
     shown = b.shown;
     none_asked = b.none_asked;
+    dialect = b.dialect;
   };
   through = p;
   driven = driven;
@@ -65,23 +68,23 @@ drove {X} look text n1 first line s users input before after p end left entered 
 }
 
 -- a line between two rings was
-pub drove_device : (text : List ℕ) (n1 : ℕ) (line : StreamState) (wrapped : CapturedState StreamState) (capture : Option CaptureState) (before after : Option (List ℕ)) (r : Result Driven DriveFault) → line ≡ new_stream None None Ended
+pub drove_device : (rules : Rules) (text : List ℕ) (n1 : ℕ) (line : StreamState) (wrapped : CapturedState StreamState) (capture : Option CaptureState) (before after : Option (List ℕ)) (r : Result Driven DriveFault) → line ≡ new_stream None None Ended
     → wrapped ≡ captured_line line capture
-    → IfOk r (λ d. Drove device_look text n1 wrapped None before after d.fault d.left) → IfOk r (λ d. DroveDevice text n1 before after d.fault)
-drove_device text n1 line wrapped capture before after (Ok d) same is h = record {
+    → IfOk r (λ d. Drove device_look rules text n1 wrapped None before after d.fault d.left) → IfOk r (λ d. DroveDevice rules text n1 before after d.fault)
+drove_device rules text n1 line wrapped capture before after (Ok d) same is h = record {
   left = d.left;
   capture = capture;
   drove =
-      subst (λ (x : CapturedState StreamState). Drove device_look text n1 x None before after d.fault d.left)
+      subst (λ (x : CapturedState StreamState). Drove device_look rules text n1 x None before after d.fault d.left)
       (is ∙ ap (λ (l : StreamState). captured_line l capture) same) h;
 }
-drove_device text n1 line wrapped capture before after (Err why) same is h = tt
+drove_device rules text n1 line wrapped capture before after (Err why) same is h = tt
 
 -- without a fault
-pub drove_well : (text : List ℕ) (n1 : ℕ) (before after : Option (List ℕ)) (r : Result Driven DriveFault) → IsOkAnd r (λ d. d.fault ≡ None)
-    → IfOk r (λ d. DroveDevice text n1 before after d.fault) → DroveDevice text n1 before after None
-drove_well text n1 before after (Ok d) well h = subst (DroveDevice text n1 before after) well h
-drove_well text n1 before after (Err why) well h = absurd well
+pub drove_well : (rules : Rules) (text : List ℕ) (n1 : ℕ) (before after : Option (List ℕ)) (r : Result Driven DriveFault) → IsOkAnd r (λ d. d.fault ≡ None)
+    → IfOk r (λ d. DroveDevice rules text n1 before after d.fault) → DroveDevice rules text n1 before after None
+drove_well rules text n1 before after (Ok d) well h = subst (DroveDevice rules text n1 before after) well h
+drove_well rules text n1 before after (Err why) well h = absurd well
 
 -- ## The desk that is opened
 
@@ -158,9 +161,10 @@ new_users kinds d cs ls u h out =
       counted = λ e few. ap (λ (x : List ℕ). slice_index_or x e 0) h.counts ∙ none_counted 62 e ∙ ap (count_on e) (sym submitted);
     }
 
-pub new_desk : (kinds : List UrcKind) (d : DriverView) (cs : List CallerView) (ls : List ListenerView) → length kinds ≡ 7 → Opened 2 kinds 1 d cs ls → IsNewDesk d
-new_desk kinds d cs ls seven h = record {
+pub new_desk : (rules : Rules) (kinds : List UrcKind) (d : DriverView) (cs : List CallerView) (ls : List ListenerView) → kinds ≡ kinds_by rules → Opened 2 kinds 1 d cs ls → IsNewDesk rules d
+new_desk rules kinds d cs ls are h = record {
+  kinds_are = h.kinds ∙ are;
   none_taken = h.taken;
   none_told = h.told;
-  none_announced = h.announced ∙ ap (λ (n : ℕ). replicate n []) seven;
+  none_announced = h.announced ∙ ap (λ (ks : List UrcKind). replicate (length ks) []) are;
 }

@@ -10,6 +10,7 @@ use Rattle.std.specs.Io.KnownBytes.{Appends}
 use Rattle.std.proofs.lemmas.List.{get_or-set_same, get_or-set_other, length-set}
 use Rattle.std.proofs.Math.Seq.{map-set_same}
 use Rattle.std.proofs.lemmas.List.Elements.{filter-append, All-append, All-cons, All-nil, All-take, All-drop, All-get_or}
+use Rattle.at_text.specs.Rules.{Rules}
 use Rattle.modem_desk.specs.declared.request.Request.{Request}
 use Rattle.modem_desk.specs.declared.request.Outcome.{Outcome}
 use Rattle.modem_desk.specs.declared.request.Urc.{Urc}
@@ -36,7 +37,7 @@ one_fewer us at h = grind (arith, common_steps)
 -- ## Nothing, and one thing after another
 
 pub stays : (out : Option (List ℕ)) (u : Users) → GoOn out out u u
-stays out u = record { shows = λ first h. h; places = record { lines = refl; control = refl; listeners = refl } }
+stays out u = record { shows = λ first h. h; places = record { lines = refl; control = refl; listeners = refl; dialect = refl } }
 
 pub goes_then : (a b c : Option (List ℕ)) (u v w : Users) → GoOn a b u v → GoOn b c v w → GoOn a c u w
 goes_then a b c u v w g h = record {
@@ -45,8 +46,13 @@ goes_then a b c u v w g h = record {
     lines = h.places.lines ∙ g.places.lines;
     control = h.places.control ∙ g.places.control;
     listeners = h.places.listeners ∙ g.places.listeners;
+    dialect = h.places.dialect ∙ g.places.dialect;
   };
 }
+
+-- it was printed by the same dialect
+printed_by : (first now : Option (List ℕ)) (old new : Rules) (ss : List Shown) → new ≡ old → Appends first now (flat_map (shown_text old) ss) → Appends first now (flat_map (shown_text new) ss)
+printed_by first now old new ss same h = subst (λ (r : Rules). Appends first now (flat_map (shown_text r) ss)) (sym same) h
 
 -- ## The lines of an output stay right
 
@@ -98,6 +104,7 @@ pub record Submits (old new : Users) (r : Request) (u : UnderWay) : Type 0 where
   pub under_way : new.under_way.items ≡ old.under_way.items ++ u ∷ []
   pub counts : new.counts ≡ set old.counts u.dlci.number u.place
   pub counted : u.place ≡ slice_index_or old.counts u.dlci.number 0 + 1
+  pub dialect : new.dialect ≡ old.dialect
   pub known : u.dlci.number < 62
 
 counted_here : (old new : Users) (r : Request) (u : UnderWay) → Submits old new r u → length old.counts ≡ 62 → ((d : ℕ) → d < 62 → slice_index_or old.counts d 0 ≡ count_on d old.lines.submitted)
@@ -136,7 +143,7 @@ submits out old new r u s =
           let got : length new.lines.got ≡ length old.lines.got = ap (length {A = Outcome}) s.got in
           record {
             shown = h.shown;
-            printed = h.printed;
+            printed = printed_by first out old.dialect new.dialect h.shown s.dialect h.printed;
             outcomes_are = h.outcomes_are ∙ sym s.got;
             right =
                 subst (λ (x : Place × List Request). All (IsRightPiece x.0.first x.1) h.shown) (λ i. (sym s.place i, sym s.submitted i))
@@ -150,7 +157,12 @@ submits out old new r u s =
             long = ap (length {A = ℕ}) s.counts ∙ length-set old.counts u.dlci.number u.place ∙ h.long;
             counted = λ d few. counted_here old new r u s h.long h.counted d few (u.dlci.number == d) refl;
           };
-      places = record { lines = s.place; control = ap (λ (c : CallerView). c.place) s.control; listeners = ap (λ (v : Vec ListenerView Global). map subscription_of v.items) s.listeners };
+      places = record {
+        lines = s.place;
+        control = ap (λ (c : CallerView). c.place) s.control;
+        listeners = ap (λ (v : Vec ListenerView Global). map subscription_of v.items) s.listeners;
+        dialect = s.dialect;
+      };
     }
 
 -- ## A line is told, and an outcome printed
@@ -175,10 +187,11 @@ prints_more (Some a) (Some b) (Some c) xs ys h k = k ∙ ap (λ (x : List ℕ). 
 prints_more (Some a) (Some b) None xs ys h k = k
 prints_more (Some a) None c xs ys h k = absurd h
 
-printed_more : (a b c : Option (List ℕ)) (ss : List Shown) (s : Shown) → Appends a b (flat_map shown_text ss) → Appends b c (shown_text s) → Appends a c (flat_map shown_text (ss ++ s ∷ []))
-printed_more a b c ss s h k =
-    subst (Appends a c) (sym (flat_map-append shown_text ss (s ∷ []) ∙ ap (λ (x : List ℕ). flat_map shown_text ss ++ x) (append-nil (shown_text s))))
-    (prints_more a b c (flat_map shown_text ss) (shown_text s) h k)
+printed_more : (rules : Rules) (a b c : Option (List ℕ)) (ss : List Shown) (s : Shown) → Appends a b (flat_map (shown_text rules) ss) → Appends b c (shown_text rules s)
+    → Appends a c (flat_map (shown_text rules) (ss ++ s ∷ []))
+printed_more rules a b c ss s h k =
+    subst (Appends a c) (sym (flat_map-append (shown_text rules) ss (s ∷ []) ∙ ap (λ (x : List ℕ). flat_map (shown_text rules) ss ++ x) (append-nil (shown_text rules s))))
+    (prints_more a b c (flat_map (shown_text rules) ss) (shown_text rules s) h k)
 
 -- an outcome was taken, and printed as that of its line
 pub record Tells (before after : Option (List ℕ)) (old new : Users) (o : Outcome) (line : UnderWay) : Type 0 where
@@ -193,7 +206,8 @@ pub record Tells (before after : Option (List ℕ)) (old new : Users) (o : Outco
   pub listeners : new.listeners ≡ old.listeners
   pub under_way : new.under_way.items ≡ take at old.under_way.items ++ drop (at + 1) old.under_way.items
   pub counts : new.counts ≡ old.counts
-  pub printed : Appends before after (shown_text (Answered line.dlci.number line.place o))
+  pub printed : Appends before after (shown_text old.dialect (Answered line.dlci.number line.place o))
+  pub dialect : new.dialect ≡ old.dialect
 
 pub tells : (before after : Option (List ℕ)) (old new : Users) (o : Outcome) (line : UnderWay) → Tells before after old new o line → GoOn before after old new
 tells before after old new o line s =
@@ -211,7 +225,9 @@ tells before after old new o line s =
           let way : length new.under_way.items + 1 ≡ length us = ap (λ (x : List UnderWay). length x + 1) s.under_way ∙ one_fewer us s.at s.within in
           record {
             shown = h.shown ++ piece ∷ [];
-            printed = printed_more first before after h.shown piece h.printed s.printed;
+            printed =
+                printed_by first after old.dialect new.dialect (h.shown ++ piece ∷ []) s.dialect
+                (printed_more old.dialect first before after h.shown piece h.printed s.printed);
             outcomes_are = outcomes_more h.shown (piece ∷ []) ∙ ap (λ (x : List Outcome). x ++ o ∷ []) h.outcomes_are ∙ sym s.got;
             right =
                 subst (λ (x : Place × List Request). All (IsRightPiece x.0.first x.1) (h.shown ++ piece ∷ [])) (λ i. (sym s.place i, sym s.submitted i))
@@ -226,7 +242,12 @@ tells before after old new o line s =
             long = ap (length {A = ℕ}) s.counts ∙ h.long;
             counted = subst (λ (x : List ℕ × List Request). (d : ℕ) → d < 62 → slice_index_or x.0 d 0 ≡ count_on d x.1) (λ i. (sym s.counts i, sym s.submitted i)) h.counted;
           };
-      places = record { lines = s.place; control = ap (λ (c : CallerView). c.place) s.control; listeners = ap (λ (v : Vec ListenerView Global). map subscription_of v.items) s.listeners };
+      places = record {
+        lines = s.place;
+        control = ap (λ (c : CallerView). c.place) s.control;
+        listeners = ap (λ (v : Vec ListenerView Global). map subscription_of v.items) s.listeners;
+        dialect = s.dialect;
+      };
     }
 
 -- ## A line is heard, and printed
@@ -241,6 +262,7 @@ pub record Listens (old new : Users) (place : ℕ) (was now : ListenerView) : Ty
   pub subscription : now.subscription ≡ was.subscription
   pub under_way : new.under_way ≡ old.under_way
   pub counts : new.counts ≡ old.counts
+  pub dialect : new.dialect ≡ old.dialect
 
 lines_here : (ls : List ListenerView) (was l m : ListenerView) (place i : ℕ) (shown : List Shown) (more : List Urc) → place < length ls → i < length ls → was ≡ get_or ls place was
     → l.heard ≡ was.heard ++ more → ((j : ℕ) (k : ListenerView) → j < length ls → lines_at j shown ≡ (get_or ls j k).heard)
@@ -259,20 +281,21 @@ keep_places old new place was now s = record {
   listeners =
       ap (map subscription_of) s.listeners
       ∙ map-set_same subscription_of old.listeners.items place now was (s.subscription ∙ ap subscription_of s.was_is);
+  dialect = s.dialect;
 }
 
 -- it took a line, which was printed, or none
 shown_by : (before after : Option (List ℕ)) (old new : Users) (place : ℕ) (was now : ListenerView) (pieces : List Shown) (more : List Urc) → Listens old new place was now
     → now.heard ≡ was.heard ++ more → outcomes_in pieces ≡ [] → All (IsRightPiece old.lines.place.first old.lines.submitted) pieces
     → ((i : ℕ) → lines_at i pieces ≡ (if place == i then more else []))
-    → ((first : Option (List ℕ)) (ss : List Shown) → Appends first before (flat_map shown_text ss) → Appends first after (flat_map shown_text (ss ++ pieces)))
+    → ((first : Option (List ℕ)) (ss : List Shown) → Appends first before (flat_map (shown_text old.dialect) ss) → Appends first after (flat_map (shown_text old.dialect) (ss ++ pieces)))
     → (first : Option (List ℕ)) → HasShown first before old → HasShown first after new
 shown_by before after old new place was now pieces more s heard none right lines prints first h =
     let ls : List ListenerView = old.listeners.items in
     let long : length new.listeners.items ≡ length ls = ap (length {A = ListenerView}) s.listeners ∙ length-set ls place now in
     record {
       shown = h.shown ++ pieces;
-      printed = prints first h.shown h.printed;
+      printed = printed_by first after old.dialect new.dialect (h.shown ++ pieces) s.dialect (prints first h.shown h.printed);
       outcomes_are =
           outcomes_more h.shown pieces ∙ ap (λ (x : List Outcome). outcomes_in h.shown ++ x) none ∙ append-nil (outcomes_in h.shown) ∙ h.outcomes_are
           ∙ ap (λ (c : CallerView). c.got) (sym s.lines);
@@ -290,13 +313,13 @@ shown_by before after old new place was now pieces more s heard none right lines
     }
 
 pub hears : (before after : Option (List ℕ)) (old new : Users) (place : ℕ) (was now : ListenerView) (u : Urc) → Listens old new place was now → now.heard ≡ was.heard ++ u ∷ []
-    → Appends before after (shown_text (Announced place u)) → GoOn before after old new
+    → Appends before after (shown_text old.dialect (Announced place u)) → GoOn before after old new
 hears before after old new place was now u s heard printed =
     let piece : Shown = Announced place u in
     record {
       shows =
           shown_by before after old new place was now (piece ∷ []) (u ∷ []) s heard refl (All-one (IsRightPiece old.lines.place.first old.lines.submitted) piece tt) (λ i. refl)
-          (λ first ss k. printed_more first before after ss piece k printed);
+          (λ first ss k. printed_more old.dialect first before after ss piece k printed);
       places = keep_places old new place was now s;
     }
 
@@ -311,7 +334,7 @@ pub hears_none : (out : Option (List ℕ)) (old new : Users) (place : ℕ) (was 
 hears_none out old new place was now s heard = record {
   shows =
       shown_by out out old new place was now [] [] s (heard ∙ sym (append-nil was.heard)) refl (All-nil (IsRightPiece old.lines.place.first old.lines.submitted)) (λ i. same_branch (place == i))
-      (λ first ss k. subst (λ (x : List Shown). Appends first out (flat_map shown_text x)) (sym (append-nil ss)) k);
+      (λ first ss k. subst (λ (x : List Shown). Appends first out (flat_map (shown_text old.dialect) x)) (sym (append-nil ss)) k);
   places = keep_places old new place was now s;
 }
 
@@ -338,6 +361,7 @@ controls out old new s = record {
     lines = ap (λ (u : Users). u.lines.place) s.stays;
     control = s.place;
     listeners = ap (λ (u : Users). map subscription_of u.listeners.items) s.stays;
+    dialect = ap (λ (u : Users). u.dialect) s.stays;
   };
 }
 

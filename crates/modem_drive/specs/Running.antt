@@ -1,14 +1,18 @@
 -- A drive, from its line to its end.
-use Rattle.std.specs.Prelude.{◌≡◌, ℕ, List, [], ◌∷◌, Option, None, IfSome, false, map, replicate}
+use Rattle.std.specs.Prelude.{◌≡◌, ℕ, List, [], ◌∷◌, ◌++◌, Option, None, IfSome, false, length, map, replicate}
 use Rattle.serial_line.specs.StreamLine.{StreamState, new_stream}
 use Rattle.mux_capture.specs.Passing.{CaptureState}
 use Rattle.serial_line.specs.declared.stream_line.ZeroRead.TheVariants.{Ended}
 use Rattle.at_text.specs.declared.finals.Final.TheVariants.{Good}
+use Rattle.at_text.specs.declared.unsolicited.UrcKind.{UrcKind}
+use Rattle.at_text.specs.Rules.{Rules, dialect_of}
 use Rattle.modem_desk.specs.declared.settling.Settled.{Settled}
 use Rattle.modem_desk.specs.Ends.{AreSubscribed, DriverView, IsWhole, place_of, subscription_of}
+use Rattle.modem_history.specs.Kinds.{standard_kinds}
 use Rattle.modem_history.specs.Sessions.{LineView}
+use Rattle.modem_driver.specs.DialectReplays.{own_kinds}
 use Rattle.modem_driver.specs.EntryTries.{IsRepliedTo}
-use Rattle.modem_driver.specs.SessionStates.{FitsAll, SessionState, beginning_of}
+use Rattle.modem_driver.specs.SessionStates.{FitsAll, SessionState, beginning_by}
 use Rattle.modem_texts.specs.Input.{input_lines}
 use Rattle.modem_drive.specs.CapturedLine.{CapturedState, captured_line}
 use Rattle.modem_drive.specs.Asking.{LinesAsk, PlanView, asks_of}
@@ -17,21 +21,29 @@ use Rattle.modem_drive.specs.declared.fault.DriveFault.{DriveFault}
 use Rattle.modem_drive.specs.Showing.{HasShown}
 use Rattle.modem_drive.specs.declared.users.Users.{Users}
 
--- a desk of two callers and a listener for each of the seven kinds, which has done nothing yet
-pub record IsNewDesk (d : DriverView) : Type 0 where
+-- the kinds of lines by these rules: those of the standards, Other, and one of one's own for each rule of unsolicited lines
+abbrev pub kinds_by : Rules → List UrcKind
+kinds_by rules = standard_kinds ++ own_kinds (length rules.urcs)
+
+-- a desk of two callers and a listener for each kind of lines by these rules, which has done nothing yet
+pub record IsNewDesk (rules : Rules) (d : DriverView) : Type 0 where
+  pub kinds_are : d.desk.kinds ≡ kinds_by rules
   pub none_taken : d.taken ≡ []
   pub none_told : d.told ≡ replicate 2 []
-  pub none_announced : d.announced ≡ replicate 7 []
+  pub none_announced : d.announced ≡ replicate (length (kinds_by rules)) []
 
--- a session over this line, on a desk that has done nothing yet, of which these are all users; nothing is printed yet
-pub record Begins {X : Type 0} (look : X → LineView) (n1 : ℕ) (line : X) (s : SessionState X) (users : Users) : Type 0 where
-  pub new : IsNewDesk s.driver
+-- a session over this line, at a modem with the codes of these rules beside the standards', on a desk that has done nothing yet, of
+-- which these are all users; nothing is printed yet
+pub record Begins {X : Type 0} (look : X → LineView) (rules : Rules) (n1 : ℕ) (line : X) (s : SessionState X) (users : Users) :
+    Type 0 where
+  pub new : IsNewDesk rules s.driver
   pub at_line : s.line ≡ line
-  pub fits : FitsAll (beginning_of n1 (look line) s.driver) look s []
+  pub fits : FitsAll (beginning_by (dialect_of rules) n1 (look line) s.driver) look s []
   pub whole : IsWhole s.driver.desk (map place_of (users.lines ∷ users.control ∷ []))
   pub subscribed : AreSubscribed s.driver.desk (map subscription_of users.listeners.items)
   pub shown : (out : Option (List ℕ)) → HasShown out out users
   pub none_asked : users.lines.submitted ≡ []
+  pub dialect : users.dialect ≡ rules
 
 -- the multiplexer was entered by this text, at the first try or at the second
 abbrev pub HasEntered : (text : List ℕ) → (first now : LineView) → Type 0
@@ -41,15 +53,15 @@ HasEntered text first now = IsRepliedTo first now false text Good
 abbrev pub plan_begun : Option (List ℕ) → PlanView
 plan_begun input = record { input = record { left = input; text = []; ended = false; failed = false }; next = []; stopping = false }
 
--- The multiplexer was entered by this text, a session with this N1 began on the line, went on, and ended, and all that came
--- for its users was printed. Without a fault the commands that were submitted, and told before the end, are those that the lines
--- of the input are, in order, where it is known what the reader had.
-pub record Drove {X : Type 0} (look : X → LineView) (text : List ℕ) (n1 : ℕ) (line : X) (input before after : Option (List ℕ))
-    (end : Option DriveFault) (left : Settled) : Type 0 where
+-- The multiplexer was entered by this text, a session with this N1 and the codes of these rules began on the line, went on, and
+-- ended, and all that came for its users was printed. Without a fault the commands that were submitted, and told before the end, are
+-- those that the lines of the input are, in order, where it is known what the reader had.
+pub record Drove {X : Type 0} (look : X → LineView) (rules : Rules) (text : List ℕ) (n1 : ℕ) (line : X)
+    (input before after : Option (List ℕ)) (end : Option DriveFault) (left : Settled) : Type 0 where
   pub session : SessionState X
   pub entered : HasEntered text (look line) (look session.line)
   pub users : Users
-  pub begins : Begins look n1 session.line session users
+  pub begins : Begins look rules n1 session.line session users
   pub through : PlanView
   pub driven : HasDriven look session users (plan_begun input) through before after end left
   pub asked : end ≡ None
@@ -68,7 +80,7 @@ device_look l = record {
 
 -- A line between two rings, on which nothing had happened, was driven so, with the lines of an input that came through a ring. What
 -- the device behind the rings did, and what the input had, is nobody's to say. There may be a capture.
-pub record DroveDevice (text : List ℕ) (n1 : ℕ) (before after : Option (List ℕ)) (end : Option DriveFault) : Type 0 where
+pub record DroveDevice (rules : Rules) (text : List ℕ) (n1 : ℕ) (before after : Option (List ℕ)) (end : Option DriveFault) : Type 0 where
   pub left : Settled
   pub capture : Option CaptureState
-  pub drove : Drove device_look text n1 (captured_line (new_stream None None Ended) capture) None before after end left
+  pub drove : Drove device_look rules text n1 (captured_line (new_stream None None Ended) capture) None before after end left

@@ -7,7 +7,8 @@ use Rattle.modem_desk.specs.declared.request.Request.{Request}
 use Rattle.modem_desk.specs.declared.request.Outcome.{Outcome}
 use Rattle.modem_desk.specs.declared.request.Urc.{Urc}
 use Rattle.modem_desk.specs.Ends.{ListenerView, subscription_of}
-use Rattle.modem_texts.specs.Texts.{heard_text, told_text}
+use Rattle.at_text.specs.Rules.{Rules}
+use Rattle.modem_texts.specs.Texts.{heard_text_by, told_text}
 use Rattle.modem_drive.specs.declared.users.UnderWay.{UnderWay}
 use Rattle.modem_drive.specs.declared.users.Users.{Users}
 
@@ -17,10 +18,10 @@ pub data Shown : Type 0 where
   Answered : (dlci place : ℕ) → Outcome → Shown
   Announced : (listener : ℕ) → Urc → Shown
 
--- `D i answer` and the lines of the answer, or `heard KIND D TEXT`
-abbrev pub shown_text : Shown → List ℕ
-shown_text (Answered d i o) = told_text d i o.answer
-shown_text (Announced i u) = heard_text u
+-- `D i answer` and the lines of the answer, or `heard KIND D TEXT`, where kinds of a dialect's own have their names
+abbrev pub shown_text : Rules → Shown → List ℕ
+shown_text rules (Answered d i o) = told_text d i o.answer
+shown_text rules (Announced i u) = heard_text_by rules u
 
 -- the outcomes that were printed, in order
 abbrev pub outcomes_in : List Shown → List Outcome
@@ -62,11 +63,12 @@ abbrev pub AreUnderWay : (first : ℕ) → List Request → List UnderWay → Ty
 AreUnderWay first submitted = All (λ (u : UnderWay). IsLine first submitted u.number u.dlci.number u.place)
 
 -- What was printed since the output was as at first: each outcome that the caller took, in the order in which they
--- came, by the connection and the place of its line; and each line that a listener took, in its order. Of what was
+-- came, by the connection and the place of its line; and each line that a listener took, in its order, by its kind's
+-- name in the dialect. Of what was
 -- submitted just the lines under way have no outcome yet, and so many lines of each connection were submitted.
 pub record HasShown (first now : Option (List ℕ)) (u : Users) : Type 0 where
   pub shown : List Shown
-  pub printed : Appends first now (flat_map shown_text shown)
+  pub printed : Appends first now (flat_map (shown_text u.dialect) shown)
   pub outcomes_are : outcomes_in shown ≡ u.lines.got
   pub right : All (IsRightPiece u.lines.place.first u.lines.submitted) shown
   pub lines_are : (i : ℕ) (l : ListenerView) → i < length u.listeners.items
@@ -76,11 +78,12 @@ pub record HasShown (first now : Option (List ℕ)) (u : Users) : Type 0 where
   pub long : length u.counts ≡ 62
   pub counted : (d : ℕ) → d < 62 → slice_index_or u.counts d 0 ≡ count_on d u.lines.submitted
 
--- each keeps its place at the desk
+-- each keeps its place at the desk, and the dialect stays
 pub record KeepPlaces (old new : Users) : Type 0 where
   pub lines : new.lines.place ≡ old.lines.place
   pub control : new.control.place ≡ old.control.place
   pub listeners : map subscription_of new.listeners.items ≡ map subscription_of old.listeners.items
+  pub dialect : new.dialect ≡ old.dialect
 
 -- each keeps its place, and whatever was printed before, what is printed now goes on from there
 pub record GoOn (before after : Option (List ℕ)) (old new : Users) : Type 0 where

@@ -86,6 +86,7 @@ fn settle_all<R: Wait>(
         listeners,
         under_way: _,
         counts: _,
+        dialect: _,
     } = users;
     callers.push_reserved(lines);
     callers.push_reserved(control);

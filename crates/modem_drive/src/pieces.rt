@@ -1,13 +1,13 @@
 //! One piece of the output as text, and how it is written.
-ghost use Rattle.std.specs.Prelude.{◌≡◌, OnOk};
+ghost use Rattle.std.specs.Prelude.{OnOk};
 ghost use Rattle.std.specs.Io.KnownBytes.{Appends};
-ghost use Rattle.modem_drive.specs.Showing.{shown_text};
-ghost use Rattle.modem_drive.specs.Showing as shown;
+ghost use Rattle.modem_texts.specs.Texts.{heard_text_by, told_text};
 
 use crate::fault::DriveFault;
 use crate::users::UnderWay;
+use at_text::Dialect;
 use modem_desk::{Outcome, Urc};
-use modem_texts::{push_heard, push_told};
+use modem_texts::{push_heard_by, push_told};
 use std::alloc::Global;
 use std::io::Write;
 
@@ -30,7 +30,7 @@ pub fn write_outcome<W: Write>(
     outcome: &Outcome,
 ) -> Result<(), DriveFault>
     ensures { OnOk result (Appends (W.contents output.old) (W.contents output.new)
-        (shown_text (shown.Answered line.dlci.number line.place outcome.now))) }
+        (told_text line.dlci.number line.place outcome.now.answer)) }
 {
     let mut text = String::new(alloc);
     push_told(
@@ -43,18 +43,16 @@ pub fn write_outcome<W: Write>(
     put(output, text.as_str())
 }
 
-/// Writes a line that the listener at this place heard: `heard KIND D TEXT`.
+/// Writes a line that was heard: `heard KIND D TEXT`, where a kind of the dialect's own has its name.
 pub fn write_line<W: Write>(
     alloc: Global,
     output: &mut W,
-    listener: usize,
+    dialect: &Dialect,
     line: &Urc,
 ) -> Result<(), DriveFault>
-    ensures { OnOk result (Appends (W.contents output.old) (W.contents output.new)
-        (shown_text (shown.Announced listener line.now))) }
+    ensures { OnOk result (Appends (W.contents output.old) (W.contents output.new) (heard_text_by dialect.now line.now)) }
 {
-    let _ = listener;
     let mut text = String::new(alloc);
-    push_heard(alloc, line, &mut text)?;
+    push_heard_by(alloc, dialect, line, &mut text)?;
     put(output, text.as_str())
 }

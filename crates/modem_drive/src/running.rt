@@ -1,10 +1,11 @@
 //! A drive, from its device to its end.
 ghost use Rattle.std.specs.Prelude.{◌≡◌, ◌≢◌, ◌≤◌, [], ◌∷◌, ℕ, List, None, Option, IfOk, IsOkAnd, OnOk, map};
 ghost use Rattle.modem_desk.specs.Ends.{AreSubscribed, IsWhole, place_of, subscription_of};
-ghost use Rattle.modem_driver.specs.SessionStates.{FitsAll, beginning_of, line_by};
+ghost use Rattle.at_text.specs.Rules.{dialect_of};
+ghost use Rattle.modem_driver.specs.SessionStates.{FitsAll, beginning_by, line_by};
 ghost use Rattle.modem_drive.specs.Ending.{HasDriven};
 ghost use Rattle.modem_drive.specs.Entry.{entry_for, given_text};
-ghost use Rattle.modem_drive.specs.Running.{Begins, Drove, DroveDevice, HasEntered, IsNewDesk};
+ghost use Rattle.modem_drive.specs.Running.{Begins, Drove, DroveDevice, HasEntered, IsNewDesk, kinds_by};
 ghost use Rattle.modem_drive.specs.Showing.{HasShown};
 
 use crate::captured_line::CapturedLine;
@@ -18,14 +19,14 @@ use crate::plan::Plan;
 use crate::results::beside;
 use crate::settings::{Settings, entry_of};
 use crate::users::Users;
-use at_text::UrcKind;
+use at_text::{Dialect, UrcKind};
 use bell::Bell;
 use modem_desk::{Desk, DriverEnd, Settled};
 use modem_driver::{Session, enter_by};
 use mux_capture::Capture;
 use mux_frame::Dlci;
 use serial_line::{SerialLine, ZeroRead};
-use std::alloc::{AllocGlobal, Global};
+use std::alloc::{AllocError, AllocGlobal, Global};
 use std::fs::{File, OpenOptions};
 use std::io::{Read, Write};
 use std::rt::{Clock, Files};
@@ -36,7 +37,7 @@ use std::time::Duration;
 /// Seconds that an entry waits for an answer, in each of its two tries.
 const ENTRY_SECONDS: u64 = 3;
 
-/// All kinds of lines.
+/// The kinds of lines of the standards, and Other.
 const KINDS: [UrcKind; 7] = [
     UrcKind::Ring,
     UrcKind::Cring,
@@ -58,15 +59,45 @@ pub struct Driven {
     pub left: Settled,
 }
 
-/// A desk of two callers and a listener for each kind of line.
-fn open_desk(alloc: Global) -> Result<(DriverEnd, Users), DriveFault>
-    ensures new { IfOk result (λ r. IsNewDesk r.0) }
+/// The kinds of lines of a modem with these codes: those of the standards, Other, and one for each of the dialect's own rules of
+/// unsolicited lines. Two rules of one name have the kind of the first.
+fn kinds_of(alloc: Global, dialect: &Dialect) -> Result<Vec<UrcKind>, AllocError>
+    ensures { IfOk result (λ kinds. kinds.items ≡ kinds_by dialect.now) }
+{
+    let mut kinds = KINDS.to_vec(alloc)?;
+    let most = dialect.count() as u8;
+    for number in 0..most {
+        let kind = UrcKind::Own(number);
+        if dialect.name_of(kind).is_none() {
+            return Ok(kinds);
+        }
+        kinds.push(kind)?;
+    }
+    Ok(kinds)
+}
+
+/// A copy of a dialect.
+fn copy_of(dialect: &Dialect) -> Result<Dialect, DriveFault>
+    ensures { IfOk result (λ copy. copy ≡ dialect.now) }
+{
+    match dialect.copy() {
+        Ok(copy) => Ok(copy),
+        Err(_) => Err(DriveFault::NoMemory),
+    }
+}
+
+/// A desk of two callers and a listener for each kind of line of a modem with these codes.
+fn open_desk(alloc: Global, dialect: &Dialect) -> Result<(DriverEnd, Users), DriveFault>
+    ensures new { IfOk result (λ r. IsNewDesk dialect.now r.0) }
     ensures whole { IfOk result (λ r. IsWhole r.0.desk (map place_of (r.1.lines ∷ r.1.control ∷ []))) }
     ensures subscribed { IfOk result (λ r. AreSubscribed r.0.desk (map subscription_of r.1.listeners.items)) }
     ensures shown { IfOk result (λ r. (out : Option (List ℕ)) → HasShown out out r.1) }
     ensures none_asked { IfOk result (λ r. r.1.lines.submitted ≡ []) }
+    ensures dialect { IfOk result (λ r. r.1.dialect ≡ dialect.now) }
 {
-    let Ok((driver, mut callers, listeners)) = Desk::open(alloc, 2, &KINDS) else {
+    let kinds = kinds_of(alloc, dialect)?;
+    let dialect = copy_of(dialect)?;
+    let Ok((driver, mut callers, listeners)) = Desk::open(alloc, 2, kinds.as_slice()) else {
         return Err(DriveFault::NoMemory);
     };
     let control = callers.remove(1);
@@ -77,41 +108,45 @@ fn open_desk(alloc: Global) -> Result<(DriverEnd, Users), DriveFault>
         listeners,
         under_way: Vec::new(alloc),
         counts: [0; Dlci::COUNT],
+        dialect,
     };
     Ok((driver, users))
 }
 
-/// A session that has done nothing yet.
+/// A session that has done nothing yet, at a modem with these codes.
 fn make_session<L: SerialLine + Drop, R: Wait + Drop>(
     rt: R,
     alloc: Global,
     line: L,
     driver: DriverEnd,
     n1: u16,
+    dialect: &Dialect,
 ) -> Result<Session<L, R>, DriveFault>
     ensures begins { IfOk result (λ s.
-        FitsAll (beginning_of n1 (line_by L.received L.sent L.calls L.failures L.empty_reads L.stalled_writes line) driver)
+        FitsAll (beginning_by (dialect_of dialect.now) n1 (line_by L.received L.sent L.calls L.failures L.empty_reads L.stalled_writes line) driver)
         (line_by L.received L.sent L.calls L.failures L.empty_reads L.stalled_writes) s []) }
     ensures same { IfOk result (λ s. (s.line ≡ line) × (s.driver ≡ driver)) }
 {
-    match Session::new(rt, alloc, line, driver, n1) {
+    match Session::with_dialect(rt, alloc, line, driver, n1, dialect) {
         Ok(session) => Ok(session),
         Err(_) => Err(DriveFault::NoMemory),
     }
 }
 
-/// A session over this line, and those who use its desk.
+/// A session over this line, at a modem with these codes, and those who use its desk.
 fn begin<L: SerialLine + Drop, R: Wait + Drop>(
     rt: R,
     alloc: Global,
     line: L,
     n1: u16,
+    dialect: &Dialect,
 ) -> Result<(Session<L, R>, Users), DriveFault>
     ensures { IfOk result (λ r.
-        Begins (line_by L.received L.sent L.calls L.failures L.empty_reads L.stalled_writes) n1 line r.0 r.1) }
+        Begins (line_by L.received L.sent L.calls L.failures L.empty_reads L.stalled_writes) dialect.now n1 line r.0 r.1) }
 {
-    let (driver, users) = open_desk(alloc)?;
-    let (session, users) = beside(make_session(rt, alloc, line, driver, n1), users)?;
+    let (driver, users) = open_desk(alloc, dialect)?;
+    let session = make_session(rt, alloc, line, driver, n1, dialect);
+    let (session, users) = beside(session, users)?;
     Ok((session, users))
 }
 
@@ -175,9 +210,10 @@ fn enter<L: SerialLine, R: Wait + Clock>(
 
 /// Drives a modem on a line on which no call waits: enters the multiplexer, opens connection 0, and each connection when a line of
 /// the input first names it; submits the lines `D TEXT` as they come, at most 16 at a time; and prints what each was told as
-/// `D i answer` and each line that is announced as `heard KIND D TEXT`, as they come. A connection whose command has no answer
-/// for so long as the settings say is closed, and opened again for the next line. At the end of the input it waits for what is under
-/// way, and ends the multiplexer. `bell` is rung where octets of the line or of the input may have come.
+/// `D i answer` and each line that is announced as `heard KIND D TEXT`, as they come; a kind of the dialect's own has its name. A
+/// connection whose command has no answer for so long as the settings say is closed, and opened again for the next line. At the end
+/// of the input it waits for what is under way, and ends the multiplexer. `bell` is rung where octets of the line or of the input may
+/// have come.
 ///
 /// Where the line is lost, or the modem ends the multiplexer, everyone who waits is told, and the fault is in what it gives.
 /// Refused, with something left undone: where the multiplexer isn't entered, and with NoMemory, Output and GaveUp.
@@ -198,12 +234,12 @@ where
     W: Write,
     E: Write,
     ensures { IfOk result (λ d. Drove (line_by L.received L.sent L.calls L.failures L.empty_reads L.stalled_writes)
-        (entry_for (given_text settings.entry.entry) settings.entry.n1) settings.entry.n1 line (I.remaining input)
+        settings.entry.dialect.now (entry_for (given_text settings.entry.entry) settings.entry.n1) settings.entry.n1 line (I.remaining input)
         (W.contents output.old) (W.contents output.new) d.fault d.left) }
 {
     let mut line = line;
     enter(rt, alloc, bell, &mut line, &settings)?;
-    let (session, users) = begin(*rt, alloc, line, settings.n1)?;
+    let (session, users) = begin(*rt, alloc, line, settings.n1, settings.dialect)?;
     let lines = Lines::new(alloc, input);
     let mut plan = Plan::new(lines, settings.quiet_for);
     let mut ticks = Ticks::new(settings.tick);
@@ -327,8 +363,8 @@ where
     I: Read + Send + Drop + 'static,
     W: Write,
     E: Write,
-    ensures { IfOk result (λ d. DroveDevice (entry_for (given_text settings.entry.entry) settings.entry.n1) settings.entry.n1
-        (W.contents output.old) (W.contents output.new) d.fault) }
+    ensures { IfOk result (λ d. DroveDevice settings.entry.dialect.now
+        (entry_for (given_text settings.entry.entry) settings.entry.n1) settings.entry.n1 (W.contents output.old) (W.contents output.new) d.fault) }
 {
     let alloc = rt.alloc();
     let bell = Bell::new(alloc)?;
@@ -365,8 +401,8 @@ where
     W: Write,
     E: Write,
     ensures status { result ≤ 2 }
-    ensures drove { result ≢ 1 → DroveDevice (entry_for (given_text settings.entry.entry) settings.entry.n1) settings.entry.n1
-        (W.contents output.old) (W.contents output.new) None }
+    ensures drove { result ≢ 1 → DroveDevice settings.entry.dialect.now
+        (entry_for (given_text settings.entry.entry) settings.entry.n1) settings.entry.n1 (W.contents output.old) (W.contents output.new) None }
 {
     match open_all(rt, rt.alloc(), path, &settings) {
         Ok(

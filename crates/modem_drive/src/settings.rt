@@ -3,6 +3,7 @@ ghost use Rattle.std.specs.Prelude.{◌≡◌, ◌++◌, IfOk, codes};
 ghost use Rattle.std.specs.String.{string_bytes};
 ghost use Rattle.modem_drive.specs.Entry.{entry_for, entry_text, given_text};
 
+use at_text::Dialect;
 use std::alloc::{AllocError, Global};
 use std::fmt::Write;
 use std::time::Duration;
@@ -21,6 +22,8 @@ pub struct Settings<'a> {
     pub tick: Duration,
     /// After so long without an answer to its command a connection is closed. Where it is `None` none is.
     pub quiet_for: Option<Duration>,
+    /// The codes of the modem.
+    pub dialect: &'a Dialect,
     /// The path of a file for a capture of the frames that pass. Where it is `None` there is none.
     pub capture: Option<&'a str>,
 }

@@ -41,7 +41,7 @@ impl Users {
     {
         match self.listeners[place].take() {
             Some(line) => {
-                write_line(alloc, output, place, &line)?;
+                write_line(alloc, output, &self.dialect, &line)?;
                 Ok(true)
             }
             None => Ok(false),

@@ -7,7 +7,7 @@ ghost use Rattle.modem_drive.specs.Showing.{GoOn, TakesLine};
 ghost use Rattle.modem_drive.specs.declared.users.UnderWay.{UnderWay};
 
 use crate::fault::DriveFault;
-use at_text::CommandLine;
+use at_text::{CommandLine, Dialect};
 use modem_desk::{Ask, Caller, Listener};
 use mux_frame::Dlci;
 use std::sync::Wait;
@@ -20,7 +20,8 @@ pub struct UnderWay {
     pub place: u64,
 }
 
-/// Those who use the desk, the lines under way, and how many lines of each connection were submitted.
+/// Those who use the desk, the lines under way, how many lines of each connection were submitted, and the dialect by which a line that is
+/// heard is named.
 #[derive(Drop)]
 pub struct Users {
     pub lines: Caller,
@@ -28,6 +29,7 @@ pub struct Users {
     pub listeners: Vec<Listener>,
     pub under_way: Vec<UnderWay>,
     pub counts: [u64; Dlci::COUNT],
+    pub dialect: Dialect,
 }
 
 impl Users {

@@ -124,7 +124,8 @@ device_rule = record (new_rule (codes "device")) { action = Some Set; value_name
 -- the subcommand with these and `--n1`
 abbrev pub drive_app : App
 drive_app =
-    with_rule (with_rule (with_rule (with_rule (with_rule (subcommand_app (codes "drive")) tick_rule) quiet_rule) entry_rule) capture_rule)
+    with_rule
+    (with_rule (with_rule (with_rule (with_rule (with_rule (subcommand_app (codes "drive")) tick_rule) quiet_rule) entry_rule) dialect_rule) capture_rule)
     device_rule
 
 -- the program, with its five subcommands

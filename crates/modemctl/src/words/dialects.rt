@@ -4,7 +4,7 @@ ghost use Rattle.clap.specs.Words.{first_value, found_of, rule_of};
 ghost use Rattle.modem_texts.specs.DialectNames.{dialect_with_name};
 ghost use Rattle.modem_runs.specs.Dialects.{HasText};
 ghost use Rattle.modem_runs.specs.Stopping.{HasGivenUp};
-ghost use Rattle.modemctl.specs.Dialects.{IsReadyOrRead, PrintsActs};
+ghost use Rattle.modemctl.specs.Dialects.{IsGivenDialect, IsReadyOrRead, PrintsActs};
 ghost use Rattle.modemctl.specs.Words.{dialect_rule};
 
 use at_text::Dialect;
@@ -50,6 +50,20 @@ pub fn dialect_by<R: Files<File = File>>(rt: &R, alloc: Global, name: &str) -> R
         Ok(Some(dialect)) => Ok(dialect),
         Ok(None) => dialect_in_file(rt, alloc, name),
         Err(_) => Err(Stop::NoMemory),
+    }
+}
+
+/// The dialect that the words give; the standard's codes alone where they give none.
+pub fn given_dialect<R: Files<File = File>>(
+    rt: &R,
+    alloc: Global,
+    matches: &ArgMatches<'_>,
+) -> Result<Dialect, Stop>
+    ensures { IfOk result (IsGivenDialect (first_value (found_of matches.now) (codes "dialect"))) }
+{
+    match matches.get_str("dialect") {
+        Some(name) => dialect_by(rt, alloc, name),
+        None => Ok(Dialect::standard(alloc)),
     }
 }
 

@@ -1,15 +1,18 @@
 //! The words of a drive.
-ghost use Rattle.std.specs.Prelude.{◌≡◌, ◌≤◌, ◌⊎◌, IfOk, None, codes, false};
+ghost use Rattle.std.specs.Prelude.{◌≡◌, ◌≤◌, ◌⊎◌, IfOk, codes, false};
 ghost use Rattle.clap.specs.Words.{app_of, first_value, found_of, rule_of, with_subcommand};
-ghost use Rattle.modem_drive.specs.Entry.{entry_for, given_text};
-ghost use Rattle.modem_drive.specs.Running.{DroveDevice};
+ghost use Rattle.modem_drive.specs.Entry.{given_text};
+ghost use Rattle.modemctl.specs.Drives.{DrivesWith};
 ghost use Rattle.modemctl.specs.Words.{device_rule, drive_app, entry_rule, quiet_rule, tick_rule};
 
+use crate::words::dialects::{dialect_option, given_dialect};
 use crate::words::files::capture_option;
 use crate::words::numbers::{number_of, seconds_of};
 use crate::words::{n1_option, refuse};
+use at_text::Dialect;
 use clap::{Arg, ArgAction, ArgMatches, Command, value_parser};
 use modem_drive::{Settings, drive_run};
+use modem_runs::give_up;
 use std::alloc::{AllocError, AllocGlobal, Global};
 use std::fs::File;
 use std::io::{Read, Write};
@@ -86,32 +89,55 @@ pub fn with_drive<'a>(alloc: Global, command: Command<'a>) -> Result<Command<'a>
         .arg(tick_option(alloc))?
         .arg(quiet_option(alloc))?
         .arg(entry_option(alloc))?
+        .arg(dialect_option(alloc))?
         .arg(capture_option(alloc))?
         .arg(device_word(alloc))?;
     command.subcommand(drive)
 }
 
-/// What the words say of how the device is driven. Refused: the option of which the text is no number.
-fn settings_of<'a>(matches: &ArgMatches<'a>, n1: u16) -> Result<Settings<'a>, &'static str>
-    ensures n1 { IfOk result (λ s. s.n1 ≡ n1) }
-    ensures entry { IfOk result (λ s. given_text s.entry ≡ first_value (found_of matches.now) (codes "entry")) }
-{
+/// The time from tick to tick, and how long a connection may be without an answer.
+#[derive(Clone, Copy)]
+struct Times {
+    tick: Duration,
+    quiet_for: Option<Duration>,
+}
+
+/// The times that the words give. Refused: the option of which the text is no number.
+fn times_of(matches: &ArgMatches<'_>) -> Result<Times, &'static str> {
     let Ok(tick) = number_of(matches, "tick", DEFAULT_TICK) else {
         return Err("tick");
     };
     let Ok(quiet_for) = seconds_of(matches, "quiet-for") else {
         return Err("quiet-for");
     };
-    Ok(Settings {
-        n1,
-        entry: matches.get_str("entry"),
-        capture: matches.get_str("capture"),
+    Ok(Times {
         tick: Duration::from_millis(u64::from(tick)),
         quiet_for: quiet_for.map(|seconds| Duration::from_secs(u64::from(seconds))),
     })
 }
 
-/// Drives a modem on the device that the words name.
+/// How the device is driven, by the words.
+fn settings_of<'a>(
+    matches: &ArgMatches<'a>,
+    n1: u16,
+    dialect: &'a Dialect,
+    times: Times,
+) -> Settings<'a>
+    ensures n1 { result.n1 ≡ n1 }
+    ensures entry { given_text result.entry ≡ first_value (found_of matches.now) (codes "entry") }
+    ensures dialect { result.dialect.now ≡ dialect.now }
+{
+    Settings {
+        n1,
+        dialect,
+        entry: matches.get_str("entry"),
+        capture: matches.get_str("capture"),
+        tick: times.tick,
+        quiet_for: times.quiet_for,
+    }
+}
+
+/// Drives a modem on the device that the words name. A number or a dialect that isn't one is refused before the device is opened.
 pub fn drive_words<R, I, W, E>(
     rt: &R,
     matches: &ArgMatches<'_>,
@@ -126,16 +152,22 @@ where
     W: Write,
     E: Write,
     ensures status { result ≤ 2 }
-    ensures done { result ≡ 0
-        → DroveDevice (entry_for (first_value (found_of matches.now) (codes "entry")) n1) n1 (W.contents output.old) (W.contents output.new) None }
-    ensures bad { result ≡ 2 → (output.new ≡ output.old)
-        ⊎ DroveDevice (entry_for (first_value (found_of matches.now) (codes "entry")) n1) n1 (W.contents output.old) (W.contents output.new) None }
+    ensures done { result ≡ 0 → DrivesWith n1 matches.now (W.contents output.old) (W.contents output.new) }
+    ensures bad { result ≡ 2
+        → (output.new ≡ output.old) ⊎ DrivesWith n1 matches.now (W.contents output.old) (W.contents output.new) }
 {
     let Some(path) = matches.get_str("device") else {
         return 2;
     };
-    match settings_of(matches, n1) {
-        Ok(settings) => drive_run(rt, path, input, output, faults, settings),
-        Err(option) => refuse(faults, option),
+    let times = match times_of(matches) {
+        Ok(times) => times,
+        Err(option) => return refuse(faults, option),
+    };
+    match given_dialect(rt, rt.alloc(), matches) {
+        Ok(dialect) => {
+            let settings = settings_of(matches, n1, &dialect, times);
+            drive_run(rt, path, input, output, faults, settings)
+        }
+        Err(stop) => give_up(faults, stop),
     }
 }

@@ -9,7 +9,7 @@ use Rattle.modem_drive.proofs.running.drive_threaded.Goals as goal
 
 pub returns : goal.returns
 returns g c =
-    drove_device (entry_for (given_text c.args.settings.entry) c.args.settings.n1) c.args.settings.n1 c.in_ok-made.made.0 c.new-line.result c.args.capture (g.W.Write.contents c.args.output.now) (g.W.Write.contents c.drive_over-ended.new.output) c.drive_over-ended.result
+    drove_device c.args.settings.dialect.now (entry_for (given_text c.args.settings.entry) c.args.settings.n1) c.args.settings.n1 c.in_ok-made.made.0 c.new-line.result c.args.capture (g.W.Write.contents c.args.output.now) (g.W.Write.contents c.drive_over-ended.new.output) c.drive_over-ended.result
     (known_ok (λ r. r.0 ≡ new_stream None None Ended) c.line_beside.result c.in_ok-made.made c.in_ok-made.ensures.made c.line_beside.ensures)
     c.new-line.ensures
     c.drive_over-ended.ensures

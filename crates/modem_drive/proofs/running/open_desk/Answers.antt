@@ -13,6 +13,7 @@ returns c =
       listeners = c.in-Ok.listeners;
       under_way = c.new.result;
       counts = replicate 62 0;
+      dialect = c.in_ok-dialect.dialect;
     } in
     let are : AreUsers _ c.in-Ok.driver c.in-Ok.callers.items c.in-Ok.listeners.items users = record {
       opened = opened;
@@ -27,9 +28,10 @@ returns c =
       counts = refl;
     } in
     record {
-      new = new_desk _ c.in-Ok.driver c.in-Ok.callers.items c.in-Ok.listeners.items refl opened;
+      new = new_desk c.args.dialect.now _ c.in-Ok.driver c.in-Ok.callers.items c.in-Ok.listeners.items c.in_ok-kinds.ensures opened;
       whole = whole_users _ c.in-Ok.driver c.in-Ok.callers.items c.in-Ok.listeners.items users are;
       subscribed = subscribed_users _ c.in-Ok.driver c.in-Ok.callers.items c.in-Ok.listeners.items users are;
       shown = new_users _ c.in-Ok.driver c.in-Ok.callers.items c.in-Ok.listeners.items users are;
       none_asked = none_submitted _ c.in-Ok.driver c.in-Ok.callers.items c.in-Ok.listeners.items users are;
+      dialect = c.in_ok-dialect.ensures;
     }

@@ -7,8 +7,8 @@ use Rattle.modemctl.specs.Words.{HasNoNumber, IsGiven, IsNoNumber, IsNumberOf, r
 use Rattle.modemctl.specs.Benches.{AreScripted, IsFlag, ServesClient, ServesWith}
 use Rattle.modem_drive.specs.Entry.{entry_for}
 use Rattle.modem_drive.specs.Running.{DroveDevice}
-use Rattle.modemctl.specs.Dialects.{PrintsActs}
-use Rattle.modemctl.specs.Drives.{PrintsDrive}
+use Rattle.modemctl.specs.Dialects.{IsGivenDialect, PrintsActs}
+use Rattle.modemctl.specs.Drives.{DrivesWith, PrintsDrive}
 use Rattle.modemctl.proofs.words.run_named.Goals as goal
 
 of_rows : (met : Option (Text × List Row)) (rows : List Row) (option : Text) → Some rows ≡ option_map (λ p. p.1) met → one_of option rows ≡ text_in met option
@@ -107,11 +107,13 @@ returns-in-sim-clause-sim g c zero named =
     (c.sim_words.ensures.served zero)
 
 prints_drive : (top m : ArgMatches) (n1 : ℕ) (before after : Option (List ℕ)) → Some (rows_of (found_of m)) ≡ option_map (λ p. p.1) (subcommand_rows_of top) → IsNumberOf 31 (one_text (found_of m) (codes "n1")) n1
-    → DroveDevice (entry_for (first_value (found_of m) (codes "entry")) n1) n1 before after None → PrintsDrive (subcommand_rows_of top) before after
-prints_drive top m n1 before after e is drove = record {
+    → DrivesWith n1 m before after → PrintsDrive (subcommand_rows_of top) before after
+prints_drive top m n1 before after e is drives = record {
   n1 = n1;
   given = number_in top m (codes "n1") 31 n1 e is;
-  drove = subst (λ (t : Option Text). DroveDevice (entry_for t n1) n1 before after None) (word_given top m (codes "entry") e) drove;
+  rules = drives.rules;
+  named = subst (λ (t : Option Text). IsGivenDialect t drives.rules) (word_given top m (codes "dialect") e) drives.named;
+  drove = subst (λ (t : Option Text). DroveDevice drives.rules (entry_for t n1) n1 before after None) (word_given top m (codes "entry") e) drives.drove;
 }
 
 pub returns-in-drive-clause-drive : goal.returns-in-drive-clause-drive

@@ -15,6 +15,7 @@ returns-in_ok-write_line-in-Some-clause-goes g c =
       subscription = c.take.ensures.subscription;
       under_way = refl;
       counts = refl;
+      dialect = refl;
     })
     c.in-Some.ensures.heard c.in_ok-write_line-in-Some.ensures
 
@@ -30,5 +31,6 @@ returns-in-None-clause-goes g c =
       subscription = c.take.ensures.subscription;
       under_way = refl;
       counts = refl;
+      dialect = refl;
     })
     c.in-None.ensures.heard

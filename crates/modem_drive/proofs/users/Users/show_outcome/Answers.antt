@@ -24,4 +24,5 @@ returns-clause-goes g c =
       under_way = h.under_way;
       counts = ap (λ (u : Users). u.counts) h.stays;
       printed = c.in_ok-write_outcome.ensures;
+      dialect = ap (λ (u : Users). u.dialect) h.stays;
     })

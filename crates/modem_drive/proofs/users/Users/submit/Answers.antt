@@ -29,6 +29,7 @@ returns-in-Ok-clause-goes g c =
       counts = ap (λ (n : ℕ). set c.args.self.now.counts n c.in-Some.place) same;
       counted = c.in-Some.ensures.1 ∙ ap (λ (n : ℕ). slice_index_or c.args.self.now.counts n 0 + 1) same;
       known = c.args.dlci.in_range;
+      dialect = refl;
     })
 
 pub returns-in-Ok-clause-asks : goal.returns-in-Ok-clause-asks

@@ -1,7 +1,7 @@
 use Rattle.std.proofs.Common.{rules, ap, ap₂, codes, ◌≡◌, ◌∙◌}
 use Rattle.std.proofs.lemmas.Result.{IfOk-weaker}
 use Rattle.clap.specs.Words.{App, app_of, new_app, with_rule, with_subcommand}
-use Rattle.modemctl.specs.Words.{capture_rule, drive_app, entry_rule, n1_rule, quiet_rule, subcommand_app, tick_rule}
+use Rattle.modemctl.specs.Words.{capture_rule, dialect_rule, drive_app, entry_rule, n1_rule, quiet_rule, subcommand_app, tick_rule}
 use Rattle.modemctl.proofs.words.driving.with_drive.Goals as goal
 
 pub returns : goal.returns
@@ -11,6 +11,7 @@ returns c =
     let two : app_of c.in_ok-arg-2.field-0 ≡ with_rule (subcommand_app (codes "drive")) tick_rule = c.in_ok-arg-2.ensures.shape c.tick_option.ensures.own ∙ ap₂ with_rule one c.tick_option.ensures.rule in
     let three : app_of c.in_ok-arg-3.field-0 ≡ with_rule (with_rule (subcommand_app (codes "drive")) tick_rule) quiet_rule = c.in_ok-arg-3.ensures.shape c.quiet_option.ensures.own ∙ ap₂ with_rule two c.quiet_option.ensures.rule in
     let four : app_of c.in_ok-arg-4.field-0 ≡ with_rule (with_rule (with_rule (subcommand_app (codes "drive")) tick_rule) quiet_rule) entry_rule = c.in_ok-arg-4.ensures.shape c.entry_option.ensures.own ∙ ap₂ with_rule three c.entry_option.ensures.rule in
-    let five : app_of c.in_ok-arg-5.field-0 ≡ with_rule (with_rule (with_rule (with_rule (subcommand_app (codes "drive")) tick_rule) quiet_rule) entry_rule) capture_rule = c.in_ok-arg-5.ensures.shape c.capture_option.ensures.own ∙ ap₂ with_rule four c.capture_option.ensures.rule in
-    let drive_is : app_of c.in_ok-drive.drive ≡ drive_app = c.in_ok-drive.ensures.shape c.device_word.ensures.own ∙ ap₂ with_rule five c.device_word.ensures.rule in
+    let five : app_of c.in_ok-arg-5.field-0 ≡ with_rule (with_rule (with_rule (with_rule (subcommand_app (codes "drive")) tick_rule) quiet_rule) entry_rule) dialect_rule = c.in_ok-arg-5.ensures.shape c.dialect_option.ensures.own ∙ ap₂ with_rule four c.dialect_option.ensures.rule in
+    let six : app_of c.in_ok-arg-6.field-0 ≡ with_rule (with_rule (with_rule (with_rule (with_rule (subcommand_app (codes "drive")) tick_rule) quiet_rule) entry_rule) dialect_rule) capture_rule = c.in_ok-arg-6.ensures.shape c.capture_option.ensures.own ∙ ap₂ with_rule five c.capture_option.ensures.rule in
+    let drive_is : app_of c.in_ok-drive.drive ≡ drive_app = c.in_ok-drive.ensures.shape c.device_word.ensures.own ∙ ap₂ with_rule six c.device_word.ensures.rule in
     IfOk-weaker c.subcommand.result _ _ (λ r h. h.shape (search rules) ∙ ap (λ (a : App). with_subcommand (app_of c.args.command) a.top) drive_is) c.subcommand.ensures
