@@ -1,4 +1,5 @@
 -- Turns of a simulated modem at its line.
+pub mod KeptParts
 pub mod WrittenFrames
 pub mod SimPasts
 pub mod ShownStates

@@ -10,21 +10,16 @@ use crate::modem::Modem;
 use crate::script::Script;
 use crate::sim::SimTurn;
 use crate::sim_core::{Parts, SimCore};
-use mux_frame::Deframer;
-use mux_station::WriteBuffer;
-use serial_line::{LineFault, ReadBuffer, SerialLine};
+use line_end::LineEnd;
+use serial_line::{LineFault, SerialLine};
 use std::alloc::{AllocError, Global};
 use std::marker::Model;
 
-/// An end, what was read and not taken by its deframer yet, what is to be written, whether the line failed, and the end that a
-/// poll gave.
+/// A station with its modem, its end of the line, and the end that a poll gave.
 #[derive(Drop)]
 pub(crate) struct Kept {
     pub(crate) core: SimCore,
-    pub(crate) unfed: ReadBuffer,
-    pub(crate) deframer: Deframer,
-    pub(crate) out: WriteBuffer,
-    pub(crate) failed: bool,
+    pub(crate) line_end: LineEnd,
     pub(crate) end: Option<Result<SimTurn, SimError>>,
 }
 
@@ -36,14 +31,14 @@ impl Model for Kept {
 
     ghost view = { λ k. record {
       core = k.core;
-      unfed = k.unfed;
-      deframer = k.deframer;
-      out = k.out;
-      failed = k.failed;
+      unfed = k.line_end.unfed;
+      deframer = k.line_end.deframer;
+      out = k.line_end.unwritten;
+      failed = k.line_end.failed;
       end = k.end;
     } };
 
-    ghost invariant = { λ k. k.core.station.n1 ≡ k.deframer.n1 };
+    ghost invariant = { λ k. k.core.station.n1 ≡ k.line_end.deframer.n1 };
 }
 
 /// What a simulated modem takes memory for as it is made.
@@ -51,31 +46,27 @@ impl Model for Kept {
 pub(crate) struct Room {
     parts: Parts,
     n1: u16,
-    unfed: ReadBuffer,
-    deframer: Deframer,
-    out: WriteBuffer,
+    line_end: LineEnd,
 }
 
 impl Room {
     /// Refusals: 2 BadN1 where N1 isn't 31 to 32767, checked first; 1 NoMemory.
     pub(crate) fn new(alloc: Global, n1: u16) -> Result<Room, SimError>
         ensures begins { IfOk result
-            (λ r. BeginsAt n1 r.parts.station r.parts.channels.items r.n1 r.unfed r.deframer r.out) }
+            (λ r. BeginsAt n1 r.parts.station r.parts.channels.items r.n1 r.line_end.unfed
+            r.line_end.deframer r.line_end.unwritten) }
+        ensures sound { IfOk result (λ r. r.line_end.failed ≡ false) }
         ensures bad_n1 { IsErrOf result SimError.BadN1 ↔ ((n1 < 31) ⊎ (32767 < n1)) }
         ensures others { OnErr result (IsErrOf result SimError.BadN1 ⊎ IsErrOf result SimError.NoMemory) }
     {
         let parts = Parts::new(alloc, n1)?;
-        let Ok(deframer) = Deframer::new(alloc, n1) else {
+        let Ok(line_end) = LineEnd::new(alloc, n1) else {
             return Err(SimError::NoMemory);
         };
-        let unfed = ReadBuffer::new(alloc)?;
-        let out = WriteBuffer::new(alloc)?;
         Ok(Room {
             parts,
             n1,
-            unfed,
-            deframer,
-            out,
+            line_end,
         })
     }
 }
@@ -83,25 +74,21 @@ impl Room {
 impl Kept {
     /// Nothing has happened yet.
     pub(crate) fn start(room: Room, modem: Modem, script: Script) -> Kept
-        requires { BeginsAt room.n1 room.parts.station room.parts.channels.items room.n1 room.unfed
-            room.deframer room.out }
+        requires begins { BeginsAt room.n1 room.parts.station room.parts.channels.items room.n1
+            room.line_end.unfed room.line_end.deframer room.line_end.unwritten }
+        requires sound { room.line_end.failed ≡ false }
         ensures begins { KeptFits (end_of room.n1 modem script) [] [] result [] }
         ensures sound { result.failed ≡ false }
         ensures goes_on { result.end ≡ None }
     {
         let Room {
             parts,
-            unfed,
-            deframer,
-            out,
+            line_end,
             ..
         } = room;
         Kept {
             core: SimCore::start(parts, modem, script),
-            unfed,
-            deframer,
-            out,
-            failed: false,
+            line_end,
             end: None,
         }
     }
@@ -110,7 +97,7 @@ impl Kept {
     pub(crate) fn is_ended(&self) -> bool
         ensures { result ≡ is_ended self.now }
     {
-        self.core.closed() && self.out.is_empty() && self.core.queue_len() == 0
+        self.core.closed() && self.line_end.is_written() && self.core.queue_len() == 0
     }
 
     /// The modem.
@@ -125,7 +112,7 @@ impl Kept {
     pub(crate) fn is_failed(&self) -> bool
         ensures { result ≡ self.now.failed }
     {
-        self.failed
+        self.line_end.has_failed()
     }
 
     /// Does the steps that are due; says whether there were any.
@@ -153,13 +140,13 @@ impl Kept {
         ensures no_memory { OnErr result (IsErrOf result SimError.NoMemory) }
         ensures hand { OnErr result (self.new.deframer.next ≢ None) }
     {
-        let Some(frame) = self.deframer.peek() else {
+        let Some(frame) = self.line_end.peek() else {
             return Ok(false);
         };
         if !self.core.got(frame)? {
             return Ok(false);
         }
-        self.deframer.advance();
+        self.line_end.advance();
         Ok(true)
     }
 
@@ -174,14 +161,14 @@ impl Kept {
         ensures steps { OnOk result (self.new.core.steps ≡ self.old.core.steps) }
         ensures released { OnErr result (HasReleased self.new.core) }
     {
-        if !self.out.is_empty() {
+        if !self.line_end.is_written() {
             return Ok(false);
         }
         let offered = self.core.offer_all()?;
         let Some(outgoing) = self.core.outgoing() else {
             return Ok(offered);
         };
-        self.out.put(outgoing.frame);
+        self.line_end.put(outgoing.frame);
         Ok(true)
     }
 
@@ -194,20 +181,10 @@ impl Kept {
         ensures fewer { result ≡ true → length self.new.unfed < length self.old.unfed }
         ensures none { result ≡ false → FeedsNone self.old self.new }
     {
-        if self.unfed.is_empty() {
+        if self.line_end.is_fed() {
             return false;
         }
-        let count = self.deframer.feed(self.unfed.as_slice());
-        self.unfed.pass(count);
-        count > 0
-    }
-
-    /// The line took so many octets.
-    pub(crate) fn written(&mut self, count: usize)
-        requires { count ≤ length self.old.out }
-        ensures { self.new ≡ record self.old { out = drop count self.old.out } }
-    {
-        self.out.pass(count);
+        self.line_end.feed() > 0
     }
 
     /// Offers the line what is to be written; says how many octets it took.
@@ -226,20 +203,10 @@ impl Kept {
         ensures failure { OnErr result (L.failures line.new ≡ L.failures line.old + 1) }
         ensures beyond { L.other_side line.new ≡ L.other_side line.old }
     {
-        let octets = self.out.as_slice();
-        if octets.is_empty() {
+        if self.line_end.is_written() {
             return Ok(0);
         }
-        match line.try_write(octets) {
-            Ok(count) => {
-                self.written(count);
-                Ok(count)
-            }
-            Err(fault) => {
-                self.failed = true;
-                Err(fault)
-            }
-        }
+        self.line_end.write(line)
     }
 
     /// Reads from the line, where nothing read waits; says whether any octets came.
@@ -258,15 +225,9 @@ impl Kept {
         ensures failure { OnErr result (L.failures line.new ≡ L.failures line.old + 1) }
         ensures beyond { L.other_side line.new ≡ L.other_side line.old }
     {
-        if !self.unfed.is_empty() {
+        if !self.line_end.is_fed() {
             return Ok(false);
         }
-        match self.unfed.read(line) {
-            Ok(count) => Ok(count > 0),
-            Err(fault) => {
-                self.failed = true;
-                Err(fault)
-            }
-        }
+        Ok(self.line_end.read(line)? > 0)
     }
 }

@@ -157,7 +157,7 @@ impl<L: SerialLine> Sim<L> {
     pub fn unwritten(&self) -> &[u8]
         ensures { result.now ≡ self.now.kept.out }
     {
-        self.kept.out.as_slice()
+        self.kept.line_end.unwritten()
     }
 
     /// Lends the line. The simulated modem still fits its past afterwards, if the octets that the line received and

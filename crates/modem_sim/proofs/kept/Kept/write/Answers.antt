@@ -1,35 +1,40 @@
-use Rattle.std.proofs.Common.{◌≡◌, ◌≤◌, ◌∙◌, ◌++◌, ◌==◌, length, take, List, ℕ, true, false, sym, ap, subst}
-use Rattle.serial_line.specs.Counts.{counted_if_none}
+use Rattle.std.proofs.Common.{◌≡◌, ◌≤◌, ◌∙◌, ◌++◌, ◌==◌, length, take, drop, List, ℕ, false, sym, ap, subst}
+use Rattle.std.specs.Prelude.{Option, Result, Ok, Err, IfOk}
+use Rattle.serial_line.specs.Counts.{counted_if_none, one_more}
+use Rattle.serial_line.specs.declared.line.LineFault.{LineFault}
+use Rattle.line_end.specs.LineEnds.{LineEnd}
+use Rattle.modem_sim.specs.declared.error.SimError.{SimError}
+use Rattle.modem_sim.specs.declared.sim.SimTurn.{SimTurn}
+use Rattle.modem_sim.specs.Cores.{Core}
 use Rattle.modem_sim.specs.Sims.{Kept}
 use Rattle.modem_sim.specs.Stills.{Writes}
 use Rattle.modem_sim.proofs.sims.TurnParts.{writes_nothing, writes_some}
+use Rattle.modem_sim.proofs.sims.KeptParts.{kept_of}
 use Rattle.modem_sim.proofs.kept.Kept.write.Goals as goal
 
-pub returns-then-is_empty-clause-writes : goal.returns-then-is_empty-clause-writes
-returns-then-is_empty-clause-writes g c =
-    let old : Kept = record {
-      core = c.self.inside.core;
-      unfed = c.self.inside.unfed;
-      deframer = c.self.inside.deframer;
-      out = c.self.inside.out;
-      failed = c.self.inside.failed;
-      end = c.self.inside.end;
-    } in
+pub returns-then-is_written-clause-writes : goal.returns-then-is_written-clause-writes
+returns-then-is_written-clause-writes g c =
+    let k = c.self.inside in
+    let old : Kept = kept_of k.core k.line_end k.end in
     let sent = g.L.SerialLine.sent c.args.line.now in
     let calls = g.L.SerialLine.calls c.args.line.now in
-    let empty : (length c.self.inside.out == 0) ≡ true = ap (λ (xs : List ℕ). length xs == 0) (sym c.as_slice-octets.ensures) ∙ sym c.is_empty.ensures ∙ c.if-is_empty.true in
     let stalled = g.L.SerialLine.stalled_writes c.args.line.now in
-    let At : Kept → Type 0 = λ k. Writes sent sent calls calls stalled stalled k k 0 in
-    subst At c.self.view_is (writes_nothing old sent calls stalled empty)
+    subst (λ (v : Kept). Writes sent sent calls calls stalled stalled v v 0) c.self.view_is
+    (writes_nothing old sent calls stalled (sym c.is_written.ensures ∙ c.if-is_written.true))
 
-pub returns-in-Ok-clause-writes : goal.returns-in-Ok-clause-writes
-returns-in-Ok-clause-writes g c =
-    let out : c.as_slice-octets.result.now ≡ c.args.self.now.out = c.as_slice-octets.ensures ∙ ap (λ (k : Kept). k.out) c.self.view_is in
-    let some : (length c.args.self.now.out == 0) ≡ false = ap (λ (xs : List ℕ). length xs == 0) (sym out) ∙ sym c.is_empty.ensures ∙ c.if-is_empty.false in
-    let Bound : List ℕ → Type 0 = λ xs. c.in-Ok.count ≤ length xs in
-    let Went : List ℕ → Type 0 = λ xs. g.L.SerialLine.sent c.try_write.new.self ≡ g.L.SerialLine.sent c.args.line.now ++ take c.in-Ok.count xs in
-    writes_some c.args.self.now c.written.new.self (g.L.SerialLine.sent c.args.line.now) (g.L.SerialLine.sent c.try_write.new.self)
-    (g.L.SerialLine.calls c.args.line.now) (g.L.SerialLine.calls c.try_write.new.self)
-    (g.L.SerialLine.stalled_writes c.args.line.now) (g.L.SerialLine.stalled_writes c.try_write.new.self) c.in-Ok.count some
-    (subst Bound out c.in-Ok.ensures.bound) (subst Went out c.in-Ok.ensures.went) c.try_write.ensures.counted
-    (c.in-Ok.ensures.stalled ∙ ap (λ (xs : List ℕ). counted_if_none (length xs) c.in-Ok.count (g.L.SerialLine.stalled_writes c.args.line.now)) out) c.written.ensures
+-- the line took some or none, or failed
+by_answer : (core : Core) (end : Option (Result SimTurn SimError)) (l m : LineEnd) (before sent : List ℕ) (calls_before calls stalled_before stalled : ℕ) (r : Result ℕ LineFault) → (length l.unwritten == 0) ≡ false → IfOk r (λ n. n ≤ length l.unwritten) → IfOk r (λ n. sent ≡ before ++ take n l.unwritten) → calls ≡ one_more calls_before → IfOk r (λ n. stalled ≡ counted_if_none (length l.unwritten) n stalled_before) → IfOk r (λ n. m ≡ record l { unwritten = drop n l.unwritten }) → IfOk r (λ n. Writes before sent calls_before calls stalled_before stalled (kept_of core l end) (kept_of core m end) n)
+by_answer core end l m before sent calls_before calls stalled_before stalled (Ok n) some bound went counted stalls is =
+    writes_some (kept_of core l end) (kept_of core m end) before sent calls_before calls stalled_before stalled n some bound went counted stalls (ap (λ (e : LineEnd). kept_of core e end) is)
+by_answer core end l m before sent calls_before calls stalled_before stalled (Err fault) some bound went counted stalls is = tt
+
+pub returns-clause-writes : goal.returns-clause-writes
+returns-clause-writes g c =
+    let k = c.self.inside in
+    let line = g.L.SerialLine in
+    let before = c.args.line.now in
+    let after = c.write.new.line in
+    let e = c.write.ensures in
+    subst (λ (v : Kept). IfOk c.write.result (λ n. Writes (line.sent before) (line.sent after) (line.calls before) (line.calls after) (line.stalled_writes before) (line.stalled_writes after) v (kept_of k.core c.write.new.self k.end) n)) c.self.view_is
+    (by_answer k.core k.end k.line_end c.write.new.self (line.sent before) (line.sent after) (line.calls before) (line.calls after) (line.stalled_writes before) (line.stalled_writes after) c.write.result
+    (sym c.is_written.ensures ∙ c.if-is_written.false) e.bound e.went e.counted e.stalled e.ok)
