@@ -26,15 +26,6 @@ fn know_form(ask: &Ask)
     }
 }
 
-/// And so does the next one, if there is one.
-fn know_next(next: &Option<Request>)
-    ensures { AreFormed (option_to_list next.now) }
-{
-    if let Some(request) = next {
-        know_form(&request.ask);
-    }
-}
-
 impl Machine {
     /// Keeps the next request of the desk aside, where none is kept so, and where those in hand and
     /// the outcomes that wait are fewer than 128.
@@ -48,9 +39,11 @@ impl Machine {
         if self.waiting.count() >= self.core.hand_left() {
             return;
         }
-        let next = driver.next(rt);
-        know_next(&next);
-        self.aside = next;
+        let Some(request) = driver.next(rt) else {
+            return;
+        };
+        know_form(&request.ask);
+        self.aside = Some(request);
     }
 
     /// Takes the request that is kept aside, and says whether there was one. Refusal: 1 NoMemory, which
@@ -91,6 +84,9 @@ impl Machine {
         ensures no_memory { OnErr result (result ≡ Err fault.NoMemory) }
     {
         self.fetch(driver, rt);
+        if self.aside.is_none() {
+            return Ok(false);
+        }
         self.take_aside()
     }
 }
