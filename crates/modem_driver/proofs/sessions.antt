@@ -1,4 +1,5 @@
 -- What sessions fit, call by call.
+pub mod MachineParts
 pub mod LongerHistories
 pub mod OutcomeCounts
 pub mod OneFrame

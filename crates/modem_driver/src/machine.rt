@@ -31,25 +31,20 @@ use crate::machine::delays::Delays;
 use crate::machine::waiting::Waiting;
 use crate::session::{SessionError, SessionFault};
 use at_text::{Dialect, UrcKind};
+use line_end::LineEnd;
 use modem_desk::{Outcome, Request, Urc};
-use mux_frame::{Deframer, Dlci};
-use mux_station::WriteBuffer;
-use serial_line::ReadBuffer;
-use std::alloc::{AllocError, Global};
+use mux_frame::Dlci;
+use std::alloc::Global;
 use std::marker::Model;
 
-/// The core, the octets that come and go, what waits for a place at the desk, a request kept aside,
-/// whether a call on the line has failed, how far it has come on the way to its end, and how long commands
-/// have waited.
+/// The core, a request kept aside, the end of the line, what waits for a place at the desk, how far it has
+/// come on the way to its end, and how long commands have waited.
 #[derive(Drop)]
 pub(crate) struct Machine {
     pub(crate) core: Core,
     pub(crate) aside: Option<Request>,
-    pub(crate) input: ReadBuffer,
-    pub(crate) deframer: Deframer,
-    pub(crate) output: WriteBuffer,
+    pub(crate) line_end: LineEnd,
     pub(crate) waiting: Waiting,
-    pub(crate) faulty: bool,
     pub(crate) course: Course,
     pub(crate) delays: Delays,
 }
@@ -63,28 +58,17 @@ impl Model for Machine {
     ghost view = { λ k. record {
       core = k.core;
       aside = k.aside;
-      unfed = k.input;
-      deframer = k.deframer;
-      unwritten = k.output;
+      unfed = k.line_end.unfed;
+      deframer = k.line_end.deframer;
+      unwritten = k.line_end.unwritten;
       unplaced = k.waiting.outcomes;
       unannounced = k.waiting.lines;
-      faulty = k.faulty;
+      faulty = k.line_end.failed;
       course = k.course;
       delays = k.delays;
     } };
 
-    ghost invariant = { λ k. k.core.station.n1 ≡ k.deframer.n1 };
-}
-
-/// Room for the octets that come and go, and for what waits.
-fn make_room(alloc: Global) -> Result<(ReadBuffer, WriteBuffer, Waiting), AllocError>
-    ensures octets { IfOk result (λ room. (room.0 ≡ []) × (room.1 ≡ [])) }
-    ensures waiting { IfOk result (λ room. (room.2.outcomes ≡ []) × (room.2.lines ≡ [])) }
-{
-    let input = ReadBuffer::new(alloc)?;
-    let output = WriteBuffer::new(alloc)?;
-    let waiting = Waiting::new(alloc)?;
-    Ok((input, output, waiting))
+    ghost invariant = { λ k. k.core.station.n1 ≡ k.line_end.deframer.n1 };
 }
 
 impl Machine {
@@ -117,18 +101,15 @@ impl Machine {
             Err(CoreError::BadN1) => return Err(SessionError::BadN1),
             Err(_) => return Err(SessionError::NoMemory),
         };
-        let Ok(deframer) = Deframer::new(alloc, n1) else {
+        let Ok(line_end) = LineEnd::new(alloc, n1) else {
             return Err(SessionError::NoMemory);
         };
-        let (input, output, waiting) = make_room(alloc)?;
+        let waiting = Waiting::new(alloc)?;
         Ok(Machine {
             core,
             aside: None,
-            input,
-            deframer,
-            output,
+            line_end,
             waiting,
-            faulty: false,
             course: Course::GoesOn,
             delays: [None; Dlci::COUNT],
         })
@@ -169,11 +150,7 @@ impl Machine {
         ensures err { OnErr result (self.new ≡ self.old) }
         ensures no_memory { OnErr result (result ≡ Err fault.NoMemory) }
     {
-        let Ok(acts) = self.core.lost() else {
-            return Err(SessionFault::NoMemory);
-        };
-        self.waiting.keep(acts);
-        Ok(())
+        self.lose_line()
     }
 
     /// The requests in hand, and then the one kept aside; the outcomes and the lines that wait. There

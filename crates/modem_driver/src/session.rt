@@ -136,7 +136,7 @@ impl<L: SerialLine, R: Wait + Drop> Session<L, R> {
     pub fn unwritten(&self) -> &[u8]
         ensures { result.now ≡ self.now.machine.unwritten }
     {
-        self.machine.output.as_slice()
+        self.machine.line_end.unwritten()
     }
 
     /// The line, lent. The session fits afterwards what it fitted before where what was done through

@@ -12,7 +12,7 @@ impl Machine {
         if moved {
             return Turn::Moved;
         }
-        if !self.output.is_empty() {
+        if !self.line_end.is_written() {
             return Turn::WriterFull;
         }
         if let Some(caller) = self.waiting.least_caller() {

@@ -94,7 +94,7 @@ impl Machine {
     {
         self.course.is_stopped()
             && !self.core.lost
-            && self.output.is_empty()
+            && self.line_end.is_written()
             && self.core.station.queue_len() == 0
             && self.waiting.count() == 0
     }

@@ -15,18 +15,12 @@ impl Machine {
             (line_by L.received L.sent L.calls L.failures L.empty_reads L.stalled_writes line.new) self.old self.new result }
         ensures beyond { L.other_side line.new ≡ L.other_side line.old }
     {
-        if self.output.is_empty() {
+        if self.line_end.is_written() {
             return false;
         }
-        match line.try_write(self.output.as_slice()) {
-            Ok(count) => {
-                self.output.pass(count);
-                count > 0
-            }
-            Err(_fault) => {
-                self.faulty = true;
-                false
-            }
+        match self.line_end.write(line) {
+            Ok(count) => count > 0,
+            Err(_fault) => false,
         }
     }
 
@@ -35,9 +29,7 @@ impl Machine {
     pub(crate) fn feed(&mut self) -> usize
         ensures { Feeds self.old self.new result }
     {
-        let count = self.deframer.feed(self.input.as_slice());
-        self.input.pass(count);
-        count
+        self.line_end.feed()
     }
 
     /// Reads from the line, once, where all octets were given to the deframer; and gives it those that
@@ -47,19 +39,16 @@ impl Machine {
             (line_by L.received L.sent L.calls L.failures L.empty_reads L.stalled_writes line.new) self.old self.new result }
         ensures beyond { L.other_side line.new ≡ L.other_side line.old }
     {
-        if !self.input.is_empty() {
+        if !self.line_end.is_fed() {
             return self.feed() > 0;
         }
-        match self.input.read(line) {
+        match self.line_end.read(line) {
             Ok(0) => false,
             Ok(_count) => {
                 self.feed();
                 true
             }
-            Err(_fault) => {
-                self.faulty = true;
-                false
-            }
+            Err(_fault) => false,
         }
     }
 }

@@ -22,7 +22,7 @@ impl Machine {
         ensures at_hand { OnErr result (self.old.deframer.next ≢ None) }
         ensures no_memory { OnErr result (result ≡ Err fault.NoMemory) }
     {
-        let Some(frame) = self.deframer.peek() else {
+        let Some(frame) = self.line_end.peek() else {
             return Ok(false);
         };
         let Ok(()) = self.waiting.make_room(frame.info.len()) else {
@@ -33,7 +33,7 @@ impl Machine {
             Ok(acts) => {
                 self.course.note(stop, acts.as_slice());
                 self.waiting.keep(acts);
-                self.deframer.advance();
+                self.line_end.advance();
                 Ok(true)
             }
             Err(CoreError::NoRoom) => Ok(false),

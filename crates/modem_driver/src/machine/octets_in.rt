@@ -29,7 +29,7 @@ impl Machine {
         ensures value { result ≡ is_some self.old.deframer.next }
         ensures same { self.new ≡ self.old }
     {
-        self.deframer.peek().is_some()
+        self.line_end.peek().is_some()
     }
 
     /// Gives the deframer as many of the first of these octets as it takes, and says how many. The
@@ -42,7 +42,7 @@ impl Machine {
         ensures aside { self.new.aside ≡ self.old.aside }
         ensures few { result ≤ length octets.now }
     {
-        self.deframer.feed(octets)
+        self.line_end.feed_from(octets)
     }
 
     /// Handles the frames at hand, takes octets in, as many of the first as there is room for, and goes

@@ -36,8 +36,8 @@ impl Machine {
         ensures aside { self.new.aside ≡ self.old.aside }
         ensures same { length room.new ≡ length room.old }
     {
-        let count = copy_to(self.output.as_slice(), room, place);
-        self.output.pass(count);
+        let count = copy_to(self.line_end.unwritten(), room, place);
+        self.line_end.pass(count);
         count
     }
 
@@ -56,7 +56,7 @@ impl Machine {
         let mut count = 0;
         while count < room.len() {
             self.send_on();
-            if self.output.is_empty() {
+            if self.line_end.is_written() {
                 return count;
             }
             count += self.copy_out(room, count);

@@ -14,13 +14,13 @@ impl Machine {
         ensures aside { self.new.aside ≡ self.old.aside }
         ensures next { self.new.deframer ≡ self.old.deframer }
     {
-        if !self.output.is_empty() {
+        if !self.line_end.is_written() {
             return false;
         }
         let Some(outgoing) = self.core.outgoing() else {
             return false;
         };
-        self.output.put(outgoing.frame);
+        self.line_end.put(outgoing.frame);
         outgoing.fresh
     }
 }

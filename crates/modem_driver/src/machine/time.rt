@@ -33,12 +33,11 @@ impl Machine {
         ensures err { OnErr result (self.new ≡ self.old) }
         ensures no_memory { OnErr result (result ≡ Err fault.NoMemory) }
     {
-        let faulty = self.faulty;
-        self.faulty = true;
-        let Ok(()) = self.lose() else {
-            self.faulty = faulty;
+        let Ok(acts) = self.core.lost() else {
             return Err(SessionFault::NoMemory);
         };
+        self.line_end.fail();
+        self.waiting.keep(acts);
         Ok(())
     }
 }

@@ -39,7 +39,7 @@ impl<L: SerialLine, R: Wait + Drop> Session<L, R> {
     fn is_faulty(&self) -> bool
         ensures { result ≡ self.now.machine.faulty }
     {
-        self.machine.faulty
+        self.machine.line_end.has_failed()
     }
 
     /// What a turn answers.

@@ -10,6 +10,7 @@ use Rattle.modem_driver.specs.Holding.{Flows, HasNoRoom, NeverDue, due_in}
 use Rattle.modem_driver.specs.BacklogChecks.{ChecksOne}
 use Rattle.modem_driver.specs.SessionStates.{Machine}
 use Rattle.modem_driver.proofs.sessions.OneBacklog.{checks_one, checks_never, checks_full}
+use Rattle.modem_driver.proofs.sessions.MachineParts.{machine_of}
 use Rattle.modem_driver.proofs.machine.Machine.check_backlog.Goals as goal
 use Rattle.modem_driver.proofs.machine.Machine.check_backlog.Goals.{in-Ok, in-Err-NoRoom, in-Err}
 
@@ -23,18 +24,7 @@ pub returns-clause-checks : goal.returns-clause-checks
 returns-clause-checks c =
     let k = c.self.inside in
     let d = c.args.dlci.number in
-    let old : Machine = record {
-      core = k.core;
-      aside = k.aside;
-      unfed = k.input;
-      deframer = k.deframer;
-      unwritten = k.output;
-      unplaced = k.waiting.outcomes;
-      unannounced = k.waiting.lines;
-      faulty = k.faulty;
-      course = k.course;
-      delays = k.delays;
-    } in
+    let old : Machine = machine_of k in
     let new : Machine = record old { core = c.backlog.new.self } in
     let lines = c.backlog-lines.ensures in
     elim c.match-backlog.branch [

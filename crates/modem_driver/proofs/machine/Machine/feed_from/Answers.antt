@@ -1,27 +1,21 @@
 -- What was fed came from the line.
 use Rattle.std.proofs.Common.{◌≡◌, ap, sym, ◌∙◌, subst, take, ℕ, List, []}
+use Rattle.line_end.specs.LineEnds.{LineEnd}
 use Rattle.modem_driver.specs.SessionStates.{Machine}
 use Rattle.modem_driver.specs.EndpointSteps.{FeedsFrom}
 use Rattle.modem_driver.proofs.endpoints.TakenOctets.{feeds}
+use Rattle.modem_driver.proofs.sessions.MachineParts.{at_end, machine_of}
 use Rattle.modem_driver.proofs.machine.Machine.feed_from.Goals as goal
 
 pub returns-clause-feeds : goal.returns-clause-feeds
 returns-clause-feeds c =
     let k = c.self.inside in
-    let old : Machine = record {
-      core = k.core;
-      aside = k.aside;
-      unfed = k.input;
-      deframer = k.deframer;
-      unwritten = k.output;
-      unplaced = k.waiting.outcomes;
-      unannounced = k.waiting.lines;
-      faulty = k.faulty;
-      course = k.course;
-      delays = k.delays;
-    } in
-    let octets = take c.feed.result c.args.octets.now in
-    let none : k.input ≡ [] = ap (λ (v : Machine). v.unfed) c.self.view_is ∙ c.requires in
-    subst (λ (v : Machine). FeedsFrom v (record old { deframer = c.feed.new.self }) octets) c.self.view_is
-    (subst (λ (xs : List ℕ). FeedsFrom old (record old { unfed = xs; deframer = c.feed.new.self }) octets) (sym none)
-    (feeds old c.feed.new.self octets none c.feed.ensures.past c.feed.ensures.n1))
+    let old : Machine = machine_of k in
+    let octets = take c.feed_from.result c.args.octets.now in
+    let none : old.unfed ≡ [] = ap (λ (v : Machine). v.unfed) c.self.view_is ∙ c.requires in
+    let e = c.feed_from.ensures in
+    let fed = c.feed_from.new.self.deframer in
+    subst (λ (v : Machine). FeedsFrom v (at_end old c.feed_from.new.self) octets) c.self.view_is
+    (subst (λ (l : LineEnd). FeedsFrom old (at_end old l) octets) (sym e.rest)
+    (subst (λ (xs : List ℕ). FeedsFrom old (record old { unfed = xs; deframer = fed }) octets) (sym none)
+    (feeds old fed octets none e.past e.n1)))

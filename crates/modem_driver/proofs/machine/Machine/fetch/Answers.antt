@@ -7,6 +7,7 @@ use Rattle.modem_driver.specs.SessionStates.{Machine, AreFormed}
 use Rattle.modem_driver.specs.TurnSteps.{turn_state}
 use Rattle.modem_driver.specs.TurnTakes.{Fetches}
 use Rattle.modem_driver.proofs.sessions.NextRequest.{fetches, fetches_none, gives, is_none}
+use Rattle.modem_driver.proofs.sessions.MachineParts.{machine_of}
 use Rattle.modem_driver.proofs.machine.Machine.fetch.Goals as goal
 
 pub returns-then-is_some : goal.returns-then-is_some
@@ -37,18 +38,7 @@ returns-in_default g c =
     let room = c.if-count-hand_left.false in
     let none = is_none c.self.inside.aside (sym c.is_some.ensures ∙ c.if-is_some.false) in
     let k = c.self.inside in
-    let old : Machine = record {
-      core = k.core;
-      aside = k.aside;
-      unfed = k.input;
-      deframer = k.deframer;
-      unwritten = k.output;
-      unplaced = k.waiting.outcomes;
-      unannounced = k.waiting.lines;
-      faulty = k.faulty;
-      course = k.course;
-      delays = k.delays;
-    } in
+    let old : Machine = machine_of k in
     let formed : AreFormed (option_to_list c.next.result) = subst (λ (o : Option Request). AreFormed (option_to_list o)) (sym c.in_default.is) tt in
     let all = gives d c.next.new.self c.next.result h.desk.0 h.desk.1 h.desk.2 (h.desk.3, h.desk.4) (h.desk.5, h.desk.6) h.found h.numbered h.taken formed in
     subst (λ (v : Machine). (l : LineView) → Fetches (turn_state l d v) (turn_state l c.next.new.self v)) c.self.view_is
@@ -64,18 +54,7 @@ returns g c =
     let room = c.if-count-hand_left.false in
     let none = is_none c.self.inside.aside (sym c.is_some.ensures ∙ c.if-is_some.false) in
     let k = c.self.inside in
-    let old : Machine = record {
-      core = k.core;
-      aside = k.aside;
-      unfed = k.input;
-      deframer = k.deframer;
-      unwritten = k.output;
-      unplaced = k.waiting.outcomes;
-      unannounced = k.waiting.lines;
-      faulty = k.faulty;
-      course = k.course;
-      delays = k.delays;
-    } in
+    let old : Machine = machine_of k in
     let formed : AreFormed (option_to_list c.next.result) = subst (λ (o : Option Request). AreFormed (option_to_list o)) (sym c.in-Some.is) (c.know_form.ensures, tt) in
     let all = gives d c.next.new.self c.next.result h.desk.0 h.desk.1 h.desk.2 (h.desk.3, h.desk.4) (h.desk.5, h.desk.6) h.found h.numbered h.taken formed in
     subst (λ (v : Machine). (l : LineView) → Fetches (turn_state l d v) (turn_state l c.next.new.self (record old { aside = Some c.in-Some.request }))) c.self.view_is

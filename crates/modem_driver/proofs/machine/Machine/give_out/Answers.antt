@@ -5,8 +5,8 @@ use Rattle.modem_driver.proofs.endpoints.GivenOctets.{is_drained}
 use Rattle.modem_driver.proofs.sessions.NextFrame.{none_wait}
 use Rattle.modem_driver.proofs.machine.Machine.give_out.Goals as goal
 
-pub returns-then-is_empty-clause-drained : goal.returns-then-is_empty-clause-drained
-returns-then-is_empty-clause-drained c more =
-    let written : c.self.inside.output ≡ [] = none_wait c.self.inside.output (sym c.is_empty.ensures ∙ c.if-is_empty.true) in
+pub returns-then-is_written-clause-drained : goal.returns-then-is_written-clause-drained
+returns-then-is_written-clause-drained c more =
+    let written : c.self.inside.line_end.unwritten ≡ [] = none_wait c.self.inside.line_end.unwritten (sym c.is_written.ensures ∙ c.if-is_written.true) in
     is_drained c.loop-count.self c.send_on.new.self c.send_on.result c.send_on.ensures.sends
     (subst (λ (v : Machine). v.unwritten ≡ []) c.self.view_is written)

@@ -7,23 +7,13 @@ use Rattle.modem_driver.specs.Placing.{Placed, caller_of, place_of, IsRingOf, Is
 use Rattle.modem_driver.specs.SessionStates.{Machine}
 use Rattle.modem_driver.specs.TurnSteps.{Places, turn_state}
 use Rattle.modem_driver.proofs.sessions.DeskOffers.{places}
+use Rattle.modem_driver.proofs.sessions.MachineParts.{machine_of}
 use Rattle.modem_driver.proofs.machine.Machine.place.Goals as goal
 
 pub returns : goal.returns
 returns c =
     let k = c.self.inside in
-    let old : Machine = record {
-      core = k.core;
-      aside = k.aside;
-      unfed = k.input;
-      deframer = k.deframer;
-      unwritten = k.output;
-      unplaced = k.waiting.outcomes;
-      unannounced = k.waiting.lines;
-      faulty = k.faulty;
-      course = k.course;
-      delays = k.delays;
-    } in
+    let old : Machine = machine_of k in
     let d = c.args.driver.now in
     let m = c.place_outcomes-told.new.driver in
     let e = c.place_lines-announced.new.driver in

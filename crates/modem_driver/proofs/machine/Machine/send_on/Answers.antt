@@ -1,47 +1,27 @@
 -- What goes out is written, or nothing goes out.
 use Rattle.std.proofs.Common.{◌≡◌, sym, ◌∙◌, subst, [], false}
 use Rattle.std.specs.Prelude.{◌≢◌}
+use Rattle.line_end.specs.LineEnds.{LineEnd}
 use Rattle.mux_station.specs.GivenFrames.{outgoing_of}
 use Rattle.modem_driver.specs.Cores.{Core}
 use Rattle.modem_driver.specs.SessionStates.{Machine}
 use Rattle.modem_driver.specs.SendingSteps.{MachineSends}
 use Rattle.modem_driver.proofs.sessions.NextFrame.{send_goes, send_busy, send_none, some_wait, none_wait}
+use Rattle.modem_driver.proofs.sessions.MachineParts.{at_end, machine_of}
 use Rattle.modem_driver.proofs.machine.Machine.send_on.Goals as goal
 
-pub returns-then-not-is_empty-clause-sends : goal.returns-then-not-is_empty-clause-sends
-returns-then-not-is_empty-clause-sends c =
+pub returns-then-not-is_written-clause-sends : goal.returns-then-not-is_written-clause-sends
+returns-then-not-is_written-clause-sends c =
     let k = c.self.inside in
-    let old : Machine = record {
-      core = k.core;
-      aside = k.aside;
-      unfed = k.input;
-      deframer = k.deframer;
-      unwritten = k.output;
-      unplaced = k.waiting.outcomes;
-      unannounced = k.waiting.lines;
-      faulty = k.faulty;
-      course = k.course;
-      delays = k.delays;
-    } in
-    let some : old.unwritten ≢ [] = some_wait k.output (sym c.is_empty.ensures ∙ c.if-not-is_empty.true) in
+    let old : Machine = machine_of k in
+    let some : old.unwritten ≢ [] = some_wait k.line_end.unwritten (sym c.is_written.ensures ∙ c.if-not-is_written.true) in
     subst (λ (v : Machine). MachineSends v v false) c.self.view_is (send_busy old some)
 
 pub returns-in_default-clause-sends : goal.returns-in_default-clause-sends
 returns-in_default-clause-sends c =
     let k = c.self.inside in
-    let old : Machine = record {
-      core = k.core;
-      aside = k.aside;
-      unfed = k.input;
-      deframer = k.deframer;
-      unwritten = k.output;
-      unplaced = k.waiting.outcomes;
-      unannounced = k.waiting.lines;
-      faulty = k.faulty;
-      course = k.course;
-      delays = k.delays;
-    } in
-    let none : old.unwritten ≡ [] = none_wait k.output (sym c.is_empty.ensures ∙ c.if-not-is_empty.false) in
+    let old : Machine = machine_of k in
+    let none : old.unwritten ≡ [] = none_wait k.line_end.unwritten (sym c.is_written.ensures ∙ c.if-not-is_written.false) in
     let e = c.in_default.ensures in
     subst (λ (v : Machine). MachineSends v (record old { core = c.outgoing.follows.lender-at-none }) false) c.self.view_is
     (send_none old c.outgoing.follows.lender-at-none (c.outgoing.follows.holds-at-none ∙ e.still) e.frame e.idle none)
@@ -49,21 +29,13 @@ returns-in_default-clause-sends c =
 pub returns-clause-sends : goal.returns-clause-sends
 returns-clause-sends c =
     let k = c.self.inside in
-    let old : Machine = record {
-      core = k.core;
-      aside = k.aside;
-      unfed = k.input;
-      deframer = k.deframer;
-      unwritten = k.output;
-      unplaced = k.waiting.outcomes;
-      unannounced = k.waiting.lines;
-      faulty = k.faulty;
-      course = k.course;
-      delays = k.delays;
-    } in
-    let none : old.unwritten ≡ [] = none_wait k.output (sym c.is_empty.ensures ∙ c.if-not-is_empty.false) in
+    let old : Machine = machine_of k in
+    let none : old.unwritten ≡ [] = none_wait k.line_end.unwritten (sym c.is_written.ensures ∙ c.if-not-is_written.false) in
     let e = c.in-Some.ensures in
-    let out = c.put.new.self in
-    subst (λ (v : Machine). MachineSends v (record old { core = c.outgoing.follows.lender-at-none; unwritten = out }) c.in-Some.outgoing.fresh) c.self.view_is
+    let out = c.put.new.self.unwritten in
+    let lent = c.outgoing.follows.lender-at-none in
+    let new : LineEnd → Machine = λ l. at_end (record old { core = lent }) l in
+    subst (λ (v : Machine). MachineSends v (new c.put.new.self) c.in-Some.outgoing.fresh) c.self.view_is
+    (subst (λ (l : LineEnd). MachineSends old (new l) c.in-Some.outgoing.fresh) (sym c.put.ensures.rest)
     (subst (λ (v : Core). MachineSends old (record old { core = v; unwritten = out }) c.in-Some.outgoing.fresh) (sym c.outgoing.follows.holds-at-none)
-    (send_goes old (outgoing_of c.in-Some.outgoing) out none e.short e.frame e.past e.holds c.put.ensures.some c.put.ensures.octets))
+    (send_goes old (outgoing_of c.in-Some.outgoing) out none e.short e.frame e.past e.holds c.put.ensures.some c.put.ensures.octets)))

@@ -6,23 +6,13 @@ use Rattle.modem_history.specs.Acts.{act_of}
 use Rattle.modem_driver.specs.SessionStates.{Machine}
 use Rattle.modem_driver.specs.TurnTakes.{TakesAside}
 use Rattle.modem_driver.proofs.sessions.RequestAside.{takes}
+use Rattle.modem_driver.proofs.sessions.MachineParts.{machine_of}
 use Rattle.modem_driver.proofs.machine.Machine.take_aside.Goals as goal
 
 pub returns-in-Ok-clause-takes : goal.returns-in-Ok-clause-takes
 returns-in-Ok-clause-takes c =
     let k = c.self.inside in
-    let old : Machine = record {
-      core = k.core;
-      aside = k.aside;
-      unfed = k.input;
-      deframer = k.deframer;
-      unwritten = k.output;
-      unplaced = k.waiting.outcomes;
-      unannounced = k.waiting.lines;
-      faulty = k.faulty;
-      course = k.course;
-      delays = k.delays;
-    } in
+    let old : Machine = machine_of k in
     let q = c.in-Some.request in
     let aside : k.aside ≡ Some q = sym c.take.ensures.value ∙ c.in-Some.is in
     let gone : c.take.new.self ≡ None = c.take.ensures.after in

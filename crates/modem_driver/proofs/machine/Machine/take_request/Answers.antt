@@ -6,24 +6,14 @@ use Rattle.modem_history.specs.Acts.{act_of}
 use Rattle.modem_driver.specs.SessionStates.{Machine}
 use Rattle.modem_driver.specs.TurnTakes.{TakesAside}
 use Rattle.modem_driver.proofs.sessions.RequestAside.{takes}
+use Rattle.modem_driver.proofs.sessions.MachineParts.{machine_of}
 use Rattle.modem_driver.proofs.machine.Machine.take_request.Goals as goal
 
 pub returns-in-Ok-clause-takes : goal.returns-in-Ok-clause-takes
 returns-in-Ok-clause-takes c =
     let k = c.self.inside in
     let q = c.args.request in
-    let old : Machine = record {
-      core = k.core;
-      aside = Some q;
-      unfed = k.input;
-      deframer = k.deframer;
-      unwritten = k.output;
-      unplaced = k.waiting.outcomes;
-      unannounced = k.waiting.lines;
-      faulty = k.faulty;
-      course = k.course;
-      delays = k.delays;
-    } in
+    let old : Machine = record (machine_of k) { aside = Some q } in
     let none : k.aside ≡ None = ap (λ (v : Machine). v.aside) c.self.view_is ∙ c.requires in
     let new : Option Request → Machine = λ o. record old { core = c.took.new.self; aside = o; unplaced = c.keep.new.self.outcomes; unannounced = c.keep.new.self.lines } in
     subst (λ (v : Machine). TakesAside (record v { aside = Some q }) (new k.aside)) c.self.view_is

@@ -9,23 +9,13 @@ use Rattle.modem_driver.specs.SessionStates.{Machine, MachineTicks}
 use Rattle.modem_driver.specs.WaitingTicks.{CountsTick}
 use Rattle.modem_driver.proofs.sessions.StopProgress.{noted}
 use Rattle.modem_driver.proofs.sessions.StartAndTick.{tick_goes}
+use Rattle.modem_driver.proofs.sessions.MachineParts.{machine_of}
 use Rattle.modem_driver.proofs.machine.Machine.tick.Goals as goal
 
 pub returns-clause-ticks : goal.returns-clause-ticks
 returns-clause-ticks c =
     let k = c.self.inside in
-    let old : Machine = record {
-      core = k.core;
-      aside = k.aside;
-      unfed = k.input;
-      deframer = k.deframer;
-      unwritten = k.output;
-      unplaced = k.waiting.outcomes;
-      unannounced = k.waiting.lines;
-      faulty = k.faulty;
-      course = k.course;
-      delays = k.delays;
-    } in
+    let old : Machine = machine_of k in
     let live : k.core.lost ≡ false = sym (ap (λ (v : Inside). v.core.lost) c.self-inside.view_is) ∙ c.if-self.false in
     let stop = option_map asker_of (find is_stop k.core.hand) in
     let course : c.note.new.self ≡ course_after k.course (is_answered stop (map act_of c.in-Ok.acts.items)) = noted k.course c.note.new.self c.stop-stop.result stop c.as_slice.result.now c.in-Ok.acts.items c.note.ensures c.stop-stop.ensures c.as_slice.ensures.value in
