@@ -2,6 +2,7 @@ pub mod Contexts
 pub mod Reading
 pub mod CommandLines
 pub mod Words
+pub mod SettingTexts
 pub mod Steps
 pub mod Meanings
 pub mod Laws

@@ -1,7 +1,7 @@
 -- The modem, by three tables (what a command is refused with, the state after it, what it tells), which the
 -- law that an answer is read back shares: what it answers to a command line, and its state afterwards
 -- (V.250, 5.2 and 5.7; 27.007, 7.2, 7.3, 8.3, 8.5, 9.1, 9.2, 10.1.1, 10.1.9).
-use Rattle.std.specs.Prelude.{ℕ, ◌-◌, ◌==◌, nat_lt, Bool, true, false, List, [], ◌∷◌, ◌++◌, map, fold, Option, Some, None, unwrap_or, if◌then◌else◌, codes}
+use Rattle.std.specs.Prelude.{ℕ, ◌-◌, ◌==◌, ◌||◌, nat_lt, Bool, true, false, List, [], ◌∷◌, ◌++◌, map, filter, fold, Option, Some, None, is_some, unwrap_or, if◌then◌else◌, codes}
 use Rattle.std.specs.Fmt.{decimal}
 use Rattle.std.specs.Str.{bytes_eq}
 use Rattle.at_text.specs.declared.answer.AnswerLine.{AnswerLine}
@@ -19,12 +19,14 @@ use Rattle.modem_sim.specs.declared.state.Lock.{Lock}
 use Rattle.modem_sim.specs.declared.state.Lock.TheVariants.{Ready, NeedPin, NeedPuk}
 use Rattle.modem_sim.specs.declared.state.ModemState.{ModemState}
 use Rattle.modem_sim.specs.declared.state.Words.{Words}
+use Rattle.modem_sim.specs.declared.words.Charset.TheVariants.{Ira}
 use Rattle.modem_sim.specs.declared.words.Domain.{Domain}
 use Rattle.modem_sim.specs.declared.words.Domain.TheVariants.{Packet, Evolved}
 use Rattle.modem_sim.specs.declared.words.Word.{Word}
-use Rattle.modem_sim.specs.declared.words.Word.TheVariants.{Reset, Echo, Identity, Manufacturer, Product, Revision, Serial, Subscriber, Capabilities, Functionality, FunctionalityQuery, FunctionalityForms, RegForms, Report, ReportQuery, ReportForms, OperFormat}
+use Rattle.modem_sim.specs.declared.words.Word.TheVariants.{Reset, Echo, Identity, Manufacturer, Product, Revision, Serial, Subscriber, Capabilities, Functionality, FunctionalityQuery, FunctionalityForms, RegForms, Report, ReportQuery, ReportForms, OperFormat, ContextForms, Activate, ActivityQuery, ActivityForms, Addresses, SetCharset, CharsetQuery, CharsetForms, LockForms, LockQuery, Unlock}
 use Rattle.modem_sim.specs.CommandLines.{commands_in}
-use Rattle.modem_sim.specs.Contexts.{with_context}
+use Rattle.modem_sim.specs.Contexts.{active_after, is_defined, names, with_context}
+use Rattle.modem_sim.specs.SettingTexts.{activity_text, address_text, charset_text, context_forms, lock_text, named_oper_text}
 use Rattle.modem_sim.specs.Reading.{is_attention, command_of}
 use Rattle.modem_sim.specs.Words.{word_of}
 
@@ -44,23 +46,28 @@ started start = record {
   attached = false;
   rssi = start.rssi;
   ber = start.ber;
+  active = [];
   words = None;
 }
 
--- what a modem with words starts with: the functions are all on, reports off, the operator is told by its number
-abbrev pub first_words : Bool → Words
-first_words echo = record {
+-- what a modem with words starts with: the functions are all on, reports off, the operator is told by its number, in IRA; a PUK
+-- may be tried ten times
+abbrev pub first_words : Bool → Bool → Words
+first_words echo has_pin = record {
   echo = echo;
   first_echo = echo;
   functionality = 1;
   packet_reports = 0;
   evolved_reports = 0;
   oper_format = 2;
+  charset = Ira;
+  has_pin = has_pin;
+  puk_tries = 10;
 }
 
 -- a modem with words as it starts: as one without, and its commands are repeated or not
 abbrev pub started_with_words : ModemStart → Bool → ModemState
-started_with_words start echo = record (started start) { words = Some (first_words echo) }
+started_with_words start echo = record (started start) { words = Some (first_words echo (is_some start.pin)) }
 
 -- what commands that need the SIM are refused with before it is ready (27.007, 9.2.1): 11 SIM PIN required,
 -- 12 SIM PUK required
@@ -220,22 +227,7 @@ standard_step s line =
     if is_attention line then record { state = s; answer = good_answer [] }
     else step_by s (command_of line)
 
--- ## The second table (V.250, 6.1, 6.2; 27.007, 5, 7.2, 7.3, 8.2, 10.1.20, 10.1.22)
-
--- the operator by its name (0), its short name (1) or its number (2) (27.007, 7.3)
-abbrev pub oper_name : ℕ → List ℕ → List ℕ
-oper_name format number =
-    if format == 0 then codes "Network " ++ number
-    else if format == 1 then codes "N" ++ number
-    else number
-
--- the operator in the form that was asked for: how it was chosen, and its name
-abbrev pub named_oper_text : ℕ → OperChoice → List ℕ
-named_oper_text format Automatic =
-    codes "+COPS: 0," ++ decimal format ++ codes "," ++ in_quotes (oper_name format (codes "00101")) ++ codes ",7"
-named_oper_text format (Manual oper) =
-    codes "+COPS: 1," ++ decimal format ++ codes "," ++ in_quotes (oper_name format oper) ++ codes ",7"
-named_oper_text format Deregister = codes "+COPS: 2"
+-- ## The second table (V.250, 6.1, 6.2; 27.007, 5, 7.2, 7.3, 7.4, 8.2, 8.3, 10.1.1, 10.1.10, 10.1.14, 10.1.20, 10.1.22)
 
 -- what a command of the first table is told before OK: with words the operator in the form that was asked for
 abbrev pub told_as : Option Words → ModemState → Command → List (List ℕ)
@@ -266,10 +258,56 @@ abbrev pub with_reports : Words → Domain → ℕ → Words
 with_reports w Packet n = record w { packet_reports = n }
 with_reports w Evolved n = record w { evolved_reports = n }
 
--- the number of the error that a command of the second table is refused with: the number of the subscriber is in the SIM
-abbrev pub word_refusal : ModemState → Word → Option ℕ
-word_refusal s Subscriber = lock_error s.lock
-word_refusal s _ = None
+-- what a command for contexts is refused with: before the SIM is ready that, then 3 operation not allowed where the context isn't
+-- defined
+abbrev pub context_error : Option ℕ → Bool → Option ℕ
+context_error (Some number) defined = Some number
+context_error None true = None
+context_error None false = Some 3
+
+-- what a PUK that is wanted is refused with: 16 incorrect password, and 13 SIM failure where ten in a row were wrong
+abbrev pub puk_error : ℕ → Bool → Option ℕ
+puk_error tries right = if tries == 0 then Some 13 else if right then None else Some 16
+
+-- what a PUK is refused with where none is wanted: 3 operation not allowed, 11 SIM PIN required
+abbrev pub unlock_error : Lock → ℕ → Bool → Option ℕ
+unlock_error Ready tries right = Some 3
+unlock_error (NeedPin pin left) tries right = Some 11
+unlock_error NeedPuk tries right = puk_error tries right
+
+-- the number of the error that a command of the second table is refused with: the number of the subscriber is in the SIM; to
+-- activate a context the modem attaches
+abbrev pub word_refusal : Words → ModemState → Word → Option ℕ
+word_refusal w s Subscriber = lock_error s.lock
+word_refusal w s (Activate true which) =
+    attach_error (context_error (lock_error s.lock) (is_defined which s.contexts)) (is_registered s.lock s.oper)
+word_refusal w s (Activate false which) = context_error (lock_error s.lock) (is_defined which s.contexts)
+word_refusal w s ActivityQuery = lock_error s.lock
+word_refusal w s (Addresses which) = context_error (lock_error s.lock) (is_defined which s.contexts)
+word_refusal w s (Unlock right) = unlock_error s.lock w.puk_tries right
+word_refusal w s _ = None
+
+-- a wrong PUK costs a try
+abbrev pub after_wrong_puk : Lock → Words → ModemState → ModemState
+after_wrong_puk NeedPuk w s = record s { words = Some (record w { puk_tries = w.puk_tries - 1 }) }
+after_wrong_puk lock w s = s
+
+-- the state after a command of the second table that was refused
+abbrev pub after_word_refusal : Words → ModemState → Word → ModemState
+after_word_refusal w s (Unlock right) = after_wrong_puk s.lock w s
+after_word_refusal w s _ = s
+
+-- what a command for contexts, characters or locks is told before OK
+abbrev pub setting_told : Words → ModemState → Word → List (List ℕ)
+setting_told w s ContextForms = context_forms
+setting_told w s ActivityForms = codes "+CGACT: (0,1)" ∷ []
+setting_told w s ActivityQuery = map (activity_text s.active) s.contexts
+setting_told w s (Addresses which) = map (address_text s.active) (filter (names which) s.contexts)
+setting_told w s CharsetForms = codes "+CSCS: (\"GSM\",\"IRA\")" ∷ []
+setting_told w s CharsetQuery = charset_text w.charset ∷ []
+setting_told w s LockForms = codes "+CLCK: (\"SC\")" ∷ []
+setting_told w s LockQuery = lock_text w.has_pin ∷ []
+setting_told w s _ = []
 
 -- what a command of the second table is told before OK
 abbrev pub word_told : Words → ModemState → Word → List (List ℕ)
@@ -286,7 +324,11 @@ word_told w s RegForms = codes "+CREG: (0-2)" ∷ []
 word_told w s (ReportForms d) = (domain_name d ++ codes "(0-2)") ∷ []
 word_told w s (ReportQuery d) =
     registration_text d (reports_of w d) (is_registered s.lock s.oper) ∷ []
-word_told w s _ = []
+word_told w s x = setting_told w s x
+
+-- contexts are active while the modem is attached (27.007, 10.1.9)
+abbrev pub settled : ModemState → ModemState
+settled s = if s.attached then s else record s { active = [] }
 
 -- functions are switched: 1 all, where the modem looks for a network if it has none; 0 and 4 without radio, where it leaves its
 -- network (27.007, 8.2); what is set already changes nothing
@@ -294,19 +336,26 @@ abbrev pub switched : ℕ → Words → ModemState → ModemState
 switched n w s =
     if w.functionality == n then s
     else if n == 1 then record s { oper = Automatic; words = Some (record w { functionality = n }) }
-    else record s { oper = Deregister; attached = false; words = Some (record w { functionality = n }) }
+    else record s { oper = Deregister; attached = false; active = []; words = Some (record w { functionality = n }) }
+
+-- contexts become active, for which the modem attaches, or inactive (27.007, 10.1.10)
+abbrev pub activated : Bool → Option ℕ → ModemState → ModemState
+activated on which s = record s { attached = s.attached || on; active = active_after on which s.active s.contexts }
 
 -- the state after a command of the second table
 abbrev pub word_after : Words → ModemState → Word → ModemState
 word_after w s Reset = record s {
   reports = 0;
   errors = 0;
-  words = Some (record w { echo = w.first_echo; packet_reports = 0; evolved_reports = 0; oper_format = 2 });
+  words = Some (record w { echo = w.first_echo; packet_reports = 0; evolved_reports = 0; oper_format = 2; charset = Ira });
 }
 word_after w s (Echo on) = record s { words = Some (record w { echo = on }) }
 word_after w s (Functionality n) = switched n w s
 word_after w s (Report d n) = record s { words = Some (with_reports w d n) }
 word_after w s (OperFormat n) = record s { words = Some (record w { oper_format = n }) }
+word_after w s (Activate on which) = activated on which s
+word_after w s (SetCharset charset) = record s { words = Some (record w { charset = charset }) }
+word_after w s (Unlock right) = record s { lock = Ready; words = Some (record w { puk_tries = 10 }) }
 word_after w s _ = s
 
 -- what commands of one line came to: the state, the lines that were told, and the error that ended them, if one did
@@ -322,7 +371,7 @@ nothing_ran s = record { state = s; told = []; error = None }
 -- what a command of the first table comes to, refused or carried out
 abbrev pub ran_command : Option ℕ → Ran → Command → Ran
 ran_command None r c = record {
-  state = after_command r.state c;
+  state = settled (after_command r.state c);
   told = r.told ++ map line_of (told_as r.state.words r.state c);
   error = None;
 }
@@ -339,7 +388,11 @@ ran_word None w r x = record {
   told = r.told ++ map line_of (word_told w r.state x);
   error = None;
 }
-ran_word (Some number) w r x = record r { error = Some (error_text r.state.errors number) }
+ran_word (Some number) w r x = record {
+  state = after_word_refusal w r.state x;
+  told = r.told;
+  error = Some (error_text r.state.errors number);
+}
 
 -- a command of neither table
 abbrev pub ran_unknown : Ran → Ran
@@ -347,7 +400,7 @@ ran_unknown r = record r { error = Some (codes "ERROR") }
 
 -- what a command that isn't of the first table comes to
 abbrev pub ran_other : Option Words → Ran → Option Word → Ran
-ran_other (Some w) r (Some x) = ran_word (word_refusal r.state x) w r x
+ran_other (Some w) r (Some x) = ran_word (word_refusal w r.state x) w r x
 ran_other words r word = ran_unknown r
 
 -- a command by its text: of the first table, of the second, or of neither

@@ -1,13 +1,13 @@
 -- Laws of a modem with words.
-use Rattle.std.specs.Prelude.{◌≡◌, ℕ, true, List, ◌++◌, map, Some, None, is_some}
+use Rattle.std.specs.Prelude.{◌≡◌, ℕ, true, List, [], ◌++◌, map, Some, None, is_some}
 use Rattle.modem_sim.specs.declared.state.ModemState.{ModemState}
 use Rattle.modem_sim.specs.declared.state.Words.{Words}
 use Rattle.modem_sim.specs.Reading.{command_of}
 use Rattle.modem_sim.specs.Steps.{announced, line_of, step}
 
--- the same modem without words
+-- the same modem without words, and so without active contexts
 abbrev pub bare : ModemState → ModemState
-bare s = record s { words = None }
+bare s = record s { active = []; words = None }
 
 -- On a line that is a command of the first table, a modem with words that tells the operator by its number answers as one without
 -- them, announces a change of registration behind that, and is left as that one is.

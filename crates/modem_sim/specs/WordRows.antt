@@ -1,5 +1,5 @@
 -- Worked examples of a modem with words, by hand from V.250 and 27.007.
-use Rattle.std.specs.Prelude.{◌≡◌, true, false, [], ◌∷◌, ◌++◌, Some, None, codes}
+use Rattle.std.specs.Prelude.{◌≡◌, ℕ, true, false, List, [], ◌∷◌, ◌++◌, Some, None, codes}
 use Rattle.modem_sim.specs.CommandLines.{commands_in}
 use Rattle.modem_sim.specs.Pieces.{framed, pieces_octets, replies}
 use Rattle.modem_sim.specs.Rows.{answers_to, locked, ok, unlocked}
@@ -71,6 +71,115 @@ OperatorNamed =
     ∷ (codes "+COPS: 0,2,\"00101\",7" ∷ ok)
     ∷ ok
     ∷ []
+
+-- Contexts become active one by one or all: those that are defined alone, and the modem attaches for it. An address is told of each
+-- that is active. Where the modem is detached none is active.
+abbrev pub ContextsActivated : Type 0
+ContextsActivated =
+    answers_to (started_with_words unlocked false)
+    (codes "AT+CMEE=1" ∷ codes "AT+CGACT=1,1" ∷ codes "AT+CGDCONT=1,\"IP\",\"a\";+CGDCONT=2,\"IPV4V6\",\"b\"" ∷ codes "AT+CGACT?"
+    ∷ codes "AT+CGACT=1,2" ∷ codes "AT+CGACT?;+CGATT?" ∷ codes "AT+CGPADDR" ∷ codes "AT+CGACT=1" ∷ codes "AT+CGPADDR=1"
+    ∷ codes "AT+CGACT=0,2;+CGACT?" ∷ codes "AT+CGATT=0;+CGATT=1;+CGACT?" ∷ codes "AT+CGPADDR=3" ∷ codes "AT+CGACT=0,16" ∷ [])
+    ≡ ok
+    ∷ (codes "+CME ERROR: 3" ∷ [])
+    ∷ ok
+    ∷ (codes "+CGACT: 1,0" ∷ codes "+CGACT: 2,0" ∷ ok)
+    ∷ ok
+    ∷ (codes "+CGACT: 1,0" ∷ codes "+CGACT: 2,1" ∷ codes "+CGATT: 1" ∷ ok)
+    ∷ (codes "+CGPADDR: 1" ∷ codes "+CGPADDR: 2,\"192.0.2.2\",\"32.1.13.184.0.0.0.0.0.0.0.0.0.0.0.2\"" ∷ ok)
+    ∷ ok
+    ∷ (codes "+CGPADDR: 1,\"192.0.2.1\"" ∷ ok)
+    ∷ (codes "+CGACT: 1,1" ∷ codes "+CGACT: 2,0" ∷ ok)
+    ∷ (codes "+CGACT: 1,0" ∷ codes "+CGACT: 2,0" ∷ ok)
+    ∷ (codes "+CME ERROR: 3" ∷ [])
+    ∷ (codes "ERROR" ∷ [])
+    ∷ []
+
+-- before the SIM is ready, and without a network, none becomes active
+abbrev pub ContextsRefused : Type 0
+ContextsRefused =
+    answers_to (started_with_words locked false)
+    (codes "AT+CMEE=1" ∷ codes "AT+CGACT=1" ∷ codes "AT+CGACT?" ∷ codes "AT+CGPADDR" ∷ codes "AT+CPIN=\"1234\"" ∷ codes "AT+CFUN=4"
+    ∷ codes "AT+CGACT=1" ∷ codes "AT+CGACT=0" ∷ codes "AT+CGACT=?" ∷ [])
+    ≡ ok
+    ∷ (codes "+CME ERROR: 11" ∷ [])
+    ∷ (codes "+CME ERROR: 11" ∷ [])
+    ∷ (codes "+CME ERROR: 11" ∷ [])
+    ∷ ok
+    ∷ ok
+    ∷ (codes "+CME ERROR: 30" ∷ [])
+    ∷ ok
+    ∷ (codes "+CGACT: (0,1)" ∷ ok)
+    ∷ []
+
+-- three wrong PINs want the PUK, with which a new PIN is given; a PUK has eight digits
+abbrev pub PukEntered : Type 0
+PukEntered =
+    answers_to (started_with_words locked false)
+    (codes "AT+CMEE=1;+CREG=1" ∷ codes "AT+CPIN=\"12345678\",\"4321\"" ∷ codes "AT+CPIN=\"0000\"" ∷ codes "AT+CPIN=\"0000\""
+    ∷ codes "AT+CPIN=\"0000\"" ∷ codes "AT+CPIN?" ∷ codes "AT+CPIN=\"1234\"" ∷ codes "AT+CPIN=\"1234567\",\"4321\""
+    ∷ codes "AT+CPIN=\"12345678\",\"432\"" ∷ codes "AT+CPIN=\"87654321\",\"4321\"" ∷ codes "AT+CPIN=\"12345678\",\"4321\""
+    ∷ codes "AT+CPIN?" ∷ codes "AT+CPIN=\"12345678\",\"4321\"" ∷ [])
+    ≡ ok
+    ∷ (codes "+CME ERROR: 11" ∷ [])
+    ∷ (codes "+CME ERROR: 16" ∷ [])
+    ∷ (codes "+CME ERROR: 16" ∷ [])
+    ∷ (codes "+CME ERROR: 16" ∷ [])
+    ∷ (codes "+CPIN: SIM PUK" ∷ ok)
+    ∷ (codes "+CME ERROR: 12" ∷ [])
+    ∷ (codes "ERROR" ∷ [])
+    ∷ (codes "ERROR" ∷ [])
+    ∷ (codes "+CME ERROR: 16" ∷ [])
+    ∷ (codes "OK" ∷ codes "+CREG: 1" ∷ [])
+    ∷ (codes "+CPIN: READY" ∷ ok)
+    ∷ (codes "+CME ERROR: 3" ∷ [])
+    ∷ []
+
+-- five wrong PUKs, and what they are told
+abbrev pub five_wrong_puks : List (List ℕ)
+five_wrong_puks =
+    codes "AT+CPIN=\"00000000\",\"4321\"" ∷ codes "AT+CPIN=\"00000000\",\"4321\"" ∷ codes "AT+CPIN=\"00000000\",\"4321\""
+    ∷ codes "AT+CPIN=\"00000000\",\"4321\"" ∷ codes "AT+CPIN=\"00000000\",\"4321\"" ∷ []
+
+abbrev pub five_incorrect : List (List (List ℕ))
+five_incorrect =
+    (codes "+CME ERROR: 16" ∷ []) ∷ (codes "+CME ERROR: 16" ∷ []) ∷ (codes "+CME ERROR: 16" ∷ []) ∷ (codes "+CME ERROR: 16" ∷ [])
+    ∷ (codes "+CME ERROR: 16" ∷ []) ∷ []
+
+-- after ten wrong PUKs the SIM takes none
+abbrev pub TenWrongPuks : Type 0
+TenWrongPuks =
+    answers_to (started_with_words locked false)
+    (codes "AT+CMEE=1" ∷ codes "AT+CPIN=\"0000\"" ∷ codes "AT+CPIN=\"0000\"" ∷ codes "AT+CPIN=\"0000\""
+    ∷ five_wrong_puks ++ five_wrong_puks ++ codes "AT+CPIN=\"12345678\",\"4321\"" ∷ codes "AT+CPIN?" ∷ [])
+    ≡ ok
+    ∷ (codes "+CME ERROR: 16" ∷ [])
+    ∷ (codes "+CME ERROR: 16" ∷ [])
+    ∷ (codes "+CME ERROR: 16" ∷ [])
+    ∷ five_incorrect ++ five_incorrect ++ (codes "+CME ERROR: 13" ∷ []) ∷ (codes "+CPIN: SIM PUK" ∷ ok) ∷ []
+
+-- what clients ask of contexts, characters and locks
+abbrev pub ClientAsks : Type 0
+ClientAsks =
+    answers_to (started_with_words unlocked false)
+    (codes "AT+CGDCONT=?" ∷ codes "AT+CSCS=?;+CSCS?" ∷ codes "AT+CSCS=\"GSM\"" ∷ codes "AT+CSCS?" ∷ codes "ATZ+CSCS?"
+    ∷ codes "AT+CSCS=\"UCS2\"" ∷ codes "AT+CLCK=?" ∷ codes "AT+CLCK=\"SC\",2" ∷ [])
+    ≡ (codes "+CGDCONT: (1-15),\"IP\",,,(0),(0)" ∷ codes "+CGDCONT: (1-15),\"IPV6\",,,(0),(0)"
+    ∷ codes "+CGDCONT: (1-15),\"IPV4V6\",,,(0),(0)" ∷ ok)
+    ∷ (codes "+CSCS: (\"GSM\",\"IRA\")" ∷ codes "+CSCS: \"IRA\"" ∷ ok)
+    ∷ ok
+    ∷ (codes "+CSCS: \"GSM\"" ∷ ok)
+    ∷ (codes "+CSCS: \"IRA\"" ∷ ok)
+    ∷ (codes "ERROR" ∷ [])
+    ∷ (codes "+CLCK: (\"SC\")" ∷ ok)
+    ∷ (codes "+CLCK: 0" ∷ ok)
+    ∷ []
+
+-- a SIM with a PIN says so
+abbrev pub PinLocks : Type 0
+PinLocks =
+    answers_to (started_with_words locked false) (codes "AT+CLCK=\"SC\",2" ∷ codes "AT+CPIN=\"1234\";+CLCK=\"SC\",2" ∷ [])
+    ≡ (codes "+CLCK: 1" ∷ ok) ∷ (codes "+CLCK: 1" ∷ ok) ∷ []
 
 -- a command that turns repeating off is itself repeated
 abbrev pub EchoOff : Type 0

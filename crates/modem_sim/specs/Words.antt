@@ -1,8 +1,12 @@
--- The commands of the second table by their texts (V.250, 6.1.1 to 6.1.9, 6.2.4 to 6.2.6; 27.007, 5.1 to 5.4, 5.6, 7.2, 7.3, 8.2, 10.1.20, 10.1.22).
-use Rattle.std.specs.Prelude.{ℕ, ◌||◌, true, false, List, Option, Some, None, if◌then◌else◌, codes}
+-- The commands of the second table by their texts (V.250, 6.1.1 to 6.1.9, 6.2.4 to 6.2.6; 27.007, 5.1 to 5.6, 7.2 to 7.4, 8.2, 8.3, 10.1.1, 10.1.10, 10.1.14, 10.1.20, 10.1.22).
+use Rattle.std.specs.Prelude.{ℕ, ◌-◌, ◌||◌, ◌&&◌, Bool, true, false, List, length, take, drop, Option, Some, None, option_map, if◌then◌else◌, codes}
 use Rattle.std.specs.Str.{bytes_eq}
+use Rattle.at_text.specs.Octets.{is_digit}
+use Rattle.at_cmds.specs.Params.{◌>>=◌}
+use Rattle.at_cmds.specs.Forms.{is_cid, is_pin, is_run, numeral_in}
 use Rattle.modem_sim.specs.declared.words.Word.{Word}
-use Rattle.modem_sim.specs.declared.words.Word.TheVariants.{Reset, Echo, Usual, Identity, Manufacturer, Product, Revision, Serial, Subscriber, Capabilities, Functionality, FunctionalityQuery, FunctionalityForms, RegForms, Report, ReportQuery, ReportForms, OperFormat}
+use Rattle.modem_sim.specs.declared.words.Word.TheVariants.{Reset, Echo, Usual, Identity, Manufacturer, Product, Revision, Serial, Subscriber, Capabilities, Functionality, FunctionalityQuery, FunctionalityForms, RegForms, Report, ReportQuery, ReportForms, OperFormat, ContextForms, Activate, ActivityQuery, ActivityForms, Addresses, SetCharset, CharsetQuery, CharsetForms, LockForms, LockQuery, Unlock}
+use Rattle.modem_sim.specs.declared.words.Charset.TheVariants.{Gsm, Ira}
 use Rattle.modem_sim.specs.declared.words.Domain.TheVariants.{Packet, Evolved}
 use Rattle.modem_sim.specs.Reading.{lowered}
 
@@ -64,9 +68,77 @@ abbrev pub or_else : Option Word → Option Word → Option Word
 or_else (Some word) other = Some word
 or_else None other = other
 
+-- what stands behind a beginning, where a text has it
+abbrev pub behind : List ℕ → List ℕ → Option (List ℕ)
+behind start text = if bytes_eq (take (length start) text) start then Some (drop (length start) text) else None
+
+-- what stands before an end, where a text has it
+abbrev pub before : List ℕ → List ℕ → Option (List ℕ)
+before end text =
+    if bytes_eq (drop (length text - length end) text) end then Some (take (length text - length end) text) else None
+
+-- the number of a context: 1 to 15, without leading zeros (27.007, 10.1.1)
+abbrev pub cid_in : List ℕ → Option ℕ
+cid_in text = do
+  n ← numeral_in text
+  if is_cid n then Some n else None
+
+-- the number of a context behind this beginning
+abbrev pub cid_behind : List ℕ → List ℕ → Option ℕ
+cid_behind start text = do
+  value ← behind start text
+  cid_in value
+
+-- commands for one packet context, by its number (27.007, 10.1.10, 10.1.14)
+abbrev pub numbered_word : List ℕ → Option Word
+numbered_word t =
+    or_else (option_map (λ n. Activate false (Some n)) (cid_behind (codes "at+cgact=0,") t))
+    (or_else (option_map (λ n. Activate true (Some n)) (cid_behind (codes "at+cgact=1,") t))
+    (option_map (λ n. Addresses (Some n)) (cid_behind (codes "at+cgpaddr=") t)))
+
+-- commands for packet contexts (27.007, 10.1.1, 10.1.10, 10.1.14)
+abbrev pub context_word : List ℕ → Option Word
+context_word t =
+    if bytes_eq t (codes "at+cgdcont=?") then Some ContextForms
+    else if bytes_eq t (codes "at+cgact=?") then Some ActivityForms
+    else if bytes_eq t (codes "at+cgact?") then Some ActivityQuery
+    else if bytes_eq t (codes "at+cgact=0") then Some (Activate false None)
+    else if bytes_eq t (codes "at+cgact=1") then Some (Activate true None)
+    else if bytes_eq t (codes "at+cgpaddr") || bytes_eq t (codes "at+cgpaddr=") then Some (Addresses None)
+    else numbered_word t
+
+-- commands for the characters of texts (27.007, 5.5), and for what the SIM's PIN locks (7.4)
+abbrev pub setting_word : List ℕ → Option Word
+setting_word t =
+    if bytes_eq t (codes "at+cscs=?") then Some CharsetForms
+    else if bytes_eq t (codes "at+cscs?") then Some CharsetQuery
+    else if bytes_eq t (codes "at+cscs=\"gsm\"") then Some (SetCharset Gsm)
+    else if bytes_eq t (codes "at+cscs=\"ira\"") then Some (SetCharset Ira)
+    else if bytes_eq t (codes "at+clck=?") then Some LockForms
+    else if bytes_eq t (codes "at+clck=\"sc\",2") then Some LockQuery
+    else None
+
+-- the PUK of the SIM
+abbrev pub own_puk : List ℕ
+own_puk = codes "12345678"
+
+-- a PUK: eight digits
+abbrev pub is_puk : List ℕ → Bool
+is_puk text = is_run is_digit 8 8 text
+
+-- a PUK and a new PIN, each between quotes (27.007, 8.3)
+abbrev pub unlock_word : List ℕ → Option Word
+unlock_word t = do
+  value ← behind (codes "at+cpin=\"") t
+  rest ← behind (codes "\",\"") (drop 8 value)
+  pin ← before (codes "\"") rest
+  if is_puk (take 8 value) && is_pin pin then Some (Unlock (bytes_eq (take 8 value) own_puk)) else None
+
 -- the command of the second table that a text is, its letters in either case
 abbrev pub word_in : List ℕ → Option Word
-word_in t = or_else (basic_word t) (or_else (identity_word t) (or_else (phone_word t) (report_word t)))
+word_in t =
+    or_else (basic_word t) (or_else (identity_word t) (or_else (phone_word t) (or_else (report_word t)
+    (or_else (context_word t) (or_else (setting_word t) (unlock_word t))))))
 
 -- the command of the second table that a text is, its letters in either case
 unfoldable pub word_of : List ℕ → Option Word

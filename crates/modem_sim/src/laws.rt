@@ -9,7 +9,7 @@ ghost use Rattle.modem_sim.specs.SettingLaws.{KeepsAttached, KeepsContext, Keeps
 ghost use Rattle.modem_sim.specs.PinLaws.{FollowsNetworkAlways, IsReadyAlways, KeepsPin};
 ghost use Rattle.modem_sim.specs.Rows.{PinEntered, ThreeWrongPins, ErrorInWords, NetworkLeft};
 ghost use Rattle.modem_sim.specs.WordLaws.{AnswersAsStandard};
-ghost use Rattle.modem_sim.specs.WordRows.{BareLines, ChangeAnnounced, ClientBegins, DividedLine, EchoOff, OperatorNamed, PinAnnounced, QuotedLine};
+ghost use Rattle.modem_sim.specs.WordRows.{BareLines, ChangeAnnounced, ClientAsks, ClientBegins, ContextsActivated, ContextsRefused, DividedLine, EchoOff, OperatorNamed, PinAnnounced, PinLocks, PukEntered, QuotedLine, TenWrongPuks};
 ghost use Rattle.modem_sim.specs.Acts.{Act, End};
 ghost use Rattle.modem_sim.specs.Histories.{SimLawful, LeavesInPieces, SaysReplies, DoesInOrder};
 ghost use Rattle.modem_sim.specs.Replied.{AnswersInLines, SendsReplies};
@@ -85,6 +85,17 @@ pub fn worked_words()
     ensures pin { PinAnnounced }
     ensures oper { OperatorNamed }
     ensures echo { EchoOff }
+{}
+
+/// Worked examples of a modem with words: packet contexts that become active and inactive, PUKs, and what clients ask.
+#[tactic(auto, using(crate::proofs::rows::WordRowFacts::contexts_activated, crate::proofs::rows::WordRowFacts::contexts_refused, crate::proofs::rows::WordRowFacts::puk_entered, crate::proofs::rows::WordRowFacts::ten_wrong_puks, crate::proofs::rows::WordRowFacts::client_asks, crate::proofs::rows::WordRowFacts::pin_locks))]
+pub fn worked_settings()
+    ensures activated { ContextsActivated }
+    ensures refused { ContextsRefused }
+    ensures puk { PukEntered }
+    ensures blocked { TenWrongPuks }
+    ensures asks { ClientAsks }
+    ensures locks { PinLocks }
 {}
 
 /// What left a simulated modem on a connection since it opened is the beginning of what is said there, piece by piece.

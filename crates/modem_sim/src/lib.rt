@@ -3,6 +3,7 @@
 //! with a script of what it does of its own accord.
 #![tactic(auto)]
 
+mod activity;
 mod answers;
 mod channel;
 mod command_lines;

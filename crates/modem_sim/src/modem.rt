@@ -2,10 +2,11 @@
 ghost use Rattle.std.specs.Prelude.{◌≡◌, IfOk, OnOk, OnErr, IsErrOf};
 
 use crate::answers::{answer_of, error_answer, told};
-use crate::contexts::PdpContexts;
+use crate::contexts::{ActiveContexts, PdpContexts};
 use crate::error::SimError;
-use crate::state::{Lock, ModemState, Words};
+use crate::state::{Lock, ModemState, PUK_TRIES, Words};
 use crate::wording::worded;
+use crate::words::Charset;
 use at_cmds::{Command, OperChoice, Pin};
 use at_text::AnswerLine;
 use std::alloc::{AllocError, Global};
@@ -76,18 +77,20 @@ impl Modem {
             attached: false,
             rssi,
             ber,
+            active: ActiveContexts::new(alloc),
             words: None,
         };
         Modem { alloc, state }
     }
 
     /// A modem with words that was just started: beside the commands of a modem it takes those that clients send as they begin,
-    /// several in a line, with blanks and behind whatever stands before `AT` (V.250, 5.2.1), and it announces changes of
-    /// registration where reports are on (27.007, 7.2). `echo` says whether its commands are repeated until an `ATE` says otherwise.
-    /// It takes no memory.
+    /// several in a line, with blanks and behind whatever stands before `AT` (V.250, 5.2.1). It announces changes of registration
+    /// where reports are on (27.007, 7.2), activates packet contexts (10.1.10), and takes a PUK after three wrong PINs (8.3). `echo`
+    /// says whether its commands are repeated until an `ATE` says otherwise. It takes no memory.
     pub fn with_words(alloc: Global, start: ModemStart, echo: bool) -> Modem
         ensures { result ≡ started_with_words start echo }
     {
+        let has_pin = start.pin.is_some();
         let mut modem = Modem::new(alloc, start);
         modem.state.words = Some(Words {
             echo,
@@ -96,6 +99,9 @@ impl Modem {
             packet_reports: 0,
             evolved_reports: 0,
             oper_format: 2,
+            charset: Charset::Ira,
+            has_pin,
+            puk_tries: PUK_TRIES,
         });
         modem
     }

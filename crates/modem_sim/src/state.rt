@@ -1,8 +1,8 @@
 //! What a modem keeps, and how commands change it.
 ghost use Rattle.std.specs.Prelude.{◌≡◌, true, IfOk, OnOk, OnErr};
 
-use crate::contexts::{PdpContext, PdpContexts};
-use crate::words::{Domain, Word};
+use crate::contexts::{ActiveContexts, PdpContext, PdpContexts};
+use crate::words::{Charset, Domain, Word};
 use at_cmds::{Command, OperChoice, Pin};
 use std::alloc::AllocError;
 
@@ -13,9 +13,14 @@ const PIN_REQUIRED: u32 = 11;
 
 const PUK_REQUIRED: u32 = 12;
 
+const SIM_FAILURE: u32 = 13;
+
 const INCORRECT_PASSWORD: u32 = 16;
 
 const NO_NETWORK_SERVICE: u32 = 30;
+
+/// How often a PUK may be tried.
+pub(crate) const PUK_TRIES: u8 = 10;
 
 /// What keeps the SIM from being used (27.007, 8.3).
 #[derive(Drop, Debug)]
@@ -41,6 +46,12 @@ pub(crate) struct Words {
     pub(crate) evolved_reports: u8,
     /// How the operator is named: 0 by its name, 1 by its short name, 2 by its number (27.007, 7.3).
     pub(crate) oper_format: u8,
+    /// The characters of texts (27.007, 5.5).
+    pub(crate) charset: Charset,
+    /// Whether the SIM has a PIN (27.007, 7.4).
+    pub(crate) has_pin: bool,
+    /// How often its PUK may still be tried (27.007, 8.3).
+    pub(crate) puk_tries: u8,
 }
 
 /// What a modem keeps.
@@ -58,12 +69,14 @@ pub(crate) struct ModemState {
     /// Strength and errors of the signal (27.007, 8.5).
     pub(crate) rssi: u8,
     pub(crate) ber: u8,
+    /// The contexts that are active, of a modem with words (27.007, 10.1.10).
+    pub(crate) active: ActiveContexts,
     /// What the second table needs, where there is one.
     pub(crate) words: Option<Words>,
 }
 
 impl Lock {
-    ghost use Rattle.modem_sim.specs.Steps.{lock_error, pin_error, after_wrong_pin};
+    ghost use Rattle.modem_sim.specs.Steps.{lock_error, pin_error, puk_error, unlock_error, after_wrong_pin};
 
     /// The error before the SIM is ready.
     fn error(&self) -> Option<u32>
@@ -85,6 +98,19 @@ impl Lock {
             Lock::NeedPin { pin, .. } if pin == entered => None,
             Lock::NeedPin { .. } => Some(INCORRECT_PASSWORD),
             Lock::NeedPuk => Some(PUK_REQUIRED),
+        }
+    }
+
+    /// The error that a PUK is refused with, of which so many may be tried.
+    fn puk_error(&self, tries: u8, is_right: bool) -> Option<u32>
+        ensures { result ≡ unlock_error self.now tries is_right }
+    {
+        match self {
+            Lock::Ready => Some(NOT_ALLOWED),
+            Lock::NeedPin { .. } => Some(PIN_REQUIRED),
+            Lock::NeedPuk if tries == 0 => Some(SIM_FAILURE),
+            Lock::NeedPuk if is_right => None,
+            Lock::NeedPuk => Some(INCORRECT_PASSWORD),
         }
     }
 
@@ -132,6 +158,7 @@ impl ModemState {
             attached: self.attached,
             rssi: self.rssi,
             ber: self.ber,
+            active: self.active.copy()?,
             words: self.words,
         })
     }
@@ -224,34 +251,63 @@ impl ModemState {
 }
 
 impl ModemState {
-    ghost use Rattle.modem_sim.specs.Steps.{switched, word_after, word_refusal};
+    ghost use Rattle.modem_sim.specs.Steps.{activated, after_word_refusal, context_error, lock_error, settled, switched, word_after, word_refusal};
+    ghost use Rattle.modem_sim.specs.Contexts.{is_defined};
+
+    /// The error that a command for contexts is refused with, where it is.
+    fn context_error(&self, which: Option<u8>) -> Option<u32>
+        ensures { result ≡ context_error (lock_error self.now.lock) (is_defined which self.now.contexts) }
+    {
+        if let Some(number) = self.lock.error() {
+            return Some(number);
+        }
+        if self.contexts.is_defined(which) {
+            return None;
+        }
+        Some(NOT_ALLOWED)
+    }
+
+    /// The error that activating contexts is refused with, where it is.
+    fn activate_error(&self, words: Words, which: Option<u8>) -> Option<u32>
+        ensures { result ≡ word_refusal words self.now (Word.Activate true which) }
+    {
+        match self.context_error(which) {
+            None if !self.is_registered() => Some(NO_NETWORK_SERVICE),
+            error => error,
+        }
+    }
 
     /// The error that a command of the second table is refused with, where it is.
-    pub(crate) fn word_refusal(&self, word: Word) -> Option<u32>
-        ensures { result ≡ word_refusal self.now word }
+    pub(crate) fn word_refusal(&self, words: Words, word: Word) -> Option<u32>
+        ensures { result ≡ word_refusal words self.now word }
     {
         match word {
-            Word::Subscriber => self.lock.error(),
+            Word::Subscriber | Word::ActivityQuery => self.lock.error(),
+            Word::Activate(true, which) => self.activate_error(words, which),
+            Word::Activate(false, which) | Word::Addresses(which) => self.context_error(which),
+            Word::Unlock(is_right) => self.lock.puk_error(words.puk_tries, is_right),
             _ => None,
         }
     }
 
-    /// Carries a command of the second table out.
-    pub(crate) fn carry_out_word(&mut self, words: Words, word: Word)
-        ensures { self.new ≡ word_after words self.old word }
+    /// Refuses a command of the second table.
+    pub(crate) fn refuse_word(&mut self, words: Words, word: Word)
+        ensures { self.new ≡ after_word_refusal words self.old word }
+    {
+        if let (Word::Unlock(_), Lock::NeedPuk) = (word, &self.lock) {
+            self.words = Some(Words {
+                puk_tries: words.puk_tries.saturating_sub(1),
+                ..words
+            });
+        }
+    }
+
+    /// Carries a command of the second table out. After an error nothing is said of what was done.
+    pub(crate) fn carry_out_word(&mut self, words: Words, word: Word) -> Result<(), AllocError>
+        ensures { OnOk result (self.new ≡ word_after words self.old word) }
     {
         match word {
-            Word::Reset => {
-                self.reports = 0;
-                self.errors = 0;
-                self.words = Some(Words {
-                    echo: words.first_echo,
-                    packet_reports: 0,
-                    evolved_reports: 0,
-                    oper_format: 2,
-                    ..words
-                });
-            }
+            Word::Reset => self.reset(words),
             Word::Echo(on) => self.words = Some(Words { echo: on, ..words }),
             Word::Functionality(n) => self.switch(words, n),
             Word::Report(domain, n) => self.words = Some(words.with_reports(domain, n)),
@@ -259,7 +315,52 @@ impl ModemState {
                 oper_format: n,
                 ..words
             }),
+            Word::Activate(on, which) => self.activate(on, which)?,
+            Word::SetCharset(charset) => self.words = Some(Words { charset, ..words }),
+            Word::Unlock(_) => {
+                self.lock = Lock::Ready;
+                self.words = Some(Words {
+                    puk_tries: PUK_TRIES,
+                    ..words
+                });
+            }
             _ => {}
+        }
+        Ok(())
+    }
+
+    /// Sets the settings as at the start.
+    fn reset(&mut self, words: Words)
+        ensures { self.new ≡ word_after words self.old Word.Reset }
+    {
+        self.reports = 0;
+        self.errors = 0;
+        self.words = Some(Words {
+            echo: words.first_echo,
+            packet_reports: 0,
+            evolved_reports: 0,
+            oper_format: 2,
+            charset: Charset::Ira,
+            ..words
+        });
+    }
+
+    /// Activates contexts, for which it attaches, or deactivates them. Want of memory changes nothing.
+    fn activate(&mut self, on: bool, which: Option<u8>) -> Result<(), AllocError>
+        ensures ok { OnOk result (self.new ≡ activated on which self.old) }
+        ensures err { OnErr result (self.new ≡ self.old) }
+    {
+        self.active = self.active.after(on, which, self.contexts.as_slice())?;
+        self.attached = self.attached || on;
+        Ok(())
+    }
+
+    /// Contexts are active while the modem is attached.
+    pub(crate) fn settle(&mut self)
+        ensures { self.new ≡ settled self.old }
+    {
+        if !self.attached {
+            self.active.clear();
         }
     }
 
@@ -278,6 +379,7 @@ impl ModemState {
             self.choose(OperChoice::Automatic);
         } else {
             self.choose(OperChoice::Deregister);
+            self.active.clear();
         }
     }
 }

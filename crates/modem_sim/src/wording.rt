@@ -3,13 +3,15 @@ ghost use Rattle.std.specs.Prelude.{◌≡◌, ◌∷◌, ◌++◌, [], codes, f
 ghost use Rattle.std.specs.Fmt.{decimal};
 ghost use Rattle.at_cmds.specs.Forms.{in_quotes};
 ghost use Rattle.modem_sim.specs.Reading.{command_of};
-ghost use Rattle.modem_sim.specs.Steps.{all_reports, announced, domain_name, line_commands, line_of, named_oper_text, nothing_ran, oper_name, ran_command, ran_next, ran_other, ran_word, refusal_of, registration_text, report_texts, status_text, told_as, word_refusal, word_told, worded_step};
+ghost use Rattle.modem_sim.specs.SettingTexts.{context_forms, lock_text, named_oper_text, oper_name};
+ghost use Rattle.modem_sim.specs.Steps.{all_reports, announced, domain_name, line_commands, line_of, nothing_ran, ran_command, ran_next, ran_other, ran_word, refusal_of, registration_text, report_texts, setting_told, status_text, told_as, word_refusal, word_told, worded_step};
 
+use crate::activity::{push_activity, push_contexts_named};
 use crate::answers::{error_text, push_line, push_quoted, push_told};
 use crate::command_lines::commands_in;
 use crate::error::SimError;
 use crate::state::{ModemState, Words};
-use crate::words::{Domain, Word, word_of};
+use crate::words::{Charset, Domain, Word, word_of};
 use at_cmds::{Command, OperChoice};
 use at_text::{AnswerLine, Text};
 use std::alloc::{AllocError, Global};
@@ -164,6 +166,72 @@ fn push_text(alloc: Global, text: &str, answer: &mut Vec<AnswerLine>) -> Result<
     push_line(answer, Vec::from_slice(alloc, text.as_bytes())?)
 }
 
+impl Charset {
+    ghost use Rattle.modem_sim.specs.SettingTexts.{charset_text};
+
+    /// How it is told (27.007, 5.5).
+    fn line(self) -> &'static str
+        ensures { result.now ≡ charset_text self }
+    {
+        match self {
+            Charset::Gsm => "+CSCS: \"GSM\"",
+            Charset::Ira => "+CSCS: \"IRA\"",
+        }
+    }
+}
+
+/// Whether the SIM has a PIN (27.007, 7.4).
+fn lock_line(has_pin: bool) -> &'static str
+    ensures { result.now ≡ lock_text has_pin }
+{
+    if has_pin { "+CLCK: 1" } else { "+CLCK: 0" }
+}
+
+/// Writes the kinds of contexts that there are behind other lines (27.007, 10.1.1).
+fn push_context_forms(alloc: Global, answer: &mut Vec<AnswerLine>) -> Result<(), AllocError>
+    ensures { OnOk result (answer.new.items ≡ answer.old.items ++ map line_of context_forms) }
+{
+    push_text(alloc, "+CGDCONT: (1-15),\"IP\",,,(0),(0)", answer)?;
+    push_text(alloc, "+CGDCONT: (1-15),\"IPV6\",,,(0),(0)", answer)?;
+    push_text(alloc, "+CGDCONT: (1-15),\"IPV4V6\",,,(0),(0)", answer)?;
+    Ok(())
+}
+
+/// Writes what a command for settings, contexts or locks is told before OK behind other lines; nothing for any other.
+fn push_setting_told(
+    alloc: Global,
+    words: Words,
+    state: &ModemState,
+    word: Word,
+    answer: &mut Vec<AnswerLine>,
+) -> Result<(), AllocError>
+    ensures { OnOk result
+        (answer.new.items ≡ answer.old.items ++ map line_of (setting_told words state.now word)) }
+{
+    match word {
+        Word::ContextForms => push_context_forms(alloc, answer),
+        Word::ActivityForms => push_text(alloc, "+CGACT: (0,1)", answer),
+        Word::ActivityQuery => push_activity(
+            alloc,
+            &state.active,
+            state.contexts.as_slice(),
+            answer,
+        ),
+        Word::Addresses(which) => push_contexts_named(
+            alloc,
+            which,
+            &state.active,
+            state.contexts.as_slice(),
+            answer,
+        ),
+        Word::CharsetForms => push_text(alloc, "+CSCS: (\"GSM\",\"IRA\")", answer),
+        Word::CharsetQuery => push_text(alloc, words.charset.line(), answer),
+        Word::LockForms => push_text(alloc, "+CLCK: (\"SC\")", answer),
+        Word::LockQuery => push_text(alloc, lock_line(words.has_pin), answer),
+        _ => Ok(()),
+    }
+}
+
 /// Writes what a command of the second table is told before OK behind other lines.
 fn push_word_told(
     alloc: Global,
@@ -199,12 +267,7 @@ fn push_word_told(
                 state.is_registered(),
             )?,
         ),
-        Word::Reset
-        | Word::Echo(_)
-        | Word::Usual
-        | Word::Functionality(_)
-        | Word::Report(_, _)
-        | Word::OperFormat(_) => Ok(()),
+        _ => push_setting_told(alloc, words, state, word, answer),
     }
 }
 
@@ -241,23 +304,25 @@ impl Run {
             return Ok(());
         }
         push_told_as(alloc, &self.state, &command, &mut self.told)?;
-        self.state.carry_out(command)
+        self.state.carry_out(command)?;
+        self.state.settle();
+        Ok(())
     }
 
     /// Does a command of the second table.
     fn obey_word(&mut self, alloc: Global, words: Words, word: Word) -> Result<(), AllocError>
         requires { self.old.error ≡ None }
         ensures { OnOk result
-            (self.new ≡ ran_word (word_refusal self.old.state word) words self.old word) }
+            (self.new ≡ ran_word (word_refusal words self.old.state word) words self.old word) }
     {
-        if let Some(number) = self.state.word_refusal(word) {
+        if let Some(number) = self.state.word_refusal(words, word) {
             let error = error_text(alloc, self.state.errors, number)?;
             self.error = Some(Text::from(error));
+            self.state.refuse_word(words, word);
             return Ok(());
         }
         push_word_told(alloc, words, &self.state, word, &mut self.told)?;
-        self.state.carry_out_word(words, word);
-        Ok(())
+        self.state.carry_out_word(words, word)
     }
 
     /// Does a command that isn't of the first table.
@@ -287,6 +352,24 @@ impl Run {
             None => self.do_other(alloc, word_of(alloc, text)?)?,
         }
         Ok(())
+    }
+}
+
+impl Run {
+    ghost use Rattle.modem_sim.specs.Steps.{final_text};
+
+    /// The state, and the lines with the final code behind them.
+    fn finish(self, alloc: Global) -> Result<(ModemState, Vec<AnswerLine>), AllocError>
+        ensures state { IfOk result (λ r. r.0 ≡ self.state) }
+        ensures lines { IfOk result (λ r. r.1.items ≡ self.told ++ line_of (final_text self.error) ∷ []) }
+    {
+        let Run { state, told, error } = self;
+        let mut answer = told;
+        match error {
+            Some(error) => push_line(&mut answer, error.into_vec())?,
+            None => push_text(alloc, "OK", &mut answer)?,
+        }
+        Ok((state, answer))
     }
 }
 
@@ -374,12 +457,8 @@ pub(crate) fn worded(
     let Some(commands) = line_commands(alloc, line)? else {
         return Ok((state, Vec::new(alloc)));
     };
-    let Run { state, told, error } = run_all(alloc, state, &commands)?;
-    let mut answer = told;
-    match error {
-        Some(error) => push_line(&mut answer, error.into_vec())?,
-        None => push_text(alloc, "OK", &mut answer)?,
-    }
+    let run = run_all(alloc, state, &commands)?;
+    let (state, mut answer) = run.finish(alloc)?;
     push_announced(alloc, before, &state, &mut answer)?;
     Ok((state, answer))
 }

@@ -1,9 +1,14 @@
 //! The second table: commands that a modem with words takes beside those of the first.
 ghost use Rattle.std.specs.Prelude.{◌≡◌, IfOk};
 ghost use Rattle.std.specs.Str.{bytes_eq};
-ghost use Rattle.modem_sim.specs.Words.{basic_word, identity_word, phone_word, report_word, word_of};
+ghost use Rattle.at_cmds.specs.Forms.{numeral_in};
+ghost use Rattle.modem_sim.specs.Words.{basic_word, cid_behind, cid_in, context_word, identity_word, numbered_word, phone_word, report_word, setting_word, unlock_word, word_of};
 
+use at_text::octets::all_digits;
 use std::alloc::{AllocError, Global};
+
+/// The PUK of the SIM.
+const PUK: &[u8] = b"12345678";
 
 /// What a report of registration is about.
 #[derive(Clone, Copy, Debug, PartialEq, Eq)]
@@ -12,6 +17,13 @@ pub(crate) enum Domain {
     Packet,
     /// E-UTRAN (27.007, 10.1.22).
     Evolved,
+}
+
+/// The characters of texts between quotes (27.007, 5.5). The modem's texts are the same in both.
+#[derive(Clone, Copy, Debug, PartialEq, Eq)]
+pub(crate) enum Charset {
+    Gsm,
+    Ira,
 }
 
 /// A command of the second table.
@@ -53,6 +65,28 @@ pub(crate) enum Word {
     ReportForms(Domain),
     /// `AT+COPS=3,`: 0 by its name, 1 by its short name, 2 by its number (27.007, 7.3).
     OperFormat(u8),
+    /// `AT+CGDCONT=?` (27.007, 10.1.1).
+    ContextForms,
+    /// `AT+CGACT=`: whether contexts become active or inactive, and the number of the one, or all (27.007, 10.1.10).
+    Activate(bool, Option<u8>),
+    /// `AT+CGACT?`.
+    ActivityQuery,
+    /// `AT+CGACT=?`.
+    ActivityForms,
+    /// `AT+CGPADDR`: the addresses of the one context, or of all (27.007, 10.1.14).
+    Addresses(Option<u8>),
+    /// `AT+CSCS=` (27.007, 5.5).
+    SetCharset(Charset),
+    /// `AT+CSCS?`.
+    CharsetQuery,
+    /// `AT+CSCS=?`.
+    CharsetForms,
+    /// `AT+CLCK=?` (27.007, 7.4).
+    LockForms,
+    /// `AT+CLCK="SC",2`: whether the SIM has a PIN.
+    LockQuery,
+    /// `AT+CPIN=` with a PUK and a new PIN: whether the PUK is that of the SIM (27.007, 8.3). No state looks at the new PIN.
+    Unlock(bool),
 }
 
 /// Whether a text is this one.
@@ -186,6 +220,120 @@ fn report_word(text: &[u8]) -> Option<Word>
     None
 }
 
+/// The number that a numeral without leading zeros stands for, below 100.
+#[tactic(auto, unfolding(at_cmds::specs::Forms::numeral_in))]
+fn numeral_in(text: &[u8]) -> Option<u8>
+    ensures { result ≡ numeral_in text.now }
+{
+    match text {
+        [low] if low.is_ascii_digit() => Some(low - b'0'),
+        [high, low] if *high != b'0' && high.is_ascii_digit() && low.is_ascii_digit() => {
+            Some((high - b'0') * 10 + (low - b'0'))
+        }
+        _ => None,
+    }
+}
+
+/// The number of a context: 1 to 15, without leading zeros.
+fn cid_in(text: &[u8]) -> Option<u8>
+    ensures { result ≡ cid_in text.now }
+{
+    let cid = numeral_in(text)?;
+    if cid < 1 || cid > 15 {
+        return None;
+    }
+    Some(cid)
+}
+
+/// The number of a context behind this beginning.
+fn cid_behind(text: &[u8], start: &[u8]) -> Option<u8>
+    ensures { result ≡ cid_behind start.now text.now }
+{
+    cid_in(text.strip_prefix(start)?)
+}
+
+/// A command for one packet context, by its number.
+fn numbered_word(text: &[u8]) -> Option<Word>
+    ensures { result ≡ numbered_word text.now }
+{
+    if let Some(cid) = cid_behind(text, b"at+cgact=0,") {
+        return Some(Word::Activate(false, Some(cid)));
+    }
+    if let Some(cid) = cid_behind(text, b"at+cgact=1,") {
+        return Some(Word::Activate(true, Some(cid)));
+    }
+    if let Some(cid) = cid_behind(text, b"at+cgpaddr=") {
+        return Some(Word::Addresses(Some(cid)));
+    }
+    None
+}
+
+/// A command for packet contexts.
+fn context_word(text: &[u8]) -> Option<Word>
+    ensures { result ≡ context_word text.now }
+{
+    if is(text, b"at+cgdcont=?") {
+        return Some(Word::ContextForms);
+    }
+    if is(text, b"at+cgact=?") {
+        return Some(Word::ActivityForms);
+    }
+    if is(text, b"at+cgact?") {
+        return Some(Word::ActivityQuery);
+    }
+    if is(text, b"at+cgact=0") {
+        return Some(Word::Activate(false, None));
+    }
+    if is(text, b"at+cgact=1") {
+        return Some(Word::Activate(true, None));
+    }
+    if is(text, b"at+cgpaddr") || is(text, b"at+cgpaddr=") {
+        return Some(Word::Addresses(None));
+    }
+    numbered_word(text)
+}
+
+/// A command for the characters of texts, or for what the SIM's PIN locks.
+fn setting_word(text: &[u8]) -> Option<Word>
+    ensures { result ≡ setting_word text.now }
+{
+    if is(text, b"at+cscs=?") {
+        return Some(Word::CharsetForms);
+    }
+    if is(text, b"at+cscs?") {
+        return Some(Word::CharsetQuery);
+    }
+    if is(text, b"at+cscs=\"gsm\"") {
+        return Some(Word::SetCharset(Charset::Gsm));
+    }
+    if is(text, b"at+cscs=\"ira\"") {
+        return Some(Word::SetCharset(Charset::Ira));
+    }
+    if is(text, b"at+clck=?") {
+        return Some(Word::LockForms);
+    }
+    if is(text, b"at+clck=\"sc\",2") {
+        return Some(Word::LockQuery);
+    }
+    None
+}
+
+/// A PUK of eight digits and a new PIN of 4 to 8, each between quotes.
+fn unlock_word(text: &[u8]) -> Option<Word>
+    ensures { result ≡ unlock_word text.now }
+{
+    let value = text.strip_prefix(b"at+cpin=\"")?;
+    if value.len() < 8 {
+        return None;
+    }
+    let (puk, rest) = value.split_at(8);
+    let pin = rest.strip_prefix(b"\",\"")?.strip_suffix(b"\"")?;
+    if !all_digits(puk) || !all_digits(pin) || pin.len() < 4 || pin.len() > 8 {
+        return None;
+    }
+    Some(Word::Unlock(is(puk, PUK)))
+}
+
 /// The command of the second table that a text is, its letters in either case.
 #[tactic(auto, unfolding(crate::specs::Words::word_of))]
 pub(crate) fn word_of(alloc: Global, text: &[u8]) -> Result<Option<Word>, AllocError>
@@ -202,5 +350,14 @@ pub(crate) fn word_of(alloc: Global, text: &[u8]) -> Result<Option<Word>, AllocE
     if let Some(word) = phone_word(text) {
         return Ok(Some(word));
     }
-    Ok(report_word(text))
+    if let Some(word) = report_word(text) {
+        return Ok(Some(word));
+    }
+    if let Some(word) = context_word(text) {
+        return Ok(Some(word));
+    }
+    if let Some(word) = setting_word(text) {
+        return Ok(Some(word));
+    }
+    Ok(unlock_word(text))
 }

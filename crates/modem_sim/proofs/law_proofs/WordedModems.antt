@@ -1,5 +1,5 @@
 -- A modem with words does with the commands of the first table what one without them does.
-use Rattle.std.specs.Prelude.{◌≡◌, ℕ, true, false, List, [], ◌∷◌, ◌++◌, map, Option, Some, None, is_some, refl, codes}
+use Rattle.std.specs.Prelude.{◌≡◌, ℕ, Bool, true, false, List, [], ◌∷◌, ◌++◌, map, Option, Some, None, is_some, if◌then◌else◌, refl, codes}
 use Rattle.std.specs.Fmt.{digits}
 use Rattle.std.proofs.Common.{ap, sym, ◌∙◌, append_assoc}
 use Rattle.at_text.specs.declared.answer.AnswerLine.{AnswerLine}
@@ -10,7 +10,8 @@ use Rattle.at_cmds.specs.declared.command.OperChoice.TheVariants.{Automatic, Der
 use Rattle.modem_sim.specs.declared.state.ModemState.{ModemState}
 use Rattle.modem_sim.specs.declared.state.Words.{Words}
 use Rattle.modem_sim.specs.Reading.{is_attention, command_of}
-use Rattle.modem_sim.specs.Steps.{after_command, after_refusal, announced, divided_by, line_commands, line_of, named_oper_text, nothing_ran, obeyed, obeyed_unless, oper_text, ran_command, ran_text, refusal_of, standard_step, step, Step, told_as, told_texts, worded_answer, worded_by, worded_step}
+use Rattle.modem_sim.specs.Steps.{after_command, after_refusal, announced, divided_by, line_commands, line_of, nothing_ran, obeyed, obeyed_unless, oper_text, ran_command, ran_text, refusal_of, settled, standard_step, step, Step, told_as, told_texts, worded_answer, worded_by, worded_step}
+use Rattle.modem_sim.specs.SettingTexts.{named_oper_text}
 use Rattle.modem_sim.specs.WordLaws.{AnswersAsStandard, IsAsStandard, bare}
 use Rattle.modem_sim.proofs.modem_steps.ReadCommands.{command_reads}
 use Rattle.modem_sim.proofs.modem_steps.StandardModems.{step_standard, step_worded}
@@ -48,6 +49,14 @@ same_after s (AttachSet on) = refl
 same_after s AttachQuery = refl
 same_after s (ErrorMode n) = refl
 same_after s Multiplex = refl
+
+bare_settled_as : (attached : Bool) (s : ModemState) → bare (if attached then s else record s { active = [] }) ≡ bare s
+bare_settled_as true s = refl
+bare_settled_as false s = refl
+
+-- without words nothing is seen of which contexts are active
+bare_settled : (s : ModemState) → bare (settled s) ≡ bare s
+bare_settled s = bare_settled_as s.attached s
 
 same_refused : (s : ModemState) (c : Command) → bare (after_refusal s c) ≡ after_refusal (bare s) c
 same_refused s PinQuery = refl
@@ -97,11 +106,11 @@ worded_of o s c = record { state = (ran_command o (nothing_ran s) c).state; answ
 same_at : (o : Option ℕ) (w : Words) (s : ModemState) (c : Command) → s.words ≡ Some w → w.oper_format ≡ 2 → IsSame s (worded_of o s c) (obeyed_unless o (bare s) c)
 same_at None w s c some is =
     let told : told_as s.words s c ≡ told_texts (bare s) c = ap (λ x. told_as x s c) some ∙ same_told w s c is in
-    let later : List AnswerLine = map line_of (announced s (after_command s c)) in
+    let later : List AnswerLine = map line_of (announced s (settled (after_command s c))) in
     record {
       answer = ap (λ t. map line_of t ++ line_of (codes "OK") ∷ later) told
           ∙ sym (append_assoc (map line_of (told_texts (bare s) c)) (line_of (codes "OK") ∷ []) later);
-      state = same_after s c;
+      state = bare_settled (after_command s c) ∙ same_after s c;
     }
 same_at (Some number) w s c some is = record { answer = refl; state = same_refused s c }
 

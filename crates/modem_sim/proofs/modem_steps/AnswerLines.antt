@@ -30,3 +30,10 @@ pushed_line old before new some all line text pushed begun is next =
     ∙ ap (λ x. x ++ line_of line ∷ []) begun
     ∙ append_assoc old some (line_of line ∷ [])
     ∙ ap (λ x. old ++ x) (ap (λ x. some ++ line_of x ∷ []) is ∙ sym next)
+
+-- three lines that were pushed stand behind those that were there
+pub three_lines : (old a b c : List AnswerLine) (x y z : AnswerLine) → a ≡ old ++ x ∷ [] → b ≡ a ++ y ∷ [] → c ≡ b ++ z ∷ [] → c ≡ old ++ x ∷ y ∷ z ∷ []
+three_lines old a b c x y z first second third =
+    third
+    ∙ ap (λ t. t ++ z ∷ []) (second ∙ ap (λ t. t ++ y ∷ []) first ∙ append_assoc old (x ∷ []) (y ∷ []))
+    ∙ append_assoc old (x ∷ y ∷ []) (z ∷ [])

@@ -7,7 +7,7 @@ use Rattle.at_cmds.specs.Values.{command_in}
 use Rattle.modem_sim.specs.CommandLines.{commands_in}
 use Rattle.modem_sim.specs.Reading.{command_of}
 use Rattle.modem_sim.specs.Steps.{line_commands}
-use Rattle.modem_sim.specs.WordRows.{BareLines, ChangeAnnounced, ClientBegins, DividedLine, EchoOff, OperatorNamed, PinAnnounced, QuotedLine}
+use Rattle.modem_sim.specs.WordRows.{BareLines, ChangeAnnounced, ClientAsks, ClientBegins, ContextsActivated, ContextsRefused, DividedLine, EchoOff, OperatorNamed, PinAnnounced, PinLocks, PukEntered, QuotedLine, TenWrongPuks}
 use Rattle.modem_sim.specs.Words.{word_of}
 
 pub divided_line : DividedLine
@@ -41,3 +41,27 @@ operator_named = refl
 pub echo_off : EchoOff
 unfolding command_of command_in numeral_in unquoted parameters digits commands_in line_commands word_of
 echo_off = refl
+
+pub contexts_activated : ContextsActivated
+unfolding command_of command_in numeral_in unquoted parameters digits commands_in line_commands word_of
+contexts_activated = refl
+
+pub contexts_refused : ContextsRefused
+unfolding command_of command_in numeral_in unquoted parameters digits commands_in line_commands word_of
+contexts_refused = refl
+
+pub puk_entered : PukEntered
+unfolding command_of command_in numeral_in unquoted parameters digits commands_in line_commands word_of
+puk_entered = refl
+
+pub ten_wrong_puks : TenWrongPuks
+unfolding command_of command_in numeral_in unquoted parameters digits commands_in line_commands word_of
+ten_wrong_puks = refl
+
+pub client_asks : ClientAsks
+unfolding command_of command_in numeral_in unquoted parameters digits commands_in line_commands word_of
+client_asks = refl
+
+pub pin_locks : PinLocks
+unfolding command_of command_in numeral_in unquoted parameters digits commands_in line_commands word_of
+pin_locks = refl
