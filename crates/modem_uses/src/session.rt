@@ -54,8 +54,5 @@ where
     let (session, modem) = begin(*rt, alloc, driver)?;
     let callers = (first, second);
     let (came, settled) = run_beside(rt, alloc, &bell, session, modem, callers, asks, listener)?;
-    if settled.left.is_empty() {
-        return Ok(came);
-    }
-    Err(Stop::Unexpected)
+    settled.left.is_empty().then_some(came).ok_or(Stop::Unexpected)
 }

@@ -12,6 +12,7 @@ ghost use Rattle.modemctl.specs.Words.{callers_rule, cut_rule, echo_rule, n1_rul
 mod dialects;
 mod driving;
 mod files;
+mod help;
 mod numbers;
 
 use at_cmds::Pin;
@@ -103,13 +104,16 @@ fn two_commands<'a>(alloc: Global) -> Result<Command<'a>, AllocError>
 {
     let frames = Command::new(alloc, "frames")
         .about("Reads octets, written in hexadecimal, as frames")
+        .after_help(help::FRAMES)
         .arg(n1_option(alloc))?;
     let replay = Command::new(alloc, "replay")
         .about("Says what the driver of a modem does with the events of a script")
+        .after_help(help::REPLAY)
         .arg(n1_option(alloc))?
         .arg(dialect_option(alloc))?;
     Command::new(alloc, "modemctl")
         .about("The driver of a cellular modem, on the basic option of 3GPP TS 27.010")
+        .after_help(help::PROGRAM)
         .subcommand_required(true)
         .subcommand(frames)?
         .subcommand(replay)
@@ -122,6 +126,7 @@ fn three_commands<'a>(alloc: Global) -> Result<Command<'a>, AllocError>
     let command = two_commands(alloc)?;
     let bench = Command::new(alloc, "bench")
         .about("Has callers in threads share a simulated modem, and prints what they are told")
+        .after_help(help::BENCH)
         .arg(callers_option(alloc))?
         .arg(cut_option(alloc))?;
     command.subcommand(bench)
@@ -134,6 +139,7 @@ fn four_commands<'a>(alloc: Global) -> Result<Command<'a>, AllocError>
     let command = three_commands(alloc)?;
     let sim = Command::new(alloc, "sim")
         .about("Is a modem on standard input and output, for any client")
+        .after_help(help::SIM)
         .arg(n1_option(alloc))?
         .arg(pin_option(alloc))?
         .arg(echo_option(alloc))?
@@ -155,11 +161,16 @@ fn has_controls(text: &str) -> bool {
     text.chars().any(|character| character.is_control())
 }
 
-/// Says what is wrong with the words: the first that has control characters is shown with these escaped.
+/// Says what is wrong with the words. The parser's text shows a word as it is: where one has control characters the kind of the error
+/// is said, and the first such word is shown with these escaped.
 fn complain<E: Write>(faults: &mut E, error: &Error, words: &[String]) {
     for word in words.iter().skip(1) {
         if has_controls(word.as_str()) {
-            let _ = writeln!(faults, "error: the word {word:?} has control characters");
+            let kind = error.kind();
+            let _ = writeln!(
+                faults,
+                "error: {kind}; the word {word:?} has control characters"
+            );
             return;
         }
     }
@@ -281,7 +292,7 @@ where
             let (status, _) = sim_captured(rt, alloc, input, output, faults, options, capture);
             status
         }
-        Err(fault) => refuse_capture(faults, fault),
+        Err(fault) => refuse_capture(faults, path, fault),
     }
 }
 
@@ -307,7 +318,9 @@ where
     };
     let steps = match steps_of(rt, alloc, matches) {
         Ok(steps) => steps,
-        Err(fault) => return refuse_script(faults, fault),
+        Err(fault) => {
+            return refuse_script(faults, matches.get_str("script").unwrap_or(""), fault);
+        }
     };
     let options = SimOptions {
         n1,

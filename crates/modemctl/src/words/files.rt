@@ -10,7 +10,7 @@ use modem_sim::Steps;
 use mux_capture::{Capture, CaptureFault};
 use std::alloc::Global;
 use std::fs::File;
-use std::io::Write;
+use std::io::{ErrorKind, Write};
 use std::rt::Files;
 
 /// The option `--script`.
@@ -41,7 +41,7 @@ pub fn capture_option<'a>(alloc: Global) -> Arg<'a>
 #[derive(Drop)]
 pub enum ScriptFault {
     /// It can't be opened.
-    NotThere,
+    Closed(ErrorKind),
     /// It can't be read, or has a bad line.
     Stopped(Stop),
 }
@@ -57,24 +57,24 @@ pub fn steps_of<R: Files<File = File>>(
     let Some(path) = matches.get_str("script") else {
         return Ok(Steps::from(Vec::new(alloc)));
     };
-    let Ok(file) = File::open(rt, path) else {
-        return Err(ScriptFault::NotThere);
+    let mut file = match File::open(rt, path) {
+        Ok(file) => file,
+        Err(error) => return Err(ScriptFault::Closed(error.kind())),
     };
-    let mut file = file;
     match steps_from(alloc, &mut file) {
         Ok(steps) => Ok(steps),
         Err(stop) => Err(ScriptFault::Stopped(stop)),
     }
 }
 
-/// Says why a script gives no steps, and gives the status.
-pub fn refuse_script<E: Write>(faults: &mut E, fault: ScriptFault) -> u8
+/// Says why the script of this path gives no steps, and gives the status.
+pub fn refuse_script<E: Write>(faults: &mut E, path: &str, fault: ScriptFault) -> u8
     ensures some { 0 < result }
     ensures status { result ≤ 2 }
 {
     match fault {
-        ScriptFault::NotThere => {
-            let _ = writeln!(faults, "fault: no such script");
+        ScriptFault::Closed(kind) => {
+            let _ = writeln!(faults, "fault: the script {path:?} can't be opened: {kind}");
             1
         }
         ScriptFault::Stopped(Stop::BadLine(place)) => {
@@ -83,10 +83,19 @@ pub fn refuse_script<E: Write>(faults: &mut E, fault: ScriptFault) -> u8
         }
         ScriptFault::Stopped(Stop::NoMemory) => give_up(faults, Stop::NoMemory),
         ScriptFault::Stopped(_) => {
-            let _ = writeln!(faults, "fault: script");
+            let _ = writeln!(faults, "fault: the script {path:?} can't be read");
             1
         }
     }
+}
+
+/// Why there is no capture.
+#[derive(Drop)]
+pub enum NoCapture {
+    /// Its file can't be made.
+    Closed(ErrorKind),
+    /// Its head can't be written.
+    Begun(CaptureFault),
 }
 
 /// A capture into the file of this path, which is made, or emptied where there is one.
@@ -94,17 +103,22 @@ pub fn capture_at<R: Files<File = File>>(
     rt: &R,
     alloc: Global,
     path: &str,
-) -> Result<Capture<File>, CaptureFault> {
+) -> Result<Capture<File>, NoCapture> {
     match File::create(rt, path) {
-        Ok(file) => Capture::begin(alloc, file),
-        Err(_) => Err(CaptureFault),
+        Ok(file) => Capture::begin(alloc, file).map_err(NoCapture::Begun),
+        Err(error) => Err(NoCapture::Closed(error.kind())),
     }
 }
 
-/// Says that there is no capture, and gives the status.
-pub fn refuse_capture<E: Write>(faults: &mut E, fault: CaptureFault) -> u8
+/// Says why there is no capture at this path, and gives the status.
+pub fn refuse_capture<E: Write>(faults: &mut E, path: &str, fault: NoCapture) -> u8
     ensures { result ≡ 1 }
 {
-    let _ = writeln!(faults, "{fault}");
+    let _ = match fault {
+        NoCapture::Closed(kind) => {
+            writeln!(faults, "fault: the capture {path:?} can't be made: {kind}")
+        }
+        NoCapture::Begun(fault) => writeln!(faults, "{fault}"),
+    };
     1
 }

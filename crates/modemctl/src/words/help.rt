@@ -1,0 +1,21 @@
+//! What stands behind the help of each subcommand: an example, the exit statuses, and where its formats stand.
+
+/// Behind the help of the program.
+pub const PROGRAM: &str =
+    "Example: printf '0 1 AT+CSQ\\n1 2 AT+CGATT?\\n' | modemctl bench\n\nExit status: 0 all is done; 1 a fault, named on standard error; 2 bad words or a bad line.\ndocs/modemctl.1 has every option, docs/FORMATS.md every format.";
+
+/// Behind the help of `frames`.
+pub const FRAMES: &str =
+    "Example: echo 'F9 03 73 01 D7 F9' | modemctl frames\n\nExit status: 0 all is written; 1 a fault; 2 bad words, or a line with other than pairs of digits.\ndocs/FORMATS.md has the formats, under \"frames\".";
+
+/// Behind the help of `replay`.
+pub const REPLAY: &str =
+    "Example: printf 'open 0\\nin f9037301d7f9\\n' | modemctl replay\n\nExit status: 0 all is written; 1 a fault; 2 bad words, or a bad line of the script or the dialect.\ndocs/FORMATS.md has the events, the output and the file of --dialect.";
+
+/// Behind the help of `bench`.
+pub const BENCH: &str =
+    "Each line of the input is a caller, a connection from 1 to 61, and a command.\n\nExample: printf '0 1 AT+CSQ\\n1 2 AT+CGATT?\\n' | modemctl bench\n\nExit status: 0 all were told; 1 a fault; 2 bad words or a bad line.\ndocs/FORMATS.md has the formats, under \"bench\".";
+
+/// Behind the help of `sim`.
+pub const SIM: &str =
+    "Example: socat pty,raw,echo=0,link=/tmp/modem EXEC:'modemctl sim'\n\nExit status: 0 the input has ended; 1 a fault; 2 bad words, or a bad line of the script.\ndocs/FORMATS.md has the commands that it knows and the file of --script; docs/TRY.md drives it.";
