@@ -1,5 +1,5 @@
 //! Rules of lines: a form and a text.
-ghost use Rattle.std.specs.Prelude.{IfOk, ◌≡◌, ◌≤◌, ◌+◌, [], ◌∷◌, ◌++◌, length, OnOk, OnErr, option_map, option_copied};
+ghost use Rattle.std.specs.Prelude.{IfOk, ◌≡◌, ◌≤◌, ◌+◌, [], ◌∷◌, ◌++◌, true, length, OnOk, OnErr, option_map, option_copied};
 ghost use Rattle.std.specs.List.{list_any, find, position, position_or_len};
 ghost use Rattle.std.specs.Str.{bytes_eq};
 ghost use Rattle.at_text.specs.Octets.{is_digit, skip_blanks, begins};
@@ -128,7 +128,19 @@ impl Pattern {
     pub(crate) fn takes(&self, line: &[u8]) -> bool
         ensures { result ≡ takes self.now line.now }
     {
-        self.lend().takes(line)
+        self.ends_alike(line) && self.lend().takes(line)
+    }
+
+    /// Whether the line has the text's last octet in its place: most lines of other rules haven't.
+    fn ends_alike(&self, line: &[u8]) -> bool
+        ensures { takes self.now line.now ≡ true → result ≡ true }
+    {
+        let text = self.text.as_slice();
+        if text.is_empty() {
+            return true;
+        }
+        let last = text.len() - 1;
+        last < line.len() && line[last] == text[last]
     }
 
     /// Whether some line is of both rules, where their texts are short.

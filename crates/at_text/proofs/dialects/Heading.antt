@@ -1,8 +1,9 @@
 -- The place of each rule is in the span of each line that it takes.
-use Rattle.std.specs.Prelude.{◌≡◌, ℕ, zero, suc, ◌+◌, ◌<◌, ◌≤◌, true, List, [], ◌∷◌, ◌++◌, length, map, take, drop, Some, option_map, slice_set, replicate, refl}
+use Rattle.std.specs.Prelude.{◌≡◌, ℕ, zero, suc, ◌+◌, ◌-◌, ◌<◌, ◌≤◌, true, List, [], ◌∷◌, ◌++◌, length, map, take, drop, Some, option_map, slice_set, slice_index, nat_eq, replicate, refl}
 use Rattle.std.specs.List.{slice_get, position, find}
 use Rattle.std.proofs.Common.{arith, sym, ◌∙◌, ap, subst, get_or, get_or-set_same, get_or-set_other, inl, inr}
 use Rattle.std.proofs.lemmas.Bool.{leb-true, eqb-true, cases_eq}
+use Rattle.std.proofs.lemmas.Bool.Decides.{Decides-eqb}
 use Rattle.std.proofs.lemmas.List.{append-nil, get_or_append_left, nil_from_length, length-take-le, length-map, take_more, map-append, take_all}
 use Rattle.std.proofs.lemmas.Option.{slice_get-map}
 use Rattle.at_text.specs.declared.heads.Span.{Span}
@@ -21,6 +22,14 @@ head_text text rest l = rw (get_or_append_left text rest 0 2 (omega arith), get_
 
 head_long : (p : Pattern) (line : List ℕ) → takes p line ≡ true → 4 ≤ length p.text → head line ≡ head p.text
 head_long p line h l = let t = taken p line h in ap head t.whole ∙ head_text p.text t.rest l
+
+-- a line of a rule has the last octet of the rule's text in its place
+pub last_same : (p : Pattern) (line : List ℕ) → 0 < length p.text → takes p line ≡ true
+    → nat_eq (slice_index line (length p.text - 1)) (slice_index p.text (length p.text - 1)) ≡ true
+last_same p line long h =
+    let t = taken p line h in
+    (Decides-eqb (slice_index line (length p.text - 1)) (slice_index p.text (length p.text - 1))).1
+    (ap (λ l. slice_index l (length p.text - 1)) t.whole ∙ get_or_append_left p.text t.rest 0 (length p.text - 1) (omega (arith, long)))
 
 head_line : (text line : List ℕ) → takes (pattern Line text) line ≡ true → head line ≡ head text
 head_line text line h =
