@@ -105,7 +105,12 @@ pub(crate) fn spans_of_finals(finals: &[Pattern]) -> [Span; HEADS]
 {
     let mut spans = [Span::none(); HEADS];
     for (place, pattern) in finals.iter().enumerate() {
-        mark(&mut spans, place as u8, pattern.form, pattern.text.as_slice());
+        mark(
+            &mut spans,
+            place as u8,
+            pattern.form,
+            pattern.text.as_slice(),
+        );
     }
     spans
 }
@@ -117,7 +122,12 @@ pub(crate) fn spans_of_urcs(urcs: &[Urc]) -> [Span; HEADS]
 {
     let mut spans = [Span::none(); HEADS];
     for (place, urc) in urcs.iter().enumerate() {
-        mark(&mut spans, place as u8, urc.pattern.form, urc.pattern.text.as_slice());
+        mark(
+            &mut spans,
+            place as u8,
+            urc.pattern.form,
+            urc.pattern.text.as_slice(),
+        );
     }
     spans
 }
