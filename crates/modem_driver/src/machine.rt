@@ -32,7 +32,7 @@ use crate::machine::waiting::Waiting;
 use crate::session::{SessionError, SessionFault};
 use at_text::{Dialect, UrcKind};
 use modem_desk::{Outcome, Request, Urc};
-use mux_frame::Deframer;
+use mux_frame::{Deframer, Dlci};
 use mux_station::WriteBuffer;
 use serial_line::ReadBuffer;
 use std::alloc::{AllocError, Global};
