@@ -1,5 +1,5 @@
 //! Outcomes and lines that wait for a place.
-ghost use Rattle.std.specs.Prelude.{◌≡◌, ◌≤◌, [], length, map, IfOk, OnOk, IfSome, IfNone, MatchOption, All, Contains};
+ghost use Rattle.std.specs.Prelude.{◌≡◌, ◌≤◌, [], length, map, IfOk, OnOk, IfSome, IfNone, MatchOption, true, All, Contains};
 ghost use Rattle.modem_history.specs.Acts.{act_of};
 ghost use Rattle.modem_history.specs.Sessions.{backlog_in};
 ghost use Rattle.modem_driver.specs.LineQueues.{AreFewOnEach};
