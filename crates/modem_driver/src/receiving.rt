@@ -380,6 +380,7 @@ impl Core {
             → HasRoom self.old (Got (frame_of frame.entry)) false }
         ensures no_memory { result ≡ Err CoreError.NoMemory
             → HasRoom self.old (Got (frame_of frame.entry)) true }
+        ensures good_n1 { result ≢ Err CoreError.BadN1 }
         ensures err { OnErr result (self.new ≡ self.old) }
         ensures n1 { self.new.station.n1 ≡ self.old.station.n1 }
         ensures never_full { result ≡ Err CoreError.NoRoom → ¬ CoreIsIdle self.old }

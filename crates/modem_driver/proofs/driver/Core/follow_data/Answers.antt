@@ -1,7 +1,7 @@
 -- Data of an open connection is handled, without a copy of the frame.
-use Rattle.std.proofs.Common.{◌≡◌, List, [], ◌∷◌, ◌∙◌, ap, sym, subst, refl}
+use Rattle.std.proofs.Common.{◌≡◌, List, ◌∷◌, ◌∙◌, ap, sym, subst}
 use Rattle.std.specs.Prelude.{map}
-use Rattle.mux_frame.specs.Frames.{Frame, frame_of}
+use Rattle.mux_frame.specs.Frames.{frame_of}
 use Rattle.at_text.specs.Forks.{lines_so_far}
 use Rattle.modem_history.specs.Acts.{Act, Got, act_of}
 use Rattle.modem_driver.specs.Lanes.{Lane}

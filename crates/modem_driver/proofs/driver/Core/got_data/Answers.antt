@@ -1,5 +1,5 @@
 -- Data of an open connection is handled.
-use Rattle.std.proofs.Common.{◌≡◌, List, [], ◌∷◌, ◌∙◌, ap, sym, subst, refl}
+use Rattle.std.proofs.Common.{◌≡◌, List, ◌∷◌, ◌∙◌, ap, sym, subst}
 use Rattle.std.specs.Prelude.{map}
 use Rattle.mux_frame.specs.Frames.{Frame, frame_of}
 use Rattle.at_text.specs.Forks.{lines_so_far}

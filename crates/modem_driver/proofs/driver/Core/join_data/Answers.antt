@@ -1,12 +1,11 @@
 -- A frame that was read on a fork is handled.
-use Rattle.std.proofs.Common.{◌≡◌, List, ◌∙◌, ap, refl}
+use Rattle.std.proofs.Common.{◌≡◌, ◌∙◌, ap, refl}
 use Rattle.std.specs.Prelude.{None}
 use Rattle.std.proofs.lemmas.Bool.{and_parts}
 use Rattle.mux_frame.specs.Frames.{frame_of}
 use Rattle.mux_station.specs.Sending as station_sending
 use Rattle.mux_station.specs.Sending.{got_refused}
 use Rattle.mux_station.specs.Stations.{setting_of, seen_in}
-use Rattle.modem_history.specs.Acts.{Act}
 use Rattle.modem_driver.specs.Cores.{Core, lane_at}
 use Rattle.at_text.specs.Forks.{lines_so_far}
 use Rattle.modem_driver.specs.Forks.{joined, joined_acts}

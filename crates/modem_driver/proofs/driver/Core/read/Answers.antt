@@ -1,13 +1,13 @@
 -- The information is read on a fork of what is kept of its connection.
-use Rattle.std.proofs.Common.{◌≡◌, ℕ, List, [], ◌∷◌, ◌∙◌, ap, refl, subst}
+use Rattle.std.proofs.Common.{◌≡◌, ℕ, List, [], ◌∙◌, ap, refl, subst}
 use Rattle.std.specs.Prelude.{Option, option_map, map}
 use Rattle.at_text.specs.Rules.{Rules, dialect_of}
 use Rattle.at_text.specs.OpenWindow.{OpenWindow}
 use Rattle.at_text.specs.Forks.{forked}
-use Rattle.mux_frame.specs.Frames.{Frame, frame_of}
+use Rattle.mux_frame.specs.Frames.{frame_of}
 use Rattle.modem_desk.specs.declared.request.Request.{Request}
 use Rattle.modem_driver.specs.declared.reports.Reading.{Reading}
-use Rattle.modem_history.specs.Acts.{Act, Got, act_of}
+use Rattle.modem_history.specs.Acts.{Act, act_of}
 use Rattle.modem_history.specs.Calls.{first_on}
 use Rattle.modem_driver.specs.Lanes.{Lane}
 use Rattle.modem_driver.specs.Forks.{forked_lane}

@@ -1,13 +1,12 @@
 -- A command goes into hand.
-use Rattle.std.specs.Prelude.{◌≡◌, ◌≤◌, ◌<◌, ℕ, List, [], ◌∷◌, ◌++◌, length, None, refl}
-use Rattle.std.proofs.Common.{ap, sym, ◌∙◌, subst}
+use Rattle.std.specs.Prelude.{◌≡◌, ◌≤◌, ◌<◌, ℕ, List, [], ◌∷◌, ◌++◌, length, refl}
+use Rattle.std.proofs.Common.{ap, sym, subst}
 use Rattle.modem_desk.specs.declared.request.Request.{Request}
 use Rattle.modem_history.specs.Acts.{Took}
 use Rattle.modem_history.specs.Information.{line_of}
 use Rattle.modem_history.specs.declared.act.Act.TheVariants as code
-use Rattle.modem_driver.specs.Offers.{OffersFirstCommand, sends_on}
+use Rattle.modem_driver.specs.Offers.{OffersFirstCommand}
 use Rattle.modem_driver.specs.Cores.{Core, Handles}
-use Rattle.modem_driver.specs.Holding.{KeepsHeld}
 use Rattle.modem_driver.proofs.holds.OtherCalls.{keeps_sent}
 use Rattle.modem_driver.proofs.requests.CommandRequests.{Commands, command_handles}
 use Rattle.modem_driver.proofs.requests.SentCommands.{GoesInHand, goes_in_hand}
