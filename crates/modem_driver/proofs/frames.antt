@@ -6,3 +6,4 @@ pub mod DataLines
 pub mod DataLanes
 pub mod DataFrames
 pub mod QueueRoom
+pub mod FollowingActs

@@ -10,3 +10,4 @@ pub mod CloseRequests
 pub mod StopRequests
 pub mod ProbeRequests
 pub mod CommandRequests
+pub mod SentCommands

@@ -9,6 +9,7 @@ use crate::lane::Lane;
 use at_text::{TextError, Window};
 use modem_desk::Answer;
 use modem_history::Act;
+use std::mem;
 
 /// Whether an act tells the lines of an answer.
 fn tells_lines(act: &Act) -> bool
@@ -75,21 +76,20 @@ impl Lane {
     }
 
     /// Goes on as its fork, behind what came before. Want of memory leaves it as it was.
-    pub(crate) fn join(&mut self, fork: Lane, acts: &mut Vec<Act>) -> Result<(), TextError>
-        ensures lane { OnOk result (self.new ≡ joined self.old fork) }
+    pub(crate) fn join(&mut self, fork: &mut Lane, acts: &mut Vec<Act>) -> Result<(), TextError>
+        ensures lane { OnOk result (self.new ≡ joined self.old fork.old) }
         ensures acts { OnOk result (
             map act_of acts.new.items
-            ≡ joined_acts (lines_so_far self.old.window) fork.window (map act_of acts.old.items)) }
+            ≡ joined_acts (lines_so_far self.old.window) fork.old.window (map act_of acts.old.items)) }
         ensures err { OnErr result (self.new ≡ self.old) }
     {
-        let mut lane = fork;
-        if lane.window.idle() {
+        if fork.window.idle() {
             lead_first(&mut self.window, acts)?;
         } else {
-            lane.window.follow(&mut self.window)?;
+            fork.window.follow(&mut self.window)?;
         }
-        lane.window.take_room(&mut self.window);
-        *self = lane;
+        fork.window.take_room(&mut self.window);
+        mem::swap(self, fork);
         Ok(())
     }
 }

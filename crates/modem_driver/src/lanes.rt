@@ -116,15 +116,15 @@ impl Lanes {
     pub(crate) fn join(
         &mut self,
         dlci: Dlci,
-        fork: Lane,
+        fork: &mut Lane,
         acts: &mut Vec<Act>,
     ) -> Result<bool, TextError>
         ensures lanes { OnOk result (
-            self.new ≡ slice_set self.old dlci.number (joined (lane_in self.old dlci.number) fork)) }
+            self.new ≡ slice_set self.old dlci.number (joined (lane_in self.old dlci.number) fork.old)) }
         ensures acts { OnOk result (map act_of acts.new.items ≡ joined_acts
-            (lines_so_far (lane_in self.old dlci.number).window) fork.window (map act_of acts.old.items)) }
+            (lines_so_far (lane_in self.old dlci.number).window) fork.old.window (map act_of acts.old.items)) }
         ensures done { IfOk result (λ done.
-            done ≡ (is_some (lane_in self.old dlci.number).window && is_none fork.window)) }
+            done ≡ (is_some (lane_in self.old dlci.number).window && is_none fork.old.window)) }
         ensures err { OnErr result (self.new ≡ self.old) }
     {
         let lane = &mut self.each[usize::from(dlci.number())];

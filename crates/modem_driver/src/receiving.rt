@@ -1,5 +1,5 @@
 //! Handles received frames (27.010, 5.4).
-ghost use Rattle.std.specs.Prelude.{List, None, ◌≡◌, ◌≢◌, ◌≤◌, ◌<◌, ◌+◌, ◌-◌, ◌++◌, ◌∷◌, ◌&&◌, not, [], true, false, length, map, slice_get, slice_set, position, option_map, is_some, is_none, IfOk, OnOk, OnErr, vec_capacity};
+ghost use Rattle.std.specs.Prelude.{List, None, ◌≡◌, ◌≢◌, ◌≤◌, ◌<◌, ◌+◌, ◌-◌, ◌++◌, ◌∷◌, ◌&&◌, not, [], true, false, length, drop, map, slice_get, slice_set, position, option_map, is_some, is_none, IfOk, OnOk, OnErr, vec_capacity};
 ghost use Rattle.mux_frame.specs.Frames.{frame_of, kept_frame};
 ghost use Rattle.mux_frame.specs.Spelling.{most_info};
 ghost use Rattle.mux_station.specs.Acts as station_acts;
@@ -8,7 +8,7 @@ ghost use Rattle.mux_station.specs.Noting.{says_open, noted_of};
 ghost use Rattle.mux_station.specs.Sending.{got_refused, station_view};
 ghost use Rattle.mux_station.specs.Stations.{setting_of, seen_in};
 ghost use Rattle.mux_station.specs.Tables.{have_room, octets_of, by_frame};
-ghost use Rattle.modem_history.specs.Acts.{act_of, Got};
+ghost use Rattle.modem_history.specs.Acts.{Act as Happening, act_of, Got};
 ghost use Rattle.modem_driver.specs.Running.{CoreIsIdle};
 ghost use Rattle.modem_driver.specs.Cores.{Handles, shows_opened, lane_at};
 ghost use Rattle.modem_driver.specs.Lanes.{new_lane};
@@ -136,6 +136,8 @@ impl Core {
             Handles self.old self.new (Got (frame_of frame.entry)) (map act_of acts.items)) }
         ensures holds { IfOk result (λ acts.
             KeepsHeld self.old self.new (Got (frame_of frame.entry)) (map act_of acts.items)) }
+        ensures first { IfOk result (λ acts.
+            map act_of acts.items ≡ Got (frame_of frame.entry) ∷ drop 1 (map act_of acts.items)) }
         ensures room { OnOk result (HasRoom self.old (Got (frame_of frame.entry)) true) }
         ensures no_room { result ≡ Err CoreError.NoRoom
             → HasRoom self.old (Got (frame_of frame.entry)) false }
@@ -177,12 +179,19 @@ impl Core {
         self.lanes.fork(dlci)
     }
 
-    /// Reads the information of a frame on a fork of what is kept of its connection.
-    fn read(&mut self, frame: FrameView<'_>) -> Result<(Lane, Vec<Act>), CoreError>
-        ensures read { IfOk result (λ p.
-            ReadsApart self.old (frame_of frame.entry) p.0 (map act_of p.1.items)) }
-        ensures held { IfOk result (λ p. p.0.held ≡ (lane_at self.old (frame_of frame.entry).dlci).held) }
-        ensures same { self.new ≡ self.old }
+    /// Reads the information of a frame on a fork of what is kept of its connection. What is said of its lines goes
+    /// into the acts, which has none before.
+    fn read(
+        &self,
+        frame: FrameView<'_>,
+        fork: &mut Lane,
+        acts: &mut Vec<Act>,
+    ) -> Result<(), CoreError>
+        requires fork { fork.old ≡ forked_lane (lane_at self.now (frame_of frame).dlci) }
+        requires none { acts.old.items ≡ [] }
+        ensures read { OnOk result (ReadsApart self.now (frame_of frame.entry) fork.new
+            (Got (frame_of frame.entry) ∷ map act_of acts.new.items)) }
+        ensures held { fork.new.held ≡ fork.old.held }
         ensures no_memory { OnErr result (result ≡ Err CoreError.NoMemory) }
     {
         let reading = Reading {
@@ -190,8 +199,6 @@ impl Core {
             dlci: frame.dlci,
             owner: first_owner(self.hand.as_slice(), frame.dlci),
         };
-        let mut fork = self.fork(frame.dlci);
-        let mut acts = vec![in self.alloc; Act::Got(frame.to_buf(self.alloc)?)]?;
         read_octets(
             reading,
             &self.dialect,
@@ -199,9 +206,9 @@ impl Core {
             frame.info,
             &mut fork.reader,
             &mut fork.window,
-            &mut acts,
+            acts,
         )?;
-        Ok((fork, acts))
+        Ok(())
     }
 
     /// The command under way on the connection has its answer: it is in hand no more, and the next one
@@ -217,14 +224,19 @@ impl Core {
 
     /// A connection's lane goes on as its fork. Says whether a command was under way there and is no more.
     /// Want of memory changes nothing.
-    fn join_lane(&mut self, dlci: Dlci, fork: Lane, acts: &mut Vec<Act>) -> Result<bool, CoreError>
+    fn join_lane(
+        &mut self,
+        dlci: Dlci,
+        fork: &mut Lane,
+        acts: &mut Vec<Act>,
+    ) -> Result<bool, CoreError>
         ensures after { OnOk result (self.new ≡ record self.old {
-          lanes = slice_set self.old.lanes dlci.number (joined (lane_at self.old dlci.number) fork);
+          lanes = slice_set self.old.lanes dlci.number (joined (lane_at self.old dlci.number) fork.old);
         }) }
         ensures acts { OnOk result (map act_of acts.new.items ≡ joined_acts
-            (lines_so_far (lane_at self.old dlci.number).window) fork.window (map act_of acts.old.items)) }
+            (lines_so_far (lane_at self.old dlci.number).window) fork.old.window (map act_of acts.old.items)) }
         ensures done { IfOk result (λ done.
-            done ≡ (is_some (lane_at self.old dlci.number).window && is_none fork.window)) }
+            done ≡ (is_some (lane_at self.old dlci.number).window && is_none fork.old.window)) }
         ensures err { OnErr result (self.new ≡ self.old) }
         ensures no_memory { OnErr result (result ≡ Err CoreError.NoMemory) }
     {
@@ -243,6 +255,38 @@ impl Core {
         }
     }
 
+    /// A frame that was read on a fork: its connection goes on as that, the station takes the frame, and where the
+    /// command under way has its answer, the next one goes out. Want of memory changes nothing.
+    fn join_data(
+        &mut self,
+        frame: FrameView<'_>,
+        fork: &mut Lane,
+        acts: &mut Vec<Act>,
+    ) -> Result<(), CoreError>
+        requires short { length frame.info.now ≤ most_info self.old.station.n1 frame.kind }
+        requires live { self.old.lost ≡ false }
+        requires is_data { reads_data self.old (frame_of frame) ≡ true }
+        requires held { fork.old.held ≡ (lane_at self.old (frame_of frame).dlci).held }
+        ensures acts { OnOk result (map act_of acts.new.items ≡ joined_acts
+            (lines_so_far (lane_at self.old (frame_of frame.entry).dlci).window) fork.old.window
+            (map act_of acts.old.items)) }
+        ensures past { OnOk result ((said : List Happening) → ReadsApart self.old (frame_of frame.entry) fork.old said
+            → Handles self.old self.new (Got (frame_of frame.entry)) (joined_acts
+            (lines_so_far (lane_at self.old (frame_of frame.entry).dlci).window) fork.old.window said)) }
+        ensures holds { OnOk result ((said : List Happening) → ReadsApart self.old (frame_of frame.entry) fork.old said
+            → KeepsHeld self.old self.new (Got (frame_of frame.entry)) (joined_acts
+            (lines_so_far (lane_at self.old (frame_of frame.entry).dlci).window) fork.old.window said)) }
+        ensures room { OnOk result (HasRoom self.old (Got (frame_of frame.entry)) true) }
+        ensures no_memory { OnErr result (result ≡ Err CoreError.NoMemory) }
+        ensures err { OnErr result (self.new ≡ self.old) }
+        ensures n1 { self.new.station.n1 ≡ self.old.station.n1 }
+    {
+        let done = self.join_lane(frame.dlci, fork, acts)?;
+        let _noted = take(&mut self.station, frame);
+        self.go_on(frame.dlci, done);
+        Ok(())
+    }
+
     /// Data of an open connection.
     fn got_data(&mut self, frame: FrameView<'_>) -> Result<Vec<Act>, CoreError>
         requires short { length frame.info.now ≤ most_info self.old.station.n1 frame.kind }
@@ -257,10 +301,32 @@ impl Core {
         ensures err { OnErr result (self.new ≡ self.old) }
         ensures n1 { self.new.station.n1 ≡ self.old.station.n1 }
     {
-        let (fork, mut acts) = self.read(frame)?;
-        let done = self.join_lane(frame.dlci, fork, &mut acts)?;
-        let _noted = take(&mut self.station, frame);
-        self.go_on(frame.dlci, done);
+        let mut fork = self.fork(frame.dlci);
+        let mut acts = Vec::new(self.alloc);
+        self.read(frame, &mut fork, &mut acts)?;
+        acts.insert(0, Act::Got(frame.to_buf(self.alloc)?))?;
+        self.join_data(frame, &mut fork, &mut acts)?;
+        Ok(acts)
+    }
+
+    /// The same without the first act, which is that the frame came.
+    fn follow_data(&mut self, frame: FrameView<'_>) -> Result<Vec<Act>, CoreError>
+        requires short { length frame.info.now ≤ most_info self.old.station.n1 frame.kind }
+        requires live { self.old.lost ≡ false }
+        requires is_data { reads_data self.old (frame_of frame) ≡ true }
+        ensures past { IfOk result (λ acts. Handles self.old self.new (Got (frame_of frame.entry))
+            (Got (frame_of frame.entry) ∷ map act_of acts.items)) }
+        ensures holds { IfOk result (λ acts. KeepsHeld self.old self.new (Got (frame_of frame.entry))
+            (Got (frame_of frame.entry) ∷ map act_of acts.items)) }
+        ensures room { OnOk result (HasRoom self.old (Got (frame_of frame.entry)) true) }
+        ensures no_memory { OnErr result (result ≡ Err CoreError.NoMemory) }
+        ensures err { OnErr result (self.new ≡ self.old) }
+        ensures n1 { self.new.station.n1 ≡ self.old.station.n1 }
+    {
+        let mut fork = self.fork(frame.dlci);
+        let mut acts = Vec::new(self.alloc);
+        self.read(frame, &mut fork, &mut acts)?;
+        self.join_data(frame, &mut fork, &mut acts)?;
         Ok(acts)
     }
 
@@ -299,6 +365,35 @@ impl Core {
         } else {
             self.got_other(frame)
         }
+    }
+
+    /// Handles a received frame as `got` does, and gives the acts that follow on its coming: those of `got` without the
+    /// first. So no copy of the frame is made. Its refusals are those of `got`.
+    pub(crate) fn follow(&mut self, frame: FrameView<'_>) -> Result<Vec<Act>, CoreError>
+        requires { length frame.info.now ≤ most_info self.old.station.n1 frame.kind }
+        ensures past { IfOk result (λ acts. Handles self.old self.new (Got (frame_of frame.entry))
+            (Got (frame_of frame.entry) ∷ map act_of acts.items)) }
+        ensures holds { IfOk result (λ acts. KeepsHeld self.old self.new (Got (frame_of frame.entry))
+            (Got (frame_of frame.entry) ∷ map act_of acts.items)) }
+        ensures room { OnOk result (HasRoom self.old (Got (frame_of frame.entry)) true) }
+        ensures no_room { result ≡ Err CoreError.NoRoom
+            → HasRoom self.old (Got (frame_of frame.entry)) false }
+        ensures no_memory { result ≡ Err CoreError.NoMemory
+            → HasRoom self.old (Got (frame_of frame.entry)) true }
+        ensures good_n1 { result ≢ Err CoreError.BadN1 }
+        ensures err { OnErr result (self.new ≡ self.old) }
+        ensures n1 { self.new.station.n1 ≡ self.old.station.n1 }
+        ensures never_full { result ≡ Err CoreError.NoRoom → ¬ CoreIsIdle self.old }
+    {
+        if self.lost {
+            return Ok(Vec::new(self.alloc));
+        }
+        if self.is_data(frame) {
+            return self.follow_data(frame);
+        }
+        let mut acts = self.got_other(frame)?;
+        acts.remove(0);
+        Ok(acts)
     }
 }
 

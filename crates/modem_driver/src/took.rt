@@ -1,12 +1,12 @@
 //! Takes requests.
-ghost use Rattle.std.specs.Prelude.{◌≡◌, ◌∷◌, [], ◌<◌, ◌≤◌, ◌++◌, length, map, false, IfOk, IfErr, OnErr};
+ghost use Rattle.std.specs.Prelude.{◌≡◌, ◌∷◌, [], ◌<◌, ◌≤◌, ◌++◌, length, map, false, Some, IfOk, IfErr, OnErr};
 ghost use Rattle.modem_history.specs.Acts.{act_of, Took};
 ghost use Rattle.std.specs.List.{list_any};
 ghost use Rattle.mux_station.specs.Stations.{setting_of};
 ghost use Rattle.mux_station.specs.declared.role.Role.TheVariants.{Initiator};
 ghost use Rattle.modem_history.specs.Information.{command_on, line_in, line_of};
 ghost use Rattle.modem_history.specs.Requests.{commands_on};
-ghost use Rattle.modem_driver.specs.Offers.{refused_command, TakesLine, OffersFirstCommand};
+ghost use Rattle.modem_driver.specs.Offers.{refused_command, sends_on, TakesLine, OffersFirstCommand};
 ghost use Rattle.modem_driver.specs.Refusals.{refusal_answer, told_act};
 ghost use Rattle.modem_driver.specs.Telling.{told_by, told_to, left_by};
 ghost use Rattle.modem_driver.specs.Cores.{state_shown, Handles};
@@ -131,6 +131,34 @@ impl Core {
         }
     }
 
+    /// The connection of a command that goes into hand and isn't told at once.
+    pub(crate) fn sends_on(&self, ask: &Ask) -> Option<Dlci>
+        ensures { result ≡ sends_on self.now ask.now }
+    {
+        let Ask::Command(dlci, _) = ask else {
+            return None;
+        };
+        if self.lost || self.hand.is_full() || refuses_command(&self.station, *dlci).is_some() {
+            return None;
+        }
+        Some(*dlci)
+    }
+
+    /// Such a command is in hand from then on, and enters the send ring where no other of its connection is in hand.
+    /// It takes no memory.
+    pub(crate) fn send(&mut self, dlci: Dlci, request: Request)
+        requires { sends_on self.old request.ask ≡ Some dlci }
+        ensures past { Handles self.old self.new (Took request) (Took request ∷ []) }
+        ensures holds { KeepsHeld self.old self.new (Took request) (Took request ∷ []) }
+        ensures lanes { self.new.lanes ≡ self.old.lanes }
+        ensures n1 { self.new.station.n1 ≡ self.old.station.n1 }
+        ensures role { self.old.station.role ≡ Initiator }
+    {
+        let text = text_of(&request.ask);
+        offer_first(&self.hand, &mut self.station, dlci, text);
+        self.hand.push(request);
+    }
+
     /// A connection is to be opened.
     fn take_open(&mut self, dlci: Dlci, request: Request) -> Result<Vec<Act>, (CoreError, Request)>
         requires ask { request.ask ≡ Ask.OpenChannel dlci }
@@ -199,9 +227,7 @@ impl Core {
             acts.push(told(&copy, why));
             return Ok(acts.into_vec());
         }
-        let text = text_of(&copy.ask);
-        offer_first(&self.hand, &mut self.station, dlci, text);
-        self.hand.push(copy);
+        self.send(dlci, copy);
         Ok(acts.into_vec())
     }
 

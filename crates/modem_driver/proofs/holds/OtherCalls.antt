@@ -51,6 +51,9 @@ pub keeps_took : {E : Type 0} → (r : Result (Vec code.Act) E) (old new : Core)
 keeps_took (Ok x) old new q n h = keeps_by old new (Took q) (map act_of x.items) (took_keeps q) n h
 keeps_took (Err e) old new q n h = h
 
+pub keeps_sent : (old new : Core) (q : Request) (acts : List Act) → new.lanes ≡ old.lanes → Handles old new (Took q) acts → KeepsHeld old new (Took q) acts
+keeps_sent old new q acts n h = keeps_by old new (Took q) acts (took_keeps q) n h
+
 pub keeps_tick : (old new : Core) (acts : List Act) → new.lanes ≡ old.lanes → Handles old new Tick acts → KeepsHeld old new Tick acts
 keeps_tick old new acts n h = keeps_by old new Tick acts tick_keeps n h
 

@@ -148,12 +148,27 @@ all_dropped (suc n) [] h = refl
 all_dropped zero (x ∷ xs) h = absurd (let e : suc (length xs) ≤ 0 = h in omega (arith, e))
 all_dropped (suc n) (x ∷ xs) h = all_dropped n xs (let e : suc (length xs) ≤ suc n = h in omega (arith, e))
 
+-- ## What was said before
+
+behind : Act → Read → Read
+behind a r = record { kept = r.kept; window = r.window; acts = a ∷ r.acts }
+
+-- what is said goes behind an act of before
+each_behind : (dialect : Dialect) (listens : UrcKind → Bool) (d : ℕ) (owner : Option Owner) (a : Act) (r : Read) (octets : List ℕ) → read_each dialect listens d owner (behind a r) octets ≡ behind a (read_each dialect listens d owner r octets)
+unfolding behind
+each_behind dialect listens d owner a r [] = refl
+each_behind dialect listens d owner a r (c ∷ octets) = each_behind dialect listens d owner a (read_on dialect listens d owner r (c ∷ [])) octets
+
 -- a frame is read from what is kept of its connection, on a fork of its window
 pub reads_apart : (v : Core) (f : Frame) (kinds : List UrcKind) (r : Reading) (first last : Read) (held : Bool) → kinds ≡ v.kinds → r.dlci.number ≡ f.dlci → r.owner ≡ option_map owner_of (first_on f.dlci v.hand)
-    → first ≡ record { kept = (lane_at v f.dlci).kept; window = forked (lane_at v f.dlci).window; acts = Got f ∷ [] } → ReadsAll (dialect_in v) kinds r f.info first last
-    → ReadsApart v f (record { kept = last.kept; window = last.window; held = held }) last.acts
-unfolding ReadsAll ReadsApart
+    → first ≡ record { kept = (lane_at v f.dlci).kept; window = forked (lane_at v f.dlci).window; acts = [] } → ReadsAll (dialect_in v) kinds r f.info first last
+    → ReadsApart v f (record { kept = last.kept; window = last.window; held = held }) (Got f ∷ last.acts)
+unfolding ReadsAll ReadsApart behind
 reads_apart v f kinds r first last held k d o e reads listens h =
-    reads listens (subst (λ (x : List UrcKind). Listens listens x) (sym k) h)
+    let start : Read = record { kept = (lane_at v f.dlci).kept; window = forked (lane_at v f.dlci).window; acts = [] } in
+    let owner = option_map owner_of (first_on f.dlci v.hand) in
+    let same : last ≡ read_each (dialect_in v) listens f.dlci owner start f.info
+    = reads listens (subst (λ (x : List UrcKind). Listens listens x) (sym k) h)
     ∙ (ap (λ (n : ℕ). read_each (dialect_in v) listens n r.owner first f.info) d
-    ∙ (ap (λ (x : Option Owner). read_each (dialect_in v) listens f.dlci x first f.info) o ∙ ap (λ (x : Read). read_each (dialect_in v) listens f.dlci (option_map owner_of (first_on f.dlci v.hand)) x f.info) e))
+    ∙ (ap (λ (x : Option Owner). read_each (dialect_in v) listens f.dlci x first f.info) o ∙ ap (λ (x : Read). read_each (dialect_in v) listens f.dlci owner x f.info) e)) in
+    ap (behind (Got f)) same ∙ sym (each_behind (dialect_in v) listens f.dlci owner (Got f) start f.info)

@@ -213,6 +213,11 @@ reads_joined v f fork acts apart listens h =
     = subst (λ (r : Read). many r.acts + under_way r.window ≤ 1) (sym same) (omega (arith, most, began)) in
     ap (λ (xs : List Act). let r : Read = record { kept = fork.kept; window = led_by ls fork.window; acts = xs } in r) (joined_is ls fork.window acts told) ∙ reads
 
+-- a frame that came stays first
+pub joined_came : (ls : List AnswerLine) (w : Option OpenWindow) (f : Frame) (acts : List Act) → joined_acts ls w (Got f ∷ acts) ≡ Got f ∷ joined_acts ls w acts
+joined_came ls None f acts = refl
+joined_came ls (Some o) f acts = refl
+
 -- ## The call
 
 unclosed : (ls : List AnswerLine) (w : Option OpenWindow) → is_none w ≡ is_none (led_by ls w)

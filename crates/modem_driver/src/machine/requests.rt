@@ -21,6 +21,10 @@ impl Machine {
         ensures err { OnErr result (self.new ≡ self.old) }
         ensures back { IfErr result (λ r. r ≡ request) }
     {
+        if let Some(dlci) = self.core.sends_on(&request.ask) {
+            self.core.send(dlci, request);
+            return Ok(());
+        }
         match self.core.took(request) {
             Ok(acts) => {
                 self.waiting.keep(acts);

@@ -57,6 +57,10 @@ impl Machine {
         let Some(request) = self.aside.take() else {
             return Ok(false);
         };
+        if let Some(dlci) = self.core.sends_on(&request.ask) {
+            self.core.send(dlci, request);
+            return Ok(true);
+        }
         match self.core.took(request) {
             Ok(acts) => {
                 self.waiting.keep(acts);

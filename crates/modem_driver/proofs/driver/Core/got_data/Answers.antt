@@ -1,67 +1,52 @@
 -- Data of an open connection is handled.
-use Rattle.std.proofs.Common.{◌≡◌, ◌∙◌, ap, subst}
-use Rattle.std.specs.Prelude.{◌&&◌, None, map, is_some, is_none}
-use Rattle.std.proofs.lemmas.Bool.{and_parts}
-use Rattle.mux_frame.specs.Frames.{frame_of}
-use Rattle.mux_station.specs.Sending as station_sending
-use Rattle.mux_station.specs.Sending.{got_refused}
-use Rattle.mux_station.specs.Stations.{setting_of, seen_in}
-use Rattle.modem_history.specs.Acts.{act_of}
-use Rattle.modem_driver.specs.Cores.{Core, lane_at}
+use Rattle.std.proofs.Common.{◌≡◌, List, ◌∷◌, ◌∙◌, ap, sym, subst}
+use Rattle.std.specs.Prelude.{map}
+use Rattle.mux_frame.specs.Frames.{Frame, frame_of}
 use Rattle.at_text.specs.Forks.{lines_so_far}
-use Rattle.modem_driver.specs.Forks.{joined, joined_acts}
-use Rattle.modem_driver.proofs.outgoing.CoreAfterFrame.{sound}
-use Rattle.modem_driver.proofs.frames.OtherFrames.{taken_room}
-use Rattle.modem_driver.proofs.commands.OfferedOctets.{ended_n1}
-use Rattle.modem_driver.proofs.holds.HoldsAndFrames.{data_holds}
-use Rattle.modem_driver.proofs.frames.DataFrames.{DataCame, data_handles}
-use Rattle.modem_driver.proofs.lines.WindowForks.{IsJoined, sound_before, data_came}
+use Rattle.modem_history.specs.Acts.{Act, Got, act_of}
+use Rattle.modem_driver.specs.Lanes.{Lane}
+use Rattle.modem_driver.specs.Forks.{forked_lane, joined_acts}
+use Rattle.modem_driver.specs.Cores.{Core, Handles, lane_at}
+use Rattle.modem_driver.specs.Holding.{KeepsHeld}
 use Rattle.modem_driver.proofs.driver.Core.got_data.Goals as goal
+
+pub read-requires-clause-fork : goal.read-requires-clause-fork
+read-requires-clause-fork c =
+    let f = frame_of c.args.frame in
+    c.fork-fork.ensures.fork ∙ ap (λ (v : Core). forked_lane (lane_at v f.dlci)) (sym c.fork-fork.ensures.same)
+
+pub join_data-requires-clause-held : goal.join_data-requires-clause-held
+join_data-requires-clause-held c =
+    let f = frame_of c.args.frame in
+    c.in_ok-read.ensures.held ∙ (ap (λ (x : Lane). x.held) c.fork-fork.ensures.fork ∙ ap (λ (v : Core). (lane_at v f.dlci).held) (sym c.fork-fork.ensures.same))
 
 pub returns-clause-past : goal.returns-clause-past
 returns-clause-past c =
-    let old = c.args.self.now in
-    let mid : Core = record { station = c.self.inside.station; lanes = c.self.inside.lanes; hand = c.self.inside.hand; rules = c.self.inside.dialect; kinds = c.self.inside.kinds.items; lost = c.self.inside.lost } in
     let f = frame_of c.args.frame in
-    let acts = map act_of c.join_lane.new.acts.items in
-    let m : IsJoined old mid f.dlci c.in_ok-fork.fork
-    = subst (λ (v : Core). IsJoined v mid f.dlci c.in_ok-fork.fork) c.read.ensures.same (c.self.view_is ∙ c.in_ok-done.ensures.after) in
-    let behind = subst (λ (v : Core). acts ≡ joined_acts (lines_so_far (lane_at v f.dlci).window) c.in_ok-fork.fork.window (map act_of c.in_ok-fork.acts.items)) c.read.ensures.same c.in_ok-done.ensures.acts in
-    let done = subst (λ (v : Core). c.in_ok-done.done ≡ (is_some (lane_at v f.dlci).window && is_none c.in_ok-fork.fork.window)) c.read.ensures.same c.in_ok-done.ensures.done in
-    data_handles old c.go_on.new.self f c.take-noted.result (joined (lane_at old f.dlci) c.in_ok-fork.fork) c.take-noted.new.station acts (sound_before old mid f.dlci c.in_ok-fork.fork m (sound mid c.self.inside.n1 c.self.invariant))
-    (data_came old mid c.go_on.new.self f c.in_ok-fork.fork (map act_of c.in_ok-fork.acts.items) acts c.in_ok-done.done c.take-noted.result c.take-noted.new.station c.requires.live c.requires.is_data c.args.frame.dlci.in_range
-    c.in_ok-fork.ensures.read m behind done c.take-noted.ensures.past c.take-noted.ensures.noted c.go_on.ensures)
-
-pub returns-clause-room : goal.returns-clause-room
-returns-clause-room c =
-    let old = c.args.self.now in
-    let mid : Core = record { station = c.self.inside.station; lanes = c.self.inside.lanes; hand = c.self.inside.hand; rules = c.self.inside.dialect; kinds = c.self.inside.kinds.items; lost = c.self.inside.lost } in
-    let f = frame_of c.args.frame in
-    let m : IsJoined old mid f.dlci c.in_ok-fork.fork
-    = subst (λ (v : Core). IsJoined v mid f.dlci c.in_ok-fork.fork) c.read.ensures.same (c.self.view_is ∙ c.in_ok-done.ensures.after) in
-    let taken : None ≡ got_refused (setting_of old.station) (seen_in old.station) f
-    = c.take-noted.ensures.taken ∙ ap (λ (v : Core). got_refused (setting_of v.station) (seen_in v.station) f) m in
-    taken_room old f (sound_before old mid f.dlci c.in_ok-fork.fork m (sound mid c.self.inside.n1 c.self.invariant)) c.requires.live c.args.frame.dlci.in_range taken
-
-pub returns-clause-n1 : goal.returns-clause-n1
-returns-clause-n1 c =
-    ended_n1 _ _ c.go_on.new.self c.args.frame.dlci.number c.go_on.ensures
-    ∙ (ap (λ (s : station_sending.StationSetting). s.n1) c.take-noted.ensures.past.setting ∙ (ap (λ (v : Core). v.station.n1) (c.self.view_is ∙ c.in_ok-done.ensures.after) ∙ ap (λ (v : Core). v.station.n1) c.read.ensures.same))
+    let v = c.fork-fork.new.self in
+    let fork = c.read.new.fork in
+    let more = map act_of c.read.new.acts.items in
+    let acts = map act_of c.join_data.new.acts.items in
+    let came : map act_of c.insert.new.self.items ≡ Got f ∷ more
+    = ap (map act_of) c.in_ok-insert.ensures.items ∙ ap (λ (g : Frame). Got g ∷ more) c.in_ok-to_buf.ensures in
+    let behind : acts ≡ joined_acts (lines_so_far (lane_at v f.dlci).window) fork.window (Got f ∷ more)
+    = c.in_ok-join_data.ensures.acts ∙ ap (joined_acts (lines_so_far (lane_at v f.dlci).window) fork.window) came in
+    let there : Handles v c.join_data.new.self (Got f) acts
+    = subst (λ (xs : List Act). Handles v c.join_data.new.self (Got f) xs) (sym behind) (c.in_ok-join_data.ensures.past (Got f ∷ more) c.in_ok-read.ensures.read) in
+    subst (λ (x : Core). Handles x c.join_data.new.self (Got f) acts) c.fork-fork.ensures.same there
 
 pub returns-clause-holds : goal.returns-clause-holds
 returns-clause-holds c =
-    let old = c.args.self.now in
-    let mid : Core = record { station = c.self.inside.station; lanes = c.self.inside.lanes; hand = c.self.inside.hand; rules = c.self.inside.dialect; kinds = c.self.inside.kinds.items; lost = c.self.inside.lost } in
     let f = frame_of c.args.frame in
-    let new = c.go_on.new.self in
-    let lane = joined (lane_at old f.dlci) c.in_ok-fork.fork in
-    let acts = map act_of c.join_lane.new.acts.items in
-    let quiet = (and_parts _ _ c.requires.is_data).1 in
-    let m : IsJoined old mid f.dlci c.in_ok-fork.fork
-    = subst (λ (v : Core). IsJoined v mid f.dlci c.in_ok-fork.fork) c.read.ensures.same (c.self.view_is ∙ c.in_ok-done.ensures.after) in
-    let behind = subst (λ (v : Core). acts ≡ joined_acts (lines_so_far (lane_at v f.dlci).window) c.in_ok-fork.fork.window (map act_of c.in_ok-fork.acts.items)) c.read.ensures.same c.in_ok-done.ensures.acts in
-    let done = subst (λ (v : Core). c.in_ok-done.done ≡ (is_some (lane_at v f.dlci).window && is_none c.in_ok-fork.fork.window)) c.read.ensures.same c.in_ok-done.ensures.done in
-    let came : DataCame old new f c.take-noted.result lane c.take-noted.new.station acts
-    = data_came old mid new f c.in_ok-fork.fork (map act_of c.in_ok-fork.acts.items) acts c.in_ok-done.done c.take-noted.result c.take-noted.new.station c.requires.live c.requires.is_data c.args.frame.dlci.in_range
-    c.in_ok-fork.ensures.read m behind done c.take-noted.ensures.past c.take-noted.ensures.noted c.go_on.ensures in
-    data_holds old new f lane c.take-noted.new.station _ acts quiet c.in_ok-fork.ensures.held came.ends (returns-clause-past c)
+    let v = c.fork-fork.new.self in
+    let fork = c.read.new.fork in
+    let more = map act_of c.read.new.acts.items in
+    let acts = map act_of c.join_data.new.acts.items in
+    let came : map act_of c.insert.new.self.items ≡ Got f ∷ more
+    = ap (map act_of) c.in_ok-insert.ensures.items ∙ ap (λ (g : Frame). Got g ∷ more) c.in_ok-to_buf.ensures in
+    let behind : acts ≡ joined_acts (lines_so_far (lane_at v f.dlci).window) fork.window (Got f ∷ more)
+    = c.in_ok-join_data.ensures.acts ∙ ap (joined_acts (lines_so_far (lane_at v f.dlci).window) fork.window) came in
+    let there : KeepsHeld v c.join_data.new.self (Got f) acts
+    = subst (λ (xs : List Act). KeepsHeld v c.join_data.new.self (Got f) xs) (sym behind) (c.in_ok-join_data.ensures.holds (Got f ∷ more) c.in_ok-read.ensures.read) in
+    subst (λ (x : Core). KeepsHeld x c.join_data.new.self (Got f) acts) c.fork-fork.ensures.same there
+

@@ -1,6 +1,6 @@
 -- A frame that isn't data of an open connection is handled.
 use Rattle.std.proofs.Common.{◌≡◌, ◌≤◌, ℕ, Bool, List, [], ◌∷◌, ◌++◌, length, ◌∙◌, ap, sym, subst, true, false}
-use Rattle.std.specs.Prelude.{Some, None, map, slice_get, ◌&&◌, not, vec_capacity, if◌then◌else◌}
+use Rattle.std.specs.Prelude.{Some, None, drop, map, slice_get, ◌&&◌, not, vec_capacity, if◌then◌else◌}
 use Rattle.std.proofs.lemmas.List.{map-append}
 use Rattle.mux_frame.specs.Frames.{Frame, frame_of}
 use Rattle.mux_station.specs.declared.role.ChannelState.{ChannelState}
@@ -124,6 +124,20 @@ returns-clause-past c =
     } in
     subst (λ (v : Core). Handles v c.start_lane.new.self (Got f) (map act_of c.into_vec.result.items)) c.self.view_is
     (other_handles old c.start_lane.new.self f n st ended (map act_of c.into_vec.result.items) (sound old c.self.inside.n1 c.self.invariant) came)
+
+pub returns-clause-first : goal.returns-clause-first
+returns-clause-first c =
+    let f = frame_of c.args.frame in
+    let acts = map act_of c.into_vec.result.items in
+    let sent = sent_in (vec_capacity c.in_ok-spare.spare) (slice_get c.take-noted.new.station.queue c.queue_len-place.result) in
+    let says = told_to (told_by (happened.Got c.take-noted.result) c.has_ended-ended.result (λ d. state_shown c.push_sent.new.station c.self.inside.lost d)) c.self.inside.hand in
+    let began : map act_of c.push.new.self.acts ≡ Got f ∷ []
+    = ap (λ (v : ActList). map act_of v.acts) c.push.ensures
+    ∙ (ap (λ (v : ActList). map act_of (v.acts ++ code.TheVariants.Got c.in_ok-to_buf.field-0 ∷ [])) c.in_ok-acts.ensures ∙ ap (λ (g : Frame). Got g ∷ []) c.in_ok-to_buf.ensures) in
+    let whole : acts ≡ Got f ∷ (sent ++ map act_of says)
+    = ap (map act_of) (c.into_vec.ensures ∙ c.tell.ensures.acts)
+    ∙ (map-append act_of c.push_sent.new.acts.acts says ∙ ap (λ (v : List Act). v ++ map act_of says) (c.push_sent.ensures.acts ∙ ap (λ (v : List Act). v ++ sent) began)) in
+    whole ∙ ap (λ (xs : List Act). Got f ∷ drop 1 xs) (sym whole)
 
 pub returns-clause-room : goal.returns-clause-room
 returns-clause-room c =

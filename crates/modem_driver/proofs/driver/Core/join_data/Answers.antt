@@ -1,0 +1,62 @@
+-- A frame that was read on a fork is handled.
+use Rattle.std.proofs.Common.{◌≡◌, ◌∙◌, ap, refl}
+use Rattle.std.specs.Prelude.{None}
+use Rattle.std.proofs.lemmas.Bool.{and_parts}
+use Rattle.mux_frame.specs.Frames.{frame_of}
+use Rattle.mux_station.specs.Sending as station_sending
+use Rattle.mux_station.specs.Sending.{got_refused}
+use Rattle.mux_station.specs.Stations.{setting_of, seen_in}
+use Rattle.modem_driver.specs.Cores.{Core, lane_at}
+use Rattle.at_text.specs.Forks.{lines_so_far}
+use Rattle.modem_driver.specs.Forks.{joined, joined_acts}
+use Rattle.modem_driver.proofs.outgoing.CoreAfterFrame.{sound}
+use Rattle.modem_driver.proofs.frames.OtherFrames.{taken_room}
+use Rattle.modem_driver.proofs.commands.OfferedOctets.{ended_n1}
+use Rattle.modem_driver.proofs.holds.HoldsAndFrames.{data_holds}
+use Rattle.modem_driver.proofs.frames.DataFrames.{DataCame, data_handles}
+use Rattle.modem_driver.proofs.lines.WindowForks.{IsJoined, sound_before, data_came}
+use Rattle.modem_driver.proofs.driver.Core.join_data.Goals as goal
+
+pub returns-clause-past : goal.returns-clause-past
+returns-clause-past c = λ said reads.
+    let old = c.args.self.now in
+    let mid : Core = record { station = c.self.inside.station; lanes = c.self.inside.lanes; hand = c.self.inside.hand; rules = c.self.inside.dialect; kinds = c.self.inside.kinds.items; lost = c.self.inside.lost } in
+    let f = frame_of c.args.frame in
+    let fork = c.args.fork.now in
+    let acts = joined_acts (lines_so_far (lane_at old f.dlci).window) fork.window said in
+    let m : IsJoined old mid f.dlci fork = c.self.view_is ∙ c.in_ok-done.ensures.after in
+    data_handles old c.go_on.new.self f c.take-noted.result (joined (lane_at old f.dlci) fork) c.take-noted.new.station acts (sound_before old mid f.dlci fork m (sound mid c.self.inside.n1 c.self.invariant))
+    (data_came old mid c.go_on.new.self f fork said acts c.in_ok-done.done c.take-noted.result c.take-noted.new.station c.requires.live c.requires.is_data c.args.frame.dlci.in_range
+    reads m refl c.in_ok-done.ensures.done c.take-noted.ensures.past c.take-noted.ensures.noted c.go_on.ensures)
+
+pub returns-clause-room : goal.returns-clause-room
+returns-clause-room c =
+    let old = c.args.self.now in
+    let mid : Core = record { station = c.self.inside.station; lanes = c.self.inside.lanes; hand = c.self.inside.hand; rules = c.self.inside.dialect; kinds = c.self.inside.kinds.items; lost = c.self.inside.lost } in
+    let f = frame_of c.args.frame in
+    let fork = c.args.fork.now in
+    let m : IsJoined old mid f.dlci fork = c.self.view_is ∙ c.in_ok-done.ensures.after in
+    let taken : None ≡ got_refused (setting_of old.station) (seen_in old.station) f
+    = c.take-noted.ensures.taken ∙ ap (λ (v : Core). got_refused (setting_of v.station) (seen_in v.station) f) m in
+    taken_room old f (sound_before old mid f.dlci fork m (sound mid c.self.inside.n1 c.self.invariant)) c.requires.live c.args.frame.dlci.in_range taken
+
+pub returns-clause-n1 : goal.returns-clause-n1
+returns-clause-n1 c =
+    ended_n1 _ _ c.go_on.new.self c.args.frame.dlci.number c.go_on.ensures
+    ∙ (ap (λ (s : station_sending.StationSetting). s.n1) c.take-noted.ensures.past.setting ∙ ap (λ (v : Core). v.station.n1) (c.self.view_is ∙ c.in_ok-done.ensures.after))
+
+pub returns-clause-holds : goal.returns-clause-holds
+returns-clause-holds c = λ said reads.
+    let old = c.args.self.now in
+    let mid : Core = record { station = c.self.inside.station; lanes = c.self.inside.lanes; hand = c.self.inside.hand; rules = c.self.inside.dialect; kinds = c.self.inside.kinds.items; lost = c.self.inside.lost } in
+    let f = frame_of c.args.frame in
+    let fork = c.args.fork.now in
+    let new = c.go_on.new.self in
+    let lane = joined (lane_at old f.dlci) fork in
+    let acts = joined_acts (lines_so_far (lane_at old f.dlci).window) fork.window said in
+    let quiet = (and_parts _ _ c.requires.is_data).1 in
+    let m : IsJoined old mid f.dlci fork = c.self.view_is ∙ c.in_ok-done.ensures.after in
+    let came : DataCame old new f c.take-noted.result lane c.take-noted.new.station acts
+    = data_came old mid new f fork said acts c.in_ok-done.done c.take-noted.result c.take-noted.new.station c.requires.live c.requires.is_data c.args.frame.dlci.in_range
+    reads m refl c.in_ok-done.ensures.done c.take-noted.ensures.past c.take-noted.ensures.noted c.go_on.ensures in
+    data_holds old new f lane c.take-noted.new.station _ acts quiet c.requires.held came.ends (returns-clause-past c said reads)
