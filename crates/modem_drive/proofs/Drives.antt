@@ -6,8 +6,8 @@ use Rattle.modem_desk.specs.Ends.{DriverView}
 use Rattle.modem_driver.specs.Polls.{SessionGoesOn}
 use Rattle.modem_driver.specs.SessionStates.{SessionState, TakesMore, Ticks}
 use Rattle.modem_driver.specs.declared.session.error.SessionFault.{SessionFault}
-use Rattle.modem_driver.proofs.sessions.Polls as polls
-use Rattle.modem_driver.proofs.sessions.TakenRequests.{takes_none, takes_same, takes_then}
+use Rattle.modem_driver.proofs.sessions.polls.Polls as polls
+use Rattle.modem_driver.proofs.sessions.steps.TakenRequests.{takes_none, takes_same, takes_then}
 use Rattle.modem_drive.specs.Driving.{DrivesOn}
 
 module _ {X : Type 0} (look : X → LineView) where

@@ -13,7 +13,7 @@ use Rattle.modem_drive.specs.Driving.{DrivesOn}
 use Rattle.modem_drive.specs.declared.fault.DriveFault.{DriveFault}
 use Rattle.modem_driver.specs.declared.session.turn.Turn.{Turn}
 use Rattle.modem_driver.specs.TurningAway.{Offline, PassesAway, TurnsOn, offline_from}
-use Rattle.modem_driver.proofs.sessions.OfflinePasses.{turns_on}
+use Rattle.modem_driver.proofs.sessions.polls.OfflinePasses.{turns_on}
 use Rattle.modem_drive.specs.declared.users.Users.{Users}
 use Rattle.modem_drive.specs.Showing.{GoOn, KeepPlaces}
 use Rattle.modem_drive.specs.Asking.{AsksOn, PlanView}

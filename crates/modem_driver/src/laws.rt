@@ -68,7 +68,7 @@ pub fn desks()
 /// Passes of a desk without a line, one after the other, lose nothing and invent nothing. Of each caller, what was told
 /// and what still waits are the outcomes that waited, and then a LineLost for each of its requests. Of each listener,
 /// what was announced and what still waits are the lines that waited.
-#[tactic(auto, using(crate::proofs::sessions::OfflinePasses::turns_on))]
+#[tactic(auto, using(crate::proofs::sessions::polls::OfflinePasses::turns_on))]
 pub fn turning_away()
     ensures passes { TurnsOn }
 {}
@@ -93,7 +93,7 @@ pub fn endings()
 /// turn, or ticks instead, makes no poll. No poll adds a tick to a history, and the desk is asked in vain at most 64
 /// times. Six bodies make no poll of a session that has just begun: no turn, a tick, a loss kept back or given as
 /// Stopped, 65 turns, and a turn behind one that found nothing to do.
-#[tactic(auto, using(crate::proofs::sessions::PollLaws::runs_in_histories, crate::proofs::sessions::PollLaws::lost_fails, crate::proofs::sessions::PollLaws::no_loss_is_kept_back, crate::proofs::sessions::PollLaws::no_loss_is_stopped, crate::proofs::sessions::PollLaws::calls_the_line, crate::proofs::sessions::PollLaws::lost_gives_failed, crate::proofs::rows::PollRowFacts::is_lost_session, crate::proofs::rows::PollRowFacts::no_polls, crate::proofs::rows::LivePollRowFacts::reads_the_line, crate::proofs::rows::LivePollRowFacts::no_tick_is_a_poll, crate::proofs::rows::LivePollRowFacts::no_tick_in_a_poll, crate::proofs::rows::LivePollRowFacts::asks_per_turn, crate::proofs::rows::LivePollRowFacts::is_new_session, crate::proofs::rows::LivePollRowFacts::no_live_polls))]
+#[tactic(auto, using(crate::proofs::sessions::polls::PollLaws::runs_in_histories, crate::proofs::sessions::polls::PollLaws::lost_fails, crate::proofs::sessions::polls::PollLaws::no_loss_is_kept_back, crate::proofs::sessions::polls::PollLaws::no_loss_is_stopped, crate::proofs::sessions::polls::PollLaws::calls_the_line, crate::proofs::sessions::polls::PollLaws::lost_gives_failed, crate::proofs::rows::PollRowFacts::is_lost_session, crate::proofs::rows::PollRowFacts::no_polls, crate::proofs::rows::LivePollRowFacts::reads_the_line, crate::proofs::rows::LivePollRowFacts::no_tick_is_a_poll, crate::proofs::rows::LivePollRowFacts::no_tick_in_a_poll, crate::proofs::rows::LivePollRowFacts::asks_per_turn, crate::proofs::rows::LivePollRowFacts::is_new_session, crate::proofs::rows::LivePollRowFacts::no_live_polls))]
 pub fn polls()
     ensures histories { RunsInHistories (λ (l : LineView). l) }
     ensures lost { LostFails (λ (l : LineView). l) }

@@ -14,8 +14,8 @@ use Rattle.modem_driver.specs.EndpointSteps.{CopiesOut, GivesOut, MachineIsDrain
 use Rattle.modem_driver.specs.SendingSteps.{MachineSends}
 use Rattle.modem_driver.specs.SessionStates.{Machine, MachineMoves}
 use Rattle.modem_driver.specs.TurnSteps.{StandingFits, Leads, turn_state, view_of}
-use Rattle.modem_driver.proofs.sessions.LineOctets.{write_goes}
-use Rattle.modem_driver.proofs.sessions.WholeTurns.{leads_on, leads_still}
+use Rattle.modem_driver.proofs.sessions.steps.LineOctets.{write_goes}
+use Rattle.modem_driver.proofs.sessions.meanings.WholeTurns.{leads_on, leads_still}
 
 pub copies : (old : Machine) (count : ℕ) → CopiesOut old (record old { unwritten = drop count old.unwritten }) (take count old.unwritten)
 unfolding CopiesOut

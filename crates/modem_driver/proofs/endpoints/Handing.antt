@@ -18,13 +18,13 @@ use Rattle.modem_history.specs.Sessions.{LineView, at_place, heard_as}
 use Rattle.modem_driver.specs.Placing.{Gave, Stay, goes_first, of_key, caller_of, place_of}
 use Rattle.modem_driver.specs.Endpoints.{EndpointState, GivesLine, GivesOutcome, LeadsOver, Leaves}
 use Rattle.modem_driver.specs.SessionStates.{Machine, seen_by, end_of}
-use Rattle.modem_driver.proofs.sessions.DeskOffers.{grows_told, heard_more, none_beyond, told_more}
+use Rattle.modem_driver.proofs.sessions.steps.DeskOffers.{grows_told, heard_more, none_beyond, told_more}
 use Rattle.at_text.proofs.SameKinds.{same_place}
-use Rattle.modem_driver.proofs.sessions.LineOctets.{loss_with}
-use Rattle.modem_driver.proofs.sessions.OutcomeCounts.{is_callers}
-use Rattle.modem_driver.proofs.sessions.RemainingItems.{stay_all}
-use Rattle.modem_driver.proofs.sessions.StopProgress.{begins_whole, come_on, grows_none}
-use Rattle.modem_driver.proofs.sessions.WaitingDeliveries.{told_part, heard_part, sent_part, received_part}
+use Rattle.modem_driver.proofs.sessions.steps.LineOctets.{loss_with}
+use Rattle.modem_driver.proofs.sessions.steps.OutcomeCounts.{is_callers}
+use Rattle.modem_driver.proofs.sessions.steps.RemainingItems.{stay_all}
+use Rattle.modem_driver.proofs.sessions.polls.StopProgress.{begins_whole, come_on, grows_none}
+use Rattle.modem_driver.proofs.sessions.steps.WaitingDeliveries.{told_part, heard_part, sent_part, received_part}
 
 abbrev state_of : ℕ → Machine → EndpointState
 state_of next k = record { machine = k; next = next }

@@ -28,11 +28,11 @@ use Rattle.modem_driver.specs.SessionStates.{Machine, MachineGoes, machine_by, n
 use Rattle.modem_driver.specs.TurnSteps.{StandingFits, Leads, turn_state}
 use Rattle.modem_driver.specs.TurnTakes.{TakesAside}
 use Rattle.modem_driver.proofs.endpoints.WholeCalls.{leads_over}
-use Rattle.modem_driver.proofs.sessions.LineOctets.{loss_with}
-use Rattle.modem_driver.proofs.sessions.OutcomeCounts.{is_caller}
-use Rattle.modem_driver.proofs.sessions.StartAndTick.{begins_over, machine_begins}
-use Rattle.modem_driver.proofs.sessions.StopProgress.{come_on, grows_none}
-use Rattle.modem_driver.proofs.sessions.WaitingDeliveries.{told_part, heard_part, sent_part, received_part}
+use Rattle.modem_driver.proofs.sessions.steps.LineOctets.{loss_with}
+use Rattle.modem_driver.proofs.sessions.steps.OutcomeCounts.{is_caller}
+use Rattle.modem_driver.proofs.sessions.steps.StartAndTick.{begins_over, machine_begins}
+use Rattle.modem_driver.proofs.sessions.polls.StopProgress.{come_on, grows_none}
+use Rattle.modem_driver.proofs.sessions.steps.WaitingDeliveries.{told_part, heard_part, sent_part, received_part}
 
 -- ## The beginning
 

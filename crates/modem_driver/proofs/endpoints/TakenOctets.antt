@@ -14,8 +14,8 @@ use Rattle.modem_driver.specs.EndpointSteps.{FeedsFrom, HandLacksRoom, HandlesFr
 use Rattle.modem_driver.specs.GettingSteps.{MachineGets}
 use Rattle.modem_driver.specs.SessionStates.{Machine, MachineMoves, MachineGoes}
 use Rattle.modem_driver.specs.TurnSteps.{TurnState, StandingFits, Leads, AddsAll, turn_state}
-use Rattle.modem_driver.proofs.sessions.LineOctets.{read_goes, feed_goes}
-use Rattle.modem_driver.proofs.sessions.WholeTurns.{leads_on, leads_still}
+use Rattle.modem_driver.proofs.sessions.steps.LineOctets.{read_goes, feed_goes}
+use Rattle.modem_driver.proofs.sessions.meanings.WholeTurns.{leads_on, leads_still}
 
 -- ## One after the other
 

@@ -9,8 +9,8 @@ use Rattle.modem_driver.specs.Endpoints.{HasNoneAside, Loses, Ticks, with_failur
 use Rattle.modem_driver.specs.SessionStates.{Machine, MachineGoes, MachineLoses, MachineMoves, MachineTicks}
 use Rattle.modem_driver.specs.TurnSteps.{Leads, turn_state}
 use Rattle.modem_driver.proofs.endpoints.WholeCalls.{leads_over}
-use Rattle.modem_driver.proofs.sessions.LineOctets.{fault_goes}
-use Rattle.modem_driver.proofs.sessions.WholeTurns.{leads_on}
+use Rattle.modem_driver.proofs.sessions.steps.LineOctets.{fault_goes}
+use Rattle.modem_driver.proofs.sessions.meanings.WholeTurns.{leads_on}
 
 leads_by : (old new : Machine) (acts : List Act) → MachineGoes old new acts → (l : LineView) (d : DriverView) → Leads (turn_state l d old) (turn_state l d new) acts
 unfolding Leads MachineGoes

@@ -16,8 +16,8 @@ use Rattle.modem_driver.specs.SessionStates.{Machine}
 use Rattle.modem_driver.specs.TurnSteps.{TurnState, StandingFits, AddsAll, Checks, ChecksPart, Leads, turn_state, view_of}
 use Rattle.modem_driver.specs.declared.endpoint.Blocked.{Blocked}
 use Rattle.modem_driver.specs.declared.endpoint.Blocked.TheVariants.{NoMemory}
-use Rattle.modem_driver.proofs.sessions.TurnFaults.{none_loses}
-use Rattle.modem_driver.proofs.sessions.WholeTurns.{leads_on}
+use Rattle.modem_driver.proofs.sessions.meanings.TurnFaults.{none_loses}
+use Rattle.modem_driver.proofs.sessions.meanings.WholeTurns.{leads_on}
 
 -- where the desk's end and the next number stay
 pub leads_over : (l m : LineView) (d : DriverView) (k0 k1 : Machine) (next : ℕ) (acts : List Act) → Leads (turn_state l d k0) (turn_state m d k1) acts

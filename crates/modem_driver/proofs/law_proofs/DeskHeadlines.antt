@@ -31,7 +31,7 @@ use Rattle.modem_driver.proofs.replays.FullFrames.{turns_are_full}
 use Rattle.modem_driver.proofs.law_proofs.Headlines.{any_more, answers_own, hears_each, of_its_own, once_taken, order_of, own_answers, subscription_at, while_open}
 use Rattle.modem_driver.proofs.law_proofs.RequestNumbers.{numbered_once}
 use Rattle.modem_driver.proofs.law_proofs.RequestPlaces.{counted_own, is_counted, is_told, many_untold, no_answer, some_answer, told_taken}
-use Rattle.modem_driver.proofs.sessions.OfflinePasses.{gives_on, gives_then}
+use Rattle.modem_driver.proofs.sessions.polls.OfflinePasses.{gives_on, gives_then}
 
 -- ## What rests of a session
 

@@ -11,7 +11,7 @@ use Rattle.at_text.specs.Rules.{Rules, dialect_of, no_rules}
 use Rattle.at_text.proofs.NoRules.{no_rules_standard}
 use Rattle.modem_history.specs.Kinds.{is_listened, standard_kinds}
 use Rattle.modem_history.specs.Calls.{Setting, replaying}
-use Rattle.modem_driver.proofs.sessions.Kinds.{listened_in, in_listened}
+use Rattle.modem_driver.proofs.sessions.steps.Kinds.{listened_in, in_listened}
 use Rattle.modem_history.specs.Lawful.{Lawful, Complete}
 use Rattle.modem_driver.specs.Cores.{Core, core_by, new_core, IsRun}
 use Rattle.modem_driver.specs.Running.{Drained, CoreIsIdle}

@@ -35,7 +35,7 @@ use Rattle.modem_driver.specs.Room.{AllFits, BeginEmpty, EachBeginsEmpty, FindRo
 use Rattle.modem_driver.specs.ReplayRows.{WantsRoom, busy_again, busy_at_first, full_queue, test_comes, while_opening}
 use Rattle.modem_driver.proofs.replays.EmptyQueues.{begin_empty, fits_empty}
 use Rattle.modem_driver.proofs.replays.FirstActs.{brought_first}
-use Rattle.modem_driver.proofs.sessions.OutcomeCounts.{lawful_front}
+use Rattle.modem_driver.proofs.sessions.steps.OutcomeCounts.{lawful_front}
 
 out : {P : Type 0} → false ≡ true → P
 out e = cc

@@ -14,7 +14,7 @@ use Rattle.modem_history.specs.SessionRows.{beginning}
 use Rattle.modem_history.proofs.rows.SessionTests.{nothing_before, told_is}
 use Rattle.modem_driver.specs.Endings.{Begins, HasEnded, has_stopped}
 use Rattle.modem_driver.specs.EndingRows.{AreNoEndings, IsNoGoing, IsRightEnding, StaysEnded, stop_answered, ends_in, going_rows, later, ending_outcome, stopped_rows}
-use Rattle.modem_driver.proofs.sessions.StopProgress.{stopped_after}
+use Rattle.modem_driver.proofs.sessions.polls.StopProgress.{stopped_after}
 
 pub all_stopped : list_all ends_in stopped_rows ≡ true
 all_stopped = refl

@@ -28,11 +28,11 @@ use Rattle.modem_driver.specs.PollLaws.{IsSession, MovesThrough, NoLossIsKeptBac
 use Rattle.modem_driver.specs.PollRows.{bare_desk, first_line, lost_session}
 use Rattle.modem_driver.specs.LivePollRows.{AreNoLivePolls, AsksPerTurn, IsNewSession, NoTickInAPoll, NoTickIsAPoll, ReadsTheLine, after_flags, after_idle, lost_and_stopped, new_session, ticks_in}
 use Rattle.modem_driver.proofs.cores.NewCore.{new_fits}
-use Rattle.modem_driver.proofs.sessions.PollLaws.{no_loss_is_kept_back, no_loss_is_stopped}
+use Rattle.modem_driver.proofs.sessions.polls.PollLaws.{no_loss_is_kept_back, no_loss_is_stopped}
 use Rattle.at_text.specs.Dialects.{standard}
 use Rattle.at_text.specs.Rules.{no_rules}
 use Rattle.at_text.proofs.NoRules.{no_rules_standard}
-use Rattle.modem_driver.proofs.sessions.StartAndTick.{machine_begins}
+use Rattle.modem_driver.proofs.sessions.steps.StartAndTick.{machine_begins}
 
 never : {P : Type 0} → false ≡ true → P
 never e = cc

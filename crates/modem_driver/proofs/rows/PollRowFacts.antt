@@ -6,7 +6,7 @@ use Rattle.mux_frame.proofs.deframers.DeframerPasts.{past_none}
 use Rattle.modem_history.specs.Acts.{Lost}
 use Rattle.modem_history.specs.Lawful.{Lawful, Complete}
 use Rattle.modem_history.specs.Sessions.{LineView}
-use Rattle.modem_driver.proofs.sessions.WaitedTicks.{delays_none}
+use Rattle.modem_driver.proofs.sessions.steps.WaitedTicks.{delays_none}
 use Rattle.modem_driver.specs.declared.session.ending.Ended.{Ended}
 use Rattle.modem_driver.specs.declared.session.ending.Ended.TheVariants.{Stopped}
 use Rattle.modem_driver.specs.declared.session.error.SessionFault.{SessionFault}
@@ -15,8 +15,8 @@ use Rattle.modem_driver.specs.SessionStates.{beginning_of}
 use Rattle.modem_driver.specs.PollLaws.{IsSession, LostFails, LostGivesFailed}
 use Rattle.modem_driver.specs.PollRows.{AreNoPolls, IsLostSession, bare_desk, first_line, lost_session}
 use Rattle.at_text.proofs.NoRules.{no_rules_standard}
-use Rattle.modem_driver.proofs.sessions.Kinds.{in_listened, listened_in}
-use Rattle.modem_driver.proofs.sessions.PollLaws.{lost_fails, lost_gives_failed}
+use Rattle.modem_driver.proofs.sessions.steps.Kinds.{in_listened, listened_in}
+use Rattle.modem_driver.proofs.sessions.polls.PollLaws.{lost_fails, lost_gives_failed}
 
 never : {P : Type 0} → false ≡ true → P
 never e = cc

@@ -55,7 +55,7 @@ impl Endpoint {
     /// the endpoint fits: so long its answer hasn't ended. `None` where no command of the connection is in hand; commands behind
     /// the first one aren't counted. The count stops at `u64::MAX`. Nothing is given up by itself: whoever finds it too high
     /// can close the connection.
-    #[tactic(auto, using(crate::proofs::sessions::WaitedTicks::endpoint_shows))]
+    #[tactic(auto, using(crate::proofs::sessions::steps::WaitedTicks::endpoint_shows))]
     pub fn waiting_ticks(&self, dlci: Dlci) -> Option<u64>
         ensures { (b : Beginning) (l : LineView) (d : DriverView) (past : List Act)
             → EndpointFits b l d self.now past → result ≡ waiting_ticks dlci.number past }

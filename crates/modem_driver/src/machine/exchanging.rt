@@ -9,7 +9,7 @@ use serial_line::SerialLine;
 impl Machine {
     /// Offers the octets that wait to the line, once, and says whether it took any. Where none wait
     /// there is no call. A fault is kept in mind.
-    #[tactic(auto, using(crate::proofs::sessions::LineCalls::writes_none))]
+    #[tactic(auto, using(crate::proofs::sessions::steps::LineCalls::writes_none))]
     pub(crate) fn write_on<L: SerialLine>(&mut self, line: &mut L) -> bool
         ensures writes { MachineWrites (line_by L.received L.sent L.calls L.failures L.empty_reads L.stalled_writes line.old)
             (line_by L.received L.sent L.calls L.failures L.empty_reads L.stalled_writes line.new) self.old self.new result }

@@ -65,7 +65,7 @@ fn are_few(counts: &[usize]) -> bool
 
 impl LineQueue {
     /// No lines.
-    #[tactic(auto, using(crate::proofs::sessions::LineCounts::counted_at_first))]
+    #[tactic(auto, using(crate::proofs::sessions::steps::LineCounts::counted_at_first))]
     pub(crate) fn new(alloc: Global) -> LineQueue
         ensures { result.items ≡ [] }
     {
@@ -77,7 +77,7 @@ impl LineQueue {
     }
 
     /// These lines, in their order.
-    #[tactic(auto, using(crate::proofs::sessions::LineCounts::counted_none, crate::proofs::sessions::LineCounts::counted_further, crate::proofs::sessions::LineCounts::counted_all))]
+    #[tactic(auto, using(crate::proofs::sessions::steps::LineCounts::counted_none, crate::proofs::sessions::steps::LineCounts::counted_further, crate::proofs::sessions::steps::LineCounts::counted_all))]
     pub(crate) fn of(lines: VecDeque<Urc>) -> LineQueue
         ensures { result.items ≡ lines.items }
     {
@@ -105,7 +105,7 @@ impl LineQueue {
     }
 
     /// Puts a line at the end. It is dropped where there is no room and no memory.
-    #[tactic(auto, using(crate::proofs::sessions::LineCounts::counted_last))]
+    #[tactic(auto, using(crate::proofs::sessions::steps::LineCounts::counted_last))]
     pub(crate) fn put(&mut self, line: Urc)
         ensures items { 1 ≤ self.old.room → self.new.items ≡ self.old.items ++ line ∷ [] }
         ensures room { self.old.room ≤ self.new.room + 1 }
@@ -121,7 +121,7 @@ impl LineQueue {
     }
 
     /// Puts a line at the end. The condition is that there is room.
-    #[tactic(auto, using(crate::proofs::sessions::LineCounts::counted_last))]
+    #[tactic(auto, using(crate::proofs::sessions::steps::LineCounts::counted_last))]
     pub(crate) fn push_back_reserved(&mut self, line: Urc)
         requires { 1 ≤ self.old.room }
         ensures items { self.new.items ≡ self.old.items ++ line ∷ [] }
@@ -136,7 +136,7 @@ impl LineQueue {
     }
 
     /// Takes the first line, if there is one.
-    #[tactic(auto, using(crate::proofs::sessions::LineCounts::counted_rest))]
+    #[tactic(auto, using(crate::proofs::sessions::steps::LineCounts::counted_rest))]
     pub(crate) fn pop_front(&mut self) -> Option<Urc>
         ensures items { MatchOption result ((self.old.items ≡ []) × (self.new.items ≡ []))
             (λ line. self.old.items ≡ line ∷ self.new.items) }
@@ -170,7 +170,7 @@ impl LineQueue {
     }
 
     /// Whether fewer than 256 are of each connection.
-    #[tactic(auto, using(crate::proofs::sessions::LineCounts::few_of_few, crate::proofs::sessions::LineCounts::few_by_counts))]
+    #[tactic(auto, using(crate::proofs::sessions::steps::LineCounts::few_of_few, crate::proofs::sessions::steps::LineCounts::few_by_counts))]
     pub(crate) fn is_few(&self) -> bool
         ensures { result ≡ true → AreFewOnEach self.now.items }
     {
@@ -185,7 +185,7 @@ impl LineQueue {
     }
 
     /// The first ones go behind the others. The condition is that there are so many.
-    #[tactic(auto, using(crate::proofs::sessions::LineCounts::counted_round))]
+    #[tactic(auto, using(crate::proofs::sessions::steps::LineCounts::counted_round))]
     pub(crate) fn rotate_left(&mut self, count: usize)
         requires { count ≤ length self.old.items }
         ensures items { self.new.items ≡ drop count self.old.items ++ take count self.old.items }

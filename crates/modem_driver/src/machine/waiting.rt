@@ -86,7 +86,7 @@ impl Waiting {
 
     /// What the acts tell and announce waits behind the others. There is room where the outcomes that
     /// wait are then 128 at most, and where room was made for the lines.
-    #[tactic(auto, using(crate::proofs::sessions::CollectedActs::keeps_first, crate::proofs::sessions::CollectedActs::keeps_put, crate::proofs::sessions::CollectedActs::kept_outcomes, crate::proofs::sessions::CollectedActs::kept_lines))]
+    #[tactic(auto, using(crate::proofs::sessions::steps::CollectedActs::keeps_first, crate::proofs::sessions::steps::CollectedActs::keeps_put, crate::proofs::sessions::steps::CollectedActs::kept_outcomes, crate::proofs::sessions::steps::CollectedActs::kept_lines))]
     pub(crate) fn keep(&mut self, acts: Vec<Act>)
         ensures { Keeps self.old self.new (map act_of acts.items) }
     {
@@ -138,7 +138,7 @@ impl Waiting {
     }
 
     /// The kind of the line that was heard first of those that wait.
-    #[tactic(auto, using(crate::proofs::sessions::FirstWaiting::none_of))]
+    #[tactic(auto, using(crate::proofs::sessions::steps::FirstWaiting::none_of))]
     pub(crate) fn first_kind(&self) -> Option<UrcKind>
         ensures { MatchOption result (self.now.lines ≡ []) (λ k. IsFirstOf k self.now.lines) }
     {

@@ -28,7 +28,7 @@ impl<L: SerialLine, R: Wait + Drop> Session<L, R> {
     /// the first one aren't counted. The count stops at `u64::MAX`. Nothing is given up by itself: whoever finds it too high
     /// can close the connection. A session whose requests in hand are commands alone wants no tick (see `wants_tick`), and
     /// counts those that it is given.
-    #[tactic(auto, using(crate::proofs::sessions::WaitedTicks::session_shows))]
+    #[tactic(auto, using(crate::proofs::sessions::steps::WaitedTicks::session_shows))]
     pub fn waiting_ticks(&self, dlci: Dlci) -> Option<u64>
         ensures { (b : Beginning) (past : List Act)
             → FitsAll b (line_by L.received L.sent L.calls L.failures L.empty_reads L.stalled_writes) self.now past

@@ -1,5 +1,5 @@
 -- Nothing has happened yet.
-use Rattle.modem_driver.proofs.sessions.StartAndTick.{all_begin}
+use Rattle.modem_driver.proofs.sessions.steps.StartAndTick.{all_begin}
 use Rattle.modem_driver.proofs.session.begin.Goals as goal
 
 pub returns-clause-begins : goal.returns-clause-begins

@@ -9,8 +9,8 @@ use Rattle.modem_driver.specs.Cores.{Core}
 use Rattle.modem_driver.specs.Holding.{Flows, HasNoRoom, NeverDue, due_in}
 use Rattle.modem_driver.specs.BacklogChecks.{ChecksOne}
 use Rattle.modem_driver.specs.SessionStates.{Machine}
-use Rattle.modem_driver.proofs.sessions.OneBacklog.{checks_one, checks_never, checks_full}
-use Rattle.modem_driver.proofs.sessions.MachineParts.{machine_of}
+use Rattle.modem_driver.proofs.sessions.steps.OneBacklog.{checks_one, checks_never, checks_full}
+use Rattle.modem_driver.proofs.sessions.steps.MachineParts.{machine_of}
 use Rattle.modem_driver.proofs.machine.Machine.check_backlog.Goals as goal
 use Rattle.modem_driver.proofs.machine.Machine.check_backlog.Goals.{in-Ok, in-Err-NoRoom, in-Err}
 

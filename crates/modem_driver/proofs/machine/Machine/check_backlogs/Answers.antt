@@ -5,7 +5,7 @@ use Rattle.modem_driver.specs.Holding.{CallsForNothing}
 use Rattle.modem_driver.specs.BacklogChecks.{ChecksOne}
 use Rattle.modem_driver.specs.LineQueues.{AreFewOnEach}
 use Rattle.modem_driver.specs.SessionStates.{Machine}
-use Rattle.modem_driver.proofs.sessions.Backlogs.{checks_few, checks_first, checks_more, checks_all, checks_part, same_number}
+use Rattle.modem_driver.proofs.sessions.steps.Backlogs.{checks_few, checks_first, checks_more, checks_all, checks_part, same_number}
 use Rattle.modem_driver.proofs.machine.Machine.check_backlogs.Goals as goal
 
 pub loop-number-init : goal.loop-number-init

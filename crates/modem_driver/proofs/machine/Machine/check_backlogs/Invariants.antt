@@ -1,5 +1,5 @@
 -- Those before it were checked.
-use Rattle.modem_driver.proofs.sessions.Backlogs.{ChecksSo}
+use Rattle.modem_driver.proofs.sessions.steps.Backlogs.{ChecksSo}
 use Rattle.modem_driver.proofs.machine.Machine.check_backlogs.Given as goal
 
 abbrev pub invariant-loop-number : goal.invariant-loop-number

@@ -4,7 +4,7 @@ use Rattle.line_end.specs.LineEnds.{LineEnd}
 use Rattle.modem_driver.specs.SessionStates.{Machine}
 use Rattle.modem_driver.specs.EndpointSteps.{CopiesOut}
 use Rattle.modem_driver.proofs.endpoints.GivenOctets.{copies}
-use Rattle.modem_driver.proofs.sessions.MachineParts.{at_end, machine_of}
+use Rattle.modem_driver.proofs.sessions.steps.MachineParts.{at_end, machine_of}
 use Rattle.modem_driver.proofs.machine.Machine.copy_out.Goals as goal
 
 pub returns-clause-out : goal.returns-clause-out

@@ -3,7 +3,7 @@ use Rattle.std.proofs.Common.{sym, subst, refl, arith}
 use Rattle.line_end.specs.LineEnds.{LineEnd}
 use Rattle.modem_driver.specs.SessionStates.{Machine}
 use Rattle.modem_driver.specs.SessionTurns.{Feeds}
-use Rattle.modem_driver.proofs.sessions.MachineParts.{at_end, machine_of}
+use Rattle.modem_driver.proofs.sessions.steps.MachineParts.{at_end, machine_of}
 use Rattle.modem_driver.proofs.machine.Machine.feed.Goals as goal
 
 pub returns : goal.returns

@@ -6,8 +6,8 @@ use Rattle.modem_desk.specs.declared.request.Request.{Request}
 use Rattle.modem_driver.specs.SessionStates.{Machine, AreFormed}
 use Rattle.modem_driver.specs.TurnSteps.{turn_state}
 use Rattle.modem_driver.specs.TurnTakes.{Fetches}
-use Rattle.modem_driver.proofs.sessions.NextRequest.{fetches, fetches_none, gives, is_none}
-use Rattle.modem_driver.proofs.sessions.MachineParts.{machine_of}
+use Rattle.modem_driver.proofs.sessions.steps.NextRequest.{fetches, fetches_none, gives, is_none}
+use Rattle.modem_driver.proofs.sessions.steps.MachineParts.{machine_of}
 use Rattle.modem_driver.proofs.machine.Machine.fetch.Goals as goal
 
 pub returns-then-is_some : goal.returns-then-is_some

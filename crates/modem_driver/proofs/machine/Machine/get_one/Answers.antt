@@ -9,9 +9,9 @@ use Rattle.modem_driver.specs.declared.machine.course.Course.{Course}
 use Rattle.modem_driver.specs.Endings.{asker_of, course_after, is_answered, is_stop}
 use Rattle.modem_driver.specs.SessionStates.{Machine}
 use Rattle.modem_driver.specs.GettingSteps.{MachineGets}
-use Rattle.modem_driver.proofs.sessions.StopProgress.{noted}
-use Rattle.modem_driver.proofs.sessions.FrameAtHand.{gets_moved, gets_none, keeps_from, none_at_hand, stays_at_hand}
-use Rattle.modem_driver.proofs.sessions.MachineParts.{at_end, machine_of}
+use Rattle.modem_driver.proofs.sessions.polls.StopProgress.{noted}
+use Rattle.modem_driver.proofs.sessions.steps.FrameAtHand.{gets_moved, gets_none, keeps_from, none_at_hand, stays_at_hand}
+use Rattle.modem_driver.proofs.sessions.steps.MachineParts.{at_end, machine_of}
 use Rattle.modem_driver.proofs.frames.FollowingActs.{came_answers, keeps_came}
 use Rattle.modem_driver.proofs.machine.Machine.get_one.Goals as goal
 

@@ -2,7 +2,7 @@
 use Rattle.std.proofs.Common.{sym, ◌∙◌, subst, ◌≡◌, []}
 use Rattle.modem_driver.specs.SessionStates.{Machine}
 use Rattle.modem_driver.proofs.endpoints.GivenOctets.{is_drained}
-use Rattle.modem_driver.proofs.sessions.NextFrame.{none_wait}
+use Rattle.modem_driver.proofs.sessions.steps.NextFrame.{none_wait}
 use Rattle.modem_driver.proofs.machine.Machine.give_out.Goals as goal
 
 pub returns-then-is_written-clause-drained : goal.returns-then-is_written-clause-drained

@@ -4,8 +4,8 @@ use Rattle.std.specs.Prelude.{map}
 use Rattle.line_end.specs.LineEnds.{LineEnd}
 use Rattle.modem_history.specs.Acts.{act_of}
 use Rattle.modem_driver.specs.SessionStates.{Machine, MachineLoses}
-use Rattle.modem_driver.proofs.sessions.LineLoss.{loses}
-use Rattle.modem_driver.proofs.sessions.MachineParts.{at_end, machine_of}
+use Rattle.modem_driver.proofs.sessions.steps.LineLoss.{loses}
+use Rattle.modem_driver.proofs.sessions.steps.MachineParts.{at_end, machine_of}
 use Rattle.modem_driver.proofs.machine.Machine.lose_line.Goals as goal
 
 pub returns-clause-loses : goal.returns-clause-loses

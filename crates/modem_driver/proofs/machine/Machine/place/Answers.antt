@@ -6,8 +6,8 @@ use Rattle.modem_history.specs.Sessions.{LineView}
 use Rattle.modem_driver.specs.Placing.{Placed, caller_of, place_of, IsRingOf, IsCaller, IsListenerOf, IsHeard, caller_rings, listener_rings}
 use Rattle.modem_driver.specs.SessionStates.{Machine}
 use Rattle.modem_driver.specs.TurnSteps.{Places, turn_state}
-use Rattle.modem_driver.proofs.sessions.DeskOffers.{places}
-use Rattle.modem_driver.proofs.sessions.MachineParts.{machine_of}
+use Rattle.modem_driver.proofs.sessions.steps.DeskOffers.{places}
+use Rattle.modem_driver.proofs.sessions.steps.MachineParts.{machine_of}
 use Rattle.modem_driver.proofs.machine.Machine.place.Goals as goal
 
 pub returns : goal.returns

@@ -5,9 +5,9 @@ use Rattle.serial_line.specs.Counts.{counted_if_none}
 use Rattle.line_end.specs.LineEnds.{LineEnd}
 use Rattle.modem_driver.specs.SessionStates.{Machine, line_by}
 use Rattle.modem_driver.specs.SessionTurns.{MachineReads, Feeds}
-use Rattle.modem_driver.proofs.sessions.LineCalls.{reads_fed, reads_none, reads_some, reads_failing}
-use Rattle.modem_driver.proofs.sessions.MachineParts.{at_end, machine_of}
-use Rattle.modem_driver.proofs.sessions.NextFrame.{none_wait, some_wait}
+use Rattle.modem_driver.proofs.sessions.steps.LineCalls.{reads_fed, reads_none, reads_some, reads_failing}
+use Rattle.modem_driver.proofs.sessions.steps.MachineParts.{at_end, machine_of}
+use Rattle.modem_driver.proofs.sessions.steps.NextFrame.{none_wait, some_wait}
 use Rattle.modem_driver.proofs.machine.Machine.read_on.Goals as goal
 
 pub returns-then-not-is_fed-clause-reads : goal.returns-then-not-is_fed-clause-reads

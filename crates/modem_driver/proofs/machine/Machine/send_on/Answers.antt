@@ -6,8 +6,8 @@ use Rattle.mux_station.specs.GivenFrames.{outgoing_of}
 use Rattle.modem_driver.specs.Cores.{Core}
 use Rattle.modem_driver.specs.SessionStates.{Machine}
 use Rattle.modem_driver.specs.SendingSteps.{MachineSends}
-use Rattle.modem_driver.proofs.sessions.NextFrame.{send_goes, send_busy, send_none, some_wait, none_wait}
-use Rattle.modem_driver.proofs.sessions.MachineParts.{at_end, machine_of}
+use Rattle.modem_driver.proofs.sessions.steps.NextFrame.{send_goes, send_busy, send_none, some_wait, none_wait}
+use Rattle.modem_driver.proofs.sessions.steps.MachineParts.{at_end, machine_of}
 use Rattle.modem_driver.proofs.machine.Machine.send_on.Goals as goal
 
 pub returns-then-not-is_written-clause-sends : goal.returns-then-not-is_written-clause-sends

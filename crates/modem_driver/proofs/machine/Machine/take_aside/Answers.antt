@@ -7,8 +7,8 @@ use Rattle.modem_driver.specs.SessionStates.{Machine}
 use Rattle.modem_driver.specs.TurnTakes.{TakesAside}
 use Rattle.modem_driver.specs.WaitingLists.{WaitingLists}
 use Rattle.modem_driver.proofs.frames.FollowingActs.{keeps_taken}
-use Rattle.modem_driver.proofs.sessions.RequestAside.{takes}
-use Rattle.modem_driver.proofs.sessions.MachineParts.{machine_of}
+use Rattle.modem_driver.proofs.sessions.steps.RequestAside.{takes}
+use Rattle.modem_driver.proofs.sessions.steps.MachineParts.{machine_of}
 use Rattle.modem_driver.proofs.machine.Machine.take_aside.Goals as goal
 
 pub returns-in-Ok-clause-takes : goal.returns-in-Ok-clause-takes

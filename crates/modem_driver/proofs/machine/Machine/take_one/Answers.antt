@@ -3,7 +3,7 @@ use Rattle.std.proofs.Common.{◌≡◌, ap, sym, ◌∙◌}
 use Rattle.std.specs.Prelude.{Option, None, Some, Ok, is_some, not, false, refl}
 use Rattle.modem_desk.specs.declared.request.Request.{Request}
 use Rattle.modem_driver.specs.SessionStates.{Machine}
-use Rattle.modem_driver.proofs.sessions.NextRequest.{takes_one, keeps_aside}
+use Rattle.modem_driver.proofs.sessions.steps.NextRequest.{takes_one, keeps_aside}
 use Rattle.modem_driver.proofs.machine.Machine.take_one.Goals as goal
 
 pub returns-clause-takes : goal.returns-clause-takes

@@ -7,9 +7,9 @@ use Rattle.modem_driver.specs.declared.machine.Machine.TheInside.{Inside}
 use Rattle.modem_driver.specs.Endings.{asker_of, course_after, is_answered, is_stop}
 use Rattle.modem_driver.specs.SessionStates.{Machine, MachineTicks}
 use Rattle.modem_driver.specs.WaitingTicks.{CountsTick}
-use Rattle.modem_driver.proofs.sessions.StopProgress.{noted}
-use Rattle.modem_driver.proofs.sessions.StartAndTick.{tick_goes}
-use Rattle.modem_driver.proofs.sessions.MachineParts.{machine_of}
+use Rattle.modem_driver.proofs.sessions.polls.StopProgress.{noted}
+use Rattle.modem_driver.proofs.sessions.steps.StartAndTick.{tick_goes}
+use Rattle.modem_driver.proofs.sessions.steps.MachineParts.{machine_of}
 use Rattle.modem_driver.proofs.machine.Machine.tick.Goals as goal
 
 pub returns-clause-ticks : goal.returns-clause-ticks

@@ -3,9 +3,9 @@ use Rattle.std.proofs.Common.{◌≡◌, ◌≢◌, ap, sym, ◌∙◌, subst, [
 use Rattle.line_end.specs.LineEnds.{LineEnd}
 use Rattle.modem_driver.specs.SessionStates.{Machine, line_by}
 use Rattle.modem_driver.specs.SessionTurns.{MachineWrites}
-use Rattle.modem_driver.proofs.sessions.LineCalls.{writes_none, writes_some, writes_failing}
-use Rattle.modem_driver.proofs.sessions.MachineParts.{at_end, machine_of}
-use Rattle.modem_driver.proofs.sessions.NextFrame.{none_wait, some_wait}
+use Rattle.modem_driver.proofs.sessions.steps.LineCalls.{writes_none, writes_some, writes_failing}
+use Rattle.modem_driver.proofs.sessions.steps.MachineParts.{at_end, machine_of}
+use Rattle.modem_driver.proofs.sessions.steps.NextFrame.{none_wait, some_wait}
 use Rattle.modem_driver.proofs.machine.Machine.write_on.Goals as goal
 use Rattle.modem_driver.proofs.machine.Machine.write_on.Goals.{in-Ok, in-Err}
 

@@ -1,5 +1,5 @@
 -- The connections before it are counted.
-use Rattle.modem_driver.proofs.sessions.WaitedTicks.{CountedSo}
+use Rattle.modem_driver.proofs.sessions.steps.WaitedTicks.{CountedSo}
 use Rattle.modem_driver.proofs.machine.delays.counted.Given as goal
 
 abbrev pub invariant-loop-number : goal.invariant-loop-number

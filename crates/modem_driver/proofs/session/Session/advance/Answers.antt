@@ -1,8 +1,8 @@
 -- The end that a poll gave.
 use Rattle.std.proofs.Common.{◌∙◌, sym}
 use Rattle.modem_driver.specs.SessionStates.{line_by}
-use Rattle.modem_driver.proofs.sessions.Polls.{ended_says, given_is, gives_now, gives_some, goes_none, polls_again, polls_on}
-use Rattle.modem_driver.proofs.sessions.TakenRequests.{takes_none}
+use Rattle.modem_driver.proofs.sessions.polls.Polls.{ended_says, given_is, gives_now, gives_some, goes_none, polls_again, polls_on}
+use Rattle.modem_driver.proofs.sessions.steps.TakenRequests.{takes_none}
 use Rattle.modem_driver.proofs.session.Session.advance.Goals as goal
 
 pub returns-in-Some-clause-goes : goal.returns-in-Some-clause-goes

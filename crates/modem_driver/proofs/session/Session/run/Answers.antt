@@ -6,7 +6,7 @@ use Rattle.modem_driver.specs.declared.session.polling.Progress.{Progress}
 use Rattle.modem_driver.specs.declared.session.polling.Progress.TheVariants as progress
 use Rattle.modem_driver.specs.SessionStates.{SessionState, TakesMore, line_by}
 use Rattle.modem_driver.specs.Polls.{SaysEnd, SessionGoesOn, has_ended, with_end}
-use Rattle.modem_driver.proofs.sessions.Polls.{ended_says, ends_failing, ends_stopped, failing_says, goes_then}
+use Rattle.modem_driver.proofs.sessions.polls.Polls.{ended_says, ends_failing, ends_stopped, failing_says, goes_then}
 use Rattle.modem_driver.proofs.session.Session.run.Goals as goal
 
 -- what is given where it has ended, and where it hasn't

@@ -1,6 +1,6 @@
 -- A tick of what is kept.
 use Rattle.modem_driver.specs.SessionStates.{line_by}
-use Rattle.modem_driver.proofs.sessions.StartAndTick.{session_ticks}
+use Rattle.modem_driver.proofs.sessions.steps.StartAndTick.{session_ticks}
 use Rattle.modem_driver.proofs.session.Session.tick.Goals as goal
 
 pub returns-clause-ticks : goal.returns-clause-ticks

@@ -4,10 +4,10 @@ use Rattle.std.specs.Prelude.{refl}
 use Rattle.modem_driver.specs.SessionStates.{line_by}
 use Rattle.modem_driver.specs.TurnSteps.{TurnState}
 use Rattle.modem_driver.specs.SessionTurns.{Answers, TakesTurn, Faults, standing_of, turn_answer}
-use Rattle.modem_driver.proofs.sessions.TurnMeanings.{goes_turn}
-use Rattle.modem_driver.proofs.sessions.TurnEnds.{all_turned, failed_before, lost_at_first, faulty_at_first, lost_first, lost_writing, lost_reading, checks_in_vain, gets_in_vain, takes_in_vain, all_or}
-use Rattle.modem_driver.proofs.sessions.FullRings.{none_free}
-use Rattle.modem_driver.proofs.sessions.TakenRequests.{kept_one, lost_driver, part_driver, read_driver, took_none, took_one, wrote_driver}
+use Rattle.modem_driver.proofs.sessions.meanings.TurnMeanings.{goes_turn}
+use Rattle.modem_driver.proofs.sessions.meanings.TurnEnds.{all_turned, failed_before, lost_at_first, faulty_at_first, lost_first, lost_writing, lost_reading, checks_in_vain, gets_in_vain, takes_in_vain, all_or}
+use Rattle.modem_driver.proofs.sessions.meanings.FullRings.{none_free}
+use Rattle.modem_driver.proofs.sessions.steps.TakenRequests.{kept_one, lost_driver, part_driver, read_driver, took_none, took_one, wrote_driver}
 use Rattle.modem_driver.proofs.session.Session.turn.Goals as goal
 
 pub returns-then-is_lost-clause-faults : goal.returns-then-is_lost-clause-faults

@@ -4,8 +4,8 @@ use Rattle.std.specs.Prelude.{refl}
 use Rattle.modem_driver.specs.SessionStates.{line_by}
 use Rattle.modem_driver.specs.SessionTurns.{TakesTurn, turn_answer, fault_of}
 use Rattle.modem_driver.specs.Polls.{MovesOn, moves_none, moves_once, goes_on, ends, rests, fails}
-use Rattle.modem_driver.proofs.sessions.Polls.{fault_goes, goes_none, goes_then, moved_is, turn_goes}
-use Rattle.modem_driver.proofs.sessions.TakenRequests.{takes_none, takes_then}
+use Rattle.modem_driver.proofs.sessions.polls.Polls.{fault_goes, goes_none, goes_then, moved_is, turn_goes}
+use Rattle.modem_driver.proofs.sessions.steps.TakenRequests.{takes_none, takes_then}
 use Rattle.modem_driver.proofs.session.Session.turns.Goals as goal
 
 pub loop-init : goal.loop-init

@@ -1,7 +1,7 @@
 -- The history is empty.
 use Rattle.at_text.specs.Rules.{dialect_of}
 use Rattle.modem_driver.specs.SessionStates.{line_by}
-use Rattle.modem_driver.proofs.sessions.StartAndTick.{begins_over}
+use Rattle.modem_driver.proofs.sessions.steps.StartAndTick.{begins_over}
 use Rattle.modem_driver.proofs.session.Session.with_dialect.Goals as goal
 
 pub returns-in-Ok-clause-begins : goal.returns-in-Ok-clause-begins

@@ -2,7 +2,7 @@
 use Rattle.std.proofs.Common.{ap, ◌∙◌, ◌≡◌, ◌<◌, arith}
 use Rattle.modem_history.specs.Sessions.{backlog_in}
 use Rattle.modem_driver.specs.LineQueues.{LineQueue}
-use Rattle.modem_driver.proofs.sessions.LineCounts.{counts_channel}
+use Rattle.modem_driver.proofs.sessions.steps.LineCounts.{counts_channel}
 use Rattle.modem_driver.proofs.machine.line_queue.LineQueue.backlog.Goals as goal
 
 pub returns : goal.returns

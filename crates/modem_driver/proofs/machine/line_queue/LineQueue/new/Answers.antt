@@ -1,5 +1,5 @@
 -- None is counted.
-use Rattle.modem_driver.proofs.sessions.LineCounts.{counted_at_first}
+use Rattle.modem_driver.proofs.sessions.steps.LineCounts.{counted_at_first}
 use Rattle.modem_driver.proofs.machine.line_queue.LineQueue.new.Goals as goal
 
 pub invariant_of-result : goal.invariant_of-result

@@ -1,7 +1,7 @@
 -- One more line is counted.
 use Rattle.std.proofs.Common.{sym, ◌∙◌, ◌≡◌, ◌<◌, arith, subst, []}
 use Rattle.modem_driver.specs.LineQueues.{channel_of, place_of_kind}
-use Rattle.modem_driver.proofs.sessions.LineCounts.{counted_none, room_further}
+use Rattle.modem_driver.proofs.sessions.steps.LineCounts.{counted_none, room_further}
 use Rattle.modem_driver.proofs.machine.line_queue.LineQueue.of.Goals as goal
 
 pub loop-place-init : goal.loop-place-init

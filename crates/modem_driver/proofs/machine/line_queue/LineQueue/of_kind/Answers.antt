@@ -3,7 +3,7 @@ use Rattle.std.proofs.Common.{ap, ◌∙◌, length}
 use Rattle.at_text.specs.Kinds.{kind_place}
 use Rattle.modem_driver.specs.LineQueues.{LineQueue}
 use Rattle.modem_driver.specs.Placing.{of_key, place_of}
-use Rattle.modem_driver.proofs.sessions.LineCounts.{counts_kind}
+use Rattle.modem_driver.proofs.sessions.steps.LineCounts.{counts_kind}
 use Rattle.modem_driver.proofs.machine.line_queue.LineQueue.of_kind.Goals as goal
 
 pub returns : goal.returns

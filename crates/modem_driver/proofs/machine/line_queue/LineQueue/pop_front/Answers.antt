@@ -1,6 +1,6 @@
 -- The first is counted no more.
 use Rattle.std.proofs.Common.{◌∙◌}
-use Rattle.modem_driver.proofs.sessions.LineCounts.{counted_rest}
+use Rattle.modem_driver.proofs.sessions.steps.LineCounts.{counted_rest}
 use Rattle.modem_driver.proofs.machine.line_queue.LineQueue.pop_front.Goals as goal
 
 pub invariant_of-self-2 : goal.invariant_of-self-2

@@ -1,6 +1,6 @@
 -- The last is counted.
 use Rattle.std.proofs.Common.{◌∙◌, ◌≡◌, ◌<◌, arith}
-use Rattle.modem_driver.proofs.sessions.LineCounts.{channel_room, kind_room}
+use Rattle.modem_driver.proofs.sessions.steps.LineCounts.{channel_room, kind_room}
 use Rattle.modem_driver.proofs.machine.line_queue.LineQueue.push_back_reserved.Goals as goal
 
 pub raise-requires-clause-few : goal.raise-requires-clause-few

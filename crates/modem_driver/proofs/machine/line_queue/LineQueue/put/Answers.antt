@@ -1,7 +1,7 @@
 -- The last is counted where it was put there.
 use Rattle.std.proofs.Common.{ap, ◌∙◌, ◌≡◌, ◌<◌, arith, not, Bool, true, List, if◌then◌else◌}
 use Rattle.modem_desk.specs.declared.request.Urc.{Urc}
-use Rattle.modem_driver.proofs.sessions.LineCounts.{channel_room, kind_room}
+use Rattle.modem_driver.proofs.sessions.steps.LineCounts.{channel_room, kind_room}
 use Rattle.modem_driver.proofs.machine.line_queue.LineQueue.put.Goals as goal
 
 put_last : (b : Bool) (xs ys zs : List Urc) → xs ≡ (if b then ys else zs) → b ≡ true → xs ≡ ys

@@ -1,5 +1,5 @@
 -- The same lines are counted.
-use Rattle.modem_driver.proofs.sessions.LineCounts.{counted_round}
+use Rattle.modem_driver.proofs.sessions.steps.LineCounts.{counted_round}
 use Rattle.modem_driver.proofs.machine.line_queue.LineQueue.rotate_left.Goals as goal
 
 pub invariant_of-self : goal.invariant_of-self

@@ -2,7 +2,7 @@
 use Rattle.std.specs.Prelude.{map}
 use Rattle.std.specs.Vec.Iter.{into_iter_items}
 use Rattle.modem_history.specs.Acts.{act_of}
-use Rattle.modem_driver.proofs.sessions.CollectedActs.{KeepsSo}
+use Rattle.modem_driver.proofs.sessions.steps.CollectedActs.{KeepsSo}
 use Rattle.modem_driver.proofs.machine.waiting.Waiting.keep.Given as goal
 
 abbrev pub invariant-loop-act : goal.invariant-loop-act

@@ -2,7 +2,7 @@
 use Rattle.std.proofs.Common.{sym, subst, ◌++◌}
 use Rattle.modem_driver.specs.SessionTurns.{IsLeast}
 use Rattle.modem_driver.specs.WaitingLists.{WaitingLists}
-use Rattle.modem_driver.proofs.sessions.FirstWaiting.{least_alone, least_both}
+use Rattle.modem_driver.proofs.sessions.steps.FirstWaiting.{least_alone, least_both}
 use Rattle.modem_driver.proofs.machine.waiting.Waiting.least_caller.Goals as goal
 
 pub returns-in-Some-least_of : goal.returns-in-Some-least_of

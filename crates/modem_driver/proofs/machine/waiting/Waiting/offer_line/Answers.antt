@@ -5,8 +5,8 @@ use Rattle.modem_desk.specs.declared.request.Urc.{Urc}
 use Rattle.at_text.specs.Kinds.{kind_place}
 use Rattle.modem_driver.specs.Placing.{OffersFirst, place_of, Rings, IsListenerOf, IsHeard, listener_rings}
 use Rattle.modem_driver.specs.WaitingLists.{WaitingLists}
-use Rattle.modem_driver.proofs.sessions.FirstOffers.{offers_given, offers_back, offers_passed, offers_none}
-use Rattle.modem_driver.proofs.sessions.ListenerOffers.{listeners_apart, listener_given, listener_full, not_heard}
+use Rattle.modem_driver.proofs.sessions.steps.FirstOffers.{offers_given, offers_back, offers_passed, offers_none}
+use Rattle.modem_driver.proofs.sessions.steps.ListenerOffers.{listeners_apart, listener_given, listener_full, not_heard}
 use Rattle.modem_driver.proofs.machine.waiting.Waiting.offer_line.Goals as goal
 use Rattle.modem_driver.proofs.machine.waiting.Waiting.offer_line.Goals.{then-held_up-kind-via-then-held_up-kind, then-held_up-kind-via-else-held_up-kind+then-not-listens}
 

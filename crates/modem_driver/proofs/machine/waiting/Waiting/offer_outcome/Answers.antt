@@ -4,8 +4,8 @@ use Rattle.std.specs.Prelude.{slice_index_or, slice_set, [], ◌++◌}
 use Rattle.modem_desk.specs.declared.request.Outcome.{Outcome}
 use Rattle.modem_driver.specs.Placing.{OffersFirst, caller_of, Rings, IsRingOf, IsCaller, caller_rings}
 use Rattle.modem_driver.specs.WaitingLists.{WaitingLists}
-use Rattle.modem_driver.proofs.sessions.FirstOffers.{offers_given, offers_back, offers_passed, offers_none}
-use Rattle.modem_driver.proofs.sessions.CallerOffers.{rings_apart, ring_given, ring_full}
+use Rattle.modem_driver.proofs.sessions.steps.FirstOffers.{offers_given, offers_back, offers_passed, offers_none}
+use Rattle.modem_driver.proofs.sessions.steps.CallerOffers.{rings_apart, ring_given, ring_full}
 use Rattle.modem_driver.proofs.machine.waiting.Waiting.offer_outcome.Goals as goal
 use Rattle.modem_driver.proofs.machine.waiting.Waiting.offer_outcome.Goals.{then-held_up-caller-via-then-held_up-caller, then-held_up-caller-via-else-held_up-caller+then-outcome-callers}
 

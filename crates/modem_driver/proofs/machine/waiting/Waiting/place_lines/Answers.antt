@@ -2,8 +2,8 @@
 use Rattle.std.proofs.Common.{ap, sym, ◌∙◌, ◌-◌, ◌≡◌, ◌++◌, arith, refl, take, drop}
 use Rattle.std.proofs.lemmas.List.{nil_from_length}
 use Rattle.modem_driver.specs.WaitingLists.{WaitingLists}
-use Rattle.modem_driver.proofs.sessions.FirstOffers.{none_held}
-use Rattle.modem_driver.proofs.sessions.ListenerOffers.{announces_first, announces_more, announces_last, announces_none, announces_early}
+use Rattle.modem_driver.proofs.sessions.steps.FirstOffers.{none_held}
+use Rattle.modem_driver.proofs.sessions.steps.ListenerOffers.{announces_first, announces_more, announces_last, announces_none, announces_early}
 use Rattle.modem_driver.proofs.machine.waiting.Waiting.place_lines.Goals as goal
 
 pub loop-place-init : goal.loop-place-init

@@ -1,6 +1,6 @@
 -- Those that were offered are announced or stay.
 use Rattle.std.proofs.Common.{◌≡◌, ◌-◌}
-use Rattle.modem_driver.proofs.sessions.ListenerOffers.{AnnouncesSo}
+use Rattle.modem_driver.proofs.sessions.steps.ListenerOffers.{AnnouncesSo}
 use Rattle.modem_driver.proofs.machine.waiting.Waiting.place_lines.Given as goal
 
 abbrev pub invariant-loop-place : goal.invariant-loop-place

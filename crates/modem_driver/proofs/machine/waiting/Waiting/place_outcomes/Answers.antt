@@ -2,8 +2,8 @@
 use Rattle.std.proofs.Common.{ap, sym, ◌∙◌, arith, refl}
 use Rattle.std.proofs.lemmas.Bool.{eqb-true}
 use Rattle.std.proofs.lemmas.List.{nil_from_length}
-use Rattle.modem_driver.proofs.sessions.FirstOffers.{none_held}
-use Rattle.modem_driver.proofs.sessions.CallerOffers.{tells_first, tells_more, tells_last, tells_none}
+use Rattle.modem_driver.proofs.sessions.steps.FirstOffers.{none_held}
+use Rattle.modem_driver.proofs.sessions.steps.CallerOffers.{tells_first, tells_more, tells_last, tells_none}
 use Rattle.modem_driver.specs.WaitingLists.{WaitingLists}
 use Rattle.modem_driver.proofs.machine.waiting.Waiting.place_outcomes.Goals as goal
 

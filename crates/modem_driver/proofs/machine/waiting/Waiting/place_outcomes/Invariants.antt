@@ -1,6 +1,6 @@
 -- Those that were offered are told or stay.
 use Rattle.std.proofs.Common.{◌≡◌, ◌-◌}
-use Rattle.modem_driver.proofs.sessions.CallerOffers.{TellsSo}
+use Rattle.modem_driver.proofs.sessions.steps.CallerOffers.{TellsSo}
 use Rattle.modem_driver.proofs.machine.waiting.Waiting.place_outcomes.Given as goal
 
 abbrev pub invariant-loop-place : goal.invariant-loop-place

@@ -7,7 +7,7 @@ use Rattle.modem_driver.specs.declared.session.ending.Ended.{Ended}
 use Rattle.modem_driver.specs.declared.session.error.SessionFault.{SessionFault}
 use Rattle.modem_driver.specs.SessionStates.{line_by}
 use Rattle.modem_driver.specs.Polls.{Gives, end_in}
-use Rattle.modem_driver.proofs.sessions.Polls.{gives_before}
+use Rattle.modem_driver.proofs.sessions.polls.Polls.{gives_before}
 use Rattle.modem_driver.proofs.session.polling.SessionFuture.poll.Goals as goal
 
 pub returns-in-More-clause-same : goal.returns-in-More-clause-same
