@@ -7,7 +7,7 @@ use Rattle.mux_station.specs.GivenFrames.{with_freshness}
 use Rattle.modem_history.specs.Acts.{Act, act_of, Took, Got, Sent, Tick, Lost, Given}
 use Rattle.modem_history.specs.Calls.{Setting}
 use Rattle.modem_history.specs.Wholes.{UsesOnce, taken_requests}
-use Rattle.modem_driver.specs.declared.run.Running as code
+use Rattle.modem_driver.specs.declared.replaying.Running as code
 use Rattle.modem_driver.specs.declared.event.Event.{Event}
 use Rattle.modem_driver.specs.declared.event.Event.TheVariants as event
 use Rattle.modem_driver.specs.Cores.{Core}

@@ -13,17 +13,17 @@ mod entry;
 mod entry_tries;
 mod error;
 mod event;
+mod going_out;
+mod got;
 mod hand;
 mod joining;
 mod lane;
 mod lanes;
 pub mod laws;
 mod machine;
-mod receiving;
+mod replaying;
+mod replaying_by;
 mod reports;
-mod run;
-mod run_by;
-mod sending;
 mod session;
 mod telling;
 mod tick;
@@ -40,8 +40,8 @@ pub use error::CoreError;
 pub use event::{Event, Octets};
 pub use modem_desk::{Answer, Ask, Outcome, Request, Urc};
 pub use modem_history::Act;
-pub use run::replay;
-pub use run_by::replay_with_dialect;
+pub use replaying::replay;
+pub use replaying_by::replay_with_dialect;
 pub use session::{
     Ended, Finished, Offline, OfflineRefused, Progress, Session, SessionError, SessionFault,
     SessionRefused, Turn,

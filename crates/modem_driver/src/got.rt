@@ -1,0 +1,461 @@
+//! Handles received frames (27.010, 5.4).
+ghost use Rattle.std.specs.Prelude.{List, None, ◌≡◌, ◌≢◌, ◌≤◌, ◌<◌, ◌+◌, ◌-◌, ◌++◌, ◌∷◌, ◌&&◌, not, [], true, false, length, drop, map, slice_get, slice_set, position, option_map, is_some, is_none, IfOk, OnOk, OnErr, vec_capacity};
+ghost use Rattle.mux_frame.specs.Frames.{frame_of, kept_frame};
+ghost use Rattle.mux_frame.specs.Spelling.{most_info};
+ghost use Rattle.mux_station.specs.Acts as station_acts;
+ghost use Rattle.mux_station.specs.Fitting as station_fits;
+ghost use Rattle.mux_station.specs.Noting.{says_open, noted_of};
+ghost use Rattle.mux_station.specs.Sending.{got_refused, station_view};
+ghost use Rattle.mux_station.specs.Stations.{setting_of, seen_in};
+ghost use Rattle.mux_station.specs.Tables.{have_room, octets_of, by_frame};
+ghost use Rattle.modem_history.specs.Acts.{Act as Happening, act_of, Got};
+ghost use Rattle.modem_driver.specs.Running.{CoreIsIdle};
+ghost use Rattle.modem_driver.specs.Cores.{Handles, shows_opened, lane_at};
+ghost use Rattle.modem_driver.specs.Lanes.{new_lane};
+ghost use Rattle.modem_history.specs.Calls.{first_on};
+ghost use Rattle.modem_history.specs.Requests.{commands_on, without_first};
+ghost use Rattle.modem_driver.specs.Reports.{owner_of};
+ghost use Rattle.modem_driver.specs.Handing.{Offers, OffersLine, EndsCommand, EndedBy, ReadsApart};
+ghost use Rattle.modem_driver.specs.Forks.{forked_lane, joined, joined_acts};
+ghost use Rattle.at_text.specs.Forks.{lines_so_far};
+ghost use Rattle.modem_driver.specs.Receiving.{HasRoom, cut_to, sent_in, afresh_if, reads_data};
+ghost use Rattle.modem_driver.specs.Holding.{KeepsHeld};
+ghost use Rattle.modem_driver.specs.declared.error.CoreError.TheVariants as CoreError;
+
+use crate::act_list::ActList;
+use crate::driver::Core;
+use crate::error::CoreError;
+use crate::hand::Hand;
+use crate::lane::Lane;
+use crate::reports::{Owner, Reading, read_octets};
+use crate::going_out::first_line;
+use crate::telling::{Happened, tell};
+use at_text::CommandLine;
+use modem_desk::{Ask, Request};
+use modem_history::Act;
+use mux_frame::{Dlci, FrameBuf, FrameView, Info, Kind};
+use mux_station::{ChannelState, Noted, Station};
+
+/// An MSC is a type octet, a length octet and two octets of value.
+const MSC_LEN: usize = 4;
+
+/// The frame, its information in room that was taken before: what has none is cut off.
+fn kept_in(spare: Vec<u8>, frame: FrameView<'_>) -> FrameBuf
+    requires { spare.items ≡ [] }
+    ensures { kept_frame result ≡ cut_to (vec_capacity spare) (frame_of frame.entry) }
+{
+    let mut octets = spare;
+    let most = frame.info.len().min(octets.capacity());
+    octets.extend_from_slice(&frame.info[..most]).unwrap();
+    FrameBuf {
+        dlci: frame.dlci,
+        kind: frame.kind,
+        cr: frame.cr,
+        pf: frame.pf,
+        info: Info::from_vec(octets),
+    }
+}
+
+/// The frame at this place of the control queue, if there is one, is sent.
+fn push_sent(station: &mut Station, place: usize, spare: Vec<u8>, acts: &mut ActList)
+    requires empty { spare.items ≡ [] }
+    requires room { 0 < acts.old.left }
+    ensures station { station.new ≡ station.old }
+    ensures acts { map act_of acts.new.acts
+        ≡ map act_of acts.old.acts ++ sent_in (vec_capacity spare) (slice_get station.old.queue place) }
+    ensures left { acts.old.left ≤ acts.new.left + 1 }
+{
+    if let Some(frame) = station.queued(place) {
+        acts.push(Act::Sent(kept_in(spare, frame)));
+    }
+}
+
+/// Whether it was Opened and isn't any more.
+fn has_ended(before: ChannelState, now: ChannelState) -> bool
+    ensures { result ≡ shows_opened before && not (shows_opened now) }
+{
+    matches!(before, ChannelState::Opened) && !matches!(now, ChannelState::Opened)
+}
+
+/// Whether the frame opened its connection.
+fn opens(noted: Noted) -> bool
+    ensures { result ≡ says_open noted }
+{
+    matches!(noted, Noted::Opened | Noted::Reset)
+}
+
+/// The station takes a frame. The condition is that there is room for all that it calls for.
+fn take(station: &mut Station, frame: FrameView<'_>) -> Noted
+    requires short { length frame.info.now ≤ most_info station.old.n1 frame.kind }
+    requires room { have_room station.old.n1 (octets_of station.old.queue)
+        (by_frame station.old.role (seen_in station.old).state (frame_of frame)) ≡ true }
+    ensures past { station_fits.StationHandles station.old station.new
+        (station_acts.Got (frame_of frame.entry)) }
+    ensures noted { (past : List station_acts.Act) → station_fits.StationFits station.old past
+        → result ≡ noted_of station.old.role (station_view (setting_of station.old) past)
+        (frame_of frame.entry) }
+    ensures taken { None ≡ got_refused (setting_of station.old) (seen_in station.old) (frame_of frame.entry) }
+{
+    let Ok(noted) = station.got(frame) else {
+        unreachable!()
+    };
+    noted
+}
+
+impl Core {
+    /// Where the frame opened its connection, everything of that starts afresh.
+    fn start_lane(&mut self, dlci: Dlci, opened: bool)
+        ensures { self.new ≡ record self.old { lanes = afresh_if opened dlci.number self.old.lanes } }
+    {
+        if opened {
+            self.lanes.start(dlci);
+        }
+    }
+
+    /// A frame after a loss of the line: it came, and nothing else.
+    fn got_lost(&self, frame: FrameView<'_>) -> Result<Vec<Act>, CoreError>
+        requires { self.now.lost ≡ true }
+        ensures past { IfOk result (λ acts.
+            Handles self.now self.now (Got (frame_of frame.entry)) (map act_of acts.items)) }
+        ensures holds { IfOk result (λ acts.
+            KeepsHeld self.now self.now (Got (frame_of frame.entry)) (map act_of acts.items)) }
+        ensures room { OnOk result (HasRoom self.now (Got (frame_of frame.entry)) true) }
+        ensures no_memory { OnErr result (result ≡ Err CoreError.NoMemory) }
+    {
+        let copy = frame.to_buf(self.alloc)?;
+        let acts = vec![in self.alloc; Act::Got(copy)]?;
+        Ok(acts)
+    }
+
+    /// A frame that isn't data of an open connection.
+    fn got_other(&mut self, frame: FrameView<'_>) -> Result<Vec<Act>, CoreError>
+        requires short { length frame.info.now ≤ most_info self.old.station.n1 frame.kind }
+        requires live { self.old.lost ≡ false }
+        requires no_data { reads_data self.old (frame_of frame) ≡ false }
+        ensures past { IfOk result (λ acts.
+            Handles self.old self.new (Got (frame_of frame.entry)) (map act_of acts.items)) }
+        ensures holds { IfOk result (λ acts.
+            KeepsHeld self.old self.new (Got (frame_of frame.entry)) (map act_of acts.items)) }
+        ensures first { IfOk result (λ acts.
+            map act_of acts.items ≡ Got (frame_of frame.entry) ∷ drop 1 (map act_of acts.items)) }
+        ensures room { OnOk result (HasRoom self.old (Got (frame_of frame.entry)) true) }
+        ensures no_room { result ≡ Err CoreError.NoRoom
+            → HasRoom self.old (Got (frame_of frame.entry)) false }
+        ensures no_memory { result ≡ Err CoreError.NoMemory
+            → HasRoom self.old (Got (frame_of frame.entry)) true }
+        ensures good_n1 { result ≢ Err CoreError.BadN1 }
+        ensures err { OnErr result (self.new ≡ self.old) }
+        ensures n1 { self.new.station.n1 ≡ self.old.station.n1 }
+        ensures never_full { result ≡ Err CoreError.NoRoom → ¬ CoreIsIdle self.old }
+    {
+        if !self.station.has_room_for(frame) {
+            return Err(CoreError::NoRoom);
+        }
+        let mut acts = ActList::with_room(self.alloc, 2 + self.hand.len())?;
+        let spare = Vec::with_capacity(self.alloc, frame.info.len().max(MSC_LEN))?;
+        acts.push(Act::Got(frame.to_buf(self.alloc)?));
+        let before = self.station.state(Dlci::CONTROL);
+        let place = self.station.queue_len();
+        let noted = take(&mut self.station, frame);
+        push_sent(&mut self.station, place, spare, &mut acts);
+        let ended = has_ended(before, self.station.state(Dlci::CONTROL));
+        tell(
+            &mut self.hand,
+            &self.station,
+            self.lost,
+            Happened::Got(noted),
+            ended,
+            &mut acts,
+        );
+        self.start_lane(frame.dlci, opens(noted));
+        Ok(acts.into_vec())
+    }
+
+    /// A fork of what is kept of a connection.
+    fn fork(&mut self, dlci: Dlci) -> Lane
+        ensures fork { result ≡ forked_lane (lane_at self.old dlci.number) }
+        ensures same { self.new ≡ self.old }
+    {
+        self.lanes.fork(dlci)
+    }
+
+    /// Reads the information of a frame on a fork of what is kept of its connection. What is said of its lines goes
+    /// into the acts, which has none before.
+    fn read(
+        &self,
+        frame: FrameView<'_>,
+        fork: &mut Lane,
+        acts: &mut Vec<Act>,
+    ) -> Result<(), CoreError>
+        requires fork { fork.old ≡ forked_lane (lane_at self.now (frame_of frame).dlci) }
+        requires none { acts.old.items ≡ [] }
+        ensures read { OnOk result (ReadsApart self.now (frame_of frame.entry) fork.new
+            (Got (frame_of frame.entry) ∷ map act_of acts.new.items)) }
+        ensures held { fork.new.held ≡ fork.old.held }
+        ensures no_memory { OnErr result (result ≡ Err CoreError.NoMemory) }
+    {
+        let reading = Reading {
+            alloc: self.alloc,
+            dlci: frame.dlci,
+            owner: first_owner(self.hand.as_slice(), frame.dlci),
+        };
+        read_octets(
+            reading,
+            &self.dialect,
+            self.kinds.as_slice(),
+            frame.info,
+            &mut fork.reader,
+            &mut fork.window,
+            acts,
+        )?;
+        Ok(())
+    }
+
+    /// The command under way on the connection has its answer: it is in hand no more, and the next one
+    /// is put into the send ring.
+    fn end_command(&mut self, dlci: Dlci)
+        ensures { EndsCommand self.old self.new dlci.number }
+    {
+        remove_command(&mut self.hand, dlci);
+        if let Some(line) = first_line(self.hand.as_slice(), dlci) {
+            offer_line(&mut self.station, dlci, line);
+        }
+    }
+
+    /// A connection's lane goes on as its fork. Says whether a command was under way there and is no more.
+    /// Want of memory changes nothing.
+    fn join_lane(
+        &mut self,
+        dlci: Dlci,
+        fork: &mut Lane,
+        acts: &mut Vec<Act>,
+    ) -> Result<bool, CoreError>
+        ensures after { OnOk result (self.new ≡ record self.old {
+          lanes = slice_set self.old.lanes dlci.number (joined (lane_at self.old dlci.number) fork.old);
+        }) }
+        ensures acts { OnOk result (map act_of acts.new.items ≡ joined_acts
+            (lines_so_far (lane_at self.old dlci.number).window) fork.old.window (map act_of acts.old.items)) }
+        ensures done { IfOk result (λ done.
+            done ≡ (is_some (lane_at self.old dlci.number).window && is_none fork.old.window)) }
+        ensures err { OnErr result (self.new ≡ self.old) }
+        ensures no_memory { OnErr result (result ≡ Err CoreError.NoMemory) }
+    {
+        match self.lanes.join(dlci, fork, acts) {
+            Ok(done) => Ok(done),
+            Err(_) => Err(CoreError::NoMemory),
+        }
+    }
+
+    /// Where the command under way has its answer, the next one goes out.
+    fn go_on(&mut self, dlci: Dlci, done: bool)
+        ensures { EndedBy done self.old self.new dlci.number }
+    {
+        if done {
+            self.end_command(dlci);
+        }
+    }
+
+    /// A frame that was read on a fork: its connection goes on as that, the station takes the frame, and where the
+    /// command under way has its answer, the next one goes out. Want of memory changes nothing.
+    fn join_data(
+        &mut self,
+        frame: FrameView<'_>,
+        fork: &mut Lane,
+        acts: &mut Vec<Act>,
+    ) -> Result<(), CoreError>
+        requires short { length frame.info.now ≤ most_info self.old.station.n1 frame.kind }
+        requires live { self.old.lost ≡ false }
+        requires is_data { reads_data self.old (frame_of frame) ≡ true }
+        requires held { fork.old.held ≡ (lane_at self.old (frame_of frame).dlci).held }
+        ensures acts { OnOk result (map act_of acts.new.items ≡ joined_acts
+            (lines_so_far (lane_at self.old (frame_of frame.entry).dlci).window) fork.old.window
+            (map act_of acts.old.items)) }
+        ensures past { OnOk result ((said : List Happening) → ReadsApart self.old (frame_of frame.entry) fork.old said
+            → Handles self.old self.new (Got (frame_of frame.entry)) (joined_acts
+            (lines_so_far (lane_at self.old (frame_of frame.entry).dlci).window) fork.old.window said)) }
+        ensures holds { OnOk result ((said : List Happening) → ReadsApart self.old (frame_of frame.entry) fork.old said
+            → KeepsHeld self.old self.new (Got (frame_of frame.entry)) (joined_acts
+            (lines_so_far (lane_at self.old (frame_of frame.entry).dlci).window) fork.old.window said)) }
+        ensures room { OnOk result (HasRoom self.old (Got (frame_of frame.entry)) true) }
+        ensures no_memory { OnErr result (result ≡ Err CoreError.NoMemory) }
+        ensures err { OnErr result (self.new ≡ self.old) }
+        ensures n1 { self.new.station.n1 ≡ self.old.station.n1 }
+    {
+        let done = self.join_lane(frame.dlci, fork, acts)?;
+        let _noted = take(&mut self.station, frame);
+        self.go_on(frame.dlci, done);
+        Ok(())
+    }
+
+    /// Data of an open connection.
+    fn got_data(&mut self, frame: FrameView<'_>) -> Result<Vec<Act>, CoreError>
+        requires short { length frame.info.now ≤ most_info self.old.station.n1 frame.kind }
+        requires live { self.old.lost ≡ false }
+        requires is_data { reads_data self.old (frame_of frame) ≡ true }
+        ensures past { IfOk result (λ acts.
+            Handles self.old self.new (Got (frame_of frame.entry)) (map act_of acts.items)) }
+        ensures holds { IfOk result (λ acts.
+            KeepsHeld self.old self.new (Got (frame_of frame.entry)) (map act_of acts.items)) }
+        ensures room { OnOk result (HasRoom self.old (Got (frame_of frame.entry)) true) }
+        ensures no_memory { OnErr result (result ≡ Err CoreError.NoMemory) }
+        ensures err { OnErr result (self.new ≡ self.old) }
+        ensures n1 { self.new.station.n1 ≡ self.old.station.n1 }
+    {
+        let mut fork = self.fork(frame.dlci);
+        let mut acts = Vec::new(self.alloc);
+        self.read(frame, &mut fork, &mut acts)?;
+        acts.insert(0, Act::Got(frame.to_buf(self.alloc)?))?;
+        self.join_data(frame, &mut fork, &mut acts)?;
+        Ok(acts)
+    }
+
+    /// The same without the first act, which is that the frame came.
+    fn follow_data(&mut self, frame: FrameView<'_>) -> Result<Vec<Act>, CoreError>
+        requires short { length frame.info.now ≤ most_info self.old.station.n1 frame.kind }
+        requires live { self.old.lost ≡ false }
+        requires is_data { reads_data self.old (frame_of frame) ≡ true }
+        ensures past { IfOk result (λ acts. Handles self.old self.new (Got (frame_of frame.entry))
+            (Got (frame_of frame.entry) ∷ map act_of acts.items)) }
+        ensures holds { IfOk result (λ acts. KeepsHeld self.old self.new (Got (frame_of frame.entry))
+            (Got (frame_of frame.entry) ∷ map act_of acts.items)) }
+        ensures room { OnOk result (HasRoom self.old (Got (frame_of frame.entry)) true) }
+        ensures no_memory { OnErr result (result ≡ Err CoreError.NoMemory) }
+        ensures err { OnErr result (self.new ≡ self.old) }
+        ensures n1 { self.new.station.n1 ≡ self.old.station.n1 }
+    {
+        let mut fork = self.fork(frame.dlci);
+        let mut acts = Vec::new(self.alloc);
+        self.read(frame, &mut fork, &mut acts)?;
+        self.join_data(frame, &mut fork, &mut acts)?;
+        Ok(acts)
+    }
+
+    /// Whether the frame is data of an open connection.
+    fn is_data(&self, frame: FrameView<'_>) -> bool
+        ensures { result ≡ reads_data self.now (frame_of frame.entry) }
+    {
+        frame.kind == Kind::Uih
+            && frame.dlci.number() != 0
+            && is_opened(self.station.state(frame.dlci))
+    }
+
+    /// Handles a received frame. Requires that its information is at most N1 octets, and empty in a kind other than
+    /// UIH. Refusals, which change nothing: 3 NoRoom where not all frames that it calls for fit into the control queue,
+    /// checked first; 1 NoMemory.
+    pub fn got(&mut self, frame: FrameView<'_>) -> Result<Vec<Act>, CoreError>
+        requires { length frame.info.now ≤ most_info self.old.station.n1 frame.kind }
+        ensures past { IfOk result (λ acts.
+            Handles self.old self.new (Got (frame_of frame.entry)) (map act_of acts.items)) }
+        ensures holds { IfOk result (λ acts.
+            KeepsHeld self.old self.new (Got (frame_of frame.entry)) (map act_of acts.items)) }
+        ensures room { OnOk result (HasRoom self.old (Got (frame_of frame.entry)) true) }
+        ensures no_room { result ≡ Err CoreError.NoRoom
+            → HasRoom self.old (Got (frame_of frame.entry)) false }
+        ensures no_memory { result ≡ Err CoreError.NoMemory
+            → HasRoom self.old (Got (frame_of frame.entry)) true }
+        ensures good_n1 { result ≢ Err CoreError.BadN1 }
+        ensures err { OnErr result (self.new ≡ self.old) }
+        ensures n1 { self.new.station.n1 ≡ self.old.station.n1 }
+        ensures never_full { result ≡ Err CoreError.NoRoom → ¬ CoreIsIdle self.old }
+    {
+        if self.lost {
+            self.got_lost(frame)
+        } else if self.is_data(frame) {
+            self.got_data(frame)
+        } else {
+            self.got_other(frame)
+        }
+    }
+
+    /// Handles a received frame as `got` does, and gives the acts that follow on its coming: those of `got` without the
+    /// first. So no copy of the frame is made. Its refusals are those of `got`.
+    pub(crate) fn follow(&mut self, frame: FrameView<'_>) -> Result<Vec<Act>, CoreError>
+        requires { length frame.info.now ≤ most_info self.old.station.n1 frame.kind }
+        ensures past { IfOk result (λ acts. Handles self.old self.new (Got (frame_of frame.entry))
+            (Got (frame_of frame.entry) ∷ map act_of acts.items)) }
+        ensures holds { IfOk result (λ acts. KeepsHeld self.old self.new (Got (frame_of frame.entry))
+            (Got (frame_of frame.entry) ∷ map act_of acts.items)) }
+        ensures room { OnOk result (HasRoom self.old (Got (frame_of frame.entry)) true) }
+        ensures no_room { result ≡ Err CoreError.NoRoom
+            → HasRoom self.old (Got (frame_of frame.entry)) false }
+        ensures no_memory { result ≡ Err CoreError.NoMemory
+            → HasRoom self.old (Got (frame_of frame.entry)) true }
+        ensures good_n1 { result ≢ Err CoreError.BadN1 }
+        ensures err { OnErr result (self.new ≡ self.old) }
+        ensures n1 { self.new.station.n1 ≡ self.old.station.n1 }
+        ensures never_full { result ≡ Err CoreError.NoRoom → ¬ CoreIsIdle self.old }
+    {
+        if self.lost {
+            return Ok(Vec::new(self.alloc));
+        }
+        if self.is_data(frame) {
+            return self.follow_data(frame);
+        }
+        let mut acts = self.got_other(frame)?;
+        acts.remove(0);
+        Ok(acts)
+    }
+}
+
+fn is_opened(state: ChannelState) -> bool
+    ensures { result ≡ shows_opened state }
+{
+    matches!(state, ChannelState::Opened)
+}
+
+/// The request whose command is the first on this connection.
+fn first_owner(hand: &[Request], dlci: Dlci) -> Option<Owner>
+    ensures { result ≡ option_map owner_of (first_on dlci.number hand.now) }
+{
+    for request in hand {
+        if is_command(request, dlci) {
+            return Some(Owner {
+                caller: request.caller,
+                number: request.number,
+            });
+        }
+    }
+    None
+}
+
+/// It is a command on this connection.
+fn is_command(request: &Request, dlci: Dlci) -> bool
+    ensures { result ≡ commands_on dlci.number request.now }
+{
+    match &request.ask {
+        Ask::Command(on, _) => on.number() == dlci.number(),
+        _ => false,
+    }
+}
+
+/// The place of the first command on this connection.
+fn command_at(hand: &[Request], dlci: Dlci) -> Option<usize>
+    ensures { result ≡ position (commands_on dlci.number) hand.now }
+{
+    hand.iter().position(|request| is_command(request, dlci))
+}
+
+/// Takes the first command on this connection out.
+#[tactic(auto, using(crate::proofs::lists::FirstLeftOut::left_at, crate::proofs::lists::FirstLeftOut::none_left))]
+fn remove_command(hand: &mut Hand, dlci: Dlci)
+    ensures { hand.new ≡ without_first (commands_on dlci.number) hand.old }
+{
+    if let Some(place) = command_at(hand.as_slice(), dlci) {
+        hand.remove(place);
+    }
+}
+
+/// Octets are put into the send ring.
+fn offer(station: &mut Station, dlci: Dlci, octets: &[u8])
+    ensures { Offers station.old station.new dlci.number octets.now }
+{
+    let _ = station.offer(dlci, octets);
+}
+
+/// A command goes out as its text and CR (V.250, 5.2.1).
+fn offer_line(station: &mut Station, dlci: Dlci, line: &CommandLine)
+    ensures { OffersLine station.old station.new dlci.number line.now }
+{
+    offer(station, dlci, line.text());
+    offer(station, dlci, b"\r");
+}
