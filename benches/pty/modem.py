@@ -96,6 +96,8 @@ class Modem:
             return None
         if line == b"AT+RING":
             return b"\r\nRING\r\n\r\nOK\r\n"
+        if line == b"AT+QISEND":
+            return b"\r\n+QIURC: \"recv\",0\r\n\r\nSEND FAIL\r\n"
         if line == b"AT+NO":
             return b"\r\n+CME ERROR: 3\r\n"
         return b"\r\n+ECHO: %d,%d,\"%s\"\r\n\r\nOK\r\n" % (dlci, self.count[dlci], line)

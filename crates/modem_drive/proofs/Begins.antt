@@ -15,12 +15,7 @@ use Rattle.modem_driver.specs.SessionStates.{FitsAll, SessionState, beginning_by
 use Rattle.modem_drive.specs.declared.users.UnderWay.{UnderWay}
 use Rattle.modem_drive.specs.declared.users.Users.{Users}
 use Rattle.modem_drive.specs.Asking.{PlanView}
-use Rattle.mux_capture.specs.Passing.{CaptureState}
-use Rattle.modem_drive.specs.CapturedLine.{CapturedState, captured_line}
-use Rattle.serial_line.specs.StreamLine.{StreamState, new_stream}
-use Rattle.serial_line.specs.declared.stream_line.ZeroRead.TheVariants.{Ended}
-use Rattle.modem_drive.specs.Running.{Begins, Drove, DroveDevice, HasEntered, IsNewDesk, device_look, kinds_by, plan_begun}
-use Rattle.modem_drive.specs.declared.running.Driven.{Driven}
+use Rattle.modem_drive.specs.Running.{Begins, Drove, HasEntered, IsNewDesk, kinds_by, plan_begun}
 use Rattle.modem_drive.specs.Ending.{HasDriven, HasEndedBy}
 use Rattle.modem_drive.specs.declared.fault.DriveFault.{DriveFault}
 use Rattle.modem_drive.proofs.Asks.{all_asked, asks_same, asks_then}
@@ -42,9 +37,9 @@ begins look rules n1 line d s users fits same new whole subscribed shown none_as
 }
 
 -- the same, and it was driven to its end
-pub drove : {X : Type 0} (look : X → LineView) (rules : Rules) (text : List ℕ) (n1 : ℕ) (first line : X) (s : SessionState X) (users : Users) (input before after : Option (List ℕ)) (p : PlanView) (end : Option DriveFault) (left : Settled)
-    → HasEntered text (look first) (look line) → Begins look rules n1 line s users → HasDriven look s users (plan_begun input) p before after end left → Drove look rules text n1 first input before after end left
-drove {X} look rules text n1 first line s users input before after p end left entered b driven = record {
+pub drove : {X : Type 0} (look : X → LineView) (rules : Rules) (text : List ℕ) (n1 : ℕ) (first line last : X) (s : SessionState X) (users : Users) (input before after : Option (List ℕ)) (p : PlanView) (end : Option DriveFault) (left : Settled)
+    → HasEntered text (look first) (look line) → Begins look rules n1 line s users → HasDriven look s users (plan_begun input) p before after end left last → Drove look rules text n1 first last input before after end left
+drove {X} look rules text n1 first line last s users input before after p end left entered b driven = record {
   session = s;
   entered = subst (λ (x : X). HasEntered text (look first) (look x)) (sym b.at_line) entered;
   users = users;
@@ -66,25 +61,6 @@ drove {X} look rules text n1 first line s users input before after p end left en
       (asks_then _ p p users.lines.submitted driven.mid.lines.submitted driven.ends.ended.lines.submitted driven.asks (asks_same p p driven.mid.lines.submitted driven.ends.ended.lines.submitted refl driven.ends.submits_none))
       by.1 by.2;
 }
-
--- a line between two rings was
-pub drove_device : (rules : Rules) (text : List ℕ) (n1 : ℕ) (line : StreamState) (wrapped : CapturedState StreamState) (capture : Option CaptureState) (before after : Option (List ℕ)) (r : Result Driven DriveFault) → line ≡ new_stream None None Ended
-    → wrapped ≡ captured_line line capture
-    → IfOk r (λ d. Drove device_look rules text n1 wrapped None before after d.fault d.left) → IfOk r (λ d. DroveDevice rules text n1 before after d.fault)
-drove_device rules text n1 line wrapped capture before after (Ok d) same is h = record {
-  left = d.left;
-  capture = capture;
-  drove =
-      subst (λ (x : CapturedState StreamState). Drove device_look rules text n1 x None before after d.fault d.left)
-      (is ∙ ap (λ (l : StreamState). captured_line l capture) same) h;
-}
-drove_device rules text n1 line wrapped capture before after (Err why) same is h = tt
-
--- without a fault
-pub drove_well : (rules : Rules) (text : List ℕ) (n1 : ℕ) (before after : Option (List ℕ)) (r : Result Driven DriveFault) → IsOkAnd r (λ d. d.fault ≡ None)
-    → IfOk r (λ d. DroveDevice rules text n1 before after d.fault) → DroveDevice rules text n1 before after None
-drove_well rules text n1 before after (Ok d) well h = subst (DroveDevice rules text n1 before after) well h
-drove_well rules text n1 before after (Err why) well h = absurd well
 
 -- ## The desk that is opened
 

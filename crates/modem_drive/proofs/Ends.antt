@@ -75,14 +75,13 @@ same_desk s users kept ended used o p given driver away end before after h = (
   subst (λ (x : Users × Users). KeepPlaces x.0 x.1) (λ i. (h.kept_is i, sym h.used_is i)) h.goes.places,
 )
 
-pub ends_drive : {X : Type 0} (look : X → LineView) (s : SessionState X) (users kept ended used : Users) (given driver away end : DriverView) (f : Leftovers) (o p : Offline) (before after : Option (List ℕ)) (settled : Result Settled DriveFault)
+pub ends_drive : {X : Type 0} (look : X → LineView) (s : SessionState X) (users kept ended used : Users) (given driver away end : DriverView) (f : Leftovers) (o p : Offline) (before after : Option (List ℕ)) (t : Settled)
     → Stays s.driver users kept ended used o p given driver away end before after → SessionEnds look s f → f.desk ≡ end_of given → o ≡ offline_from f.in_hand f.unplaced f.unannounced
     → ended.under_way.items ≡ []
     → ended.lines.submitted ≡ kept.lines.submitted
-    → IfOk settled (λ t. DeskBooks end (used.lines ∷ used.control ∷ []) used.listeners.items t.left.items (map vec_items t.untaken.items) (map vec_items t.unheard.items))
-    → IfOk settled (EndsDrive look s users before after)
-ends_drive look s users kept ended used given driver away end f o p before after (Err why) h left desk made none asked books = tt
-ends_drive look s users kept ended used given driver away end f o p before after (Ok t) h left desk made none asked books = record {
+    → DeskBooks end (used.lines ∷ used.control ∷ []) used.listeners.items t.left.items (map vec_items t.untaken.items) (map vec_items t.unheard.items)
+    → EndsDrive look s users before after t
+ends_drive look s users kept ended used given driver away end f o p before after t h left desk made none asked books = record {
   leftovers = f;
   ends = left;
   desk = desk ∙ ap end_of h.given_is;
@@ -98,12 +97,13 @@ ends_drive look s users kept ended used given driver away end f o p before after
       (λ i. (h.end_is i, h.used_is i)) books;
 }
 
-pub has_driven : {X : Type 0} (look : X → LineView) (s t u : SessionState X) (users mid kept : Users) (p q : PlanView) (before between after : Option (List ℕ)) (end : Option DriveFault) (left : Settled)
+pub has_driven : {X : Type 0} (look : X → LineView) (s t u : SessionState X) (users mid kept : Users) (p q : PlanView) (before between after : Option (List ℕ)) (end : Option DriveFault) (left : Settled) (last : X)
     → DrivesOn look s t → GoOn before between users mid → AsksOn p q users.lines.submitted mid.lines.submitted → HasEndedBy t.machine.course q end
-    → u ≡ t → kept ≡ mid → EndsDrive look u kept between after left → HasDriven look s users p q before after end left
-has_driven {X} look s t u users mid kept p q before between after end left drives goes asks by same stays ends = record {
+    → u ≡ t → kept ≡ mid → EndsDrive look u kept between after left → last ≡ u.line → HasDriven look s users p q before after end left last
+has_driven {X} look s t u users mid kept p q before between after end left last drives goes asks by same stays ends line = record {
   stopped = t;
   drives = drives;
+  line_is = sym (line ∙ ap (λ (x : SessionState X). x.line) same);
   mid = mid;
   between = between;
   goes = goes;

@@ -5,3 +5,5 @@ pub mod Lines
 pub mod Drives
 pub mod Ends
 pub mod Begins
+pub mod Captured
+pub mod OnDevice

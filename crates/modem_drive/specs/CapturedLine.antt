@@ -1,25 +1,30 @@
 -- A line whose frames are captured.
-use Rattle.std.specs.Prelude.{◌≡◌, ℕ, false, List, Option, None, Some}
-use Rattle.mux_capture.specs.declared.packet.Direction.{Direction}
-use Rattle.mux_capture.specs.declared.packet.Stamp.{Stamp}
-use Rattle.mux_capture.specs.Passing.{CaptureState, Captures}
+use Rattle.std.specs.Prelude.{◌≡◌, ℕ, false, List, [], Option}
+use Rattle.mux_capture.specs.declared.packet.Direction.TheVariants.{ToModem, FromModem}
+use Rattle.mux_capture.specs.Passing.{CaptureState, HasCaptured, Passed, octets_in}
 
--- a line of any type, and the capture, if there is one
+-- a line of any type, and its capture
 pub record CapturedState (X : Type 0) : Type 0 where
   pub line : X
-  pub capture : Option CaptureState
+  pub capture : CaptureState
 
-abbrev pub captured_line : {X : Type 0} → X → Option CaptureState → CapturedState X
+abbrev pub captured_line : {X : Type 0} → X → CaptureState → CapturedState X
 captured_line line capture = record { line = line; capture = capture }
 
--- unless the capture has failed, the frames that end in these octets are captured
-pub record SeesAll (old new : CaptureState) (direction : Direction) (octets : List ℕ) : Type 0 where
-  pub good : old.failed ≡ false
-  pub stamp : Stamp
-  pub captures : Captures old new (record { stamp = stamp; direction = direction; octets = octets })
+-- it has begun, and nothing is captured yet
+pub record HasBegun (c : CaptureState) : Type 0 where
+  pub before : Option (List ℕ)
+  pub captured : HasCaptured before [] c
 
--- the same where there may be no capture
-abbrev pub SeesPiece : (old new : Option CaptureState) → Direction → List ℕ → Type 0
-SeesPiece None new direction octets = new ≡ None
-SeesPiece (Some old) None direction octets = ⊥
-SeesPiece (Some old) (Some new) direction octets = new.failed ≡ false → SeesAll old new direction octets
+-- It hasn't failed, and has the header of a file and a packet for each frame of what passed: these octets from the modem, and these to
+-- it.
+pub record CapturesAll (received sent : List ℕ) (c : CaptureState) : Type 0 where
+  pub before : Option (List ℕ)
+  pub passed : List Passed
+  pub captured : HasCaptured before passed c
+  pub from_modem : octets_in FromModem passed ≡ received
+  pub to_modem : octets_in ToModem passed ≡ sent
+
+-- so it is until it fails
+abbrev pub CapturesUnlessFailed : (received sent : List ℕ) → CaptureState → Type 0
+CapturesUnlessFailed received sent c = c.failed ≡ false → CapturesAll received sent c

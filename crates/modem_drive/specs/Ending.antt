@@ -69,11 +69,12 @@ SaysBy said p (Some fault.HungUp) = (why : SessionFault) × (said ≡ progress.E
 SaysBy said p (Some _) = Unit {0}
 
 -- The session went on by polls and ticks while its users submitted what the input asks, took and printed; it or the drive
--- ended so; and then all was settled.
+-- ended so, its line as it is last; and then all was settled.
 pub record HasDriven {X : Type 0} (look : X → LineView) (s : SessionState X) (users : Users) (p q : PlanView)
-    (before after : Option (List ℕ)) (end : Option DriveFault) (settled : Settled) : Type 0 where
+    (before after : Option (List ℕ)) (end : Option DriveFault) (settled : Settled) (last : X) : Type 0 where
   pub stopped : SessionState X
   pub drives : DrivesOn look s stopped
+  pub line_is : stopped.line ≡ last
   pub mid : Users
   pub between : Option (List ℕ)
   pub goes : GoOn before between users mid

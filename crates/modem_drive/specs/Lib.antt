@@ -8,3 +8,4 @@ pub mod Driving
 pub mod Ending
 pub mod Running
 pub mod CapturedLine
+pub mod OnDevice

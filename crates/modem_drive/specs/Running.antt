@@ -1,8 +1,5 @@
 -- A drive, from its line to its end.
 use Rattle.std.specs.Prelude.{◌≡◌, ℕ, List, [], ◌∷◌, ◌++◌, Option, None, IfSome, false, length, map, replicate}
-use Rattle.serial_line.specs.StreamLine.{StreamState, new_stream}
-use Rattle.mux_capture.specs.Passing.{CaptureState}
-use Rattle.serial_line.specs.declared.stream_line.ZeroRead.TheVariants.{Ended}
 use Rattle.at_text.specs.declared.finals.Final.TheVariants.{Good}
 use Rattle.at_text.specs.declared.unsolicited.UrcKind.{UrcKind}
 use Rattle.at_text.specs.Rules.{Rules, dialect_of}
@@ -14,7 +11,6 @@ use Rattle.modem_driver.specs.DialectReplays.{own_kinds}
 use Rattle.modem_driver.specs.EntryTries.{IsRepliedTo}
 use Rattle.modem_driver.specs.SessionStates.{FitsAll, SessionState, beginning_by}
 use Rattle.modem_texts.specs.Input.{input_lines}
-use Rattle.modem_drive.specs.CapturedLine.{CapturedState, captured_line}
 use Rattle.modem_drive.specs.Asking.{LinesAsk, PlanView, asks_of}
 use Rattle.modem_drive.specs.Ending.{HasDriven}
 use Rattle.modem_drive.specs.declared.fault.DriveFault.{DriveFault}
@@ -55,32 +51,14 @@ plan_begun input = record { input = record { left = input; text = []; ended = fa
 
 -- The multiplexer was entered by this text, a session with this N1 and the codes of these rules began on the line, went on, and
 -- ended, and all that came for its users was printed. Without a fault the commands that were submitted, and told before the end, are
--- those that the lines of the input are, in order, where it is known what the reader had.
-pub record Drove {X : Type 0} (look : X → LineView) (rules : Rules) (text : List ℕ) (n1 : ℕ) (line : X)
+-- those that the lines of the input are, in order, where it is known what the reader had. The line is as it is last.
+pub record Drove {X : Type 0} (look : X → LineView) (rules : Rules) (text : List ℕ) (n1 : ℕ) (line last : X)
     (input before after : Option (List ℕ)) (end : Option DriveFault) (left : Settled) : Type 0 where
   pub session : SessionState X
   pub entered : HasEntered text (look line) (look session.line)
   pub users : Users
   pub begins : Begins look rules n1 session.line session users
   pub through : PlanView
-  pub driven : HasDriven look session users (plan_begun input) through before after end left
+  pub driven : HasDriven look session users (plan_begun input) through before after end left last
   pub asked : end ≡ None
       → IfSome input (λ octets. LinesAsk (input_lines octets) (asks_of driven.ends.ended.lines.submitted))
-
--- a line of a device, by its own words
-abbrev pub device_look : CapturedState StreamState → LineView
-device_look l = record {
-  received = l.line.received;
-  sent = l.line.sent;
-  calls = l.line.calls;
-  failures = l.line.failures;
-  empty_reads = l.line.empty_reads;
-  stalled_writes = l.line.stalled_writes;
-}
-
--- A line between two rings, on which nothing had happened, was driven so, with the lines of an input that came through a ring. What
--- the device behind the rings did, and what the input had, is nobody's to say. There may be a capture.
-pub record DroveDevice (rules : Rules) (text : List ℕ) (n1 : ℕ) (before after : Option (List ℕ)) (end : Option DriveFault) : Type 0 where
-  pub left : Settled
-  pub capture : Option CaptureState
-  pub drove : Drove device_look rules text n1 (captured_line (new_stream None None Ended) capture) None before after end left

@@ -1,66 +1,52 @@
 //! A line whose frames go into a capture.
-ghost use Rattle.std.specs.Prelude.{◌≡◌};
-ghost use Rattle.modem_drive.specs.CapturedLine.{SeesPiece, captured_line};
+ghost use Rattle.std.specs.Prelude.{◌≡◌, []};
+ghost use Rattle.modem_drive.specs.CapturedLine.{CapturesUnlessFailed, HasBegun, captured_line};
 
-use bell::Bell;
 use mux_capture::{Capture, Direction, Stamp};
 use serial_line::{LineFault, SerialLine};
 use std::io::Write;
 use std::marker::Model;
 use std::rt::Clock;
 
-/// A line, and a capture of the frames that it gives and takes, if there is one. A capture that fails ends the bell `trouble`, and the
-/// line goes on.
+/// A line, and a capture of the frames that it gives and takes. Until it fails the capture has a packet for each frame that all octets
+/// received, and all sent, are read as. Where it fails the line goes on.
 #[derive(Drop)]
 pub struct CapturedLine<L: SerialLine, K: Clock, C: Write> {
     line: L,
     clock: K,
-    capture: Option<Capture<C>>,
-    trouble: Bell,
+    capture: Capture<C>,
 }
 
 impl<L: SerialLine, K: Clock, C: Write> Model for CapturedLine<L, K, C> {
-    ghost use Rattle.modem_drive.specs.CapturedLine.{CapturedState};
+    ghost use Rattle.modem_drive.specs.CapturedLine.{CapturedState, CapturesUnlessFailed};
 
     ghost Value = { CapturedState L };
 
     ghost view = { λ l. record { line = l.line; capture = l.capture } };
-}
 
-/// Octets passed this way: the frames that end in them go into the capture, if there is one.
-fn note<K: Clock, C: Write>(
-    clock: &K,
-    capture: &mut Option<Capture<C>>,
-    trouble: &Bell,
-    direction: Direction,
-    octets: &[u8],
-)
-    ensures { SeesPiece capture.old capture.new direction octets.now }
-{
-    if let Some(capture) = capture {
-        capture.take(Stamp::now(clock), direction, octets);
-        if capture.has_failed() {
-            trouble.end();
-        }
-    }
+    ghost invariant = { λ l. CapturesUnlessFailed (L.received l.line) (L.sent l.line) l.capture };
 }
 
 impl<L: SerialLine, K: Clock, C: Write> CapturedLine<L, K, C> {
-    /// This line, of which this capture is made, if it is given.
-    pub fn new(
-        line: L,
-        clock: K,
-        capture: Option<Capture<C>>,
-        trouble: Bell,
-    ) -> CapturedLine<L, K, C>
+    /// This line, on which nothing has passed, with this capture, which has begun.
+    pub fn new(line: L, clock: K, capture: Capture<C>) -> CapturedLine<L, K, C>
+        requires fresh { (L.received line ≡ []) × (L.sent line ≡ []) }
+        requires begun { HasBegun capture }
         ensures { result ≡ captured_line line capture }
     {
         CapturedLine {
             line,
             clock,
             capture,
-            trouble,
         }
+    }
+
+    /// Whether the capture has failed.
+    pub fn has_failed(&self) -> bool
+        ensures failed { result ≡ self.now.capture.failed }
+        ensures captures { CapturesUnlessFailed (L.received self.now.line) (L.sent self.now.line) self.now.capture }
+    {
+        self.capture.has_failed()
     }
 }
 
@@ -82,26 +68,18 @@ impl<L: SerialLine, K: Clock, C: Write> SerialLine for CapturedLine<L, K, C> {
     /// Reads; the frames that end in what it reads are captured.
     fn try_read(&mut self, buffer: &mut [u8]) -> Result<usize, LineFault> {
         let count = self.line.try_read(buffer)?;
-        note(
-            &self.clock,
-            &mut self.capture,
-            &self.trouble,
-            Direction::FromModem,
-            &buffer[..count],
-        );
+        let stamp = Stamp::now(&self.clock);
+        self.capture
+            .take(stamp, Direction::FromModem, &buffer[..count]);
         Ok(count)
     }
 
     /// Writes; the frames that end in what it takes are captured.
     fn try_write(&mut self, octets: &[u8]) -> Result<usize, LineFault> {
         let count = self.line.try_write(octets)?;
-        note(
-            &self.clock,
-            &mut self.capture,
-            &self.trouble,
-            Direction::ToModem,
-            &octets[..count],
-        );
+        let stamp = Stamp::now(&self.clock);
+        self.capture
+            .take(stamp, Direction::ToModem, &octets[..count]);
         Ok(count)
     }
 }

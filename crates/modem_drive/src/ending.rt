@@ -96,7 +96,7 @@ fn settle_all<R: Wait>(
     }
 }
 
-/// Ends a session: everyone is told, all that comes is printed, and the desk is settled, which gives what it still held.
+/// Ends a session: everyone is told, all that comes is printed, and the desk is settled. It gives the line, and what the desk still held.
 pub fn end_drive<L: SerialLine + Drop, R: Wait + Clock + Drop, I: Read, W: Write>(
     rt: &R,
     alloc: Global,
@@ -104,11 +104,12 @@ pub fn end_drive<L: SerialLine + Drop, R: Wait + Clock + Drop, I: Read, W: Write
     users: Users,
     plan: &mut Plan<I>,
     output: &mut W,
-) -> Result<Settled, DriveFault>
+) -> Result<(L, Settled), DriveFault>
     requires whole { IsWhole session.driver.desk (map place_of (users.lines ∷ users.control ∷ [])) }
     requires subscribed { AreSubscribed session.driver.desk (map subscription_of users.listeners.items) }
-    ensures ends { IfOk result (EndsDrive (line_by L.received L.sent L.calls L.failures L.empty_reads L.stalled_writes) session
-        users (W.contents output.old) (W.contents output.new)) }
+    ensures ends { IfOk result (λ r. EndsDrive (line_by L.received L.sent L.calls L.failures L.empty_reads L.stalled_writes)
+        session users (W.contents output.old) (W.contents output.new) r.1) }
+    ensures line { IfOk result (λ r. r.0 ≡ session.line) }
     ensures same { plan.new ≡ plan.old }
 {
     let Finished {
@@ -118,7 +119,6 @@ pub fn end_drive<L: SerialLine + Drop, R: Wait + Clock + Drop, I: Read, W: Write
         unplaced,
         unannounced,
     } = session.finish();
-    drop(line);
     let offline = make_offline(alloc, in_hand, unplaced, unannounced);
     let (offline, (driver, users)) = beside(offline, (driver, users))?;
     let mut offline = offline;
@@ -134,5 +134,6 @@ pub fn end_drive<L: SerialLine + Drop, R: Wait + Clock + Drop, I: Read, W: Write
         output,
     );
     let (_, (_, driver, users)) = beside(turned, (offline, driver, users))?;
-    settle_all(rt, alloc, driver, users)
+    let settled = settle_all(rt, alloc, driver, users)?;
+    Ok((line, settled))
 }

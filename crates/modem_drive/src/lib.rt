@@ -12,6 +12,7 @@ mod driving;
 mod ending;
 mod fault;
 mod input;
+mod on_device;
 mod patience;
 mod pieces;
 mod plan;
@@ -22,5 +23,6 @@ mod showing;
 mod users;
 
 pub use fault::DriveFault;
-pub use running::{Driven, drive_over, drive_run};
+pub use on_device::drive_run;
+pub use running::{Driven, drive_over};
 pub use settings::Settings;

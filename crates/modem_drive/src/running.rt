@@ -1,15 +1,13 @@
-//! A drive, from its device to its end.
-ghost use Rattle.std.specs.Prelude.{◌≡◌, ◌≢◌, ◌≤◌, [], ◌∷◌, ℕ, List, None, Option, IfOk, IsOkAnd, OnOk, map};
+//! A drive, from its line to its end.
+ghost use Rattle.std.specs.Prelude.{◌≡◌, [], ◌∷◌, ℕ, List, Option, IfOk, OnOk, map};
 ghost use Rattle.modem_desk.specs.Ends.{AreSubscribed, IsWhole, place_of, subscription_of};
 ghost use Rattle.at_text.specs.Rules.{dialect_of};
 ghost use Rattle.modem_driver.specs.SessionStates.{FitsAll, beginning_by, line_by};
 ghost use Rattle.modem_drive.specs.Ending.{HasDriven};
 ghost use Rattle.modem_drive.specs.Entry.{entry_for, given_text};
-ghost use Rattle.modem_drive.specs.Running.{Begins, Drove, DroveDevice, HasEntered, IsNewDesk, kinds_by};
+ghost use Rattle.modem_drive.specs.Running.{Begins, Drove, HasEntered, IsNewDesk, kinds_by};
 ghost use Rattle.modem_drive.specs.Showing.{HasShown};
 
-use crate::captured_line::CapturedLine;
-use crate::device::{line_beside, read_beside};
 use crate::driving::{Ticks, drive_on};
 use crate::ending::end_drive;
 use crate::fault::DriveFault;
@@ -23,15 +21,12 @@ use at_text::{Dialect, UrcKind};
 use bell::Bell;
 use modem_desk::{Desk, DriverEnd, Settled};
 use modem_driver::{Session, enter_by};
-use mux_capture::Capture;
 use mux_frame::Dlci;
-use serial_line::{SerialLine, ZeroRead};
-use std::alloc::{AllocError, AllocGlobal, Global};
-use std::fs::{File, OpenOptions};
+use serial_line::SerialLine;
+use std::alloc::{AllocError, Global};
 use std::io::{Read, Write};
-use std::rt::{Clock, Files};
+use std::rt::Clock;
 use std::sync::Wait;
-use std::thread::Threads;
 use std::time::Duration;
 
 /// Seconds that an entry waits for an answer, in each of its two tries.
@@ -150,7 +145,7 @@ fn begin<L: SerialLine + Drop, R: Wait + Drop>(
     Ok((session, users))
 }
 
-/// Has a session go on to its end.
+/// Has a session go on to its end. It gives the line too.
 fn run_session<L, R, I, W, E>(
     rt: &R,
     alloc: Global,
@@ -161,7 +156,7 @@ fn run_session<L, R, I, W, E>(
     plan: &mut Plan<I>,
     output: &mut W,
     faults: &mut E,
-) -> Result<(Option<DriveFault>, Settled), DriveFault>
+) -> Result<(L, Option<DriveFault>, Settled), DriveFault>
 where
     L: SerialLine + Drop,
     R: Wait + Clock + Drop,
@@ -171,7 +166,7 @@ where
     requires whole { IsWhole session.driver.desk (map place_of (users.lines ∷ users.control ∷ [])) }
     requires subscribed { AreSubscribed session.driver.desk (map subscription_of users.listeners.items) }
     ensures { IfOk result (λ r. HasDriven (line_by L.received L.sent L.calls L.failures L.empty_reads L.stalled_writes)
-        session users plan.old plan.new (W.contents output.old) (W.contents output.new) r.0 r.1) }
+        session users plan.old plan.new (W.contents output.old) (W.contents output.new) r.1 r.2 r.0) }
 {
     let mut session = session;
     let mut users = users;
@@ -187,8 +182,8 @@ where
         faults,
     );
     let (fault, (session, users)) = beside(went, (session, users))?;
-    let left = end_drive(rt, alloc, session, users, plan, output)?;
-    Ok((fault, left))
+    let (last, left) = end_drive(rt, alloc, session, users, plan, output)?;
+    Ok((last, fault, left))
 }
 
 /// Enters the multiplexer.
@@ -215,7 +210,8 @@ fn enter<L: SerialLine, R: Wait + Clock>(
 /// of the input it waits for what is under way, and ends the multiplexer. `bell` is rung where octets of the line or of the input may
 /// have come.
 ///
-/// Where the line is lost, or the modem ends the multiplexer, everyone who waits is told, and the fault is in what it gives.
+/// It gives the line, and what the drive came to. Where the line is lost, or the modem ends the multiplexer, everyone who waits is told,
+/// and the fault is in what it gives.
 /// Refused, with something left undone: where the multiplexer isn't entered, and with NoMemory, Output and GaveUp.
 pub fn drive_over<L, R, I, W, E>(
     rt: &R,
@@ -226,16 +222,16 @@ pub fn drive_over<L, R, I, W, E>(
     output: &mut W,
     faults: &mut E,
     settings: Settings<'_>,
-) -> Result<Driven, DriveFault>
+) -> Result<(L, Driven), DriveFault>
 where
     L: SerialLine + Drop,
     R: Wait + Clock + Copy + Drop,
     I: Read + Drop,
     W: Write,
     E: Write,
-    ensures { IfOk result (λ d. Drove (line_by L.received L.sent L.calls L.failures L.empty_reads L.stalled_writes)
-        settings.entry.dialect.now (entry_for (given_text settings.entry.entry) settings.entry.n1) settings.entry.n1 line (I.remaining input)
-        (W.contents output.old) (W.contents output.new) d.fault d.left) }
+    ensures { IfOk result (λ r. Drove (line_by L.received L.sent L.calls L.failures L.empty_reads L.stalled_writes)
+        settings.entry.dialect.now (entry_for (given_text settings.entry.entry) settings.entry.n1) settings.entry.n1 line r.0
+        (I.remaining input) (W.contents output.old) (W.contents output.new) r.1.fault r.1.left) }
 {
     let mut line = line;
     enter(rt, alloc, bell, &mut line, &settings)?;
@@ -246,178 +242,14 @@ where
     let ran = run_session(
         rt, alloc, bell, session, users, &mut ticks, &mut plan, output, faults,
     );
-    let (fault, left) = ran?;
-    Ok(Driven {
-        fault,
-        was_bad: plan.was_bad(),
-        left,
-    })
-}
-
-/// Says what a drive left undone, if anything, and gives its status. `uncaptured` says that its capture failed.
-fn say_end<E: Write>(faults: &mut E, ended: Result<Driven, DriveFault>, uncaptured: bool) -> u8
-    ensures status { result ≤ 2 }
-    ensures well { result ≢ 1 → IsOkAnd ended (λ d. d.fault ≡ None) }
-{
-    match ended {
-        Ok(driven) => {
-            let requests = driven.left.left.len();
-            if requests > 0 {
-                let _ = writeln!(faults, "left {requests} requests");
-            }
-            match driven.fault {
-                Some(fault) => say_fault(faults, fault),
-                None if uncaptured => say_fault(faults, DriveFault::Capture),
-                None if driven.was_bad => 2,
-                None => 0,
-            }
-        }
-        Err(fault) => say_fault(faults, fault),
-    }
-}
-
-/// Says why a drive ended, and gives the status.
-fn say_fault<E: Write>(faults: &mut E, fault: DriveFault) -> u8
-    ensures { result ≡ 1 }
-{
-    let _ = writeln!(faults, "{fault}");
-    1
-}
-
-/// The device of this path, opened for reading and for writing.
-fn open_device<R: Files<File = File>>(rt: &R, path: &str) -> Result<(File, File), DriveFault> {
-    let Ok(reader) = File::open(rt, path) else {
-        return Err(DriveFault::NoDevice);
-    };
-    let Ok(writer) = OpenOptions::new().write(true).open(rt, path) else {
-        return Err(DriveFault::NoDevice);
-    };
-    Ok((reader, writer))
-}
-
-/// A capture into the file of this path, which is made, or emptied where there is one.
-fn open_capture<R: Files<File = File>>(
-    rt: &R,
-    alloc: Global,
-    path: &str,
-) -> Result<Capture<File>, DriveFault> {
-    let Ok(file) = File::create(rt, path) else {
-        return Err(DriveFault::Capture);
-    };
-    match Capture::begin(alloc, file) {
-        Ok(capture) => Ok(capture),
-        Err(_) => Err(DriveFault::Capture),
-    }
-}
-
-/// What a drive needs before it begins.
-#[derive(Drop)]
-struct Opened {
-    reader: File,
-    writer: File,
-    capture: Option<Capture<File>>,
-    trouble: Bell,
-    share: Bell,
-}
-
-/// The device, and the capture where the settings name a file.
-fn open_all<R: Files<File = File>>(
-    rt: &R,
-    alloc: Global,
-    path: &str,
-    settings: &Settings<'_>,
-) -> Result<Opened, DriveFault> {
-    let (reader, writer) = open_device(rt, path)?;
-    let capture = match settings.capture {
-        Some(path) => Some(open_capture(rt, alloc, path)?),
-        None => None,
-    };
-    let trouble = Bell::new(alloc)?;
-    let share = trouble.share()?;
-    Ok(Opened {
-        reader,
-        writer,
-        capture,
-        trouble,
-        share,
-    })
-}
-
-/// Drives a modem on a device and an input whose calls wait, each in a thread of its own. The frames that pass go into the capture, if
-/// there is one; one that fails ends the bell `trouble`.
-fn drive_threaded<R, D, O, C, I, W, E>(
-    rt: &R,
-    device: (D, O),
-    capture: Option<Capture<C>>,
-    trouble: Bell,
-    input: I,
-    output: &mut W,
-    faults: &mut E,
-    settings: Settings<'_>,
-) -> Result<Driven, DriveFault>
-where
-    R: Threads + Wait + Clock + AllocGlobal + Copy + Send + Drop + 'static,
-    D: Read + Send + Drop + 'static,
-    O: Write + Send + Drop + 'static,
-    C: Write + Drop,
-    I: Read + Send + Drop + 'static,
-    W: Write,
-    E: Write,
-    ensures { IfOk result (λ d. DroveDevice settings.entry.dialect.now
-        (entry_for (given_text settings.entry.entry) settings.entry.n1) settings.entry.n1 (W.contents output.old) (W.contents output.new) d.fault) }
-{
-    let alloc = rt.alloc();
-    let bell = Bell::new(alloc)?;
-    let stop = Bell::new(alloc)?;
-    let (reader, writer) = device;
-    let input = read_beside(rt, input, &bell, &stop, ZeroRead::Ended)?;
-    let (made, input) = beside(
-        line_beside(rt, reader, writer, ZeroRead::Quiet, &bell),
-        input,
-    )?;
-    let (line, threaded) = made;
-    let line = CapturedLine::new(line, *rt, capture, trouble);
-    let ended = drive_over(rt, alloc, &bell, line, input, output, faults, settings);
-    threaded.end();
-    stop.end();
-    ended
-}
-
-/// Drives a modem on the device of this path, as `drive_over` does, with the lines of `input`, which a thread of its own reads. The
-/// device is a terminal that is set up so that a read waits a while and then gives nothing. Where the settings name a file, the frames
-/// that are read and written go there, with their times; where that file can't be written the drive goes on to its end. The status is 0
-/// where all is done, 2 where a line of the input was bad and all else is done, and 1 at a fault; at 1 and 2 it says on `faults` why.
-pub fn drive_run<R, I, W, E>(
-    rt: &R,
-    path: &str,
-    input: I,
-    output: &mut W,
-    faults: &mut E,
-    settings: Settings<'_>,
-) -> u8
-where
-    R: Files<File = File> + Threads + Wait + Clock + AllocGlobal + Copy + Send + Drop + 'static,
-    I: Read + Send + Drop + 'static,
-    W: Write,
-    E: Write,
-    ensures status { result ≤ 2 }
-    ensures drove { result ≢ 1 → DroveDevice settings.entry.dialect.now
-        (entry_for (given_text settings.entry.entry) settings.entry.n1) settings.entry.n1 (W.contents output.old) (W.contents output.new) None }
-{
-    match open_all(rt, rt.alloc(), path, &settings) {
-        Ok(
-            Opened {
-                reader,
-                writer,
-                capture,
-                trouble,
-                share,
-            },
-        ) => {
-            let device = (reader, writer);
-            let ended = drive_threaded(rt, device, capture, share, input, output, faults, settings);
-            say_end(faults, ended, trouble.is_over())
-        }
-        Err(fault) => say_fault(faults, fault),
-    }
+    let (last, fault, left) = ran?;
+    let was_bad = plan.was_bad();
+    Ok((
+        last,
+        Driven {
+            fault,
+            was_bad,
+            left,
+        },
+    ))
 }

@@ -1,24 +1,26 @@
 -- What the program prints at `drive`.
-use Rattle.std.specs.Prelude.{ℕ, List, Option, None, codes}
+use Rattle.std.specs.Prelude.{ℕ, List, Option, codes, is_some}
 use Rattle.clap.specs.Words.{Row, Text, first_value, found_of}
 use Rattle.clap.specs.declared.ArgMatches.{ArgMatches}
 use Rattle.at_text.specs.Rules.{Rules}
 use Rattle.modem_drive.specs.Entry.{entry_for}
-use Rattle.modem_drive.specs.Running.{DroveDevice}
+use Rattle.modem_drive.specs.OnDevice.{DroveDevice}
 use Rattle.modemctl.specs.Dialects.{IsGivenDialect}
 use Rattle.modemctl.specs.Words.{IsGiven, raw_in}
 
 -- a device was driven without a fault, with the N1 of the words and the codes of their dialect, and entered by their text, or by
--- that of this N1 where they give none; and this was printed
+-- that of this N1 where they give none; this was printed, and where they name a file for a capture it was captured
 pub record PrintsDrive (met : Option (Text × List Row)) (before after : Option (List ℕ)) : Type 0 where
   pub n1 : ℕ
   pub given : IsGiven met (codes "n1") 31 n1
   pub rules : Rules
   pub named : IsGivenDialect (raw_in met (codes "dialect")) rules
-  pub drove : DroveDevice rules (entry_for (raw_in met (codes "entry")) n1) n1 before after None
+  pub drove : DroveDevice (is_some (raw_in met (codes "capture"))) rules (entry_for (raw_in met (codes "entry")) n1) n1 before after
 
 -- the same by the matches of the subcommand
 pub record DrivesWith (n1 : ℕ) (m : ArgMatches) (before after : Option (List ℕ)) : Type 0 where
   pub rules : Rules
   pub named : IsGivenDialect (first_value (found_of m) (codes "dialect")) rules
-  pub drove : DroveDevice rules (entry_for (first_value (found_of m) (codes "entry")) n1) n1 before after None
+  pub drove :
+      DroveDevice (is_some (first_value (found_of m) (codes "capture"))) rules
+      (entry_for (first_value (found_of m) (codes "entry")) n1) n1 before after

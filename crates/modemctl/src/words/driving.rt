@@ -125,6 +125,7 @@ fn settings_of<'a>(
 ) -> Settings<'a>
     ensures n1 { result.n1 ≡ n1 }
     ensures entry { given_text result.entry ≡ first_value (found_of matches.now) (codes "entry") }
+    ensures capture { given_text result.capture ≡ first_value (found_of matches.now) (codes "capture") }
     ensures dialect { result.dialect.now ≡ dialect.now }
 {
     Settings {

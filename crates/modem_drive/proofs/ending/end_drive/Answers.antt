@@ -56,7 +56,7 @@ returns-clause-ends g c =
       unplaced = left.unplaced.items;
       unannounced = left.unannounced.items;
     })
-    c.in_ok-offline.offline c.turn_away-turned.new.offline (g.W.Write.contents c.args.output.now) (g.W.Write.contents c.turn_away-turned.new.output) c.settle_all.result
+    c.in_ok-offline.offline c.turn_away-turned.new.offline (g.W.Write.contents c.args.output.now) (g.W.Write.contents c.turn_away-turned.new.output) c.in_ok-settled.settled
     (record {
       given_is = c.finish-line.ensures.same.1;
       driver_is = ap (λ (p : DriverView × Users). p.0) c.in_ok-offline.ensures.kept;
@@ -72,4 +72,4 @@ returns-clause-ends g c =
     (known_ok (λ (o : Offline). o ≡ offline_from left.in_hand.items left.unplaced.items left.unannounced.items) c.make_offline-offline.result c.in_ok-offline.offline c.in_ok-offline.ensures.made c.make_offline-offline.ensures)
     (known_done (c.turn_away-turned.new.users.under_way.items ≡ []) c.turn_away-turned.result c.in_ok-driver.field-0-0 c.in_ok-driver.ensures.made c.turn_away-turned.ensures.none)
     (known_done (c.turn_away-turned.new.users.lines.submitted ≡ c.in_ok-offline.users.lines.submitted) c.turn_away-turned.result c.in_ok-driver.field-0-0 c.in_ok-driver.ensures.made c.turn_away-turned.ensures.submits_none)
-    c.settle_all.ensures
+    c.in_ok-settled.ensures

@@ -15,8 +15,8 @@ returns g c =
     let d = c.in_ok-driver.driver in
     let kept : c.in_ok-session.users ≡ c.in_ok-driver.users = c.in_ok-session.ensures.kept in
     begins (line_by g.L.SerialLine.received g.L.SerialLine.sent g.L.SerialLine.calls g.L.SerialLine.failures g.L.SerialLine.empty_reads g.L.SerialLine.stalled_writes) c.args.dialect.now c.args.n1 c.args.line d c.in_ok-session.session c.in_ok-session.users
-    (known_ok (λ (s : SessionState g.row.L.Denot). FitsAll (beginning_by (dialect_of c.args.dialect.now) c.args.n1 ((line_by g.L.SerialLine.received g.L.SerialLine.sent g.L.SerialLine.calls g.L.SerialLine.failures g.L.SerialLine.empty_reads g.L.SerialLine.stalled_writes) c.args.line) d) (line_by g.L.SerialLine.received g.L.SerialLine.sent g.L.SerialLine.calls g.L.SerialLine.failures g.L.SerialLine.empty_reads g.L.SerialLine.stalled_writes) s []) c.make_session.result c.in_ok-session.session c.in_ok-session.ensures.made c.make_session.ensures.begins)
-    (known_ok (λ (s : SessionState g.row.L.Denot). (s.line ≡ c.args.line) × (s.driver ≡ d)) c.make_session.result c.in_ok-session.session c.in_ok-session.ensures.made c.make_session.ensures.same)
+    (known_ok (λ (s : SessionState g.row.L.Denot). FitsAll (beginning_by (dialect_of c.args.dialect.now) c.args.n1 ((line_by g.L.SerialLine.received g.L.SerialLine.sent g.L.SerialLine.calls g.L.SerialLine.failures g.L.SerialLine.empty_reads g.L.SerialLine.stalled_writes) c.args.line) d) (line_by g.L.SerialLine.received g.L.SerialLine.sent g.L.SerialLine.calls g.L.SerialLine.failures g.L.SerialLine.empty_reads g.L.SerialLine.stalled_writes) s []) c.make_session-session.result c.in_ok-session.session c.in_ok-session.ensures.made c.make_session-session.ensures.begins)
+    (known_ok (λ (s : SessionState g.row.L.Denot). (s.line ≡ c.args.line) × (s.driver ≡ d)) c.make_session-session.result c.in_ok-session.session c.in_ok-session.ensures.made c.make_session-session.ensures.same)
     c.in_ok-driver.ensures.new
     (subst (λ (u : Users). IsWhole d.desk (map place_of (u.lines ∷ u.control ∷ []))) (sym kept) c.in_ok-driver.ensures.whole)
     (subst (λ (u : Users). AreSubscribed d.desk (map subscription_of u.listeners.items)) (sym kept) c.in_ok-driver.ensures.subscribed)

@@ -6,4 +6,4 @@ use Rattle.modem_drive.proofs.running.kinds_of.Given as goal
 
 abbrev pub invariant-loop-number : goal.invariant-loop-number
 invariant-loop-number l =
-    (l.kinds.items ≡ standard_kinds ++ own_kinds l.number) × (l.number ≤ length l.initial.dialect.now.urcs)
+    (l.kinds.items ≡ standard_kinds ++ own_kinds l.number) × (l.number ≤ length l.initial.dialect.urcs)

@@ -1,5 +1,6 @@
 -- The users of a desk that is opened.
 use Rattle.std.specs.Prelude.{refl, replicate}
+use Rattle.std.proofs.Common.{◌∙◌}
 use Rattle.modem_drive.specs.declared.users.Users.{Users}
 use Rattle.modem_drive.proofs.Begins.{AreUsers, both_are, new_desk, new_users, none_submitted, subscribed_users, whole_users}
 use Rattle.modem_drive.proofs.running.open_desk.Goals as goal
@@ -28,7 +29,7 @@ returns c =
       counts = refl;
     } in
     record {
-      new = new_desk c.args.dialect.now _ c.in-Ok.driver c.in-Ok.callers.items c.in-Ok.listeners.items c.in_ok-kinds.ensures opened;
+      new = new_desk c.args.dialect.now _ c.in-Ok.driver c.in-Ok.callers.items c.in-Ok.listeners.items (c.as_slice.ensures.value ∙ c.in_ok-kinds.ensures) opened;
       whole = whole_users _ c.in-Ok.driver c.in-Ok.callers.items c.in-Ok.listeners.items users are;
       subscribed = subscribed_users _ c.in-Ok.driver c.in-Ok.callers.items c.in-Ok.listeners.items users are;
       shown = new_users _ c.in-Ok.driver c.in-Ok.callers.items c.in-Ok.listeners.items users are;

@@ -37,8 +37,8 @@ returns g c =
     let by = known_ok (HasEndedBy c.drive_on-went.new.session.machine.course c.drive_on-went.new.plan) c.drive_on-went.result c.in_ok-fault.fault c.in_ok-fault.ensures.made c.drive_on-went.ensures.ends in
     has_driven (line_by g.L.SerialLine.received g.L.SerialLine.sent g.L.SerialLine.calls g.L.SerialLine.failures g.L.SerialLine.empty_reads g.L.SerialLine.stalled_writes) c.args.session c.drive_on-went.new.session c.in_ok-fault.session c.args.users c.drive_on-went.new.users c.in_ok-fault.users
     c.args.plan.now c.end_drive.new.plan (g.W.Write.contents c.args.output.now) (g.W.Write.contents c.drive_on-went.new.output)
-    (g.W.Write.contents c.end_drive.new.output) c.in_ok-fault.fault c.in_ok-left.left c.drive_on-went.ensures.drives goes
+    (g.W.Write.contents c.end_drive.new.output) c.in_ok-fault.fault c.in_ok-last.left c.in_ok-last.last c.drive_on-went.ensures.drives goes
     (subst (λ (p : PlanView). AsksOn c.args.plan.now p c.args.users.lines.submitted c.drive_on-went.new.users.lines.submitted) (sym c.end_drive.ensures.same) asks)
     (subst (λ (p : PlanView). HasEndedBy c.drive_on-went.new.session.machine.course p c.in_ok-fault.fault) (sym c.end_drive.ensures.same) by)
     (ap (λ (p : SessionState g.row.L.Denot × Users). p.0) kept)
-    (ap (λ (p : SessionState g.row.L.Denot × Users). p.1) kept) c.in_ok-left.ensures.ends
+    (ap (λ (p : SessionState g.row.L.Denot × Users). p.1) kept) c.in_ok-last.ensures.ends c.in_ok-last.ensures.line

@@ -1,12 +1,12 @@
 -- What was printed, by the numbers that the matches of the subcommand give.
-use Rattle.std.proofs.Common.{◌≡◌, ◌∙◌, ◌⊎◌, ⊎_elim, ℕ, ap, sym, subst, inl, inr, List, Option, None, Some, option_map, codes}
+use Rattle.std.proofs.Common.{◌≡◌, ◌∙◌, ◌⊎◌, ⊎_elim, ℕ, ap, is_some, sym, subst, inl, inr, List, Option, None, Some, option_map, codes}
 use Rattle.clap.specs.Words.{Row, Text, first_of, first_value, found_of, one_of, one_text, rows_of, subcommand_rows_of}
 use Rattle.clap.specs.declared.ArgMatches.{ArgMatches}
 use Rattle.clap.proofs.WalkLemmas.{first_value-rows, one_text-rows}
 use Rattle.modemctl.specs.Words.{HasNoNumber, IsGiven, IsNoNumber, IsNumberOf, raw_in, text_in}
 use Rattle.modemctl.specs.Benches.{AreScripted, IsFlag, ServesClient, ServesWith}
 use Rattle.modem_drive.specs.Entry.{entry_for}
-use Rattle.modem_drive.specs.Running.{DroveDevice}
+use Rattle.modem_drive.specs.OnDevice.{DroveDevice}
 use Rattle.modemctl.specs.Dialects.{IsGivenDialect, PrintsActs}
 use Rattle.modemctl.specs.Drives.{DrivesWith, PrintsDrive}
 use Rattle.modemctl.proofs.words.run_named.Goals as goal
@@ -113,7 +113,9 @@ prints_drive top m n1 before after e is drives = record {
   given = number_in top m (codes "n1") 31 n1 e is;
   rules = drives.rules;
   named = subst (λ (t : Option Text). IsGivenDialect t drives.rules) (word_given top m (codes "dialect") e) drives.named;
-  drove = subst (λ (t : Option Text). DroveDevice drives.rules (entry_for t n1) n1 before after None) (word_given top m (codes "entry") e) drives.drove;
+  drove =
+      subst (λ (t : Option Text × Option Text). DroveDevice (is_some t.0) drives.rules (entry_for t.1 n1) n1 before after)
+      (λ i. (word_given top m (codes "capture") e i, word_given top m (codes "entry") e i)) drives.drove;
 }
 
 pub returns-in-drive-clause-drive : goal.returns-in-drive-clause-drive

@@ -1,27 +1,10 @@
 -- A replay by the dialect of the words.
 use Rattle.std.proofs.Common.{◌≡◌, refl, sym, subst, ◌∙◌, Option}
 use Rattle.clap.specs.Words.{Text}
-use Rattle.modem_runs.specs.Statuses.{status_of}
-use Rattle.modem_runs.specs.declared.stop.DialectFault.{DialectFault}
-use Rattle.modem_runs.specs.declared.stop.Stop.{Stop}
 use Rattle.modem_runs.proofs.outputs.StoppedRuns.{gave_up}
 use Rattle.modemctl.specs.Dialects.{PrintsActs}
+use Rattle.modemctl.proofs.Stops.{ends_badly}
 use Rattle.modemctl.proofs.words.dialects.replay_words.Goals as goal
-
--- who stops doesn't end well
-ends_badly : (stop : Stop) → status_of stop ≡ 0 → ⊥
-ends_badly Stop.NoMemory e = cc
-ends_badly Stop.Input e = cc
-ends_badly Stop.Output e = cc
-ends_badly Stop.Line e = cc
-ends_badly Stop.GaveUp e = cc
-ends_badly Stop.BadN1 e = cc
-ends_badly Stop.BadCallers e = cc
-ends_badly Stop.BadCut e = cc
-ends_badly (Stop.BadLine place) e = cc
-ends_badly (Stop.Dialect DialectFault.Unread) e = cc
-ends_badly (Stop.Dialect (DialectFault.NoRule place)) e = cc
-ends_badly (Stop.Dialect (DialectFault.Refused place why)) e = cc
 
 pub returns-in_default-clause-done : goal.returns-in_default-clause-done
 returns-in_default-clause-done g c zero =

@@ -1,26 +1,57 @@
-use Rattle.std.proofs.Common.{◌≡◌, ◌≢◌, ◌∙◌, ℕ, List, Option, None, absurd, arith, codes, inl, inr, refl, subst, sym}
+-- A drive by the words.
+use Rattle.std.proofs.Common.{◌≡◌, ◌≢◌, ◌∙◌, ℕ, List, Option, arith, codes, inl, inr, is_some, refl, subst, sym}
 use Rattle.clap.specs.Words.{first_value, found_of}
 use Rattle.clap.specs.declared.ArgMatches.{ArgMatches}
 use Rattle.at_text.specs.Rules.{Rules}
 use Rattle.modem_drive.specs.Entry.{entry_for}
-use Rattle.modem_drive.specs.Running.{DroveDevice}
+use Rattle.modem_drive.specs.OnDevice.{DroveDevice}
 use Rattle.modemctl.specs.Dialects.{IsGivenDialect}
 use Rattle.modemctl.specs.Drives.{DrivesWith}
-use Rattle.modemctl.proofs.words.dialects.replay_words.Answers.{ends_badly}
+use Rattle.modemctl.proofs.Stops.{ends_badly}
 use Rattle.modemctl.proofs.words.driving.drive_words.Goals as goal
 
--- by the dialect, the entry and the N1 of the words in the place of those of the settings
-by_words : (m : ArgMatches) (status : ℕ) (own rules : Rules) (given : Option (List ℕ)) (n n1 : ℕ) (before after : Option (List ℕ)) → own ≡ rules → n ≡ n1
-    → given ≡ first_value (found_of m) (codes "entry") → IsGivenDialect (first_value (found_of m) (codes "dialect")) rules
-    → (status ≢ 1 → DroveDevice own (entry_for given n) n before after None) → status ≢ 1 → DrivesWith n1 m before after
-by_words m status own rules given n n1 before after codes_are same is named drove other = record {
+-- what the settings have is that of the words
+pub record AreOf (m : ArgMatches) (n1 n : ℕ) (rules own : Rules) (entry capture : Option (List ℕ)) : Type 0 where
+  pub same_n1 : n ≡ n1
+  pub same_rules : own ≡ rules
+  pub same_entry : entry ≡ first_value (found_of m) (codes "entry")
+  pub same_capture : capture ≡ first_value (found_of m) (codes "capture")
+  pub named : IsGivenDialect (first_value (found_of m) (codes "dialect")) rules
+
+drives_with : (m : ArgMatches) (n1 n : ℕ) (rules own : Rules) (entry capture before after : Option (List ℕ)) → AreOf m n1 n rules own entry capture
+    → DroveDevice (is_some capture) own (entry_for entry n) n before after → DrivesWith n1 m before after
+drives_with m n1 n rules own entry capture before after are drove = record {
   rules = rules;
-  named = named;
+  named = are.named;
   drove =
-      subst (λ (x : Rules × ℕ × Option (List ℕ)). DroveDevice x.0 (entry_for x.2 x.1) x.1 before after None)
-      (λ i. (codes_are i, same i, is i)) (drove other);
+      subst (λ (x : ℕ × Rules × Option (List ℕ) × Option (List ℕ)). DroveDevice (is_some x.3) x.1 (entry_for x.2 x.0) x.0 before after)
+      (λ i. (are.same_n1 i, are.same_rules i, are.same_entry i, are.same_capture i)) drove;
 }
 
 pub returns-in-Ok-given_dialect-clause-done : goal.returns-in-Ok-given_dialect-clause-done
 returns-in-Ok-given_dialect-clause-done g c zero =
-    by_words _ _ _ _ _ _ _ _ _ c.settings_of.ensures.dialect c.settings_of.ensures.n1 c.settings_of.ensures.entry c.in-Ok-given_dialect.ensures c.drive_run.ensures.drove (λ one. omega (arith, zero, one))
+    drives_with _ _ _ _ _ _ _ _ _
+    (record {
+      same_n1 = c.settings_of-settings.ensures.n1;
+      same_rules = c.settings_of-settings.ensures.dialect;
+      same_entry = c.settings_of-settings.ensures.entry;
+      same_capture = c.settings_of-settings.ensures.capture;
+      named = c.in-Ok-given_dialect.ensures;
+    })
+    (c.drive_run.ensures.drove (λ one. omega (arith, zero, one)))
+
+pub returns-in-Ok-given_dialect-clause-bad : goal.returns-in-Ok-given_dialect-clause-bad
+returns-in-Ok-given_dialect-clause-bad g c two =
+    inr
+    (drives_with _ _ _ _ _ _ _ _ _
+    (record {
+      same_n1 = c.settings_of-settings.ensures.n1;
+      same_rules = c.settings_of-settings.ensures.dialect;
+      same_entry = c.settings_of-settings.ensures.entry;
+      same_capture = c.settings_of-settings.ensures.capture;
+      named = c.in-Ok-given_dialect.ensures;
+    })
+    (c.drive_run.ensures.drove (λ one. omega (arith, two, one))))
+
+pub returns-in-Err-given_dialect-clause-done : goal.returns-in-Err-given_dialect-clause-done
+returns-in-Err-given_dialect-clause-done g c zero = absurd (ends_badly c.in-Err-given_dialect.stop (sym c.give_up.ensures.status ∙ zero))

@@ -1,0 +1,6 @@
+-- A line was driven.
+use Rattle.modem_drive.proofs.OnDevice.{well}
+use Rattle.modem_drive.proofs.on_device.drive_plain.Goals as goal
+
+pub returns : goal.returns
+returns g c = well _ _ _ _ _ _ _ _ _ _ _ c.in_ok-driven.ensures

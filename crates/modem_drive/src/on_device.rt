@@ -1,0 +1,296 @@
+//! A drive on a device, from its path to its status.
+ghost use Rattle.std.specs.Prelude.{◌≡◌, ◌≢◌, ◌≤◌, [], false, IfOk, IfSome, IsOkAnd, None, is_some};
+ghost use Rattle.modem_driver.specs.SessionStates.{line_by};
+ghost use Rattle.modem_drive.specs.CapturedLine.{HasBegun};
+ghost use Rattle.modem_drive.specs.Entry.{entry_for, given_text};
+ghost use Rattle.modem_drive.specs.OnDevice.{DroveCaptured, DroveDevice, DroveLine, DroveWell};
+
+use crate::captured_line::CapturedLine;
+use crate::device::{line_beside, read_beside};
+use crate::fault::DriveFault;
+use crate::results::beside;
+use crate::running::{Driven, drive_over};
+use crate::settings::Settings;
+use bell::Bell;
+use mux_capture::Capture;
+use serial_line::{SerialLine, ZeroRead};
+use std::alloc::{AllocGlobal, Global};
+use std::fs::{File, OpenOptions};
+use std::io::{Read, Write};
+use std::rt::{Clock, Files};
+use std::sync::Wait;
+use std::thread::Threads;
+
+/// Says what a drive left undone, if anything, and gives its status.
+fn say_end<E: Write>(faults: &mut E, ended: Result<Driven, DriveFault>) -> u8
+    ensures status { result ≤ 2 }
+    ensures well { result ≢ 1 → IsOkAnd ended (λ d. d.fault ≡ None) }
+{
+    match ended {
+        Ok(driven) => {
+            let requests = driven.left.left.len();
+            if requests > 0 {
+                let _ = writeln!(faults, "left {requests} requests");
+            }
+            match driven.fault {
+                Some(fault) => say_fault(faults, fault),
+                None if driven.was_bad => 2,
+                None => 0,
+            }
+        }
+        Err(fault) => say_fault(faults, fault),
+    }
+}
+
+/// Says why a drive ended, and gives the status.
+fn say_fault<E: Write>(faults: &mut E, fault: DriveFault) -> u8
+    ensures { result ≡ 1 }
+{
+    let _ = writeln!(faults, "{fault}");
+    1
+}
+
+/// The device of this path, opened for reading and for writing.
+fn open_device<R: Files<File = File>>(rt: &R, path: &str) -> Result<(File, File), DriveFault> {
+    let Ok(reader) = File::open(rt, path) else {
+        return Err(DriveFault::NoDevice);
+    };
+    let Ok(writer) = OpenOptions::new().write(true).open(rt, path) else {
+        return Err(DriveFault::NoDevice);
+    };
+    Ok((reader, writer))
+}
+
+/// A capture into the file of this path, which is made, or emptied where there is one.
+#[tactic(auto, using(crate::proofs::OnDevice::has_begun))]
+fn open_capture<R: Files<File = File>>(
+    rt: &R,
+    alloc: Global,
+    path: &str,
+) -> Result<Capture<File>, DriveFault>
+    ensures { IfOk result HasBegun }
+{
+    let Ok(file) = File::create(rt, path) else {
+        return Err(DriveFault::Capture);
+    };
+    match Capture::begin(alloc, file) {
+        Ok(capture) => Ok(capture),
+        Err(_) => Err(DriveFault::Capture),
+    }
+}
+
+/// What a drive needs before it begins.
+#[derive(Drop)]
+struct Opened {
+    reader: File,
+    writer: File,
+    capture: Option<Capture<File>>,
+}
+
+/// The device, and the capture where the settings name a file.
+fn open_all<R: Files<File = File>>(
+    rt: &R,
+    alloc: Global,
+    path: &str,
+    settings: &Settings<'_>,
+) -> Result<Opened, DriveFault>
+    ensures begun { IfOk result (λ o. IfSome o.capture HasBegun) }
+    ensures wanted { IfOk result (λ o. is_some o.capture ≡ is_some (given_text settings.now.capture)) }
+{
+    let (reader, writer) = open_device(rt, path)?;
+    let capture = match settings.capture {
+        Some(path) => Some(open_capture(rt, alloc, path)?),
+        None => None,
+    };
+    Ok(Opened {
+        reader,
+        writer,
+        capture,
+    })
+}
+
+/// Drives a modem on a line, as `drive_over` does.
+fn drive_plain<L, R, I, W, E>(
+    rt: &R,
+    alloc: Global,
+    bell: &Bell,
+    line: L,
+    input: I,
+    output: &mut W,
+    faults: &mut E,
+    settings: Settings<'_>,
+) -> Result<Driven, DriveFault>
+where
+    L: SerialLine + Drop,
+    R: Wait + Clock + Copy + Drop,
+    I: Read + Drop,
+    W: Write,
+    E: Write,
+    ensures { IfOk result (λ d. d.fault ≡ None
+        → DroveWell (line_by L.received L.sent L.calls L.failures L.empty_reads L.stalled_writes) settings.entry.dialect.now
+        (entry_for (given_text settings.entry.entry) settings.entry.n1) settings.entry.n1 line (I.remaining input)
+        (W.contents output.old) (W.contents output.new)) }
+{
+    let (_, driven) = drive_over(rt, alloc, bell, line, input, output, faults, settings)?;
+    Ok(driven)
+}
+
+/// The fault of a drive, whose capture may have failed.
+fn fault_with(fault: Option<DriveFault>, has_failed: bool) -> Option<DriveFault>
+    ensures { result ≡ None → (fault ≡ None) × (has_failed ≡ false) }
+{
+    match fault {
+        None if has_failed => Some(DriveFault::Capture),
+        fault => fault,
+    }
+}
+
+/// The same on a line on which nothing has passed, with a capture that has begun: the frames that pass go there. One that fails is the
+/// fault where there is no other.
+fn drive_captured<L, R, C, I, W, E>(
+    rt: &R,
+    alloc: Global,
+    bell: &Bell,
+    line: L,
+    capture: Capture<C>,
+    input: I,
+    output: &mut W,
+    faults: &mut E,
+    settings: Settings<'_>,
+) -> Result<Driven, DriveFault>
+where
+    L: SerialLine + Drop,
+    R: Wait + Clock + Copy + Drop,
+    C: Write + Drop,
+    I: Read + Drop,
+    W: Write,
+    E: Write,
+    requires fresh { (L.received line ≡ []) × (L.sent line ≡ []) }
+    requires begun { HasBegun capture }
+    ensures { IfOk result (λ d. d.fault ≡ None
+        → DroveCaptured (line_by L.received L.sent L.calls L.failures L.empty_reads L.stalled_writes) settings.entry.dialect.now
+        (entry_for (given_text settings.entry.entry) settings.entry.n1) settings.entry.n1 line (I.remaining input)
+        (W.contents output.old) (W.contents output.new)) }
+{
+    let line = CapturedLine::new(line, *rt, capture);
+    let (last, driven) = drive_over(rt, alloc, bell, line, input, output, faults, settings)?;
+    let Driven {
+        fault,
+        was_bad,
+        left,
+    } = driven;
+    let fault = fault_with(fault, last.has_failed());
+    Ok(Driven {
+        fault,
+        was_bad,
+        left,
+    })
+}
+
+/// Drives a modem on a line on which nothing has passed, with a capture if it is given.
+fn drive_by<L, R, C, I, W, E>(
+    rt: &R,
+    alloc: Global,
+    bell: &Bell,
+    line: L,
+    capture: Option<Capture<C>>,
+    input: I,
+    output: &mut W,
+    faults: &mut E,
+    settings: Settings<'_>,
+) -> Result<Driven, DriveFault>
+where
+    L: SerialLine + Drop,
+    R: Wait + Clock + Copy + Drop,
+    C: Write + Drop,
+    I: Read + Drop,
+    W: Write,
+    E: Write,
+    requires fresh { (L.received line ≡ []) × (L.sent line ≡ []) }
+    requires begun { IfSome capture HasBegun }
+    ensures { IfOk result (λ d. d.fault ≡ None → DroveLine (is_some capture)
+        (line_by L.received L.sent L.calls L.failures L.empty_reads L.stalled_writes) settings.entry.dialect.now
+        (entry_for (given_text settings.entry.entry) settings.entry.n1) settings.entry.n1 line (I.remaining input)
+        (W.contents output.old) (W.contents output.new)) }
+{
+    match capture {
+        Some(capture) => drive_captured(
+            rt, alloc, bell, line, capture, input, output, faults, settings,
+        ),
+        None => drive_plain(rt, alloc, bell, line, input, output, faults, settings),
+    }
+}
+
+/// Drives a modem on a device and an input whose calls wait, each in a thread of its own. The frames that pass go into the capture, if
+/// there is one.
+fn drive_threaded<R, D, O, C, I, W, E>(
+    rt: &R,
+    device: (D, O),
+    capture: Option<Capture<C>>,
+    input: I,
+    output: &mut W,
+    faults: &mut E,
+    settings: Settings<'_>,
+) -> Result<Driven, DriveFault>
+where
+    R: Threads + Wait + Clock + AllocGlobal + Copy + Send + Drop + 'static,
+    D: Read + Send + Drop + 'static,
+    O: Write + Send + Drop + 'static,
+    C: Write + Drop,
+    I: Read + Send + Drop + 'static,
+    W: Write,
+    E: Write,
+    requires { IfSome capture HasBegun }
+    ensures { IfOk result (λ d. d.fault ≡ None → DroveDevice (is_some capture) settings.entry.dialect.now
+        (entry_for (given_text settings.entry.entry) settings.entry.n1) settings.entry.n1 (W.contents output.old)
+        (W.contents output.new)) }
+{
+    let alloc = rt.alloc();
+    let bell = Bell::new(alloc)?;
+    let stop = Bell::new(alloc)?;
+    let (reader, writer) = device;
+    let input = read_beside(rt, input, &bell, &stop, ZeroRead::Ended)?;
+    let (made, input) = beside(
+        line_beside(rt, reader, writer, ZeroRead::Quiet, &bell),
+        input,
+    )?;
+    let (line, threaded) = made;
+    let ended = drive_by(
+        rt, alloc, &bell, line, capture, input, output, faults, settings,
+    );
+    threaded.end();
+    stop.end();
+    ended
+}
+
+/// Drives a modem on the device of this path, as `drive_over` does, with the lines of `input`, which a thread of its own reads. The
+/// device is a terminal that is set up so that a read waits a while and then gives nothing. Where the settings name a file, the frames
+/// that are read and written go there, with their times; where that file can't be written the drive goes on to its end. The status is 0
+/// where all is done, 2 where a line of the input was bad and all else is done, and 1 at a fault; at 1 and 2 it says on `faults` why.
+pub fn drive_run<R, I, W, E>(
+    rt: &R,
+    path: &str,
+    input: I,
+    output: &mut W,
+    faults: &mut E,
+    settings: Settings<'_>,
+) -> u8
+where
+    R: Files<File = File> + Threads + Wait + Clock + AllocGlobal + Copy + Send + Drop + 'static,
+    I: Read + Send + Drop + 'static,
+    W: Write,
+    E: Write,
+    ensures status { result ≤ 2 }
+    ensures drove { result ≢ 1 → DroveDevice (is_some (given_text settings.entry.capture)) settings.entry.dialect.now
+        (entry_for (given_text settings.entry.entry) settings.entry.n1) settings.entry.n1 (W.contents output.old)
+        (W.contents output.new) }
+{
+    match open_all(rt, rt.alloc(), path, &settings) {
+        Ok(Opened { reader, writer, capture }) => {
+            let device = (reader, writer);
+            let ended = drive_threaded(rt, device, capture, input, output, faults, settings);
+            say_end(faults, ended)
+        }
+        Err(fault) => say_fault(faults, fault),
+    }
+}
