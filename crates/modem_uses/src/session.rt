@@ -54,5 +54,8 @@ where
     let (session, modem) = begin(*rt, alloc, driver)?;
     let callers = (first, second);
     let (came, settled) = run_beside(rt, alloc, &bell, session, modem, callers, asks, listener)?;
-    settled.left.is_empty().then_some(came).ok_or(Stop::Unexpected)
+    if settled.left.is_empty() {
+        return Ok(came);
+    }
+    Err(Stop::Unexpected)
 }

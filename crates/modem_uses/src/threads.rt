@@ -16,7 +16,8 @@ use serial_line::SerialLine;
 use std::alloc::Global;
 use std::rt::Clock;
 use std::sync::Wait;
-use std::thread::{self, Threads};
+use std::thread;
+use std::thread::Threads;
 
 /// The callers and the listener work beside the modem.
 fn use_modem<L: SerialLine + Drop + Send, R: Threads + Wait + Clock + Sync>(
@@ -56,5 +57,6 @@ pub fn run_beside<L: SerialLine + Drop + Send, R: Threads + Wait + Clock + Sync 
         move || use_modem(rt, bell, modem, callers, asks, listener),
     );
     let callers = Vec::from_array(alloc, [callers.0, callers.1])?;
-    Ok((came, end(rt, alloc, session, callers)?))
+    let settled = end(rt, alloc, session, callers)?;
+    Ok((came, settled))
 }
