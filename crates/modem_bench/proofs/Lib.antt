@@ -3,3 +3,4 @@ pub mod Crossings
 pub mod JointLists
 pub mod OneLine
 pub mod Settlements
+pub mod Simulations

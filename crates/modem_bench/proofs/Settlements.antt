@@ -1,7 +1,7 @@
 -- The run of a bench: its session begins, goes on and is finished, and then its desk is settled.
-use Rattle.std.specs.Prelude.{◌≡◌, ℕ, zero, suc, replicate, true, List, [], ◌++◌, drop, length, map, nat_lt, refl, vec_items, slice_index_or, Option, Some, IfSome, false, Bool, Result, Ok, Err, IsErr, OnOk}
+use Rattle.std.specs.Prelude.{◌≡◌, ℕ, zero, suc, replicate, true, List, [], ◌++◌, drop, length, map, nat_lt, refl, vec_items, slice_index_or, None, Result, Ok}
 use Rattle.std.specs.List.{list_all}
-use Rattle.std.proofs.Common.{ap, ◌∙◌, sym, subst, inl}
+use Rattle.std.proofs.Common.{ap, ◌∙◌, sym, subst}
 use Rattle.std.proofs.lemmas.List.{length-map}
 use Rattle.std.specs.declared.vec.Vec.{Vec}
 use Rattle.std.specs.declared.alloc.Global.{Global}
@@ -13,16 +13,20 @@ use Rattle.modem_desk.specs.Ends.{AreSubscribed, CallerView, DeskId, DriverView,
 use Rattle.modem_history.specs.Acts.{after}
 use Rattle.modem_history.specs.Sessions.{EndView, LineView, at_place, taken_since}
 use Rattle.modem_driver.specs.Headline.{IsHeadline, IsSettled, Run}
-use Rattle.modem_driver.specs.Polls.{SessionGoesOn, waits_none, waits_once}
+use Rattle.modem_driver.specs.Polls.{Polls, SessionGoesOn, end_in, waits_none, waits_once}
 use Rattle.modem_driver.specs.SessionStates.{FitsAll, SessionState, beginning_of, end_of, session_view}
+use Rattle.modem_driver.specs.declared.session.polling.Progress.{Progress}
+use Rattle.modem_driver.specs.declared.session.polling.Progress.TheVariants as progress
 use Rattle.modem_driver.proofs.law_proofs.Headlines.{headline}
-use Rattle.modem_driver.proofs.sessions.Polls.{goes_none, goes_then}
-use Rattle.modem_driver.proofs.sessions.TakenRequests.{takes_none, takes_then}
+use Rattle.modem_driver.proofs.sessions.Polls.{goes_then}
+use Rattle.modem_driver.proofs.sessions.TakenRequests.{takes_then}
 use Rattle.modem_sim.specs.Sims.{Sight, SimState}
 use Rattle.modem_bench.specs.Driving.{Advances, Continues, IsBegun, IsOver}
 use Rattle.modem_bench.specs.Running.{AreCalled, RanFor}
 use Rattle.modem_bench.specs.Simulating.{IsSimulated}
 use Rattle.modem_bench.specs.declared.calling.Worked.{Worked}
+use Rattle.modem_bench.specs.declared.driving.Polled.{Polled}
+use Rattle.modem_bench.specs.declared.driving.Polled.TheVariants as polled
 use Rattle.modem_bench.specs.declared.signals.Fault.{Fault}
 use Rattle.modem_bench.specs.declared.submission.Submission.{Submission}
 use Rattle.modem_bench.proofs.CallerThreads.{called_long, lists_through}
@@ -48,13 +52,12 @@ module _ {X : Type 0} (look : X → LineView) where
     kinds = ap (λ (v : DriverView). v.desk.kinds) same;
   }
 
-  -- where the bench is given up, or no poll is left, it stays as it is
-  pub advances_none : (s : SessionState X) (says : Result Bool Fault) → IsErr says → Advances look s s says
-  advances_none s (Err told) h = record { takes = takes_none s.driver; goes = goes_none look s; polled = inl refl }
-  advances_none s (Ok x) h = cc
+  -- what a poll came to
+  pub said : (old new : SessionState X) (says : Result Polled Fault) (p q : Polled) → Advances look old new says → says ≡ Ok p → p ≡ q → Advances look old new (Ok q)
+  said old new says p q a first second = subst (λ (r : Result Polled Fault). Advances look old new r) (first ∙ ap (λ (x : Polled). Ok x) second) a
 
   -- a poll of it gave Stopped
-  pub continues_at : (old new : SessionState X) → Advances look old new (Ok true) → Continues look old new
+  pub continues_at : (old new : SessionState X) → Advances look old new (Ok polled.Stopped) → Continues look old new
   continues_at old new a = record {
     mid = old;
     waits = waits_none old;
@@ -64,25 +67,20 @@ module _ {X : Type 0} (look : X → LineView) where
   }
 
   -- it stopped after a poll that gave no end
-  pub continues_after : (s0 s1 s2 : SessionState X) → Advances look s0 s1 (Ok false) → Continues look s1 s2 → Continues look s0 s2
-  continues_after s0 s1 s2 a b = record {
+  continues_behind : (s0 s1 s2 : SessionState X) (says : Result Polled Fault) (given : Progress) → Advances look s0 s1 says → Polls look s0 s1 given → end_in given ≡ None → Continues look s1 s2 → Continues look s0 s2
+  continues_behind s0 s1 s2 says given a polls none b = record {
     mid = b.mid;
-    waits = waits_once s0 s1 b.mid a.polled.given a.polled.polls a.polled.no_end b.waits;
+    waits = waits_once s0 s1 b.mid given polls none b.waits;
     stops = b.stops;
     takes = takes_then s0.driver s1.driver s2.driver a.takes b.takes;
     goes = goes_then look s0 s1 s2 a.goes b.goes;
   }
 
-  -- the one that was polled has stopped
-  pub given_at : (o : Option (SessionState X)) (old new : SessionState X) → o ≡ Some old → Advances look old new (Ok true) → IfSome o (λ s. Continues look s new)
-  given_at o old new e h = subst (λ (x : Option (SessionState X)). IfSome x (λ s. Continues look s new)) (sym e) (continues_at old new h)
+  pub continues_after_more : (s0 s1 s2 : SessionState X) → Advances look s0 s1 (Ok polled.More) → Continues look s1 s2 → Continues look s0 s2
+  continues_after_more s0 s1 s2 a b = continues_behind s0 s1 s2 (Ok polled.More) progress.More a a.polled refl b
 
-  -- what a later one comes to, it comes to
-  pub given_before : (o p : Option (SessionState X)) (old new end : SessionState X) (out : Result (Unit {0}) Fault) → o ≡ Some old → p ≡ Some new → Advances look old new (Ok false) → IfSome p (λ s. OnOk out (Continues look s end)) → IfSome o (λ s. OnOk out (Continues look s end))
-  given_before o p old new end (Err told) e f h later = subst (λ (x : Option (SessionState X)). IfSome x (λ s. Unit {0})) (sym e) tt
-  given_before o p old new end (Ok x) e f h later =
-      let on : Continues look new end = subst (λ (x : Option (SessionState X)). IfSome x (λ s. Continues look s end)) f later in
-      subst (λ (x : Option (SessionState X)). IfSome x (λ s. Continues look s end)) (sym e) (continues_after old new end h on)
+  pub continues_after_idle : (s0 s1 s2 : SessionState X) → Advances look s0 s1 (Ok polled.Idle) → Continues look s1 s2 → Continues look s0 s2
+  continues_after_idle s0 s1 s2 a b = continues_behind s0 s1 s2 (Ok polled.Idle) progress.Idle a a.polled refl b
 
   -- ## It is over
 

@@ -1,16 +1,17 @@
 -- The session of a bench: how it begins, how it goes on in its thread, and how it ends.
-use Rattle.std.specs.Prelude.{◌≡◌, ◌⊎◌, ℕ, Bool, true, false, List, [], None, Result, Ok, Err, map, slice_index_or, vec_items}
+use Rattle.std.specs.Prelude.{◌≡◌, ℕ, List, [], Result, Ok, Err, map, slice_index_or, vec_items}
 use Rattle.modem_desk.specs.declared.settling.Settled.{Settled}
 use Rattle.modem_desk.specs.Books.{DeskBooks}
 use Rattle.modem_desk.specs.Ends.{CallerView, ListenerView}
 use Rattle.modem_history.specs.Sessions.{Beginning, Leftovers, LineView}
 use Rattle.modem_driver.specs.declared.session.ending.Ended.TheVariants.{Stopped}
 use Rattle.modem_driver.specs.declared.session.error.SessionFault.{SessionFault}
-use Rattle.modem_driver.specs.declared.session.polling.Progress.{Progress}
-use Rattle.modem_driver.specs.declared.session.polling.Progress.TheVariants.{Ended}
-use Rattle.modem_driver.specs.Polls.{Polls, SessionGoesOn, Waits, end_in}
+use Rattle.modem_driver.specs.declared.session.polling.Progress.TheVariants.{Ended, Idle, More}
+use Rattle.modem_driver.specs.Polls.{Polls, SessionGoesOn, Waits}
 use Rattle.modem_driver.specs.SessionStates.{SessionEnds, FitsAll, SessionState, TakesMore, end_of}
 use Rattle.modem_bench.specs.Faults.{session_fault}
+use Rattle.modem_bench.specs.declared.driving.Polled.{Polled}
+use Rattle.modem_bench.specs.declared.driving.Polled.TheVariants as polled
 use Rattle.modem_bench.specs.declared.signals.Fault.{Fault}
 
 -- the session has done nothing yet, and neither has its desk
@@ -23,12 +24,6 @@ pub record IsBegun {X : Type 0} (look : X → LineView) (s : SessionState X) : T
   pub desk : end_of s.driver ≡ start.desk
   pub kinds : s.driver.desk.kinds ≡ start.kinds
 
--- a poll of it gave no end
-pub record WaitsOnce {X : Type 0} (look : X → LineView) (old new : SessionState X) : Type 0 where
-  pub given : Progress
-  pub polls : Polls look old new given
-  pub no_end : end_in given ≡ None
-
 -- a poll of it gave a fault, which is told so
 pub record FailsOnce {X : Type 0} (look : X → LineView) (old new : SessionState X) (told : Fault) :
     Type 0 where
@@ -36,15 +31,16 @@ pub record FailsOnce {X : Type 0} (look : X → LineView) (old new : SessionStat
   pub polls : Polls look old new (Ended (Err why))
   pub told_is : told ≡ session_fault why
 
--- one poll of it, and whether it gave Stopped, or its fault; or none, where the bench was given up before
+-- one poll of it, and whether it gave Stopped, a fault, or no end
 abbrev pub IsPolled :
-    {X : Type 0} → (X → LineView) → (old new : SessionState X) → Result Bool Fault → Type 0
-IsPolled look old new (Ok true) = Polls look old new (Ended (Ok Stopped))
-IsPolled look old new (Ok false) = WaitsOnce look old new
-IsPolled look old new (Err told) = (new ≡ old) ⊎ FailsOnce look old new told
+    {X : Type 0} → (X → LineView) → (old new : SessionState X) → Result Polled Fault → Type 0
+IsPolled look old new (Ok polled.Stopped) = Polls look old new (Ended (Ok Stopped))
+IsPolled look old new (Ok polled.More) = Polls look old new More
+IsPolled look old new (Ok polled.Idle) = Polls look old new Idle
+IsPolled look old new (Err told) = FailsOnce look old new told
 
--- by one poll or none it took requests of its desk, and went on by some acts, whatever history it had
-pub record Advances {X : Type 0} (look : X → LineView) (old new : SessionState X) (says : Result Bool Fault) :
+-- by one poll it took requests of its desk, and went on by some acts, whatever history it had
+pub record Advances {X : Type 0} (look : X → LineView) (old new : SessionState X) (says : Result Polled Fault) :
     Type 0 where
   pub takes : TakesMore old.driver new.driver
   pub goes : SessionGoesOn look old new

@@ -1,14 +1,7 @@
 -- Which fault a bench reports for each error of its parts.
-use Rattle.std.specs.declared.io.ErrorKind.{ErrorKind}
-use Rattle.std.specs.declared.io.ErrorKind.TheVariants as kind
 use Rattle.modem_driver.specs.declared.session.error.SessionFault.{SessionFault}
 use Rattle.modem_sim.specs.declared.error.SimError.{SimError}
 use Rattle.modem_bench.specs.declared.signals.Fault.{Fault}
-
--- the fault for an executor that can't be made
-abbrev pub executor_fault : ErrorKind → Fault
-executor_fault kind.OutOfMemory = Fault.NoMemory
-executor_fault _ = Fault.GaveUp
 
 -- the fault for a session that fails: once its line has failed it only says so again
 abbrev pub session_fault : SessionFault → Fault

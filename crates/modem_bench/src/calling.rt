@@ -10,7 +10,6 @@ use modem_desk::{Answer, Ask, Caller, Outcome};
 use mux_frame::Dlci;
 use std::alloc::Global;
 use std::sync::Wait;
-use std::thread;
 
 /// A caller that has worked, and what it was told for each of its asks, in order.
 #[derive(Drop)]
@@ -50,7 +49,7 @@ fn submit<R: Wait>(
         }
         signals.check()?;
         if !take_one(caller, outcomes)? {
-            thread::yield_now();
+            signals.wait(rt);
         }
     }
     unreachable!()
@@ -72,7 +71,7 @@ fn take_all<R: Wait>(
         }
         signals.check()?;
         if !take_one(caller, outcomes)? {
-            thread::yield_now();
+            signals.wait(rt);
         }
     }
     unreachable!()
@@ -178,7 +177,7 @@ fn submit_alone<R: Wait>(
             Err((_, back)) => left = back,
         }
         signals.check()?;
-        thread::yield_now();
+        signals.wait(rt);
     }
     unreachable!()
 }
@@ -193,7 +192,7 @@ fn next_outcome<R: Wait>(rt: &R, caller: &mut Caller, signals: &Signals) -> Resu
             return Ok(outcome);
         }
         signals.check()?;
-        thread::yield_now();
+        signals.wait(rt);
     }
     unreachable!()
 }

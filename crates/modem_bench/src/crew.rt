@@ -32,13 +32,12 @@ fn send_one<R>(
     alloc: Global,
     caller: Caller,
     asks: Vec<Ask>,
-    signals: &Signals,
+    signals: Signals,
 ) -> Result<Work, Fault>
 where
     R: Threads + Wait + Copy + Send + 'static,
     ensures { IfOk result (λ h. (h.promise.was.value ≡ caller) × (h.promise.asks.value ≡ asks)) }
 {
-    let signals = signals.share()?;
     let rt = *rt;
     let promise = HasWorked {
         was: Snapshot::of(&caller),
@@ -71,7 +70,8 @@ where
     let mut number = 0;
     for caller in callers {
         let asks = asks_for(alloc, submissions, number)?;
-        let handle = send_one(rt, alloc, caller, asks, signals)?;
+        let theirs = signals.of_caller(number)?;
+        let handle = send_one(rt, alloc, caller, asks, theirs)?;
         keep(rt, out, handle, signals)?;
         number += 1;
     }

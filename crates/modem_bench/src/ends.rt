@@ -8,7 +8,9 @@ ghost use Rattle.modem_bench.specs.Running.{AreFresh, IsLine};
 ghost use Rattle.modem_bench.specs.Simulating.{IsStarted};
 
 use crate::results::beside;
-use crate::signals::Fault;
+use crate::ringing_line::RingingLine;
+use crate::signals::{Fault, Signals};
+use bell::Bell;
 use modem_desk::{Caller, Desk, DriverEnd, Listener};
 use modem_driver::Session;
 use modem_sim::{Modem, ModemStart, Script, Sim};
@@ -28,22 +30,32 @@ pub struct Ends<L: SerialLine + Drop, R: Wait + Drop> {
     pub listeners: Vec<Listener>,
 }
 
-/// A desk with so many callers, and no listener.
-fn open_desk(alloc: Global, callers: u8) -> Result<(DriverEnd, Vec<Caller>, Vec<Listener>), Fault>
+/// A desk with so many callers, which ring this bell, and no listener.
+fn open_desk(
+    alloc: Global,
+    callers: u8,
+    bell: &Bell,
+) -> Result<(DriverEnd, Vec<Caller>, Vec<Listener>), Fault>
     ensures { IfOk result (λ r. Opened callers [] 1 r.0 r.1.items r.2.items) }
 {
-    match Desk::open(alloc, callers, &[]) {
+    match Desk::open_with_bell(alloc, callers, &[], 1, bell) {
         Ok(ends) => Ok(ends),
         Err(_) => Err(Fault::NoMemory),
     }
 }
 
-/// The two ends of a new line, with room for so many octets each way.
-pub fn make_line(alloc: Global, cut: usize) -> Result<(ThreadLine, ThreadLine), Fault>
+/// The two ends of a new line, with room for so many octets each way, the driver's first. Each rings the other end's thread.
+pub fn make_line(
+    alloc: Global,
+    cut: usize,
+    signals: &Signals,
+) -> Result<(RingingLine, RingingLine), Fault>
     ensures { IfOk result (λ r. IsLine cut r.0 r.1) }
 {
+    let driver = signals.bells().driver.share()?;
+    let modem = signals.bells().modem.share()?;
     match ThreadLine::pair(alloc, cut) {
-        Ok(ends) => Ok(ends),
+        Ok((near, far)) => Ok((RingingLine::new(near, modem), RingingLine::new(far, driver))),
         Err(_) => Err(Fault::NoMemory),
     }
 }
@@ -78,13 +90,14 @@ fn make_sim<L: SerialLine + Drop>(alloc: Global, line: L, script: Script) -> Res
     }
 }
 
-/// A desk, a session at its driver's end, and a simulated modem at the other end of the line.
+/// A desk, whose callers ring the driver's bell; a session at its driver's end; and a simulated modem at the other end of the line.
 pub fn begin<L: SerialLine + Drop, R: Wait + Drop + Copy>(
     rt: &R,
     alloc: Global,
     callers: u8,
     line: (L, L),
     script: Script,
+    signals: &Signals,
 ) -> Result<Ends<L, R>, Fault>
     ensures many { IfOk result (λ e. AreFresh callers e.callers.items) }
     ensures begun { IfOk result (λ e. IsBegun (line_by L.received L.sent L.calls L.failures L.empty_reads L.stalled_writes) e.session) }
@@ -95,7 +108,7 @@ pub fn begin<L: SerialLine + Drop, R: Wait + Drop + Copy>(
     ensures listeners { IfOk result
         (λ e. AreSubscribed e.session.driver.desk (map subscription_of e.listeners.items)) }
 {
-    let (driver, callers, listeners) = open_desk(alloc, callers)?;
+    let (driver, callers, listeners) = open_desk(alloc, callers, &signals.bells().driver)?;
     let (near, far) = line;
     let session = make_session(*rt, alloc, near, driver)?;
     let (sim, session) = beside(make_sim(alloc, far, script), session)?;

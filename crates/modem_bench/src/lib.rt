@@ -2,18 +2,23 @@
 //! simulated modem in rounds in one thread (`meet`, `run_in_rounds`).
 #![tactic(auto)]
 
+mod bells;
 mod calling;
 mod crew;
 mod driving;
 mod ends;
 pub mod laws;
+mod limit;
 mod meeting;
 mod results;
+mod ringing_line;
 mod rounds;
 mod running;
+mod settling;
 mod signals;
 mod simulating;
 mod submission;
+mod threads;
 
 pub use meeting::{Meeting, meet};
 pub use rounds::{Rest, run_in_rounds};

@@ -1,15 +1,17 @@
 //! What the threads of a bench tell one another beside the desk and the line.
 ghost use Rattle.std.specs.Prelude.{◌≡◌, IfOk, IfErr};
 ghost use Rattle.std.specs.Arc.{arc_value};
-ghost use Rattle.std.specs.IoError.{error_kind};
-ghost use Rattle.modem_bench.specs.Faults.{executor_fault};
 ghost use Rattle.modem_bench.specs.declared.signals.Fault.TheVariants.{NoMemory};
 
+use crate::bells::Bells;
+use bell::Bell;
 use std::alloc::{AllocError, AllocFailed, Global};
-use std::io;
-use std::io::ErrorKind;
 use std::sync::{Arc, OnceLock, OnceToken, Wait};
 use std::thread::SpawnError;
+use std::time::Duration;
+
+/// How many milliseconds a thread waits at most without a ring.
+const WAIT_MILLISECONDS: u64 = 100;
 
 /// Why a bench ends without its output.
 #[derive(Clone, Copy, PartialEq, Eq, Debug, Drop)]
@@ -46,18 +48,6 @@ impl<F: Drop> From<SpawnError<F>> for Fault {
     }
 }
 
-/// An executor that can't be made, mostly for want of memory.
-impl From<io::Error> for Fault {
-    ghost from_gives = { λ error fault. fault ≡ executor_fault (error_kind error) };
-
-    fn from(error: io::Error) -> Fault {
-        match error.kind() {
-            ErrorKind::OutOfMemory => Fault::NoMemory,
-            _ => Fault::GaveUp,
-        }
-    }
-}
-
 /// Why the bench was given up: the first fault that a thread gave.
 #[derive(Drop)]
 pub struct Reason<'a> {
@@ -78,32 +68,70 @@ impl From<Reason<'_>> for Fault {
 #[derive(Drop)]
 pub struct Shared {
     pub fault: OnceLock<Fault>,
+    pub bells: Bells,
 }
 
-/// One thread's share of what all see: whether the bench is given up, and why.
+/// One thread's share of what all see: whether the bench is given up, and why; and the bells, of which one is its own.
 #[derive(Drop)]
 pub struct Signals {
     pub shared: Arc<Shared, Global>,
+    bell: Bell,
 }
 
 impl Signals {
-    /// Nothing has happened yet.
-    pub fn new(alloc: Global) -> Result<Signals, AllocError> {
-        let shared = Arc::new(
-            alloc,
-            Shared {
-                fault: OnceLock::new(),
-            },
-        )?;
-        Ok(Signals { shared })
+    /// Nothing has happened yet. There are bells for so many callers. The share is that of caller 0.
+    pub fn new(alloc: Global, callers: u8) -> Result<Signals, AllocError> {
+        let bell = Bell::new(alloc)?;
+        let bells = Bells::new(alloc, bell.share()?, callers)?;
+        let shared = Shared {
+            fault: OnceLock::new(),
+            bells,
+        };
+        let shared = Arc::new(alloc, shared)?;
+        Ok(Signals { shared, bell })
     }
 
-    /// The same for one thread more.
-    pub fn share(&self) -> Result<Signals, AllocError>
+    /// All bells.
+    pub fn bells(&self) -> &Bells {
+        &self.shared.bells
+    }
+
+    /// The same for another thread, which waits on this bell.
+    fn share(&self, bell: &Bell) -> Result<Signals, AllocError>
         ensures { IfOk result (λ s. arc_value s.shared ≡ arc_value self.now.shared) }
     {
+        let bell = bell.share()?;
         let shared = Arc::try_clone(&self.shared)?;
-        Ok(Signals { shared })
+        Ok(Signals { shared, bell })
+    }
+
+    /// The same for the driver's thread.
+    pub fn of_driver(&self) -> Result<Signals, AllocError>
+        ensures { IfOk result (λ s. arc_value s.shared ≡ arc_value self.now.shared) }
+    {
+        self.share(&self.shared.bells.driver)
+    }
+
+    /// The same for the simulated modem's thread.
+    pub fn of_modem(&self) -> Result<Signals, AllocError>
+        ensures { IfOk result (λ s. arc_value s.shared ≡ arc_value self.now.shared) }
+    {
+        self.share(&self.shared.bells.modem)
+    }
+
+    /// The same for the thread of the caller of this number, if the bench has one.
+    pub fn of_caller(&self, number: u8) -> Result<Signals, Fault>
+        ensures { IfOk result (λ s. arc_value s.shared ≡ arc_value self.now.shared) }
+    {
+        let Some(bell) = self.shared.bells.callers.get(number as usize) else {
+            return Err(Fault::GaveUp);
+        };
+        Ok(self.share(bell)?)
+    }
+
+    /// Waits until somebody rings this thread's bell, or for a tenth of a second.
+    pub fn wait<R: Wait>(&self, rt: &R) {
+        self.bell.wait(rt, Duration::from_millis(WAIT_MILLISECONDS));
     }
 
     /// The reason that this shows.
@@ -126,14 +154,16 @@ impl Signals {
         }
     }
 
-    /// Gives the bench up for this fault, unless it was given up before, and answers why it is given up. It may wait
-    /// for another thread that gives the bench up at the same time.
+    /// Gives the bench up for this fault, unless it was given up before, and answers why it is given up. All threads are woken to
+    /// see it. It may wait for another thread that gives the bench up at the same time.
     pub fn give_up<R: Wait>(&self, rt: &R, fault: Fault) -> Reason<'_>
         ensures { result.shown.of ≡ (arc_value self.now.shared).fault.id }
     {
-        match self.set(rt, fault) {
+        let reason = match self.set(rt, fault) {
             Ok(reason) | Err(reason) => reason,
-        }
+        };
+        self.shared.bells.ring_all();
+        reason
     }
 
     /// `Ok` while the bench goes on, else why it was given up.

@@ -1,28 +1,17 @@
 //! The simulated modem's thread of a bench.
-ghost use Rattle.std.specs.Prelude.{◌≡◌, OnOk};
+ghost use Rattle.std.specs.Prelude.{◌≡◌, OnOk, Ok};
 ghost use Rattle.modem_sim.specs.Sims.{sight};
+ghost use Rattle.modem_sim.specs.declared.sim.SimTurn.TheVariants.{Ended};
 ghost use Rattle.modem_bench.specs.Faults.{sim_fault};
 ghost use Rattle.modem_bench.specs.Simulating.{IsSimulated};
 
+use crate::ringing_line::CountedLine;
 use crate::signals::{Fault, Signals};
-use futures::Future;
-use futures::executor::block_on;
-use futures::task::{Context, Poll};
 use modem_sim::{Sim, SimError, SimTurn};
 use serial_line::SerialLine;
-use std::alloc::AllocGlobal;
-use std::random::RandomSource;
 use std::snapshot::Snapshot;
 use std::sync::Wait;
-use std::thread;
 use std::thread::Promise;
-
-/// A simulated modem that is polled to its end, or until the bench is given up.
-#[derive(Drop)]
-struct Simulated<'a, L: SerialLine + Drop> {
-    sim: Sim<L>,
-    signals: &'a Signals,
-}
 
 pub fn fault_of(why: SimError) -> Fault
     ensures { result ≡ sim_fault why }
@@ -34,49 +23,46 @@ pub fn fault_of(why: SimError) -> Fault
     }
 }
 
-impl<L: SerialLine + Drop> Future for Simulated<'_, L> {
-    ghost use Rattle.std.specs.Prelude.{OnOk};
-    ghost use Rattle.modem_sim.specs.Sims.{sight};
-    ghost use Rattle.modem_bench.specs.Simulating.{IsSimulated};
-
-    type Output = Result<(), Fault>;
-
-    ghost gives = { λ m out. OnOk out
-        (IsSimulated (sight L.received L.sent L.calls L.failures L.empty_reads L.stalled_writes) m.sim) };
-
-    fn poll(&mut self, cx: &mut Context<'_>) -> Poll<Result<(), Fault>> {
-        if let Err(reason) = self.signals.check() {
-            return Poll::Ready(Err(reason.fault));
-        }
-        match self.sim.poll(cx) {
-            Poll::Ready(Ok(SimTurn::Ended)) => Poll::Ready(Ok(())),
-            Poll::Ready(Ok(SimTurn::Moved | SimTurn::Idle)) => Poll::Ready(Err(Fault::GaveUp)),
-            Poll::Ready(Err(why)) => Poll::Ready(Err(fault_of(why))),
-            Poll::Pending => {
-                thread::yield_now();
-                Poll::Pending
-            }
-        }
+/// The end that a simulated modem gave. No poll gives Moved or Idle.
+fn ended(given: Result<SimTurn, SimError>) -> Result<(), Fault>
+    ensures { OnOk result (given ≡ Ok Ended) }
+{
+    match given {
+        Ok(SimTurn::Ended) => Ok(()),
+        Ok(SimTurn::Moved | SimTurn::Idle) => Err(Fault::GaveUp),
+        Err(why) => Err(fault_of(why)),
     }
 }
 
-/// Polls a simulated modem to its end.
-fn simulate_on<L: SerialLine + Drop, R: Wait + RandomSource + AllocGlobal>(
+/// Waits, unless octets moved: then there may be more to do.
+fn rest<R: Wait>(rt: &R, signals: &Signals, moved: bool) {
+    if !moved {
+        signals.wait(rt);
+    }
+}
+
+/// Polls a simulated modem to its end. Where a poll moved no octet it waits on its bell.
+fn simulate_on<L: SerialLine + CountedLine, R: Wait>(
     rt: &R,
-    sim: Sim<L>,
+    sim: &mut Sim<L>,
     signals: &Signals,
 ) -> Result<(), Fault>
     ensures { OnOk result
-        (IsSimulated (sight L.received L.sent L.calls L.failures L.empty_reads L.stalled_writes) sim) }
+        (IsSimulated (sight L.received L.sent L.calls L.failures L.empty_reads L.stalled_writes) sim.old) }
 {
-    match block_on(rt, Simulated { sim, signals }) {
-        Ok(end) => end,
-        Err(error) => Err(Fault::from(error)),
+    for _ in rt.forever() {
+        signals.check()?;
+        let before = sim.line().moved();
+        match sim.advance() {
+            Some(given) => return ended(given),
+            None => rest(rt, signals, sim.line().moved() != before),
+        }
     }
+    unreachable!()
 }
 
 /// What the simulated modem does in its thread.
-pub fn simulate<L: SerialLine + Drop, R: Wait + RandomSource + AllocGlobal>(
+pub fn simulate<L: SerialLine + CountedLine + Drop, R: Wait>(
     rt: &R,
     sim: Sim<L>,
     signals: Signals,
@@ -84,7 +70,8 @@ pub fn simulate<L: SerialLine + Drop, R: Wait + RandomSource + AllocGlobal>(
     ensures { OnOk result
         (IsSimulated (sight L.received L.sent L.calls L.failures L.empty_reads L.stalled_writes) sim) }
 {
-    match simulate_on(rt, sim, &signals) {
+    let mut sim = sim;
+    match simulate_on(rt, &mut sim, &signals) {
         Ok(()) => Ok(()),
         Err(fault) => Err(signals.give_up(rt, fault).fault),
     }

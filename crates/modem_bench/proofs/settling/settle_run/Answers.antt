@@ -8,7 +8,7 @@ use Rattle.modem_driver.specs.SessionStates.{SessionState, line_by}
 use Rattle.modem_bench.specs.Driving.{IsOver}
 use Rattle.modem_bench.specs.declared.calling.Worked.{Worked}
 use Rattle.modem_bench.proofs.CallerThreads.{known_ok}
-use Rattle.modem_bench.proofs.running.settle_run.Goals as goal
+use Rattle.modem_bench.proofs.settling.settle_run.Goals as goal
 
 abbrev Parts : Type 0
 Parts = Vec CallerView Global × Vec (Vec Outcome Global) Global

@@ -4,7 +4,7 @@ use Rattle.std.specs.Prelude.{vec_items}
 use Rattle.modem_desk.specs.Ends.{AreSubscribed, DeskId, DriverView, IsWhole, subscription_of, place_of}
 use Rattle.modem_desk.specs.Books.{DeskBooks}
 use Rattle.modem_driver.specs.SessionStates.{end_of, line_by}
-use Rattle.modem_bench.proofs.running.end_run.Goals as goal
+use Rattle.modem_bench.proofs.settling.end_run.Goals as goal
 
 pub settle-requires-clause-callers : goal.settle-requires-clause-callers
 settle-requires-clause-callers g c =

@@ -1,7 +1,7 @@
 use Rattle.std.specs.Prelude.{◌≡◌, ◌++◌, map}
 use Rattle.std.specs.Vec.Iter.{into_iter_items}
 use Rattle.modem_bench.specs.declared.calling.Worked.{Worked}
-use Rattle.modem_bench.proofs.running.parted.Given as goal
+use Rattle.modem_bench.proofs.settling.parted.Given as goal
 
 abbrev pub invariant-loop-worked : goal.invariant-loop-worked
 invariant-loop-worked l = record {

@@ -1,0 +1,90 @@
+//! A line between two threads, of which each wakes the other.
+ghost use Rattle.std.specs.Prelude.{◌≡◌};
+
+use bell::Bell;
+use serial_line::{LineFault, SerialLine, ThreadLine};
+use std::marker::Model;
+
+/// A line that says how much it moved.
+pub trait CountedLine {
+    /// How many octets it gave and took so far. The count ends at `u64::MAX`.
+    fn moved(&self) -> u64;
+}
+
+/// An end of a line between two threads. Each call that moves octets rings the bell of the thread at the other end, which has
+/// octets or room then. Contracts see the line alone.
+#[derive(Drop)]
+pub struct RingingLine {
+    line: ThreadLine,
+    other: Bell,
+    moved: u64,
+}
+
+impl Model for RingingLine {
+    ghost use Rattle.serial_line.specs.ThreadLine.{EndState};
+
+    ghost Value = { EndState };
+
+    ghost view = { λ l. l.line };
+}
+
+impl RingingLine {
+    /// This end, which rings that bell.
+    pub fn new(line: ThreadLine, other: Bell) -> RingingLine
+        ensures { result ≡ line }
+    {
+        RingingLine {
+            line,
+            other,
+            moved: 0,
+        }
+    }
+
+    /// So many octets were moved.
+    fn note(&mut self, count: usize)
+        ensures { self.new ≡ self.old }
+    {
+        if count > 0 {
+            self.moved = self.moved.saturating_add(count as u64);
+            self.other.ring();
+        }
+    }
+}
+
+impl CountedLine for RingingLine {
+    fn moved(&self) -> u64 {
+        self.moved
+    }
+}
+
+impl SerialLine for RingingLine {
+    ghost use Rattle.serial_line.specs.OtherSide.{unknown_side};
+
+    ghost received = { λ l. l.received };
+
+    ghost sent = { λ l. l.sent };
+
+    ghost calls = { λ l. l.calls };
+
+    ghost failures = { λ _. 0 };
+
+    ghost empty_reads = { λ l. l.empty_reads };
+
+    ghost stalled_writes = { λ l. l.stalled_writes };
+
+    ghost other_side = { λ _. unknown_side };
+
+    /// Reads. Where octets came, the other end has room.
+    fn try_read(&mut self, buffer: &mut [u8]) -> Result<usize, LineFault> {
+        let count = self.line.try_read(buffer)?;
+        self.note(count);
+        Ok(count)
+    }
+
+    /// Writes. Where octets went, the other end has them to read.
+    fn try_write(&mut self, octets: &[u8]) -> Result<usize, LineFault> {
+        let count = self.line.try_write(octets)?;
+        self.note(count);
+        Ok(count)
+    }
+}

@@ -1,0 +1,115 @@
+//! The threads of a bench: the driver's, the simulated modem's, and the callers' in between.
+ghost use Rattle.std.specs.Prelude.{◌≡◌, ◌≤◌, ◌<◌, IfOk, OnOk, length};
+ghost use Rattle.modem_driver.specs.SessionStates.{line_by};
+ghost use Rattle.modem_sim.specs.Sims.{sight};
+ghost use Rattle.modem_bench.specs.Driving.{Continues};
+ghost use Rattle.modem_bench.specs.Running.{AreCalled};
+ghost use Rattle.modem_bench.specs.Simulating.{IsSimulated};
+
+use crate::calling::Worked;
+use crate::crew::call;
+use crate::driving::{Later, drive};
+use crate::results::{beside, both, spawned};
+use crate::ringing_line::CountedLine;
+use crate::signals::{Fault, Signals};
+use crate::simulating::{Ending, simulate};
+use crate::submission::Submission;
+use modem_desk::Caller;
+use modem_driver::Session;
+use modem_sim::Sim;
+use serial_line::SerialLine;
+use std::alloc::Global;
+use std::snapshot::Snapshot;
+use std::sync::Wait;
+use std::thread;
+use std::thread::{PromisedHandle, Threads};
+
+/// Has a simulated modem go on in a thread of its own.
+fn send_modem<L, R>(
+    rt: &R,
+    sim: Sim<L>,
+    signals: &Signals,
+) -> Result<PromisedHandle<Result<(), Fault>, Ending<L>>, Fault>
+where
+    L: SerialLine + CountedLine + Drop + Send + 'static,
+    R: Threads + Wait + Copy + Send + Drop + 'static,
+    ensures { IfOk result (λ handle. handle.promise.0.value ≡ sim) }
+{
+    let (theirs, sim) = beside(signals.of_modem(), sim)?;
+    let own = *rt;
+    let promise = Ending(Snapshot::of(&sim));
+    spawned(thread::spawn_with(rt, promise, move || simulate(&own, sim, theirs)))
+}
+
+/// What the callers do, beside the simulated modem's thread.
+fn call_modem<L, R>(
+    rt: &R,
+    alloc: Global,
+    sim: Sim<L>,
+    callers: Vec<Caller>,
+    submissions: &[Submission],
+    signals: &Signals,
+) -> Result<Vec<Worked>, Fault>
+where
+    L: SerialLine + CountedLine + Drop + Send + 'static,
+    R: Threads + Wait + Copy + Send + Drop + 'static,
+    requires { (0 < length callers.items) × (length callers.items ≤ 8) }
+    ensures called { IfOk result (λ back. AreCalled submissions.now callers.items back.items) }
+    ensures simulated { OnOk result
+        (IsSimulated (sight L.received L.sent L.calls L.failures L.empty_reads L.stalled_writes) sim) }
+{
+    let simulating = send_modem(rt, sim, signals)?;
+    let called = call(rt, alloc, callers, submissions, signals);
+    if let Err(fault) = &called {
+        signals.give_up(rt, *fault);
+    }
+    simulating.join(rt)?;
+    called
+}
+
+/// Has a session go on in a thread of its own.
+fn send_driver<L, R>(
+    rt: &R,
+    session: Session<L, R>,
+    signals: &Signals,
+    polls: u32,
+) -> Result<PromisedHandle<Result<Session<L, R>, Fault>, Later<L, R>>, Fault>
+where
+    L: SerialLine + CountedLine + Drop + Send + 'static,
+    R: Threads + Wait + Copy + Send + Drop + 'static,
+    ensures { IfOk result (λ handle. handle.promise.0.value ≡ session) }
+{
+    let (theirs, session) = beside(signals.of_driver(), session)?;
+    let own = *rt;
+    let promise = Later(Snapshot::of(&session));
+    spawned(thread::spawn_with(rt, promise, move || drive(&own, session, theirs, polls)))
+}
+
+/// Runs callers, driver and simulated modem in their threads.
+pub fn run_beside<L, R>(
+    rt: &R,
+    alloc: Global,
+    session: Session<L, R>,
+    sim: Sim<L>,
+    callers: Vec<Caller>,
+    submissions: &[Submission],
+    signals: &Signals,
+    polls: u32,
+) -> Result<(Session<L, R>, Vec<Worked>), Fault>
+where
+    L: SerialLine + CountedLine + Drop + Send + 'static,
+    R: Threads + Wait + Copy + Send + Drop + 'static,
+    requires { (0 < length callers.items) × (length callers.items ≤ 8) }
+    ensures continues { IfOk result
+        (λ r. Continues (line_by L.received L.sent L.calls L.failures L.empty_reads L.stalled_writes) session r.0) }
+    ensures called { IfOk result (λ r. AreCalled submissions.now callers.items r.1.items) }
+    ensures simulated { OnOk result
+        (IsSimulated (sight L.received L.sent L.calls L.failures L.empty_reads L.stalled_writes) sim) }
+{
+    let (driving, sim) = beside(send_driver(rt, session, signals, polls), sim)?;
+    let called = call_modem(rt, alloc, sim, callers, submissions, signals);
+    if let Err(fault) = &called {
+        signals.give_up(rt, *fault);
+    }
+    both(driving.join(rt), called)
+}
