@@ -14,4 +14,4 @@ returns-in-Some-advance g c =
 pub loop-preserved : goal.loop-preserved
 loop-preserved g c later =
     c.loop.invariant (gives_before (sight g.L.SerialLine.received g.L.SerialLine.sent g.L.SerialLine.calls g.L.SerialLine.failures g.L.SerialLine.empty_reads g.L.SerialLine.stalled_writes)
-    c.loop.sim c.advance.new.self (Ok Ended) c.in-None.ensures.polls later)
+    c.loop.sim c.advance.new.self (Ok Ended) c.in-None-advance.ensures.polls later)
