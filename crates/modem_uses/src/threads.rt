@@ -1,13 +1,12 @@
 //! A session, a simulated modem, two callers and a listener, each in a thread of its own, and then a settlement.
-ghost use Rattle.std.specs.Prelude.{◌≡◌, [], ◌∷◌, map};
+ghost use Rattle.std.specs.Prelude.{[], ◌∷◌, map};
 ghost use Rattle.modem_desk.specs.Ends.{IsWhole, place_of};
 
 use crate::Stop;
 use crate::calling::Came;
-use crate::crew::call;
 use crate::driving::drive;
 use crate::settling::end;
-use crate::simulating::simulate;
+use crate::simulating::use_modem;
 use bell::Bell;
 use modem_desk::{Ask, Caller, Listener, Settled};
 use modem_driver::Session;
@@ -18,25 +17,6 @@ use std::rt::Clock;
 use std::sync::Wait;
 use std::thread;
 use std::thread::Threads;
-
-/// The callers and the listener work beside the modem.
-fn use_modem<L: SerialLine + Drop + Send, R: Threads + Wait + Clock + Sync>(
-    rt: &R,
-    bell: &Bell,
-    modem: Sim<L>,
-    callers: (Caller, Caller),
-    asks: (Ask, Ask),
-    listener: Listener,
-) -> ((Caller, Caller), Came)
-    ensures { (result.0.0.place ≡ callers.0.place) × (result.0.1.place ≡ callers.1.place) }
-{
-    let ((), called) = thread::join(
-        rt,
-        move || simulate(rt, bell, modem),
-        move || call(rt, bell, callers, asks, listener),
-    );
-    called
-}
 
 /// Runs all of them beside one another, and then settles the desk: what came of it.
 pub fn run_beside<L: SerialLine + Drop + Send, R: Threads + Wait + Clock + Sync + Send + Drop>(

@@ -6,7 +6,7 @@ use Rattle.modemctl.proofs.words.four_commands.Goals as goal
 
 pub returns : goal.returns
 returns c =
-    let sim_new : app_of c.about.result ≡ new_app (codes "sim") = search rules in
+    let sim_new : app_of c.after_help.result ≡ new_app (codes "sim") = search rules in
     let one_option : app_of c.in_ok-arg.field-0 ≡ with_rule (new_app (codes "sim")) n1_rule = c.in_ok-arg.ensures.shape c.n1_option.ensures.own ∙ ap₂ with_rule sim_new c.n1_option.ensures.rule in
     let two_options : app_of c.in_ok-arg-2.field-0 ≡ with_rule (with_rule (new_app (codes "sim")) n1_rule) pin_rule = c.in_ok-arg-2.ensures.shape c.pin_option.ensures.own ∙ ap₂ with_rule one_option c.pin_option.ensures.rule in
     let three_options : app_of c.in_ok-arg-3.field-0 ≡ with_rule (with_rule (with_rule (new_app (codes "sim")) n1_rule) pin_rule) echo_rule = c.in_ok-arg-3.ensures.shape c.echo_option.ensures.own ∙ ap₂ with_rule two_options c.echo_option.ensures.rule in
