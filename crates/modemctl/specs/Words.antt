@@ -59,10 +59,12 @@ wanting_one =
     { top = record (new_app (codes "modemctl")).top { subcommand_required = true } }
 
 -- the same with two subcommands
+abbrev pub with_one : App
+with_one = with_subcommand wanting_one (subcommand_app (codes "frames")).top
+
+-- the same with a replay
 abbrev pub with_two : App
-with_two =
-    with_subcommand (with_subcommand wanting_one (subcommand_app (codes "frames")).top)
-    replay_app.top
+with_two = with_subcommand with_one replay_app.top
 
 -- the same with a bench
 abbrev pub with_three : App

@@ -7,7 +7,7 @@ ghost use Rattle.modem_runs.specs.Stopping.{HasGivenUp};
 ghost use Rattle.modem_serve.specs.Serving.{IsServed};
 ghost use Rattle.modemctl.specs.Benches.{IsFlag, PrintsBench, PrintsFrames, PrintsReplay, ServesClient, ServesWith, plain_script};
 ghost use Rattle.modemctl.specs.Drives.{PrintsDrive};
-ghost use Rattle.modemctl.specs.Words.{callers_rule, cut_rule, echo_rule, n1_rule, pin_rule, program_app, fault_in, met_in, named_in, with_four, with_three, with_two, AreFor, AsksNoHelp, HasNoNumber};
+ghost use Rattle.modemctl.specs.Words.{callers_rule, cut_rule, echo_rule, n1_rule, pin_rule, program_app, fault_in, met_in, named_in, with_four, with_one, with_three, with_two, AreFor, AsksNoHelp, HasNoNumber};
 
 mod dialects;
 mod driving;
@@ -98,25 +98,32 @@ fn echo_option<'a>(alloc: Global) -> Arg<'a>
         .action(ArgAction::SetTrue)
 }
 
-/// The program with the subcommands that play what its input says.
-fn two_commands<'a>(alloc: Global) -> Result<Command<'a>, AllocError>
-    ensures { IfOk result (λ c. app_of c ≡ with_two) }
+/// The program with the subcommand that reads octets.
+fn one_command<'a>(alloc: Global) -> Result<Command<'a>, AllocError>
+    ensures { IfOk result (λ c. app_of c ≡ with_one) }
 {
     let frames = Command::new(alloc, "frames")
         .about("Reads octets, written in hexadecimal, as frames")
         .after_help(help::FRAMES)
         .arg(n1_option(alloc))?;
+    Command::new(alloc, "modemctl")
+        .about("The driver of a cellular modem, on the basic option of 3GPP TS 27.010")
+        .after_help(help::PROGRAM)
+        .subcommand_required(true)
+        .subcommand(frames)
+}
+
+/// The same with a replay.
+fn two_commands<'a>(alloc: Global) -> Result<Command<'a>, AllocError>
+    ensures { IfOk result (λ c. app_of c ≡ with_two) }
+{
+    let command = one_command(alloc)?;
     let replay = Command::new(alloc, "replay")
         .about("Says what the driver of a modem does with the events of a script")
         .after_help(help::REPLAY)
         .arg(n1_option(alloc))?
         .arg(dialect_option(alloc))?;
-    Command::new(alloc, "modemctl")
-        .about("The driver of a cellular modem, on the basic option of 3GPP TS 27.010")
-        .after_help(help::PROGRAM)
-        .subcommand_required(true)
-        .subcommand(frames)?
-        .subcommand(replay)
+    command.subcommand(replay)
 }
 
 /// The same with a bench.
