@@ -19,7 +19,7 @@ use Rattle.modem_history.specs.TwoEnds.{AsksOnce, ComesInOrder, TakesCommandLine
 use Rattle.modem_history.specs.Wholes.{taken_requests}
 use Rattle.modem_driver.specs.Polls.{SessionGoesOn}
 use Rattle.modem_driver.specs.SessionStates.{AreFormed, FitsAll, IsFormedAsk, SessionState, TakesMore, session_view}
-use Rattle.modem_driver.proofs.sessions.CoreCalls.{is_run}
+use Rattle.modem_driver.proofs.sessions.steps.CoreCalls.{is_run}
 use Rattle.modem_sim.specs.Acts as modem
 use Rattle.modem_sim.specs.Acts.{End}
 use Rattle.modem_sim.specs.Replied.{AnnouncesUnsolicited}

@@ -18,8 +18,8 @@ use Rattle.modem_driver.specs.SessionStates.{FitsAll, SessionState, beginning_of
 use Rattle.modem_driver.specs.declared.session.polling.Progress.{Progress}
 use Rattle.modem_driver.specs.declared.session.polling.Progress.TheVariants as progress
 use Rattle.modem_driver.proofs.law_proofs.Headlines.{headline}
-use Rattle.modem_driver.proofs.sessions.Polls.{goes_then}
-use Rattle.modem_driver.proofs.sessions.TakenRequests.{takes_then}
+use Rattle.modem_driver.proofs.sessions.polls.Polls.{goes_then}
+use Rattle.modem_driver.proofs.sessions.steps.TakenRequests.{takes_then}
 use Rattle.modem_sim.specs.Sims.{Sight, SimState}
 use Rattle.modem_bench.specs.Driving.{Advances, Continues, IsBegun, IsOver}
 use Rattle.modem_bench.specs.Running.{AreCalled, RanFor}
