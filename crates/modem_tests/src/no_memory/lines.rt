@@ -1,14 +1,17 @@
 //! Of lines of octets.
 use crate::no_memory::{begin, end};
 use bell::Bell;
-use device_line::{RingReader, RingWriter, line_over};
+use device_line::{RingReader, RingWriter, drain, leave, line_over, pump};
 use rtrb::RingBuffer;
 use serial_line::*;
 use std::alloc::Global;
 use std::io;
 use std::io::Print;
 use std::process::Abort;
+use std::rt::Clock;
+use std::sync::Wait;
 use std::test::Fail;
+use std::time::Duration;
 
 // Reads and writes in turn.
 fn turn<L: SerialLine>(line: &mut L, buffer: &mut [u8]) {
@@ -111,11 +114,29 @@ fn of_a_device<R: Print>(rt: &R, alloc: Global) -> Result<(), Fail> {
     Ok(())
 }
 
+// Of the threads of a device's line: what is read into a ring is written out of it.
+fn of_its_threads<R: Wait + Clock + Print>(rt: &R, alloc: Global) -> Result<(), Fail> {
+    let bell = Bell::new(alloc)?;
+    let own = Bell::new(alloc)?;
+    let (mut filled, mut octets) = RingBuffer::new(alloc, 64)?;
+    let mut device = b"abcdef".as_slice();
+    begin(rt, "pump, drain, Bell::wait, Bell::end, Bell::is_over");
+    let _ = pump(rt, &mut device, &mut filled, &bell, &own, ZeroRead::Ended);
+    leave(filled, &own);
+    let _ = drain(rt, &mut io::sink(), &mut octets, &bell, &own);
+    bell.wait(rt, Duration::from_millis(1));
+    own.end();
+    let _ = own.is_over();
+    end(rt);
+    Ok(())
+}
+
 #[test]
 fn calls_that_take_no_memory(rt: HostRuntime) -> Result<(), Fail> {
     let alloc = rt.alloc();
     in_memory(&rt, alloc)?;
     over_a_slice(&rt);
     of_a_device(&rt, alloc)?;
+    of_its_threads(&rt, alloc)?;
     between_threads(&rt, alloc)
 }
