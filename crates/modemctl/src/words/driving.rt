@@ -1,7 +1,6 @@
 //! The words of a drive.
-ghost use Rattle.std.specs.Prelude.{◌≡◌, ◌≤◌, ◌⊎◌, IfOk, codes, false};
-ghost use Rattle.clap.specs.Words.{app_of, first_value, found_of, rule_of, with_subcommand};
-ghost use Rattle.modem_drive.specs.Entry.{given_text};
+ghost use Rattle.std.specs.Prelude.{◌≡◌, ◌≤◌, ◌⊎◌, IfOk, false};
+ghost use Rattle.clap.specs.Words.{app_of, rule_of, with_subcommand};
 ghost use Rattle.modemctl.specs.Drives.{DrivesWith};
 ghost use Rattle.modemctl.specs.Words.{device_rule, drive_app, entry_rule, quiet_rule, tick_rule};
 
@@ -9,7 +8,6 @@ use crate::words::dialects::{dialect_option, given_dialect};
 use crate::words::files::capture_option;
 use crate::words::numbers::{number_of, seconds_of};
 use crate::words::{n1_option, refuse};
-use at_text::Dialect;
 use clap::{Arg, ArgAction, ArgMatches, Command, value_parser};
 use modem_drive::{Settings, drive_run};
 use modem_runs::give_up;
@@ -116,28 +114,6 @@ fn times_of(matches: &ArgMatches<'_>) -> Result<Times, &'static str> {
     })
 }
 
-/// How the device is driven, by the words.
-fn settings_of<'a>(
-    matches: &ArgMatches<'a>,
-    n1: u16,
-    dialect: &'a Dialect,
-    times: Times,
-) -> Settings<'a>
-    ensures n1 { result.n1 ≡ n1 }
-    ensures entry { given_text result.entry ≡ first_value (found_of matches.now) (codes "entry") }
-    ensures capture { given_text result.capture ≡ first_value (found_of matches.now) (codes "capture") }
-    ensures dialect { result.dialect.now ≡ dialect.now }
-{
-    Settings {
-        n1,
-        dialect,
-        entry: matches.get_str("entry"),
-        capture: matches.get_str("capture"),
-        tick: times.tick,
-        quiet_for: times.quiet_for,
-    }
-}
-
 /// Drives a modem on the device that the words name. A number or a dialect that isn't one is refused before the device is opened.
 pub fn drive_words<R, I, W, E>(
     rt: &R,
@@ -166,7 +142,14 @@ where
     };
     match given_dialect(rt, rt.alloc(), matches) {
         Ok(dialect) => {
-            let settings = settings_of(matches, n1, &dialect, times);
+            let settings = Settings {
+                n1,
+                dialect: &dialect,
+                entry: matches.get_str("entry"),
+                capture: matches.get_str("capture"),
+                tick: times.tick,
+                quiet_for: times.quiet_for,
+            };
             drive_run(rt, path, input, output, faults, settings)
         }
         Err(stop) => give_up(faults, stop),

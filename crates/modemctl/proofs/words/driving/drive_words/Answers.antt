@@ -32,10 +32,10 @@ pub returns-in-Ok-given_dialect-clause-done : goal.returns-in-Ok-given_dialect-c
 returns-in-Ok-given_dialect-clause-done g c zero =
     drives_with _ _ _ _ _ _ _ _ _
     (record {
-      same_n1 = c.settings_of-settings.ensures.n1;
-      same_rules = c.settings_of-settings.ensures.dialect;
-      same_entry = c.settings_of-settings.ensures.entry;
-      same_capture = c.settings_of-settings.ensures.capture;
+      same_n1 = refl;
+      same_rules = refl;
+      same_entry = c.get_str-in-Ok-given_dialect.ensures;
+      same_capture = c.get_str-in-Ok-given_dialect-2.ensures;
       named = c.in-Ok-given_dialect.ensures;
     })
     (c.drive_run.ensures.drove (λ one. omega (arith, zero, one)))
@@ -45,10 +45,10 @@ returns-in-Ok-given_dialect-clause-bad g c two =
     inr
     (drives_with _ _ _ _ _ _ _ _ _
     (record {
-      same_n1 = c.settings_of-settings.ensures.n1;
-      same_rules = c.settings_of-settings.ensures.dialect;
-      same_entry = c.settings_of-settings.ensures.entry;
-      same_capture = c.settings_of-settings.ensures.capture;
+      same_n1 = refl;
+      same_rules = refl;
+      same_entry = c.get_str-in-Ok-given_dialect.ensures;
+      same_capture = c.get_str-in-Ok-given_dialect-2.ensures;
       named = c.in-Ok-given_dialect.ensures;
     })
     (c.drive_run.ensures.drove (λ one. omega (arith, two, one))))
