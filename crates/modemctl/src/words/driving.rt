@@ -6,6 +6,7 @@ ghost use Rattle.modemctl.specs.Words.{device_rule, drive_app, entry_rule, quiet
 
 use crate::words::dialects::{dialect_option, given_dialect};
 use crate::words::files::capture_option;
+use crate::words::help;
 use crate::words::numbers::{number_of, seconds_of};
 use crate::words::{n1_option, refuse};
 use clap::{Arg, ArgAction, ArgMatches, Command, value_parser};
@@ -83,6 +84,7 @@ pub fn with_drive<'a>(alloc: Global, command: Command<'a>) -> Result<Command<'a>
 {
     let drive = Command::new(alloc, "drive")
         .about(ABOUT)
+        .after_help(help::DRIVE)
         .arg(n1_option(alloc))?
         .arg(tick_option(alloc))?
         .arg(quiet_option(alloc))?

@@ -19,3 +19,7 @@ pub const BENCH: &str =
 /// Behind the help of `sim`.
 pub const SIM: &str =
     "Example: socat pty,raw,echo=0,link=/tmp/modem EXEC:'modemctl sim'\n\nExit status: 0 the input has ended; 1 a fault; 2 bad words, or a bad line of the script.\ndocs/MODEM.md has the commands that it knows, docs/FORMATS.md the file of --script; docs/TRY.md drives it.";
+
+/// Behind the help of `drive`.
+pub const DRIVE: &str =
+    "Example: printf '1 AT+CSQ\\n' | modemctl drive /dev/ttyUSB0\n\nExit status: 0 all is done; 1 a fault, named on standard error; 2 bad words, a bad line, or a bad file of --dialect.\ndocs/modemctl.1 has what it does with the terminal and the modem, docs/FORMATS.md its output.";

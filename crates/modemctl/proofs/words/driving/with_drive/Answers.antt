@@ -6,7 +6,7 @@ use Rattle.modemctl.proofs.words.driving.with_drive.Goals as goal
 
 pub returns : goal.returns
 returns c =
-    let new : app_of c.about.result ≡ new_app (codes "drive") = search rules in
+    let new : app_of c.after_help.result ≡ new_app (codes "drive") = search rules in
     let one : app_of c.in_ok-arg.field-0 ≡ subcommand_app (codes "drive") = c.in_ok-arg.ensures.shape c.n1_option.ensures.own ∙ ap₂ with_rule new c.n1_option.ensures.rule in
     let two : app_of c.in_ok-arg-2.field-0 ≡ with_rule (subcommand_app (codes "drive")) tick_rule = c.in_ok-arg-2.ensures.shape c.tick_option.ensures.own ∙ ap₂ with_rule one c.tick_option.ensures.rule in
     let three : app_of c.in_ok-arg-3.field-0 ≡ with_rule (with_rule (subcommand_app (codes "drive")) tick_rule) quiet_rule = c.in_ok-arg-3.ensures.shape c.quiet_option.ensures.own ∙ ap₂ with_rule two c.quiet_option.ensures.rule in
