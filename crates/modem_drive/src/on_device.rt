@@ -286,7 +286,13 @@ where
         (W.contents output.new) }
 {
     match open_all(rt, rt.alloc(), path, &settings) {
-        Ok(Opened { reader, writer, capture }) => {
+        Ok(
+            Opened {
+                reader,
+                writer,
+                capture,
+            },
+        ) => {
             let device = (reader, writer);
             let ended = drive_threaded(rt, device, capture, input, output, faults, settings);
             say_end(faults, ended)

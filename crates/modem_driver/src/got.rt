@@ -25,10 +25,10 @@ ghost use Rattle.modem_driver.specs.declared.error.CoreError.TheVariants as Core
 use crate::act_list::ActList;
 use crate::driver::Core;
 use crate::error::CoreError;
+use crate::going_out::first_line;
 use crate::hand::Hand;
 use crate::lane::Lane;
 use crate::reports::{Owner, Reading, read_octets};
-use crate::going_out::first_line;
 use crate::telling::{Happened, tell};
 use at_text::CommandLine;
 use modem_desk::{Ask, Request};

@@ -172,10 +172,7 @@ fn send<R: Wait>(rt: &R, bell: &Bell, mut line: DeviceLine, own: &Bell, text: &[
 }
 
 // A line, the other ends of its rings, and a share of the bell that its writer rings.
-fn line(
-    alloc: Global,
-    own: &Bell,
-) -> Result<(DeviceLine, Producer<u8>, Consumer<u8>), AllocError> {
+fn line(alloc: Global, own: &Bell) -> Result<(DeviceLine, Producer<u8>, Consumer<u8>), AllocError> {
     let (filled, octets) = RingBuffer::new(alloc, 64)?;
     let (out, emptied) = RingBuffer::new(alloc, 64)?;
     let line = line_over(RingReader::new(octets), RingWriter::new(out, own.share()?));

@@ -6,9 +6,8 @@ ghost use Rattle.modemctl.specs.Words.{device_rule, drive_app, entry_rule, quiet
 
 use crate::words::dialects::{dialect_option, given_dialect};
 use crate::words::files::capture_option;
-use crate::words::help;
 use crate::words::numbers::{number_of, seconds_of};
-use crate::words::{n1_option, refuse};
+use crate::words::{help, n1_option, refuse};
 use clap::{Arg, ArgAction, ArgMatches, Command, value_parser};
 use modem_drive::{Settings, drive_run};
 use modem_runs::give_up;

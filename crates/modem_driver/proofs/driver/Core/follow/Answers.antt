@@ -67,4 +67,3 @@ returns-clause-holds c =
     let acts = c.in_ok-acts.acts.items in
     let rest : map act_of c.remove.new.self.items ≡ drop 1 (map act_of acts) = ap (map act_of) c.remove.ensures.items ∙ first_removed acts in
     subst (λ (xs : List Act). KeepsHeld c.args.self.now c.got_other.new.self (Got f) xs) (c.in_ok-acts.ensures.first ∙ ap (λ (xs : List Act). Got f ∷ xs) (sym rest)) c.in_ok-acts.ensures.holds
-

@@ -48,4 +48,3 @@ returns-clause-holds c =
     let there : KeepsHeld v c.join_data.new.self (Got f) acts
     = subst (λ (xs : List Act). KeepsHeld v c.join_data.new.self (Got f) xs) (sym behind) (c.in_ok-join_data.ensures.holds (Got f ∷ more) c.in_ok-read.ensures.read) in
     subst (λ (x : Core). KeepsHeld x c.join_data.new.self (Got f) acts) c.fork-fork.ensures.same there
-

@@ -43,7 +43,7 @@ returns-in_default g c =
     let all = gives d c.next.new.self c.next.result h.desk.0 h.desk.1 h.desk.2 (h.desk.3, h.desk.4) (h.desk.5, h.desk.6) h.found h.numbered h.taken formed in
     subst (λ (v : Machine). (l : LineView) → Fetches (turn_state l d v) (turn_state l c.next.new.self v)) c.self.view_is
     (λ l. subst (λ (o : Option Request). Fetches (turn_state l d old) (turn_state l c.next.new.self (record old { aside = o }))) (c.in_default.is ∙ sym none)
-        (fetches l d c.next.new.self old c.next.result none (omega arith) all))
+    (fetches l d c.next.new.self old c.next.result none (omega arith) all))
 
 pub returns : goal.returns
 returns g c =
@@ -59,4 +59,4 @@ returns g c =
     let all = gives d c.next.new.self c.next.result h.desk.0 h.desk.1 h.desk.2 (h.desk.3, h.desk.4) (h.desk.5, h.desk.6) h.found h.numbered h.taken formed in
     subst (λ (v : Machine). (l : LineView) → Fetches (turn_state l d v) (turn_state l c.next.new.self (record old { aside = Some c.in-Some.request }))) c.self.view_is
     (λ l. subst (λ (o : Option Request). Fetches (turn_state l d old) (turn_state l c.next.new.self (record old { aside = o }))) c.in-Some.is
-        (fetches l d c.next.new.self old c.next.result none (omega arith) all))
+    (fetches l d c.next.new.self old c.next.result none (omega arith) all))
