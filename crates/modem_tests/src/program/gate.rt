@@ -106,17 +106,11 @@ fn connections_and_callers_run_side_by_side(rt: HostRuntime) -> Result<(), Fail>
     Ok(())
 }
 
-// A bench of one command on connection 1, within so many polls.
-fn ask_once_within<R>(
-    rt: &R,
-    alloc: Global,
-    cut: usize,
-    script: Script,
-    polls: u32,
-) -> Result<Option<Fault>, Fail>
-where
-    R: Threads + Wait + Copy + Send + Drop + 'static,
-{
+// One poll is too few: it makes 64 turns, each of which moves one octet each way at most, and an opening waits for its answer.
+#[test]
+fn a_bench_is_given_up_when_its_polls_are_used_up(rt: HostRuntime) -> Result<(), Fail> {
+    let alloc = rt.alloc();
+    let script = held_back(alloc, &[])?;
     let dlci = Dlci::new(1).ok_or("no connection")?;
     let line = CommandLine::new(alloc, b"AT+CSQ")?;
     let submissions = vec![in alloc;
@@ -126,26 +120,7 @@ where
             line
         },
     ]?;
-    let ended = run_bench_within(rt, alloc, submissions.as_slice(), 1, cut, script, polls);
-    Ok(ended.err())
-}
-
-// One poll is too few: it makes 64 turns, each of which moves one octet each way at most, and an opening waits for its answer.
-#[test]
-fn a_bench_is_given_up_when_its_polls_are_used_up(rt: HostRuntime) -> Result<(), Fail> {
-    let alloc = rt.alloc();
-    let ended = ask_once_within(&rt, alloc, 1, held_back(alloc, &[])?, 1)?;
-    assert!(rt; matches!(ended, Some(Fault::GaveUp)));
-    Ok(())
-}
-
-// The answer is held back for a command that never comes: all wait. Within 1,000 polls the same bench ends where nothing is held back.
-#[test]
-fn a_bench_that_stands_still_is_given_up(rt: HostRuntime) -> Result<(), Fail> {
-    let alloc = rt.alloc();
-    let ended = ask_once_within(&rt, alloc, 64, held_back(alloc, &[])?, 1000)?;
-    assert!(rt; ended.is_none());
-    let ended = ask_once_within(&rt, alloc, 64, held_back(alloc, &[(1, 2)])?, 40)?;
-    assert!(rt; matches!(ended, Some(Fault::GaveUp)));
+    let ended = run_bench_within(&rt, alloc, submissions.as_slice(), 1, 1, script, 1);
+    assert!(rt; matches!(ended, Err(Fault::GaveUp)));
     Ok(())
 }
