@@ -6,8 +6,8 @@ use bell::Bell;
 use device_line::{DeviceLine, FlowEnd, RingReader, RingWriter, drain, leave, line_over, pump};
 use rtrb::{Consumer, Producer, RingBuffer};
 use serial_line::*;
-use std::alloc::{AllocError, Global};
-use std::io::{ErrorKind, Print, Read, Write};
+use std::alloc::Global;
+use std::io::{ErrorKind, Read, Write};
 use std::process::Abort;
 use std::rt::Clock;
 use std::sync::Wait;
@@ -172,7 +172,7 @@ fn send<R: Wait>(rt: &R, bell: &Bell, mut line: DeviceLine, own: &Bell, text: &[
 }
 
 // A line, the other ends of its rings, and a share of the bell that its writer rings.
-fn line(alloc: Global, own: &Bell) -> Result<(DeviceLine, Producer<u8>, Consumer<u8>), AllocError> {
+fn line(alloc: Global, own: &Bell) -> Result<(DeviceLine, Producer<u8>, Consumer<u8>), Fail> {
     let (filled, octets) = RingBuffer::new(alloc, 64)?;
     let (out, emptied) = RingBuffer::new(alloc, 64)?;
     let line = line_over(RingReader::new(octets), RingWriter::new(out, own.share()?));
@@ -211,7 +211,7 @@ fn from_device<R: Threads + Wait + Clock + Sync>(
     rt: &R,
     alloc: Global,
     text: &[u8],
-) -> Result<(FlowEnd, Vec<u8>), AllocError> {
+) -> Result<(FlowEnd, Vec<u8>), Fail> {
     let bell = Bell::new(alloc)?;
     let own = Bell::new(alloc)?;
     let (line, ring, _) = line(alloc, &own)?;
@@ -229,7 +229,7 @@ fn to_device<R: Threads + Wait + Sync>(
     rt: &R,
     alloc: Global,
     text: &[u8],
-) -> Result<(FlowEnd, Vec<u8>), AllocError> {
+) -> Result<(FlowEnd, Vec<u8>), Fail> {
     let bell = Bell::new(alloc)?;
     let own = Bell::new(alloc)?;
     let (line, _, ring) = line(alloc, &own)?;
@@ -251,23 +251,6 @@ fn a_text_goes_through_the_line_of_a_device_each_way(rt: HostRuntime) -> Result<
     let (end, went) = to_device(&rt, rt.alloc(), &text)?;
     assert!(rt; end == FlowEnd::Ended && went.as_slice() == text.as_slice());
     Ok(())
-}
-
-// Memory may be refused between its two marks, as benches/refusals/run does. Each text fits the ring: a thread that can't be started
-// runs before the other.
-#[test]
-fn a_text_goes_whole_through_the_line_of_a_device_or_memory_is_refused(rt: HostRuntime) {
-    let text = b"a text that is shorter than the ring";
-    let _ = rt.println("> bells, rings and threads");
-    let read = from_device(&rt, rt.alloc(), text);
-    let written = to_device(&rt, rt.alloc(), text);
-    let _ = rt.println("<");
-    if let Ok((end, came)) = read {
-        assert!(rt; end == FlowEnd::Ended && came.as_slice() == text.as_slice());
-    }
-    if let Ok((end, went)) = written {
-        assert!(rt; end == FlowEnd::Ended && went.as_slice() == text.as_slice());
-    }
 }
 
 // How a device with these answers is written to its end, where 5 octets wait and nobody is left to write more.
