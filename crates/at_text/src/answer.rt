@@ -63,7 +63,8 @@ impl AnswerLines {
         Ok(())
     }
 
-    /// Its lines come before these, and are gone from it. Want of memory leaves both as they were.
+    /// Its lines come before these, and are gone from it; it has the memory that these had. Want of memory leaves both as they
+    /// were.
     pub(crate) fn lead(&mut self, lines: &mut AnswerLines) -> Result<(), AllocError>
         ensures lines { OnOk result (lines.new ≡ self.old ++ lines.old) }
         ensures left { OnOk result (self.new ≡ []) }
@@ -77,15 +78,11 @@ impl AnswerLines {
         Ok(())
     }
 
-    /// No lines, in the memory that these had, which are gone.
-    pub(crate) fn take_room(&mut self) -> AnswerLines
-        ensures none { result ≡ [] }
-        ensures gone { self.new ≡ [] }
+    /// Lets go of its lines.
+    pub(crate) fn clear(&mut self)
+        ensures { self.new ≡ [] }
     {
-        let alloc = *self.lines.allocator();
-        let mut lines = mem::replace(&mut self.lines, Vec::new(alloc));
-        lines.clear();
-        AnswerLines { lines }
+        self.lines.clear();
     }
 
     /// A copy of the lines.

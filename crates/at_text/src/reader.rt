@@ -71,16 +71,13 @@ impl LineReader {
         self.has_ended = false;
     }
 
-    /// A copy of the reader.
-    pub fn copy(&self) -> LineReader
-        ensures { result ≡ self.now }
+    /// Becomes a copy of another reader.
+    pub fn copy_from(&mut self, other: &LineReader)
+        ensures { self.new ≡ other.now }
     {
-        let mut run = ArrayVec::new();
-        let _ = run.try_extend_from_slice(self.run.as_slice());
-        LineReader {
-            run,
-            has_ended: self.has_ended,
-        }
+        self.run.clear();
+        let _ = self.run.try_extend_from_slice(other.run.as_slice());
+        self.has_ended = other.has_ended;
     }
 }
 

@@ -16,7 +16,6 @@ use crate::unsolicited::UrcKind;
 use arrayvec::ArrayVec;
 use std::alloc::{AllocError, Global};
 use std::marker::Model;
-use std::mem;
 
 /// What a line is, where its end stands.
 #[derive(Drop, Debug, PartialEq, Eq)]
@@ -80,16 +79,27 @@ impl Open {
         Ok(())
     }
 
-    fn fork(&self, lines: AnswerLines) -> Open
-        ensures { result ≡ record self.now { lines = lines } }
+    /// The same, with none of its lines.
+    fn fork(&self, alloc: Global) -> Open
+        ensures { result ≡ record self.now { lines = [] } }
     {
         let mut command = ArrayVec::new();
         let _ = command.try_extend_from_slice(self.command.as_slice());
         Open {
             command,
-            lines,
+            lines: AnswerLines::from(Vec::new(alloc)),
             fresh: self.fresh,
         }
+    }
+
+    /// Becomes the same as another, with none of its lines. The list of its own keeps its memory.
+    fn fork_from(&mut self, other: &Open)
+        ensures { self.new ≡ record other.now { lines = [] } }
+    {
+        self.command.clear();
+        let _ = self.command.try_extend_from_slice(other.command.as_slice());
+        self.lines.clear();
+        self.fresh = other.fresh;
     }
 
     fn copy(&self) -> Result<Open, AllocError>
@@ -107,11 +117,9 @@ impl Open {
 }
 
 /// Tells which lines answer the command under way. Contracts see that command, if there is one.
-/// The lines of a fork have their list in the memory of an earlier fork's.
 #[derive(Drop, Debug)]
 pub struct Window {
     open: Option<Open>,
-    room: AnswerLines,
     alloc: Global,
 }
 
@@ -132,7 +140,6 @@ impl Window {
     {
         Window {
             open: None,
-            room: AnswerLines::from(Vec::new(alloc)),
             alloc,
         }
     }
@@ -202,34 +209,21 @@ impl Window {
         };
         Ok(Window {
             open,
-            room: AnswerLines::from(Vec::new(self.alloc)),
             alloc: self.alloc,
         })
     }
 
-    /// A window of the same command with none of its lines, on which lines can be seen and let go of again.
-    /// `follow` puts the lines so far before its own, and `lead` before those of an answer that was whole on it.
-    pub fn fork(&mut self) -> Window
-        ensures fork { result ≡ forked self.old }
-        ensures same { self.new ≡ self.old }
+    /// The other becomes a window of the same command with none of its lines, on which lines can be seen and let go of
+    /// again; where both have a command, in the memory that the other has. `follow` puts the lines so far before its
+    /// own, and `lead` before those of an answer that was whole on it.
+    pub fn fork_into(&self, fork: &mut Window)
+        ensures { fork.new ≡ forked self.now }
     {
-        let open = match &self.open {
-            Some(open) => Some(open.fork(self.room.take_room())),
-            None => None,
-        };
-        Window {
-            open,
-            room: AnswerLines::from(Vec::new(self.alloc)),
-            alloc: self.alloc,
+        match (&self.open, &mut fork.open) {
+            (Some(open), Some(there)) => there.fork_from(open),
+            (Some(open), None) => fork.open = Some(open.fork(fork.alloc)),
+            (None, _) => fork.drop_command(),
         }
-    }
-
-    /// Takes over the memory that the window before kept for the lines of its forks.
-    pub fn take_room(&mut self, before: &mut Window)
-        ensures same { self.new ≡ self.old }
-        ensures before { before.new ≡ before.old }
-    {
-        mem::swap(&mut self.room, &mut before.room);
     }
 
     /// Moves the lines so far to the front of these. Refused with 4 NoMemory, which leaves both as they were.
@@ -242,7 +236,6 @@ impl Window {
     {
         if let Some(open) = &mut self.open {
             open.lines.lead(lines)?;
-            self.room = open.lines.take_room();
         }
         Ok(())
     }

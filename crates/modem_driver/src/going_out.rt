@@ -84,8 +84,11 @@ impl Core {
         if self.lost {
             return None;
         }
-        self.begin_next();
         givings(&self.station);
+        if !self.station.has_outgoing() {
+            return None;
+        }
+        self.begin_next();
         self.station.next_frame()
     }
 }

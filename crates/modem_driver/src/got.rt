@@ -16,7 +16,7 @@ ghost use Rattle.modem_history.specs.Calls.{first_on};
 ghost use Rattle.modem_history.specs.Requests.{commands_on, without_first};
 ghost use Rattle.modem_driver.specs.Reports.{owner_of};
 ghost use Rattle.modem_driver.specs.Handing.{Offers, OffersLine, EndsCommand, EndedBy, ReadsApart};
-ghost use Rattle.modem_driver.specs.Forks.{forked_lane, joined, joined_acts};
+ghost use Rattle.modem_driver.specs.Forks.{joined, joined_acts};
 ghost use Rattle.at_text.specs.Forks.{lines_so_far};
 ghost use Rattle.modem_driver.specs.Receiving.{HasRoom, cut_to, sent_in, afresh_if, reads_data};
 ghost use Rattle.modem_driver.specs.Holding.{KeepsHeld};
@@ -171,29 +171,21 @@ impl Core {
         Ok(acts.into_vec())
     }
 
-    /// A fork of what is kept of a connection.
-    fn fork(&mut self, dlci: Dlci) -> Lane
-        ensures fork { result ≡ forked_lane (lane_at self.old dlci.number) }
-        ensures same { self.new ≡ self.old }
-    {
-        self.lanes.fork(dlci)
-    }
-
-    /// Reads the information of a frame on a fork of what is kept of its connection. What is said of its lines goes
-    /// into the acts, which has none before.
+    /// Reads the information of a frame on a fork of what is kept of its connection, which the other lane becomes. What is
+    /// said of its lines goes into the acts, which has none before.
     fn read(
         &self,
         frame: FrameView<'_>,
         fork: &mut Lane,
         acts: &mut Vec<Act>,
     ) -> Result<(), CoreError>
-        requires fork { fork.old ≡ forked_lane (lane_at self.now (frame_of frame).dlci) }
         requires none { acts.old.items ≡ [] }
         ensures read { OnOk result (ReadsApart self.now (frame_of frame.entry) fork.new
             (Got (frame_of frame.entry) ∷ map act_of acts.new.items)) }
-        ensures held { fork.new.held ≡ fork.old.held }
+        ensures held { OnOk result (fork.new.held ≡ (lane_at self.now (frame_of frame.entry).dlci).held) }
         ensures no_memory { OnErr result (result ≡ Err CoreError.NoMemory) }
     {
+        self.lanes.fork_into(frame.dlci, fork);
         let reading = Reading {
             alloc: self.alloc,
             dlci: frame.dlci,
@@ -301,7 +293,7 @@ impl Core {
         ensures err { OnErr result (self.new ≡ self.old) }
         ensures n1 { self.new.station.n1 ≡ self.old.station.n1 }
     {
-        let mut fork = self.fork(frame.dlci);
+        let mut fork = Lane::new(self.alloc);
         let mut acts = Vec::new(self.alloc);
         self.read(frame, &mut fork, &mut acts)?;
         acts.insert(0, Act::Got(frame.to_buf(self.alloc)?))?;
@@ -309,8 +301,8 @@ impl Core {
         Ok(acts)
     }
 
-    /// The same without the first act, which is that the frame came.
-    fn follow_data(&mut self, frame: FrameView<'_>) -> Result<Vec<Act>, CoreError>
+    /// The same without the first act, which is that the frame came, by a lane that is there to be its fork.
+    fn follow_data(&mut self, frame: FrameView<'_>, fork: &mut Lane) -> Result<Vec<Act>, CoreError>
         requires short { length frame.info.now ≤ most_info self.old.station.n1 frame.kind }
         requires live { self.old.lost ≡ false }
         requires is_data { reads_data self.old (frame_of frame) ≡ true }
@@ -323,10 +315,9 @@ impl Core {
         ensures err { OnErr result (self.new ≡ self.old) }
         ensures n1 { self.new.station.n1 ≡ self.old.station.n1 }
     {
-        let mut fork = self.fork(frame.dlci);
         let mut acts = Vec::new(self.alloc);
-        self.read(frame, &mut fork, &mut acts)?;
-        self.join_data(frame, &mut fork, &mut acts)?;
+        self.read(frame, fork, &mut acts)?;
+        self.join_data(frame, fork, &mut acts)?;
         Ok(acts)
     }
 
@@ -368,8 +359,9 @@ impl Core {
     }
 
     /// Handles a received frame as `got` does, and gives the acts that follow on its coming: those of `got` without the
-    /// first. So no copy of the frame is made. Its refusals are those of `got`.
-    pub(crate) fn follow(&mut self, frame: FrameView<'_>) -> Result<Vec<Act>, CoreError>
+    /// first. So no copy of the frame is made, and data is read on a lane that is there for it. Its refusals are those of
+    /// `got`.
+    pub(crate) fn follow(&mut self, frame: FrameView<'_>, fork: &mut Lane) -> Result<Vec<Act>, CoreError>
         requires { length frame.info.now ≤ most_info self.old.station.n1 frame.kind }
         ensures past { IfOk result (λ acts. Handles self.old self.new (Got (frame_of frame.entry))
             (Got (frame_of frame.entry) ∷ map act_of acts.items)) }
@@ -389,7 +381,7 @@ impl Core {
             return Ok(Vec::new(self.alloc));
         }
         if self.is_data(frame) {
-            return self.follow_data(frame);
+            return self.follow_data(frame, fork);
         }
         let mut acts = self.got_other(frame)?;
         acts.remove(0);

@@ -63,16 +63,13 @@ fn lead_first(before: &mut Window, acts: &mut Vec<Act>) -> Result<(), TextError>
 }
 
 impl Lane {
-    /// The same, but that the lines of an answer so far aren't on it.
-    pub(crate) fn fork(&mut self) -> Lane
-        ensures fork { result ≡ forked_lane self.old }
-        ensures same { self.new ≡ self.old }
+    /// The other becomes the same, but that the lines of an answer so far aren't on it.
+    pub(crate) fn fork_into(&self, fork: &mut Lane)
+        ensures { fork.new ≡ forked_lane self.now }
     {
-        Lane {
-            reader: self.reader.copy(),
-            window: self.window.fork(),
-            held: self.held,
-        }
+        fork.reader.copy_from(&self.reader);
+        self.window.fork_into(&mut fork.window);
+        fork.held = self.held;
     }
 
     /// Goes on as its fork, behind what came before. Want of memory leaves it as it was.
@@ -88,7 +85,6 @@ impl Lane {
         } else {
             fork.window.follow(&mut self.window)?;
         }
-        fork.window.take_room(&mut self.window);
         mem::swap(self, fork);
         Ok(())
     }

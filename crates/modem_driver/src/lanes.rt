@@ -102,13 +102,11 @@ impl Lanes {
         }
     }
 
-    /// A fork of one.
-    pub(crate) fn fork(&mut self, dlci: Dlci) -> Lane
-        ensures fork { result ≡ forked_lane (lane_in self.old dlci.number) }
-        ensures same { self.new ≡ self.old }
+    /// The other becomes a fork of one.
+    pub(crate) fn fork_into(&self, dlci: Dlci, fork: &mut Lane)
+        ensures { fork.new ≡ forked_lane (lane_in self.now dlci.number) }
     {
-        let lane = &mut self.each[usize::from(dlci.number())];
-        lane.fork()
+        self.each[usize::from(dlci.number())].fork_into(fork);
     }
 
     /// One goes on as its fork, behind what came before. Says whether a command was under way there and

@@ -26,6 +26,7 @@ pub(crate) mod waiting;
 
 use crate::driver::Core;
 use crate::error::CoreError;
+use crate::lane::Lane;
 use crate::machine::course::Course;
 use crate::machine::delays::Delays;
 use crate::machine::waiting::Waiting;
@@ -38,10 +39,12 @@ use std::alloc::Global;
 use std::marker::Model;
 
 /// The core, a request kept aside, the end of the line, what waits for a place at the desk, how far it has
-/// come on the way to its end, and how long commands have waited.
+/// come on the way to its end, and how long commands have waited. Beside them a lane on which data is read: contracts
+/// don't see it, since what is left there is of no use.
 #[derive(Drop)]
 pub(crate) struct Machine {
     pub(crate) core: Core,
+    pub(crate) fork: Lane,
     pub(crate) aside: Option<Request>,
     pub(crate) line_end: LineEnd,
     pub(crate) waiting: Waiting,
@@ -107,6 +110,7 @@ impl Machine {
         let waiting = Waiting::new(alloc)?;
         Ok(Machine {
             core,
+            fork: Lane::new(alloc),
             aside: None,
             line_end,
             waiting,

@@ -74,7 +74,7 @@ fn count_asking(station: &Station) -> usize
     ensures few { result ≤ 62 }
 {
     let mut count = 0;
-    for number in 0..62u8 {
+    for number in 0..Dlci::COUNT as u8 {
         if is_asking(station.state(Dlci { number })) {
             count += 1;
         }

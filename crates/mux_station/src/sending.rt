@@ -1,5 +1,5 @@
 //! What a station gives to the line.
-ghost use Rattle.std.specs.Prelude.{◌≡◌, ◌-◌, ◌≤◌, ◌==◌, List, true, false, drop, length, option_map, slice_get, IfSome};
+ghost use Rattle.std.specs.Prelude.{◌≡◌, ◌-◌, ◌≤◌, ◌==◌, List, true, false, drop, is_some, length, option_map, slice_get, IfSome};
 ghost use Rattle.std.specs.Borrow.{sem};
 ghost use Rattle.std.specs.Io.BufRead.{Rests};
 ghost use Rattle.mux_frame.specs.Frames.{frame_of};
@@ -97,6 +97,14 @@ impl Station {
         } else {
             self.next_control()
         }
+    }
+
+    /// Whether `next_frame` would give a frame.
+    #[tactic(auto, using(crate::proofs::turns::NextData::some_given))]
+    pub fn has_outgoing(&self) -> bool
+        ensures { result ≡ is_some (next_given self.now self.now.queue) }
+    {
+        !self.control.is_empty() || self.next_turn().is_some()
     }
 
     /// The connection whose data `next_frame` would give; `None` where it would give a control frame, or nothing. For a

@@ -1,5 +1,5 @@
 -- What goes out comes to an end.
-use Rattle.std.specs.Prelude.{IfNone, ◌||◌, zero, suc, ◌≡◌, ℕ, ◌+◌, ◌-◌, ◌<◌, ◌≤◌, ◌==◌, ◌&&◌, ◌||◌, not, nat_lt, Bool, true, false, List, [], ◌∷◌, length, drop, Option, Some, None, option_map, refl, if◌then◌else◌}
+use Rattle.std.specs.Prelude.{IfNone, ◌||◌, zero, suc, ◌≡◌, ℕ, ◌+◌, ◌-◌, ◌<◌, ◌≤◌, ◌==◌, ◌&&◌, ◌||◌, not, nat_lt, Bool, true, false, List, [], ◌∷◌, length, drop, Option, Some, None, is_some, option_map, refl, if◌then◌else◌}
 use Rattle.std.specs.List.{sum_by}
 use Rattle.std.proofs.Common.{◌∙◌, ap, sym, subst, arith, get_or}
 use Rattle.std.proofs.lemmas.Bool.{and_parts, eqb-false}
@@ -14,7 +14,7 @@ use Rattle.mux_station.specs.Giving.{is_ready, first_ready, else_first, data_giv
 use Rattle.mux_station.specs.GivenFrames.{Outgoing, with_freshness}
 use Rattle.modem_driver.specs.Cores.{Core}
 use Rattle.modem_driver.specs.Running.{CoreIsIdle}
-use Rattle.modem_driver.specs.CoreGoing.{begun_on, begun_next, gone_on, left_to_go, LeavesLess}
+use Rattle.modem_driver.specs.CoreGoing.{begun_on, begun_next, gone_on, left_to_go, LeavesLess, SendsTruly}
 
 -- the octets that wait in the send rings
 abbrev total : List Channel → ℕ
@@ -128,6 +128,22 @@ no_sender v [] q h = by_turn (giving.next_turn v.station) h
     by_turn : (o : Option ℕ) → option_map (giving.data_frame v.station) o ≡ None → record (begun_on v o) { station = data_given v.station o } ≡ v
     by_turn None e = refl
     by_turn (Some d) e = cc
+
+-- nobody's data is next where no frame is
+pub sends_none : (v : Station) → next_given v v.queue ≡ None → SendsTruly v
+unfolding SendsTruly
+sends_none v h d seen e f = absurd (by_queue v v.queue h d e)
+  where
+    by_turn : (v : Station) (o : Option ℕ) (d : ℕ) → option_map (giving.data_frame v) o ≡ None → o ≡ Some d → ⊥
+    by_turn v None d h e = cc
+    by_turn v (Some x) d h e = cc
+    by_queue : (v : Station) (fs : List Frame) → next_given v fs ≡ None → (d : ℕ) → next_sender v fs ≡ Some d → ⊥
+    by_queue v (f ∷ fs) h d e = cc
+    by_queue v [] h d e = by_turn v (giving.next_turn v) d h e
+
+pub none_given : {X : Type 0} (o : Option X) (b : Bool) → b ≡ is_some o → b ≡ false → o ≡ None
+none_given None b h n = refl
+none_given (Some x) b h n = absurd (let f : true ≡ false = sym h ∙ n in cc)
 
 no_frame : (b : Bool) (o : Option Frame) → option_map (with_freshness b) o ≡ None → o ≡ None
 no_frame b None e = refl

@@ -29,7 +29,7 @@ impl Machine {
             return Err(SessionFault::NoMemory);
         };
         let stop = self.core.stop();
-        match self.core.follow(frame) {
+        match self.core.follow(frame, &mut self.fork) {
             Ok(acts) => {
                 self.course.note(stop, acts.as_slice());
                 self.waiting.keep(acts);

@@ -21,11 +21,12 @@ fn push_all(reader: &mut LineReader, octets: &[u8]) -> usize {
 fn readers<R: Abort + Print>(rt: &R, long: &[u8]) {
     begin(
         rt,
-        "LineReader::new, LineReader::push, LineReader::reset, LineReader::copy",
+        "LineReader::new, LineReader::push, LineReader::reset, LineReader::copy_from",
     );
     let mut reader = LineReader::new();
     assert!(rt; push_all(&mut reader, long) == 0);
-    let mut copy = reader.copy();
+    let mut copy = LineReader::new();
+    copy.copy_from(&reader);
     reader.reset();
     assert!(rt; push_all(&mut reader, b"\rOK\r\nRING\r\n") == 2);
     assert!(rt; push_all(&mut copy, b"\n") == 1);
@@ -46,13 +47,13 @@ fn lines<R: Abort + Print>(rt: &R, long: &[u8]) {
 fn windows<R: Abort + Print>(rt: &R, alloc: Global, line: &CommandLine) {
     begin(
         rt,
-        "Window::new, Window::begin, Window::fork, Window::take_room, Window::drop_command, Window::idle, CommandLine::text",
+        "Window::new, Window::begin, Window::fork_into, Window::drop_command, Window::idle, CommandLine::text",
     );
     let mut window = Window::new(alloc);
+    let mut fork = Window::new(alloc);
     window.begin(line);
-    let mut fork = window.fork();
+    window.fork_into(&mut fork);
     assert!(rt; !fork.idle());
-    fork.take_room(&mut window);
     window.drop_command();
     assert!(rt; window.idle());
     assert!(rt; line.text() == b"AT+CSQ".as_slice());

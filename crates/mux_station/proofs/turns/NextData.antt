@@ -1,6 +1,7 @@
 -- Whose data is next, and how much of it there is.
-use Rattle.std.specs.Prelude.{suc, ◌≡◌, ℕ, ◌+◌, ◌<◌, ◌==◌, true, List, [], ◌∷◌, length, refl, Option, Some, None, IfSome, option_map}
+use Rattle.std.specs.Prelude.{suc, ◌≡◌, ℕ, ◌+◌, ◌<◌, ◌==◌, ◌||◌, not, Bool, true, false, List, [], ◌∷◌, length, refl, Option, Some, None, IfSome, is_some, option_map}
 use Rattle.std.proofs.Common.{◌∙◌, ap, sym, arith, length-append, eqb-true}
+use Rattle.std.proofs.lemmas.Bool.Decides.{nat_tests}
 use Rattle.mux_frame.specs.Frames.{Frame}
 use Rattle.mux_frame.specs.declared.dlci.Dlci.{Dlci}
 use Rattle.mux_station.specs.Acts.{Act}
@@ -11,7 +12,7 @@ use Rattle.mux_station.specs.Offering.{offered, data_out}
 use Rattle.mux_station.specs.Stations.{Station, channel_at}
 use Rattle.mux_station.specs.Fitting.{StationFits}
 use Rattle.mux_station.specs.GivenFrames.{dlci_of}
-use Rattle.mux_station.specs.Giving.{next_turn, next_sender, Waits, SendsNext}
+use Rattle.mux_station.specs.Giving.{data_frame, next_given, next_turn, next_sender, Waits, SendsNext}
 use Rattle.mux_station.proofs.states.StationPasts.{open_fits, stopped_fits}
 use Rattle.mux_station.proofs.turns.FramesGivenOn.{Ready, turn_is_ready, some_long}
 
@@ -22,6 +23,18 @@ sender_alone v (f ∷ fs) h = absurd (none_long (length fs) h)
   where
     none_long : (n : ℕ) → (suc n == 0) ≡ true → ⊥
     none_long n h = let e : suc n ≡ 0 = eqb-true (suc n) 0 h in omega (arith, e)
+
+-- a frame is given on where one waits in the control queue, or data is next
+pub some_given : (v : Station) (fs : List Frame) (o : Option Dlci) → option_map dlci_of o ≡ next_turn v → is_some (next_given v fs) ≡ (not (length fs == 0) || is_some o)
+some_given v (f ∷ fs) o e = ap (λ (b : Bool). not b || is_some o) (sym (no_zero (length fs)))
+  where
+    no_zero : (n : ℕ) → (suc n == 0) ≡ false
+    no_zero n = grind (arith, nat_tests)
+some_given v [] o e = ap (λ (t : Option ℕ). is_some (option_map (data_frame v) t)) (sym e) ∙ same o
+  where
+    same : (o : Option Dlci) → is_some (option_map (data_frame v) (option_map dlci_of o)) ≡ is_some o
+    same None = refl
+    same (Some d) = refl
 
 ring_counted : (v : Station) (past : List Act) (d : ℕ) → StationFits v past → d < 62 → is_open v.role d past ≡ true
     → length (data_out v.role d past) + length (channel_at v d).waiting ≡ length (offered v.role d past)

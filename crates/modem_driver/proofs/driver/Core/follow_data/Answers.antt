@@ -4,47 +4,32 @@ use Rattle.std.specs.Prelude.{map}
 use Rattle.mux_frame.specs.Frames.{frame_of}
 use Rattle.at_text.specs.Forks.{lines_so_far}
 use Rattle.modem_history.specs.Acts.{Act, Got, act_of}
-use Rattle.modem_driver.specs.Lanes.{Lane}
-use Rattle.modem_driver.specs.Forks.{forked_lane, joined_acts}
-use Rattle.modem_driver.specs.Cores.{Core, Handles, lane_at}
+use Rattle.modem_driver.specs.Forks.{joined_acts}
+use Rattle.modem_driver.specs.Cores.{Handles, lane_at}
 use Rattle.modem_driver.specs.Holding.{KeepsHeld}
 use Rattle.modem_driver.proofs.lines.WindowForks.{joined_came}
 use Rattle.modem_driver.proofs.driver.Core.follow_data.Goals as goal
 
-pub read-requires-clause-fork : goal.read-requires-clause-fork
-read-requires-clause-fork c =
-    let f = frame_of c.args.frame in
-    c.fork-fork.ensures.fork ∙ ap (λ (v : Core). forked_lane (lane_at v f.dlci)) (sym c.fork-fork.ensures.same)
-
-pub join_data-requires-clause-held : goal.join_data-requires-clause-held
-join_data-requires-clause-held c =
-    let f = frame_of c.args.frame in
-    c.in_ok-read.ensures.held ∙ (ap (λ (x : Lane). x.held) c.fork-fork.ensures.fork ∙ ap (λ (v : Core). (lane_at v f.dlci).held) (sym c.fork-fork.ensures.same))
-
 pub returns-clause-past : goal.returns-clause-past
 returns-clause-past c =
     let f = frame_of c.args.frame in
-    let v = c.fork-fork.new.self in
+    let v = c.args.self.now in
     let fork = c.read.new.fork in
     let more = map act_of c.read.new.acts.items in
     let ls = lines_so_far (lane_at v f.dlci).window in
     let acts = Got f ∷ map act_of c.join_data.new.acts.items in
     let behind : acts ≡ joined_acts ls fork.window (Got f ∷ more)
     = ap (λ (xs : List Act). Got f ∷ xs) c.in_ok-join_data.ensures.acts ∙ sym (joined_came ls fork.window f more) in
-    let there : Handles v c.join_data.new.self (Got f) acts
-    = subst (λ (xs : List Act). Handles v c.join_data.new.self (Got f) xs) (sym behind) (c.in_ok-join_data.ensures.past (Got f ∷ more) c.in_ok-read.ensures.read) in
-    subst (λ (x : Core). Handles x c.join_data.new.self (Got f) acts) c.fork-fork.ensures.same there
+    subst (λ (xs : List Act). Handles v c.join_data.new.self (Got f) xs) (sym behind) (c.in_ok-join_data.ensures.past (Got f ∷ more) c.in_ok-read.ensures.read)
 
 pub returns-clause-holds : goal.returns-clause-holds
 returns-clause-holds c =
     let f = frame_of c.args.frame in
-    let v = c.fork-fork.new.self in
+    let v = c.args.self.now in
     let fork = c.read.new.fork in
     let more = map act_of c.read.new.acts.items in
     let ls = lines_so_far (lane_at v f.dlci).window in
     let acts = Got f ∷ map act_of c.join_data.new.acts.items in
     let behind : acts ≡ joined_acts ls fork.window (Got f ∷ more)
     = ap (λ (xs : List Act). Got f ∷ xs) c.in_ok-join_data.ensures.acts ∙ sym (joined_came ls fork.window f more) in
-    let there : KeepsHeld v c.join_data.new.self (Got f) acts
-    = subst (λ (xs : List Act). KeepsHeld v c.join_data.new.self (Got f) xs) (sym behind) (c.in_ok-join_data.ensures.holds (Got f ∷ more) c.in_ok-read.ensures.read) in
-    subst (λ (x : Core). KeepsHeld x c.join_data.new.self (Got f) acts) c.fork-fork.ensures.same there
+    subst (λ (xs : List Act). KeepsHeld v c.join_data.new.self (Got f) xs) (sym behind) (c.in_ok-join_data.ensures.holds (Got f ∷ more) c.in_ok-read.ensures.read)

@@ -16,6 +16,13 @@ use Rattle.modem_driver.specs.Reports.{Read, ReadsAll, owner_of}
 use Rattle.modem_driver.proofs.lines.ReportedLines.{reads_apart}
 use Rattle.modem_driver.proofs.driver.Core.read.Goals as goal
 
+pub returns-clause-held : goal.returns-clause-held
+returns-clause-held c =
+    let f = frame_of c.args.frame in
+    let lane : record { kept = c.fork.inside.reader; window = c.fork.inside.window; held = c.fork.inside.held } ≡ forked_lane (lane_at c.args.self.now f.dlci)
+    = c.fork.view_is ∙ (c.fork_into.ensures ∙ ap (λ (v : Core). forked_lane (lane_at v f.dlci)) c.self.view_is) in
+    ap (λ (x : Lane). x.held) lane
+
 pub returns-clause-read : goal.returns-clause-read
 returns-clause-read c =
     let old : Core = c.args.self.now in
@@ -28,7 +35,7 @@ returns-clause-read c =
     let reads : ReadsAll (dialect_of old.rules) c.as_slice-2.result.now reading f.info first last
     = subst (λ (x : Rules). ReadsAll (dialect_of x) c.as_slice-2.result.now reading f.info first last) rules given in
     let lane : record { kept = c.fork.inside.reader; window = c.fork.inside.window; held = c.fork.inside.held } ≡ forked_lane (lane_at old f.dlci)
-    = c.fork.view_is ∙ c.requires.fork in
+    = c.fork.view_is ∙ (c.fork_into.ensures ∙ ap (λ (v : Core). forked_lane (lane_at v f.dlci)) c.self.view_is) in
     let kept : c.fork.inside.reader ≡ (lane_at old f.dlci).kept = ap (λ (x : Lane). x.kept) lane in
     let window : c.fork.inside.window ≡ forked (lane_at old f.dlci).window = ap (λ (x : Lane). x.window) lane in
     let acts : map act_of c.args.acts.now.items ≡ [] = ap (map act_of) c.requires.none in
