@@ -71,6 +71,15 @@ impl LineReader {
         self.has_ended = false;
     }
 
+    /// A copy of the reader.
+    pub fn copy(&self) -> LineReader
+        ensures { result ≡ self.now }
+    {
+        let mut copy = LineReader::new();
+        copy.copy_from(self);
+        copy
+    }
+
     /// Becomes a copy of another reader.
     pub fn copy_from(&mut self, other: &LineReader)
         ensures { self.new ≡ other.now }

@@ -21,11 +21,11 @@ fn push_all(reader: &mut LineReader, octets: &[u8]) -> usize {
 fn readers<R: Abort + Print>(rt: &R, long: &[u8]) {
     begin(
         rt,
-        "LineReader::new, LineReader::push, LineReader::reset, LineReader::copy_from",
+        "LineReader::new, LineReader::push, LineReader::reset, LineReader::copy, LineReader::copy_from",
     );
     let mut reader = LineReader::new();
     assert!(rt; push_all(&mut reader, long) == 0);
-    let mut copy = LineReader::new();
+    let mut copy = reader.copy();
     copy.copy_from(&reader);
     reader.reset();
     assert!(rt; push_all(&mut reader, b"\rOK\r\nRING\r\n") == 2);
