@@ -1,5 +1,5 @@
 //! A driver is made and freed.
-ghost use Rattle.std.specs.Prelude.{◌≡◌, ◌≢◌, ◌<◌, ◌≤◌, ◌⊎◌, ◌↔◌, false, None, IfSome};
+ghost use Rattle.std.specs.Prelude.{◌≡◌, ◌≢◌, ◌<◌, ◌≤◌, ◌⊎◌, ◌↔◌, None, IfSome};
 ghost use Rattle.at_text.specs.Rules.{dialect_of};
 ghost use Rattle.modem_driver.specs.Endpoints.{Begins, BeginsBy, endpoint_by, new_endpoint};
 ghost use Rattle.modem_c.specs.Calls.{Holds, endpoint_of};
@@ -73,7 +73,8 @@ fn make(
     let Ok(kinds) = kinds_of_sets(alloc, kinds, own) else {
         return None;
     };
-    let Ok(endpoint) = Endpoint::with_dialect(alloc, n1.octets, dialect, kinds.as_slice(), first) else {
+    let Ok(endpoint) = Endpoint::with_dialect(alloc, n1.octets, dialect, kinds.as_slice(), first)
+    else {
         return None;
     };
     match Box::new(alloc, endpoint) {
