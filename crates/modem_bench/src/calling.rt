@@ -218,7 +218,7 @@ pub fn open_all<R: Wait>(
 ) -> Result<(), Fault>
     ensures { OnOk result (OpensAll submissions.now 62 caller.old caller.new) }
 {
-    for number in 0..62 {
+    for number in 0..Dlci::COUNT as u8 {
         let Some(dlci) = Dlci::new(number) else {
             unreachable!();
         };

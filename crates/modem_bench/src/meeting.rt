@@ -14,6 +14,7 @@ use crate::signals::Fault;
 use modem_desk::DriverEnd;
 use modem_driver::Session;
 use modem_sim::{Modem, ModemStart, Script, Sim};
+use mux_frame::N1;
 use serial_line::CutLine;
 use std::alloc::Global;
 use std::sync::Wait;
@@ -41,17 +42,17 @@ fn near_end<R: Wait + Drop>(
     rt: R,
     alloc: Global,
     driver: DriverEnd,
-    n1: u16,
+    n1: N1,
     room: usize,
 ) -> Result<Session<CutLine, R>, Fault>
     ensures memory { IsOkUnless result Fault.NoMemory }
     ensures begins { IfOk result (λ s.
-        FitsAll (beginning_of n1 (look_in (new_line [] [] [] room)) driver) look_in s []) }
+        FitsAll (beginning_of n1.octets (look_in (new_line [] [] [] room)) driver) look_in s []) }
     ensures line { IfOk result (λ s. s.line ≡ new_line [] [] [] room) }
     ensures driver { IfOk result (λ s. s.driver ≡ driver) }
 {
     let line = make_line(alloc, room)?;
-    match Session::new(rt, alloc, line, driver, n1) {
+    match Session::new(rt, alloc, line, driver, n1.octets) {
         Ok(session) => Ok(session),
         Err(_) => Err(Fault::NoMemory),
     }
@@ -62,17 +63,17 @@ fn far_end(
     alloc: Global,
     start: ModemStart,
     script: Script,
-    n1: u16,
+    n1: N1,
     room: usize,
 ) -> Result<Sim<CutLine>, Fault>
     ensures memory { IsOkUnless result Fault.NoMemory }
     ensures is_start { IsStart start }
     ensures begins { IfOk result (λ m.
-        FitsSim sight_in.received sight_in.sent at_nothing (end_of n1 (started start) script) m []) }
+        FitsSim sight_in.received sight_in.sent at_nothing (end_of n1.octets (started start) script) m []) }
     ensures line { IfOk result (λ m. m.line ≡ new_line [] [] [] room) }
 {
     let line = make_line(alloc, room)?;
-    match Sim::new(alloc, line, Modem::new(alloc, start), script, n1) {
+    match Sim::new(alloc, line, Modem::new(alloc, start), script, n1.octets) {
         Ok(sim) => Ok(sim),
         Err(_) => Err(Fault::NoMemory),
     }
@@ -96,6 +97,7 @@ pub fn meet<R: Wait + Drop>(
         AreOnOneLine (beginning_of n1 (look_in (new_line [] [] [] room)) driver) at_nothing
         (end_of n1 (started start) script) [] (pair m.session m.sim)) }
 {
+    let n1 = N1 { octets: n1 };
     let session = near_end(rt, alloc, driver, n1, room)?;
     let (sim, session) = beside(far_end(alloc, start, script, n1, room), session)?;
     Ok(Meeting { session, sim })

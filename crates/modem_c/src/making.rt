@@ -1,5 +1,5 @@
 //! A driver is made and freed.
-ghost use Rattle.std.specs.Prelude.{◌≡◌, ◌≢◌, ◌<◌, ◌≤◌, ◌⊎◌, ◌↔◌, false, None, IfSome};
+ghost use Rattle.std.specs.Prelude.{◌≡◌, ◌≢◌, ◌<◌, ◌≤◌, ◌⊎◌, ◌↔◌, None, IfSome};
 ghost use Rattle.at_text.specs.Rules.{dialect_of};
 ghost use Rattle.modem_driver.specs.Endpoints.{Begins, BeginsBy, endpoint_by, new_endpoint};
 ghost use Rattle.modem_c.specs.Calls.{Holds, endpoint_of};
@@ -12,14 +12,8 @@ use crate::kinds::{kinds_in, kinds_of_sets};
 use crate::numbers::{BAD_KINDS, BAD_N1, HAS_DRIVER, NO_DIALECT, NO_MEMORY, OK};
 use at_text::Dialect;
 use modem_driver::{Endpoint, SessionError};
+use mux_frame::N1;
 use std::alloc::Global;
-
-/// Whether it is an N1, 31 to 32767.
-fn is_n1(n1: u16) -> bool
-    ensures { (result ≡ false) ↔ ((n1 < 31) ⊎ (32767 < n1)) }
-{
-    (31..=32767).contains(&n1)
-}
 
 /// Makes a driver where there is none.
 #[unsafe(no_mangle)]
@@ -46,13 +40,13 @@ pub extern "C" fn cimbaloty_new(
     if kinds > 127 {
         return BAD_KINDS;
     }
-    if !is_n1(n1) {
+    let Some(n1) = N1::new(n1) else {
         return BAD_N1;
-    }
+    };
     let Ok(kinds) = kinds_in(alloc, kinds) else {
         return NO_MEMORY;
     };
-    match Endpoint::new(alloc, n1, kinds.as_slice(), first) {
+    match Endpoint::new(alloc, n1.octets, kinds.as_slice(), first) {
         Ok(endpoint) => match Box::new(alloc, endpoint) {
             Ok(endpoint) => {
                 *c = Cimbaloty::of(endpoint);
@@ -64,23 +58,23 @@ pub extern "C" fn cimbaloty_new(
     }
 }
 
-/// An endpoint at a modem of this dialect, which listens to the kinds of both sets. The condition is that N1 is one.
+/// An endpoint at a modem of this dialect, which listens to the kinds of both sets.
 fn make(
     alloc: Global,
     dialect: &Dialect,
-    n1: u16,
+    n1: N1,
     kinds: u8,
     own: u64,
     first: u64,
 ) -> Option<Box<Endpoint>>
-    requires { (31 ≤ n1) × (n1 ≤ 32767) }
-    ensures made { IfSome result (λ b. b.value ≡ endpoint_by dialect.now n1 (kinds_of_sets kinds own) first) }
-    ensures begins { IfSome result (λ b. BeginsBy (dialect_of dialect.now) n1 (kinds_of_sets kinds own) b.value) }
+    ensures made { IfSome result (λ b. b.value ≡ endpoint_by dialect.now n1.octets (kinds_of_sets kinds own) first) }
+    ensures begins { IfSome result (λ b. BeginsBy (dialect_of dialect.now) n1.octets (kinds_of_sets kinds own) b.value) }
 {
     let Ok(kinds) = kinds_of_sets(alloc, kinds, own) else {
         return None;
     };
-    let Ok(endpoint) = Endpoint::with_dialect(alloc, n1, dialect, kinds.as_slice(), first) else {
+    let Ok(endpoint) = Endpoint::with_dialect(alloc, n1.octets, dialect, kinds.as_slice(), first)
+    else {
         return None;
     };
     match Box::new(alloc, endpoint) {
@@ -121,9 +115,9 @@ pub extern "C" fn cimbaloty_new_with_dialect(
     if kinds > 127 {
         return BAD_KINDS;
     }
-    if !is_n1(n1) {
+    let Some(n1) = N1::new(n1) else {
         return BAD_N1;
-    }
+    };
     let Some(dialect) = d.take(alloc) else {
         return NO_DIALECT;
     };

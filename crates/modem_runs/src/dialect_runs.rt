@@ -16,7 +16,6 @@ ghost use Rattle.modem_runs.specs.declared.stop.DialectFault.{DialectFault};
 ghost use Rattle.modem_runs.specs.declared.stop.Stop.TheVariants as Stop;
 
 use crate::input::read_whole;
-use crate::runs::takes_n1;
 use crate::script::read_script;
 use crate::stop::{DialectFault, Stop};
 use crate::texts::acts_text_by;
@@ -24,6 +23,7 @@ use crate::writing::{finish, give_up};
 use at_text::Dialect;
 use modem_driver::{Act, CoreError, Event, replay_with_dialect};
 use modem_texts::read_dialect;
+use mux_frame::N1;
 use std::alloc::{AllocError, Global};
 use std::io::{Read, Write};
 
@@ -47,15 +47,14 @@ pub fn dialect_from<R: Read>(alloc: Global, input: &mut R) -> Result<Dialect, St
 /// What events come to.
 fn acts_by(
     alloc: Global,
-    n1: u16,
+    n1: N1,
     dialect: &Dialect,
     events: &[Event],
 ) -> Result<Vec<Act>, AllocError>
-    requires { (31 ≤ n1) × (n1 ≤ 32767) }
     ensures { IfOk result (λ acts. UsesOnce (requests events.now)
-        → ReplaysBy dialect.now n1 events.now (map act_of acts.items)) }
+        → ReplaysBy dialect.now n1.octets events.now (map act_of acts.items)) }
 {
-    match replay_with_dialect(alloc, n1, dialect, events) {
+    match replay_with_dialect(alloc, n1.octets, dialect, events) {
         Ok(acts) => Ok(acts),
         Err(CoreError::NoMemory) => Err(AllocError),
         Err(CoreError::BadN1 | CoreError::NoRoom) => unreachable!(),
@@ -66,12 +65,11 @@ fn acts_by(
 fn replayed_by<R: Read>(
     alloc: Global,
     input: &mut R,
-    n1: u16,
+    n1: N1,
     dialect: &Dialect,
 ) -> Result<String, Stop>
-    requires { (31 ≤ n1) × (n1 ≤ 32767) }
     ensures ok { IfOk result (λ text. IfSome (R.remaining input.old)
-        (λ all. IsReplayedBy dialect.now n1 all (string_bytes text))) }
+        (λ all. IsReplayedBy dialect.now n1.octets all (string_bytes text))) }
     ensures bad_line { (place : ℕ) → IsErrOf result (Stop.BadLine place)
         → IfSome (R.remaining input.old) (λ text. IsFirstBad IsNoOrder (input_lines text) place) }
     ensures others { (result ≢ Err Stop.BadN1) × (result ≢ Err Stop.BadCallers) × (result ≢ Err Stop.BadCut)
@@ -111,9 +109,9 @@ pub fn replay_with_dialect_run<R: Read, W: Write, E: Write>(
     ensures bad_n1 { (n1 < 31) ⊎ (32767 < n1) → (result ≡ 2) × (input.new ≡ input.old) }
     ensures silent { result ≡ 0 → faults.new ≡ faults.old }
 {
-    if !takes_n1(n1) {
+    let Some(n1) = N1::new(n1) else {
         return give_up(faults, Stop::BadN1);
-    }
+    };
     let built = replayed_by(alloc, input, n1, dialect);
     finish(output, faults, built)
 }

@@ -1,10 +1,10 @@
 //! Octets are read as frames.
-ghost use Rattle.std.specs.Prelude.{◌≡◌, ◌≢◌, ◌<◌, ◌↔◌, ◌⊎◌, ◌++◌, None, Some, Ok, Err, map, IfOk, OnOk, IsErrOf};
+ghost use Rattle.std.specs.Prelude.{◌≡◌, ◌++◌, None, Some, Ok, Err, map, IfOk, OnOk, OnErr};
 ghost use Rattle.mux_frame.specs.Frames.{kept_frame};
 ghost use Rattle.mux_frame.specs.Reading.{Reads};
 ghost use Rattle.modem_runs.specs.Framing.{HandsAll};
 
-use mux_frame::{Deframer, FrameBuf, FrameError};
+use mux_frame::{Deframer, FrameBuf, FrameError, N1};
 use std::alloc::{AllocError, Global};
 
 /// Takes the frames out that are at hand.
@@ -25,19 +25,17 @@ fn take_frames(
     Ok(())
 }
 
-/// The frames that octets are read as, and the octets of the rest. Refusals: BadN1 where N1 isn't 31 to 32767,
-/// checked first; NoMemory.
+/// The frames that octets are read as, and the octets of the rest. Refusal: NoMemory.
 #[tactic(auto, using(crate::proofs::inputs::ReadFrames::taken_none, crate::proofs::inputs::ReadFrames::taken_more, crate::proofs::inputs::ReadFrames::read_all))]
 pub fn read_frames(
     alloc: Global,
-    n1: u16,
+    n1: N1,
     octets: &[u8],
 ) -> Result<(Vec<FrameBuf>, Vec<u8>), FrameError>
-    ensures ok { IfOk result (λ read. Reads n1 octets.now (map kept_frame read.0.items) read.1.items) }
-    ensures bad_n1 { IsErrOf result FrameError.BadN1 ↔ ((n1 < 31) ⊎ (32767 < n1)) }
-    ensures others { result ≢ Err FrameError.TooLong }
+    ensures ok { IfOk result (λ read. Reads n1.octets octets.now (map kept_frame read.0.items) read.1.items) }
+    ensures no_memory { OnErr result (result ≡ Err FrameError.NoMemory) }
 {
-    let mut deframer = Deframer::new(alloc, n1)?;
+    let mut deframer = Deframer::new(alloc, n1.octets)?;
     let mut frames = Vec::new(alloc);
     let mut left = octets;
     while !left.is_empty() {

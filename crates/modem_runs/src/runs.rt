@@ -23,25 +23,16 @@ use crate::stop::Stop;
 use crate::texts::{acts_text, frames_text};
 use crate::writing::{finish, give_up};
 use modem_driver::{Act, CoreError, Event, replay};
-use mux_frame::{FrameBuf, FrameError};
+use mux_frame::{FrameBuf, FrameError, N1};
 use std::alloc::{AllocError, Global};
 use std::io::{Read, Write};
 
-/// Whether frames may have so many octets of information.
-pub(crate) fn takes_n1(n1: u16) -> bool
-    ensures good { result ≡ true → (31 ≤ n1) × (n1 ≤ 32767) }
-    ensures bad { result ≡ false → (n1 < 31) ⊎ (32767 < n1) }
-{
-    (31..=32767).contains(&n1)
-}
-
 /// What events come to.
-fn acts_of(alloc: Global, n1: u16, events: &[Event]) -> Result<Vec<Act>, AllocError>
-    requires { (31 ≤ n1) × (n1 ≤ 32767) }
+fn acts_of(alloc: Global, n1: N1, events: &[Event]) -> Result<Vec<Act>, AllocError>
     ensures { IfOk result
-        (λ acts. UsesOnce (requests events.now) → Replays n1 events.now (map act_of acts.items)) }
+        (λ acts. UsesOnce (requests events.now) → Replays n1.octets events.now (map act_of acts.items)) }
 {
-    match replay(alloc, n1, events) {
+    match replay(alloc, n1.octets, events) {
         Ok(acts) => Ok(acts),
         Err(CoreError::NoMemory) => Err(AllocError),
         Err(CoreError::BadN1 | CoreError::NoRoom) => unreachable!(),
@@ -49,9 +40,8 @@ fn acts_of(alloc: Global, n1: u16, events: &[Event]) -> Result<Vec<Act>, AllocEr
 }
 
 /// What octets are read as: frames, and the octets of the rest.
-fn frames_of(alloc: Global, n1: u16, octets: &[u8]) -> Result<(Vec<FrameBuf>, Vec<u8>), AllocError>
-    requires { (31 ≤ n1) × (n1 ≤ 32767) }
-    ensures { IfOk result (λ read. Reads n1 octets.now (map kept_frame read.0.items) read.1.items) }
+fn frames_of(alloc: Global, n1: N1, octets: &[u8]) -> Result<(Vec<FrameBuf>, Vec<u8>), AllocError>
+    ensures { IfOk result (λ read. Reads n1.octets octets.now (map kept_frame read.0.items) read.1.items) }
 {
     match read_frames(alloc, n1, octets) {
         Ok(read) => Ok(read),
@@ -61,10 +51,9 @@ fn frames_of(alloc: Global, n1: u16, octets: &[u8]) -> Result<(Vec<FrameBuf>, Ve
 }
 
 /// The acts that a script comes to, as text.
-fn replayed<R: Read>(alloc: Global, input: &mut R, n1: u16) -> Result<String, Stop>
-    requires { (31 ≤ n1) × (n1 ≤ 32767) }
+fn replayed<R: Read>(alloc: Global, input: &mut R, n1: N1) -> Result<String, Stop>
     ensures ok { IfOk result
-        (λ text. IfSome (R.remaining input.old) (λ all. IsReplayed n1 all (string_bytes text))) }
+        (λ text. IfSome (R.remaining input.old) (λ all. IsReplayed n1.octets all (string_bytes text))) }
     ensures bad_line { (place : ℕ) → IsErrOf result (Stop.BadLine place)
         → IfSome (R.remaining input.old) (λ text. IsFirstBad IsNoOrder (input_lines text) place) }
     ensures others { (result ≢ Err Stop.BadN1) × (result ≢ Err Stop.BadCallers) × (result ≢ Err Stop.BadCut)
@@ -80,10 +69,9 @@ fn replayed<R: Read>(alloc: Global, input: &mut R, n1: u16) -> Result<String, St
 }
 
 /// The frames that octets are read as, and the rest, as text.
-fn framed<R: Read>(alloc: Global, input: &mut R, n1: u16) -> Result<String, Stop>
-    requires { (31 ≤ n1) × (n1 ≤ 32767) }
+fn framed<R: Read>(alloc: Global, input: &mut R, n1: N1) -> Result<String, Stop>
     ensures ok { IfOk result
-        (λ text. IfSome (R.remaining input.old) (λ all. IsFramed n1 all (string_bytes text))) }
+        (λ text. IfSome (R.remaining input.old) (λ all. IsFramed n1.octets all (string_bytes text))) }
     ensures bad_line { (place : ℕ) → IsErrOf result (Stop.BadLine place)
         → IfSome (R.remaining input.old) (λ text. IsFirstBad IsNoDump (input_lines text) place) }
     ensures others { (result ≢ Err Stop.BadN1) × (result ≢ Err Stop.BadCallers) × (result ≢ Err Stop.BadCut)
@@ -123,9 +111,9 @@ pub fn replay_run<R: Read, W: Write, E: Write>(
     ensures bad_n1 { (n1 < 31) ⊎ (32767 < n1) → (result ≡ 2) × (input.new ≡ input.old) }
     ensures silent { result ≡ 0 → faults.new ≡ faults.old }
 {
-    if !takes_n1(n1) {
+    let Some(n1) = N1::new(n1) else {
         return give_up(faults, Stop::BadN1);
-    }
+    };
     let built = replayed(alloc, input, n1);
     finish(output, faults, built)
 }
@@ -154,9 +142,9 @@ pub fn frames_run<R: Read, W: Write, E: Write>(
     ensures bad_n1 { (n1 < 31) ⊎ (32767 < n1) → (result ≡ 2) × (input.new ≡ input.old) }
     ensures silent { result ≡ 0 → faults.new ≡ faults.old }
 {
-    if !takes_n1(n1) {
+    let Some(n1) = N1::new(n1) else {
         return give_up(faults, Stop::BadN1);
-    }
+    };
     let built = framed(alloc, input, n1);
     finish(output, faults, built)
 }

@@ -146,4 +146,4 @@ answered s (Some all) x y whole = whole_by s all whole.rest x y whole.last whole
 pub served_whole : (setup : Setup) (m : ModemState) (mode : Mode) (input x y : Option (List ℕ)) → IsAtLines setup m mode → ((n : ModemState) → Stands (setting_by setup n) [] [] mode → ServedWhole Stands (setting_by setup n) input x y) → IsAnswered (setting_by setup m) input x y
 served_whole setup m mode input x y is serves =
     answered (setting_by setup m) input x y
-    (serves m (subst (λ (o : Mode). Stands (setting_by setup m) [] [] o) (sym is) (begun_at (setting_by setup m) (plain_begun setup.n1 m) refl)))
+    (serves m (subst (λ (o : Mode). Stands (setting_by setup m) [] [] o) (sym is) (begun_at (setting_by setup m) (plain_begun setup.n1.octets m) refl)))

@@ -79,7 +79,7 @@ pub watched_client : {V : Type 0} (Sees : V → V → Direction → List ℕ →
     → IsWatched Sees (setting_by setup m) input x y first watcher
 watched_client Sees setup m mode input x y first watcher is serves =
     is_watched Sees (setting_by setup m) input x y first watcher
-    (serves m (subst (λ (o : Mode). Stands (setting_by setup m) [] [] o) (sym is) (begun_at (setting_by setup m) (plain_begun setup.n1 m) refl)))
+    (serves m (subst (λ (o : Mode). Stands (setting_by setup m) [] [] o) (sym is) (begun_at (setting_by setup m) (plain_begun setup.n1.octets m) refl)))
 
 -- ## A capture
 

@@ -65,7 +65,7 @@ StepsOn s old new octets before out = StepsBy Stands s old new octets before out
 
 -- the setting of a modem that was handed in so
 abbrev pub setting_by : Setup → ModemState → Setting
-setting_by setup m = record { n1 = setup.n1; steps = setup.steps; modem = m }
+setting_by setup m = record { n1 = setup.n1.octets; steps = setup.steps; modem = m }
 
 -- the multiplexer begins
 pub data IsEntered (setup : Setup) (m : ModemState) (n1 : ℕ) : Mode → Type 0 where
@@ -88,4 +88,4 @@ pub record ServedWhole {X : Type 0} (Holds : Setting → (came went : List ℕ) 
 
 -- at plain lines, to which nothing came
 abbrev pub IsAtLines : Setup → ModemState → Mode → Type 0
-IsAtLines setup m mode = mode ≡ Lines (plain_begun setup.n1 m)
+IsAtLines setup m mode = mode ≡ Lines (plain_begun setup.n1.octets m)

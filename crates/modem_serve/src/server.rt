@@ -11,6 +11,7 @@ use crate::mux::{begun, feed, piece_of};
 use crate::plain::PlainMode;
 use crate::steps::copied;
 use modem_sim::{Modem, Script, Sim, Steps};
+use mux_frame::N1;
 use std::alloc::Global;
 
 /// How it stands.
@@ -39,7 +40,7 @@ pub(crate) trait Answering: Drop {
 #[derive(Drop)]
 pub(crate) struct Setup {
     pub(crate) alloc: Global,
-    pub(crate) n1: u16,
+    pub(crate) n1: N1,
     pub(crate) steps: Steps,
 }
 
@@ -90,7 +91,7 @@ fn take_piece(
         return Ok((Mode::Mux(mux), piece.len()));
     }
     let (_line, modem) = mux.finish();
-    let lines = PlainMode::new(setup.alloc, setup.n1, modem);
+    let lines = PlainMode::new(setup.alloc, setup.n1.octets, modem);
     Ok((Mode::Lines(lines), piece.len()))
 }
 

@@ -16,6 +16,7 @@ use crate::watching::{Nobody, Recorder, Watcher};
 use at_cmds::Pin;
 use modem_sim::{Modem, ModemStart, Steps};
 use mux_capture::{Capture, Direction};
+use mux_frame::N1;
 use std::alloc::Global;
 use std::io::{ErrorKind, Read, Write};
 use std::rt::Clock;
@@ -99,7 +100,7 @@ fn serve<M: Answering, V: Watcher, I: Read, W: Write>(
 fn at_lines(setup: &Setup, modem: Modem) -> Mode
     ensures { IsAtLines setup.now modem result }
 {
-    Mode::Lines(PlainMode::new(setup.alloc, setup.n1, modem))
+    Mode::Lines(PlainMode::new(setup.alloc, setup.n1.octets, modem))
 }
 
 /// The same, from plain lines on.
@@ -168,9 +169,9 @@ fn begin(alloc: Global, options: SimOptions) -> Result<(Setup, Modem), BadOption
         echo,
         steps,
     } = options;
-    if !(31..=32767).contains(&n1) {
+    let Some(n1) = N1::new(n1) else {
         return Err(BadOption::N1);
-    }
+    };
     if has_bad_pin(&pin) {
         return Err(BadOption::Pin);
     }

@@ -5,7 +5,7 @@ use Rattle.modem_runs.specs.Framing.{AreTaken}
 use Rattle.modem_runs.proofs.framing.read_frames.Given as goal
 
 abbrev pub invariant-loop-left : goal.invariant-loop-left
-invariant-loop-left l = AreTaken l.n1 l.octets l.left (map kept_frame l.frames.items) l.deframer
+invariant-loop-left l = AreTaken l.fn.n1.octets l.octets l.left (map kept_frame l.frames.items) l.deframer
 
 abbrev pub decreases-loop-left : goal.decreases-loop-left
 decreases-loop-left l = length l.left

@@ -7,7 +7,7 @@ use Rattle.modem_runs.proofs.runs.framed.Goals as goal
 
 pub returns-clause-ok : goal.returns-clause-ok
 returns-clause-ok g c =
-    at_known (λ all. IsFramed c.args.n1 all (string_bytes c.in_ok-text.text)) (g.R.Read.remaining c.args.input.now) c.in_ok-dump.dump.items c.as_slice.result.now
+    at_known (λ all. IsFramed c.args.n1.octets all (string_bytes c.in_ok-text.text)) (g.R.Read.remaining c.args.input.now) c.in_ok-dump.dump.items c.as_slice.result.now
     c.in_ok-dump.ensures.whole c.as_slice.ensures.value (record {
       octets = c.in_ok-octets.octets.items;
       frames = map kept_frame c.in_ok-frames.frames.items;

@@ -9,7 +9,7 @@ use Rattle.modem_runs.proofs.runs.replayed.Goals as goal
 
 pub returns-clause-ok : goal.returns-clause-ok
 returns-clause-ok g c =
-    at_known (λ all. IsReplayed c.args.n1 all (string_bytes c.in_ok-text.text)) (g.R.Read.remaining c.args.input.now) c.in_ok-script.script.items c.as_slice.result.now
+    at_known (λ all. IsReplayed c.args.n1.octets all (string_bytes c.in_ok-text.text)) (g.R.Read.remaining c.args.input.now) c.in_ok-script.script.items c.as_slice.result.now
     c.in_ok-script.ensures.whole c.as_slice.ensures.value (record {
       events = c.in_ok-events.events.items;
       acts = map act_of c.in_ok-acts.acts.items;

@@ -14,4 +14,4 @@ pub returns-clause-steps : goal.returns-clause-steps
 returns-clause-steps c = λ m.
     subst (λ (l : List ℕ). StepsOn (setting_by c.args.setup.now m) (Mux c.args.sim) (Lines c.new-lines.result) l c.args.out.now.items c.feed.new.out.items) c.piece_of-piece.ensures.front
     (ends_in (setting_by c.args.setup.now m) c.args.sim c.feed.new.sim c.new-lines.result c.piece_of-piece.result.now c.args.out.now.items c.feed.new.out.items c.in_ok-feed.field-0 c.if-not-branch.false c.piece_of-piece.ensures.piece
-    (c.new-lines.ensures ∙ ap (plain_begun c.args.setup.now.n1) c.finish-line.ensures.1) c.in_ok-feed.ensures)
+    (c.new-lines.ensures ∙ ap (plain_begun c.args.setup.now.n1.octets) c.finish-line.ensures.1) c.in_ok-feed.ensures)
