@@ -361,7 +361,11 @@ impl Core {
     /// Handles a received frame as `got` does, and gives the acts that follow on its coming: those of `got` without the
     /// first. So no copy of the frame is made, and data is read on a lane that is there for it. Its refusals are those of
     /// `got`.
-    pub(crate) fn follow(&mut self, frame: FrameView<'_>, fork: &mut Lane) -> Result<Vec<Act>, CoreError>
+    pub(crate) fn follow(
+        &mut self,
+        frame: FrameView<'_>,
+        fork: &mut Lane,
+    ) -> Result<Vec<Act>, CoreError>
         requires { length frame.info.now ≤ most_info self.old.station.n1 frame.kind }
         ensures past { IfOk result (λ acts. Handles self.old self.new (Got (frame_of frame.entry))
             (Got (frame_of frame.entry) ∷ map act_of acts.items)) }

@@ -85,7 +85,9 @@ impl Lane {
         } else {
             fork.window.follow(&mut self.window)?;
         }
-        mem::swap(self, fork);
+        self.reader.copy_from(&fork.reader);
+        mem::swap(&mut self.window, &mut fork.window);
+        self.held = fork.held;
         Ok(())
     }
 }

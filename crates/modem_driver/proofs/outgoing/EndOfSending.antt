@@ -137,6 +137,7 @@ sends_none v h d seen e f = absurd (by_queue v v.queue h d e)
     by_turn : (v : Station) (o : Option ℕ) (d : ℕ) → option_map (giving.data_frame v) o ≡ None → o ≡ Some d → ⊥
     by_turn v None d h e = cc
     by_turn v (Some x) d h e = cc
+
     by_queue : (v : Station) (fs : List Frame) → next_given v fs ≡ None → (d : ℕ) → next_sender v fs ≡ Some d → ⊥
     by_queue v (f ∷ fs) h d e = cc
     by_queue v [] h d e = by_turn v (giving.next_turn v) d h e

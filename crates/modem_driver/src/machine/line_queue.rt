@@ -56,11 +56,15 @@ fn lower(counts: &mut [usize], place: usize)
     counts[place] = counts[place].saturating_sub(1);
 }
 
-/// Whether each of these is below 256.
+/// Whether each of these is below 256: then so are all of their bits together.
 fn are_few(counts: &[usize]) -> bool
     ensures { result ≡ list_all (λ c. nat_lt c 256) counts.now }
 {
-    counts.iter().all(|count| *count < MANY)
+    let mut bits = 0;
+    for count in counts {
+        bits |= *count;
+    }
+    bits < MANY
 }
 
 impl LineQueue {

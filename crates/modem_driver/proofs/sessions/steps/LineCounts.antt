@@ -1,13 +1,16 @@
 -- Lines that come and go are counted.
 use Rattle.std.proofs.Common.{ap, sym, ◌∙◌, subst, arith, inl, inr, take-append-drop}
 use Rattle.std.proofs.lemmas.Bool.{cases_eq, eq-eqb, ne_eqb, ltb-true}
+use Rattle.std.proofs.lemmas.Bool.Decides.{nat_tests}
+use Rattle.std.proofs.lemmas.Nat.{le_or_l, le_or_r, or_lt}
 use Rattle.std.proofs.lemmas.List.{get_or-set_same, get_or-set_other, get_or-replicate, length-set, length-append, length-replicate, length-take-le}
 use Rattle.std.proofs.lemmas.List.Elements.{filter-append}
 use Rattle.std.proofs.lemmas.List.Filters.{length-filter_both}
 use Rattle.std.proofs.lemmas.List.Folds.{list_all_at}
 use Rattle.std.proofs.Math.Numerals.{add-one}
 use Rattle.std.proofs.Math.Seq.{take-suc, take-length}
-use Rattle.std.specs.Prelude.{◌≡◌, ◌≢◌, ◌⊎◌, ℕ, suc, ◌+◌, ◌-◌, ◌<◌, ◌≤◌, ◌==◌, Bool, true, false, nat_lt, List, [], ◌∷◌, ◌++◌, length, take, drop, filter, slice_index_or, slice_set, refl, replicate, not, if◌then◌else◌}
+use Rattle.std.specs.Prelude.{◌≡◌, ◌≢◌, ◌⊎◌, ℕ, suc, ◌+◌, ◌-◌, ◌<◌, ◌≤◌, ◌==◌, ◌&&◌, Bool, true, false, nat_lt, List, [], ◌∷◌, ◌++◌, length, take, drop, filter, slice_index_or, slice_set, refl, replicate, not, if◌then◌else◌}
+use Rattle.std.specs.Int.Bits.{bit_or}
 use Rattle.std.specs.List.{list_all}
 use Rattle.modem_desk.specs.declared.request.Urc.{Urc}
 use Rattle.at_text.specs.Kinds.{kind_place}
@@ -93,6 +96,36 @@ few_by_counts channels kinds lines are all d b =
       where
         false_true : false ≡ true → ⊥
         false_true h = cc
+
+-- two are below 256 where their bits together are
+few_both : (a b : ℕ) → nat_lt (bit_or a b) 256 ≡ (nat_lt a 256 && nat_lt b 256)
+few_both a b = by_tests (nat_lt a 256) refl (nat_lt b 256) refl
+  where
+    by_tests : (x : Bool) → nat_lt a 256 ≡ x → (y : Bool) → nat_lt b 256 ≡ y → nat_lt (bit_or a b) 256 ≡ (x && y)
+    by_tests true e true f = let less = or_lt 8 a b (ltb-true a 256 e) (ltb-true b 256 f) in grind (arith, nat_tests, less)
+    by_tests true e false f = let more = le_or_r a b in grind (arith, nat_tests, more)
+    by_tests false e y f = let more = le_or_l a b in grind (arith, nat_tests, more)
+
+-- those so far by their bits, and the others
+abbrev pub FewSoFar : (bits : ℕ) → (left all : List ℕ) → Type 0
+FewSoFar bits left all = (nat_lt bits 256 && list_all (λ (c : ℕ). nat_lt c 256) left) ≡ list_all (λ (c : ℕ). nat_lt c 256) all
+
+pub few_further : (bits c : ℕ) (left rest all : List ℕ) → left ≡ c ∷ rest → FewSoFar bits left all → FewSoFar (bit_or bits c) rest all
+few_further bits c left rest all split so_far =
+    ap (λ (x : Bool). x && list_all (λ (n : ℕ). nat_lt n 256) rest) (few_both bits c)
+    ∙ (and_assoc (nat_lt bits 256) (nat_lt c 256) (list_all (λ (n : ℕ). nat_lt n 256) rest)
+    ∙ subst (λ (ns : List ℕ). FewSoFar bits ns all) split so_far)
+  where
+    and_assoc : (x y z : Bool) → ((x && y) && z) ≡ (x && (y && z))
+    and_assoc true y z = refl
+    and_assoc false y z = refl
+
+pub few_last : (bits : ℕ) (left all : List ℕ) → left ≡ [] → FewSoFar bits left all → nat_lt bits 256 ≡ list_all (λ (c : ℕ). nat_lt c 256) all
+few_last bits left all none so_far = sym (and_true (nat_lt bits 256)) ∙ subst (λ (ns : List ℕ). FewSoFar bits ns all) none so_far
+  where
+    and_true : (x : Bool) → (x && true) ≡ x
+    and_true true = refl
+    and_true false = refl
 
 -- ## One fewer
 
