@@ -87,7 +87,7 @@ joins_carried cut p b at e line j = record {
       went = j.far.went;
       received_is = j.far.received_is;
       sent_is = j.far.sent_is;
-      kept_fits = j.far.kept_fits;
+      machine_fits = j.far.machine_fits;
     };
   };
 }

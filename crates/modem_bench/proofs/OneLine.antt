@@ -114,7 +114,7 @@ behind_read received waiting sent moved e =
     sym (append_assoc received waiting (drop moved sent))
     ∙ (ap (λ (xs : List ℕ). xs ++ drop moved sent) e ∙ take-append-drop moved sent)
 
-pub near_goes : (old new : SessionState CutState) (far : SimState CutState) → SessionGoesOn look_in old new → TakesMore old.driver new.driver → other_side_of new.line ≡ other_side_of old.line → AreOctets far.line.sent → AreOctets far.kept.out
+pub near_goes : (old new : SessionState CutState) (far : SimState CutState) → SessionGoesOn look_in old new → TakesMore old.driver new.driver → other_side_of new.line ≡ other_side_of old.line → AreOctets far.line.sent → AreOctets far.machine.out
     → StaysOneLine (pair old far) (pair new far)
 unfolding SessionGoesOn StaysOneLine
 near_goes old new far goes takes beyond octets waiting b at e line on =
@@ -126,7 +126,7 @@ near_goes old new far goes takes beyond octets waiting b at e line on =
     let went : far.line.sent ≡ j.far.went = j.far.sent_is ∙ ap (λ (xs : List ℕ). xs ++ j.far.went) on.began.far_sent in
     let joins : new.line.received ++ (new.line.waiting ++ drop far.line.moved far.line.sent) ≡ j.far.went = behind_read new.line.received new.line.waiting far.line.sent far.line.moved given ∙ went in
     let gets : ComesInOrder (modem.wire (modem_past line)) (driver.wire (driver_past later)) =
-    driver_gets b (session_view look_in new) (driver_past later) e j.far.came j.far.went (new.line.waiting ++ drop far.line.moved far.line.sent) far.kept (modem_past line) fits.session j.far.kept_fits
+    driver_gets b (session_view look_in new) (driver_past later) e j.far.came j.far.went (new.line.waiting ++ drop far.line.moved far.line.sent) far.machine (modem_past line) fits.session j.far.machine_fits
     on.began.low on.began.high on.began.same on.began.near_received joins (subst AreOctets went octets) waiting in
     let now : AreOnOneLine b at e later (pair new far) = record {
       began = on.began;
@@ -153,7 +153,7 @@ far_goes near old new goes beyond octets waiting b at e line on =
     let joins : fits.came ++ (new.line.waiting ++ drop near.line.moved near.line.sent) ≡ near.line.sent =
     ap (λ (xs : List ℕ). xs ++ (new.line.waiting ++ drop near.line.moved near.line.sent)) (sym came) ∙ behind_read new.line.received new.line.waiting near.line.sent near.line.moved given in
     let gets : ComesInOrder (driver.wire (driver_past line)) (modem.wire (modem_past later)) =
-    modem_gets b (session_view look_in near) (driver_past line) e fits.came fits.went (new.line.waiting ++ drop near.line.moved near.line.sent) new.kept (modem_past later) j.near.session fits.kept_fits
+    modem_gets b (session_view look_in near) (driver_past line) e fits.came fits.went (new.line.waiting ++ drop near.line.moved near.line.sent) new.machine (modem_past later) j.near.session fits.machine_fits
     on.began.low on.began.high on.began.same (takes_short (driver_past line) (history_formed b near (driver_past line) j.near on.taken)) on.began.near_sent joins octets waiting in
     record {
       newer = at_far acts;
@@ -188,7 +188,7 @@ carried_goes cut p b at e line on = record {
         went = on.joined.far.went;
         received_is = on.joined.far.received_is;
         sent_is = on.joined.far.sent_is;
-        kept_fits = on.joined.far.kept_fits;
+        machine_fits = on.joined.far.machine_fits;
       };
     };
     one_line = on.one_line;
@@ -264,7 +264,7 @@ is_one_modem p b at e line on once announced =
       calls = run.whole;
       numbers = run.numbers;
       commands = takes_lines (driver_past line) (history_formed b p.near (driver_past line) on.joined.near on.taken);
-      modem_lawful = record { at_station = on.joined.far.kept_fits.core_fits.lawful; acts = on.joined.far.kept_fits.core_fits.allowed };
+      modem_lawful = record { at_station = on.joined.far.machine_fits.core_fits.lawful; acts = on.joined.far.machine_fits.core_fits.allowed };
       modem_is = on.began.modem_is;
       announced = announced;
       one_line = on.one_line;

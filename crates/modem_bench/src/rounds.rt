@@ -72,7 +72,7 @@ fn near_octets<R: Wait + Drop>(session: &Session<CutLine, R>)
 /// So is what a simulated modem sent and has to send.
 fn far_octets(sim: &Sim<CutLine>)
     ensures sent { AreOctets sim.now.line.sent }
-    ensures unwritten { AreOctets sim.now.kept.out }
+    ensures unwritten { AreOctets sim.now.machine.out }
 {
     are_octets(sim.line().sent());
     are_octets(sim.unwritten());

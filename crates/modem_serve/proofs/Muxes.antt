@@ -15,7 +15,7 @@ use Rattle.modem_sim.specs.Cores.{IsLater}
 use Rattle.modem_sim.specs.Heard.{modem_after}
 use Rattle.modem_sim.specs.Histories.{FitsOctets, IsThrough}
 use Rattle.serial_line.specs.OtherSide.{OtherSide}
-use Rattle.modem_sim.specs.Sims.{FitsSim, IsOver, Kept, Sight, SimGoes, SimState, Simulates, has_ended, modem_of, state_shown}
+use Rattle.modem_sim.specs.Sims.{FitsSim, IsOver, SimMachine, Sight, SimGoes, SimState, Simulates, has_ended, modem_of, state_shown}
 use Rattle.modem_sim.specs.Turns.{Exchange, GoesTurn, IsIdle, Means, TurnFrom, at_rest, has_done, is_over, line_is_full, stood_still}
 use Rattle.modem_sim.proofs.ends.OfferedPieces.{later_then}
 use Rattle.modem_sim.proofs.sims.SimPasts as pasts
@@ -25,13 +25,13 @@ use Rattle.modem_serve.specs.Muxes.{ComesToRest, FedTo, FitsHeld, FitsMux, GoesO
 
 -- ## Turns
 
-idle_by : {X : Type 0} (see : Sight X) (e : End) (came went : List ℕ) (old new : SimState X) (t : Exchange) (acts past : List Act) (says : SimTurn) → says ≡ Idle → Means see e came went old new t acts past says → IsIdle e came went new.kept t past
+idle_by : {X : Type 0} (see : Sight X) (e : End) (came went : List ℕ) (old new : SimState X) (t : Exchange) (acts past : List Act) (says : SimTurn) → says ≡ Idle → Means see e came went old new t acts past says → IsIdle e came went new.machine t past
 idle_by see e came went old new t acts past _ is (has_done moved) = absurd (let bad : Moved ≡ Idle = is in cc)
 idle_by see e came went old new t acts past _ is (stood_still none idle) = idle
 idle_by see e came went old new t acts past _ is (is_over over) = absurd (let bad : Ended ≡ Idle = is in cc)
 
 -- an idle turn behind which nothing is to be written or read
-pub comes_to_rest : (old new : SimState HeldState) → GoesTurn sight_held old new Idle → new.kept.out ≡ [] → new.line.waiting ≡ [] → ComesToRest old new
+pub comes_to_rest : (old new : SimState HeldState) → GoesTurn sight_held old new Idle → new.machine.out ≡ [] → new.line.waiting ≡ [] → ComesToRest old new
 comes_to_rest old new turn none read = record {
   read = read;
   rests = λ e past fits.
@@ -39,7 +39,7 @@ comes_to_rest old new turn none read = record {
       rests_by e past from (idle_by sight_held e from.fits.came from.fits.went old new turn.exchange from.later.newer from.now Idle refl from.means);
 }
   where
-    rests_by : (e : End) (past : List Act) → (from : TurnFrom sight_held at_first e past old new turn.exchange Idle) → IsIdle e from.fits.came from.fits.went new.kept turn.exchange from.now → RestsFrom e past new
+    rests_by : (e : End) (past : List Act) → (from : TurnFrom sight_held at_first e past old new turn.exchange Idle) → IsIdle e from.fits.came from.fits.went new.machine turn.exchange from.now → RestsFrom e past new
     rests_by e past from (line_is_full held) = absurd (held.waits none)
     rests_by e past from (at_rest rest) = record {
       now = from.now;
@@ -98,7 +98,7 @@ refits e s line past came went fits = record {
   went = fits.went;
   received_is = came ∙ fits.received_is;
   sent_is = went ∙ fits.sent_is;
-  kept_fits = fits.kept_fits;
+  machine_fits = fits.machine_fits;
 }
 
 given_is : (a b : HeldState) → held_side a ≡ held_side b → a.received ++ a.waiting ≡ b.received ++ b.waiting
@@ -142,7 +142,7 @@ rests_here : (e : End) (came went piece : List ℕ) (past : List Act) (a b : Sim
 unfolding handed_in
 rests_here e came went piece past a b fits side rest =
     let from = rest.rests e past (fits_in e a piece past fits.fits) in
-    let all = pasts.simulates e from.fits.came from.fits.went b.kept from.now from.fits.kept_fits in
+    let all = pasts.simulates e from.fits.came from.fits.went b.machine from.now from.fits.machine_fits in
     let read : b.line.received ≡ came ++ piece = all_read a.line b.line came piece fits.received_is fits.read (given_is b.line (handed_in a piece).line side) rest.read in
     let sent : from.fits.went ≡ went ++ b.line.going = sym from.fits.sent_is ∙ ap (λ (l : List ℕ). l ++ b.line.going) (taken_is b.line (handed_in a piece).line side ∙ fits.taken_is) in
     record {
@@ -171,8 +171,8 @@ closes_here : (e : End) (came went piece : List ℕ) (past : List Act) (a b : Si
 unfolding handed_in
 closes_here e came went piece past a b fits goes side ended =
     let from = goes at_first e past (fits_in e a piece past fits.fits) in
-    let all = pasts.simulates e from.fits.came from.fits.went b.kept from.now from.fits.kept_fits in
-    let over : IsOver from.fits.went from.now = pasts.is_over e from.fits.came from.fits.went b.kept from.now ended from.fits.kept_fits in
+    let all = pasts.simulates e from.fits.came from.fits.went b.machine from.now from.fits.machine_fits in
+    let over : IsOver from.fits.went from.now = pasts.is_over e from.fits.came from.fits.went b.machine from.now ended from.fits.machine_fits in
     let sent : from.fits.went ≡ went ++ b.line.going = sym from.fits.sent_is ∙ ap (λ (l : List ℕ). l ++ b.line.going) (taken_is b.line (handed_in a piece).line side ∙ fits.taken_is) in
     let given : b.line.received ++ b.line.waiting ≡ came ++ piece = given_is b.line (handed_in a piece).line side ∙ ap (λ (l : List ℕ). a.line.received ++ (l ++ piece)) fits.read ∙ ap (λ (l : List ℕ). l ++ piece) fits.received_is in
     record {
@@ -182,8 +182,8 @@ closes_here e came went piece past a b fits goes side ended =
         lawful = all.lawful;
         complete = all.complete;
         taken = all.taken;
-        unread = b.kept.unfed ++ b.line.waiting;
-        came_is = sym given ∙ ap (λ (l : List ℕ). l ++ b.line.waiting) (from.fits.received_is ∙ all.came_is) ∙ append_assoc all.taken b.kept.unfed b.line.waiting;
+        unread = b.machine.unfed ++ b.line.waiting;
+        came_is = sym given ∙ ap (λ (l : List ℕ). l ++ b.line.waiting) (from.fits.received_is ∙ all.came_is) ∙ append_assoc all.taken b.machine.unfed b.line.waiting;
         octets = subst (λ (l : List ℕ). FitsOctets e.n1 all.taken l from.now) sent all.octets;
         over = subst (λ (l : List ℕ). IsOver l from.now) sent over;
       };

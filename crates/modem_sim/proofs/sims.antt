@@ -1,5 +1,5 @@
 -- Turns of a simulated modem at its line.
-pub mod KeptParts
+pub mod MachineParts
 pub mod WrittenFrames
 pub mod SimPasts
 pub mod ShownStates

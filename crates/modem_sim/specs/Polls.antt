@@ -121,7 +121,7 @@ kept_end before given = Some given
 -- the simulated modem, which keeps what a poll gave as its end, but for want of memory
 abbrev pub with_given : {X : Type 0} → Option (Result SimTurn SimError) → SimState X → SimState X
 with_given None s = s
-with_given (Some given) s = record s { kept = record s.kept { end = kept_end s.kept.end given } }
+with_given (Some given) s = record s { machine = record s.machine { end = kept_end s.machine.end given } }
 
 -- a poll makes its turns, gives what they lead to, and keeps that
 pub record PollsOn {X : Type 0} (see : Sight X) (old new : SimState X)

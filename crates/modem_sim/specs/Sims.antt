@@ -19,9 +19,10 @@ use Rattle.modem_sim.specs.Doing.{is_closed_down}
 use Rattle.modem_sim.specs.Histories.{SimLawful, SimComplete, FitsOctets, FitsModem, sent}
 use Rattle.modem_sim.specs.Cores.{Core, Wired, Fits, IsLater}
 
--- An end, the octets that were read and that its deframer hasn't taken, its deframer, the octets that the
--- line hasn't taken, whether the line failed, and the end that a poll gave, if one did.
-pub record Kept : Type 0 where
+-- The machine of a simulated modem, all but its line: its core, the octets that were read and that its deframer
+-- hasn't taken, its deframer, the octets that the line hasn't taken, whether the line failed, and the end that a
+-- poll gave, if one did.
+pub record SimMachine : Type 0 where
   pub core : Core
   pub unfed : List ℕ
   pub deframer : Deframing
@@ -29,10 +30,10 @@ pub record Kept : Type 0 where
   pub failed : Bool
   pub end : Option (Result SimTurn SimError)
 
--- What is kept fits a past, since the beginning of which these octets came from the line and went into it:
+-- A machine fits a past, since the beginning of which these octets came from the line and went into it:
 -- the frames that came are those handed out of the octets taken, and the octets that went and those that wait
 -- spell the frames that the end gave on.
-pub record KeptFits (e : End) (came went : List ℕ) (k : Kept) (past : List Act) : Type 0 where
+pub record SimMachineFits (e : End) (came went : List ℕ) (k : SimMachine) (past : List Act) : Type 0 where
   pub wired : Wired
   pub core_fits : Fits e wired k.core past
   pub n1_is : k.deframer.n1 ≡ e.n1
@@ -41,23 +42,22 @@ pub record KeptFits (e : End) (came went : List ℕ) (k : Kept) (past : List Act
   pub deframes : Deframes taken wired.came k.deframer
   pub went_is : went ++ k.out ≡ flat_map spelling.spelled wired.gone
 
--- what is kept fits what the past went on to by acts of a kind
-pub record KeptFrom (may : Act → Bool) (e : End) (came went : List ℕ) (past : List Act) (k : Kept) :
+-- a machine fits what the past went on to by acts of a kind
+pub record SimMachineFrom (may : Act → Bool) (e : End) (came went : List ℕ) (past : List Act) (k : SimMachine) :
     Type 0 where
   pub now : List Act
   pub later : IsLater past now
   pub only : list_all may later.newer ≡ true
-  pub fits : KeptFits e came went k now
+  pub fits : SimMachineFits e came went k now
 
--- whatever past it fits, what is kept goes on by acts of a kind to one that it fits, with the line as it
--- was
-abbrev pub KeptGoes : (Act → Bool) → Kept → Kept → Type 0
-KeptGoes may old new =
-    (e : End) (came went : List ℕ) (past : List Act) → KeptFits e came went old past
-    → KeptFrom may e came went past new
+-- whatever past it fits, a machine goes on by acts of a kind to one that it fits, with the line as it was
+abbrev pub SimMachineGoes : (Act → Bool) → SimMachine → SimMachine → Type 0
+SimMachineGoes may old new =
+    (e : End) (came went : List ℕ) (past : List Act) → SimMachineFits e came went old past
+    → SimMachineFrom may e came went past new
 
 -- the modem has closed down, and all is written
-abbrev pub is_ended : Kept → Bool
+abbrev pub is_ended : SimMachine → Bool
 is_ended k = k.core.closed && ((length k.out == 0) && (length k.core.station.queue == 0))
 
 -- what a simulated modem keeps as it begins
@@ -73,7 +73,7 @@ pub record BeginsAt (n1 : ℕ) (v : stations.Station) (boxes : List Box) (own_n1
   pub out_is : out ≡ []
 
 -- octets came from the line, and are kept behind those that wait for the deframer
-pub record Receives (before after : List ℕ) (old new : Kept) : Type 0 where
+pub record Receives (before after : List ℕ) (old new : SimMachine) : Type 0 where
   pub fresh : List ℕ
   pub came : after ≡ before ++ fresh
   pub kept : new ≡ record old { unfed = old.unfed ++ fresh }
@@ -99,26 +99,26 @@ sight received sent calls failures empty_reads stalled_writes = record {
   stalled_writes = stalled_writes;
 }
 
--- a line and what is kept beside it
+-- a line and the machine beside it
 pub record SimState (X : Type 0) : Type 0 where
   pub line : X
-  pub kept : Kept
+  pub machine : SimMachine
 
 -- the simulated modem has closed down, and all is written
 abbrev pub has_ended : {X : Type 0} → SimState X → Bool
-has_ended s = is_ended s.kept
+has_ended s = is_ended s.machine
 
 -- a turn of it answered Line
 abbrev pub has_failed : {X : Type 0} → SimState X → Bool
-has_failed s = s.kept.failed
+has_failed s = s.machine.failed
 
 -- the end that a poll of it gave, if one did
 abbrev pub end_given : {X : Type 0} → SimState X → Option (Result SimTurn SimError)
-end_given s = s.kept.end
+end_given s = s.machine.end
 
 -- its modem, as it is
 abbrev pub modem_of : {X : Type 0} → SimState X → ModemState
-modem_of s = s.kept.core.modem
+modem_of s = s.machine.core.modem
 
 -- once a turn answers Line, it has failed; nothing else changes that
 abbrev pub failed_by : {A : Type 0} → Bool → Result A SimError → Bool
@@ -137,7 +137,7 @@ pub record FitsSim {X : Type 0} (received sent : X → List ℕ) (at : LineAt) (
   pub went : List ℕ
   pub received_is : received s.line ≡ at.received ++ came
   pub sent_is : sent s.line ≡ at.sent ++ went
-  pub kept_fits : KeptFits e came went s.kept past
+  pub machine_fits : SimMachineFits e came went s.machine past
 
 pub record SimFrom {X : Type 0} (received sent : X → List ℕ) (at : LineAt) (e : End) (past : List Act)
     (s : SimState X) : Type 0 where
@@ -156,7 +156,7 @@ SimGoes received sent old new =
 -- Of the octets received, those before the ones that wait for its deframer are read as the frames that came;
 -- its history keeps the laws and nothing is owed; its modem is the one that was handed in, after all lines
 -- that came.
-pub record Simulates (e : End) (came went : List ℕ) (k : Kept) (past : List Act) : Type 0 where
+pub record Simulates (e : End) (came went : List ℕ) (k : SimMachine) (past : List Act) : Type 0 where
   pub lawful : SimLawful e past
   pub complete : SimComplete e past
   pub taken : List ℕ

@@ -9,14 +9,14 @@ use Rattle.mux_station.specs.Sending.{got_refused}
 use Rattle.mux_station.specs.Stations.{seen_in, setting_of}
 use Rattle.modem_sim.specs.Acts.{Act, Wire, End, is_handing}
 use Rattle.modem_sim.specs.Cores.{Core, Fits, GoesFrom, HasNoneToDo, HasReleased, IsGivenOn, IsHandedOn, IsLater, SaysNext, Wired, after_wire_act, box_at, holds_over}
-use Rattle.modem_sim.specs.Sims.{Kept, KeptFits, LineAt, Sight, SimState, FitsSim}
+use Rattle.modem_sim.specs.Sims.{SimMachine, SimMachineFits, LineAt, Sight, SimState, FitsSim}
 use Rattle.modem_sim.specs.Turns.{DoesEach, Exchanges, Exchange, HandsOn, Leaves, NoneIsThere, ReadHasRoom, Offers, Read, Write, calls_made, count_after, empty_after, has_moved, left_of, octets_read, octets_written, stalled_after}
 
--- what is kept still fits whatever past it fitted
-abbrev pub KeptStays : Kept → Kept → Type 0
-KeptStays old new =
-    (e : End) (came went : List ℕ) (past : List Act) → KeptFits e came went old past
-    → KeptFits e came went new past
+-- a machine still fits whatever past it fitted
+abbrev pub SimMachineStays : SimMachine → SimMachine → Type 0
+SimMachineStays old new =
+    (e : End) (came went : List ℕ) (past : List Act) → SimMachineFits e came went old past
+    → SimMachineFits e came went new past
 
 -- of what is said on each open connection all is handed to the station, or some octets wait there
 abbrev pub AllHanded : Core → Type 0
@@ -71,7 +71,7 @@ pub record OffersAll (old new : Core) (moved : Bool) : Type 0 where
 
 -- the past goes on: all is handed to the station, and a frame is given on whose octets are put into the
 -- output
-pub record PutsFrom (e : End) (came went : List ℕ) (past : List Act) (k : Kept) (some : Bool) : Type 0 where
+pub record PutsFrom (e : End) (came went : List ℕ) (past : List Act) (k : SimMachine) (some : Bool) : Type 0 where
   pub between : List Act
   pub hands : HandsOn e past between
   pub brings : list_any is_handing hands.later.newer ≡ some
@@ -79,89 +79,89 @@ pub record PutsFrom (e : End) (came went : List ℕ) (past : List Act) (k : Kept
   pub frame : Frame
   pub given : IsGivenOn between frame now
   pub out : k.out ≡ spelling.spelled frame
-  pub fits : KeptFits e came went k now
+  pub fits : SimMachineFits e came went k now
 
 -- the past goes on: all is handed to the station, and no frame is there
-pub record NoneFrom (e : End) (came went : List ℕ) (past : List Act) (k : Kept) (some : Bool) : Type 0 where
+pub record NoneFrom (e : End) (came went : List ℕ) (past : List Act) (k : SimMachine) (some : Bool) : Type 0 where
   pub now : List Act
   pub hands : HandsOn e past now
   pub brings : list_any is_handing hands.later.newer ≡ some
   pub none : NoneIsThere now
   pub out : k.out ≡ []
-  pub fits : KeptFits e came went k now
+  pub fits : SimMachineFits e came went k now
 
 -- where all is written the next frame is put into the output, if there is one
-pub data Loads (old new : Kept) : (some : Bool) → Type 0 where
+pub data Loads (old new : SimMachine) : (some : Bool) → Type 0 where
   some_wait : old.out ≢ [] → new ≡ old → Loads old new false
   puts :
       (some : Bool) → old.out ≡ []
-      → ((e : End) (came went : List ℕ) (past : List Act) → KeptFits e came went old past
+      → ((e : End) (came went : List ℕ) (past : List Act) → SimMachineFits e came went old past
       → PutsFrom e came went past new some)
       → Loads old new some
   puts_none :
       (some : Bool) → old.out ≡ []
-      → ((e : End) (came went : List ℕ) (past : List Act) → KeptFits e came went old past
+      → ((e : End) (came went : List ℕ) (past : List Act) → SimMachineFits e came went old past
       → NoneFrom e came went past new some)
       → Loads old new some
 
 -- no frame is to go out
-pub record HasNoneToLoad (k : Kept) : Type 0 where
+pub record HasNoneToLoad (k : SimMachine) : Type 0 where
   pub handed : AllHanded k.core
   pub none_next : next_given k.core.station k.core.station.queue ≡ None
 
 -- nothing was to be loaded
-pub record LoadsNone (old new : Kept) : Type 0 where
+pub record LoadsNone (old new : SimMachine) : Type 0 where
   pub same : new ≡ old
   pub none : old.out ≡ [] → HasNoneToLoad old
 
 -- a frame stands ready to be written, or a hold that was over was let go
-pub data HasLoaded (old new : Kept) : Type 0 where
+pub data HasLoaded (old new : SimMachine) : Type 0 where
   ready : length old.out < length new.out → HasLoaded old new
   let_go : new.out ≡ old.out → holds_over new.core.boxes < holds_over old.core.boxes → HasLoaded old new
 
 -- moved says whether octets were handed to the station, or something was loaded
-pub record LoadsBy (old new : Kept) (moved : Bool) : Type 0 where
+pub record LoadsBy (old new : SimMachine) (moved : Bool) : Type 0 where
   pub some : Bool
   pub loads : Loads old new some
   pub has_loaded : moved ≡ true → some ≡ false → HasLoaded old new
   pub none : moved ≡ false → some ≡ false
 
 -- a frame at hand finds no room at the station
-abbrev pub HasNoneToTake : Kept → Type 0
+abbrev pub HasNoneToTake : SimMachine → Type 0
 HasNoneToTake k =
     (f : Frame) → k.deframer.next ≡ Some f
     → got_refused (setting_of k.core.station) (seen_in k.core.station) f ≢ None
 
 -- the frame at hand is taken, with all that it calls for
-pub record TakesFrame (old new : Kept) : Type 0 where
+pub record TakesFrame (old new : SimMachine) : Type 0 where
   pub frame : Frame
   pub hand : old.deframer.next ≡ Some frame
   pub room : got_refused (setting_of old.core.station) (seen_in old.core.station) frame ≡ None
   pub goes :
-      (e : End) (came went : List ℕ) (past : List Act) → KeptFits e came went old past
-      → KeptFits e came went new (after_wire_act e past (station.Got frame))
+      (e : End) (came went : List ℕ) (past : List Act) → SimMachineFits e came went old past
+      → SimMachineFits e came went new (after_wire_act e past (station.Got frame))
 
 -- no frame was taken, since there was none or no room for what it calls for
-pub record TakesNone (old new : Kept) : Type 0 where
+pub record TakesNone (old new : SimMachine) : Type 0 where
   pub same : new ≡ old
   pub none : HasNoneToTake old
 
 -- the deframer took the first of the octets that wait for it, one at least unless a frame is at hand
-pub record Feeds (old new : Kept) : Type 0 where
-  pub stays : KeptStays old new
+pub record Feeds (old new : SimMachine) : Type 0 where
+  pub stays : SimMachineStays old new
   pub fed : List ℕ
   pub feeds : old.unfed ≡ fed ++ new.unfed
   pub some : new.deframer.next ≡ None → old.unfed ≢ [] → fed ≢ []
 
 -- the deframer took nothing: all was fed, or a frame is at hand
-pub record FeedsNone (old new : Kept) : Type 0 where
-  pub stays : KeptStays old new
+pub record FeedsNone (old new : SimMachine) : Type 0 where
+  pub stays : SimMachineStays old new
   pub same_unfed : new.unfed ≡ old.unfed
   pub same_next : new.deframer.next ≡ old.deframer.next
   pub none : old.deframer.next ≡ None → old.unfed ≡ []
 
 -- octets were offered to the line where some waited, and it took so many
-pub record Writes (sent_before sent : List ℕ) (calls_before calls stalled_before stalled : ℕ) (old new : Kept)
+pub record Writes (sent_before sent : List ℕ) (calls_before calls stalled_before stalled : ℕ) (old new : SimMachine)
     (count : ℕ) : Type 0 where
   pub write : Option Write
   pub offers : Offers write old.out
@@ -175,7 +175,7 @@ pub record Writes (sent_before sent : List ℕ) (calls_before calls stalled_befo
 
 -- the line was read where nothing read waited, and these octets came
 pub record ReadsOnce (received_before received : List ℕ) (calls_before calls empty_before empty : ℕ)
-    (old new : Kept) (came : Bool) : Type 0 where
+    (old new : SimMachine) (came : Bool) : Type 0 where
   pub read : Option Read
   pub room : ReadHasRoom read
   pub reads : old.unfed ≡ [] → read ≢ None
@@ -188,16 +188,16 @@ pub record ReadsOnce (received_before received : List ℕ) (calls_before calls e
   pub none : old.unfed ≡ [] → came ≡ false → read ≡ Some (record { room = 512; octets = [] })
 
 -- what takes memory is left undone: a step, the octets that a hold kept apart, or a frame at hand
-pub data LeavesUndone (k : Kept) : Type 0 where
+pub data LeavesUndone (k : SimMachine) : Type 0 where
   leaves_step : SaysNext k.core → LeavesUndone k
   leaves_octets : HasReleased k.core → LeavesUndone k
   leaves_frame : k.deframer.next ≢ None → LeavesUndone k
 
 -- ## All of them together
 
--- what is kept, at this line
-abbrev pub at_line : {X : Type 0} → X → Kept → SimState X
-at_line line k = record { line = line; kept = k }
+-- a machine, at this line
+abbrev pub at_line : {X : Type 0} → X → SimMachine → SimState X
+at_line line k = record { line = line; machine = k }
 
 -- by all that a turn does, the past goes on to one that the simulated modem fits
 pub record WentOn {X : Type 0} (see : Sight X) (at : LineAt) (e : End) (past : List Act) (old new : SimState X)
@@ -205,11 +205,11 @@ pub record WentOn {X : Type 0} (see : Sight X) (at : LineAt) (e : End) (past : L
   pub now : List Act
   pub later : IsLater past now
   pub fits : FitsSim see.received see.sent at e new now
-  pub does : DoesEach e old.kept new.kept t past now
+  pub does : DoesEach e old.machine new.machine t past now
   pub moves : has_moved see old new later.newer ≡ moved
 
 -- nothing was done, and nothing could be
-pub record StoodStill (k : Kept) (t : Exchange) : Type 0 where
+pub record StoodStill (k : SimMachine) (t : Exchange) : Type 0 where
   pub steps : HasNoneToDo k.core
   pub take : HasNoneToTake k
   pub full : k.out ≢ [] → t.write ≡ Some (record { offered = k.out; count = 0 })
@@ -221,8 +221,8 @@ pub record StoodStill (k : Kept) (t : Exchange) : Type 0 where
 pub record GoesOnce {X : Type 0} (see : Sight X) (old new : SimState X) (moved : Bool) : Type 0 where
   pub exchange : Exchange
   pub exchanges : Exchanges see old new exchange
-  pub leaves : Leaves old.kept new.kept exchange
+  pub leaves : Leaves old.machine new.machine exchange
   pub goes :
       (at : LineAt) (e : End) (past : List Act) → FitsSim see.received see.sent at e old past
       → WentOn see at e past old new exchange moved
-  pub still : moved ≡ false → StoodStill new.kept exchange
+  pub still : moved ≡ false → StoodStill new.machine exchange

@@ -13,7 +13,7 @@ use Rattle.modem_sim.specs.Acts.{Act, Wire, after}
 use Rattle.modem_sim.specs.Polls.{Says, Turned, kept_end}
 use Rattle.modem_sim.specs.Boxes.{is_released}
 use Rattle.modem_sim.specs.Cores.{box_at}
-use Rattle.modem_sim.specs.Sims.{Kept, Sight, SimState, has_failed, is_ended, sight}
+use Rattle.modem_sim.specs.Sims.{SimMachine, Sight, SimState, has_failed, is_ended, sight}
 use Rattle.modem_sim.specs.Turns.{DoesSteps, Exchange, GoesTurn, HandsOn, IsAtRest, IsHeldUp, IsIdle, IsIdleAtLine, IsLeft, Means, NoneIsThere, Offers, ReadHasRoom, TakesAtHand, has_moved}
 use Rattle.modem_sim.specs.HistoryRows.{announcing, comes, gives, offers, one, plain, ready_one, sends, silent}
 
@@ -31,29 +31,29 @@ offered_one count =
 abbrev pub nothing_asked : Exchange
 nothing_asked = record { write = None; read = None }
 
--- what is kept where an octet waits for the line, and nothing else does
-pub record OneWaits (k : Kept) : Type 0 where
+-- a machine where an octet waits for the line, and nothing else does
+pub record OneWaits (k : SimMachine) : Type 0 where
   pub out : k.out ≡ 7 ∷ []
   pub fed : k.unfed ≡ []
   pub hand : k.deframer.next ≡ None
 
 -- no frame is at hand, and no hold is over
-pub record IsStill (k : Kept) : Type 0 where
+pub record IsStill (k : SimMachine) : Type 0 where
   pub hand : k.deframer.next ≡ None
   pub holds : (d : ℕ) → is_released (box_at k.core d).hold ≡ false
 
 -- nothing ever came, and the line was read: idle; and an octet waits, and the line took none: idle
 abbrev pub RightIdle : Type 0
 RightIdle =
-    ((k : Kept) → IsIdle plain [] [] k only_read [])
-    × ((k : Kept) → OneWaits k → IsHeldUp plain k (offered_one 0) [])
+    ((k : SimMachine) → IsIdle plain [] [] k only_read [])
+    × ((k : SimMachine) → OneWaits k → IsHeldUp plain k (offered_one 0) [])
 
 -- It isn't idle where the line wasn't read; where it took the octet; where a command wasn't answered; where a
 -- step is due.
 abbrev pub WrongIdle : Type 0
 WrongIdle =
-    ((k : Kept) → ¬ IsIdle plain [] [] k nothing_asked [])
-    × ((k : Kept) → ¬ IsHeldUp plain k (offered_one 1) [])
+    ((k : SimMachine) → ¬ IsIdle plain [] [] k nothing_asked [])
+    × ((k : SimMachine) → ¬ IsHeldUp plain k (offered_one 1) [])
     × ((came went : List ℕ) → ¬ IsAtRest plain came went only_read (after [] silent))
     × ((came went : List ℕ) → ¬ IsAtRest (announcing 0 one) came went only_read (after [] ready_one))
 
@@ -69,8 +69,8 @@ gave = sight (λ l. l) (λ l. []) (λ l. 0) (λ l. 0) (λ l. 0) (λ l. 0)
 -- station; one that leaves all as it was hasn't, also where a mark followed that a frame was given on.
 abbrev pub MovedRows : Type 0
 MovedRows =
-    ((k : Kept)
-    → has_moved gave (record { line = []; kept = k }) (record { line = 7 ∷ []; kept = k }) [] ≡ true)
+    ((k : SimMachine)
+    → has_moved gave (record { line = []; machine = k }) (record { line = 7 ∷ []; machine = k }) [] ≡ true)
     × ((s : SimState ℕ) (f : Frame) → has_moved unseen s s (Wire (station.Got f) ∷ []) ≡ true)
     × ((s : SimState ℕ) (octets : List ℕ) → has_moved unseen s s (offers 1 octets ∷ []) ≡ true)
     × ((s : SimState ℕ) → has_moved unseen s s [] ≡ false)
@@ -100,9 +100,9 @@ EndRows =
 -- left, no hold is over and no frame is at hand.
 abbrev pub WantRows : Type 0
 WantRows =
-    ((k : Kept) → IsLeft (announcing 0 one) k (after [] ready_one))
-    × ((k : Kept) (f : Frame) → k.deframer.next ≡ Some f → IsLeft plain k [])
-    × ((k : Kept) → IsStill k → ¬ IsLeft plain k [])
+    ((k : SimMachine) → IsLeft (announcing 0 one) k (after [] ready_one))
+    × ((k : SimMachine) (f : Frame) → k.deframer.next ≡ Some f → IsLeft plain k [])
+    × ((k : SimMachine) → IsStill k → ¬ IsLeft plain k [])
 
 -- A poll doesn't give Line where no call failed, Failed where none had failed before, nor Idle, Moved and
 -- BadN1 at all.
@@ -117,16 +117,16 @@ WrongGivings =
 -- of a turn with nothing to be fed: what it answers, its line was called; and so where octets wait for the line
 abbrev pub CallsNothing : Type 0
 CallsNothing =
-    ((old new : SimState ℕ) (says : SimTurn) → is_ended old.kept ≡ false → old.kept.unfed ≡ []
+    ((old new : SimState ℕ) (says : SimTurn) → is_ended old.machine ≡ false → old.machine.unfed ≡ []
     → ¬ GoesTurn unseen old new says)
-    × ((old new : SimState ℕ) (says : SimTurn) → old.kept.out ≢ [] → ¬ GoesTurn unseen old new says)
+    × ((old new : SimState ℕ) (says : SimTurn) → old.machine.out ≢ [] → ¬ GoesTurn unseen old new says)
 
 -- It isn't idle by a line whose reads that gave nothing aren't more than before, nor, where octets wait, by one
 -- whose writes that took none aren't.
 abbrev pub WrongCounts : Type 0
 WrongCounts =
-    ((old new : SimState ℕ) → new.kept.unfed ≡ [] → ¬ IsIdleAtLine unseen old new)
-    × ((old new : SimState ℕ) → new.kept.out ≢ [] → ¬ IsIdleAtLine unseen old new)
+    ((old new : SimState ℕ) → new.machine.unfed ≡ [] → ¬ IsIdleAtLine unseen old new)
+    × ((old new : SimState ℕ) → new.machine.out ≢ [] → ¬ IsIdleAtLine unseen old new)
 
 -- an offer has octets, and a read has room
 abbrev pub WrongCalls : Type 0

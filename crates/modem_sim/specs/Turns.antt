@@ -21,7 +21,7 @@ use Rattle.modem_sim.specs.Boxes.{is_released}
 use Rattle.modem_sim.specs.Doing.{IsDue, call_of}
 use Rattle.modem_sim.specs.Histories.{IsThrough, AllIsOut, DoesInOrder}
 use Rattle.modem_sim.specs.Cores.{HasPassed, IsLater, IsGivenOn, after_wire_act, box_at, holds_over}
-use Rattle.modem_sim.specs.Sims.{Kept, LineAt, Sight, SimState, FitsSim, is_ended}
+use Rattle.modem_sim.specs.Sims.{SimMachine, LineAt, Sight, SimState, FitsSim, is_ended}
 
 -- ## A turn's calls on the line
 
@@ -90,7 +90,7 @@ pub record Exchanges {X : Type 0} (see : Sight X) (old new : SimState X) (t : Ex
   pub came : see.received new.line ≡ see.received old.line ++ octets_read t.read
   pub room : ReadHasRoom t.read
   pub went : see.sent new.line ≡ see.sent old.line ++ octets_written t.write
-  pub offers : Offers t.write old.kept.out
+  pub offers : Offers t.write old.machine.out
   pub calls_are :
       see.calls new.line ≡ count_after (calls_made t.write + calls_made t.read) (see.calls old.line)
   pub stalled_are : see.stalled_writes new.line ≡ stalled_after t.write (see.stalled_writes old.line)
@@ -104,7 +104,7 @@ left_of (Some w) out = drop w.count out
 -- Steps were done or passed over in their order. The line was read just where all octets that had come were fed.
 -- Octets that it didn't take wait for the next turn. Of those that have come the first were fed, one at least
 -- where there was one, unless a frame is at hand.
-pub record Leaves (old new : Kept) (t : Exchange) : Type 0 where
+pub record Leaves (old new : SimMachine) (t : Exchange) : Type 0 where
   pub passed : HasPassed old.core new.core
   pub reads : old.unfed ≡ [] → t.read ≢ None
   pub reads_fed : t.read ≢ None → old.unfed ≡ []
@@ -174,7 +174,7 @@ pub data TakesAtHand (e : End) (hand : Option Frame) (past now : List Act) : Typ
 
 -- The turn of one that hadn't ended did each of these once, in this order: the steps that are due; the next frame,
 -- where the line left no octets; the frame at hand.
-pub record DoesEach (e : End) (old new : Kept) (t : Exchange) (past now : List Act) : Type 0 where
+pub record DoesEach (e : End) (old new : SimMachine) (t : Exchange) (past now : List Act) : Type 0 where
   pub stepped : List Act
   pub loaded : List Act
   pub steps : DoesSteps e past stepped
@@ -192,10 +192,10 @@ abbrev pub has_changed : {X : Type 0} → Sight X → (old new : SimState X) →
 has_changed see old new =
     is_fewer (see.received old.line) (see.received new.line)
     || (is_fewer (see.sent old.line) (see.sent new.line)
-    || (is_fewer new.kept.unfed old.kept.unfed
-    || (is_fewer new.kept.core.steps old.kept.core.steps
-    || (is_fewer old.kept.out new.kept.out
-    || nat_lt (holds_over new.kept.core.boxes) (holds_over old.kept.core.boxes)))))
+    || (is_fewer new.machine.unfed old.machine.unfed
+    || (is_fewer new.machine.core.steps old.machine.core.steps
+    || (is_fewer old.machine.out new.machine.out
+    || nat_lt (holds_over new.machine.core.boxes) (holds_over old.machine.core.boxes)))))
 
 -- a frame was got, with the lines that end in it, or octets were handed to the station
 abbrev pub is_work : Act → Bool
@@ -218,7 +218,7 @@ pub record ReadsNothing (t : Exchange) : Type 0 where
 -- Octets wait, the line was offered some in this turn and took none; and meanwhile nothing came, or octets
 -- that came before wait behind a frame at hand; that finds no room for what it calls for; and no step could be
 -- done.
-pub record IsHeldUp (e : End) (k : Kept) (t : Exchange) (past : List Act) : Type 0 where
+pub record IsHeldUp (e : End) (k : SimMachine) (t : Exchange) (past : List Act) : Type 0 where
   pub waits : k.out ≢ []
   pub offered : List ℕ
   pub some : offered ≢ []
@@ -240,11 +240,11 @@ pub record IsAtRest (e : End) (came went : List ℕ) (t : Exchange) (past : List
 -- By the line's counts: the read gave nothing, unless octets that came wait behind a frame at hand; and the
 -- write took nothing, where octets wait.
 pub record IsIdleAtLine {X : Type 0} (see : Sight X) (old new : SimState X) : Type 0 where
-  pub fed : new.kept.deframer.next ≡ None → new.kept.unfed ≡ []
-  pub empty : new.kept.unfed ≡ [] → see.empty_reads new.line ≡ one_more (see.empty_reads old.line)
-  pub stalled : new.kept.out ≢ [] → see.stalled_writes new.line ≡ one_more (see.stalled_writes old.line)
+  pub fed : new.machine.deframer.next ≡ None → new.machine.unfed ≡ []
+  pub empty : new.machine.unfed ≡ [] → see.empty_reads new.line ≡ one_more (see.empty_reads old.line)
+  pub stalled : new.machine.out ≢ [] → see.stalled_writes new.line ≡ one_more (see.stalled_writes old.line)
 
-pub data IsIdle (e : End) (came went : List ℕ) (k : Kept) (t : Exchange) (past : List Act) : Type 0 where
+pub data IsIdle (e : End) (came went : List ℕ) (k : SimMachine) (t : Exchange) (past : List Act) : Type 0 where
   line_is_full : IsHeldUp e k t past → IsIdle e came went k t past
   at_rest : IsAtRest e came went t past → IsIdle e came went k t past
 
@@ -253,7 +253,7 @@ pub data IsIdle (e : End) (came went : List ℕ) (k : Kept) (t : Exchange) (past
 -- What a turn that was refused memory leaves to be done: a step that is due and asks nothing of the station,
 -- but says or holds back something; on an open connection, octets that a hold kept apart that is over; or a
 -- frame at hand.
-pub data IsLeft (e : End) (k : Kept) (past : List Act) : Type 0 where
+pub data IsLeft (e : End) (k : SimMachine) (past : List Act) : Type 0 where
   step_is_due : (act : StepAct) → IsDue e past act → call_of act ≡ None → IsLeft e k past
   hold_is_over :
       (d : ℕ) → is_open_at_modem d past ≡ true → is_released (box_at k.core d).hold ≡ true → IsLeft e k past
@@ -262,7 +262,7 @@ pub data IsLeft (e : End) (k : Kept) (past : List Act) : Type 0 where
 -- whatever past it fits, something is left that takes memory
 abbrev pub WantsMemory : {X : Type 0} → (received sent : X → List ℕ) → SimState X → Type 0
 WantsMemory received sent s =
-    (at : LineAt) (e : End) (past : List Act) → FitsSim received sent at e s past → IsLeft e s.kept past
+    (at : LineAt) (e : End) (past : List Act) → FitsSim received sent at e s past → IsLeft e s.machine past
 
 -- ## A turn
 
@@ -271,9 +271,9 @@ pub data Means {X : Type 0} (see : Sight X) (e : End) (came went : List ℕ) (ol
     (t : Exchange) (acts past : List Act) : SimTurn → Type 0 where
   has_done : has_moved see old new acts ≡ true → Means see e came went old new t acts past Moved
   stood_still :
-      has_moved see old new acts ≡ false → IsIdle e came went new.kept t past
+      has_moved see old new acts ≡ false → IsIdle e came went new.machine t past
       → Means see e came went old new t acts past Idle
-  is_over : is_ended new.kept ≡ true → Means see e came went old new t acts past Ended
+  is_over : is_ended new.machine ≡ true → Means see e came went old new t acts past Ended
 
 -- by all that a turn does, the past goes on to one that the simulated modem fits; and of that its answer
 -- says the truth
@@ -282,14 +282,14 @@ pub record TurnFrom {X : Type 0} (see : Sight X) (at : LineAt) (e : End) (past :
   pub now : List Act
   pub later : IsLater past now
   pub fits : FitsSim see.received see.sent at e new now
-  pub does : is_ended old.kept ≡ false → DoesEach e old.kept new.kept t past now
+  pub does : is_ended old.machine ≡ false → DoesEach e old.machine new.machine t past now
   pub means : Means see e fits.came fits.went old new t later.newer now says
 
 -- a turn that ends in this answer, whatever past it fitted before
 pub record GoesTurn {X : Type 0} (see : Sight X) (old new : SimState X) (says : SimTurn) : Type 0 where
   pub exchange : Exchange
   pub exchanges : Exchanges see old new exchange
-  pub leaves : is_ended old.kept ≡ false → Leaves old.kept new.kept exchange
+  pub leaves : is_ended old.machine ≡ false → Leaves old.machine new.machine exchange
   pub idle : says ≡ Idle → IsIdleAtLine see old new
   pub turn :
       (at : LineAt) (e : End) (past : List Act) → FitsSim see.received see.sent at e old past

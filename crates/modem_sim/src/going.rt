@@ -1,13 +1,13 @@
-//! A turn of what a simulated modem keeps, at its line.
+//! A turn of a simulated modem's machine, at its line.
 ghost use Rattle.std.specs.Prelude.{◌≡◌, ◌≢◌, ◌⊎◌, ◌+◌, ◌≤◌, Err, IfOk, OnErr, IsErrOf};
 ghost use Rattle.modem_sim.specs.Sims.{SimGoes, failed_by, sight};
 ghost use Rattle.modem_sim.specs.Stills.{GoesOnce, LeavesUndone, at_line};
 
 use crate::error::SimError;
-use crate::kept::Kept;
+use crate::sim_machine::SimMachine;
 use serial_line::SerialLine;
 
-impl Kept {
+impl SimMachine {
     /// Steps, write, next frame, frame at hand, read; says whether anything moved.
     pub(crate) fn go_on<L: SerialLine>(&mut self, line: &mut L) -> Result<bool, SimError>
         ensures goes { SimGoes L.received L.sent (at_line line.old self.old) (at_line line.new self.new) }

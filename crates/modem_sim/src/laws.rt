@@ -13,7 +13,7 @@ ghost use Rattle.modem_sim.specs.WordRows.{BareLines, ChangeAnnounced, ClientAsk
 ghost use Rattle.modem_sim.specs.Acts.{Act, End};
 ghost use Rattle.modem_sim.specs.Histories.{SimLawful, LeavesInPieces, SaysReplies, DoesInOrder};
 ghost use Rattle.modem_sim.specs.Replied.{AnswersInLines, SendsReplies};
-ghost use Rattle.modem_sim.specs.Sims.{IsOver, Kept, KeptFits, Simulates, is_ended};
+ghost use Rattle.modem_sim.specs.Sims.{IsOver, SimMachine, SimMachineFits, Simulates, is_ended};
 ghost use Rattle.modem_sim.specs.TurnRows.{CallsNothing, EndRows, MovedRows, RightIdle, WantRows, WrongCalls, WrongCounts, WrongFailures, WrongGivings, WrongIdle, WrongTurns};
 ghost use Rattle.modem_sim.specs.HistoryRows.{GoodRows, WrongAnswers, WrongSteps, WrongOtherwise};
 
@@ -157,8 +157,8 @@ pub fn refused_turns()
 /// after all lines that came. Where it is ended it has closed down, and all is written.
 #[tactic(auto, using(crate::proofs::sims::SimPasts::simulates, crate::proofs::sims::SimPasts::is_over))]
 pub fn simulators()
-    ensures histories { (e : End) (came went : List ℕ) (k : Kept) (past : List Act)
-        → KeptFits e came went k past → Simulates e came went k past }
-    ensures ends { (e : End) (came went : List ℕ) (k : Kept) (past : List Act) → is_ended k ≡ true
-        → KeptFits e came went k past → IsOver went past }
+    ensures histories { (e : End) (came went : List ℕ) (k : SimMachine) (past : List Act)
+        → SimMachineFits e came went k past → Simulates e came went k past }
+    ensures ends { (e : End) (came went : List ℕ) (k : SimMachine) (past : List Act) → is_ended k ≡ true
+        → SimMachineFits e came went k past → IsOver went past }
 {}

@@ -35,7 +35,7 @@ impl<L: SerialLine> Sim<L> {
     fn end(&self) -> Option<Result<SimTurn, SimError>>
         ensures { result ≡ end_given self.now }
     {
-        self.kept.end
+        self.machine.end
     }
 
     /// What a poll gives is kept as the end, but for 1 NoMemory.
@@ -44,7 +44,7 @@ impl<L: SerialLine> Sim<L> {
     {
         match given {
             None | Some(Err(SimError::NoMemory)) => {}
-            Some(end) => self.kept.end = Some(end),
+            Some(end) => self.machine.end = Some(end),
         }
     }
 

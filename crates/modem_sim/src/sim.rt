@@ -6,9 +6,9 @@ ghost use Rattle.modem_sim.specs.Sims.{FitsSim, SimGoes, end_given, failed_by, h
 ghost use Rattle.modem_sim.specs.Turns.{GoesTurn, WantsMemory};
 
 use crate::error::SimError;
-use crate::kept::{Kept, Room};
 use crate::modem::Modem;
 use crate::script::Script;
+use crate::sim_machine::{Room, SimMachine};
 use mux_frame::Dlci;
 use mux_station::ChannelState;
 use serial_line::SerialLine;
@@ -41,7 +41,7 @@ pub struct SimRefused<L: SerialLine> {
 #[derive(Drop)]
 pub struct Sim<L: SerialLine> {
     line: L,
-    pub(crate) kept: Kept,
+    pub(crate) machine: SimMachine,
 }
 
 impl<L: SerialLine> Model for Sim<L> {
@@ -49,7 +49,7 @@ impl<L: SerialLine> Model for Sim<L> {
 
     ghost Value = { SimState L };
 
-    ghost view = { λ s. record { line = s.line; kept = s.kept } };
+    ghost view = { λ s. record { line = s.line; machine = s.machine } };
 }
 
 impl<L: SerialLine> Sim<L> {
@@ -82,7 +82,7 @@ impl<L: SerialLine> Sim<L> {
         match Room::new(alloc, n1) {
             Ok(room) => Ok(Sim {
                 line,
-                kept: Kept::start(room, modem, script),
+                machine: SimMachine::start(room, modem, script),
             }),
             Err(why) => Err(SimRefused {
                 why,
@@ -120,14 +120,14 @@ impl<L: SerialLine> Sim<L> {
         ensures failure { result ≡ Err SimError.Line
             → L.failures self.new.line ≡ L.failures self.old.line + 1 }
     {
-        if self.kept.is_failed() {
+        if self.machine.is_failed() {
             return Err(SimError::Failed);
         }
-        if self.kept.is_ended() {
+        if self.machine.is_ended() {
             return Ok(SimTurn::Ended);
         }
-        let moved = self.kept.go_on(&mut self.line)?;
-        if self.kept.is_ended() {
+        let moved = self.machine.go_on(&mut self.line)?;
+        if self.machine.is_ended() {
             return Ok(SimTurn::Ended);
         }
         if moved {
@@ -143,7 +143,7 @@ impl<L: SerialLine> Sim<L> {
         ensures { (at : LineAt) (e : End) (past : List Act) → FitsSim L.received L.sent at e self.now past
             → result ≡ state_shown dlci.number past }
     {
-        self.kept.core.station.state(dlci)
+        self.machine.core.station.state(dlci)
     }
 
     /// The line.
@@ -155,9 +155,9 @@ impl<L: SerialLine> Sim<L> {
 
     /// The octets that are to be written and that the line hasn't taken yet.
     pub fn unwritten(&self) -> &[u8]
-        ensures { result.now ≡ self.now.kept.out }
+        ensures { result.now ≡ self.now.machine.out }
     {
-        self.kept.line_end.unwritten()
+        self.machine.line_end.unwritten()
     }
 
     /// Lends the line. The simulated modem still fits its past afterwards, if the octets that the line received and
@@ -174,7 +174,7 @@ impl<L: SerialLine> Sim<L> {
     pub fn finish(self) -> (L, Modem)
         ensures { (result.0 ≡ self.line) × (result.1 ≡ modem_of self) }
     {
-        let Sim { line, kept } = self;
-        (line, kept.into_modem())
+        let Sim { line, machine } = self;
+        (line, machine.into_modem())
     }
 }

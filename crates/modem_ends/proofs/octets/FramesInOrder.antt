@@ -16,7 +16,7 @@ use Rattle.modem_history.proofs.connections.FrameOrder.{gives_in_order}
 use Rattle.modem_sim.specs.Acts as modem
 use Rattle.modem_sim.specs.Acts.{Did, End, Wire}
 use Rattle.modem_sim.specs.Histories as modem_laws
-use Rattle.modem_sim.specs.Sims.{Kept, KeptFits}
+use Rattle.modem_sim.specs.Sims.{SimMachine, SimMachineFits}
 use Rattle.modem_ends.proofs.octets.WithinFrames.{Within}
 use Rattle.modem_ends.proofs.octets.ReadFrames.{first_within, handed_first, handed_within}
 use Rattle.modem_ends.proofs.octets.DriverWithin.{TakesShort, sents_within}
@@ -102,7 +102,7 @@ in_place fs gs hs e g = record { later = g.later; frames = g.frames ∙ ap (λ (
 
 -- ## What the modem got
 
-pub modem_gets : (b : Beginning) (v : SessionView) (past : List driver.Act) (e : End) (came went behind : List ℕ) (k : Kept) (far : List modem.Act) → SessionFits b v past → KeptFits e came went k far
+pub modem_gets : (b : Beginning) (v : SessionView) (past : List driver.Act) (e : End) (came went behind : List ℕ) (k : SimMachine) (far : List modem.Act) → SessionFits b v past → SimMachineFits e came went k far
     → 31 ≤ b.n1 → b.n1 ≤ 32767 → e.n1 ≡ b.n1 → TakesShort past → b.line.sent ≡ [] → came ++ behind ≡ v.line.sent → AreOctets v.line.sent → AreOctets v.unwritten
     → ComesInOrder (driver.wire past) (modem.wire far)
 modem_gets b v past e came went behind k far f g low high same short fresh joins octets waiting =
@@ -118,7 +118,7 @@ modem_gets b v past e came went behind k far f g low high same short fresh joins
 
 -- ## What the driver got
 
-pub driver_gets : (b : Beginning) (v : SessionView) (past : List driver.Act) (e : End) (came went behind : List ℕ) (k : Kept) (far : List modem.Act) → SessionFits b v past → KeptFits e came went k far
+pub driver_gets : (b : Beginning) (v : SessionView) (past : List driver.Act) (e : End) (came went behind : List ℕ) (k : SimMachine) (far : List modem.Act) → SessionFits b v past → SimMachineFits e came went k far
     → 31 ≤ b.n1 → b.n1 ≤ 32767 → e.n1 ≡ b.n1 → b.line.received ≡ [] → v.line.received ++ behind ≡ went → AreOctets went → AreOctets k.out
     → ComesInOrder (modem.wire far) (driver.wire past)
 driver_gets b v past e came went behind k far f g low high same fresh joins octets waiting =

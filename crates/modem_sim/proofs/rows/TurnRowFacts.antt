@@ -9,7 +9,7 @@ use Rattle.modem_sim.specs.declared.script.Step.{Step}
 use Rattle.modem_sim.specs.declared.sim.SimTurn.{SimTurn}
 use Rattle.modem_sim.specs.Acts.{after}
 use Rattle.modem_sim.specs.Doing.{IsDue}
-use Rattle.modem_sim.specs.Sims.{Kept, SimState, has_failed}
+use Rattle.modem_sim.specs.Sims.{SimMachine, SimState, has_failed}
 use Rattle.modem_sim.specs.Cores.{holds_over, box_at}
 use Rattle.modem_sim.specs.Boxes.{is_released}
 use Rattle.modem_sim.specs.Polls.{Says}
@@ -25,7 +25,7 @@ none_left next later same = cc
 no_steps : NoneCanBeDone plain []
 no_steps act due = absurd (none_left due.next due.later due.is_first)
 
-rests : (k : Kept) → IsIdle plain [] [] k only_read []
+rests : (k : SimMachine) → IsIdle plain [] [] k only_read []
 rests k = at_rest (record {
   nothing_came = record { room = 512; some = omega arith; nothing = refl };
   through = record { rest = []; reads = no_flag [] refl; written = refl };
@@ -39,7 +39,7 @@ some_octet x xs same = cc
 pub none_some : {A : Type 0} (x : A) → None ≡ Some x → ⊥
 none_some x same = cc
 
-held_up : (k : Kept) → OneWaits k → IsHeldUp plain k (offered_one 0) []
+held_up : (k : SimMachine) → OneWaits k → IsHeldUp plain k (offered_one 0) []
 held_up k waits = record {
   waits = λ none. some_octet 7 [] (sym waits.out ∙ none);
   offered = 7 ∷ [];
@@ -54,7 +54,7 @@ held_up k waits = record {
 pub right_idle : RightIdle
 right_idle = (rests, held_up)
 
-not_read : (k : Kept) → ¬ IsIdle plain [] [] k nothing_asked []
+not_read : (k : SimMachine) → ¬ IsIdle plain [] [] k nothing_asked []
 not_read k (line_is_full full) = none_some _ full.took_none
 not_read k (at_rest rest) = none_some _ rest.nothing_came.nothing
 
@@ -62,7 +62,7 @@ count_of : Option Write → ℕ
 count_of None = 0
 count_of (Some w) = w.count
 
-took_one : (k : Kept) → ¬ IsHeldUp plain k (offered_one 1) []
+took_one : (k : SimMachine) → ¬ IsHeldUp plain k (offered_one 1) []
 unfolding count_of
 took_one k full = let same : 1 ≡ 0 = ap count_of full.took_none in absurd (omega (arith, same))
 
@@ -87,10 +87,10 @@ neither false b is is_too = is_too
 
 pub stays : (s : SimState ℕ) → has_changed unseen s s ≡ false
 stays s =
-    neither (is_fewer s.kept.unfed s.kept.unfed) _ (same_length (length s.kept.unfed))
-    (neither (is_fewer s.kept.core.steps s.kept.core.steps) _ (same_length (length s.kept.core.steps))
-    (neither (is_fewer s.kept.out s.kept.out) _ (same_length (length s.kept.out))
-    (same_length (holds_over s.kept.core.boxes))))
+    neither (is_fewer s.machine.unfed s.machine.unfed) _ (same_length (length s.machine.unfed))
+    (neither (is_fewer s.machine.core.steps s.machine.core.steps) _ (same_length (length s.machine.core.steps))
+    (neither (is_fewer s.machine.out s.machine.out) _ (same_length (length s.machine.out))
+    (same_length (holds_over s.machine.core.boxes))))
 
 pub moved_rows : MovedRows
 moved_rows = (λ k. refl, λ s f. refl, λ s octets. refl, stays, stays)
@@ -126,13 +126,13 @@ wrong_failures = (not_before, not_after, not_by_memory, not_twice)
 pub end_rows : EndRows
 end_rows = (refl, refl, refl)
 
-step_wants : (k : Kept) → IsLeft (announcing 0 one) k (after [] ready_one)
+step_wants : (k : SimMachine) → IsLeft (announcing 0 one) k (after [] ready_one)
 step_wants k = step_is_due (Announce one (codes "RING")) due_now refl
 
-frame_wants : (k : Kept) (f : Frame) → k.deframer.next ≡ Some f → IsLeft plain k []
+frame_wants : (k : SimMachine) (f : Frame) → k.deframer.next ≡ Some f → IsLeft plain k []
 frame_wants k f hand = frame_at_hand f hand
 
-nothing_wants : (k : Kept) → IsStill k → ¬ IsLeft plain k []
+nothing_wants : (k : SimMachine) → IsStill k → ¬ IsLeft plain k []
 nothing_wants k still (step_is_due act due none) = none_left due.next due.later due.is_first
 nothing_wants k still (hold_is_over d there over) = not_both (is_released (box_at k.core d).hold) over (still.holds d)
 nothing_wants k still (frame_at_hand f hand) = none_some f (sym still.hand ∙ hand)

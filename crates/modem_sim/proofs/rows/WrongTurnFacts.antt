@@ -33,7 +33,7 @@ some_calls None (Some r) same = absurd (omega (arith, same))
 some_calls (Some w) None same = absurd (omega (arith, same))
 some_calls (Some w) (Some r) same = absurd (omega (arith, same))
 
-none_read : (old new : SimState ℕ) (says : SimTurn) → is_ended old.kept ≡ false → old.kept.unfed ≡ [] → ¬ GoesTurn unseen old new says
+none_read : (old new : SimState ℕ) (says : SimTurn) → is_ended old.machine ≡ false → old.machine.unfed ≡ [] → ¬ GoesTurn unseen old new says
 none_read old new says going fed turn =
     let t = turn.exchange in
     (turn.leaves going).reads fed (some_calls t.write t.read turn.exchanges.calls_are).1
@@ -42,10 +42,10 @@ none_offered : (w : Option Write) (out : List ℕ) → w ≡ None → Offers w o
 none_offered None out is offers = offers
 none_offered (Some w) out is offers = cc
 
-none_written : (old new : SimState ℕ) (says : SimTurn) → old.kept.out ≢ [] → ¬ GoesTurn unseen old new says
+none_written : (old new : SimState ℕ) (says : SimTurn) → old.machine.out ≢ [] → ¬ GoesTurn unseen old new says
 none_written old new says waits turn =
     let t = turn.exchange in
-    waits (none_offered t.write old.kept.out (some_calls t.write t.read turn.exchanges.calls_are).0 turn.exchanges.offers)
+    waits (none_offered t.write old.machine.out (some_calls t.write t.read turn.exchanges.calls_are).0 turn.exchanges.offers)
 
 pub calls_nothing : CallsNothing
 calls_nothing = (none_read, none_written)

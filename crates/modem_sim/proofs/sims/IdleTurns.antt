@@ -35,7 +35,7 @@ use Rattle.modem_sim.specs.Outboxes.{outbox}
 use Rattle.modem_sim.specs.Doing.{call_of, named_by}
 use Rattle.modem_sim.specs.Histories.{got}
 use Rattle.modem_sim.specs.Cores.{Core, Fits, HasNoneToDo, IsHandedOn, Waits, box_at, Wired, are_open_in, counted, for_lines, for_openings, for_room, none_left, that_act, waits}
-use Rattle.modem_sim.specs.Sims.{Kept, KeptFits, SimState}
+use Rattle.modem_sim.specs.Sims.{SimMachine, SimMachineFits, SimState}
 use Rattle.modem_sim.specs.Turns.{Exchange, IsAtRest, IsIdle, IsLeft, StepIsRefused, NoneCanBeDone, WantsMemory, at_rest, frame_at_hand, has_room_for, hold_is_over, line_is_full, step_is_due}
 use Rattle.modem_sim.specs.Stills.{HasNoneToTake, LeavesUndone, StoodStill, leaves_frame, leaves_octets, leaves_step}
 use Rattle.modem_sim.proofs.ends.EndAfterFrame.{opened_is}
@@ -94,13 +94,13 @@ some_there : {A : Type 0} (o : Option A) → o ≢ None → is_none o ≡ false
 some_there None some = absurd (some refl)
 some_there (Some x) some = refl
 
-hand_fits : (k : Kept) (f : Frame) → k.deframer.next ≡ Some f → AtHand k.deframer.n1 k.deframer.undecided k.deframer.next → IsNext k.deframer.n1 k.deframer.undecided f
+hand_fits : (k : SimMachine) (f : Frame) → k.deframer.next ≡ Some f → AtHand k.deframer.n1 k.deframer.undecided k.deframer.next → IsNext k.deframer.n1 k.deframer.undecided f
 hand_fits k f is hand = subst (λ (o : Option Frame). AtHand k.deframer.n1 k.deframer.undecided o) is hand
 
-same_n1 : (e : End) (came went : List ℕ) (k : Kept) (past : List Act) → KeptFits e came went k past → k.core.station.n1 ≡ k.deframer.n1
+same_n1 : (e : End) (came went : List ℕ) (k : SimMachine) (past : List Act) → SimMachineFits e came went k past → k.core.station.n1 ≡ k.deframer.n1
 same_n1 e came went k past fits = ap (λ (s : sending.StationSetting). s.n1) fits.core_fits.setting_is ∙ sym fits.n1_is
 
-pub no_room : (e : End) (came went : List ℕ) (k : Kept) (past : List Act) → HasNoneToTake k → KeptFits e came went k past → (f : Frame) → k.deframer.next ≡ Some f → has_room_for e past f ≡ false
+pub no_room : (e : End) (came went : List ℕ) (k : SimMachine) (past : List Act) → HasNoneToTake k → SimMachineFits e came went k past → (f : Frame) → k.deframer.next ≡ Some f → has_room_for e past f ≡ false
 no_room e came went k past none fits f hand =
     let next = hand_fits k f hand fits.deframes.at_hand in
     let By : sending.StationSetting → Type 0 = λ s. sending.got_refused s (sending.station_view s (wire past)) f ≢ None in
@@ -109,7 +109,7 @@ no_room e came went k past none fits f hand =
     (λ taken. none f hand (sees_the_frame k.core.station (wire past) f fits.core_fits.station_is next.spells.dlci ∙ taken)))
 
 -- a frame that the station takes finds room
-pub some_room : (e : End) (came went : List ℕ) (k : Kept) (past : List Act) → KeptFits e came went k past → (f : Frame) → k.deframer.next ≡ Some f → sending.got_refused (stations.setting_of k.core.station) (stations.seen_in k.core.station) f ≡ None → has_room_for e past f ≡ true
+pub some_room : (e : End) (came went : List ℕ) (k : SimMachine) (past : List Act) → SimMachineFits e came went k past → (f : Frame) → k.deframer.next ≡ Some f → sending.got_refused (stations.setting_of k.core.station) (stations.seen_in k.core.station) f ≡ None → has_room_for e past f ≡ true
 some_room e came went k past fits f hand room =
     let next = hand_fits k f hand fits.deframes.at_hand in
     let By : sending.StationSetting → Type 0 = λ s. sending.got_refused s (sending.station_view s (wire past)) f ≡ None in
@@ -127,7 +127,7 @@ without_refusal true is = refl
 without_refusal false is = cc
 
 -- where no control frame waits none is at hand
-none_at_hand : (e : End) (came went : List ℕ) (k : Kept) (past : List Act) → k.core.station.queue ≡ [] → HasNoneToTake k → KeptFits e came went k past → (o : Option Frame) → k.deframer.next ≡ o → k.deframer.next ≡ None
+none_at_hand : (e : End) (came went : List ℕ) (k : SimMachine) (past : List Act) → k.core.station.queue ≡ [] → HasNoneToTake k → SimMachineFits e came went k past → (o : Option Frame) → k.deframer.next ≡ o → k.deframer.next ≡ None
 none_at_hand e came went k past queue none fits None is = is
 none_at_hand e came went k past queue none fits (Some f) is =
     let next = hand_fits k f is fits.deframes.at_hand in
@@ -147,11 +147,11 @@ none_at_hand e came went k past queue none fits (Some f) is =
 late_enough : (n after come : ℕ) → counted n ≡ come → after ≤ come → nat_le after n ≡ true
 late_enough n after come is late = let low : after ≤ n = omega (arith, is, late) in grind (arith, nat_tests)
 
-some_hand : (o : Option Frame) (e : End) (k : Kept) (past : List Act) → k.deframer.next ≡ o → k.deframer.next ≢ None → IsLeft e k past
+some_hand : (o : Option Frame) (e : End) (k : SimMachine) (past : List Act) → k.deframer.next ≡ o → k.deframer.next ≢ None → IsLeft e k past
 some_hand None e k past is some = absurd (some is)
 some_hand (Some f) e k past is some = frame_at_hand f is
 
-pub is_left : (e : End) (came went : List ℕ) (k : Kept) (past : List Act) → LeavesUndone k → KeptFits e came went k past → IsLeft e k past
+pub is_left : (e : End) (came went : List ℕ) (k : SimMachine) (past : List Act) → LeavesUndone k → SimMachineFits e came went k past → IsLeft e k past
 is_left e came went k past (leaves_step s) fits =
     let core = fits.core_fits in
     step_is_due s.step.act
@@ -172,8 +172,8 @@ pub refused_by : {P : Type 0} (r : Result SimTurn SimError) (e : SimError) → I
 refused_by (Ok turn) e is none there = cc
 refused_by (Err y) e is none there = let same : y ≡ NoMemory = cc in there (ap (λ (x : SimError). Err x) (sym is ∙ same))
 
-pub wants_memory : {X : Type 0} (received sent_by : X → List ℕ) (s : SimState X) → LeavesUndone s.kept → WantsMemory received sent_by s
-wants_memory received sent_by s left at e past fits = is_left e fits.came fits.went s.kept past left fits.kept_fits
+pub wants_memory : {X : Type 0} (received sent_by : X → List ℕ) (s : SimState X) → LeavesUndone s.machine → WantsMemory received sent_by s
+wants_memory received sent_by s left at e past fits = is_left e fits.came fits.went s.machine past left fits.machine_fits
 
 -- ## What goes out
 
@@ -241,7 +241,7 @@ all_out_on e w c past handed none fits d false is small there goes =
 
 -- ## Idle
 
-rests : (e : End) (came went : List ℕ) (k : Kept) (t : Exchange) (past : List Act) → k.out ≡ [] → StoodStill k t → KeptFits e came went k past → IsAtRest e came went t past
+rests : (e : End) (came went : List ℕ) (k : SimMachine) (t : Exchange) (past : List Act) → k.out ≡ [] → StoodStill k t → SimMachineFits e came went k past → IsAtRest e came went t past
 rests e came went k t past written still fits =
     let core = fits.core_fits in
     let load = still.rest written in
@@ -274,7 +274,7 @@ rests e came went k t past written still fits =
 some_there_too : (x : ℕ) (xs : List ℕ) → x ∷ xs ≢ []
 some_there_too x xs same = cc
 
-pub idle : (e : End) (came went : List ℕ) (k : Kept) (t : Exchange) (past : List Act) → StoodStill k t → KeptFits e came went k past → IsIdle e came went k t past
+pub idle : (e : End) (came went : List ℕ) (k : SimMachine) (t : Exchange) (past : List Act) → StoodStill k t → SimMachineFits e came went k past → IsIdle e came went k t past
 idle e came went k t past still fits = by_out k.out refl
   where
     by_out : (out : List ℕ) → k.out ≡ out → IsIdle e came went k t past

@@ -15,7 +15,7 @@ use Rattle.modem_sim.specs.Acts.{Act, Wire, End, any_act, is_handing, is_open_at
 use Rattle.modem_sim.specs.Pieces.{pieces_octets}
 use Rattle.modem_sim.specs.Outboxes.{outbox}
 use Rattle.modem_sim.specs.Cores.{Core, Fits, GivesOut, IsGivenOn, IsLater, Wired, box_at, from_queue, gone_on, sent_now}
-use Rattle.modem_sim.specs.Sims.{Kept, KeptFits, KeptGoes}
+use Rattle.modem_sim.specs.Sims.{SimMachine, SimMachineFits, SimMachineGoes}
 use Rattle.modem_sim.specs.Turns.{HandsOn, NoneIsThere}
 use Rattle.modem_sim.specs.Stills.{AllHanded, HandsFrom, Loads, LoadsBy, OffersAll, let_go, puts, puts_none, some_wait}
 use Rattle.modem_sim.proofs.connections.ControlChannel.{none_given, says_none}
@@ -52,7 +52,7 @@ none_is_there e w c past none fits = record {
   sent = λ d small other there goes. sent_all e w c past none fits d small other there goes;
 }
 
-at_core : (e : End) (came went : List ℕ) (old : Kept) (past now : List Act) (core : Core) (fits : KeptFits e came went old past) → Fits e fits.wired core now → KeptFits e came went (record old { core = core }) now
+at_core : (e : End) (came went : List ℕ) (old : SimMachine) (past now : List Act) (core : Core) (fits : SimMachineFits e came went old past) → Fits e fits.wired core now → SimMachineFits e came went (record old { core = core }) now
 at_core e came went old past now core fits there = record {
   wired = fits.wired;
   core_fits = there;
@@ -67,7 +67,7 @@ hands_brings : (e : End) (w : Wired) (past : List Act) (c : Core) (some : Bool) 
 unfolding hands_on
 hands_brings e w past c some h = h.brings
 
-pub loads_frame : (old : Kept) (mid core : Core) (offered_any fresh : Bool) (g : Outgoing) (out : List ℕ) → old.out ≡ [] → (offers : OffersAll old.core mid offered_any) → Some g ≡ option_map (with_freshness fresh) (next_given mid.station mid.station.queue) → length g.frame.info ≤ 1024 → (length g.frame.info ≤ spelling.most_info 1024 g.frame.kind → out ≡ spelling.spelled g.frame) → GivesOut mid → core ≡ gone_on mid → Loads old (record old { core = core; out = out }) offers.some
+pub loads_frame : (old : SimMachine) (mid core : Core) (offered_any fresh : Bool) (g : Outgoing) (out : List ℕ) → old.out ≡ [] → (offers : OffersAll old.core mid offered_any) → Some g ≡ option_map (with_freshness fresh) (next_given mid.station mid.station.queue) → length g.frame.info ≤ 1024 → (length g.frame.info ≤ spelling.most_info 1024 g.frame.kind → out ≡ spelling.spelled g.frame) → GivesOut mid → core ≡ gone_on mid → Loads old (record old { core = core; out = out }) offers.some
 loads_frame old mid core offered_any fresh g out none offers some short writes gives is = puts offers.some none (λ e came went past fits.
     let h = offers.hands e fits.wired past fits.core_fits in
     let gave = fetched_some old mid core fresh g out none some short writes gives is e came went h.from.now (at_core e came went old past h.from.now mid fits h.from.fits) in
@@ -82,7 +82,7 @@ loads_frame old mid core offered_any fresh g out none offers some short writes g
       fits = gave.fits;
     })
 
-pub loads_no_frame : (old : Kept) (mid core : Core) (offered_any fresh : Bool) → old.out ≡ [] → (offers : OffersAll old.core mid offered_any) → None ≡ option_map (with_freshness fresh) (next_given mid.station mid.station.queue) → core ≡ gone_on mid → LoadsBy old (record old { core = core }) offered_any
+pub loads_no_frame : (old : SimMachine) (mid core : Core) (offered_any fresh : Bool) → old.out ≡ [] → (offers : OffersAll old.core mid offered_any) → None ≡ option_map (with_freshness fresh) (next_given mid.station mid.station.queue) → core ≡ gone_on mid → LoadsBy old (record old { core = core }) offered_any
 loads_no_frame old mid core offered_any fresh none offers no_frame is =
     let At : Core → Type 0 = λ c. LoadsBy old (record old { core = c }) offered_any in
     subst At (sym (fetched_nothing mid mid core fresh refl no_frame is))
@@ -103,7 +103,7 @@ loads_no_frame old mid core offered_any fresh none offers no_frame is =
     })
 
 -- octets wait for the line
-pub loads_nothing_yet : (k : Kept) → k.out ≢ [] → LoadsBy k k false
+pub loads_nothing_yet : (k : SimMachine) → k.out ≢ [] → LoadsBy k k false
 loads_nothing_yet k some = record { some = false; loads = some_wait some refl; has_loaded = λ moved. cc; none = λ still. refl }
 
 -- which goes on
@@ -111,9 +111,9 @@ given_later : (past now : List Act) (f : Frame) → IsGivenOn past f now → IsL
 given_later past now f (from_queue later is) = record { newer = Wire station.Given ∷ []; joins = refl }
 given_later past now f (sent_now is) = record { newer = Wire (station.Sent f) ∷ []; joins = refl }
 
-pub loaded_goes : (old new : Kept) (some : Bool) → Loads old new some → KeptGoes any_act old new
+pub loaded_goes : (old new : SimMachine) (some : Bool) → Loads old new some → SimMachineGoes any_act old new
 loaded_goes old new _ (some_wait some same) e came went past fits =
-    let At : Kept → Type 0 = λ k. KeptFits e came went k past in
+    let At : SimMachine → Type 0 = λ k. SimMachineFits e came went k past in
     record { now = past; later = record { newer = []; joins = refl }; only = refl; fits = subst At (sym same) fits }
 loaded_goes old new _ (puts some none goes) e came went past fits =
     let went_on = goes e came went past fits in

@@ -6,14 +6,14 @@ use Rattle.modem_sim.specs.declared.error.SimError.TheVariants as why
 use Rattle.modem_sim.specs.declared.sim.SimTurn.{SimTurn}
 use Rattle.modem_sim.specs.declared.sim.SimTurn.TheVariants.{Moved, Idle, Ended}
 use Rattle.modem_sim.specs.Acts.{any_act}
-use Rattle.modem_sim.specs.Sims.{Kept, KeptGoes, Sight, SimState, SimGoes, end_given, has_failed}
+use Rattle.modem_sim.specs.Sims.{SimMachine, SimMachineGoes, Sight, SimState, SimGoes, end_given, has_failed}
 use Rattle.modem_sim.specs.Polls.{Gives, MovesOn, Polls, PollsFrom, PollsOn, Runs, RunsInHistories, Says, StaysSound, Turned, ends, fails, goes_on, moves_none, moves_once, rests, waits_none, waits_once, with_given}
-use Rattle.modem_sim.proofs.sims.SimPasts.{sim_kept, sim_none, sim_then}
+use Rattle.modem_sim.proofs.sims.SimPasts.{sim_machine_goes, sim_none, sim_then}
 use Rattle.modem_sim.proofs.sims.PollHistories.{runs_in_histories}
 
 -- an end that is kept says nothing of the past
-kept_ending : (k : Kept) (end : Option (Result SimTurn SimError)) → KeptGoes any_act k (record k { end = end })
-kept_ending k end e came went past fits = record {
+machine_ending : (k : SimMachine) (end : Option (Result SimTurn SimError)) → SimMachineGoes any_act k (record k { end = end })
+machine_ending k end e came went past fits = record {
   now = past;
   later = record { newer = []; joins = refl };
   only = refl;
@@ -33,7 +33,7 @@ goes_given received sent old mid new None goes stays = subst (SimGoes received s
 goes_given received sent old mid new (Some given) goes stays =
     let ended : SimState _ = with_given (Some given) mid in
     subst (SimGoes received sent old) (sym stays)
-    (sim_then received sent old mid ended goes (sim_kept received sent mid any_act ended.kept (kept_ending mid.kept ended.kept.end)))
+    (sim_then received sent old mid ended goes (sim_machine_goes received sent mid any_act ended.machine (machine_ending mid.machine ended.machine.end)))
 
 -- ## What is given
 
@@ -176,14 +176,14 @@ module _ {X : Type 0} (see : Sight X) where
 -- ## A poll
 
 -- where no end is kept
-pub polls_on : {X : Type 0} (see : Sight X) (old mid new : SimState X) (given : Option (Result SimTurn SimError)) → None ≡ old.kept.end → Runs see old mid given → new ≡ with_given given mid → Polls see old new given
+pub polls_on : {X : Type 0} (see : Sight X) (old mid new : SimState X) (given : Option (Result SimTurn SimError)) → None ≡ old.machine.end → Runs see old mid given → new ≡ with_given given mid → Polls see old new given
 unfolding Polls
 polls_on see old mid new given none runs stays =
     let From : Option (Result SimTurn SimError) → Type 0 = λ end. PollsFrom see end old new given in
     subst From none (record { mid = mid; runs = runs; through = runs_in_histories see old mid given runs; stays = stays })
 
 -- where one is
-pub polls_again : {X : Type 0} (see : Sight X) (s : SimState X) (end : Result SimTurn SimError) → Some end ≡ s.kept.end → Polls see s s (Some end)
+pub polls_again : {X : Type 0} (see : Sight X) (s : SimState X) (end : Result SimTurn SimError) → Some end ≡ s.machine.end → Polls see s s (Some end)
 unfolding Polls
 polls_again see s end some =
     let From : Option (Result SimTurn SimError) → Type 0 = λ o. PollsFrom see o s s (Some end) in

@@ -19,8 +19,8 @@ use Rattle.mux_station.specs.Giving.{data_frame, data_given, station_after, next
 use Rattle.mux_station.specs.GivenFrames.{Outgoing, with_freshness}
 use Rattle.modem_sim.specs.Acts.{Act, Wire, End, any_act, setting, wire}
 use Rattle.modem_sim.specs.Cores.{Core, Goes, EndGoesOn, GivesOut, IsGivenOn, IsLater, after_wire_act, gone_on}
-use Rattle.modem_sim.specs.Sims.{Kept, KeptFits, KeptGoes, Receives, SimState, SimGoes, Simulates, IsOver, is_ended}
-use Rattle.modem_sim.specs.Stills.{KeptStays, TakesFrame}
+use Rattle.modem_sim.specs.Sims.{SimMachine, SimMachineFits, SimMachineGoes, Receives, SimState, SimGoes, Simulates, IsOver, is_ended}
+use Rattle.modem_sim.specs.Stills.{SimMachineStays, TakesFrame}
 use Rattle.modem_sim.proofs.ends.EndAfterFrame.{later-sent_after}
 use Rattle.modem_sim.proofs.ends.OfferedPieces.{later_then}
 use Rattle.mux_station.proofs.law_proofs.PlainFrames.{plain_short}
@@ -30,18 +30,18 @@ pub all_any : (acts : List Act) → list_all any_act acts ≡ true
 all_any [] = refl
 all_any (a ∷ acts) = all_any acts
 
-pub kept_none : (may : Act → Bool) (k : Kept) → KeptGoes may k k
-kept_none may k e came went past fits = record { now = past; later = record { newer = []; joins = refl }; only = refl; fits = fits }
+pub machine_none : (may : Act → Bool) (k : SimMachine) → SimMachineGoes may k k
+machine_none may k e came went past fits = record { now = past; later = record { newer = []; joins = refl }; only = refl; fits = fits }
 
 -- by acts of any kind
-pub kept_any : (may : Act → Bool) (a b : Kept) → KeptGoes may a b → KeptGoes any_act a b
-kept_any may a b goes e came went past fits =
+pub machine_any : (may : Act → Bool) (a b : SimMachine) → SimMachineGoes may a b → SimMachineGoes any_act a b
+machine_any may a b goes e came went past fits =
     let from = goes e came went past fits in
     record { now = from.now; later = from.later; only = all_any from.later.newer; fits = from.fits }
 
 -- where its end goes on by itself
-pub kept_core : (may : Act → Bool) (old : Kept) (core : Core) → Goes may old.core core → KeptGoes may old (record old { core = core })
-kept_core may old core goes e came went past fits =
+pub machine_core : (may : Act → Bool) (old : SimMachine) (core : Core) → Goes may old.core core → SimMachineGoes may old (record old { core = core })
+machine_core may old core goes e came went past fits =
     let went_on = goes e fits.wired past fits.core_fits in
     record {
       now = went_on.now;
@@ -59,7 +59,7 @@ kept_core may old core goes e came went past fits =
     }
 
 -- where it takes the frame at hand
-pub took_fits : (old : Kept) (core : Core) (d : Deframing) (f : Frame) → old.deframer.next ≡ Some f → EndGoesOn old.core core f → HandsOver old.deframer d → d.n1 ≡ old.deframer.n1 → (e : End) (came went : List ℕ) (past : List Act) → KeptFits e came went old past → KeptFits e came went (record old { core = core; deframer = d }) (after_wire_act e past (station.Got f))
+pub took_fits : (old : SimMachine) (core : Core) (d : Deframing) (f : Frame) → old.deframer.next ≡ Some f → EndGoesOn old.core core f → HandsOver old.deframer d → d.n1 ≡ old.deframer.n1 → (e : End) (came went : List ℕ) (past : List Act) → SimMachineFits e came went old past → SimMachineFits e came went (record old { core = core; deframer = d }) (after_wire_act e past (station.Got f))
 took_fits old core d f hand goes hands same e came went past fits = record {
   wired = record fits.wired { came = fits.wired.came ++ f ∷ [] };
   core_fits = goes e fits.wired past fits.core_fits;
@@ -74,7 +74,7 @@ pub none_so : {A : Type 0} (o : Option A) → is_none o ≡ true → o ≡ None
 none_so None is = refl
 none_so (Some x) is = cc
 
-pub takes_frame : (old : Kept) (core : Core) (d : Deframing) (f : Frame) → old.deframer.next ≡ Some f → EndGoesOn old.core core f → HandsOver old.deframer d → d.n1 ≡ old.deframer.n1 → got_refused (stations.setting_of old.core.station) (stations.seen_in old.core.station) f ≡ None → TakesFrame old (record old { core = core; deframer = d })
+pub takes_frame : (old : SimMachine) (core : Core) (d : Deframing) (f : Frame) → old.deframer.next ≡ Some f → EndGoesOn old.core core f → HandsOver old.deframer d → d.n1 ≡ old.deframer.n1 → got_refused (stations.setting_of old.core.station) (stations.seen_in old.core.station) f ≡ None → TakesFrame old (record old { core = core; deframer = d })
 takes_frame old core d f hand goes hands same room = record { frame = f; hand = hand; room = room; goes = took_fits old core d f hand goes hands same }
 
 unfoldable pub later_act : (e : End) (past : List Act) (a : station.Act) → IsLater past (after_wire_act e past a)
@@ -82,8 +82,8 @@ later_act e past a =
     let begun = later-sent_after (sending.called_frames (setting e) (wire past) a) (Wire a ∷ past) in
     record { newer = begun.newer ++ Wire a ∷ []; joins = append_assoc begun.newer (Wire a ∷ []) past ∙ begun.joins }
 
-pub kept_took : (old : Kept) (core : Core) (d : Deframing) (f : Frame) → old.deframer.next ≡ Some f → EndGoesOn old.core core f → HandsOver old.deframer d → d.n1 ≡ old.deframer.n1 → KeptGoes any_act old (record old { core = core; deframer = d })
-kept_took old core d f hand goes hands same e came went past fits =
+pub machine_took : (old : SimMachine) (core : Core) (d : Deframing) (f : Frame) → old.deframer.next ≡ Some f → EndGoesOn old.core core f → HandsOver old.deframer d → d.n1 ≡ old.deframer.n1 → SimMachineGoes any_act old (record old { core = core; deframer = d })
+machine_took old core d f hand goes hands same e came went past fits =
     let later = later_act e past (station.Got f) in
     record {
       now = after_wire_act e past (station.Got f);
@@ -93,13 +93,13 @@ kept_took old core d f hand goes hands same e came went past fits =
     }
 
 -- where its end gives a frame on, whose octets are to be written
-pub record Gave (e : End) (came went : List ℕ) (past : List Act) (f : Frame) (k : Kept) : Type 0 where
+pub record Gave (e : End) (came went : List ℕ) (past : List Act) (f : Frame) (k : SimMachine) : Type 0 where
   pub now : List Act
   pub given : IsGivenOn past f now
   pub written : k.out ≡ spelling.spelled f
-  pub fits : KeptFits e came went k now
+  pub fits : SimMachineFits e came went k now
 
-pub gave_fits : (old : Kept) (f : Frame) (out : List ℕ) → old.out ≡ [] → next_given old.core.station old.core.station.queue ≡ Some f → length f.info ≤ 1024 → (length f.info ≤ spelling.most_info 1024 f.kind → out ≡ spelling.spelled f) → GivesOut old.core → (e : End) (came went : List ℕ) (past : List Act) → KeptFits e came went old past → Gave e came went past f (record old { core = gone_on old.core; out = out })
+pub gave_fits : (old : SimMachine) (f : Frame) (out : List ℕ) → old.out ≡ [] → next_given old.core.station old.core.station.queue ≡ Some f → length f.info ≤ 1024 → (length f.info ≤ spelling.most_info 1024 f.kind → out ≡ spelling.spelled f) → GivesOut old.core → (e : End) (came went : List ℕ) (past : List Act) → SimMachineFits e came went old past → Gave e came went past f (record old { core = gone_on old.core; out = out })
 gave_fits old f out none next short writes gives e came went past fits =
     let went_on = gives f next e fits.wired past fits.core_fits in
     let written = writes (plain_short f (goes_out_plain e fits.wired old.core past f fits.core_fits next) short) in
@@ -122,7 +122,7 @@ gave_fits old f out none next short writes gives e came went past fits =
     }
 
 -- where its deframer takes octets
-pub fed_fits : (old : Kept) (d : Deframing) (n : ℕ) → TakesIn old.deframer (take n old.unfed) d → d.n1 ≡ old.deframer.n1 → KeptStays old (record old { unfed = drop n old.unfed; deframer = d })
+pub fed_fits : (old : SimMachine) (d : Deframing) (n : ℕ) → TakesIn old.deframer (take n old.unfed) d → d.n1 ≡ old.deframer.n1 → SimMachineStays old (record old { unfed = drop n old.unfed; deframer = d })
 fed_fits old d n takes same e came went past fits = record {
   wired = fits.wired;
   core_fits = fits.core_fits;
@@ -133,8 +133,8 @@ fed_fits old d n takes same e came went past fits = record {
   went_is = fits.went_is;
 }
 
-pub kept_fed : (old : Kept) (d : Deframing) (n : ℕ) → TakesIn old.deframer (take n old.unfed) d → d.n1 ≡ old.deframer.n1 → KeptGoes any_act old (record old { unfed = drop n old.unfed; deframer = d })
-kept_fed old d n takes same e came went past fits = record {
+pub machine_fed : (old : SimMachine) (d : Deframing) (n : ℕ) → TakesIn old.deframer (take n old.unfed) d → d.n1 ≡ old.deframer.n1 → SimMachineGoes any_act old (record old { unfed = drop n old.unfed; deframer = d })
+machine_fed old d n takes same e came went past fits = record {
   now = past;
   later = record { newer = []; joins = refl };
   only = refl;
@@ -144,8 +144,8 @@ kept_fed old d n takes same e came went past fits = record {
 -- ## With the line
 
 -- octets came
-pub kept_read : (e : End) (came went : List ℕ) (past : List Act) (old : Kept) (octets : List ℕ) → KeptFits e came went old past → KeptFits e (came ++ octets) went (record old { unfed = old.unfed ++ octets }) past
-kept_read e came went past old octets fits = record {
+pub machine_read : (e : End) (came went : List ℕ) (past : List Act) (old : SimMachine) (octets : List ℕ) → SimMachineFits e came went old past → SimMachineFits e (came ++ octets) went (record old { unfed = old.unfed ++ octets }) past
+machine_read e came went past old octets fits = record {
   wired = fits.wired;
   core_fits = fits.core_fits;
   n1_is = fits.n1_is;
@@ -156,8 +156,8 @@ kept_read e came went past old octets fits = record {
 }
 
 -- octets went
-pub kept_wrote : (e : End) (came went : List ℕ) (past : List Act) (old : Kept) (n : ℕ) → KeptFits e came went old past → KeptFits e came (went ++ take n old.out) (record old { out = drop n old.out }) past
-kept_wrote e came went past old n fits = record {
+pub machine_wrote : (e : End) (came went : List ℕ) (past : List Act) (old : SimMachine) (n : ℕ) → SimMachineFits e came went old past → SimMachineFits e came (went ++ take n old.out) (record old { out = drop n old.out }) past
+machine_wrote e came went past old n fits = record {
   wired = fits.wired;
   core_fits = fits.core_fits;
   n1_is = fits.n1_is;
@@ -177,18 +177,18 @@ sim_then received sent a b c p q at e past fits =
     record { now = second.now; later = later_then past first.now second.now first.later second.later; fits = second.fits }
 
 -- the line as it was
-pub sim_kept : {X : Type 0} (received sent : X → List ℕ) (s : SimState X) (may : Act → Bool) (k : Kept) → KeptGoes may s.kept k → SimGoes received sent s (record s { kept = k })
-sim_kept received sent s may k goes at e past fits =
-    let went_on = goes e fits.came fits.went past fits.kept_fits in
+pub sim_machine_goes : {X : Type 0} (received sent : X → List ℕ) (s : SimState X) (may : Act → Bool) (k : SimMachine) → SimMachineGoes may s.machine k → SimGoes received sent s (record s { machine = k })
+sim_machine_goes received sent s may k goes at e past fits =
+    let went_on = goes e fits.came fits.went past fits.machine_fits in
     record {
       now = went_on.now;
       later = went_on.later;
-      fits = record { came = fits.came; went = fits.went; received_is = fits.received_is; sent_is = fits.sent_is; kept_fits = went_on.fits };
+      fits = record { came = fits.came; went = fits.went; received_is = fits.received_is; sent_is = fits.sent_is; machine_fits = went_on.fits };
     }
 
 -- a flag that says nothing of the past
-pub kept_failed : (k : Kept) → KeptGoes any_act k (record k { failed = true })
-kept_failed k e came went past fits = record {
+pub machine_failed : (k : SimMachine) → SimMachineGoes any_act k (record k { failed = true })
+machine_failed k e came went past fits = record {
   now = past;
   later = record { newer = []; joins = refl };
   only = refl;
@@ -208,12 +208,12 @@ pub sim_line : {X : Type 0} (received sent : X → List ℕ) (s : SimState X) (l
 sim_line received sent s line came went at e past fits = record {
   now = past;
   later = record { newer = []; joins = refl };
-  fits = record { came = fits.came; went = fits.went; received_is = came ∙ fits.received_is; sent_is = went ∙ fits.sent_is; kept_fits = fits.kept_fits };
+  fits = record { came = fits.came; went = fits.went; received_is = came ∙ fits.received_is; sent_is = went ∙ fits.sent_is; machine_fits = fits.machine_fits };
 }
 
-pub sim_read : {X : Type 0} (received sent : X → List ℕ) (s : SimState X) (line : X) (k : Kept) → Receives (received s.line) (received line) s.kept k → sent line ≡ sent s.line → SimGoes received sent s (record { line = line; kept = k })
+pub sim_read : {X : Type 0} (received sent : X → List ℕ) (s : SimState X) (line : X) (k : SimMachine) → Receives (received s.line) (received line) s.machine k → sent line ≡ sent s.line → SimGoes received sent s (record { line = line; machine = k })
 sim_read received sent s line k got went at e past fits =
-    let At : Kept → Type 0 = λ x. KeptFits e (fits.came ++ got.fresh) fits.went x past in
+    let At : SimMachine → Type 0 = λ x. SimMachineFits e (fits.came ++ got.fresh) fits.went x past in
     record {
       now = past;
       later = record { newer = []; joins = refl };
@@ -222,38 +222,38 @@ sim_read received sent s line k got went at e past fits =
         went = fits.went;
         received_is = got.came ∙ ap (λ x. x ++ got.fresh) fits.received_is ∙ append_assoc at.received fits.came got.fresh;
         sent_is = went ∙ fits.sent_is;
-        kept_fits = subst At (sym got.kept) (kept_read e fits.came fits.went past s.kept got.fresh fits.kept_fits);
+        machine_fits = subst At (sym got.kept) (machine_read e fits.came fits.went past s.machine got.fresh fits.machine_fits);
       };
     }
 
-pub sim_wrote : {X : Type 0} (received sent : X → List ℕ) (s : SimState X) (line : X) (k : Kept) (n : ℕ) → received line ≡ received s.line → sent line ≡ sent s.line ++ take n s.kept.out → k ≡ record s.kept { out = drop n s.kept.out } → SimGoes received sent s (record { line = line; kept = k })
+pub sim_wrote : {X : Type 0} (received sent : X → List ℕ) (s : SimState X) (line : X) (k : SimMachine) (n : ℕ) → received line ≡ received s.line → sent line ≡ sent s.line ++ take n s.machine.out → k ≡ record s.machine { out = drop n s.machine.out } → SimGoes received sent s (record { line = line; machine = k })
 sim_wrote received sent s line k n came went is at e past fits =
-    let At : Kept → Type 0 = λ x. KeptFits e fits.came (fits.went ++ take n s.kept.out) x past in
+    let At : SimMachine → Type 0 = λ x. SimMachineFits e fits.came (fits.went ++ take n s.machine.out) x past in
     record {
       now = past;
       later = record { newer = []; joins = refl };
       fits = record {
         came = fits.came;
-        went = fits.went ++ take n s.kept.out;
+        went = fits.went ++ take n s.machine.out;
         received_is = came ∙ fits.received_is;
-        sent_is = went ∙ ap (λ x. x ++ take n s.kept.out) fits.sent_is ∙ append_assoc at.sent fits.went (take n s.kept.out);
-        kept_fits = subst At (sym is) (kept_wrote e fits.came fits.went past s.kept n fits.kept_fits);
+        sent_is = went ∙ ap (λ x. x ++ take n s.machine.out) fits.sent_is ∙ append_assoc at.sent fits.went (take n s.machine.out);
+        machine_fits = subst At (sym is) (machine_wrote e fits.came fits.went past s.machine n fits.machine_fits);
       };
     }
 
 -- the line failed
-pub sim_failed : {X : Type 0} (received sent : X → List ℕ) (s : SimState X) (line : X) (k : Kept) → received line ≡ received s.line → sent line ≡ sent s.line → k ≡ record s.kept { failed = true } → SimGoes received sent s (record { line = line; kept = k })
+pub sim_failed : {X : Type 0} (received sent : X → List ℕ) (s : SimState X) (line : X) (k : SimMachine) → received line ≡ received s.line → sent line ≡ sent s.line → k ≡ record s.machine { failed = true } → SimGoes received sent s (record { line = line; machine = k })
 sim_failed received sent s line k came went is =
-    let At : Kept → Type 0 = λ x. SimGoes received sent s (record { line = line; kept = x }) in
+    let At : SimMachine → Type 0 = λ x. SimGoes received sent s (record { line = line; machine = x }) in
     let there : SimState _ = record s { line = line } in
     subst At (sym is)
-    (sim_then received sent s there (record { line = line; kept = record s.kept { failed = true } }) (sim_line received sent s line came went) (sim_kept received sent there any_act (record s.kept { failed = true }) (kept_failed s.kept)))
+    (sim_then received sent s there (record { line = line; machine = record s.machine { failed = true } }) (sim_line received sent s line came went) (sim_machine_goes received sent there any_act (record s.machine { failed = true }) (machine_failed s.machine)))
 
-pub sim_wrote_by : {X E : Type 0} (received sent : X → List ℕ) (s : SimState X) (line : X) (k : Kept) (r : Result ℕ E) → IfOk r (λ n. sent line ≡ sent s.line ++ take n s.kept.out) → IfOk r (λ n. k ≡ record s.kept { out = drop n s.kept.out }) → OnErr r (sent line ≡ sent s.line) → OnErr r (k ≡ record s.kept { failed = true }) → received line ≡ received s.line → SimGoes received sent s (record { line = line; kept = k })
+pub sim_wrote_by : {X E : Type 0} (received sent : X → List ℕ) (s : SimState X) (line : X) (k : SimMachine) (r : Result ℕ E) → IfOk r (λ n. sent line ≡ sent s.line ++ take n s.machine.out) → IfOk r (λ n. k ≡ record s.machine { out = drop n s.machine.out }) → OnErr r (sent line ≡ sent s.line) → OnErr r (k ≡ record s.machine { failed = true }) → received line ≡ received s.line → SimGoes received sent s (record { line = line; machine = k })
 sim_wrote_by received sent s line k (Ok n) went is none_went failed came = sim_wrote received sent s line k n came went is
 sim_wrote_by received sent s line k (Err why) went is none_went failed came = sim_failed received sent s line k came none_went failed
 
-pub sim_read_by : {X A E : Type 0} (received sent : X → List ℕ) (s : SimState X) (line : X) (k : Kept) (r : Result A E) → OnOk r (Receives (received s.line) (received line) s.kept k) → OnErr r (received line ≡ received s.line) → OnErr r (k ≡ record s.kept { failed = true }) → sent line ≡ sent s.line → SimGoes received sent s (record { line = line; kept = k })
+pub sim_read_by : {X A E : Type 0} (received sent : X → List ℕ) (s : SimState X) (line : X) (k : SimMachine) (r : Result A E) → OnOk r (Receives (received s.line) (received line) s.machine k) → OnErr r (received line ≡ received s.line) → OnErr r (k ≡ record s.machine { failed = true }) → sent line ≡ sent s.line → SimGoes received sent s (record { line = line; machine = k })
 sim_read_by received sent s line k (Ok n) came none_came failed went = sim_read received sent s line k came went
 sim_read_by received sent s line k (Err why) came none_came failed went = sim_failed received sent s line k none_came went failed
 
@@ -300,7 +300,7 @@ fetched_none old mid core may fresh goes none is =
     subst (Goes may old) (sym (is ∙ gone_none mid (none_mapped (with_freshness fresh) (next_given mid.station mid.station.queue) none))) goes
 
 -- the frame that is there is given on
-pub fetched_some : (old : Kept) (mid core : Core) (fresh : Bool) (g : Outgoing) (out : List ℕ) → old.out ≡ [] → Some g ≡ option_map (with_freshness fresh) (next_given mid.station mid.station.queue) → length g.frame.info ≤ 1024 → (length g.frame.info ≤ spelling.most_info 1024 g.frame.kind → out ≡ spelling.spelled g.frame) → GivesOut mid → core ≡ gone_on mid → (e : End) (came went : List ℕ) (past : List Act) → KeptFits e came went (record old { core = mid }) past → Gave e came went past g.frame (record old { core = core; out = out })
+pub fetched_some : (old : SimMachine) (mid core : Core) (fresh : Bool) (g : Outgoing) (out : List ℕ) → old.out ≡ [] → Some g ≡ option_map (with_freshness fresh) (next_given mid.station mid.station.queue) → length g.frame.info ≤ 1024 → (length g.frame.info ≤ spelling.most_info 1024 g.frame.kind → out ≡ spelling.spelled g.frame) → GivesOut mid → core ≡ gone_on mid → (e : End) (came went : List ℕ) (past : List Act) → SimMachineFits e came went (record old { core = mid }) past → Gave e came went past g.frame (record old { core = core; out = out })
 fetched_some old mid core fresh g out none some short writes gives is e came went past fits =
     let At : Core → Type 0 = λ c. Gave e came went past g.frame (record old { core = c; out = out }) in
     subst At (sym is)
@@ -308,8 +308,8 @@ fetched_some old mid core fresh g out none some short writes gives is e came wen
 
 -- ## What that comes to
 
--- what is kept fits no past that isn't a simulated modem's
-pub simulates : (e : End) (came went : List ℕ) (k : Kept) (past : List Act) → KeptFits e came went k past → Simulates e came went k past
+-- a machine fits no past that isn't a simulated modem's
+pub simulates : (e : End) (came went : List ℕ) (k : SimMachine) (past : List Act) → SimMachineFits e came went k past → Simulates e came went k past
 simulates e came went k past fits =
     let rest = total_reading k.deframer.n1 k.deframer.undecided fits.deframes.octets in
     let Undecided : List ℕ → Type 0 = λ x. Reads k.deframer.n1 x rest.frames rest.rest in
@@ -352,7 +352,7 @@ none_written (x ∷ xs) is = absurd (omega (arith, some))
     some = grind (arith, nat_tests)
 
 -- an end that is over has closed down and written all
-pub is_over : (e : End) (came went : List ℕ) (k : Kept) (past : List Act) → is_ended k ≡ true → KeptFits e came went k past → IsOver went past
+pub is_over : (e : End) (came went : List ℕ) (k : SimMachine) (past : List Act) → is_ended k ≡ true → SimMachineFits e came went k past → IsOver went past
 is_over e came went k past ended fits =
     let first = both_true k.core.closed ((length k.out == 0) && (length k.core.station.queue == 0)) ended in
     let third = both_true (length k.out == 0) (length k.core.station.queue == 0) first.1 in

@@ -8,7 +8,7 @@ use Rattle.mux_station.specs.Acts as station
 use Rattle.mux_station.specs.Sending as sending
 use Rattle.modem_sim.specs.Acts.{Act, Wire, Did, End, is_handing, is_step_act, setting, wire}
 use Rattle.modem_sim.specs.Cores.{IsGivenOn, IsLater, after_wire_act, from_queue, sent_now}
-use Rattle.modem_sim.specs.Sims.{FitsSim, Kept, KeptFits, LineAt, Sight}
+use Rattle.modem_sim.specs.Sims.{FitsSim, SimMachine, SimMachineFits, LineAt, Sight}
 use Rattle.modem_sim.specs.Turns.{PutsNext, TakesAtHand, Write, has_no_room, is_work, is_put, is_taken, left_of, none_at_hand, none_is_there, octets_read, octets_written, some_are_left}
 use Rattle.modem_sim.specs.Stills.{GoesOnce, Loads, TakesFrame, TakesNone, WentOn, at_line, puts, puts_none, some_wait}
 use Rattle.modem_sim.proofs.law_proofs.Histories.{does_in_order}
@@ -107,19 +107,19 @@ got_by e past f = record {
 -- ## The parts
 
 -- the next frame where all is written
-record Loaded (e : End) (came went : List ℕ) (left : List ℕ) (k : Kept) (past : List Act) (some : Bool) : Type 0 where
+record Loaded (e : End) (came went : List ℕ) (left : List ℕ) (k : SimMachine) (past : List Act) (some : Bool) : Type 0 where
   now : List Act
   goes : GoesBy past now some
   loads : PutsNext e left k.out past now
-  fits : KeptFits e came went k now
+  fits : SimMachineFits e came went k now
 
-loaded : (e : End) (came went : List ℕ) (old new : Kept) (past : List Act) (some : Bool) → Loads old new some → KeptFits e came went old past → Loaded e came went old.out new past some
+loaded : (e : End) (came went : List ℕ) (old new : SimMachine) (past : List Act) (some : Bool) → Loads old new some → SimMachineFits e came went old past → Loaded e came went old.out new past some
 loaded e came went old new past _ (some_wait some same) fits =
-    let At : Kept → Type 0 = λ k. KeptFits e came went k past in
+    let At : SimMachine → Type 0 = λ k. SimMachineFits e came went k past in
     record {
       now = past;
       goes = record { later = record { newer = []; joins = refl }; brings = refl };
-      loads = some_are_left some (ap (λ (k : Kept). k.out) same) refl;
+      loads = some_are_left some (ap (λ (k : SimMachine). k.out) same) refl;
       fits = subst At (sym same) fits;
     }
 loaded e came went old new past _ (puts some none goes) fits =
@@ -141,13 +141,13 @@ loaded e came went old new past _ (puts_none some none goes) fits =
     }
 
 -- the frame at hand
-record Took (e : End) (came went : List ℕ) (hand : Option Frame) (k : Kept) (past : List Act) (took : Bool) : Type 0 where
+record Took (e : End) (came went : List ℕ) (hand : Option Frame) (k : SimMachine) (past : List Act) (took : Bool) : Type 0 where
   now : List Act
   goes : GoesBy past now took
   takes : TakesAtHand e hand past now
-  fits : KeptFits e came went k now
+  fits : SimMachineFits e came went k now
 
-took_it : (e : End) (came went : List ℕ) (old new : Kept) (past : List Act) (took : Bool) → (took ≡ true → TakesFrame old new) → (took ≡ false → TakesNone old new) → KeptFits e came went old past → Took e came went old.deframer.next new past took
+took_it : (e : End) (came went : List ℕ) (old new : SimMachine) (past : List Act) (took : Bool) → (took ≡ true → TakesFrame old new) → (took ≡ false → TakesNone old new) → SimMachineFits e came went old past → Took e came went old.deframer.next new past took
 took_it e came went old new past true takes none fits =
     let taken = takes refl in
     record {
@@ -158,7 +158,7 @@ took_it e came went old new past true takes none fits =
     }
 took_it e came went old new past false takes none fits =
     let still = none refl in
-    let At : Kept → Type 0 = λ k. KeptFits e came went k past in
+    let At : SimMachine → Type 0 = λ k. SimMachineFits e came went k past in
     record {
       now = past;
       goes = record { later = record { newer = []; joins = refl }; brings = refl };
@@ -171,9 +171,9 @@ took_it e came went old new past false takes none fits =
     by_hand (Some f) is = has_no_room f is (no_room e came went old past (none refl).none fits f is) refl
 
 -- octets went
-wrote_fits : (e : End) (came went : List ℕ) (past : List Act) (old new : Kept) (w : Option Write) → octets_written w ++ left_of w old.out ≡ old.out → new ≡ record old { out = left_of w old.out } → KeptFits e came went old past → KeptFits e came (went ++ octets_written w) new past
+wrote_fits : (e : End) (came went : List ℕ) (past : List Act) (old new : SimMachine) (w : Option Write) → octets_written w ++ left_of w old.out ≡ old.out → new ≡ record old { out = left_of w old.out } → SimMachineFits e came went old past → SimMachineFits e came (went ++ octets_written w) new past
 wrote_fits e came went past old new w parts is fits =
-    let At : Kept → Type 0 = λ k. KeptFits e came (went ++ octets_written w) k past in
+    let At : SimMachine → Type 0 = λ k. SimMachineFits e came (went ++ octets_written w) k past in
     subst At (sym is) (record {
       wired = fits.wired;
       core_fits = fits.core_fits;
@@ -185,9 +185,9 @@ wrote_fits e came went past old new w parts is fits =
     })
 
 -- octets came
-read_fits : (e : End) (came went : List ℕ) (past : List Act) (old new : Kept) (octets : List ℕ) → new ≡ record old { unfed = old.unfed ++ octets } → KeptFits e came went old past → KeptFits e (came ++ octets) went new past
+read_fits : (e : End) (came went : List ℕ) (past : List Act) (old new : SimMachine) (octets : List ℕ) → new ≡ record old { unfed = old.unfed ++ octets } → SimMachineFits e came went old past → SimMachineFits e (came ++ octets) went new past
 read_fits e came went past old new octets is fits =
-    let At : Kept → Type 0 = λ k. KeptFits e (came ++ octets) went k past in
+    let At : SimMachine → Type 0 = λ k. SimMachineFits e (came ++ octets) went k past in
     subst At (sym is) (record {
       wired = fits.wired;
       core_fits = fits.core_fits;
@@ -200,10 +200,10 @@ read_fits e came went past old new octets is fits =
 
 -- ## The turn
 
-module _ {X : Type 0} (see : Sight X) (l0 l2 l5 : X) (k0 k1 k2 k3 k4 k5 k6 : Kept) (done : Bool) (count : ℕ) (loads took came fed : Bool) (w : Went see l0 l2 l5 k0 k1 k2 k3 k4 k5 k6 done count loads took came fed) where
+module _ {X : Type 0} (see : Sight X) (l0 l2 l5 : X) (k0 k1 k2 k3 k4 k5 k6 : SimMachine) (done : Bool) (count : ℕ) (loads took came fed : Bool) (w : Went see l0 l2 l5 k0 k1 k2 k3 k4 k5 k6 done count loads took came fed) where
   goes_so : (at : LineAt) (e : End) (past : List Act) → FitsSim see.received see.sent at e (at_line l0 k0) past → WentOn see at e past (at_line l0 k0) (at_line l5 k6) (record { write = w.writes.write; read = w.reads.read }) (((((done || nat_lt 0 count) || loads) || took) || came) || fed)
   goes_so at e past fits =
-      let stepped = w.steps_go e fits.came fits.went past fits.kept_fits in
+      let stepped = w.steps_go e fits.came fits.went past fits.machine_fits in
       let wrote = wrote_fits e fits.came fits.went stepped.now k1 k2 w.writes.write w.writes.parts w.writes.kept stepped.fits in
       let gone = fits.went ++ octets_written w.writes.write in
       let load = loaded e fits.came gone k2 k3 stepped.now w.loads.some w.loads.loads wrote in
@@ -214,7 +214,7 @@ module _ {X : Type 0} (see : Sight X) (l0 l2 l5 : X) (k0 k1 k2 k3 k4 k5 k6 : Kep
       let Left : List ℕ → Type 0 = λ xs. PutsNext e xs k3.out stepped.now load.now in
       let Out : List ℕ → Type 0 = λ xs. PutsNext e (left_of w.writes.write k0.out) xs stepped.now load.now in
       let Hand : Option Frame → Type 0 = λ o. TakesAtHand e o load.now take.now in
-      let hand : k3.deframer.next ≡ k0.deframer.next = ap (λ (k : Kept). k.deframer.next) w.load_rest ∙ ap (λ (k : Kept). k.deframer.next) w.writes.kept ∙ ap (λ (k : Kept). k.deframer.next) w.steps_rest in
+      let hand : k3.deframer.next ≡ k0.deframer.next = ap (λ (k : SimMachine). k.deframer.next) w.load_rest ∙ ap (λ (k : SimMachine). k.deframer.next) w.writes.kept ∙ ap (λ (k : SimMachine). k.deframer.next) w.steps_rest in
       record {
         now = take.now;
         later = all.later;
@@ -223,7 +223,7 @@ module _ {X : Type 0} (see : Sight X) (l0 l2 l5 : X) (k0 k1 k2 k3 k4 k5 k6 : Kep
           went = gone;
           received_is = came_at_end see l0 l2 l5 k0 k1 k2 k3 k4 k5 k6 done count loads took came fed w ∙ ap (λ xs. xs ++ octets_read w.reads.read) fits.received_is ∙ append_assoc at.received fits.came (octets_read w.reads.read);
           sent_is = sent_at_end see l0 l2 l5 k0 k1 k2 k3 k4 k5 k6 done count loads took came fed w ∙ ap (λ xs. xs ++ octets_written w.writes.write) fits.sent_is ∙ append_assoc at.sent fits.went (octets_written w.writes.write);
-          kept_fits = w.feeds.stays e (fits.came ++ octets_read w.reads.read) gone take.now read;
+          machine_fits = w.feeds.stays e (fits.came ++ octets_read w.reads.read) gone take.now read;
         };
         does = record {
           stepped = stepped.now;

@@ -6,7 +6,7 @@ use Rattle.std.proofs.lemmas.List.{nil_from_length}
 use Rattle.at_cmds.proofs.command_texts.CommandLines.{both_true}
 use Rattle.serial_line.specs.Counts.{one_more, counted_if_none}
 use Rattle.modem_sim.specs.declared.sim.SimTurn.TheVariants.{Moved, Idle, Ended}
-use Rattle.modem_sim.specs.Sims.{Kept, Sight, SimState, is_ended}
+use Rattle.modem_sim.specs.Sims.{SimMachine, Sight, SimState, is_ended}
 use Rattle.modem_sim.specs.Turns.{Exchange, Exchanges, GoesTurn, IsIdleAtLine, empty_after, has_done, is_over, stalled_after, stood_still}
 use Rattle.modem_sim.specs.Stills.{GoesOnce, StoodStill}
 use Rattle.modem_sim.proofs.sims.IdleTurns.{idle}
@@ -35,11 +35,11 @@ some_stalled (x ∷ out) n some =
     let there : nat_lt 0 (length (x ∷ out)) ≡ true = grind (arith, nat_tests) in
     ap (λ (b : Bool). if b && (0 == 0) then one_more n else n) there
 
-idle_at_line : {X : Type 0} (see : Sight X) (old new : SimState X) (t : Exchange) → Exchanges see old new t → StoodStill new.kept t → IsIdleAtLine see old new
+idle_at_line : {X : Type 0} (see : Sight X) (old new : SimState X) (t : Exchange) → Exchanges see old new t → StoodStill new.machine t → IsIdleAtLine see old new
 idle_at_line see old new t deals still = record {
   fed = still.waits;
   empty = λ fed. deals.empty_are ∙ ap (λ r. empty_after r (see.empty_reads old.line)) (still.reads fed);
-  stalled = λ some. deals.stalled_are ∙ ap (λ w. stalled_after w (see.stalled_writes old.line)) (still.full some) ∙ some_stalled new.kept.out (see.stalled_writes old.line) some;
+  stalled = λ some. deals.stalled_are ∙ ap (λ w. stalled_after w (see.stalled_writes old.line)) (still.full some) ∙ some_stalled new.machine.out (see.stalled_writes old.line) some;
 }
 
 pub turn_idle : {X : Type 0} (see : Sight X) (old new : SimState X) (moved : Bool) → GoesOnce see old new moved → moved ≡ false → GoesTurn see old new Idle
@@ -57,11 +57,11 @@ turn_idle see old new moved once none =
             later = went.later;
             fits = went.fits;
             does = λ _. went.does;
-            means = stood_still (went.moves ∙ none) (idle e went.fits.came went.fits.went new.kept once.exchange went.now still went.fits.kept_fits);
+            means = stood_still (went.moves ∙ none) (idle e went.fits.came went.fits.went new.machine once.exchange went.now still went.fits.machine_fits);
           };
     }
 
-pub turn_over : {X : Type 0} (see : Sight X) (old new : SimState X) (moved : Bool) → GoesOnce see old new moved → is_ended new.kept ≡ true → GoesTurn see old new Ended
+pub turn_over : {X : Type 0} (see : Sight X) (old new : SimState X) (moved : Bool) → GoesOnce see old new moved → is_ended new.machine ≡ true → GoesTurn see old new Ended
 turn_over see old new moved once over = record {
   exchange = once.exchange;
   exchanges = once.exchanges;
@@ -72,7 +72,7 @@ turn_over see old new moved once over = record {
       record { now = went.now; later = went.later; fits = went.fits; does = λ _. went.does; means = is_over over };
 }
 
-none_out : (k : Kept) → is_ended k ≡ true → k.out ≡ []
+none_out : (k : SimMachine) → is_ended k ≡ true → k.out ≡ []
 none_out k over =
     let first = both_true k.core.closed ((length k.out == 0) && (length k.core.station.queue == 0)) over in
     let third = both_true (length k.out == 0) (length k.core.station.queue == 0) first.1 in
@@ -82,25 +82,25 @@ not_both : {P : Type 0} (b : Bool) → b ≡ true → b ≡ false → P
 not_both true is other = cc
 not_both false is other = cc
 
-pub turn_was_over : {X : Type 0} (see : Sight X) (s : SimState X) → is_ended s.kept ≡ true → GoesTurn see s s Ended
+pub turn_was_over : {X : Type 0} (see : Sight X) (s : SimState X) → is_ended s.machine ≡ true → GoesTurn see s s Ended
 turn_was_over see s over = record {
   exchange = record { write = None; read = None };
   exchanges = record {
     came = sym (append-nil (see.received s.line));
     room = tt;
     went = sym (append-nil (see.sent s.line));
-    offers = none_out s.kept over;
+    offers = none_out s.machine over;
     calls_are = refl;
     stalled_are = refl;
     empty_are = refl;
   };
-  leaves = λ going. not_both (is_ended s.kept) over going;
+  leaves = λ going. not_both (is_ended s.machine) over going;
   idle = λ says. absurd (not_ended says);
   turn = λ at e past fits. record {
     now = past;
     later = record { newer = []; joins = refl };
     fits = fits;
-    does = λ going. not_both (is_ended s.kept) over going;
+    does = λ going. not_both (is_ended s.machine) over going;
     means = is_over over;
   };
 }

@@ -6,7 +6,7 @@ use Rattle.std.proofs.lemmas.List.{nil_from_length}
 use Rattle.serial_line.specs.Counts.{one_more, counted_if_none}
 use Rattle.mux_frame.specs.Frames.{Frame}
 use Rattle.mux_frame.specs.Deframing.{Deframing, TakesIn}
-use Rattle.modem_sim.specs.Sims.{Kept}
+use Rattle.modem_sim.specs.Sims.{SimMachine}
 use Rattle.mux_station.specs.Giving.{next_given}
 use Rattle.mux_station.specs.GivenFrames.{with_freshness}
 use Rattle.modem_sim.specs.Cores.{Core, IsHandedOn, gone_on}
@@ -25,7 +25,7 @@ is_zero n is = grind (arith, nat_tests)
 
 -- ## Feeding
 
-pub feeds_nothing : (k : Kept) → (length k.unfed == 0) ≡ true → FeedsNone k k
+pub feeds_nothing : (k : SimMachine) → (length k.unfed == 0) ≡ true → FeedsNone k k
 feeds_nothing k empty = record {
   stays = λ e came went past fits. fits;
   same_unfed = refl;
@@ -33,7 +33,7 @@ feeds_nothing k empty = record {
   none = λ none. none_of k.unfed empty;
 }
 
-pub feeds_none : (old : Kept) (d : Deframing) (n : ℕ) → TakesIn old.deframer (take n old.unfed) d → d.n1 ≡ old.deframer.n1 → (old.deframer.next ≡ None → 0 < length old.unfed → 0 < n) → ((f : Frame) → old.deframer.next ≡ Some f → d.next ≡ Some f) → nat_lt 0 n ≡ false → (length old.unfed == 0) ≡ false → FeedsNone old (record old { unfed = drop n old.unfed; deframer = d })
+pub feeds_none : (old : SimMachine) (d : Deframing) (n : ℕ) → TakesIn old.deframer (take n old.unfed) d → d.n1 ≡ old.deframer.n1 → (old.deframer.next ≡ None → 0 < length old.unfed → 0 < n) → ((f : Frame) → old.deframer.next ≡ Some f → d.next ≡ Some f) → nat_lt 0 n ≡ false → (length old.unfed == 0) ≡ false → FeedsNone old (record old { unfed = drop n old.unfed; deframer = d })
 feeds_none old d n takes same some stays none waiting =
     let zero = is_zero n none in
     record {
@@ -55,7 +55,7 @@ some_length : (xs : List ℕ) → xs ≢ [] → 0 < length xs
 some_length [] some = absurd (some refl)
 some_length (x ∷ xs) some = omega arith
 
-pub feeds_empty : (k : Kept) → (length k.unfed == 0) ≡ true → Feeds k k
+pub feeds_empty : (k : SimMachine) → (length k.unfed == 0) ≡ true → Feeds k k
 feeds_empty k empty = record {
   stays = λ e came went past fits. fits;
   fed = [];
@@ -68,7 +68,7 @@ first_taken zero xs some there = absurd (omega (arith, some))
 first_taken (suc n) [] some there = absurd (there refl)
 first_taken (suc n) (x ∷ xs) some there = λ none. cc
 
-pub feeds_some : (old : Kept) (d : Deframing) (n : ℕ) → TakesIn old.deframer (take n old.unfed) d → d.n1 ≡ old.deframer.n1 → (old.deframer.next ≡ None → 0 < length old.unfed → 0 < n) → ((f : Frame) → old.deframer.next ≡ Some f → d.next ≡ Some f) → Feeds old (record old { unfed = drop n old.unfed; deframer = d })
+pub feeds_some : (old : SimMachine) (d : Deframing) (n : ℕ) → TakesIn old.deframer (take n old.unfed) d → d.n1 ≡ old.deframer.n1 → (old.deframer.next ≡ None → 0 < length old.unfed → 0 < n) → ((f : Frame) → old.deframer.next ≡ Some f → d.next ≡ Some f) → Feeds old (record old { unfed = drop n old.unfed; deframer = d })
 feeds_some old d n takes same some stays = record {
   stays = fed_fits old d n takes same;
   fed = take n old.unfed;
@@ -85,7 +85,7 @@ feeds_some old d n takes same some stays = record {
 pub more_ready : (before now : List ℕ) → before ≡ [] → now ≢ [] → length before < length now
 more_ready before now none some = let zero = ap length none in let long = some_length now some in omega (arith, zero, long)
 
-pub loads_nothing : (old : Kept) (mid core : Core) (fresh : Bool) → mid ≡ old.core → None ≡ option_map (with_freshness fresh) (next_given mid.station mid.station.queue) → core ≡ gone_on mid → ((d : ℕ) → d < 62 → IsHandedOn old.core d) → LoadsNone old (record old { core = core })
+pub loads_nothing : (old : SimMachine) (mid core : Core) (fresh : Bool) → mid ≡ old.core → None ≡ option_map (with_freshness fresh) (next_given mid.station mid.station.queue) → core ≡ gone_on mid → ((d : ℕ) → d < 62 → IsHandedOn old.core d) → LoadsNone old (record old { core = core })
 loads_nothing old mid core fresh same none is handed = record {
   same = ap (λ (c : Core). record old { core = c }) (fetched_nothing old.core mid core fresh same none is);
   none = λ _. record {
@@ -96,7 +96,7 @@ loads_nothing old mid core fresh same none is handed = record {
 
 -- ## The line
 
-pub writes_nothing : (k : Kept) (sent : List ℕ) (calls stalled : ℕ) → (length k.out == 0) ≡ true → Writes sent sent calls calls stalled stalled k k 0
+pub writes_nothing : (k : SimMachine) (sent : List ℕ) (calls stalled : ℕ) → (length k.out == 0) ≡ true → Writes sent sent calls calls stalled stalled k k 0
 writes_nothing k sent calls stalled empty = record {
   write = None;
   offers = none_of k.out empty;
@@ -109,7 +109,7 @@ writes_nothing k sent calls stalled empty = record {
   none = λ some zero. absurd (some (none_of k.out empty));
 }
 
-pub writes_some : (old new : Kept) (before sent : List ℕ) (calls_before calls stalled_before stalled n : ℕ) → (length old.out == 0) ≡ false → n ≤ length old.out → sent ≡ before ++ take n old.out → calls ≡ one_more calls_before → stalled ≡ counted_if_none (length old.out) n stalled_before → new ≡ record old { out = drop n old.out } → Writes before sent calls_before calls stalled_before stalled old new n
+pub writes_some : (old new : SimMachine) (before sent : List ℕ) (calls_before calls stalled_before stalled n : ℕ) → (length old.out == 0) ≡ false → n ≤ length old.out → sent ≡ before ++ take n old.out → calls ≡ one_more calls_before → stalled ≡ counted_if_none (length old.out) n stalled_before → new ≡ record old { out = drop n old.out } → Writes before sent calls_before calls stalled_before stalled old new n
 writes_some old new before sent calls_before calls stalled_before stalled n some bound went counted stalls is = record {
   write = Some (record { offered = old.out; count = n });
   offers = record { some = some_of old.out some; bound = bound; first = record { rest = []; joins = append-nil old.out } };
@@ -122,7 +122,7 @@ writes_some old new before sent calls_before calls stalled_before stalled n some
   none = λ there zero. ap (λ m. Some (record { offered = old.out; count = m })) zero;
 }
 
-pub reads_nothing : (k : Kept) (received : List ℕ) (calls empty : ℕ) → (length k.unfed == 0) ≡ false → ReadsOnce received received calls calls empty empty k k false
+pub reads_nothing : (k : SimMachine) (received : List ℕ) (calls empty : ℕ) → (length k.unfed == 0) ≡ false → ReadsOnce received received calls calls empty empty k k false
 reads_nothing k received calls empties some = record {
   read = None;
   room = tt;
@@ -136,7 +136,7 @@ reads_nothing k received calls empties some = record {
   none = λ empty none. absurd (some_of k.unfed some empty);
 }
 
-pub reads_some : (old new : Kept) (before received octets : List ℕ) (calls_before calls empty_before empty_now n : ℕ) → (length old.unfed == 0) ≡ true → n ≤ 512 → n ≡ length octets → received ≡ before ++ octets → calls ≡ one_more calls_before → empty_now ≡ counted_if_none 512 n empty_before → new ≡ record old { unfed = octets } → ReadsOnce before received calls_before calls empty_before empty_now old new (nat_lt 0 n)
+pub reads_some : (old new : SimMachine) (before received octets : List ℕ) (calls_before calls empty_before empty_now n : ℕ) → (length old.unfed == 0) ≡ true → n ≤ 512 → n ≡ length octets → received ≡ before ++ octets → calls ≡ one_more calls_before → empty_now ≡ counted_if_none 512 n empty_before → new ≡ record old { unfed = octets } → ReadsOnce before received calls_before calls empty_before empty_now old new (nat_lt 0 n)
 reads_some old new before received octets calls_before calls empty_before empty_now n empty bound count came counted empties is = record {
   read = Some (record { room = 512; octets = octets });
   room = record { some = omega arith; bound = omega (arith, bound, count) };

@@ -1,4 +1,4 @@
--- What a turn did at its line and to what is kept, and that it says so.
+-- What a turn did at its line and to the machine, and that it says so.
 use Rattle.std.specs.Prelude.{◌≡◌, ◌≢◌, ℕ, ◌+◌, ◌<◌, nat_lt, ◌||◌, Bool, true, false, List, [], ◌++◌, length, Option, Some, None, refl}
 use Rattle.std.specs.List.{list_any}
 use Rattle.std.proofs.Common.{arith, sym, ap, ◌∙◌, subst, append-nil, length-append}
@@ -9,7 +9,7 @@ use Rattle.mux_station.specs.Sending.{got_refused}
 use Rattle.mux_station.specs.Stations.{seen_in, setting_of}
 use Rattle.modem_sim.specs.Acts.{Act, is_step_act}
 use Rattle.modem_sim.specs.Cores.{Core, HasNoneToDo, HasPassed, IsHandedOn, holds_over}
-use Rattle.modem_sim.specs.Sims.{Kept, KeptGoes, Sight, SimState}
+use Rattle.modem_sim.specs.Sims.{SimMachine, SimMachineGoes, Sight, SimState}
 use Rattle.modem_sim.specs.Turns.{Exchanges, Leaves, Offers, Read, Write, calls_made, count_after, empty_after, has_changed, has_moved, is_fewer, is_work, left_of, octets_read, octets_written}
 use Rattle.modem_sim.specs.Stills.{Feeds, FeedsNone, HasLoaded, HasNoneToLoad, Loads, LoadsBy, LoadsNone, ReadsOnce, StoodStill, TakesFrame, TakesNone, Writes, at_line, let_go, puts, puts_none, ready, some_wait}
 
@@ -71,8 +71,8 @@ none_of false false false false false fed is = record { not_done = refl; not_wro
 -- ## The parts of a turn
 
 -- what each of them did, one after the other
-pub record Went {X : Type 0} (see : Sight X) (l0 l2 l5 : X) (k0 k1 k2 k3 k4 k5 k6 : Kept) (done : Bool) (count : ℕ) (loaded took came fed : Bool) : Type 0 where
-  pub steps_go : KeptGoes is_step_act k0 k1
+pub record Went {X : Type 0} (see : Sight X) (l0 l2 l5 : X) (k0 k1 k2 k3 k4 k5 k6 : SimMachine) (done : Bool) (count : ℕ) (loaded took came fed : Bool) : Type 0 where
+  pub steps_go : SimMachineGoes is_step_act k0 k1
   pub steps_same : done ≡ false → k1 ≡ k0
   pub steps_fewer : done ≡ true → length k1.core.steps < length k0.core.steps
   pub steps_rest : k1 ≡ record k0 { core = k1.core }
@@ -98,7 +98,7 @@ pub record Went {X : Type 0} (see : Sight X) (l0 l2 l5 : X) (k0 k1 k2 k3 k4 k5 k
   pub feed_none : fed ≡ false → FeedsNone k5 k6
 
 -- the turn, in which each line has what the one before left it
-module _ {X : Type 0} (see : Sight X) (l0 l2 l5 : X) (k0 k1 k2 k3 k4 k5 k6 : Kept) (done : Bool) (count : ℕ) (loaded took came fed : Bool) (w : Went see l0 l2 l5 k0 k1 k2 k3 k4 k5 k6 done count loaded took came fed) where
+module _ {X : Type 0} (see : Sight X) (l0 l2 l5 : X) (k0 k1 k2 k3 k4 k5 k6 : SimMachine) (done : Bool) (count : ℕ) (loaded took came fed : Bool) (w : Went see l0 l2 l5 k0 k1 k2 k3 k4 k5 k6 done count loaded took came fed) where
   abbrev s0 : SimState X
   s0 = at_line l0 k0
 
@@ -108,20 +108,20 @@ module _ {X : Type 0} (see : Sight X) (l0 l2 l5 : X) (k0 k1 k2 k3 k4 k5 k6 : Kep
   -- ## What stays in the parts that come after
 
   pub core_at_end : k6.core ≡ k4.core
-  core_at_end = ap (λ (k : Kept). k.core) w.feed_rest ∙ ap (λ (k : Kept). k.core) w.reads.kept
+  core_at_end = ap (λ (k : SimMachine). k.core) w.feed_rest ∙ ap (λ (k : SimMachine). k.core) w.reads.kept
 
   steps_at_end : k6.core.steps ≡ k1.core.steps
   steps_at_end =
-      ap (λ (c : Core). c.steps) core_at_end ∙ w.take_steps ∙ w.load_steps ∙ ap (λ (k : Kept). k.core.steps) w.writes.kept
+      ap (λ (c : Core). c.steps) core_at_end ∙ w.take_steps ∙ w.load_steps ∙ ap (λ (k : SimMachine). k.core.steps) w.writes.kept
 
   pub out_at_end : k6.out ≡ k3.out
   out_at_end =
-      ap (λ (k : Kept). k.out) w.feed_rest ∙ ap (λ (k : Kept). k.out) w.reads.kept ∙ ap (λ (k : Kept). k.out) w.take_rest
+      ap (λ (k : SimMachine). k.out) w.feed_rest ∙ ap (λ (k : SimMachine). k.out) w.reads.kept ∙ ap (λ (k : SimMachine). k.out) w.take_rest
 
   pub unfed_before : k4.unfed ≡ k0.unfed
   unfed_before =
-      ap (λ (k : Kept). k.unfed) w.take_rest ∙ ap (λ (k : Kept). k.unfed) w.load_rest ∙ ap (λ (k : Kept). k.unfed) w.writes.kept
-      ∙ ap (λ (k : Kept). k.unfed) w.steps_rest
+      ap (λ (k : SimMachine). k.unfed) w.take_rest ∙ ap (λ (k : SimMachine). k.unfed) w.load_rest ∙ ap (λ (k : SimMachine). k.unfed) w.writes.kept
+      ∙ ap (λ (k : SimMachine). k.unfed) w.steps_rest
 
   pub sent_at_end : see.sent l5 ≡ see.sent l0 ++ octets_written w.writes.write
   sent_at_end = w.read_none_went ∙ w.writes.went
@@ -177,12 +177,12 @@ module _ {X : Type 0} (see : Sight X) (l0 l2 l5 : X) (k0 k1 k2 k3 k4 k5 k6 : Kep
 
   by_loading : done ≡ false → nat_lt 0 count ≡ false → took ≡ false → HasLoaded k2 k3 → has_changed see s0 s6 ≡ true
   by_loading not_done not_wrote not_took (ready more) =
-      let first = ap (λ (k : Kept). length k.out) (same_1 not_wrote ∙ same_0 not_done) in
+      let first = ap (λ (k : SimMachine). length k.out) (same_1 not_wrote ∙ same_0 not_done) in
       let last = ap length out_at_end in
       by_out (omega (arith, more, first, last))
   by_loading not_done not_wrote not_took (let_go same fewer) =
-      let first = ap (λ (k : Kept). holds_over k.core.boxes) (same_1 not_wrote ∙ same_0 not_done) in
-      let last = ap (λ (c : Core). holds_over c.boxes) (core_at_end ∙ ap (λ (k : Kept). k.core) (w.take_none not_took).same) in
+      let first = ap (λ (k : SimMachine). holds_over k.core.boxes) (same_1 not_wrote ∙ same_0 not_done) in
+      let last = ap (λ (c : Core). holds_over c.boxes) (core_at_end ∙ ap (λ (k : SimMachine). k.core) (w.take_none not_took).same) in
       by_letting_go (omega (arith, fewer, first, last))
 
   abbrev moved : Bool
@@ -205,7 +205,7 @@ module _ {X : Type 0} (see : Sight X) (l0 l2 l5 : X) (k0 k1 k2 k3 k4 k5 k6 : Kep
       (λ not_done not_wrote not_took really. by_offers not_done not_wrote not_took really w.loads.some refl)
       (λ not_came really.
       let fewer = w.feed_fewer really in
-      let first = ap (λ (k : Kept). length k.unfed) (same_4 not_came) in
+      let first = ap (λ (k : SimMachine). length k.unfed) (same_4 not_came) in
       let before = ap length unfed_before in
       or_right got _ (by_feeding (omega (arith, fewer, first, before))))
     where
@@ -235,20 +235,20 @@ module _ {X : Type 0} (see : Sight X) (l0 l2 l5 : X) (k0 k1 k2 k3 k4 k5 k6 : Kep
       let taking = w.take_none all_false.not_took in
       let feeding = w.feed_none all_false.not_fed in
       let later : k5 ≡ k3 = same_4 all_false.not_came ∙ taking.same in
-      let core_is : k6.core ≡ k3.core = ap (λ (k : Kept). k.core) w.feed_rest ∙ ap (λ (k : Kept). k.core) later in
-      let out_is : k6.out ≡ k1.out = out_at_end ∙ ap (λ (k : Kept). k.out) (loading.same ∙ same_1 all_false.not_wrote) in
-      let unfed_is : k6.unfed ≡ k4.unfed = feeding.same_unfed ∙ ap (λ (k : Kept). k.unfed) (same_4 all_false.not_came) in
+      let core_is : k6.core ≡ k3.core = ap (λ (k : SimMachine). k.core) w.feed_rest ∙ ap (λ (k : SimMachine). k.core) later in
+      let out_is : k6.out ≡ k1.out = out_at_end ∙ ap (λ (k : SimMachine). k.out) (loading.same ∙ same_1 all_false.not_wrote) in
+      let unfed_is : k6.unfed ≡ k4.unfed = feeding.same_unfed ∙ ap (λ (k : SimMachine). k.unfed) (same_4 all_false.not_came) in
       record {
         received_is = came_at_end ∙ ap (λ xs. see.received l0 ++ xs) (none_read all_false.not_came) ∙ append-nil (see.received l0);
         sent_is = sent_at_end ∙ ap (λ xs. see.sent l0 ++ xs) (none_written all_false.not_wrote) ∙ append-nil (see.sent l0);
-        core_is = core_is ∙ ap (λ (k : Kept). k.core) (loading.same ∙ first);
-        core_loaded = core_is ∙ ap (λ (k : Kept). k.core) loading.same;
-        core_stepped = core_is ∙ ap (λ (k : Kept). k.core) (loading.same ∙ same_1 all_false.not_wrote);
-        out_is = out_is ∙ ap (λ (k : Kept). k.out) (same_0 all_false.not_done);
+        core_is = core_is ∙ ap (λ (k : SimMachine). k.core) (loading.same ∙ first);
+        core_loaded = core_is ∙ ap (λ (k : SimMachine). k.core) loading.same;
+        core_stepped = core_is ∙ ap (λ (k : SimMachine). k.core) (loading.same ∙ same_1 all_false.not_wrote);
+        out_is = out_is ∙ ap (λ (k : SimMachine). k.out) (same_0 all_false.not_done);
         out_stepped = out_is;
         unfed_is = unfed_is ∙ unfed_before;
         unfed_read = unfed_is;
-        next_is = feeding.same_next ∙ ap (λ (k : Kept). k.deframer.next) later;
+        next_is = feeding.same_next ∙ ap (λ (k : SimMachine). k.deframer.next) later;
         core_took = core_is;
       }
 
@@ -287,13 +287,13 @@ module _ {X : Type 0} (see : Sight X) (l0 l2 l5 : X) (k0 k1 k2 k3 k4 k5 k6 : Kep
             w.writes.none (λ none. some (same.out_stepped ∙ none)) (is_zero count all_false.not_wrote)
             ∙ ap (λ xs. Some (record { offered = xs; count = 0 })) (sym same.out_stepped);
         rest = λ none.
-            let there = loading.none (ap (λ (k : Kept). k.out) (same_1 all_false.not_wrote) ∙ sym same.out_stepped ∙ none) in
+            let there = loading.none (ap (λ (k : SimMachine). k.out) (same_1 all_false.not_wrote) ∙ sym same.out_stepped ∙ none) in
             load_none_again k2 k6 same.core_loaded there;
         reads = λ none. w.reads.none (sym same.unfed_read ∙ none) all_false.not_came;
         waits = λ none. feeding.same_unfed ∙ feeding.none (sym feeding.same_next ∙ none);
       }
     where
-      load_none_again : (old new : Kept) → new.core ≡ old.core → HasNoneToLoad old → HasNoneToLoad new
+      load_none_again : (old new : SimMachine) → new.core ≡ old.core → HasNoneToLoad old → HasNoneToLoad new
       load_none_again old new core_same none = record {
         handed = λ d small. subst (λ (c : Core). IsHandedOn c d) (sym core_same) (none.handed d small);
         none_next = ap (λ (c : Core). next_given c.station c.station.queue) core_same ∙ none.none_next;
@@ -306,7 +306,7 @@ module _ {X : Type 0} (see : Sight X) (l0 l2 l5 : X) (k0 k1 k2 k3 k4 k5 k6 : Kep
     came = came_at_end;
     room = w.reads.room;
     went = sent_at_end;
-    offers = subst (λ (xs : List ℕ). Offers w.writes.write xs) (ap (λ (k : Kept). k.out) w.steps_rest) w.writes.offers;
+    offers = subst (λ (xs : List ℕ). Offers w.writes.write xs) (ap (λ (k : SimMachine). k.out) w.steps_rest) w.writes.offers;
     calls_are = w.reads.calls_are ∙ ap (count_after (calls_made w.reads.read)) w.writes.calls_are ∙ both_made w.writes.write w.reads.read;
     stalled_are = w.read_none_stalled ∙ w.writes.stalled_are;
     empty_are = w.reads.empty_are ∙ ap (empty_after w.reads.read) w.write_none_empty;
@@ -319,10 +319,10 @@ module _ {X : Type 0} (see : Sight X) (l0 l2 l5 : X) (k0 k1 k2 k3 k4 k5 k6 : Kep
       both_made (Some a) (Some b) = refl
 
   pub left_at : k2.out ≡ left_of w.writes.write k0.out
-  left_at = ap (λ (k : Kept). k.out) w.writes.kept ∙ ap (λ (k : Kept). left_of w.writes.write k.out) w.steps_rest
+  left_at = ap (λ (k : SimMachine). k.out) w.writes.kept ∙ ap (λ (k : SimMachine). left_of w.writes.write k.out) w.steps_rest
 
   all_came : k5.unfed ≡ k0.unfed ++ octets_read w.reads.read
-  all_came = ap (λ (k : Kept). k.unfed) w.reads.kept ∙ ap (λ xs. xs ++ octets_read w.reads.read) unfed_before
+  all_came = ap (λ (k : SimMachine). k.unfed) w.reads.kept ∙ ap (λ xs. xs ++ octets_read w.reads.read) unfed_before
 
   passed_so : HasPassed k0.core k6.core
   passed_so = record { passed = w.steps_passed.passed; joins = w.steps_passed.joins ∙ ap (λ xs. w.steps_passed.passed ++ xs) (sym steps_at_end) }
@@ -339,6 +339,6 @@ module _ {X : Type 0} (see : Sight X) (l0 l2 l5 : X) (k0 k1 k2 k3 k4 k5 k6 : Kep
   }
     where
       by_load : left_of w.writes.write k0.out ≢ [] → (b : Bool) → Loads k2 k3 b → k3.out ≡ k2.out
-      by_load some _ (some_wait there same) = ap (λ (k : Kept). k.out) same
+      by_load some _ (some_wait there same) = ap (λ (k : SimMachine). k.out) same
       by_load some _ (puts any none goes) = absurd (some (sym left_at ∙ none))
       by_load some _ (puts_none any none goes) = absurd (some (sym left_at ∙ none))

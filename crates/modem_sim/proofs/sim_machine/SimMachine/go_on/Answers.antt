@@ -1,21 +1,21 @@
 use Rattle.modem_sim.specs.Acts.{any_act, is_step_act}
 use Rattle.modem_sim.specs.Sims.{Sight, sight}
 use Rattle.modem_sim.specs.Stills.{at_line, leaves_frame, leaves_octets, leaves_step}
-use Rattle.modem_sim.proofs.sims.SimPasts.{sim_kept, sim_read_by, sim_then, sim_wrote_by}
+use Rattle.modem_sim.proofs.sims.SimPasts.{sim_machine_goes, sim_read_by, sim_then, sim_wrote_by}
 use Rattle.modem_sim.proofs.sims.TurnHistories.{goes_once}
 use Rattle.modem_sim.proofs.sims.WholeTurns.{Went}
-use Rattle.modem_sim.proofs.kept.Kept.go_on.Goals as goal
+use Rattle.modem_sim.proofs.sim_machine.SimMachine.go_on.Goals as goal
 
 pub returns-in_err-done-clause-goes : goal.returns-in_err-done-clause-goes
 returns-in_err-done-clause-goes g c =
-    sim_kept g.L.SerialLine.received g.L.SerialLine.sent (at_line c.args.line.now c.args.self.now) is_step_act c.do_steps.new.self c.do_steps.ensures.goes
+    sim_machine_goes g.L.SerialLine.received g.L.SerialLine.sent (at_line c.args.line.now c.args.self.now) is_step_act c.do_steps.new.self c.do_steps.ensures.goes
 
 pub returns-in_err-wrote-clause-goes : goal.returns-in_err-wrote-clause-goes
 returns-in_err-wrote-clause-goes g c =
     let received = g.L.SerialLine.received in
     let sent = g.L.SerialLine.sent in
     sim_then received sent (at_line c.args.line.now c.args.self.now) (at_line c.args.line.now c.do_steps.new.self) (at_line c.write.new.line c.write.new.self)
-    (sim_kept received sent (at_line c.args.line.now c.args.self.now) is_step_act c.do_steps.new.self c.do_steps.ensures.goes)
+    (sim_machine_goes received sent (at_line c.args.line.now c.args.self.now) is_step_act c.do_steps.new.self c.do_steps.ensures.goes)
     (sim_wrote_by received sent (at_line c.args.line.now c.do_steps.new.self) c.write.new.line c.write.new.self c.write.result
     c.write.ensures.went c.write.ensures.kept c.write.ensures.none_went c.write.ensures.err c.write.ensures.none_came)
 
@@ -25,10 +25,10 @@ returns-in_err-loaded-clause-goes g c =
     let sent = g.L.SerialLine.sent in
     sim_then received sent (at_line c.args.line.now c.args.self.now) (at_line c.write.new.line c.write.new.self) (at_line c.write.new.line c.load.new.self)
     (sim_then received sent (at_line c.args.line.now c.args.self.now) (at_line c.args.line.now c.do_steps.new.self) (at_line c.write.new.line c.write.new.self)
-    (sim_kept received sent (at_line c.args.line.now c.args.self.now) is_step_act c.do_steps.new.self c.do_steps.ensures.goes)
+    (sim_machine_goes received sent (at_line c.args.line.now c.args.self.now) is_step_act c.do_steps.new.self c.do_steps.ensures.goes)
     (sim_wrote_by received sent (at_line c.args.line.now c.do_steps.new.self) c.write.new.line c.write.new.self c.write.result
     c.write.ensures.went c.write.ensures.kept c.write.ensures.none_went c.write.ensures.err c.write.ensures.none_came))
-    (sim_kept received sent (at_line c.write.new.line c.write.new.self) any_act c.load.new.self c.load.ensures.goes)
+    (sim_machine_goes received sent (at_line c.write.new.line c.write.new.self) any_act c.load.new.self c.load.ensures.goes)
 
 pub returns-in_err-took-clause-goes : goal.returns-in_err-took-clause-goes
 returns-in_err-took-clause-goes g c =
@@ -37,11 +37,11 @@ returns-in_err-took-clause-goes g c =
     sim_then received sent (at_line c.args.line.now c.args.self.now) (at_line c.write.new.line c.load.new.self) (at_line c.write.new.line c.take_frame.new.self)
     (sim_then received sent (at_line c.args.line.now c.args.self.now) (at_line c.write.new.line c.write.new.self) (at_line c.write.new.line c.load.new.self)
     (sim_then received sent (at_line c.args.line.now c.args.self.now) (at_line c.args.line.now c.do_steps.new.self) (at_line c.write.new.line c.write.new.self)
-    (sim_kept received sent (at_line c.args.line.now c.args.self.now) is_step_act c.do_steps.new.self c.do_steps.ensures.goes)
+    (sim_machine_goes received sent (at_line c.args.line.now c.args.self.now) is_step_act c.do_steps.new.self c.do_steps.ensures.goes)
     (sim_wrote_by received sent (at_line c.args.line.now c.do_steps.new.self) c.write.new.line c.write.new.self c.write.result
     c.write.ensures.went c.write.ensures.kept c.write.ensures.none_went c.write.ensures.err c.write.ensures.none_came))
-    (sim_kept received sent (at_line c.write.new.line c.write.new.self) any_act c.load.new.self c.load.ensures.goes))
-    (sim_kept received sent (at_line c.write.new.line c.load.new.self) any_act c.take_frame.new.self c.take_frame.ensures.goes)
+    (sim_machine_goes received sent (at_line c.write.new.line c.write.new.self) any_act c.load.new.self c.load.ensures.goes))
+    (sim_machine_goes received sent (at_line c.write.new.line c.load.new.self) any_act c.take_frame.new.self c.take_frame.ensures.goes)
 
 pub returns-in_err-came-clause-goes : goal.returns-in_err-came-clause-goes
 returns-in_err-came-clause-goes g c =
@@ -51,11 +51,11 @@ returns-in_err-came-clause-goes g c =
     (sim_then received sent (at_line c.args.line.now c.args.self.now) (at_line c.write.new.line c.load.new.self) (at_line c.write.new.line c.take_frame.new.self)
     (sim_then received sent (at_line c.args.line.now c.args.self.now) (at_line c.write.new.line c.write.new.self) (at_line c.write.new.line c.load.new.self)
     (sim_then received sent (at_line c.args.line.now c.args.self.now) (at_line c.args.line.now c.do_steps.new.self) (at_line c.write.new.line c.write.new.self)
-    (sim_kept received sent (at_line c.args.line.now c.args.self.now) is_step_act c.do_steps.new.self c.do_steps.ensures.goes)
+    (sim_machine_goes received sent (at_line c.args.line.now c.args.self.now) is_step_act c.do_steps.new.self c.do_steps.ensures.goes)
     (sim_wrote_by received sent (at_line c.args.line.now c.do_steps.new.self) c.write.new.line c.write.new.self c.write.result
     c.write.ensures.went c.write.ensures.kept c.write.ensures.none_went c.write.ensures.err c.write.ensures.none_came))
-    (sim_kept received sent (at_line c.write.new.line c.write.new.self) any_act c.load.new.self c.load.ensures.goes))
-    (sim_kept received sent (at_line c.write.new.line c.load.new.self) any_act c.take_frame.new.self c.take_frame.ensures.goes))
+    (sim_machine_goes received sent (at_line c.write.new.line c.write.new.self) any_act c.load.new.self c.load.ensures.goes))
+    (sim_machine_goes received sent (at_line c.write.new.line c.load.new.self) any_act c.take_frame.new.self c.take_frame.ensures.goes))
     (sim_read_by received sent (at_line c.write.new.line c.take_frame.new.self) c.receive.new.line c.receive.new.self c.receive.result
     c.receive.ensures.came c.receive.ensures.none_came c.receive.ensures.err c.receive.ensures.none_went)
 
@@ -68,14 +68,14 @@ returns-clause-goes g c =
     (sim_then received sent (at_line c.args.line.now c.args.self.now) (at_line c.write.new.line c.load.new.self) (at_line c.write.new.line c.take_frame.new.self)
     (sim_then received sent (at_line c.args.line.now c.args.self.now) (at_line c.write.new.line c.write.new.self) (at_line c.write.new.line c.load.new.self)
     (sim_then received sent (at_line c.args.line.now c.args.self.now) (at_line c.args.line.now c.do_steps.new.self) (at_line c.write.new.line c.write.new.self)
-    (sim_kept received sent (at_line c.args.line.now c.args.self.now) is_step_act c.do_steps.new.self c.do_steps.ensures.goes)
+    (sim_machine_goes received sent (at_line c.args.line.now c.args.self.now) is_step_act c.do_steps.new.self c.do_steps.ensures.goes)
     (sim_wrote_by received sent (at_line c.args.line.now c.do_steps.new.self) c.write.new.line c.write.new.self c.write.result
     c.write.ensures.went c.write.ensures.kept c.write.ensures.none_went c.write.ensures.err c.write.ensures.none_came))
-    (sim_kept received sent (at_line c.write.new.line c.write.new.self) any_act c.load.new.self c.load.ensures.goes))
-    (sim_kept received sent (at_line c.write.new.line c.load.new.self) any_act c.take_frame.new.self c.take_frame.ensures.goes))
+    (sim_machine_goes received sent (at_line c.write.new.line c.write.new.self) any_act c.load.new.self c.load.ensures.goes))
+    (sim_machine_goes received sent (at_line c.write.new.line c.load.new.self) any_act c.take_frame.new.self c.take_frame.ensures.goes))
     (sim_read_by received sent (at_line c.write.new.line c.take_frame.new.self) c.receive.new.line c.receive.new.self c.receive.result
     c.receive.ensures.came c.receive.ensures.none_came c.receive.ensures.err c.receive.ensures.none_went))
-    (sim_kept received sent (at_line c.receive.new.line c.receive.new.self) any_act c.feed-fed.new.self c.feed-fed.ensures.goes)
+    (sim_machine_goes received sent (at_line c.receive.new.line c.receive.new.self) any_act c.feed-fed.new.self c.feed-fed.ensures.goes)
 
 pub returns-clause-turn : goal.returns-clause-turn
 returns-clause-turn g c =

@@ -1,7 +1,7 @@
 //! What a simulated modem keeps beside its line.
 ghost use Rattle.std.specs.Prelude.{◌≡◌, ◌≢◌, ◌↔◌, ◌⊎◌, ◌+◌, ◌<◌, ◌≤◌, [], ◌++◌, length, take, drop, true, false, None, IfOk, OnOk, OnErr, IsErrOf};
 ghost use Rattle.modem_sim.specs.Cores.{HasNoneToDo, HasPassed, HasReleased, SaysNext};
-ghost use Rattle.modem_sim.specs.Sims.{BeginsAt, KeptFits, KeptGoes, Receives, is_ended};
+ghost use Rattle.modem_sim.specs.Sims.{BeginsAt, Receives, SimMachineFits, SimMachineGoes, is_ended};
 ghost use Rattle.modem_sim.specs.Stills.{Feeds, FeedsNone, LoadsBy, LoadsNone, ReadsOnce, TakesFrame, TakesNone, Writes};
 ghost use Rattle.modem_sim.specs.Acts.{any_act, end_of, is_step_act};
 
@@ -17,17 +17,17 @@ use std::marker::Model;
 
 /// A station with its modem, its end of the line, and the end that a poll gave.
 #[derive(Drop)]
-pub(crate) struct Kept {
+pub(crate) struct SimMachine {
     pub(crate) core: SimCore,
     pub(crate) line_end: LineEnd,
     pub(crate) end: Option<Result<SimTurn, SimError>>,
 }
 
-impl Model for Kept {
+impl Model for SimMachine {
     ghost use Rattle.std.specs.Prelude.{◌≡◌};
-    ghost use Rattle.modem_sim.specs.Sims.{Kept};
+    ghost use Rattle.modem_sim.specs.Sims.{SimMachine};
 
-    ghost Value = { Kept };
+    ghost Value = { SimMachine };
 
     ghost view = { λ k. record {
       core = k.core;
@@ -71,13 +71,13 @@ impl Room {
     }
 }
 
-impl Kept {
+impl SimMachine {
     /// Nothing has happened yet.
-    pub(crate) fn start(room: Room, modem: Modem, script: Script) -> Kept
+    pub(crate) fn start(room: Room, modem: Modem, script: Script) -> SimMachine
         requires begins { BeginsAt room.n1 room.parts.station room.parts.channels.items room.n1
             room.line_end.unfed room.line_end.deframer room.line_end.unwritten }
         requires sound { room.line_end.failed ≡ false }
-        ensures begins { KeptFits (end_of room.n1 modem script) [] [] result [] }
+        ensures begins { SimMachineFits (end_of room.n1 modem script) [] [] result [] }
         ensures sound { result.failed ≡ false }
         ensures goes_on { result.end ≡ None }
     {
@@ -86,7 +86,7 @@ impl Kept {
             line_end,
             ..
         } = room;
-        Kept {
+        SimMachine {
             core: SimCore::start(parts, modem, script),
             line_end,
             end: None,
@@ -104,7 +104,7 @@ impl Kept {
     pub(crate) fn into_modem(self) -> Modem
         ensures { result ≡ self.core.modem }
     {
-        let Kept { core, .. } = self;
+        let SimMachine { core, .. } = self;
         core.into_modem()
     }
 
@@ -117,7 +117,7 @@ impl Kept {
 
     /// Does the steps that are due; says whether there were any.
     pub(crate) fn do_steps(&mut self) -> Result<bool, AllocError>
-        ensures goes { KeptGoes is_step_act self.old self.new }
+        ensures goes { SimMachineGoes is_step_act self.old self.new }
         ensures rest { self.new ≡ record self.old { core = self.new.core } }
         ensures same { IfOk result (λ done. done ≡ false → self.new ≡ self.old) }
         ensures fewer { IfOk result
@@ -130,9 +130,9 @@ impl Kept {
     }
 
     /// Takes the frame at hand, if there is one and the station has room for what it calls for; says whether it did.
-    #[tactic(auto, using(crate::proofs::sims::SimPasts::kept_none))]
+    #[tactic(auto, using(crate::proofs::sims::SimPasts::machine_none))]
     pub(crate) fn take_frame(&mut self) -> Result<bool, SimError>
-        ensures goes { KeptGoes any_act self.old self.new }
+        ensures goes { SimMachineGoes any_act self.old self.new }
         ensures rest { self.new ≡ record self.old { core = self.new.core; deframer = self.new.deframer } }
         ensures takes { IfOk result (λ took. took ≡ true → TakesFrame self.old self.new) }
         ensures none { IfOk result (λ took. took ≡ false → TakesNone self.old self.new) }
@@ -152,9 +152,9 @@ impl Kept {
 
     /// Takes the next frame into the output, where all is written; says whether it did, or handed octets to the station. What a
     /// want of memory leaves is handed later.
-    #[tactic(auto, using(crate::proofs::sims::SimPasts::kept_none))]
+    #[tactic(auto, using(crate::proofs::sims::SimPasts::machine_none))]
     pub(crate) fn load(&mut self) -> Result<bool, AllocError>
-        ensures goes { KeptGoes any_act self.old self.new }
+        ensures goes { SimMachineGoes any_act self.old self.new }
         ensures rest { self.new ≡ record self.old { core = self.new.core; out = self.new.out } }
         ensures loads { IfOk result (λ moved. LoadsBy self.old self.new moved) }
         ensures none { IfOk result (λ moved. moved ≡ false → LoadsNone self.old self.new) }
@@ -173,9 +173,9 @@ impl Kept {
     }
 
     /// Gives octets that were read to the deframer, as many as it has room for; says whether there were any.
-    #[tactic(auto, using(crate::proofs::sims::SimPasts::kept_none))]
+    #[tactic(auto, using(crate::proofs::sims::SimPasts::machine_none))]
     pub(crate) fn feed(&mut self) -> bool
-        ensures goes { KeptGoes any_act self.old self.new }
+        ensures goes { SimMachineGoes any_act self.old self.new }
         ensures feeds { Feeds self.old self.new }
         ensures rest { self.new ≡ record self.old { unfed = self.new.unfed; deframer = self.new.deframer } }
         ensures fewer { result ≡ true → length self.new.unfed < length self.old.unfed }
