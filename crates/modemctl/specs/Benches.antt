@@ -8,6 +8,7 @@ use Rattle.modem_texts.specs.Input.{input_lines}
 use Rattle.modem_runs.specs.Steps.{AreSteps}
 use Rattle.modem_runs.specs.Printed.{IsBenched, IsFramed, IsPrinted}
 use Rattle.modem_serve.specs.declared.serving.SimOptions.{SimOptions}
+use Rattle.modem_serve.specs.Leaving.{IsServedInPart}
 use Rattle.modem_serve.specs.Serving.{IsServed}
 use Rattle.modemctl.specs.Dialects.{PrintsActs}
 use Rattle.modemctl.specs.Words.{IsGiven, raw_in, text_in}
@@ -47,20 +48,40 @@ abbrev pub AreScripted : (path : Option Text) → List Step → Type 0
 AreScripted None steps = steps ≡ []
 AreScripted (Some path) steps = (text : List ℕ) × AreSteps (input_lines text) steps
 
--- a client was served so, with the N1, the PIN and the echo of the words, by a modem that does of its own accord what their script says
-pub record ServesClient (met : Option (Text × List Row)) (input before after : Option (List ℕ)) : Type 0 where
-  pub options : SimOptions
+-- the N1, the PIN and the echo that the words give, and the steps that their script says
+pub record AreGiven (met : Option (Text × List Row)) (options : SimOptions) : Type 0 where
   pub n1_given : IsGiven met (codes "n1") 31 options.n1
   pub pin_given : options.pin ≡ raw_in met (codes "pin")
   pub echo_given : IsFlag (text_in met (codes "echo")) options.echo
   pub steps_given : AreScripted (raw_in met (codes "script")) options.steps
+
+-- the same by the matches of the subcommand
+pub record AreMatched (n1 : ℕ) (m : ArgMatches) (options : SimOptions) : Type 0 where
+  pub n1_is : options.n1 ≡ n1
+  pub pin_is : options.pin ≡ first_value (found_of m) (codes "pin")
+  pub echo_is : IsFlag (one_text (found_of m) (codes "echo")) options.echo
+  pub steps_are : AreScripted (first_value (found_of m) (codes "script")) options.steps
+
+-- a client was served so, by a modem with the options of the words
+pub record ServesClient (met : Option (Text × List Row)) (input before after : Option (List ℕ)) : Type 0 where
+  pub options : SimOptions
+  pub given : AreGiven met options
   pub served : IsServed options input before after
 
 -- the same by the matches of the subcommand
 pub record ServesWith (n1 : ℕ) (m : ArgMatches) (input before after : Option (List ℕ)) : Type 0 where
   pub options : SimOptions
-  pub n1_is : options.n1 ≡ n1
-  pub pin_is : options.pin ≡ first_value (found_of m) (codes "pin")
-  pub echo_is : IsFlag (one_text (found_of m) (codes "echo")) options.echo
-  pub steps_are : AreScripted (first_value (found_of m) (codes "script")) options.steps
+  pub matched : AreMatched n1 m options
   pub served : IsServed options input before after
+
+-- a client was left at a fault, by a modem with the options of the words
+pub record LeavesClient (met : Option (Text × List Row)) (input rest before after : Option (List ℕ)) : Type 0 where
+  pub options : SimOptions
+  pub given : AreGiven met options
+  pub left : IsServedInPart options input rest before after
+
+-- the same by the matches of the subcommand
+pub record LeavesWith (n1 : ℕ) (m : ArgMatches) (input rest before after : Option (List ℕ)) : Type 0 where
+  pub options : SimOptions
+  pub matched : AreMatched n1 m options
+  pub left : IsServedInPart options input rest before after

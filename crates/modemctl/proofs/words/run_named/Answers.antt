@@ -4,7 +4,8 @@ use Rattle.clap.specs.Words.{Row, Text, first_of, first_value, found_of, one_of,
 use Rattle.clap.specs.declared.ArgMatches.{ArgMatches}
 use Rattle.clap.proofs.WalkLemmas.{first_value-rows, one_text-rows}
 use Rattle.modemctl.specs.Words.{HasNoNumber, IsGiven, IsNoNumber, IsNumberOf, raw_in, text_in}
-use Rattle.modemctl.specs.Benches.{AreScripted, IsFlag, ServesClient, ServesWith}
+use Rattle.modem_serve.specs.declared.serving.SimOptions.{SimOptions}
+use Rattle.modemctl.specs.Benches.{AreGiven, AreMatched, AreScripted, IsFlag, LeavesClient, LeavesWith}
 use Rattle.modem_drive.specs.Entry.{entry_for}
 use Rattle.modem_drive.specs.OnDevice.{DroveDevice}
 use Rattle.modemctl.specs.Dialects.{IsGivenDialect, PrintsActs}
@@ -90,21 +91,36 @@ returns-in-bench-clause-bench g c zero named = record {
   printed = c.bench_plain.ensures.done zero;
 }
 
-serves_client : (top m : ArgMatches) (n1 : ℕ) (input before after : Option (List ℕ)) → Some (rows_of (found_of m)) ≡ option_map (λ p. p.1) (subcommand_rows_of top) → IsNumberOf 31 (one_text (found_of m) (codes "n1")) n1
-    → ServesWith n1 m input before after → ServesClient (subcommand_rows_of top) input before after
-serves_client top m n1 input before after rows number serves = record {
-  options = serves.options;
-  n1_given = number_in top m (codes "n1") 31 serves.options.n1 rows (subst (λ (n : ℕ). IsNumberOf 31 (one_text (found_of m) (codes "n1")) n) (sym serves.n1_is) number);
-  pin_given = serves.pin_is ∙ word_given top m (codes "pin") rows;
-  echo_given = subst (λ (t : Option Text). IsFlag t serves.options.echo) (given_in top m (codes "echo") rows) serves.echo_is;
-  steps_given = subst (λ (t : Option Text). AreScripted t serves.options.steps) (word_given top m (codes "script") rows) serves.steps_are;
-  served = serves.served;
+are_given : (top m : ArgMatches) (n1 : ℕ) (options : SimOptions) → Some (rows_of (found_of m)) ≡ option_map (λ p. p.1) (subcommand_rows_of top) → IsNumberOf 31 (one_text (found_of m) (codes "n1")) n1
+    → AreMatched n1 m options → AreGiven (subcommand_rows_of top) options
+are_given top m n1 options rows number matched = record {
+  n1_given = number_in top m (codes "n1") 31 options.n1 rows (subst (λ (n : ℕ). IsNumberOf 31 (one_text (found_of m) (codes "n1")) n) (sym matched.n1_is) number);
+  pin_given = matched.pin_is ∙ word_given top m (codes "pin") rows;
+  echo_given = subst (λ (t : Option Text). IsFlag t options.echo) (given_in top m (codes "echo") rows) matched.echo_is;
+  steps_given = subst (λ (t : Option Text). AreScripted t options.steps) (word_given top m (codes "script") rows) matched.steps_are;
 }
 
 pub returns-in-sim-clause-sim : goal.returns-in-sim-clause-sim
 returns-in-sim-clause-sim g c zero named =
-    serves_client c.args.matches.now c.in-Some.given.now c.in-Ok.numbers.n1 (g.I.Read.remaining c.args.input.now) (g.W.Write.contents c.args.output.now) (g.W.Write.contents c.sim_words.new.output) c.in-Some.ensures.rows c.in-Ok.ensures.n1
-    (c.sim_words.ensures.served zero)
+    let serves = c.sim_words.ensures.served zero in
+    record {
+      options = serves.options;
+      given = are_given c.args.matches.now c.in-Some.given.now c.in-Ok.numbers.n1 serves.options c.in-Some.ensures.rows c.in-Ok.ensures.n1 serves.matched;
+      served = serves.served;
+    }
+
+leaves_client : {P : Type 0} (top m : ArgMatches) (n1 : ℕ) (input rest before after : Option (List ℕ)) → Some (rows_of (found_of m)) ≡ option_map (λ p. p.1) (subcommand_rows_of top) → IsNumberOf 31 (one_text (found_of m) (codes "n1")) n1
+    → P ⊎ LeavesWith n1 m input rest before after → P ⊎ LeavesClient (subcommand_rows_of top) input rest before after
+leaves_client top m n1 input rest before after rows number (inl none) = inl none
+leaves_client top m n1 input rest before after rows number (inr leaves) = inr (record {
+  options = leaves.options;
+  given = are_given top m n1 leaves.options rows number leaves.matched;
+  left = leaves.left;
+})
+
+pub returns-in-sim-clause-sim_left : goal.returns-in-sim-clause-sim_left
+returns-in-sim-clause-sim_left g c one named =
+    leaves_client c.args.matches.now c.in-Some.given.now c.in-Ok.numbers.n1 _ _ _ _ c.in-Some.ensures.rows c.in-Ok.ensures.n1 (c.sim_words.ensures.left one)
 
 prints_drive : (top m : ArgMatches) (n1 : ℕ) (before after : Option (List ℕ)) → Some (rows_of (found_of m)) ≡ option_map (λ p. p.1) (subcommand_rows_of top) → IsNumberOf 31 (one_text (found_of m) (codes "n1")) n1
     → DrivesWith n1 m before after → PrintsDrive (subcommand_rows_of top) before after
