@@ -15,6 +15,7 @@ mod driving;
 mod files;
 mod help;
 mod numbers;
+mod text_files;
 
 use at_cmds::Pin;
 use clap::error::ErrorKind;
@@ -33,6 +34,7 @@ use std::random::RandomSource;
 use std::rt::{Clock, Files};
 use std::sync::Wait;
 use std::thread::Threads;
+use text_files::TextFiles;
 
 /// The option `--n1`.
 fn n1_option<'a>(alloc: Global) -> Arg<'a>
@@ -319,13 +321,13 @@ fn sim_words<R, I: Read, W: Write, E: Write>(
     faults: &mut E,
 ) -> u8
 where
-    R: Files<File = File> + Clock,
+    R: Files<File = File> + TextFiles + Clock,
     ensures status { result ≤ 2 }
     ensures bad { result ≡ 2 → output.new ≡ output.old }
-    ensures served { result ≡ 0 → ServesWith n1 matches.now (I.remaining input.old) (W.contents output.old)
+    ensures served { result ≡ 0 → ServesWith (R.text_of rt.now) n1 matches.now (I.remaining input.old) (W.contents output.old)
         (W.contents output.new) }
     ensures left { result ≡ 1 → ((input.new ≡ input.old) × (output.new ≡ output.old))
-        ⊎ LeavesWith n1 matches.now (I.remaining input.old) (I.remaining input.new) (W.contents output.old)
+        ⊎ LeavesWith (R.text_of rt.now) n1 matches.now (I.remaining input.old) (I.remaining input.new) (W.contents output.old)
         (W.contents output.new) }
 {
     let Ok(pin) = pin_of(alloc, matches) else {
@@ -358,6 +360,7 @@ fn run_named<R, I: Read, J, W: Write, E: Write>(
 ) -> u8
 where
     R: Files<File = File>
+        + TextFiles
         + Threads
         + Wait
         + Clock
@@ -378,22 +381,22 @@ where
         → PrintsFrames (subcommand_rows_of matches.now) (I.remaining input.old) (W.contents output.old)
         (W.contents output.new) }
     ensures replay { result ≡ 0 → subcommand_name_of matches.now ≡ Some (codes "replay")
-        → PrintsReplay (subcommand_rows_of matches.now) (I.remaining input.old) (W.contents output.old)
+        → PrintsReplay (R.text_of rt.now) (subcommand_rows_of matches.now) (I.remaining input.old) (W.contents output.old)
         (W.contents output.new) }
     ensures bench { result ≡ 0 → subcommand_name_of matches.now ≡ Some (codes "bench")
         → PrintsBench (subcommand_rows_of matches.now) (I.remaining input.old) (W.contents output.old)
         (W.contents output.new) }
     ensures sim { result ≡ 0 → subcommand_name_of matches.now ≡ Some (codes "sim")
-        → ServesClient (subcommand_rows_of matches.now) (I.remaining input.old) (W.contents output.old)
+        → ServesClient (R.text_of rt.now) (subcommand_rows_of matches.now) (I.remaining input.old) (W.contents output.old)
         (W.contents output.new) }
     ensures sim_left { result ≡ 1 → subcommand_name_of matches.now ≡ Some (codes "sim")
         → ((input.new ≡ input.old) × (output.new ≡ output.old))
-        ⊎ LeavesClient (subcommand_rows_of matches.now) (I.remaining input.old) (I.remaining input.new)
+        ⊎ LeavesClient (R.text_of rt.now) (subcommand_rows_of matches.now) (I.remaining input.old) (I.remaining input.new)
         (W.contents output.old) (W.contents output.new) }
     ensures drive { result ≡ 0 → subcommand_name_of matches.now ≡ Some (codes "drive")
-        → PrintsDrive (subcommand_rows_of matches.now) (W.contents output.old) (W.contents output.new) }
+        → PrintsDrive (R.text_of rt.now) (subcommand_rows_of matches.now) (W.contents output.old) (W.contents output.new) }
     ensures drive_bad { result ≡ 2 → subcommand_name_of matches.now ≡ Some (codes "drive") → (output.new ≡ output.old)
-        ⊎ PrintsDrive (subcommand_rows_of matches.now) (W.contents output.old) (W.contents output.new) }
+        ⊎ PrintsDrive (R.text_of rt.now) (subcommand_rows_of matches.now) (W.contents output.old) (W.contents output.new) }
 {
     let Some((name, given)) = matches.subcommand() else {
         return 2;
@@ -425,6 +428,7 @@ pub fn run<R, I: Read, J, W: Write, E: Write>(
 ) -> u8
 where
     R: Files<File = File>
+        + TextFiles
         + Threads
         + Wait
         + Clock
@@ -449,22 +453,22 @@ where
         → PrintsFrames (met_in (map string_bytes words.now)) (I.remaining input.old) (W.contents output.old)
         (W.contents output.new) }
     ensures replay { result ≡ 0 → AreFor (codes "replay") (map string_bytes words.now)
-        → PrintsReplay (met_in (map string_bytes words.now)) (I.remaining input.old) (W.contents output.old)
+        → PrintsReplay (R.text_of rt.now) (met_in (map string_bytes words.now)) (I.remaining input.old) (W.contents output.old)
         (W.contents output.new) }
     ensures bench { result ≡ 0 → AreFor (codes "bench") (map string_bytes words.now)
         → PrintsBench (met_in (map string_bytes words.now)) (I.remaining input.old) (W.contents output.old)
         (W.contents output.new) }
     ensures sim { result ≡ 0 → AreFor (codes "sim") (map string_bytes words.now)
-        → ServesClient (met_in (map string_bytes words.now)) (I.remaining input.old) (W.contents output.old)
+        → ServesClient (R.text_of rt.now) (met_in (map string_bytes words.now)) (I.remaining input.old) (W.contents output.old)
         (W.contents output.new) }
     ensures sim_left { result ≡ 1 → AreFor (codes "sim") (map string_bytes words.now)
         → ((input.new ≡ input.old) × (output.new ≡ output.old))
-        ⊎ LeavesClient (met_in (map string_bytes words.now)) (I.remaining input.old) (I.remaining input.new)
+        ⊎ LeavesClient (R.text_of rt.now) (met_in (map string_bytes words.now)) (I.remaining input.old) (I.remaining input.new)
         (W.contents output.old) (W.contents output.new) }
     ensures drive { result ≡ 0 → AreFor (codes "drive") (map string_bytes words.now)
-        → PrintsDrive (met_in (map string_bytes words.now)) (W.contents output.old) (W.contents output.new) }
+        → PrintsDrive (R.text_of rt.now) (met_in (map string_bytes words.now)) (W.contents output.old) (W.contents output.new) }
     ensures drive_bad { result ≡ 2 → AreFor (codes "drive") (map string_bytes words.now) → (output.new ≡ output.old)
-        ⊎ PrintsDrive (met_in (map string_bytes words.now)) (W.contents output.old) (W.contents output.new) }
+        ⊎ PrintsDrive (R.text_of rt.now) (met_in (map string_bytes words.now)) (W.contents output.old) (W.contents output.new) }
 {
     let command = match program(alloc) {
         Ok(command) => command,

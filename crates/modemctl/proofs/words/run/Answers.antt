@@ -37,7 +37,7 @@ returns-in-Ok-try_get_matches_from-clause-frames g c zero for =
 pub returns-in-Ok-try_get_matches_from-clause-replay :
     goal.returns-in-Ok-try_get_matches_from-clause-replay
 returns-in-Ok-try_get_matches_from-clause-replay g c zero for =
-    subst (λ (m : Option (Text × List Row)). PrintsReplay m (g.I.Read.remaining c.args.input.now) (g.W.Write.contents c.args.output.now) (g.W.Write.contents c.run_named.new.output)) (met c.in-Ok-try_get_matches_from.matches _ _ c.in-Ok.ensures (λ e. (c.in-Ok-try_get_matches_from.ensures.matches e).1))
+    subst (λ (m : Option (Text × List Row)). PrintsReplay (g.R.TextFiles.text_of c.args.rt.now) m (g.I.Read.remaining c.args.input.now) (g.W.Write.contents c.args.output.now) (g.W.Write.contents c.run_named.new.output)) (met c.in-Ok-try_get_matches_from.matches _ _ c.in-Ok.ensures (λ e. (c.in-Ok-try_get_matches_from.ensures.matches e).1))
     (c.run_named.ensures.replay zero (named c.in-Ok-try_get_matches_from.matches _ _ c.in-Ok.ensures (λ e. (c.in-Ok-try_get_matches_from.ensures.matches e).1) ∙ for.1))
 
 pub returns-in-Ok-try_get_matches_from-clause-bench :
@@ -49,29 +49,29 @@ returns-in-Ok-try_get_matches_from-clause-bench g c zero for =
 pub returns-in-Ok-try_get_matches_from-clause-sim :
     goal.returns-in-Ok-try_get_matches_from-clause-sim
 returns-in-Ok-try_get_matches_from-clause-sim g c zero for =
-    subst (λ (m : Option (Text × List Row)). ServesClient m (g.I.Read.remaining c.args.input.now) (g.W.Write.contents c.args.output.now) (g.W.Write.contents c.run_named.new.output)) (met c.in-Ok-try_get_matches_from.matches _ _ c.in-Ok.ensures (λ e. (c.in-Ok-try_get_matches_from.ensures.matches e).1))
+    subst (λ (m : Option (Text × List Row)). ServesClient (g.R.TextFiles.text_of c.args.rt.now) m (g.I.Read.remaining c.args.input.now) (g.W.Write.contents c.args.output.now) (g.W.Write.contents c.run_named.new.output)) (met c.in-Ok-try_get_matches_from.matches _ _ c.in-Ok.ensures (λ e. (c.in-Ok-try_get_matches_from.ensures.matches e).1))
     (c.run_named.ensures.sim zero (named c.in-Ok-try_get_matches_from.matches _ _ c.in-Ok.ensures (λ e. (c.in-Ok-try_get_matches_from.ensures.matches e).1) ∙ for.1))
 
-leaves : {P : Type 0} (a b : Option (Text × List Row)) (input rest before after : Option (List ℕ)) → a ≡ b → P ⊎ LeavesClient a input rest before after → P ⊎ LeavesClient b input rest before after
-leaves {P} a b input rest before after same h = subst (λ (m : Option (Text × List Row)). P ⊎ LeavesClient m input rest before after) same h
+leaves : {P : Type 0} (texts : Text → Option (List ℕ)) (a b : Option (Text × List Row)) (input rest before after : Option (List ℕ)) → a ≡ b → P ⊎ LeavesClient texts a input rest before after → P ⊎ LeavesClient texts b input rest before after
+leaves {P} texts a b input rest before after same h = subst (λ (m : Option (Text × List Row)). P ⊎ LeavesClient texts m input rest before after) same h
 
 pub returns-in-Ok-try_get_matches_from-clause-sim_left :
     goal.returns-in-Ok-try_get_matches_from-clause-sim_left
 returns-in-Ok-try_get_matches_from-clause-sim_left g c one for =
-    leaves _ _ _ _ _ _ (met c.in-Ok-try_get_matches_from.matches _ _ c.in-Ok.ensures (λ e. (c.in-Ok-try_get_matches_from.ensures.matches e).1))
+    leaves _ _ _ _ _ _ _ (met c.in-Ok-try_get_matches_from.matches _ _ c.in-Ok.ensures (λ e. (c.in-Ok-try_get_matches_from.ensures.matches e).1))
     (c.run_named.ensures.sim_left one (named c.in-Ok-try_get_matches_from.matches _ _ c.in-Ok.ensures (λ e. (c.in-Ok-try_get_matches_from.ensures.matches e).1) ∙ for.1))
 
 pub returns-in-Ok-try_get_matches_from-clause-drive :
     goal.returns-in-Ok-try_get_matches_from-clause-drive
 returns-in-Ok-try_get_matches_from-clause-drive g c zero for =
-    subst (λ (m : Option (Text × List Row)). PrintsDrive m (g.W.Write.contents c.args.output.now) (g.W.Write.contents c.run_named.new.output)) (met c.in-Ok-try_get_matches_from.matches _ _ c.in-Ok.ensures (λ e. (c.in-Ok-try_get_matches_from.ensures.matches e).1))
+    subst (λ (m : Option (Text × List Row)). PrintsDrive (g.R.TextFiles.text_of c.args.rt.now) m (g.W.Write.contents c.args.output.now) (g.W.Write.contents c.run_named.new.output)) (met c.in-Ok-try_get_matches_from.matches _ _ c.in-Ok.ensures (λ e. (c.in-Ok-try_get_matches_from.ensures.matches e).1))
     (c.run_named.ensures.drive zero (named c.in-Ok-try_get_matches_from.matches _ _ c.in-Ok.ensures (λ e. (c.in-Ok-try_get_matches_from.ensures.matches e).1) ∙ for.1))
 
 pub returns-in-Ok-try_get_matches_from-clause-drive_bad :
     goal.returns-in-Ok-try_get_matches_from-clause-drive_bad
 returns-in-Ok-try_get_matches_from-clause-drive_bad g c two for =
     ⊎_elim (λ same. inl same)
-    (λ prints. inr (subst (λ (m : Option (Text × List Row)). PrintsDrive m (g.W.Write.contents c.args.output.now) (g.W.Write.contents c.run_named.new.output)) (met c.in-Ok-try_get_matches_from.matches _ _ c.in-Ok.ensures (λ e. (c.in-Ok-try_get_matches_from.ensures.matches e).1)) prints))
+    (λ prints. inr (subst (λ (m : Option (Text × List Row)). PrintsDrive (g.R.TextFiles.text_of c.args.rt.now) m (g.W.Write.contents c.args.output.now) (g.W.Write.contents c.run_named.new.output)) (met c.in-Ok-try_get_matches_from.matches _ _ c.in-Ok.ensures (λ e. (c.in-Ok-try_get_matches_from.ensures.matches e).1)) prints))
     (c.run_named.ensures.drive_bad two (named c.in-Ok-try_get_matches_from.matches _ _ c.in-Ok.ensures (λ e. (c.in-Ok-try_get_matches_from.ensures.matches e).1) ∙ for.1))
 
 -- ## What is wrong with the words
