@@ -1,9 +1,11 @@
-/* Loaded before the C library: refuses the allocation whose number is in REFUSE, counted from 1, and then creates the
- * file that REFUSED names. Where MARKED is set, only those count that come between a line that begins with `> ` and one that
- * begins with `<` on standard output. */
+/* Loaded before the C library: refuses the allocation or the thread whose number is in REFUSE, counted from 1, and then creates
+ * the file that REFUSED names. Where MARKED is set, only those count that come between a line that begins with `> ` and one that
+ * begins with `<` on standard output; where THREADS is set, only threads count. */
 #define _GNU_SOURCE
 #include <dlfcn.h>
+#include <errno.h>
 #include <fcntl.h>
+#include <pthread.h>
 #include <stdatomic.h>
 #include <stdlib.h>
 #include <unistd.h>
@@ -44,13 +46,18 @@ static int is_refused(void)
 	return 1;
 }
 
+static int is_memory_refused(void)
+{
+	return !getenv("THREADS") && is_refused();
+}
+
 void *malloc(size_t size)
 {
 	static void *(*next)(size_t);
 
 	if (!next)
 		next = (void *(*)(size_t)) dlsym(RTLD_NEXT, "malloc");
-	return is_refused() ? NULL : next(size);
+	return is_memory_refused() ? NULL : next(size);
 }
 
 void *realloc(void *block, size_t size)
@@ -59,5 +66,14 @@ void *realloc(void *block, size_t size)
 
 	if (!next)
 		next = (void *(*)(void *, size_t)) dlsym(RTLD_NEXT, "realloc");
-	return is_refused() ? NULL : next(block, size);
+	return is_memory_refused() ? NULL : next(block, size);
+}
+
+int pthread_create(pthread_t *thread, const pthread_attr_t *how, void *(*work)(void *), void *with)
+{
+	static int (*next)(pthread_t *, const pthread_attr_t *, void *(*)(void *), void *);
+
+	if (!next)
+		next = (int (*)(pthread_t *, const pthread_attr_t *, void *(*)(void *), void *)) dlsym(RTLD_NEXT, "pthread_create");
+	return is_refused() ? EAGAIN : next(thread, how, work, with);
 }

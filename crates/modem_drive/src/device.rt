@@ -8,7 +8,7 @@ use bell::Bell;
 use device_line::{DeviceLine, RingReader, RingWriter, drain, leave, line_over, pump};
 use rtrb::RingBuffer;
 use serial_line::ZeroRead;
-use std::alloc::AllocGlobal;
+use std::alloc::{AllocError, AllocGlobal, Global};
 use std::io::{Read, Write};
 use std::rt::Clock;
 use std::sync::Wait;
@@ -18,19 +18,37 @@ use std::thread::{SpawnError, Threads};
 /// Octets that a ring has room for.
 const ROOM: usize = 65536;
 
-/// What ends the threads of a device.
-#[derive(Drop)]
-pub struct Threaded {
-    reading: Bell,
-    writing: Bell,
+/// A bell by which a thread is told to end. It is told so once this is dropped, and ends as soon as the call in which it waits comes
+/// back.
+pub struct StopBell {
+    own: Bell,
 }
 
-impl Threaded {
-    /// Has the threads end, as soon as the calls in which they wait come back.
-    pub fn end(&self) {
-        self.reading.end();
-        self.writing.end();
+impl StopBell {
+    /// For a thread that is to be started.
+    fn new(alloc: Global) -> Result<StopBell, AllocError> {
+        let own = Bell::new(alloc)?;
+        Ok(StopBell { own })
     }
+
+    /// The thread's share.
+    fn share(&self) -> Result<Bell, AllocError> {
+        self.own.share()
+    }
+}
+
+impl Drop for StopBell {
+    fn drop(self) {
+        let StopBell { own } = self;
+        own.end();
+    }
+}
+
+/// What ends the threads of a device, once it is dropped.
+#[derive(Drop)]
+pub struct DeviceThreads {
+    reading: StopBell,
+    writing: StopBell,
 }
 
 /// A thread that was spawned. Generic, because proving the drop for a concrete closure is slow.
@@ -41,21 +59,22 @@ fn spawned<H: Drop, F: Drop>(thread: Result<H, SpawnError<F>>) -> Result<(), Dri
     }
 }
 
-/// Has a thread read it into a ring, until `own` is over.
+/// Has a thread read it into a ring, until what ends the thread is dropped, or the ring's reader. Refused where the ring or the thread
+/// can't be had: then there is no thread.
 pub fn read_beside<R, I>(
     rt: &R,
     input: I,
     bell: &Bell,
-    own: &Bell,
     zero: ZeroRead,
-) -> Result<RingReader, DriveFault>
+) -> Result<(RingReader, StopBell), DriveFault>
 where
     R: Threads + Wait + Clock + AllocGlobal + Copy + Send + Drop + 'static,
     I: Read + Send + Drop + 'static,
 {
+    let stop = StopBell::new(rt.alloc())?;
     let (ring, octets) = RingBuffer::new(rt.alloc(), ROOM)?;
     let bell = bell.share()?;
-    let own = own.share()?;
+    let own = stop.share()?;
     let rt_there = *rt;
     let mut input = input;
     let mut ring = ring;
@@ -63,24 +82,25 @@ where
         let _ = pump(&rt_there, &mut input, &mut ring, &bell, &own, zero);
         leave(ring, &bell);
     }))?;
-    Ok(RingReader::new(octets))
+    Ok((RingReader::new(octets), stop))
 }
 
-/// Has a thread write it out of a ring, until `own` is over.
+/// Has a thread write it out of a ring, until what ends the thread is dropped, or the ring's writer and all is written. Refused where
+/// the ring or the thread can't be had: then there is no thread.
 pub fn write_beside<R, O>(
     rt: &R,
     output: O,
     bell: &Bell,
-    own: &Bell,
-) -> Result<RingWriter, DriveFault>
+) -> Result<(RingWriter, StopBell), DriveFault>
 where
     R: Threads + Wait + Clock + AllocGlobal + Copy + Send + Drop + 'static,
     O: Write + Send + Drop + 'static,
 {
+    let stop = StopBell::new(rt.alloc())?;
     let (octets, ring) = RingBuffer::new(rt.alloc(), ROOM)?;
     let bell = bell.share()?;
-    let writer = RingWriter::new(octets, own.share()?);
-    let own = own.share()?;
+    let writer = RingWriter::new(octets, stop.share()?);
+    let own = stop.share()?;
     let rt_there = *rt;
     let mut output = output;
     let mut ring = ring;
@@ -88,28 +108,25 @@ where
         let _ = drain(&rt_there, &mut output, &mut ring, &bell, &own);
         leave(ring, &bell);
     }))?;
-    Ok(writer)
+    Ok((writer, stop))
 }
 
-/// The line of a device by two threads, which ring this bell.
+/// The line of a device by two threads, which ring this bell. Refused where one of them can't be started: the other is told to end, and
+/// nothing is written to the device.
 pub fn line_beside<R, I, O>(
     rt: &R,
     reader: I,
     writer: O,
     zero: ZeroRead,
     bell: &Bell,
-) -> Result<(DeviceLine, Threaded), DriveFault>
+) -> Result<(DeviceLine, DeviceThreads), DriveFault>
 where
     R: Threads + Wait + Clock + AllocGlobal + Copy + Send + Drop + 'static,
     I: Read + Send + Drop + 'static,
     O: Write + Send + Drop + 'static,
     ensures { IfOk result (λ r. r.0 ≡ new_stream None None Ended) }
 {
-    let threaded = Threaded {
-        reading: Bell::new(rt.alloc())?,
-        writing: Bell::new(rt.alloc())?,
-    };
-    let octets = read_beside(rt, reader, bell, &threaded.reading, zero)?;
-    let sink = write_beside(rt, writer, bell, &threaded.writing)?;
-    Ok((line_over(octets, sink), threaded))
+    let (octets, reading) = read_beside(rt, reader, bell, zero)?;
+    let (sink, writing) = write_beside(rt, writer, bell)?;
+    Ok((line_over(octets, sink), DeviceThreads { reading, writing }))
 }

@@ -23,6 +23,6 @@ mod showing;
 mod users;
 
 pub use fault::DriveFault;
-pub use on_device::drive_run;
+pub use on_device::{drive_run, drive_threaded};
 pub use running::{Driven, drive_over};
 pub use settings::Settings;

@@ -221,9 +221,11 @@ where
     }
 }
 
-/// Drives a modem on a device and an input whose calls wait, each in a thread of its own. The frames that pass go into the capture, if
-/// there is one.
-fn drive_threaded<R, D, O, C, I, W, E>(
+/// Drives a modem on a device and an input whose calls wait, as `drive_over` does. One thread reads the device, one writes it, and one
+/// reads the input. The frames that pass go into the capture, if there is one. Refused as `drive_over` is, and with NoMemory where a
+/// thread can't be started: then nothing is written to the device. However it ends, each thread that was started is told to end, and
+/// does so as soon as the call of the reader or of the writer in which it waits comes back.
+pub fn drive_threaded<R, D, O, C, I, W, E>(
     rt: &R,
     device: (D, O),
     capture: Option<Capture<C>>,
@@ -247,20 +249,16 @@ where
 {
     let alloc = rt.alloc();
     let bell = Bell::new(alloc)?;
-    let stop = Bell::new(alloc)?;
     let (reader, writer) = device;
-    let input = read_beside(rt, input, &bell, &stop, ZeroRead::Ended)?;
+    let (input, _input_stop) = read_beside(rt, input, &bell, ZeroRead::Ended)?;
     let (made, input) = beside(
         line_beside(rt, reader, writer, ZeroRead::Quiet, &bell),
         input,
     )?;
-    let (line, threaded) = made;
-    let ended = drive_by(
+    let (line, _threads) = made;
+    drive_by(
         rt, alloc, &bell, line, capture, input, output, faults, settings,
-    );
-    threaded.end();
-    stop.end();
-    ended
+    )
 }
 
 /// Drives a modem on the device of this path, as `drive_over` does, with the lines of `input`, which a thread of its own reads. The

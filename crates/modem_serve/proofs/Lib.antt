@@ -1,5 +1,6 @@
 pub mod Answering
 pub mod Feeding
+pub mod Leaving
 pub mod Muxes
 pub mod Pieces
 pub mod Served

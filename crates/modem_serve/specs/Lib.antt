@@ -1,5 +1,6 @@
 pub mod HeldLine
 pub mod InMux
+pub mod Leaving
 pub mod Muxes
 pub mod Plain
 pub mod Requests

@@ -12,6 +12,7 @@ mod server;
 mod serving;
 mod steps;
 mod watching;
+mod writing;
 
 pub use fault::{BadOption, ServeFault};
 pub use plain::PlainMode;

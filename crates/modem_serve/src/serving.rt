@@ -1,9 +1,10 @@
 //! A modem on a reader and a writer.
-ghost use Rattle.std.specs.Prelude.{◌≡◌, ◌≤◌, ◌<◌, [], false, length, take, None, Some, IfOk, IsOk, MatchResult, OnOk};
-ghost use Rattle.std.specs.Io.KnownBytes.{Appends, Consumes, IsAtEnd};
+ghost use Rattle.std.specs.Prelude.{◌≡◌, ◌≤◌, ◌<◌, [], false, length, take, None, Some, IfOk, IsOk, MatchResult, OnErr, OnOk};
+ghost use Rattle.std.specs.Io.KnownBytes.{Consumes, IsAtEnd};
 ghost use Rattle.std.specs.List.{list_all};
 ghost use Rattle.at_text.specs.Octets.{is_digit};
 ghost use Rattle.at_cmds.specs.Forms.{is_pin};
+ghost use Rattle.modem_serve.specs.Leaving.{IsLeftAt, IsServedInPart, LeftSoFar};
 ghost use Rattle.modem_serve.specs.Serving.{HasBadOption, IsAnswered, IsServed, client_modem, has_bad_pin, setting_of};
 ghost use Rattle.modem_serve.specs.Standing.{IsAtLines, setting_by};
 ghost use Rattle.modem_serve.specs.Watching.{IsCaptured, IsWatched, WatchedWhole};
@@ -13,6 +14,7 @@ use crate::fault::{BadOption, ServeFault};
 use crate::plain::PlainMode;
 use crate::server::{Answering, Mode, Setup};
 use crate::watching::{Nobody, Recorder, Watcher};
+use crate::writing::put;
 use at_cmds::Pin;
 use modem_sim::{Modem, ModemStart, Steps};
 use mux_capture::{Capture, Direction};
@@ -44,6 +46,7 @@ fn read_some<I: Read>(input: &mut I, piece: &mut [u8]) -> Result<usize, ServeFau
     ensures read { IfOk result
         (λ n. Consumes (I.remaining input.old) (I.remaining input.new) (take n piece.new)) }
     ensures end { IfOk result (λ n. n ≡ 0 → 0 < length piece.new → IsAtEnd (I.remaining input.new)) }
+    ensures none { OnErr result (Consumes (I.remaining input.old) (I.remaining input.new) []) }
 {
     for _ in 0..u64::MAX {
         match input.read(piece) {
@@ -55,17 +58,6 @@ fn read_some<I: Read>(input: &mut I, piece: &mut [u8]) -> Result<usize, ServeFau
     Err(ServeFault::GaveUp)
 }
 
-/// Writes octets whole.
-fn put<W: Write>(output: &mut W, octets: &[u8]) -> Result<(), ServeFault>
-    ensures { OnOk result (Appends (W.contents output.old) (W.contents output.new) octets.now) }
-{
-    if output.write_all(octets).is_ok() && output.flush().is_ok() {
-        Ok(())
-    } else {
-        Err(ServeFault::Output)
-    }
-}
-
 /// Takes all octets of the input as they come, and writes what is said to them before it reads on. What answers isn't named here,
 /// so that nothing about it has to be known where it is let go.
 fn serve<M: Answering, V: Watcher, I: Read, W: Write>(
@@ -75,9 +67,12 @@ fn serve<M: Answering, V: Watcher, I: Read, W: Write>(
     input: &mut I,
     output: &mut W,
 ) -> Result<(), ServeFault>
-    ensures { OnOk result ((m : ModemState) → M.holds (setting_by setup.now m) [] [] first
+    ensures whole { OnOk result ((m : ModemState) → M.holds (setting_by setup.now m) [] [] first
         → WatchedWhole M.holds V.sees (setting_by setup.now m) (I.remaining input.old) (W.contents output.old)
         (W.contents output.new) watcher.old watcher.new) }
+    ensures left { (m : ModemState) → M.holds (setting_by setup.now m) [] [] first
+        → LeftSoFar M.holds (setting_by setup.now m) (I.remaining input.old) (I.remaining input.new) (W.contents output.old)
+        (W.contents output.new) }
 {
     let mut now = first;
     let mut piece = [0u8; PIECE];
@@ -115,6 +110,8 @@ fn serve_client<V: Watcher, I: Read, W: Write>(
         (W.contents output.old) (W.contents output.new)) }
     ensures watched { OnOk result (IsWatched V.sees (setting_by setup.now modem) (I.remaining input.old)
         (W.contents output.old) (W.contents output.new) watcher.old watcher.new) }
+    ensures left { IsLeftAt (setting_by setup.now modem) (I.remaining input.old) (I.remaining input.new) (W.contents output.old)
+        (W.contents output.new) }
 {
     serve(setup, at_lines(setup, modem), watcher, input, output)
 }
@@ -202,7 +199,8 @@ fn end<E: Write>(faults: &mut E, served: Result<(), ServeFault>) -> u8
 /// it reads on.
 ///
 /// The status is 0 at the end of the input, 1 at a fault, 2 where N1 isn't 31 to 32767 or the PIN isn't 4 to 8 digits, and then nothing
-/// is read; at 1 and 2 it says on `faults` why.
+/// is read; at 1 and 2 it says on `faults` why. At 1 all that was read was answered, but for the last piece of 4096 octets at most: of
+/// what answers that, a beginning may be written.
 pub fn sim_run<I: Read, W: Write, E: Write>(
     alloc: Global,
     input: &mut I,
@@ -213,6 +211,8 @@ pub fn sim_run<I: Read, W: Write, E: Write>(
     ensures status { result ≤ 2 }
     ensures served { result ≡ 0 → IsServed options (I.remaining input.old) (W.contents output.old)
         (W.contents output.new) }
+    ensures left { result ≡ 1 → IsServedInPart options (I.remaining input.old) (I.remaining input.new)
+        (W.contents output.old) (W.contents output.new) }
     ensures refused { result ≡ 2 → HasBadOption options }
     ensures bad { HasBadOption options → (result ≡ 2) × (input.new ≡ input.old) × (output.new ≡ output.old) }
     ensures silent { result ≡ 0 → faults.new ≡ faults.old }
@@ -253,6 +253,8 @@ pub fn sim_captured<K: Clock, I: Read, W: Write, E: Write, C: Write>(
         (W.contents output.new) }
     ensures captured { result.0 ≡ 0 → IsCaptured options (I.remaining input.old) (W.contents output.old)
         (W.contents output.new) capture result.1 }
+    ensures left { result.0 ≡ 1 → IsServedInPart options (I.remaining input.old) (I.remaining input.new)
+        (W.contents output.old) (W.contents output.new) }
     ensures refused { result.0 ≡ 2 → HasBadOption options }
     ensures bad { HasBadOption options → (result.0 ≡ 2) × (input.new ≡ input.old) × (output.new ≡ output.old)
         × (result.1 ≡ capture) }

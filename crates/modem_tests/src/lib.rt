@@ -1,5 +1,6 @@
 //! The tests of what stored runs can't show: of frames, a station, lines of octets and the desk, of the core, a session
-//! that ticks and one that follows another, of sizes, of the program's runs, and of which calls take no memory.
+//! that ticks and one that follows another, of a drive with its threads, of sizes, of the program's runs, and of which calls take no
+//! memory.
 #![tactic(auto)]
 
 #[cfg(test)]
@@ -8,6 +9,8 @@ mod desk;
 mod dialects;
 #[cfg(test)]
 mod driver;
+#[cfg(test)]
+mod drives;
 #[cfg(test)]
 mod frames;
 #[cfg(test)]

@@ -1,13 +1,13 @@
--- What the program prints at its subcommands, by the numbers that its words give.
+-- What the program prints at its subcommands, by the numbers that its words give, and by what stands in the files that they name (`texts`).
 use Rattle.std.specs.Prelude.{◌≡◌, ℕ, Bool, true, false, List, [], Option, None, Some, codes}
 use Rattle.clap.specs.Words.{Row, Text, first_value, found_of, one_text}
 use Rattle.clap.specs.declared.ArgMatches.{ArgMatches}
 use Rattle.modem_sim.specs.declared.script.Script.{Script}
 use Rattle.modem_sim.specs.declared.script.Step.{Step}
-use Rattle.modem_texts.specs.Input.{input_lines}
-use Rattle.modem_runs.specs.Steps.{AreSteps}
+use Rattle.modem_runs.specs.Steps.{GivesSteps}
 use Rattle.modem_runs.specs.Printed.{IsBenched, IsFramed, IsPrinted}
 use Rattle.modem_serve.specs.declared.serving.SimOptions.{SimOptions}
+use Rattle.modem_serve.specs.Leaving.{IsServedInPart}
 use Rattle.modem_serve.specs.Serving.{IsServed}
 use Rattle.modemctl.specs.Dialects.{PrintsActs}
 use Rattle.modemctl.specs.Words.{IsGiven, raw_in, text_in}
@@ -19,10 +19,10 @@ pub record PrintsFrames (met : Option (Text × List Row)) (input before after : 
   pub printed : IsPrinted (IsFramed n1) input before after
 
 -- these acts were printed, with the N1 of the words, at a modem with the codes of their dialect
-pub record PrintsReplay (met : Option (Text × List Row)) (input before after : Option (List ℕ)) : Type 0 where
+pub record PrintsReplay (texts : Text → Option (List ℕ)) (met : Option (Text × List Row)) (input before after : Option (List ℕ)) : Type 0 where
   pub n1 : ℕ
   pub given : IsGiven met (codes "n1") 31 n1
-  pub printed : PrintsActs (raw_in met (codes "dialect")) n1 input before after
+  pub printed : PrintsActs texts (raw_in met (codes "dialect")) n1 input before after
 
 -- no command is repeated, and nothing is done that no command asks for
 abbrev pub plain_script : Script
@@ -41,26 +41,45 @@ abbrev pub IsFlag : Option Text → Bool → Type 0
 IsFlag None given = given ≡ false
 IsFlag (Some t) given = (t ≡ codes "true" → given ≡ true) × (t ≡ codes "false" → given ≡ false)
 
--- Without a script nothing is done that no command asks for. With one, these are the steps that the lines of its text say; what
--- text a file has is nobody's to say.
-abbrev pub AreScripted : (path : Option Text) → List Step → Type 0
-AreScripted None steps = steps ≡ []
-AreScripted (Some path) steps = (text : List ℕ) × AreSteps (input_lines text) steps
+-- Without a script nothing is done that no command asks for. With one, these are the steps that the lines of its file say.
+abbrev pub AreScripted : (texts : Text → Option (List ℕ)) (path : Option Text) → List Step → Type 0
+AreScripted texts None steps = steps ≡ []
+AreScripted texts (Some path) steps = GivesSteps (texts path) steps
 
--- a client was served so, with the N1, the PIN and the echo of the words, by a modem that does of its own accord what their script says
-pub record ServesClient (met : Option (Text × List Row)) (input before after : Option (List ℕ)) : Type 0 where
-  pub options : SimOptions
+-- the N1, the PIN and the echo that the words give, and the steps that their script says
+pub record AreGiven (texts : Text → Option (List ℕ)) (met : Option (Text × List Row)) (options : SimOptions) : Type 0 where
   pub n1_given : IsGiven met (codes "n1") 31 options.n1
   pub pin_given : options.pin ≡ raw_in met (codes "pin")
   pub echo_given : IsFlag (text_in met (codes "echo")) options.echo
-  pub steps_given : AreScripted (raw_in met (codes "script")) options.steps
-  pub served : IsServed options input before after
+  pub steps_given : AreScripted texts (raw_in met (codes "script")) options.steps
 
 -- the same by the matches of the subcommand
-pub record ServesWith (n1 : ℕ) (m : ArgMatches) (input before after : Option (List ℕ)) : Type 0 where
-  pub options : SimOptions
+pub record AreMatched (texts : Text → Option (List ℕ)) (n1 : ℕ) (m : ArgMatches) (options : SimOptions) : Type 0 where
   pub n1_is : options.n1 ≡ n1
   pub pin_is : options.pin ≡ first_value (found_of m) (codes "pin")
   pub echo_is : IsFlag (one_text (found_of m) (codes "echo")) options.echo
-  pub steps_are : AreScripted (first_value (found_of m) (codes "script")) options.steps
+  pub steps_are : AreScripted texts (first_value (found_of m) (codes "script")) options.steps
+
+-- a client was served so, by a modem with the options of the words
+pub record ServesClient (texts : Text → Option (List ℕ)) (met : Option (Text × List Row)) (input before after : Option (List ℕ)) : Type 0 where
+  pub options : SimOptions
+  pub given : AreGiven texts met options
   pub served : IsServed options input before after
+
+-- the same by the matches of the subcommand
+pub record ServesWith (texts : Text → Option (List ℕ)) (n1 : ℕ) (m : ArgMatches) (input before after : Option (List ℕ)) : Type 0 where
+  pub options : SimOptions
+  pub matched : AreMatched texts n1 m options
+  pub served : IsServed options input before after
+
+-- a client was left at a fault, by a modem with the options of the words
+pub record LeavesClient (texts : Text → Option (List ℕ)) (met : Option (Text × List Row)) (input rest before after : Option (List ℕ)) : Type 0 where
+  pub options : SimOptions
+  pub given : AreGiven texts met options
+  pub left : IsServedInPart options input rest before after
+
+-- the same by the matches of the subcommand
+pub record LeavesWith (texts : Text → Option (List ℕ)) (n1 : ℕ) (m : ArgMatches) (input rest before after : Option (List ℕ)) : Type 0 where
+  pub options : SimOptions
+  pub matched : AreMatched texts n1 m options
+  pub left : IsServedInPart options input rest before after

@@ -4,16 +4,18 @@ ghost use Rattle.std.specs.String.{string_bytes};
 ghost use Rattle.clap.specs.Words.{app_of, first_value, found_of, one_text, rule_of, kind_of, subcommand_name_of, subcommand_rows_of};
 ghost use Rattle.modem_runs.specs.Printed.{IsBenched, IsPrinted};
 ghost use Rattle.modem_runs.specs.Stopping.{HasGivenUp};
+ghost use Rattle.modem_serve.specs.Leaving.{IsServedInPart};
 ghost use Rattle.modem_serve.specs.Serving.{IsServed};
-ghost use Rattle.modemctl.specs.Benches.{IsFlag, PrintsBench, PrintsFrames, PrintsReplay, ServesClient, ServesWith, plain_script};
+ghost use Rattle.modemctl.specs.Benches.{IsFlag, LeavesClient, LeavesWith, PrintsBench, PrintsFrames, PrintsReplay, ServesClient, ServesWith, plain_script};
 ghost use Rattle.modemctl.specs.Drives.{PrintsDrive};
-ghost use Rattle.modemctl.specs.Words.{callers_rule, cut_rule, echo_rule, n1_rule, pin_rule, program_app, fault_in, met_in, named_in, with_four, with_one, with_three, with_two, AreFor, AsksNoHelp, HasNoNumber};
+ghost use Rattle.modemctl.specs.Words.{callers_rule, cut_rule, echo_rule, n1_rule, pin_rule, program_app, fault_in, met_in, with_four, with_one, with_three, with_two, AreFor, AsksNoHelp, HasNoNumber};
 
 mod dialects;
 mod driving;
 mod files;
 mod help;
 mod numbers;
+mod text_files;
 
 use at_cmds::Pin;
 use clap::error::ErrorKind;
@@ -32,6 +34,7 @@ use std::random::RandomSource;
 use std::rt::{Clock, Files};
 use std::sync::Wait;
 use std::thread::Threads;
+use text_files::TextFiles;
 
 /// The option `--n1`.
 fn n1_option<'a>(alloc: Global) -> Arg<'a>
@@ -193,6 +196,7 @@ fn explain<W: Write, E: Write>(
 ) -> u8
     ensures status { result ≤ 2 }
     ensures memory { kind_of error.now ≡ ErrorKind.OutOfMemory → result ≡ 1 }
+    ensures silent { kind_of error.now ≡ ErrorKind.OutOfMemory → output.new ≡ output.old }
     ensures wrong { kind_of error.now ≢ ErrorKind.DisplayHelp
         → kind_of error.now ≢ ErrorKind.DisplayVersion → 0 < result }
     ensures bad { result ≡ 2 → output.new ≡ output.old }
@@ -290,6 +294,9 @@ where
     ensures status { result ≤ 2 }
     ensures bad { result ≡ 2 → output.new ≡ output.old }
     ensures served { result ≡ 0 → IsServed options (I.remaining input.old) (W.contents output.old) (W.contents output.new) }
+    ensures left { result ≡ 1 → ((input.new ≡ input.old) × (output.new ≡ output.old))
+        ⊎ IsServedInPart options (I.remaining input.old) (I.remaining input.new) (W.contents output.old)
+        (W.contents output.new) }
 {
     let Some(path) = matches.get_str("capture") else {
         return sim_run(alloc, input, output, faults, options);
@@ -314,10 +321,13 @@ fn sim_words<R, I: Read, W: Write, E: Write>(
     faults: &mut E,
 ) -> u8
 where
-    R: Files<File = File> + Clock,
+    R: Files<File = File> + TextFiles + Clock,
     ensures status { result ≤ 2 }
     ensures bad { result ≡ 2 → output.new ≡ output.old }
-    ensures served { result ≡ 0 → ServesWith n1 matches.now (I.remaining input.old) (W.contents output.old)
+    ensures served { result ≡ 0 → ServesWith (R.text_of rt.now) n1 matches.now (I.remaining input.old) (W.contents output.old)
+        (W.contents output.new) }
+    ensures left { result ≡ 1 → ((input.new ≡ input.old) × (output.new ≡ output.old))
+        ⊎ LeavesWith (R.text_of rt.now) n1 matches.now (I.remaining input.old) (I.remaining input.new) (W.contents output.old)
         (W.contents output.new) }
 {
     let Ok(pin) = pin_of(alloc, matches) else {
@@ -350,6 +360,7 @@ fn run_named<R, I: Read, J, W: Write, E: Write>(
 ) -> u8
 where
     R: Files<File = File>
+        + TextFiles
         + Threads
         + Wait
         + Clock
@@ -370,18 +381,22 @@ where
         → PrintsFrames (subcommand_rows_of matches.now) (I.remaining input.old) (W.contents output.old)
         (W.contents output.new) }
     ensures replay { result ≡ 0 → subcommand_name_of matches.now ≡ Some (codes "replay")
-        → PrintsReplay (subcommand_rows_of matches.now) (I.remaining input.old) (W.contents output.old)
+        → PrintsReplay (R.text_of rt.now) (subcommand_rows_of matches.now) (I.remaining input.old) (W.contents output.old)
         (W.contents output.new) }
     ensures bench { result ≡ 0 → subcommand_name_of matches.now ≡ Some (codes "bench")
         → PrintsBench (subcommand_rows_of matches.now) (I.remaining input.old) (W.contents output.old)
         (W.contents output.new) }
     ensures sim { result ≡ 0 → subcommand_name_of matches.now ≡ Some (codes "sim")
-        → ServesClient (subcommand_rows_of matches.now) (I.remaining input.old) (W.contents output.old)
+        → ServesClient (R.text_of rt.now) (subcommand_rows_of matches.now) (I.remaining input.old) (W.contents output.old)
         (W.contents output.new) }
+    ensures sim_left { result ≡ 1 → subcommand_name_of matches.now ≡ Some (codes "sim")
+        → ((input.new ≡ input.old) × (output.new ≡ output.old))
+        ⊎ LeavesClient (R.text_of rt.now) (subcommand_rows_of matches.now) (I.remaining input.old) (I.remaining input.new)
+        (W.contents output.old) (W.contents output.new) }
     ensures drive { result ≡ 0 → subcommand_name_of matches.now ≡ Some (codes "drive")
-        → PrintsDrive (subcommand_rows_of matches.now) (W.contents output.old) (W.contents output.new) }
+        → PrintsDrive (R.text_of rt.now) (subcommand_rows_of matches.now) (W.contents output.old) (W.contents output.new) }
     ensures drive_bad { result ≡ 2 → subcommand_name_of matches.now ≡ Some (codes "drive") → (output.new ≡ output.old)
-        ⊎ PrintsDrive (subcommand_rows_of matches.now) (W.contents output.old) (W.contents output.new) }
+        ⊎ PrintsDrive (R.text_of rt.now) (subcommand_rows_of matches.now) (W.contents output.old) (W.contents output.new) }
 {
     let Some((name, given)) = matches.subcommand() else {
         return 2;
@@ -413,6 +428,7 @@ pub fn run<R, I: Read, J, W: Write, E: Write>(
 ) -> u8
 where
     R: Files<File = File>
+        + TextFiles
         + Threads
         + Wait
         + Clock
@@ -430,25 +446,29 @@ where
     ensures unread { fault_in (map string_bytes words.now) ≢ [] → input.new ≡ input.old }
     ensures no_number { fault_in (map string_bytes words.now) ≡ []
         → HasNoNumber (met_in (map string_bytes words.now)) → input.new ≡ input.old }
-    ensures nothing { result ≡ 1 → named_in (map string_bytes words.now) ≢ Some (codes "sim")
-        → named_in (map string_bytes words.now) ≢ Some (codes "drive")
+    ensures nothing { result ≡ 1 → (AreFor (codes "sim") (map string_bytes words.now) → ⊥)
+        → (AreFor (codes "drive") (map string_bytes words.now) → ⊥)
         → HasGivenUp output.old output.new (E.contents faults.old) (E.contents faults.new) result }
     ensures frames { result ≡ 0 → AreFor (codes "frames") (map string_bytes words.now)
         → PrintsFrames (met_in (map string_bytes words.now)) (I.remaining input.old) (W.contents output.old)
         (W.contents output.new) }
     ensures replay { result ≡ 0 → AreFor (codes "replay") (map string_bytes words.now)
-        → PrintsReplay (met_in (map string_bytes words.now)) (I.remaining input.old) (W.contents output.old)
+        → PrintsReplay (R.text_of rt.now) (met_in (map string_bytes words.now)) (I.remaining input.old) (W.contents output.old)
         (W.contents output.new) }
     ensures bench { result ≡ 0 → AreFor (codes "bench") (map string_bytes words.now)
         → PrintsBench (met_in (map string_bytes words.now)) (I.remaining input.old) (W.contents output.old)
         (W.contents output.new) }
     ensures sim { result ≡ 0 → AreFor (codes "sim") (map string_bytes words.now)
-        → ServesClient (met_in (map string_bytes words.now)) (I.remaining input.old) (W.contents output.old)
+        → ServesClient (R.text_of rt.now) (met_in (map string_bytes words.now)) (I.remaining input.old) (W.contents output.old)
         (W.contents output.new) }
+    ensures sim_left { result ≡ 1 → AreFor (codes "sim") (map string_bytes words.now)
+        → ((input.new ≡ input.old) × (output.new ≡ output.old))
+        ⊎ LeavesClient (R.text_of rt.now) (met_in (map string_bytes words.now)) (I.remaining input.old) (I.remaining input.new)
+        (W.contents output.old) (W.contents output.new) }
     ensures drive { result ≡ 0 → AreFor (codes "drive") (map string_bytes words.now)
-        → PrintsDrive (met_in (map string_bytes words.now)) (W.contents output.old) (W.contents output.new) }
+        → PrintsDrive (R.text_of rt.now) (met_in (map string_bytes words.now)) (W.contents output.old) (W.contents output.new) }
     ensures drive_bad { result ≡ 2 → AreFor (codes "drive") (map string_bytes words.now) → (output.new ≡ output.old)
-        ⊎ PrintsDrive (met_in (map string_bytes words.now)) (W.contents output.old) (W.contents output.new) }
+        ⊎ PrintsDrive (R.text_of rt.now) (met_in (map string_bytes words.now)) (W.contents output.old) (W.contents output.new) }
 {
     let command = match program(alloc) {
         Ok(command) => command,

@@ -6,8 +6,8 @@ use bell::Bell;
 use device_line::{DeviceLine, FlowEnd, RingReader, RingWriter, drain, leave, line_over, pump};
 use rtrb::{Consumer, Producer, RingBuffer};
 use serial_line::*;
-use std::alloc::Global;
-use std::io::{ErrorKind, Read, Write};
+use std::alloc::{AllocError, Global};
+use std::io::{ErrorKind, Print, Read, Write};
 use std::process::Abort;
 use std::rt::Clock;
 use std::sync::Wait;
@@ -172,7 +172,7 @@ fn send<R: Wait>(rt: &R, bell: &Bell, mut line: DeviceLine, own: &Bell, text: &[
 }
 
 // A line, the other ends of its rings, and a share of the bell that its writer rings.
-fn line(alloc: Global, own: &Bell) -> Result<(DeviceLine, Producer<u8>, Consumer<u8>), Fail> {
+fn line(alloc: Global, own: &Bell) -> Result<(DeviceLine, Producer<u8>, Consumer<u8>), AllocError> {
     let (filled, octets) = RingBuffer::new(alloc, 64)?;
     let (out, emptied) = RingBuffer::new(alloc, 64)?;
     let line = line_over(RingReader::new(octets), RingWriter::new(out, own.share()?));
@@ -206,39 +206,42 @@ fn empty<R: Wait>(
     (end, device)
 }
 
-// What comes of a text by a device, and how its reading ended.
+// What comes of a text by a device, and how its reading ended. Where no thread can be started the device is read first, and then the
+// line: so the text has to fit the ring.
 fn from_device<R: Threads + Wait + Clock + Sync>(
     rt: &R,
     alloc: Global,
     text: &[u8],
-) -> Result<(FlowEnd, Vec<u8>), Fail> {
+) -> Result<(FlowEnd, Vec<u8>), AllocError> {
     let bell = Bell::new(alloc)?;
     let own = Bell::new(alloc)?;
     let (line, ring, _) = line(alloc, &own)?;
     let came = Vec::with_capacity(alloc, text.len())?;
     let (bell, own) = (&bell, &own);
-    Ok(thread::join(
+    let (came, end) = thread::join(
         rt,
-        move || fill(rt, text, ring, bell, own),
         move || receive(rt, bell, line, came),
-    ))
+        move || fill(rt, text, ring, bell, own),
+    );
+    Ok((end, came))
 }
 
-// What goes of a text to a device, and how its writing ended.
+// What goes of a text to a device, and how its writing ended. Where no thread can be started the line is written first, and then the
+// device.
 fn to_device<R: Threads + Wait + Sync>(
     rt: &R,
     alloc: Global,
     text: &[u8],
-) -> Result<(FlowEnd, Vec<u8>), Fail> {
+) -> Result<(FlowEnd, Vec<u8>), AllocError> {
     let bell = Bell::new(alloc)?;
     let own = Bell::new(alloc)?;
     let (line, _, ring) = line(alloc, &own)?;
     let device = Vec::with_capacity(alloc, text.len())?;
     let (bell, own) = (&bell, &own);
-    let ((), written) = thread::join(
+    let (written, ()) = thread::join(
         rt,
-        move || send(rt, bell, line, own, text),
         move || empty(rt, device, ring, bell, own),
+        move || send(rt, bell, line, own, text),
     );
     Ok(written)
 }
@@ -251,6 +254,22 @@ fn a_text_goes_through_the_line_of_a_device_each_way(rt: HostRuntime) -> Result<
     let (end, went) = to_device(&rt, rt.alloc(), &text)?;
     assert!(rt; end == FlowEnd::Ended && went.as_slice() == text.as_slice());
     Ok(())
+}
+
+// Memory and threads may be refused between its two marks.
+#[test]
+fn a_text_goes_whole_through_the_line_of_a_device_or_memory_is_refused(rt: HostRuntime) {
+    let text = b"a text that is shorter than the ring";
+    let _ = rt.println("> bells, rings and threads");
+    let read = from_device(&rt, rt.alloc(), text);
+    let written = to_device(&rt, rt.alloc(), text);
+    let _ = rt.println("<");
+    if let Ok((end, came)) = read {
+        assert!(rt; end == FlowEnd::Ended && came.as_slice() == text.as_slice());
+    }
+    if let Ok((end, went)) = written {
+        assert!(rt; end == FlowEnd::Ended && went.as_slice() == text.as_slice());
+    }
 }
 
 // How a device with these answers is written to its end, where 5 octets wait and nobody is left to write more.

@@ -7,6 +7,7 @@ ghost use Rattle.modemctl.specs.Words.{device_rule, drive_app, entry_rule, quiet
 use crate::words::dialects::{dialect_option, given_dialect};
 use crate::words::files::capture_option;
 use crate::words::numbers::{number_of, seconds_of};
+use crate::words::text_files::TextFiles;
 use crate::words::{help, n1_option, refuse};
 use clap::{Arg, ArgAction, ArgMatches, Command, value_parser};
 use modem_drive::{Settings, drive_run};
@@ -125,14 +126,23 @@ pub fn drive_words<R, I, W, E>(
     faults: &mut E,
 ) -> u8
 where
-    R: Files<File = File> + Threads + Wait + Clock + AllocGlobal + Copy + Send + Drop + 'static,
+    R: Files<File = File>
+        + TextFiles
+        + Threads
+        + Wait
+        + Clock
+        + AllocGlobal
+        + Copy
+        + Send
+        + Drop
+        + 'static,
     I: Read + Send + Drop + 'static,
     W: Write,
     E: Write,
     ensures status { result ≤ 2 }
-    ensures done { result ≡ 0 → DrivesWith n1 matches.now (W.contents output.old) (W.contents output.new) }
+    ensures done { result ≡ 0 → DrivesWith (R.text_of rt.now) n1 matches.now (W.contents output.old) (W.contents output.new) }
     ensures bad { result ≡ 2
-        → (output.new ≡ output.old) ⊎ DrivesWith n1 matches.now (W.contents output.old) (W.contents output.new) }
+        → (output.new ≡ output.old) ⊎ DrivesWith (R.text_of rt.now) n1 matches.now (W.contents output.old) (W.contents output.new) }
 {
     let Some(path) = matches.get_str("device") else {
         return 2;

@@ -4,6 +4,7 @@ ghost use Rattle.clap.specs.Words.{first_value, found_of, rule_of};
 ghost use Rattle.modemctl.specs.Benches.{AreScripted};
 ghost use Rattle.modemctl.specs.Words.{capture_rule, script_rule};
 
+use crate::words::text_files::TextFiles;
 use clap::{Arg, ArgAction, ArgMatches};
 use modem_runs::{Stop, give_up, steps_from};
 use modem_sim::Steps;
@@ -47,17 +48,17 @@ pub enum ScriptFault {
 }
 
 /// The steps of the script that the words name; none where they name none.
-pub fn steps_of<R: Files<File = File>>(
+pub fn steps_of<R: TextFiles>(
     rt: &R,
     alloc: Global,
     matches: &ArgMatches<'_>,
 ) -> Result<Steps, ScriptFault>
-    ensures { IfOk result (AreScripted (first_value (found_of matches.now) (codes "script"))) }
+    ensures { IfOk result (AreScripted (R.text_of rt.now) (first_value (found_of matches.now) (codes "script"))) }
 {
     let Some(path) = matches.get_str("script") else {
         return Ok(Steps::from(Vec::new(alloc)));
     };
-    let mut file = match File::open(rt, path) {
+    let mut file = match rt.open_text(path) {
         Ok(file) => file,
         Err(error) => return Err(ScriptFault::Closed(error.kind())),
     };

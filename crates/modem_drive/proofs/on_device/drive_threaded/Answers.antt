@@ -9,6 +9,6 @@ use Rattle.modem_drive.proofs.on_device.drive_threaded.Goals as goal
 
 pub returns : goal.returns
 returns g c =
-    drove_device (is_some c.args.capture) c.args.settings.dialect.now (entry_for (given_text c.args.settings.entry) c.args.settings.n1) c.args.settings.n1 c.in_ok-made.made.0 (g.W.Write.contents c.args.output.now) (g.W.Write.contents c.drive_by-ended.new.output) c.drive_by-ended.result
+    drove_device (is_some c.args.capture) c.args.settings.dialect.now (entry_for (given_text c.args.settings.entry) c.args.settings.n1) c.args.settings.n1 c.in_ok-made.made.0 (g.W.Write.contents c.args.output.now) (g.W.Write.contents c.drive_by.new.output) c.drive_by.result
     (known_ok (λ r. r.0 ≡ new_stream None None Ended) c.line_beside.result c.in_ok-made.made c.in_ok-made.ensures.made c.line_beside.ensures)
-    c.drive_by-ended.ensures
+    c.drive_by.ensures

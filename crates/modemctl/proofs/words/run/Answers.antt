@@ -7,7 +7,7 @@ use Rattle.clap.proofs.OnLiterals.{clap_on_literals}
 use Rattle.modemctl.specs.Words.{AsksNoHelp, HasNoNumber, program_app, fault_in, met_in, named_in, text_in, raw_in}
 use Rattle.modem_runs.specs.declared.stop.Stop.TheVariants as Stop
 use Rattle.modem_runs.proofs.outputs.StoppedRuns.{gave_up}
-use Rattle.modemctl.specs.Benches.{PrintsBench, PrintsFrames, PrintsReplay, ServesClient}
+use Rattle.modemctl.specs.Benches.{LeavesClient, PrintsBench, PrintsFrames, PrintsReplay, ServesClient}
 use Rattle.modemctl.specs.Drives.{PrintsDrive}
 use Rattle.modemctl.proofs.words.run.Goals as goal
 
@@ -37,7 +37,7 @@ returns-in-Ok-try_get_matches_from-clause-frames g c zero for =
 pub returns-in-Ok-try_get_matches_from-clause-replay :
     goal.returns-in-Ok-try_get_matches_from-clause-replay
 returns-in-Ok-try_get_matches_from-clause-replay g c zero for =
-    subst (λ (m : Option (Text × List Row)). PrintsReplay m (g.I.Read.remaining c.args.input.now) (g.W.Write.contents c.args.output.now) (g.W.Write.contents c.run_named.new.output)) (met c.in-Ok-try_get_matches_from.matches _ _ c.in-Ok.ensures (λ e. (c.in-Ok-try_get_matches_from.ensures.matches e).1))
+    subst (λ (m : Option (Text × List Row)). PrintsReplay (g.R.TextFiles.text_of c.args.rt.now) m (g.I.Read.remaining c.args.input.now) (g.W.Write.contents c.args.output.now) (g.W.Write.contents c.run_named.new.output)) (met c.in-Ok-try_get_matches_from.matches _ _ c.in-Ok.ensures (λ e. (c.in-Ok-try_get_matches_from.ensures.matches e).1))
     (c.run_named.ensures.replay zero (named c.in-Ok-try_get_matches_from.matches _ _ c.in-Ok.ensures (λ e. (c.in-Ok-try_get_matches_from.ensures.matches e).1) ∙ for.1))
 
 pub returns-in-Ok-try_get_matches_from-clause-bench :
@@ -49,20 +49,29 @@ returns-in-Ok-try_get_matches_from-clause-bench g c zero for =
 pub returns-in-Ok-try_get_matches_from-clause-sim :
     goal.returns-in-Ok-try_get_matches_from-clause-sim
 returns-in-Ok-try_get_matches_from-clause-sim g c zero for =
-    subst (λ (m : Option (Text × List Row)). ServesClient m (g.I.Read.remaining c.args.input.now) (g.W.Write.contents c.args.output.now) (g.W.Write.contents c.run_named.new.output)) (met c.in-Ok-try_get_matches_from.matches _ _ c.in-Ok.ensures (λ e. (c.in-Ok-try_get_matches_from.ensures.matches e).1))
+    subst (λ (m : Option (Text × List Row)). ServesClient (g.R.TextFiles.text_of c.args.rt.now) m (g.I.Read.remaining c.args.input.now) (g.W.Write.contents c.args.output.now) (g.W.Write.contents c.run_named.new.output)) (met c.in-Ok-try_get_matches_from.matches _ _ c.in-Ok.ensures (λ e. (c.in-Ok-try_get_matches_from.ensures.matches e).1))
     (c.run_named.ensures.sim zero (named c.in-Ok-try_get_matches_from.matches _ _ c.in-Ok.ensures (λ e. (c.in-Ok-try_get_matches_from.ensures.matches e).1) ∙ for.1))
+
+leaves : {P : Type 0} (texts : Text → Option (List ℕ)) (a b : Option (Text × List Row)) (input rest before after : Option (List ℕ)) → a ≡ b → P ⊎ LeavesClient texts a input rest before after → P ⊎ LeavesClient texts b input rest before after
+leaves {P} texts a b input rest before after same h = subst (λ (m : Option (Text × List Row)). P ⊎ LeavesClient texts m input rest before after) same h
+
+pub returns-in-Ok-try_get_matches_from-clause-sim_left :
+    goal.returns-in-Ok-try_get_matches_from-clause-sim_left
+returns-in-Ok-try_get_matches_from-clause-sim_left g c one for =
+    leaves _ _ _ _ _ _ _ (met c.in-Ok-try_get_matches_from.matches _ _ c.in-Ok.ensures (λ e. (c.in-Ok-try_get_matches_from.ensures.matches e).1))
+    (c.run_named.ensures.sim_left one (named c.in-Ok-try_get_matches_from.matches _ _ c.in-Ok.ensures (λ e. (c.in-Ok-try_get_matches_from.ensures.matches e).1) ∙ for.1))
 
 pub returns-in-Ok-try_get_matches_from-clause-drive :
     goal.returns-in-Ok-try_get_matches_from-clause-drive
 returns-in-Ok-try_get_matches_from-clause-drive g c zero for =
-    subst (λ (m : Option (Text × List Row)). PrintsDrive m (g.W.Write.contents c.args.output.now) (g.W.Write.contents c.run_named.new.output)) (met c.in-Ok-try_get_matches_from.matches _ _ c.in-Ok.ensures (λ e. (c.in-Ok-try_get_matches_from.ensures.matches e).1))
+    subst (λ (m : Option (Text × List Row)). PrintsDrive (g.R.TextFiles.text_of c.args.rt.now) m (g.W.Write.contents c.args.output.now) (g.W.Write.contents c.run_named.new.output)) (met c.in-Ok-try_get_matches_from.matches _ _ c.in-Ok.ensures (λ e. (c.in-Ok-try_get_matches_from.ensures.matches e).1))
     (c.run_named.ensures.drive zero (named c.in-Ok-try_get_matches_from.matches _ _ c.in-Ok.ensures (λ e. (c.in-Ok-try_get_matches_from.ensures.matches e).1) ∙ for.1))
 
 pub returns-in-Ok-try_get_matches_from-clause-drive_bad :
     goal.returns-in-Ok-try_get_matches_from-clause-drive_bad
 returns-in-Ok-try_get_matches_from-clause-drive_bad g c two for =
     ⊎_elim (λ same. inl same)
-    (λ prints. inr (subst (λ (m : Option (Text × List Row)). PrintsDrive m (g.W.Write.contents c.args.output.now) (g.W.Write.contents c.run_named.new.output)) (met c.in-Ok-try_get_matches_from.matches _ _ c.in-Ok.ensures (λ e. (c.in-Ok-try_get_matches_from.ensures.matches e).1)) prints))
+    (λ prints. inr (subst (λ (m : Option (Text × List Row)). PrintsDrive (g.R.TextFiles.text_of c.args.rt.now) m (g.W.Write.contents c.args.output.now) (g.W.Write.contents c.run_named.new.output)) (met c.in-Ok-try_get_matches_from.matches _ _ c.in-Ok.ensures (λ e. (c.in-Ok-try_get_matches_from.ensures.matches e).1)) prints))
     (c.run_named.ensures.drive_bad two (named c.in-Ok-try_get_matches_from.matches _ _ c.in-Ok.ensures (λ e. (c.in-Ok-try_get_matches_from.ensures.matches e).1) ∙ for.1))
 
 -- ## What is wrong with the words
@@ -88,6 +97,15 @@ is_memory k kinds status has memory zero none =
     ⊎_elim (λ (m : k ≡ OutOfMemory). let e = memory m in omega (arith, e, zero))
     (λ (a : IsAmong k kinds). subst (IsAmong k) none a)
     has
+
+-- the error is that of memory
+by_memory : (k : ErrorKind) (kinds : Kinds) → (k ≡ OutOfMemory) ⊎ IsAmong k kinds → kinds ≡ [] → k ≡ OutOfMemory
+by_memory k kinds has none = ⊎_elim (λ (m : k ≡ OutOfMemory). m) (λ (a : IsAmong k kinds). absurd (subst (IsAmong k) none a)) has
+
+pub returns-in-Err-try_get_matches_from-clause-sim_left :
+    goal.returns-in-Err-try_get_matches_from-clause-sim_left
+returns-in-Err-try_get_matches_from-clause-sim_left g c one for =
+    inl (refl, c.explain.ensures.silent (by_memory _ _ (at_program (λ kinds. HasKind kinds c.in-Err-try_get_matches_from.error) _ _ c.in-Ok.ensures c.in-Err-try_get_matches_from.ensures.kinds) for.0))
 
 pub returns-in-Ok-try_get_matches_from-clause-wrong :
     goal.returns-in-Ok-try_get_matches_from-clause-wrong
@@ -150,7 +168,9 @@ returns-in-Ok-try_get_matches_from-clause-no_number g c right none =
 pub returns-in-Ok-try_get_matches_from-clause-nothing :
     goal.returns-in-Ok-try_get_matches_from-clause-nothing
 returns-in-Ok-try_get_matches_from-clause-nothing g c one no_sim no_drive =
-    c.run_named.ensures.nothing one (λ is. no_sim (sym (named c.in-Ok-try_get_matches_from.matches _ _ c.in-Ok.ensures (λ e. (c.in-Ok-try_get_matches_from.ensures.matches e).1)) ∙ is)) (λ is. no_drive (sym (named c.in-Ok-try_get_matches_from.matches _ _ c.in-Ok.ensures (λ e. (c.in-Ok-try_get_matches_from.ensures.matches e).1)) ∙ is))
+    let right = at_program (λ kinds. kinds ≡ []) _ _ c.in-Ok.ensures c.in-Ok-try_get_matches_from.ensures.kinds in
+    let name = sym (named c.in-Ok-try_get_matches_from.matches _ _ c.in-Ok.ensures (λ e. (c.in-Ok-try_get_matches_from.ensures.matches e).1)) in
+    c.run_named.ensures.nothing one (λ is. no_sim (right, name ∙ is)) (λ is. no_drive (right, name ∙ is))
 
 pub returns-in-Err-clause-nothing : goal.returns-in-Err-clause-nothing
 returns-in-Err-clause-nothing g c one no_sim no_drive = gave_up Stop.NoMemory c.args.output.now _ _ _ _ c.give_up.ensures.status c.give_up.ensures.said (λ other. refl)

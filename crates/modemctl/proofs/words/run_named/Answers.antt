@@ -4,7 +4,8 @@ use Rattle.clap.specs.Words.{Row, Text, first_of, first_value, found_of, one_of,
 use Rattle.clap.specs.declared.ArgMatches.{ArgMatches}
 use Rattle.clap.proofs.WalkLemmas.{first_value-rows, one_text-rows}
 use Rattle.modemctl.specs.Words.{HasNoNumber, IsGiven, IsNoNumber, IsNumberOf, raw_in, text_in}
-use Rattle.modemctl.specs.Benches.{AreScripted, IsFlag, ServesClient, ServesWith}
+use Rattle.modem_serve.specs.declared.serving.SimOptions.{SimOptions}
+use Rattle.modemctl.specs.Benches.{AreGiven, AreMatched, AreScripted, IsFlag, LeavesClient, LeavesWith}
 use Rattle.modem_drive.specs.Entry.{entry_for}
 use Rattle.modem_drive.specs.OnDevice.{DroveDevice}
 use Rattle.modemctl.specs.Dialects.{IsGivenDialect, PrintsActs}
@@ -77,7 +78,7 @@ returns-in-replay-clause-replay g c zero named = record {
   n1 = c.in-Ok.numbers.n1;
   given = number_in c.args.matches.now c.in-Some.given.now (codes "n1") 31 c.in-Ok.numbers.n1 c.in-Some.ensures.rows c.in-Ok.ensures.n1;
   printed =
-      subst (λ (t : Option Text). PrintsActs t c.in-Ok.numbers.n1 (g.I.Read.remaining c.args.input.now) (g.W.Write.contents c.args.output.now) (g.W.Write.contents c.replay_words.new.output))
+      subst (λ (t : Option Text). PrintsActs (g.R.TextFiles.text_of c.args.rt.now) t c.in-Ok.numbers.n1 (g.I.Read.remaining c.args.input.now) (g.W.Write.contents c.args.output.now) (g.W.Write.contents c.replay_words.new.output))
       (word_given c.args.matches.now c.in-Some.given.now (codes "dialect") c.in-Some.ensures.rows) (c.replay_words.ensures.done zero);
 }
 
@@ -90,29 +91,44 @@ returns-in-bench-clause-bench g c zero named = record {
   printed = c.bench_plain.ensures.done zero;
 }
 
-serves_client : (top m : ArgMatches) (n1 : ℕ) (input before after : Option (List ℕ)) → Some (rows_of (found_of m)) ≡ option_map (λ p. p.1) (subcommand_rows_of top) → IsNumberOf 31 (one_text (found_of m) (codes "n1")) n1
-    → ServesWith n1 m input before after → ServesClient (subcommand_rows_of top) input before after
-serves_client top m n1 input before after rows number serves = record {
-  options = serves.options;
-  n1_given = number_in top m (codes "n1") 31 serves.options.n1 rows (subst (λ (n : ℕ). IsNumberOf 31 (one_text (found_of m) (codes "n1")) n) (sym serves.n1_is) number);
-  pin_given = serves.pin_is ∙ word_given top m (codes "pin") rows;
-  echo_given = subst (λ (t : Option Text). IsFlag t serves.options.echo) (given_in top m (codes "echo") rows) serves.echo_is;
-  steps_given = subst (λ (t : Option Text). AreScripted t serves.options.steps) (word_given top m (codes "script") rows) serves.steps_are;
-  served = serves.served;
+are_given : (texts : Text → Option (List ℕ)) (top m : ArgMatches) (n1 : ℕ) (options : SimOptions) → Some (rows_of (found_of m)) ≡ option_map (λ p. p.1) (subcommand_rows_of top) → IsNumberOf 31 (one_text (found_of m) (codes "n1")) n1
+    → AreMatched texts n1 m options → AreGiven texts (subcommand_rows_of top) options
+are_given texts top m n1 options rows number matched = record {
+  n1_given = number_in top m (codes "n1") 31 options.n1 rows (subst (λ (n : ℕ). IsNumberOf 31 (one_text (found_of m) (codes "n1")) n) (sym matched.n1_is) number);
+  pin_given = matched.pin_is ∙ word_given top m (codes "pin") rows;
+  echo_given = subst (λ (t : Option Text). IsFlag t options.echo) (given_in top m (codes "echo") rows) matched.echo_is;
+  steps_given = subst (λ (t : Option Text). AreScripted texts t options.steps) (word_given top m (codes "script") rows) matched.steps_are;
 }
 
 pub returns-in-sim-clause-sim : goal.returns-in-sim-clause-sim
 returns-in-sim-clause-sim g c zero named =
-    serves_client c.args.matches.now c.in-Some.given.now c.in-Ok.numbers.n1 (g.I.Read.remaining c.args.input.now) (g.W.Write.contents c.args.output.now) (g.W.Write.contents c.sim_words.new.output) c.in-Some.ensures.rows c.in-Ok.ensures.n1
-    (c.sim_words.ensures.served zero)
+    let serves = c.sim_words.ensures.served zero in
+    record {
+      options = serves.options;
+      given = are_given (g.R.TextFiles.text_of c.args.rt.now) c.args.matches.now c.in-Some.given.now c.in-Ok.numbers.n1 serves.options c.in-Some.ensures.rows c.in-Ok.ensures.n1 serves.matched;
+      served = serves.served;
+    }
 
-prints_drive : (top m : ArgMatches) (n1 : ℕ) (before after : Option (List ℕ)) → Some (rows_of (found_of m)) ≡ option_map (λ p. p.1) (subcommand_rows_of top) → IsNumberOf 31 (one_text (found_of m) (codes "n1")) n1
-    → DrivesWith n1 m before after → PrintsDrive (subcommand_rows_of top) before after
-prints_drive top m n1 before after e is drives = record {
+leaves_client : {P : Type 0} (texts : Text → Option (List ℕ)) (top m : ArgMatches) (n1 : ℕ) (input rest before after : Option (List ℕ)) → Some (rows_of (found_of m)) ≡ option_map (λ p. p.1) (subcommand_rows_of top) → IsNumberOf 31 (one_text (found_of m) (codes "n1")) n1
+    → P ⊎ LeavesWith texts n1 m input rest before after → P ⊎ LeavesClient texts (subcommand_rows_of top) input rest before after
+leaves_client texts top m n1 input rest before after rows number (inl none) = inl none
+leaves_client texts top m n1 input rest before after rows number (inr leaves) = inr (record {
+  options = leaves.options;
+  given = are_given texts top m n1 leaves.options rows number leaves.matched;
+  left = leaves.left;
+})
+
+pub returns-in-sim-clause-sim_left : goal.returns-in-sim-clause-sim_left
+returns-in-sim-clause-sim_left g c one named =
+    leaves_client (g.R.TextFiles.text_of c.args.rt.now) c.args.matches.now c.in-Some.given.now c.in-Ok.numbers.n1 _ _ _ _ c.in-Some.ensures.rows c.in-Ok.ensures.n1 (c.sim_words.ensures.left one)
+
+prints_drive : (texts : Text → Option (List ℕ)) (top m : ArgMatches) (n1 : ℕ) (before after : Option (List ℕ)) → Some (rows_of (found_of m)) ≡ option_map (λ p. p.1) (subcommand_rows_of top) → IsNumberOf 31 (one_text (found_of m) (codes "n1")) n1
+    → DrivesWith texts n1 m before after → PrintsDrive texts (subcommand_rows_of top) before after
+prints_drive texts top m n1 before after e is drives = record {
   n1 = n1;
   given = number_in top m (codes "n1") 31 n1 e is;
   rules = drives.rules;
-  named = subst (λ (t : Option Text). IsGivenDialect t drives.rules) (word_given top m (codes "dialect") e) drives.named;
+  named = subst (λ (t : Option Text). IsGivenDialect texts t drives.rules) (word_given top m (codes "dialect") e) drives.named;
   drove =
       subst (λ (t : Option Text × Option Text). DroveDevice (is_some t.0) drives.rules (entry_for t.1 n1) n1 before after)
       (λ i. (word_given top m (codes "capture") e i, word_given top m (codes "entry") e i)) drives.drove;
@@ -120,8 +136,8 @@ prints_drive top m n1 before after e is drives = record {
 
 pub returns-in-drive-clause-drive : goal.returns-in-drive-clause-drive
 returns-in-drive-clause-drive g c zero named =
-    prints_drive c.args.matches.now c.in-Some.given.now c.in-Ok.numbers.n1 _ _ c.in-Some.ensures.rows c.in-Ok.ensures.n1 (c.drive_words.ensures.done zero)
+    prints_drive (g.R.TextFiles.text_of c.args.rt.now) c.args.matches.now c.in-Some.given.now c.in-Ok.numbers.n1 _ _ c.in-Some.ensures.rows c.in-Ok.ensures.n1 (c.drive_words.ensures.done zero)
 
 pub returns-in-drive-clause-drive_bad : goal.returns-in-drive-clause-drive_bad
 returns-in-drive-clause-drive_bad g c two named =
-    ⊎_elim (λ same. inl same) (λ drove. inr (prints_drive c.args.matches.now c.in-Some.given.now c.in-Ok.numbers.n1 _ _ c.in-Some.ensures.rows c.in-Ok.ensures.n1 drove)) (c.drive_words.ensures.bad two)
+    ⊎_elim (λ same. inl same) (λ drove. inr (prints_drive (g.R.TextFiles.text_of c.args.rt.now) c.args.matches.now c.in-Some.given.now c.in-Ok.numbers.n1 _ _ c.in-Some.ensures.rows c.in-Ok.ensures.n1 drove)) (c.drive_words.ensures.bad two)

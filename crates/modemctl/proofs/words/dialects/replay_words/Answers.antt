@@ -8,11 +8,11 @@ use Rattle.modemctl.proofs.words.dialects.replay_words.Goals as goal
 
 pub returns-in_default-clause-done : goal.returns-in_default-clause-done
 returns-in_default-clause-done g c zero =
-    subst (λ (t : Option Text). PrintsActs t c.args.n1 (g.I.Read.remaining c.args.input.now) (g.W.Write.contents c.args.output.now) (g.W.Write.contents c.replay_run.new.output)) c.in_default.ensures (c.replay_run.ensures.done zero)
+    subst (λ (t : Option Text). PrintsActs (g.R.TextFiles.text_of c.args.rt.now) t c.args.n1 (g.I.Read.remaining c.args.input.now) (g.W.Write.contents c.args.output.now) (g.W.Write.contents c.replay_run.new.output)) c.in_default.ensures (c.replay_run.ensures.done zero)
 
 pub returns-in-Ok-clause-done : goal.returns-in-Ok-clause-done
 returns-in-Ok-clause-done g c zero =
-    subst (λ (t : Option Text). PrintsActs t c.args.n1 (g.I.Read.remaining c.args.input.now) (g.W.Write.contents c.args.output.now) (g.W.Write.contents c.replay_with_dialect_run.new.output)) c.in-Some.ensures
+    subst (λ (t : Option Text). PrintsActs (g.R.TextFiles.text_of c.args.rt.now) t c.args.n1 (g.I.Read.remaining c.args.input.now) (g.W.Write.contents c.args.output.now) (g.W.Write.contents c.replay_with_dialect_run.new.output)) c.in-Some.ensures
     (record { rules = c.in-Ok.dialect; named = c.in-Ok.ensures.named; printed = c.replay_with_dialect_run.ensures.done zero })
 
 pub returns-in-Err-clause-done : goal.returns-in-Err-clause-done

@@ -1,6 +1,6 @@
 -- A drive by the words.
 use Rattle.std.proofs.Common.{◌≡◌, ◌≢◌, ◌∙◌, ℕ, List, Option, arith, codes, inl, inr, is_some, refl, subst, sym}
-use Rattle.clap.specs.Words.{first_value, found_of}
+use Rattle.clap.specs.Words.{Text, first_value, found_of}
 use Rattle.clap.specs.declared.ArgMatches.{ArgMatches}
 use Rattle.at_text.specs.Rules.{Rules}
 use Rattle.modem_drive.specs.Entry.{entry_for}
@@ -11,16 +11,16 @@ use Rattle.modemctl.proofs.Stops.{ends_badly}
 use Rattle.modemctl.proofs.words.driving.drive_words.Goals as goal
 
 -- what the settings have is that of the words
-pub record AreOf (m : ArgMatches) (n1 n : ℕ) (rules own : Rules) (entry capture : Option (List ℕ)) : Type 0 where
+pub record AreOf (texts : Text → Option (List ℕ)) (m : ArgMatches) (n1 n : ℕ) (rules own : Rules) (entry capture : Option (List ℕ)) : Type 0 where
   pub same_n1 : n ≡ n1
   pub same_rules : own ≡ rules
   pub same_entry : entry ≡ first_value (found_of m) (codes "entry")
   pub same_capture : capture ≡ first_value (found_of m) (codes "capture")
-  pub named : IsGivenDialect (first_value (found_of m) (codes "dialect")) rules
+  pub named : IsGivenDialect texts (first_value (found_of m) (codes "dialect")) rules
 
-drives_with : (m : ArgMatches) (n1 n : ℕ) (rules own : Rules) (entry capture before after : Option (List ℕ)) → AreOf m n1 n rules own entry capture
-    → DroveDevice (is_some capture) own (entry_for entry n) n before after → DrivesWith n1 m before after
-drives_with m n1 n rules own entry capture before after are drove = record {
+drives_with : (texts : Text → Option (List ℕ)) (m : ArgMatches) (n1 n : ℕ) (rules own : Rules) (entry capture before after : Option (List ℕ)) → AreOf texts m n1 n rules own entry capture
+    → DroveDevice (is_some capture) own (entry_for entry n) n before after → DrivesWith texts n1 m before after
+drives_with texts m n1 n rules own entry capture before after are drove = record {
   rules = rules;
   named = are.named;
   drove =
@@ -30,7 +30,7 @@ drives_with m n1 n rules own entry capture before after are drove = record {
 
 pub returns-in-Ok-given_dialect-clause-done : goal.returns-in-Ok-given_dialect-clause-done
 returns-in-Ok-given_dialect-clause-done g c zero =
-    drives_with _ _ _ _ _ _ _ _ _
+    drives_with _ _ _ _ _ _ _ _ _ _
     (record {
       same_n1 = refl;
       same_rules = refl;
@@ -43,7 +43,7 @@ returns-in-Ok-given_dialect-clause-done g c zero =
 pub returns-in-Ok-given_dialect-clause-bad : goal.returns-in-Ok-given_dialect-clause-bad
 returns-in-Ok-given_dialect-clause-bad g c two =
     inr
-    (drives_with _ _ _ _ _ _ _ _ _
+    (drives_with _ _ _ _ _ _ _ _ _ _
     (record {
       same_n1 = refl;
       same_rules = refl;
