@@ -111,6 +111,17 @@ abbrev pub WordFault : (unknown : LineFault) → Option Follows → (line : List
 WordFault unknown None line why = why ≡ unknown
 WordFault unknown (Some follows) line why = BehindFault follows line why
 
+-- that of a word behind which nothing stands that has to, or something that mustn't
+abbrev pub lone_fault : (unknown : LineFault) → Option Follows → LineFault
+lone_fault unknown None = unknown
+lone_fault unknown (Some Connection) = LineFault.Connection
+lone_fault unknown (Some Connections) = LineFault.Connection
+lone_fault unknown (Some Command) = LineFault.Connection
+lone_fault unknown (Some Announcement) = LineFault.Connection
+lone_fault unknown (Some Octets) = LineFault.Octets
+lone_fault unknown (Some Probe) = LineFault.Octets
+lone_fault unknown (Some Nothing) = LineFault.End
+
 -- ## Lines
 
 -- a line of a replay's script

@@ -3,8 +3,9 @@ ghost use Rattle.std.specs.Prelude.{◌≡◌, ◌≢◌, ℕ, ◌≤◌, ◌++�
 ghost use Rattle.modem_texts.specs.Input.{input_lines};
 ghost use Rattle.modem_texts.specs.LineFaults.{HasFault};
 ghost use Rattle.modem_runs.specs.Input.{IsReason};
-ghost use Rattle.modem_runs.specs.LineFaults.{EventFault, OctetsFault, ProbeFault, TextFault};
+ghost use Rattle.modem_runs.specs.LineFaults.{EventFault, OctetsFault, ProbeFault, TextFault, events, follows, lone_fault};
 ghost use Rattle.modem_runs.specs.Script.{ArePairsOf, BeginsNone, IsNoOrder, IsNoWord, IsScript, Says, SaysNothing};
+ghost use Rattle.modem_texts.specs.declared.line_fault.LineFault.TheVariants as Fault;
 ghost use Rattle.modem_texts.specs.declared.refusal.Refusal.TheVariants as Refusal;
 
 use crate::stop::Stop;
@@ -73,6 +74,18 @@ fn word_of(line: &[u8]) -> Option<Order>
     }
 }
 
+/// What isn't as it must be behind this word, where nothing stands there that has to, or something that mustn't.
+fn lone_fault(word: &[u8]) -> LineFault
+    ensures { result ≡ lone_fault Fault.Event (follows events word.now) }
+{
+    match word {
+        b"open" | b"close" | b"cmd" => LineFault::Connection,
+        b"probe" | b"in" => LineFault::Octets,
+        b"stop" | b"tick" | b"lost" => LineFault::End,
+        _ => LineFault::Event,
+    }
+}
+
 /// What of a line isn't as it must be, where it has no blank behind a word that wants one, and isn't one word that stands alone.
 fn word_fault(line: &[u8]) -> LineFault
     requires front { BeginsNone line.now }
@@ -80,12 +93,7 @@ fn word_fault(line: &[u8]) -> LineFault
     ensures { EventFault line.now result }
 {
     let (word, _) = first_word(line);
-    match word {
-        b"open" | b"close" | b"cmd" => LineFault::Connection,
-        b"probe" | b"in" => LineFault::Octets,
-        b"stop" | b"tick" | b"lost" => LineFault::End,
-        _ => LineFault::Event,
-    }
+    lone_fault(word)
 }
 
 /// A line that isn't empty.

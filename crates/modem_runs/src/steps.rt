@@ -3,8 +3,9 @@ ghost use Rattle.std.specs.Prelude.{◌≡◌, ◌≢◌, ℕ, ◌<◌, ◌^◌,
 ghost use Rattle.modem_texts.specs.Input.{input_lines};
 ghost use Rattle.modem_texts.specs.LineFaults.{HasFault};
 ghost use Rattle.modem_runs.specs.Input.{IsReason};
-ghost use Rattle.modem_runs.specs.LineFaults.{AnnouncementFault, ConnectionsFault, DeedFault, StepFault};
+ghost use Rattle.modem_runs.specs.LineFaults.{AnnouncementFault, ConnectionsFault, DeedFault, StepFault, deeds, follows, lone_fault};
 ghost use Rattle.modem_runs.specs.Steps.{ActsNone, AreSteps, GivesSteps, IsNoStep, SaysAct, SaysNoAct, SaysNoStep, SaysStep, StepsStop};
+ghost use Rattle.modem_texts.specs.declared.line_fault.LineFault.TheVariants as Fault;
 ghost use Rattle.modem_texts.specs.declared.refusal.Refusal.TheVariants as Refusal;
 
 use crate::input::read_whole;
@@ -80,6 +81,21 @@ fn word_of(words: &[u8]) -> Option<StepAct>
     }
 }
 
+/// What isn't as it must be behind this word, where nothing stands there that has to, or something that mustn't.
+fn lone_fault(word: &[u8]) -> LineFault
+    ensures { result ≡ lone_fault Fault.Deed (follows deeds word.now) }
+{
+    match word {
+        _ if word == b"announce".as_slice() => LineFault::Connection,
+        _ if word == b"stop".as_slice() => LineFault::Connection,
+        _ if word == b"go".as_slice() => LineFault::Connection,
+        _ if word == b"hold".as_slice() => LineFault::Connection,
+        _ if word == b"disconnect".as_slice() => LineFault::Connection,
+        _ if word == b"closedown".as_slice() => LineFault::End,
+        _ => LineFault::Deed,
+    }
+}
+
 /// What of these words isn't as it must be, where they have no blank behind a word that wants one, and aren't `closedown` alone.
 fn word_fault(words: &[u8]) -> LineFault
     requires front { ActsNone words.now }
@@ -87,12 +103,7 @@ fn word_fault(words: &[u8]) -> LineFault
     ensures { DeedFault words.now result }
 {
     let (word, _) = first_word(words);
-    match word {
-        b"announce" | b"stop" | b"go" | b"hold" => LineFault::Connection,
-        _ if word == b"disconnect".as_slice() => LineFault::Connection,
-        b"closedown" => LineFault::End,
-        _ => LineFault::Deed,
-    }
+    lone_fault(word)
 }
 
 /// What a modem does.

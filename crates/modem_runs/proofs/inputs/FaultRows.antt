@@ -1,5 +1,5 @@
 -- The worked faults of lines.
-use Rattle.std.specs.Prelude.{◌≡◌, ◌≢◌, ℕ, ◌+◌, ◌/◌, ◌%◌, ◌<◌, ◌≤◌, nat_lt, Bool, true, false, List, [], ◌∷◌, length, codes, Some, None, Ok, Err, refl, if◌then◌else◌}
+use Rattle.std.specs.Prelude.{◌≡◌, ◌≢◌, ℕ, ◌+◌, ◌/◌, ◌%◌, ◌<◌, ◌≤◌, nat_lt, Bool, true, false, List, [], ◌∷◌, length, codes, Some, None, Result, Ok, Err, refl, if◌then◌else◌}
 use Rattle.std.specs.Fmt.{decimal}
 use Rattle.std.proofs.Common.{sym, ap, arith, inl, inr, ◌∙◌}
 use Rattle.std.proofs.lemmas.Fmt.{decimal_digit, decimal_nonempty}
@@ -11,6 +11,7 @@ use Rattle.modem_texts.specs.Words.{number_text}
 use Rattle.modem_runs.specs.Dump.{line_octets}
 use Rattle.modem_runs.specs.LineFaultRows.{AreDumpFaults, AreEventFaults, AreStepFaults, AreSubmissionFaults}
 use Rattle.modem_runs.specs.LineFaults.{HasOctets, HasPairs, HasProbe, IsCaller, IsCount}
+use Rattle.modem_runs.proofs.inputs.WordFaults.{no_octets}
 
 -- ## Numbers
 
@@ -46,36 +47,28 @@ one = record { number = 1; known = omega arith; word_is = refl }
 
 -- ## Octets
 
-seventeen_octets : List ℕ
+abbrev seventeen_octets : List ℕ
 seventeen_octets = 0 ∷ 1 ∷ 2 ∷ 3 ∷ 4 ∷ 5 ∷ 6 ∷ 7 ∷ 8 ∷ 9 ∷ 10 ∷ 11 ∷ 12 ∷ 13 ∷ 14 ∷ 15 ∷ 16 ∷ []
 
-many : HasProbe (codes "000102030405060708090a0b0c0d0e0f10") → ⊥
+ok_is : (x y : List ℕ) (r : Result (List ℕ) FromHexError) → r ≡ Ok x → r ≡ Ok y → x ≡ y
+ok_is x y r e f = let same : Ok x ≡ Ok y = sym e ∙ f in cc
+
+decodes : decode_of (codes "000102030405060708090a0b0c0d0e0f10") ≡ Ok seventeen_octets
 unfolding decode_pairs
+decodes = refl
+
+many : HasProbe (codes "000102030405060708090a0b0c0d0e0f10") → ⊥
 many h =
-    let same : seventeen_octets ≡ h.octets = all_of h.octets h.are.0 in
-    let long : length h.octets ≡ 17 = ap length (sym same) in
+    let same : seventeen_octets ≡ h.octets = ok_is seventeen_octets h.octets (decode_of (codes "000102030405060708090a0b0c0d0e0f10")) decodes h.are.0 in
+    let long : 17 ≡ length h.octets = ap length same in
     let few = h.few in
     omega (arith, long, few)
-  where
-    all_of : (x : List ℕ) → Ok {E = FromHexError} seventeen_octets ≡ Ok x → seventeen_octets ≡ x
-    all_of x e = cc
 
 seventeen : HasOctets (codes "000102030405060708090a0b0c0d0e0f10")
-unfolding decode_pairs
-seventeen = record { octets = seventeen_octets; are = (refl, λ e. cc) }
+seventeen = record { octets = seventeen_octets; are = (decodes, λ e. cc) }
 
-odd : (text x : List ℕ) → decode_of text ≡ Err OddLength → decode_of text ≡ Ok x → ⊥
-odd text x e f = apart (sym e ∙ f)
-  where
-    apart : Err {A = List ℕ} OddLength ≡ Ok x → ⊥
-    apart same = cc
-
-no_octets : HasOctets [] → ⊥
-unfolding decode_pairs
-no_octets h = h.are.1 (empty_is h.octets h.are.0)
-  where
-    empty_is : (x : List ℕ) → Ok {E = FromHexError} [] ≡ Ok x → x ≡ []
-    empty_is x e = cc
+odd : (x : List ℕ) (r : Result (List ℕ) FromHexError) → r ≡ Err OddLength → r ≡ Ok x → ⊥
+odd x r e f = let same : Err OddLength ≡ Ok x = sym e ∙ f in cc
 
 -- ## Rows
 
@@ -89,8 +82,8 @@ event_faults = record {
   blank_twice = inl (λ h. empty_is_none h.number h.word_is, refl);
   no_line = inr (one, inl (λ e. cc, refl));
   no_prefix = inr (one, inl (λ e. cc, refl));
-  half_an_octet = inl (λ h. odd (codes "f9037") h.octets refl h.are.0, refl);
-  blank_between = inl (λ h. odd (codes "f9 03") h.octets refl h.are.0, refl);
+  half_an_octet = inl (λ h. odd h.octets (decode_of (codes "f9037")) refl h.are.0, refl);
+  blank_between = inl (λ h. odd h.octets (decode_of (codes "f9 03")) refl h.are.0, refl);
   no_octets = inl (no_octets, refl);
   seventeen = inr (seventeen, inl (many, refl));
   blank_behind = inr (zero, inl (λ e. cc, refl));

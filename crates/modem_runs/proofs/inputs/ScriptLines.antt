@@ -1,11 +1,11 @@
 -- What a line of a script says.
 use Rattle.std.specs.Prelude.{◌≡◌, ◌≢◌, ℕ, ◌+◌, ◌/◌, ◌%◌, ◌<◌, nat_lt, List, [], ◌∷◌, ◌++◌, drop, codes, None, refl}
-use Rattle.std.proofs.Common.{sym, ap, arith, inl, inr, ◌∙◌}
+use Rattle.std.proofs.Common.{sym, ap, arith, inl, inr, subst, ◌∙◌}
 use Rattle.at_text.specs.Commands.{refusal_of}
 use Rattle.modem_desk.specs.declared.request.Ask.TheVariants as ask
 use Rattle.modem_runs.specs.declared.script.Order.TheVariants as order
 use Rattle.modem_texts.specs.Words.{number_text}
-use Rattle.modem_runs.specs.Script.{SaysNothing}
+use Rattle.modem_runs.specs.Script.{ArePairsOf, SaysNothing}
 use Rattle.modem_texts.specs.LineFaults.{behind_word, first_word}
 use Rattle.modem_texts.specs.declared.line_fault.LineFault.{LineFault}
 use Rattle.modem_runs.specs.LineFaults.{TextFault}
@@ -44,3 +44,14 @@ no_text words refused n text s r e =
 
 pub text_fault : (words : List ℕ) (d : ℕ) → first_word words ≡ number_text d → d < 62 → refusal_of (behind_word words) ≢ None → TextFault words LineFault.Command
 text_fault words d e known refused = inr (is_connection words d e known, inl (refused, refl))
+
+-- words after `in` that are no octets
+pub in_nothing : (word : List ℕ) → ((x : List ℕ) → ArePairsOf x word → ⊥) → SaysNothing (codes "in " ++ word)
+in_nothing word h (order.Ask (ask.OpenChannel d)) s = absurd (let e = ap head_of s in omega (arith, e))
+in_nothing word h (order.Ask (ask.CloseChannel d)) s = absurd (let e = ap head_of s in omega (arith, e))
+in_nothing word h (order.Ask (ask.Command d text)) s = absurd (let e = ap head_of s.1 in omega (arith, e))
+in_nothing word h (order.Ask (ask.Probe x)) s = absurd (let e = ap head_of s.1 in omega (arith, e))
+in_nothing word h (order.Ask ask.Stop) s = absurd (let e = ap head_of s in omega (arith, e))
+in_nothing word h (order.Octets x) s = h x (subst (ArePairsOf x) (sym (ap (drop 3) s.1)) s.2)
+in_nothing word h order.Tick s = absurd (let e = ap head_of s in omega (arith, e))
+in_nothing word h order.Lost s = absurd (let e = ap head_of s in omega (arith, e))

@@ -1,5 +1,5 @@
 -- The lines of a modem's script, read line by line.
-use Rattle.std.specs.Prelude.{◌≡◌, ◌≢◌, ℕ, suc, ◌+◌, ◌<◌, ◌%◌, ◌^◌, nat_lt, true, false, List, [], ◌∷◌, ◌++◌, length, drop, codes, refl, Option, Some, None, IfSome, Result, Ok, Err, MatchResult}
+use Rattle.std.specs.Prelude.{◌≡◌, ◌≢◌, ℕ, suc, ◌+◌, ◌<◌, ◌%◌, ◌^◌, nat_lt, Bool, true, false, List, [], ◌∷◌, ◌++◌, length, drop, codes, refl, Option, Some, None, IfSome, Result, Ok, Err, MatchResult, if◌then◌else◌}
 use Rattle.std.specs.Fmt.{decimal}
 use Rattle.std.specs.Str.Iter.{LacksByte}
 use Rattle.std.proofs.Common.{sym, ap, arith, eqb, subst, inl, inr, ◌⊎◌, ◌∙◌}
@@ -19,12 +19,13 @@ use Rattle.modem_runs.specs.Input.{IsReason}
 use Rattle.modem_runs.specs.declared.stop.Stop.{Stop}
 use Rattle.modem_runs.specs.declared.stop.Stop.TheVariants as Stop
 use Rattle.modem_runs.specs.Steps.{AreSteps, GivesSteps, IsNoStep, StepsStop, SaysAct, SaysNoAct, SaysNoStep, SaysStep}
-use Rattle.modem_runs.specs.LineFaults.{AnnouncementFault, StepFault}
+use Rattle.modem_runs.specs.LineFaults.{AnnouncementFault, DeedFault, StepFault}
 use Rattle.modem_runs.proofs.inputs.ReadLines.{IsRead, read_more}
-use Rattle.modem_texts.specs.LineFaults.{behind_word, first_word}
+use Rattle.modem_texts.specs.LineFaults.{HasFault, behind_word, first_word}
+use Rattle.modem_texts.specs.declared.refusal.Refusal.{Refusal}
 use Rattle.modem_texts.specs.declared.line_fault.LineFault.{LineFault}
 use Rattle.modem_texts.proofs.CommandWords.{is_connection, joined_words, lacks_number}
-use Rattle.modem_texts.proofs.FirstWords.{as_long, behind_front, first_front}
+use Rattle.modem_texts.proofs.FirstWords.{as_long, behind_front, first_front, whole}
 use Rattle.modem_texts.proofs.CutTexts.{lacks_cons, lacks_head, lacks_nil, lacks_tail}
 
 -- Numbers.
@@ -103,6 +104,21 @@ no_first_of_two words unknown n m r s e = unknown n r (ap first_word e ∙ first
 pub no_second_of_two : (words : List ℕ) → ((n : ℕ) → n < 62 → behind_word words ≢ number_text n) → AreNotTwo words
 no_second_of_two words unknown n m r s e = unknown m s (ap behind_word e ∙ behind_front (number_text n) (number_text m) (lacks_number (nat_lt n 10) n))
 
+number_at : (b : Bool) (one high low : ℕ) → (if b then one ∷ [] else high ∷ low ∷ []) ≡ [] → ⊥
+number_at true one high low e = cc
+number_at false one high low e = cc
+
+pub number_some : (n : ℕ) → number_text n ≢ []
+number_some n e = number_at (nat_lt n 10) _ _ _ e
+
+-- a connection, and a blank behind it
+pub announces : (words word text : List ℕ) (n : ℕ) → word ≡ first_word words → text ≡ behind_word words → word ≡ number_text n → (length word ≡ length words → ⊥) → words ≡ number_text n ++ 32 ∷ text
+announces words word text n e b is apart =
+    whole words (λ same. apart (ap length (e ∙ same))) ∙ ap (λ (w : List ℕ). w ++ 32 ∷ behind_word words) (sym e ∙ is) ∙ ap (λ (l : List ℕ). number_text n ++ 32 ∷ l) (sym b)
+
+pub text_fault_at : (words word : List ℕ) (n : ℕ) → word ≡ first_word words → word ≡ number_text n → n < 62 → length word ≡ length words → AnnouncementFault words LineFault.Text
+text_fault_at words word n e is known l = text_fault words n (sym e ∙ is) known (ap length (sym e) ∙ l)
+
 -- Lines that say no step.
 
 lacks_both : (c : ℕ) (front back : List ℕ) → LacksByte c front → LacksByte c back → LacksByte c (front ++ back)
@@ -126,6 +142,11 @@ no_number_step line unknown s c = unknown s.after c.few (step_parts line s c).0
 
 pub number_fault : (line : List ℕ) → ((n : ℕ) → n < 2 ^ 64 → first_word line ≢ decimal n) → StepFault line LineFault.Count
 number_fault line unknown = inl (λ h. unknown h.number h.small h.word_is, refl)
+
+-- a number is there, and this is wrong behind it
+pub behind_count : (line word words : List ℕ) (n : ℕ) (why : Refusal) → word ≡ first_word line → words ≡ behind_word line → word ≡ decimal n → n < 2 ^ 64 → HasFault (DeedFault words) why → HasFault (StepFault line) why
+behind_count line word words n (Refusal.Bad fault) e b is few h = inr (record { number = n; small = few; word_is = sym e ∙ is }, subst (λ (l : List ℕ). DeedFault l fault) b h)
+behind_count line word words n Refusal.NoMemory e b is few h = tt
 
 pub no_act_step : (line : List ℕ) → SaysNoAct (behind_word line) → SaysNoStep line
 no_act_step line none s c = none s.act (rw (step_parts line s c).1 c.says)

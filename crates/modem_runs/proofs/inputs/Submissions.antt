@@ -1,6 +1,6 @@
 -- What the lines of a bench's input submit, read line by line.
 use Rattle.std.specs.Prelude.{◌≡◌, ◌≢◌, ℕ, ◌+◌, ◌<◌, ◌≤◌, nat_lt, List, [], ◌∷◌, ◌++◌, length, refl, None}
-use Rattle.std.proofs.Common.{sym, ap, inl, inr, ◌∙◌}
+use Rattle.std.proofs.Common.{sym, ap, inl, inr, subst, ◌∙◌}
 use Rattle.std.proofs.lemmas.List.{append_assoc, append-nil}
 use Rattle.modem_bench.specs.declared.submission.Submission.{Submission}
 use Rattle.modem_texts.specs.Words.{IsCommand, IsNoCommand, number_text}
@@ -81,3 +81,7 @@ submits_so callers line s e below c = record {
   line_is = joined_words line (number_text s.caller) (behind_word line) e refl (command_some (behind_word line) s.dlci.number s.line c);
   command = c;
 }
+
+-- the same of the words that were cut
+pub submits_cut : (callers : ℕ) (line word words : List ℕ) (s : Submission) → word ≡ first_word line → words ≡ behind_word line → (s.caller < callers) × (word ≡ number_text s.caller) → IsCommand words s.dlci.number s.line → Submits callers line s
+submits_cut callers line word words s e b is c = submits_so callers line s (sym e ∙ is.1) is.0 (subst (λ (l : List ℕ). IsCommand l s.dlci.number s.line) b c)
