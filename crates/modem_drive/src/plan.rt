@@ -144,10 +144,11 @@ impl<I: Read> Plan<I> {
                     tried: false,
                 });
             }
-            Err(Refusal::Bad) => {
+            Err(Refusal::Bad(fault)) => {
                 self.bad = true;
                 let number = self.number;
-                let _ = writeln!(faults, "bad line {number}");
+                let reason = fault.reason();
+                let _ = writeln!(faults, "bad line {number}{reason}");
             }
             Err(Refusal::NoMemory) => return Err(DriveFault::NoMemory),
         }

@@ -23,6 +23,7 @@ mod words;
 
 use modem_runs::{Stop, give_up};
 use setup::Setup;
+use std::io::Write;
 use std::process::ExitCode;
 use words::{BAD, Host, Lines, number, split};
 
@@ -69,10 +70,17 @@ fn run<R: Host>(lines: &mut Lines<R>) -> Result<(), Stop> {
     play(lines, &mut setup, what.as_str())
 }
 
+/// Names a bad line, and gives the status. A line of a player isn't one of `modemctl`, so it isn't said what of it is bad.
+fn refuse<E: Write>(faults: &mut E, place: u64) -> u8 {
+    let _ = writeln!(faults, "bad line {place}");
+    2
+}
+
 fn main(rt: HostRuntime) -> ExitCode {
     let mut lines = Lines::new(rt);
     match run(&mut lines) {
         Ok(()) => ExitCode::SUCCESS,
-        Err(stop) => ExitCode::from(give_up(&mut rt.stderr(), lines.placed(stop))),
+        Err(Stop::BadLine(..)) => ExitCode::from(refuse(&mut rt.stderr(), lines.place())),
+        Err(stop) => ExitCode::from(give_up(&mut rt.stderr(), stop)),
     }
 }

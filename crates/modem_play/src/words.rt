@@ -2,7 +2,7 @@
 use crate::setup::Setup;
 use at_text::UrcKind;
 use modem_driver::Event;
-use modem_runs::{Stop, read_script};
+use modem_runs::{LineFault, Stop, read_script};
 use mux_frame::Dlci;
 use serial_line::Cut;
 use std::alloc::{AllocError, AllocGlobal, Global};
@@ -16,8 +16,9 @@ pub trait Host: Wait + Input + Print + AllocGlobal + RandomSource + Copy + Drop 
 
 impl<R: Wait + Input + Print + AllocGlobal + RandomSource + Copy + Drop> Host for R {}
 
-/// The line that was read last is bad. Each is read by itself, where it is the first one; `Lines::placed` says which it is.
-pub const BAD: Stop = Stop::BadLine(1);
+/// The line that was read last is bad, whatever of it isn't as it must be. Each is read by itself, where it is the first one;
+/// `Lines::place` says which it is.
+pub const BAD: Stop = Stop::BadLine(1, LineFault::Event);
 
 /// The lines on standard input, and how many were read.
 #[derive(Drop)]
@@ -46,12 +47,9 @@ impl<R: Host> Lines<R> {
         Ok(Some(line))
     }
 
-    /// Why the run ends, where the line that was read last may be bad.
-    pub fn placed(&self, stop: Stop) -> Stop {
-        match stop {
-            Stop::BadLine(_) => Stop::BadLine(self.place),
-            other => other,
-        }
+    /// The place of the line that was read last, counted from 1.
+    pub fn place(&self) -> u64 {
+        self.place
     }
 }
 

@@ -24,7 +24,7 @@ IsDialectFault input (DialectFault.Refused place why) =
 abbrev pub IsDialectStop : (input : Option (List ℕ)) → Stop → Type 0
 IsDialectStop input Stop.NoMemory = Unit {0}
 IsDialectStop input (Stop.Dialect fault) = IsDialectFault input fault
-IsDialectStop input (Stop.BadLine place) = ⊥
+IsDialectStop input (Stop.BadLine place why) = ⊥
 IsDialectStop input Stop.Input = ⊥
 IsDialectStop input Stop.Output = ⊥
 IsDialectStop input Stop.Line = ⊥

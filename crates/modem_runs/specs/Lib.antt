@@ -2,6 +2,8 @@ pub mod Bench
 pub mod Dump
 pub mod Framing
 pub mod Input
+pub mod LineFaults
+pub mod LineFaultRows
 pub mod Printed
 pub mod Script
 pub mod Shown

@@ -30,6 +30,14 @@ Says line order.Lost = line ≡ codes "lost"
 abbrev pub IsNoWord : List ℕ → Type 0
 IsNoWord line = (line ≢ codes "stop") × (line ≢ codes "tick") × (line ≢ codes "lost")
 
+-- the line begins with none of the words behind which something stands, and a blank
+pub record BeginsNone (line : List ℕ) : Type 0 where
+  pub no_open : (rest : List ℕ) → line ≢ codes "open " ++ rest
+  pub no_close : (rest : List ℕ) → line ≢ codes "close " ++ rest
+  pub no_cmd : (rest : List ℕ) → line ≢ codes "cmd " ++ rest
+  pub no_probe : (rest : List ℕ) → line ≢ codes "probe " ++ rest
+  pub no_in : (rest : List ℕ) → line ≢ codes "in " ++ rest
+
 -- the line says nothing
 abbrev pub SaysNothing : List ℕ → Type 0
 SaysNothing line = (o : Order) → Says line o → ⊥

@@ -5,6 +5,7 @@ use Rattle.at_text.specs.declared.dialect_error.DialectError.{DialectError}
 use Rattle.modem_bench.specs.declared.signals.Fault.{Fault}
 use Rattle.modem_runs.specs.declared.stop.DialectFault.{DialectFault}
 use Rattle.modem_runs.specs.declared.stop.Stop.{Stop}
+use Rattle.modem_texts.specs.LineFaults.{reason_text}
 use Rattle.modem_texts.specs.declared.dialects.DialectRefusal.{DialectRefusal}
 use Rattle.modem_texts.specs.declared.refusal.Refusal.{Refusal}
 
@@ -24,7 +25,7 @@ status_of Stop.GaveUp = 1
 status_of Stop.BadN1 = 2
 status_of Stop.BadCallers = 2
 status_of Stop.BadCut = 2
-status_of (Stop.BadLine _) = 2
+status_of (Stop.BadLine place why) = 2
 status_of (Stop.Dialect fault) = dialect_status fault
 
 -- what is said of a dialect, but for the number and the reason of a bad line
@@ -66,12 +67,12 @@ stop_words Stop.GaveUp = codes "fault: gave up"
 stop_words Stop.BadN1 = codes "error: N1 is 31 to 32767"
 stop_words Stop.BadCallers = codes "error: callers are 1 to 8"
 stop_words Stop.BadCut = codes "error: the cut is 1 to 4096"
-stop_words (Stop.BadLine _) = codes "bad line "
+stop_words (Stop.BadLine place why) = codes "bad line "
 stop_words (Stop.Dialect fault) = dialect_words fault
 
 -- the number of a bad line, in decimal
 abbrev pub stop_number : Stop → List ℕ
-stop_number (Stop.BadLine place) = decimal place
+stop_number (Stop.BadLine place why) = decimal place
 stop_number Stop.NoMemory = []
 stop_number Stop.Input = []
 stop_number Stop.Output = []
@@ -82,10 +83,10 @@ stop_number Stop.BadCallers = []
 stop_number Stop.BadCut = []
 stop_number (Stop.Dialect fault) = dialect_number fault
 
--- why a line of a dialect is bad
+-- why a line is bad
 abbrev pub stop_reason : Stop → List ℕ
 stop_reason (Stop.Dialect fault) = dialect_reason fault
-stop_reason (Stop.BadLine place) = []
+stop_reason (Stop.BadLine place why) = reason_text why
 stop_reason Stop.NoMemory = []
 stop_reason Stop.Input = []
 stop_reason Stop.Output = []
@@ -103,9 +104,9 @@ stop_text stop = stop_words stop ++ stop_number stop ++ stop_reason stop
 abbrev pub stop_line : Stop → List ℕ
 stop_line stop = stop_text stop ++ 10 ∷ []
 
--- a line that is bad is named; else memory was refused
+-- a line that is bad is named with its fault; else memory was refused
 abbrev pub stop_at : ℕ → Refusal → Stop
-stop_at place Refusal.Bad = Stop.BadLine place
+stop_at place (Refusal.Bad why) = Stop.BadLine place why
 stop_at place Refusal.NoMemory = Stop.NoMemory
 
 -- why a text is none of a dialect, as the cause of a stop

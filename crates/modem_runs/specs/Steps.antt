@@ -6,7 +6,9 @@ use Rattle.modem_sim.specs.declared.script.StepAct.{StepAct}
 use Rattle.modem_sim.specs.declared.script.StepAct.TheVariants.{Announce, Flow, Hold, Disconnect, CloseDown}
 use Rattle.modem_texts.specs.Input.{input_lines}
 use Rattle.modem_texts.specs.Words.{number_text}
+use Rattle.modem_texts.specs.declared.line_fault.LineFault.{LineFault}
 use Rattle.modem_runs.specs.Input.{IsFirstBad}
+use Rattle.modem_runs.specs.LineFaults.{StepFault}
 use Rattle.modem_runs.specs.declared.stop.Stop.{Stop}
 
 -- the words say that it does this
@@ -21,6 +23,14 @@ SaysAct words CloseDown = words ≡ codes "closedown"
 -- the words say nothing that it does
 abbrev pub SaysNoAct : List ℕ → Type 0
 SaysNoAct words = (a : StepAct) → SaysAct words a → ⊥
+
+-- the words begin with none of those behind which something stands, and a blank
+pub record ActsNone (words : List ℕ) : Type 0 where
+  pub no_announce : (rest : List ℕ) → words ≢ codes "announce " ++ rest
+  pub no_stop : (rest : List ℕ) → words ≢ codes "stop " ++ rest
+  pub no_go : (rest : List ℕ) → words ≢ codes "go " ++ rest
+  pub no_hold : (rest : List ℕ) → words ≢ codes "hold " ++ rest
+  pub no_disconnect : (rest : List ℕ) → words ≢ codes "disconnect " ++ rest
 
 -- the line says this step: after how many commands, one blank, and what it does then
 pub record SaysStep (line : List ℕ) (s : Step) : Type 0 where
@@ -51,17 +61,17 @@ pub record GivesSteps (input : Option (List ℕ)) (steps : List Step) : Type 0 w
   pub whole : IfSome input (λ all. text ≡ all)
   pub say : AreSteps (input_lines text) steps
 
--- this line of what was read is the first bad one
-pub record HasBadStep (input : Option (List ℕ)) (place : ℕ) : Type 0 where
+-- this line of what was read is the first bad one, and this of it the first that isn't as it must be
+pub record HasBadStep (input : Option (List ℕ)) (place : ℕ) (why : LineFault) : Type 0 where
   pub text : List ℕ
   pub whole : IfSome input (λ all. text ≡ all)
-  pub bad : IsFirstBad IsNoStep (input_lines text) place
+  pub bad : IsFirstBad IsNoStep StepFault (input_lines text) place why
 
--- why a script isn't read: its first bad line is named, memory was refused, or the reader failed
+-- why a script isn't read: its first bad line is named with its fault, memory was refused, or the reader failed
 abbrev pub StepsStop : Option (List ℕ) → Stop → Type 0
 StepsStop input Stop.NoMemory = Unit {0}
 StepsStop input Stop.Input = Unit {0}
-StepsStop input (Stop.BadLine place) = HasBadStep input place
+StepsStop input (Stop.BadLine place why) = HasBadStep input place why
 StepsStop input Stop.Output = ⊥
 StepsStop input Stop.Line = ⊥
 StepsStop input Stop.GaveUp = ⊥

@@ -3,7 +3,9 @@ use Rattle.std.specs.Prelude.{◌≡◌, ◌≢◌, ◌⊎◌, ◌<◌, ℕ, Lis
 use Rattle.std.specs.Io.KnownBytes.{Appends}
 use Rattle.modem_runs.specs.Bench.{IsNoSubmission}
 use Rattle.modem_texts.specs.Input.{input_lines}
+use Rattle.modem_texts.specs.declared.line_fault.LineFault.{LineFault}
 use Rattle.modem_runs.specs.Input.{IsFirstBad}
+use Rattle.modem_runs.specs.LineFaults.{SubmissionFault}
 use Rattle.modem_runs.specs.Statuses.{status_of, stop_line}
 use Rattle.modem_runs.specs.declared.stop.Stop.{Stop}
 
@@ -41,18 +43,18 @@ pub record HasStopped {O : Type 0} (Makes : List ℕ → List ℕ → Type 0) (I
   pub cause : IsCause stop
   pub begun : stop ≡ Stop.Output → IsBegunOf Makes input (contents old) (contents new)
 
--- the causes for which a run over its input alone stops: this line is the first bad one; N1 isn't 31 to 32767
-abbrev pub IsRunStop : (n1 : ℕ) (IsBad : List ℕ → Type 0) (input : Option (List ℕ)) → Stop → Type 0
-IsRunStop n1 IsBad input Stop.NoMemory = Unit {0}
-IsRunStop n1 IsBad input Stop.Input = Unit {0}
-IsRunStop n1 IsBad input Stop.Output = Unit {0}
-IsRunStop n1 IsBad input Stop.Line = ⊥
-IsRunStop n1 IsBad input Stop.GaveUp = ⊥
-IsRunStop n1 IsBad input Stop.BadN1 = (n1 < 31) ⊎ (32767 < n1)
-IsRunStop n1 IsBad input Stop.BadCallers = ⊥
-IsRunStop n1 IsBad input Stop.BadCut = ⊥
-IsRunStop n1 IsBad input (Stop.Dialect fault) = ⊥
-IsRunStop n1 IsBad input (Stop.BadLine place) = IfSome input (λ text. IsFirstBad IsBad (input_lines text) place)
+-- the causes for which a run over its input alone stops: this line is the first bad one, for this fault; N1 isn't 31 to 32767
+abbrev pub IsRunStop : (n1 : ℕ) (IsBad : List ℕ → Type 0) (Has : List ℕ → LineFault → Type 0) (input : Option (List ℕ)) → Stop → Type 0
+IsRunStop n1 IsBad Has input Stop.NoMemory = Unit {0}
+IsRunStop n1 IsBad Has input Stop.Input = Unit {0}
+IsRunStop n1 IsBad Has input Stop.Output = Unit {0}
+IsRunStop n1 IsBad Has input Stop.Line = ⊥
+IsRunStop n1 IsBad Has input Stop.GaveUp = ⊥
+IsRunStop n1 IsBad Has input Stop.BadN1 = (n1 < 31) ⊎ (32767 < n1)
+IsRunStop n1 IsBad Has input Stop.BadCallers = ⊥
+IsRunStop n1 IsBad Has input Stop.BadCut = ⊥
+IsRunStop n1 IsBad Has input (Stop.Dialect fault) = ⊥
+IsRunStop n1 IsBad Has input (Stop.BadLine place why) = IfSome input (λ text. IsFirstBad IsBad Has (input_lines text) place why)
 
 -- those of a bench: its line failed, or it didn't come to its end; callers aren't 1 to 8, the cut isn't 1 to 4096
 abbrev pub IsBenchStop : (callers cut : ℕ) (input : Option (List ℕ)) → Stop → Type 0
@@ -65,5 +67,5 @@ IsBenchStop callers cut input Stop.BadN1 = ⊥
 IsBenchStop callers cut input Stop.BadCallers = (callers < 1) ⊎ (8 < callers)
 IsBenchStop callers cut input Stop.BadCut = (cut < 1) ⊎ (4096 < cut)
 IsBenchStop callers cut input (Stop.Dialect fault) = ⊥
-IsBenchStop callers cut input (Stop.BadLine place) =
-    IfSome input (λ text. IsFirstBad (IsNoSubmission callers) (input_lines text) place)
+IsBenchStop callers cut input (Stop.BadLine place why) =
+    IfSome input (λ text. IsFirstBad (IsNoSubmission callers) (SubmissionFault callers) (input_lines text) place why)

@@ -4,8 +4,10 @@ ghost use Rattle.std.specs.String.{string_bytes};
 ghost use Rattle.modem_runs.specs.Bench.{IsNoSubmission};
 ghost use Rattle.modem_texts.specs.Input.{input_lines};
 ghost use Rattle.modem_runs.specs.Input.{HasBad, IsFirstBad};
+ghost use Rattle.modem_runs.specs.LineFaults.{SubmissionFault};
 ghost use Rattle.modem_runs.specs.Printed.{IsBenched, IsNoBench, IsPrinted};
 ghost use Rattle.modem_runs.specs.Stopping.{HasGivenUp, HasStopped, IsBenchStop};
+ghost use Rattle.modem_texts.specs.declared.line_fault.LineFault.{LineFault};
 ghost use Rattle.modem_runs.specs.declared.stop.DialectFault.{DialectFault};
 ghost use Rattle.modem_runs.specs.declared.stop.Stop.TheVariants as Stop;
 
@@ -54,9 +56,9 @@ where
     requires { (1 ≤ callers) × (callers ≤ 8) }
     ensures ok { IfOk result
         (λ text. IfSome (I.remaining input.old) (λ all. IsBenched callers cut script all (string_bytes text))) }
-    ensures bad_line { (place : ℕ) → IsErrOf result (Stop.BadLine place)
+    ensures bad_line { (place : ℕ) (why : LineFault) → IsErrOf result (Stop.BadLine place why)
         → IfSome (I.remaining input.old)
-        (λ text. IsFirstBad (IsNoSubmission callers) (input_lines text) place) }
+        (λ text. IsFirstBad (IsNoSubmission callers) (SubmissionFault callers) (input_lines text) place why) }
     ensures others { (result ≢ Err Stop.BadN1) × (result ≢ Err Stop.BadCallers) × (result ≢ Err Stop.BadCut)
         × ((fault : DialectFault) → result ≢ Err (Stop.Dialect fault)) }
     ensures no_output { result ≢ Err Stop.Output }
@@ -112,7 +114,7 @@ where
         (E.contents faults.new) result }
     ensures refused { result ≡ 2
         → IsNoBench callers cut
-        ⊎ IfSome (I.remaining input.old) (λ text. HasBad (IsNoSubmission callers) (input_lines text)) }
+        ⊎ IfSome (I.remaining input.old) (λ text. HasBad (IsNoSubmission callers) (SubmissionFault callers) (input_lines text)) }
     ensures bad { result ≡ 2 → output.new ≡ output.old }
     ensures no_bench { IsNoBench callers cut → (result ≡ 2) × (input.new ≡ input.old) }
     ensures silent { result ≡ 0 → faults.new ≡ faults.old }

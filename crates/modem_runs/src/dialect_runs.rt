@@ -9,9 +9,11 @@ ghost use Rattle.modem_texts.specs.DialectTexts.{AreLinesOf};
 ghost use Rattle.modem_texts.specs.Input.{input_lines};
 ghost use Rattle.modem_runs.specs.Dialects.{HasText, IsDialectStop};
 ghost use Rattle.modem_runs.specs.Input.{HasBad, IsFirstBad};
+ghost use Rattle.modem_runs.specs.LineFaults.{EventFault};
 ghost use Rattle.modem_runs.specs.Printed.{IsPrinted, IsReplayedBy};
 ghost use Rattle.modem_runs.specs.Script.{IsNoOrder};
 ghost use Rattle.modem_runs.specs.Stopping.{HasGivenUp, HasStopped, IsRunStop};
+ghost use Rattle.modem_texts.specs.declared.line_fault.LineFault.{LineFault};
 ghost use Rattle.modem_runs.specs.declared.stop.DialectFault.{DialectFault};
 ghost use Rattle.modem_runs.specs.declared.stop.Stop.TheVariants as Stop;
 
@@ -70,8 +72,8 @@ fn replayed_by<R: Read>(
 ) -> Result<String, Stop>
     ensures ok { IfOk result (λ text. IfSome (R.remaining input.old)
         (λ all. IsReplayedBy dialect.now n1.octets all (string_bytes text))) }
-    ensures bad_line { (place : ℕ) → IsErrOf result (Stop.BadLine place)
-        → IfSome (R.remaining input.old) (λ text. IsFirstBad IsNoOrder (input_lines text) place) }
+    ensures bad_line { (place : ℕ) (why : LineFault) → IsErrOf result (Stop.BadLine place why)
+        → IfSome (R.remaining input.old) (λ text. IsFirstBad IsNoOrder EventFault (input_lines text) place why) }
     ensures others { (result ≢ Err Stop.BadN1) × (result ≢ Err Stop.BadCallers) × (result ≢ Err Stop.BadCut)
         × ((fault : DialectFault) → result ≢ Err (Stop.Dialect fault)) }
     ensures no_line { (result ≢ Err Stop.Line) × (result ≢ Err Stop.GaveUp) }
@@ -97,14 +99,14 @@ pub fn replay_with_dialect_run<R: Read, W: Write, E: Write>(
     ensures done { result ≡ 0 → IsPrinted (IsReplayedBy dialect.now n1) (R.remaining input.old)
         (W.contents output.old) (W.contents output.new) }
     ensures stopped { result ≢ 0
-        → HasStopped (IsReplayedBy dialect.now n1) (IsRunStop n1 IsNoOrder (R.remaining input.old))
+        → HasStopped (IsReplayedBy dialect.now n1) (IsRunStop n1 IsNoOrder EventFault (R.remaining input.old))
         (R.remaining input.old) W.contents output.old output.new (E.contents faults.old) (E.contents faults.new)
         result }
     ensures nothing { result ≡ 1 → HasGivenUp output.old output.new (E.contents faults.old)
         (E.contents faults.new) result }
     ensures refused { result ≡ 2
         → ((n1 < 31) ⊎ (32767 < n1))
-        ⊎ IfSome (R.remaining input.old) (λ text. HasBad IsNoOrder (input_lines text)) }
+        ⊎ IfSome (R.remaining input.old) (λ text. HasBad IsNoOrder EventFault (input_lines text)) }
     ensures bad { result ≡ 2 → output.new ≡ output.old }
     ensures bad_n1 { (n1 < 31) ⊎ (32767 < n1) → (result ≡ 2) × (input.new ≡ input.old) }
     ensures silent { result ≡ 0 → faults.new ≡ faults.old }

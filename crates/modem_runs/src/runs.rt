@@ -9,9 +9,11 @@ ghost use Rattle.modem_history.specs.Wholes.{UsesOnce};
 ghost use Rattle.modem_runs.specs.Dump.{IsNoDump};
 ghost use Rattle.modem_texts.specs.Input.{input_lines};
 ghost use Rattle.modem_runs.specs.Input.{HasBad, IsFirstBad};
+ghost use Rattle.modem_runs.specs.LineFaults.{DumpFault, EventFault};
 ghost use Rattle.modem_runs.specs.Printed.{IsFramed, IsPrinted, IsReplayed};
 ghost use Rattle.modem_runs.specs.Script.{IsNoOrder};
 ghost use Rattle.modem_runs.specs.Stopping.{HasGivenUp, HasStopped, IsRunStop};
+ghost use Rattle.modem_texts.specs.declared.line_fault.LineFault.{LineFault};
 ghost use Rattle.modem_runs.specs.declared.stop.DialectFault.{DialectFault};
 ghost use Rattle.modem_runs.specs.declared.stop.Stop.TheVariants as Stop;
 
@@ -54,8 +56,8 @@ fn frames_of(alloc: Global, n1: N1, octets: &[u8]) -> Result<(Vec<FrameBuf>, Vec
 fn replayed<R: Read>(alloc: Global, input: &mut R, n1: N1) -> Result<String, Stop>
     ensures ok { IfOk result
         (λ text. IfSome (R.remaining input.old) (λ all. IsReplayed n1.octets all (string_bytes text))) }
-    ensures bad_line { (place : ℕ) → IsErrOf result (Stop.BadLine place)
-        → IfSome (R.remaining input.old) (λ text. IsFirstBad IsNoOrder (input_lines text) place) }
+    ensures bad_line { (place : ℕ) (why : LineFault) → IsErrOf result (Stop.BadLine place why)
+        → IfSome (R.remaining input.old) (λ text. IsFirstBad IsNoOrder EventFault (input_lines text) place why) }
     ensures others { (result ≢ Err Stop.BadN1) × (result ≢ Err Stop.BadCallers) × (result ≢ Err Stop.BadCut)
         × ((fault : DialectFault) → result ≢ Err (Stop.Dialect fault)) }
     ensures no_line { (result ≢ Err Stop.Line) × (result ≢ Err Stop.GaveUp) }
@@ -72,8 +74,8 @@ fn replayed<R: Read>(alloc: Global, input: &mut R, n1: N1) -> Result<String, Sto
 fn framed<R: Read>(alloc: Global, input: &mut R, n1: N1) -> Result<String, Stop>
     ensures ok { IfOk result
         (λ text. IfSome (R.remaining input.old) (λ all. IsFramed n1.octets all (string_bytes text))) }
-    ensures bad_line { (place : ℕ) → IsErrOf result (Stop.BadLine place)
-        → IfSome (R.remaining input.old) (λ text. IsFirstBad IsNoDump (input_lines text) place) }
+    ensures bad_line { (place : ℕ) (why : LineFault) → IsErrOf result (Stop.BadLine place why)
+        → IfSome (R.remaining input.old) (λ text. IsFirstBad IsNoDump DumpFault (input_lines text) place why) }
     ensures others { (result ≢ Err Stop.BadN1) × (result ≢ Err Stop.BadCallers) × (result ≢ Err Stop.BadCut)
         × ((fault : DialectFault) → result ≢ Err (Stop.Dialect fault)) }
     ensures no_line { (result ≢ Err Stop.Line) × (result ≢ Err Stop.GaveUp) }
@@ -99,14 +101,14 @@ pub fn replay_run<R: Read, W: Write, E: Write>(
     ensures status { result ≤ 2 }
     ensures done { result ≡ 0
         → IsPrinted (IsReplayed n1) (R.remaining input.old) (W.contents output.old) (W.contents output.new) }
-    ensures stopped { result ≢ 0 → HasStopped (IsReplayed n1) (IsRunStop n1 IsNoOrder (R.remaining input.old))
+    ensures stopped { result ≢ 0 → HasStopped (IsReplayed n1) (IsRunStop n1 IsNoOrder EventFault (R.remaining input.old))
         (R.remaining input.old) W.contents output.old output.new (E.contents faults.old) (E.contents faults.new)
         result }
     ensures nothing { result ≡ 1 → HasGivenUp output.old output.new (E.contents faults.old)
         (E.contents faults.new) result }
     ensures refused { result ≡ 2
         → ((n1 < 31) ⊎ (32767 < n1))
-        ⊎ IfSome (R.remaining input.old) (λ text. HasBad IsNoOrder (input_lines text)) }
+        ⊎ IfSome (R.remaining input.old) (λ text. HasBad IsNoOrder EventFault (input_lines text)) }
     ensures bad { result ≡ 2 → output.new ≡ output.old }
     ensures bad_n1 { (n1 < 31) ⊎ (32767 < n1) → (result ≡ 2) × (input.new ≡ input.old) }
     ensures silent { result ≡ 0 → faults.new ≡ faults.old }
@@ -130,14 +132,14 @@ pub fn frames_run<R: Read, W: Write, E: Write>(
     ensures status { result ≤ 2 }
     ensures done { result ≡ 0
         → IsPrinted (IsFramed n1) (R.remaining input.old) (W.contents output.old) (W.contents output.new) }
-    ensures stopped { result ≢ 0 → HasStopped (IsFramed n1) (IsRunStop n1 IsNoDump (R.remaining input.old))
+    ensures stopped { result ≢ 0 → HasStopped (IsFramed n1) (IsRunStop n1 IsNoDump DumpFault (R.remaining input.old))
         (R.remaining input.old) W.contents output.old output.new (E.contents faults.old) (E.contents faults.new)
         result }
     ensures nothing { result ≡ 1 → HasGivenUp output.old output.new (E.contents faults.old)
         (E.contents faults.new) result }
     ensures refused { result ≡ 2
         → ((n1 < 31) ⊎ (32767 < n1))
-        ⊎ IfSome (R.remaining input.old) (λ text. HasBad IsNoDump (input_lines text)) }
+        ⊎ IfSome (R.remaining input.old) (λ text. HasBad IsNoDump DumpFault (input_lines text)) }
     ensures bad { result ≡ 2 → output.new ≡ output.old }
     ensures bad_n1 { (n1 < 31) ⊎ (32767 < n1) → (result ≡ 2) × (input.new ≡ input.old) }
     ensures silent { result ≡ 0 → faults.new ≡ faults.old }

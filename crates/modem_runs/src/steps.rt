@@ -1,8 +1,11 @@
 //! The script of a simulated modem: a line for each thing that it does of its own accord.
-ghost use Rattle.std.specs.Prelude.{◌≡◌, ◌≢◌, ℕ, ◌<◌, ◌^◌, ◌++◌, MatchOption, MatchResult, codes, decimal};
+ghost use Rattle.std.specs.Prelude.{◌≡◌, ◌≢◌, ℕ, ◌<◌, ◌^◌, ◌++◌, IfErr, MatchOption, MatchResult, codes, decimal};
 ghost use Rattle.modem_texts.specs.Input.{input_lines};
+ghost use Rattle.modem_texts.specs.LineFaults.{HasFault};
 ghost use Rattle.modem_runs.specs.Input.{IsReason};
-ghost use Rattle.modem_runs.specs.Steps.{AreSteps, GivesSteps, IsNoStep, SaysAct, SaysNoAct, SaysNoStep, SaysStep, StepsStop};
+ghost use Rattle.modem_runs.specs.LineFaults.{AnnouncementFault, ConnectionsFault, DeedFault, StepFault, deeds, follows, lone_fault};
+ghost use Rattle.modem_runs.specs.Steps.{ActsNone, AreSteps, GivesSteps, IsNoStep, SaysAct, SaysNoAct, SaysNoStep, SaysStep, StepsStop};
+ghost use Rattle.modem_texts.specs.declared.line_fault.LineFault.TheVariants as Fault;
 ghost use Rattle.modem_texts.specs.declared.refusal.Refusal.TheVariants as Refusal;
 
 use crate::input::read_whole;
@@ -10,7 +13,7 @@ use crate::stop::Stop;
 use at_text::Text;
 use itoa::Buffer;
 use modem_sim::{Step, StepAct, Steps};
-use modem_texts::{Refusal, connection_of, next_line, split_once};
+use modem_texts::{LineFault, Refusal, connection_of, first_word, last_connection, next_line};
 use std::alloc::Global;
 use std::io::Read;
 use std::str;
@@ -43,27 +46,28 @@ fn number_of(word: &[u8]) -> Option<u64>
 
 /// What follows `announce`: a connection, one blank and a text.
 fn announce_of(alloc: Global, words: &[u8]) -> Result<StepAct, Refusal>
-    ensures { MatchResult result (SaysAct (codes "announce " ++ words.now))
-        (λ why. why ≡ Refusal.Bad → SaysNoAct (codes "announce " ++ words.now)) }
+    ensures says { MatchResult result (SaysAct (codes "announce " ++ words.now))
+        (λ why. why ≢ Refusal.NoMemory → SaysNoAct (codes "announce " ++ words.now)) }
+    ensures fault { IfErr result (HasFault (AnnouncementFault words.now)) }
 {
-    let Some((word, text)) = split_once(words, b' ') else {
-        return Err(Refusal::Bad);
-    };
+    let (word, text) = first_word(words);
     let dlci = connection_of(word)?;
+    if word.len() == words.len() {
+        return Err(Refusal::Bad(LineFault::Text));
+    }
     let line = Text::from(Vec::from_slice(alloc, text)?);
     Ok(StepAct::Announce(dlci, line))
 }
 
 /// What follows `hold`: two connections, and one blank between them.
 fn hold_of(words: &[u8]) -> Result<StepAct, Refusal>
-    ensures { MatchResult result (SaysAct (codes "hold " ++ words.now))
-        (λ why. why ≡ Refusal.Bad → SaysNoAct (codes "hold " ++ words.now)) }
+    ensures says { MatchResult result (SaysAct (codes "hold " ++ words.now))
+        (λ why. why ≢ Refusal.NoMemory → SaysNoAct (codes "hold " ++ words.now)) }
+    ensures fault { IfErr result (HasFault (ConnectionsFault words.now)) }
 {
-    let Some((held, awaited)) = split_once(words, b' ') else {
-        return Err(Refusal::Bad);
-    };
+    let (held, awaited) = first_word(words);
     let held = connection_of(held)?;
-    let awaited = connection_of(awaited)?;
+    let awaited = last_connection(awaited)?;
     Ok(StepAct::Hold(held, awaited))
 }
 
@@ -77,47 +81,74 @@ fn word_of(words: &[u8]) -> Option<StepAct>
     }
 }
 
+/// What isn't as it must be behind this word, where nothing stands there that has to, or something that mustn't.
+fn lone_fault(word: &[u8]) -> LineFault
+    ensures { result ≡ lone_fault Fault.Deed (follows deeds word.now) }
+{
+    match word {
+        _ if word == b"announce".as_slice() => LineFault::Connection,
+        _ if word == b"stop".as_slice() => LineFault::Connection,
+        _ if word == b"go".as_slice() => LineFault::Connection,
+        _ if word == b"hold".as_slice() => LineFault::Connection,
+        _ if word == b"disconnect".as_slice() => LineFault::Connection,
+        _ if word == b"closedown".as_slice() => LineFault::End,
+        _ => LineFault::Deed,
+    }
+}
+
+/// What of these words isn't as it must be, where they have no blank behind a word that wants one, and aren't `closedown` alone.
+fn word_fault(words: &[u8]) -> LineFault
+    requires front { ActsNone words.now }
+    requires word { words.now ≢ codes "closedown" }
+    ensures { DeedFault words.now result }
+{
+    let (word, _) = first_word(words);
+    lone_fault(word)
+}
+
 /// What a modem does.
 fn act_of(alloc: Global, words: &[u8]) -> Result<StepAct, Refusal>
-    ensures { MatchResult result (SaysAct words.now) (λ why. why ≡ Refusal.Bad → SaysNoAct words.now) }
+    ensures says { MatchResult result (SaysAct words.now) (λ why. why ≢ Refusal.NoMemory → SaysNoAct words.now) }
+    ensures fault { IfErr result (HasFault (DeedFault words.now)) }
 {
     if let Some(words) = words.strip_prefix(b"announce ") {
         return announce_of(alloc, words);
     }
-    if let Some(word) = words.strip_prefix(b"stop ") {
-        return Ok(StepAct::Flow(connection_of(word)?, false));
+    if let Some(words) = words.strip_prefix(b"stop ") {
+        return Ok(StepAct::Flow(last_connection(words)?, false));
     }
-    if let Some(word) = words.strip_prefix(b"go ") {
-        return Ok(StepAct::Flow(connection_of(word)?, true));
+    if let Some(words) = words.strip_prefix(b"go ") {
+        return Ok(StepAct::Flow(last_connection(words)?, true));
     }
     if let Some(words) = words.strip_prefix(b"hold ") {
         return hold_of(words);
     }
-    if let Some(word) = words.strip_prefix(b"disconnect ") {
-        return Ok(StepAct::Disconnect(connection_of(word)?));
+    if let Some(words) = words.strip_prefix(b"disconnect ") {
+        return Ok(StepAct::Disconnect(last_connection(words)?));
     }
-    word_of(words).ok_or(Refusal::Bad)
+    match word_of(words) {
+        Some(act) => Ok(act),
+        None => Err(Refusal::Bad(word_fault(words))),
+    }
 }
 
 /// A line that isn't empty: a number of commands, one blank, and what the modem does once so many have come.
 fn step_of(alloc: Global, line: &[u8]) -> Result<Step, Refusal>
-    ensures { MatchResult result (SaysStep line.now) (λ why. why ≡ Refusal.Bad → SaysNoStep line.now) }
+    ensures says { MatchResult result (SaysStep line.now) (λ why. why ≢ Refusal.NoMemory → SaysNoStep line.now) }
+    ensures fault { IfErr result (HasFault (StepFault line.now)) }
 {
-    let Some((word, words)) = split_once(line, b' ') else {
-        return Err(Refusal::Bad);
-    };
+    let (word, words) = first_word(line);
     let Some(after) = number_of(word) else {
-        return Err(Refusal::Bad);
+        return Err(Refusal::Bad(LineFault::Count));
     };
-    match act_of(alloc, words) {
-        Ok(act) => Ok(Step { after, act }),
-        Err(refusal) => Err(refusal),
-    }
+    let act = act_of(alloc, words)?;
+    Ok(Step { after, act })
 }
 
-/// The steps of a modem's script: those of its lines that aren't empty, in order. Refusals: the first bad line; NoMemory.
+/// The steps of a modem's script: those of its lines that aren't empty, in order. Refusals: the first bad line, with
+/// the first part of it that isn't as it must be; NoMemory.
 pub fn read_steps(alloc: Global, script: &[u8]) -> Result<Steps, Stop>
-    ensures { MatchResult result (AreSteps (input_lines script.now)) (IsReason IsNoStep (input_lines script.now)) }
+    ensures { MatchResult result (AreSteps (input_lines script.now)) (IsReason IsNoStep StepFault (input_lines script.now)) }
 {
     let mut steps = Vec::new(alloc);
     let mut place = 0;
@@ -136,8 +167,8 @@ pub fn read_steps(alloc: Global, script: &[u8]) -> Result<Steps, Stop>
     Ok(Steps::from(steps))
 }
 
-/// The steps of the script that a reader has, to its end. Refusals: the first bad line; NoMemory; Input, where the reader fails or
-/// gives no end.
+/// The steps of the script that a reader has, to its end. Refusals: the first bad line, with the first part of it that isn't as it must
+/// be; NoMemory; Input, where the reader fails or gives no end.
 pub fn steps_from<R: Read>(alloc: Global, input: &mut R) -> Result<Steps, Stop>
     ensures { MatchResult result (GivesSteps (R.remaining input.old)) (StepsStop (R.remaining input.old)) }
 {

@@ -4,7 +4,7 @@ ghost use Rattle.modem_runs.specs.Statuses.{dialect_reason, dialect_status, dial
 ghost use Rattle.modem_runs.specs.declared.stop.Stop.TheVariants.{NoMemory};
 
 use at_text::DialectError;
-use modem_texts::{DialectRefusal, Refusal};
+use modem_texts::{DialectRefusal, LineFault, Refusal};
 use std::alloc::{AllocError, AllocFailed};
 use std::{error, fmt};
 
@@ -27,8 +27,8 @@ pub enum Stop {
     BadCallers,
     /// The octets that are under way each way aren't 1 to 4096.
     BadCut,
-    /// This line of the input is bad, counted from 1.
-    BadLine(u64),
+    /// This line of the input is bad, counted from 1, and this part of it is the first that isn't as it must be.
+    BadLine(u64, LineFault),
     /// There is no dialect.
     Dialect(DialectFault),
 }
@@ -98,7 +98,7 @@ impl Stop {
     {
         match self {
             Stop::NoMemory | Stop::Input | Stop::Output | Stop::Line | Stop::GaveUp => 1,
-            Stop::BadN1 | Stop::BadCallers | Stop::BadCut | Stop::BadLine(_) => 2,
+            Stop::BadN1 | Stop::BadCallers | Stop::BadCut | Stop::BadLine(..) => 2,
             Stop::Dialect(fault) => fault.status(),
         }
     }
@@ -116,16 +116,17 @@ impl Stop {
             Stop::BadN1 => "error: N1 is 31 to 32767",
             Stop::BadCallers => "error: callers are 1 to 8",
             Stop::BadCut => "error: the cut is 1 to 4096",
-            Stop::BadLine(_) => "bad line ",
+            Stop::BadLine(..) => "bad line ",
             Stop::Dialect(fault) => fault.words(),
         }
     }
 
-    /// Why a line of a dialect is bad, else nothing.
+    /// Why a line is bad, else nothing.
     pub fn reason(self) -> &'static str
         ensures { result.now ≡ stop_reason self }
     {
         match self {
+            Stop::BadLine(_, fault) => fault.reason(),
             Stop::Dialect(fault) => fault.reason(),
             _ => "",
         }
@@ -136,7 +137,7 @@ impl Stop {
         ensures { result ≡ stop_at place refusal }
     {
         match refusal {
-            Refusal::Bad => Stop::BadLine(place),
+            Refusal::Bad(fault) => Stop::BadLine(place, fault),
             Refusal::NoMemory => Stop::NoMemory,
         }
     }
@@ -152,7 +153,7 @@ impl fmt::Display for Stop {
         let words = self.words();
         let reason = self.reason();
         match self {
-            Stop::BadLine(place)
+            Stop::BadLine(place, _)
             | Stop::Dialect(DialectFault::NoRule(place) | DialectFault::Refused(place, _)) => {
                 write!(f, "{words}{place}{reason}")
             }

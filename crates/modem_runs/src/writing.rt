@@ -66,7 +66,7 @@ fn number_of(stop: Stop, digits: &mut Buffer) -> &str
     ensures { result.now ≡ stop_number stop }
 {
     match stop {
-        Stop::BadLine(place)
+        Stop::BadLine(place, _)
         | Stop::Dialect(DialectFault::NoRule(place) | DialectFault::Refused(place, _)) => {
             digits.format(place)
         }

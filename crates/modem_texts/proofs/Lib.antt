@@ -1,4 +1,5 @@
 pub mod CutTexts
+pub mod FirstWords
 pub mod CommandWords
 pub mod RuleLines
 pub mod DialectLines

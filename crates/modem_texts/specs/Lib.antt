@@ -1,5 +1,6 @@
 pub mod Input
 pub mod Words
+pub mod LineFaults
 pub mod Texts
 pub mod DialectNames
 pub mod DialectTexts

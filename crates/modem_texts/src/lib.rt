@@ -2,13 +2,15 @@
 #![tactic(auto)]
 
 mod dialects;
+mod line_fault;
 mod lines;
 mod refusal;
 mod told;
 mod words;
 
 pub use dialects::{DialectRefusal, dialect_named, read_dialect};
-pub use lines::{ended_line, next_line, split_last, split_once};
+pub use line_fault::LineFault;
+pub use lines::{ended_line, first_word, next_line, split_last, split_once};
 pub use refusal::Refusal;
 pub use told::{answer_word, push_heard, push_heard_by, push_line, push_lines, push_told};
-pub use words::{command_of, connection_of};
+pub use words::{command_of, connection_of, last_connection};

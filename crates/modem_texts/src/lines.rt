@@ -2,6 +2,7 @@
 ghost use Rattle.std.specs.Prelude.{◌≡◌, ℕ, ◌<◌, List, [], ◌∷◌, ◌++◌, length, IfSome, MatchOption};
 ghost use Rattle.std.specs.Str.Iter.{LacksByte};
 ghost use Rattle.modem_texts.specs.Input.{input_lines};
+ghost use Rattle.modem_texts.specs.LineFaults.{behind_word, first_word};
 
 use memchr::{memchr, memrchr};
 
@@ -23,6 +24,14 @@ pub fn split_last(text: &[u8], octet: u8) -> Option<(&[u8], &[u8])>
 {
     let last = memrchr(octet, text)?;
     Some((&text[..last], &text[last + 1..]))
+}
+
+/// The first word of a text, and what stands behind the blank after it: nothing where no blank stands in the text.
+pub fn first_word(text: &[u8]) -> (&[u8], &[u8])
+    ensures word { result.0.now ≡ first_word text.now }
+    ensures behind { result.1.now ≡ behind_word text.now }
+{
+    split_once(text, b' ').unwrap_or((text, &[]))
 }
 
 /// The first line of a text that may go on, without its end, and the text behind it: none where no LF stands in the text.

@@ -1,9 +1,12 @@
 //! The words of a line: connections, and commands on them.
-ghost use Rattle.std.specs.Prelude.{◌≡◌, ◌≢◌, ℕ, ◌<◌, ◌≤◌, MatchOption, MatchResult};
+ghost use Rattle.std.specs.Prelude.{◌≡◌, ◌≢◌, ℕ, ◌<◌, ◌≤◌, IfErr, MatchOption, MatchResult};
+ghost use Rattle.modem_texts.specs.LineFaults.{CommandFault, ConnectionFault, HasFault};
 ghost use Rattle.modem_texts.specs.Words.{IsCommand, IsNoCommand, number_text};
+ghost use Rattle.modem_texts.specs.declared.line_fault.LineFault.TheVariants as Fault;
 ghost use Rattle.modem_texts.specs.declared.refusal.Refusal.TheVariants as Refusal;
 
-use crate::lines::split_once;
+use crate::line_fault::LineFault;
+use crate::lines::first_word;
 use crate::refusal::Refusal;
 use at_text::CommandLine;
 use mux_frame::Dlci;
@@ -28,32 +31,46 @@ fn dlci_of(word: &[u8]) -> Option<Dlci>
 pub fn connection_of(word: &[u8]) -> Result<Dlci, Refusal>
     ensures { MatchResult result
         (λ dlci. word.now ≡ number_text dlci.number)
-        (λ why. (why ≡ Refusal.Bad) × ((n : ℕ) → n < 62 → word.now ≢ number_text n)) }
+        (λ why. (why ≡ Refusal.Bad Fault.Connection) × ((n : ℕ) → n < 62 → word.now ≢ number_text n)) }
 {
-    dlci_of(word).ok_or(Refusal::Bad)
+    dlci_of(word).ok_or(Refusal::Bad(LineFault::Connection))
+}
+
+/// A connection that the words end with.
+pub fn last_connection(words: &[u8]) -> Result<Dlci, Refusal>
+    ensures says { MatchResult result
+        (λ dlci. words.now ≡ number_text dlci.number)
+        (λ _. (n : ℕ) → n < 62 → words.now ≢ number_text n) }
+    ensures fault { IfErr result (HasFault (ConnectionFault words.now)) }
+{
+    let (word, _) = first_word(words);
+    let dlci = connection_of(word)?;
+    if word.len() < words.len() {
+        return Err(Refusal::Bad(LineFault::End));
+    }
+    Ok(dlci)
 }
 
 /// The number of a connection that carries commands: 1 to 61.
 fn carrier_of(word: &[u8]) -> Result<Dlci, Refusal>
     ensures { MatchResult result
         (λ dlci. (1 ≤ dlci.number) × (word.now ≡ number_text dlci.number))
-        (λ why. (why ≡ Refusal.Bad) × ((n : ℕ) → 1 ≤ n → n < 62 → word.now ≢ number_text n)) }
+        (λ why. (why ≡ Refusal.Bad Fault.Carrier) × ((n : ℕ) → 1 ≤ n → n < 62 → word.now ≢ number_text n)) }
 {
-    let dlci = connection_of(word)?;
-    if dlci.number() == 0 {
-        return Err(Refusal::Bad);
+    match dlci_of(word) {
+        Some(dlci) if dlci.number() > 0 => Ok(dlci),
+        _ => Err(Refusal::Bad(LineFault::Carrier)),
     }
-    Ok(dlci)
 }
 
-/// A connection that carries commands, one blank and a command line. Refusals: Bad, where the words are no such thing; NoMemory.
+/// A connection that carries commands, one blank and a command line. Refusals: Bad, where the words are no such thing, with the
+/// first part that isn't as it must be; NoMemory.
 pub fn command_of(alloc: Global, words: &[u8]) -> Result<(Dlci, CommandLine), Refusal>
-    ensures { MatchResult result (λ r. IsCommand words.now r.0.number r.1)
-        (λ why. why ≡ Refusal.Bad → IsNoCommand words.now) }
+    ensures says { MatchResult result (λ r. IsCommand words.now r.0.number r.1)
+        (λ why. why ≢ Refusal.NoMemory → IsNoCommand words.now) }
+    ensures fault { IfErr result (HasFault (CommandFault words.now)) }
 {
-    let Some((word, text)) = split_once(words, b' ') else {
-        return Err(Refusal::Bad);
-    };
+    let (word, text) = first_word(words);
     let dlci = carrier_of(word)?;
     let line = CommandLine::new(alloc, text)?;
     Ok((dlci, line))

@@ -1,6 +1,6 @@
 -- Octets written as pairs of digits, read word by word and line by line.
 use Rattle.std.specs.Prelude.{◌≡◌, ◌≢◌, ℕ, ◌+◌, ◌*◌, ◌%◌, ◌==◌, ◌<◌, Bool, true, false, List, [], ◌∷◌, ◌++◌, length, Option, None, Some, Result, Ok, Err, refl, if◌then◌else◌}
-use Rattle.std.proofs.Common.{sym, ap, arith, ◌∙◌}
+use Rattle.std.proofs.Common.{sym, ap, arith, inl, ◌∙◌}
 use Rattle.std.proofs.lemmas.Bool.{ne_eqb, eqb-true}
 use Rattle.std.proofs.lemmas.List.{append_assoc, append-nil}
 use denote.Ref.{Bor}
@@ -12,7 +12,9 @@ use Rattle.hex.specs.declared.error.FromHexError.{FromHexError}
 use Rattle.hex.specs.declared.error.FromHexError.TheVariants.{OddLength}
 use Rattle.modem_runs.specs.Dump.{IsNoDump, dump_octets, joined, line_octets, octet_of}
 use Rattle.modem_texts.specs.Input.{input_lines}
+use Rattle.modem_texts.specs.declared.line_fault.LineFault.{LineFault}
 use Rattle.modem_texts.proofs.CutTexts.{IsCutAt, lacks_head, lacks_tail}
+use Rattle.modem_runs.specs.LineFaults.{DumpFault}
 use Rattle.modem_runs.proofs.inputs.ReadLines.{IsRead, read_more}
 
 pub joined_nil : (o : Option (List ℕ)) → joined (Some []) o ≡ o
@@ -121,9 +123,22 @@ word_more octets more line word rest later e d n =
     ∙ sym (joined_assoc (Some octets) (Some more) (line_octets rest))
     ∙ ap (λ (l : List ℕ). joined (Some l) (line_octets rest)) (sym n)
 
+none_joined : (x : List ℕ) (o : Option (List ℕ)) → joined (Some x) o ≡ None → o ≡ None
+none_joined x None e = refl
+none_joined x (Some y) e = absurd (some_isnt_none (x ++ y) e)
+
+-- a word is read that isn't pairs
+pub no_pairs : (octets first left line word rest : List ℕ) → joined (Some octets) (line_octets left) ≡ joined (Some first) (line_octets line) → line_octets left ≡ joined (result_ok (decode_of word)) (line_octets rest) → result_ok (decode_of word) ≡ None → IsNoDump line
+no_pairs octets first left line word rest same cut none =
+    none_joined first (line_octets line)
+    (sym same ∙ ap (joined (Some octets)) (cut ∙ ap (λ (o : Option (List ℕ)). joined o (line_octets rest)) none))
+
+pub pairs_fault : (line : List ℕ) → IsNoDump line → DumpFault line LineFault.Pairs
+pairs_fault line none = inl (λ h. some_isnt_none h.octets (sym h.are ∙ none), refl)
+
 -- so many lines are read, and their octets with them
 pub record AreOctets (dump left octets : List ℕ) (place : ℕ) : Type 0 where
-  pub read : IsRead IsNoDump dump left place
+  pub read : IsRead IsNoDump DumpFault dump left place
   pub joins : joined (Some octets) (dump_octets (input_lines left)) ≡ dump_octets (input_lines dump)
 
 stands_for : (octets later : List ℕ) (o : Option (List ℕ)) → Some later ≡ joined (Some octets) o → o ≡ None → ⊥
@@ -132,7 +147,7 @@ stands_for octets later (Some x) e n = some_isnt_none x n
 
 pub line_more : (dump left line rest octets later : List ℕ) (place : ℕ) → AreOctets dump left octets place → input_lines left ≡ line ∷ input_lines rest → length rest < length left → Some later ≡ joined (Some octets) (line_octets line) → AreOctets dump rest later (place + 1)
 line_more dump left line rest octets later place h e l n = record {
-  read = read_more IsNoDump dump left line rest place h.read e l (stands_for octets later (line_octets line) n);
+  read = read_more IsNoDump DumpFault dump left line rest place h.read e l (stands_for octets later (line_octets line) n);
   joins =
       ap (λ (o : Option (List ℕ)). joined o (dump_octets (input_lines rest))) n
       ∙ joined_assoc (Some octets) (line_octets line) (dump_octets (input_lines rest))

@@ -1,13 +1,16 @@
 -- What a line of a script says.
-use Rattle.std.specs.Prelude.{◌≡◌, ◌≢◌, ℕ, ◌+◌, ◌/◌, ◌%◌, ◌<◌, nat_lt, Bool, true, false, List, [], ◌∷◌, ◌++◌, drop, codes, None, refl, if◌then◌else◌}
-use Rattle.std.proofs.Common.{sym, ap, arith, ◌∙◌}
-use Rattle.std.specs.Str.Iter.{LacksByte}
+use Rattle.std.specs.Prelude.{◌≡◌, ◌≢◌, ℕ, ◌+◌, ◌/◌, ◌%◌, ◌<◌, nat_lt, List, [], ◌∷◌, ◌++◌, drop, codes, None, refl}
+use Rattle.std.proofs.Common.{sym, ap, arith, inl, inr, subst, ◌∙◌}
 use Rattle.at_text.specs.Commands.{refusal_of}
 use Rattle.modem_desk.specs.declared.request.Ask.TheVariants as ask
 use Rattle.modem_runs.specs.declared.script.Order.TheVariants as order
 use Rattle.modem_texts.specs.Words.{number_text}
-use Rattle.modem_runs.specs.Script.{SaysNothing}
-use Rattle.modem_texts.proofs.CommandWords.{lacks_middle, lacks_number, same_front}
+use Rattle.modem_runs.specs.Script.{ArePairsOf, SaysNothing}
+use Rattle.modem_texts.specs.LineFaults.{behind_word, first_word}
+use Rattle.modem_texts.specs.declared.line_fault.LineFault.{LineFault}
+use Rattle.modem_runs.specs.LineFaults.{TextFault}
+use Rattle.modem_texts.proofs.CommandWords.{is_connection, lacks_number}
+use Rattle.modem_texts.proofs.FirstWords.{behind_front, first_front}
 
 abbrev head_of : List ℕ → ℕ
 head_of [] = 0
@@ -30,12 +33,25 @@ cmd_nothing words h (order.Octets x) s = absurd (let e = ap head_of s.1 in omega
 cmd_nothing words h order.Tick s = absurd (let e = ap head_of s in omega (arith, e))
 cmd_nothing words h order.Lost s = absurd (let e = ap head_of s in omega (arith, e))
 
--- no blank
-pub without_blank : (words : List ℕ) → LacksByte 32 words → AreNoCommand words
-without_blank words h n text s r e = lacks_middle 32 (number_text n) text (rw (sym e) h)
+-- the first word is no connection
+pub no_connection : (words : List ℕ) → ((n : ℕ) → n < 62 → first_word words ≢ number_text n) → AreNoCommand words
+no_connection words unknown n text s r e = unknown n s (ap first_word e ∙ first_front (number_text n) text (lacks_number (nat_lt n 10) n))
 
--- the word before the blank is no connection, or what follows it is no command line
-pub without_command : (words word text : List ℕ) → LacksByte 32 word → words ≡ word ++ 32 ∷ text → ((n : ℕ) → n < 62 → word ≡ number_text n → refusal_of text ≡ None → ⊥) → AreNoCommand words
-without_command words word text h w apart n t s r e =
-    let same = same_front 32 word (number_text n) text t h (lacks_number (nat_lt n 10) n) (sym w ∙ e) in
-    apart n s same.0 (rw same.1 r)
+-- what follows it is no command line
+pub no_text : (words : List ℕ) → refusal_of (behind_word words) ≢ None → AreNoCommand words
+no_text words refused n text s r e =
+    refused (ap (λ (l : List ℕ). refusal_of (behind_word l)) e ∙ ap refusal_of (behind_front (number_text n) text (lacks_number (nat_lt n 10) n)) ∙ r)
+
+pub text_fault : (words : List ℕ) (d : ℕ) → first_word words ≡ number_text d → d < 62 → refusal_of (behind_word words) ≢ None → TextFault words LineFault.Command
+text_fault words d e known refused = inr (is_connection words d e known, inl (refused, refl))
+
+-- words after `in` that are no octets
+pub in_nothing : (word : List ℕ) → ((x : List ℕ) → ArePairsOf x word → ⊥) → SaysNothing (codes "in " ++ word)
+in_nothing word h (order.Ask (ask.OpenChannel d)) s = absurd (let e = ap head_of s in omega (arith, e))
+in_nothing word h (order.Ask (ask.CloseChannel d)) s = absurd (let e = ap head_of s in omega (arith, e))
+in_nothing word h (order.Ask (ask.Command d text)) s = absurd (let e = ap head_of s.1 in omega (arith, e))
+in_nothing word h (order.Ask (ask.Probe x)) s = absurd (let e = ap head_of s.1 in omega (arith, e))
+in_nothing word h (order.Ask ask.Stop) s = absurd (let e = ap head_of s in omega (arith, e))
+in_nothing word h (order.Octets x) s = h x (subst (ArePairsOf x) (sym (ap (drop 3) s.1)) s.2)
+in_nothing word h order.Tick s = absurd (let e = ap head_of s in omega (arith, e))
+in_nothing word h order.Lost s = absurd (let e = ap head_of s in omega (arith, e))

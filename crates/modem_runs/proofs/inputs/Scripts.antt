@@ -9,11 +9,12 @@ use Rattle.modem_driver.specs.declared.event.Event.TheVariants as event
 use Rattle.modem_runs.specs.declared.script.Order.TheVariants as order
 use Rattle.modem_texts.specs.Input.{input_lines}
 use Rattle.modem_runs.specs.Script.{IsNoOrder, IsScript, Says}
+use Rattle.modem_runs.specs.LineFaults.{EventFault}
 use Rattle.modem_runs.proofs.inputs.ReadLines.{IsRead, read_more}
 
 -- so many lines are read, and the events of so many requests with them
 pub record AreEvents (script left : List ℕ) (events : List Event) (asked place : ℕ) : Type 0 where
-  pub read : IsRead IsNoOrder script left place
+  pub read : IsRead IsNoOrder EventFault script left place
   pub said : (more : List Event) → IsScript (asked + 1) (input_lines left) more → IsScript 1 (input_lines script) (events ++ more)
   pub few : asked ≤ place
 
@@ -35,7 +36,7 @@ some_line line e n = false≢true (e ∙ ap (λ (l : List ℕ). length l == 0) n
 -- an empty line
 pub skipped : (script left line rest : List ℕ) (events : List Event) (asked place : ℕ) → AreEvents script left events asked place → input_lines left ≡ line ∷ input_lines rest → length rest < length left → line ≡ [] → AreEvents script rest events asked (place + 1)
 skipped script left line rest events asked place h e l n = record {
-  read = read_more IsNoOrder script left line rest place h.read e l (λ b. b.0 n);
+  read = read_more IsNoOrder EventFault script left line rest place h.read e l (λ b. b.0 n);
   said = λ more i. h.said more (rw (e, n) i);
   few = let f = h.few in omega (arith, f);
 }
@@ -59,7 +60,7 @@ says_lost (c ∷ line) lines events n f s h = (s, h)
 -- a line with a request
 pub asked_next : (script left line rest : List ℕ) (events later : List Event) (asked place : ℕ) (q : Request) → AreEvents script left events asked place → input_lines left ≡ line ∷ input_lines rest → length rest < length left → line ≢ [] → Says line (order.Ask q.ask) → q.caller ≡ 0 → q.number ≡ asked + 1 → later ≡ events ++ event.Ask q ∷ [] → AreEvents script rest later (asked + 1) (place + 1)
 asked_next script left line rest events later asked place q h e l f s c m n = record {
-  read = read_more IsNoOrder script left line rest place h.read e l (λ b. b.1 (order.Ask q.ask) s);
+  read = read_more IsNoOrder EventFault script left line rest place h.read e l (λ b. b.1 (order.Ask q.ask) s);
   said = λ more i.
       rw (n, append_assoc events (event.Ask q ∷ []) more)
       (h.said (event.Ask q ∷ more) (rw e (says_asked line (input_lines rest) q more (asked + 1) f s c m i)));
@@ -69,7 +70,7 @@ asked_next script left line rest events later asked place q h e l f s c m n = re
 -- a line with octets
 pub heard_next : (script left line rest : List ℕ) (events later : List Event) (asked place : ℕ) (x : List ℕ) → AreEvents script left events asked place → input_lines left ≡ line ∷ input_lines rest → length rest < length left → line ≢ [] → Says line (order.Octets x) → later ≡ events ++ event.Octets x ∷ [] → AreEvents script rest later asked (place + 1)
 heard_next script left line rest events later asked place x h e l f s n = record {
-  read = read_more IsNoOrder script left line rest place h.read e l (λ b. b.1 (order.Octets x) s);
+  read = read_more IsNoOrder EventFault script left line rest place h.read e l (λ b. b.1 (order.Octets x) s);
   said = λ more i.
       rw (n, append_assoc events (event.Octets x ∷ []) more)
       (h.said (event.Octets x ∷ more) (rw e (says_octets line (input_lines rest) x more (asked + 1) f s i)));
@@ -79,7 +80,7 @@ heard_next script left line rest events later asked place x h e l f s n = record
 -- a tick
 pub ticked_next : (script left line rest : List ℕ) (events later : List Event) (asked place : ℕ) → AreEvents script left events asked place → input_lines left ≡ line ∷ input_lines rest → length rest < length left → line ≢ [] → Says line order.Tick → later ≡ events ++ event.Tick ∷ [] → AreEvents script rest later asked (place + 1)
 ticked_next script left line rest events later asked place h e l f s n = record {
-  read = read_more IsNoOrder script left line rest place h.read e l (λ b. b.1 order.Tick s);
+  read = read_more IsNoOrder EventFault script left line rest place h.read e l (λ b. b.1 order.Tick s);
   said = λ more i.
       rw (n, append_assoc events (event.Tick ∷ []) more)
       (h.said (event.Tick ∷ more) (rw e (says_tick line (input_lines rest) more (asked + 1) f s i)));
@@ -89,7 +90,7 @@ ticked_next script left line rest events later asked place h e l f s n = record 
 -- a loss
 pub lost_next : (script left line rest : List ℕ) (events later : List Event) (asked place : ℕ) → AreEvents script left events asked place → input_lines left ≡ line ∷ input_lines rest → length rest < length left → line ≢ [] → Says line order.Lost → later ≡ events ++ event.Lost ∷ [] → AreEvents script rest later asked (place + 1)
 lost_next script left line rest events later asked place h e l f s n = record {
-  read = read_more IsNoOrder script left line rest place h.read e l (λ b. b.1 order.Lost s);
+  read = read_more IsNoOrder EventFault script left line rest place h.read e l (λ b. b.1 order.Lost s);
   said = λ more i.
       rw (n, append_assoc events (event.Lost ∷ []) more)
       (h.said (event.Lost ∷ more) (rw e (says_lost line (input_lines rest) more (asked + 1) f s i)));

@@ -6,6 +6,7 @@ use Rattle.modem_runs.specs.Printed.{IsPrinted}
 use Rattle.modem_texts.specs.Input.{input_lines}
 use Rattle.modem_runs.specs.Input.{HasBad, IsFirstBad}
 use Rattle.modem_runs.specs.Statuses.{status_of}
+use Rattle.modem_texts.specs.declared.line_fault.LineFault.{LineFault}
 use Rattle.modem_runs.specs.declared.stop.DialectFault.{DialectFault}
 use Rattle.modem_runs.specs.declared.stop.Stop.{Stop}
 
@@ -14,28 +15,28 @@ pub at_known : (P : List ℕ → Type 0) (known : Option (List ℕ)) (octets rea
 at_known P None octets read h e p = tt
 at_known P (Some all) octets read h e p = subst P (e ∙ h) p
 
-has_bad : (IsBad : List ℕ → Type 0) (known : Option (List ℕ)) (place : ℕ) → IfSome known (λ text. IsFirstBad IsBad (input_lines text) place) → IfSome known (λ text. HasBad IsBad (input_lines text))
-has_bad IsBad None place h = tt
-has_bad IsBad (Some text) place h = (place, h)
+has_bad : (IsBad : List ℕ → Type 0) (Has : List ℕ → LineFault → Type 0) (known : Option (List ℕ)) (place : ℕ) (why : LineFault) → IfSome known (λ text. IsFirstBad IsBad Has (input_lines text) place why) → IfSome known (λ text. HasBad IsBad Has (input_lines text))
+has_bad IsBad Has None place why h = tt
+has_bad IsBad Has (Some text) place why h = record { place = place; why = why; first = h }
 
 -- status 2 is that of a bad line alone
-pub refused_for : {T : Type 0} (built : Result T Stop) (status : ℕ) (known : Option (List ℕ)) (IsBad : List ℕ → Type 0)
+pub refused_for : {T : Type 0} (built : Result T Stop) (status : ℕ) (known : Option (List ℕ)) (IsBad : List ℕ → Type 0) (Has : List ℕ → LineFault → Type 0)
     → MatchResult built (λ _. status ≤ 1) (λ stop. status ≡ status_of stop)
-    → ((place : ℕ) → IsErrOf built (Stop.BadLine place) → IfSome known (λ text. IsFirstBad IsBad (input_lines text) place))
+    → ((place : ℕ) (why : LineFault) → IsErrOf built (Stop.BadLine place why) → IfSome known (λ text. IsFirstBad IsBad Has (input_lines text) place why))
     → (built ≢ Err Stop.BadN1) × (built ≢ Err Stop.BadCallers) × (built ≢ Err Stop.BadCut) × ((fault : DialectFault) → built ≢ Err (Stop.Dialect fault))
     → status ≡ 2
-    → IfSome known (λ text. HasBad IsBad (input_lines text))
-refused_for (Ok x) status known IsBad h line settings e = absurd (omega (arith, h, e))
-refused_for (Err Stop.NoMemory) status known IsBad h line settings e = absurd (omega (arith, h, e))
-refused_for (Err Stop.Input) status known IsBad h line settings e = absurd (omega (arith, h, e))
-refused_for (Err Stop.Output) status known IsBad h line settings e = absurd (omega (arith, h, e))
-refused_for (Err Stop.Line) status known IsBad h line settings e = absurd (omega (arith, h, e))
-refused_for (Err Stop.GaveUp) status known IsBad h line settings e = absurd (omega (arith, h, e))
-refused_for (Err Stop.BadN1) status known IsBad h line settings e = absurd (settings.0 refl)
-refused_for (Err Stop.BadCallers) status known IsBad h line settings e = absurd (settings.1 refl)
-refused_for (Err Stop.BadCut) status known IsBad h line settings e = absurd (settings.2 refl)
-refused_for (Err (Stop.Dialect fault)) status known IsBad h line settings e = absurd (settings.3 fault refl)
-refused_for (Err (Stop.BadLine place)) status known IsBad h line settings e = has_bad IsBad known place (line place refl)
+    → IfSome known (λ text. HasBad IsBad Has (input_lines text))
+refused_for (Ok x) status known IsBad Has h line settings e = absurd (omega (arith, h, e))
+refused_for (Err Stop.NoMemory) status known IsBad Has h line settings e = absurd (omega (arith, h, e))
+refused_for (Err Stop.Input) status known IsBad Has h line settings e = absurd (omega (arith, h, e))
+refused_for (Err Stop.Output) status known IsBad Has h line settings e = absurd (omega (arith, h, e))
+refused_for (Err Stop.Line) status known IsBad Has h line settings e = absurd (omega (arith, h, e))
+refused_for (Err Stop.GaveUp) status known IsBad Has h line settings e = absurd (omega (arith, h, e))
+refused_for (Err Stop.BadN1) status known IsBad Has h line settings e = absurd (settings.0 refl)
+refused_for (Err Stop.BadCallers) status known IsBad Has h line settings e = absurd (settings.1 refl)
+refused_for (Err Stop.BadCut) status known IsBad Has h line settings e = absurd (settings.2 refl)
+refused_for (Err (Stop.Dialect fault)) status known IsBad Has h line settings e = absurd (settings.3 fault refl)
+refused_for (Err (Stop.BadLine place why)) status known IsBad Has h line settings e = has_bad IsBad Has known place why (line place why refl)
 
 -- status 0 is that of an output that is written whole
 pub printed_for : {T : Type 0} (bytes : T → List ℕ) (built : Result T Stop) (status : ℕ) (Makes : List ℕ → List ℕ → Type 0) (known before after : Option (List ℕ))
@@ -56,4 +57,4 @@ printed_for bytes (Err Stop.BadN1) status Makes known before after h w m e = abs
 printed_for bytes (Err (Stop.Dialect DialectFault.Unread)) status Makes known before after h w m e = absurd (omega (arith, h, e))
 printed_for bytes (Err (Stop.Dialect (DialectFault.NoRule place))) status Makes known before after h w m e = absurd (omega (arith, h, e))
 printed_for bytes (Err (Stop.Dialect (DialectFault.Refused place why))) status Makes known before after h w m e = absurd (omega (arith, h, e))
-printed_for bytes (Err (Stop.BadLine place)) status Makes known before after h w m e = absurd (omega (arith, h, e))
+printed_for bytes (Err (Stop.BadLine place why)) status Makes known before after h w m e = absurd (omega (arith, h, e))

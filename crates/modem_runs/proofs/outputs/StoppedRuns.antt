@@ -6,29 +6,31 @@ use Rattle.modem_texts.specs.Input.{input_lines}
 use Rattle.modem_runs.specs.Input.{IsFirstBad}
 use Rattle.modem_runs.specs.Statuses.{status_of, stop_line}
 use Rattle.modem_runs.specs.Stopping.{HasGivenUp, HasStopped, IsBegun, IsBenchStop, IsRunStop}
+use Rattle.modem_runs.specs.LineFaults.{SubmissionFault}
+use Rattle.modem_texts.specs.declared.line_fault.LineFault.{LineFault}
 use Rattle.modem_runs.specs.declared.stop.DialectFault.{DialectFault}
 use Rattle.modem_runs.specs.declared.stop.Stop.{Stop}
 
 -- the causes for which nothing was built
-pub run_cause : {T : Type 0} (built : Result T Stop) (n1 : ℕ) (IsBad : List ℕ → Type 0) (known : Option (List ℕ))
-    → ((place : ℕ) → IsErrOf built (Stop.BadLine place) → IfSome known (λ text. IsFirstBad IsBad (input_lines text) place))
+pub run_cause : {T : Type 0} (built : Result T Stop) (n1 : ℕ) (IsBad : List ℕ → Type 0) (Has : List ℕ → LineFault → Type 0) (known : Option (List ℕ))
+    → ((place : ℕ) (why : LineFault) → IsErrOf built (Stop.BadLine place why) → IfSome known (λ text. IsFirstBad IsBad Has (input_lines text) place why))
     → (built ≢ Err Stop.BadN1) × (built ≢ Err Stop.BadCallers) × (built ≢ Err Stop.BadCut) × ((fault : DialectFault) → built ≢ Err (Stop.Dialect fault))
     → (built ≢ Err Stop.Line) × (built ≢ Err Stop.GaveUp)
-    → IfErr built (IsRunStop n1 IsBad known)
-run_cause (Ok x) n1 IsBad known line others no_line = tt
-run_cause (Err Stop.NoMemory) n1 IsBad known line others no_line = tt
-run_cause (Err Stop.Input) n1 IsBad known line others no_line = tt
-run_cause (Err Stop.Output) n1 IsBad known line others no_line = tt
-run_cause (Err Stop.Line) n1 IsBad known line others no_line = no_line.0 refl
-run_cause (Err Stop.GaveUp) n1 IsBad known line others no_line = no_line.1 refl
-run_cause (Err Stop.BadN1) n1 IsBad known line others no_line = absurd (others.0 refl)
-run_cause (Err Stop.BadCallers) n1 IsBad known line others no_line = others.1 refl
-run_cause (Err Stop.BadCut) n1 IsBad known line others no_line = others.2 refl
-run_cause (Err (Stop.Dialect fault)) n1 IsBad known line others no_line = others.3 fault refl
-run_cause (Err (Stop.BadLine place)) n1 IsBad known line others no_line = line place refl
+    → IfErr built (IsRunStop n1 IsBad Has known)
+run_cause (Ok x) n1 IsBad Has known line others no_line = tt
+run_cause (Err Stop.NoMemory) n1 IsBad Has known line others no_line = tt
+run_cause (Err Stop.Input) n1 IsBad Has known line others no_line = tt
+run_cause (Err Stop.Output) n1 IsBad Has known line others no_line = tt
+run_cause (Err Stop.Line) n1 IsBad Has known line others no_line = no_line.0 refl
+run_cause (Err Stop.GaveUp) n1 IsBad Has known line others no_line = no_line.1 refl
+run_cause (Err Stop.BadN1) n1 IsBad Has known line others no_line = absurd (others.0 refl)
+run_cause (Err Stop.BadCallers) n1 IsBad Has known line others no_line = others.1 refl
+run_cause (Err Stop.BadCut) n1 IsBad Has known line others no_line = others.2 refl
+run_cause (Err (Stop.Dialect fault)) n1 IsBad Has known line others no_line = others.3 fault refl
+run_cause (Err (Stop.BadLine place why)) n1 IsBad Has known line others no_line = line place why refl
 
 pub bench_cause : {T : Type 0} (built : Result T Stop) (callers cut : ℕ) (known : Option (List ℕ))
-    → ((place : ℕ) → IsErrOf built (Stop.BadLine place) → IfSome known (λ text. IsFirstBad (IsNoSubmission callers) (input_lines text) place))
+    → ((place : ℕ) (why : LineFault) → IsErrOf built (Stop.BadLine place why) → IfSome known (λ text. IsFirstBad (IsNoSubmission callers) (SubmissionFault callers) (input_lines text) place why))
     → (built ≢ Err Stop.BadN1) × (built ≢ Err Stop.BadCallers) × (built ≢ Err Stop.BadCut) × ((fault : DialectFault) → built ≢ Err (Stop.Dialect fault))
     → IfErr built (IsBenchStop callers cut known)
 bench_cause (Ok x) callers cut known line others = tt
@@ -41,7 +43,7 @@ bench_cause (Err Stop.BadN1) callers cut known line others = others.0 refl
 bench_cause (Err Stop.BadCallers) callers cut known line others = absurd (others.1 refl)
 bench_cause (Err Stop.BadCut) callers cut known line others = absurd (others.2 refl)
 bench_cause (Err (Stop.Dialect fault)) callers cut known line others = others.3 fault refl
-bench_cause (Err (Stop.BadLine place)) callers cut known line others = line place refl
+bench_cause (Err (Stop.BadLine place why)) callers cut known line others = line place why refl
 
 -- a run that gave nothing, or whose output wasn't taken whole
 pub stopped_for : {T O : Type 0} (bytes : T → List ℕ) (built : Result T Stop) (Makes : List ℕ → List ℕ → Type 0) (IsCause : Stop → Type 0) (known : Option (List ℕ))

@@ -1,14 +1,17 @@
 //! The input of a bench: a line for each command.
-ghost use Rattle.std.specs.Prelude.{◌≡◌, ◌≢◌, ℕ, ◌<◌, ◌≤◌, MatchResult};
+ghost use Rattle.std.specs.Prelude.{◌≡◌, ◌≢◌, ℕ, ◌<◌, ◌≤◌, IfErr, MatchResult};
+ghost use Rattle.modem_texts.specs.LineFaults.{HasFault};
 ghost use Rattle.modem_texts.specs.Words.{number_text};
 ghost use Rattle.modem_runs.specs.Bench.{AreSubmitted, IsNoSubmission, Submits, SubmitsNothing};
 ghost use Rattle.modem_texts.specs.Input.{input_lines};
 ghost use Rattle.modem_runs.specs.Input.{IsReason};
+ghost use Rattle.modem_runs.specs.LineFaults.{SubmissionFault};
+ghost use Rattle.modem_texts.specs.declared.line_fault.LineFault.TheVariants as Fault;
 ghost use Rattle.modem_texts.specs.declared.refusal.Refusal.TheVariants as Refusal;
 
 use crate::stop::Stop;
 use modem_bench::Submission;
-use modem_texts::{Refusal, command_of, next_line, split_once};
+use modem_texts::{LineFault, Refusal, command_of, first_word, next_line};
 use std::alloc::Global;
 
 /// The number of a caller in decimal: below the number of callers.
@@ -16,33 +19,32 @@ fn caller_of(callers: u8, word: &[u8]) -> Result<u8, Refusal>
     requires { callers ≤ 8 }
     ensures { MatchResult result
         (λ caller. (caller < callers) × (word.now ≡ number_text caller))
-        (λ why. (why ≡ Refusal.Bad) × ((n : ℕ) → n < callers → word.now ≢ number_text n)) }
+        (λ why. (why ≡ Refusal.Bad Fault.Caller) × ((n : ℕ) → n < callers → word.now ≢ number_text n)) }
 {
     match word {
         [digit] if digit.is_ascii_digit() && *digit - b'0' < callers => Ok(*digit - b'0'),
-        _ => Err(Refusal::Bad),
+        _ => Err(Refusal::Bad(LineFault::Caller)),
     }
 }
 
 /// A line that isn't empty.
 fn submission_of(alloc: Global, callers: u8, line: &[u8]) -> Result<Submission, Refusal>
     requires { callers ≤ 8 }
-    ensures { MatchResult result (Submits callers line.now)
-        (λ why. why ≡ Refusal.Bad → SubmitsNothing callers line.now) }
+    ensures says { MatchResult result (Submits callers line.now)
+        (λ why. why ≢ Refusal.NoMemory → SubmitsNothing callers line.now) }
+    ensures fault { IfErr result (HasFault (SubmissionFault callers line.now)) }
 {
-    let Some((word, words)) = split_once(line, b' ') else {
-        return Err(Refusal::Bad);
-    };
+    let (word, words) = first_word(line);
     let caller = caller_of(callers, word)?;
     let (dlci, line) = command_of(alloc, words)?;
     Ok(Submission { caller, dlci, line })
 }
 
-/// What the lines of an input submit. Refusals: the first bad line; NoMemory.
+/// What the lines of an input submit. Refusals: the first bad line, with the first part of it that isn't as it must be; NoMemory.
 pub fn read_submissions(alloc: Global, callers: u8, input: &[u8]) -> Result<Vec<Submission>, Stop>
     requires { callers ≤ 8 }
     ensures { MatchResult result (λ all. AreSubmitted callers (input_lines input.now) all.items)
-        (IsReason (IsNoSubmission callers) (input_lines input.now)) }
+        (IsReason (IsNoSubmission callers) (SubmissionFault callers) (input_lines input.now)) }
 {
     let mut all = Vec::new(alloc);
     let mut place = 0;

@@ -78,8 +78,9 @@ pub fn refuse_script<E: Write>(faults: &mut E, path: &str, fault: ScriptFault) -
             let _ = writeln!(faults, "fault: the script {path:?} can't be opened: {kind}");
             1
         }
-        ScriptFault::Stopped(Stop::BadLine(place)) => {
-            let _ = writeln!(faults, "bad line {place} of the script");
+        ScriptFault::Stopped(Stop::BadLine(place, fault)) => {
+            let reason = fault.reason();
+            let _ = writeln!(faults, "bad line {place} of the script{reason}");
             2
         }
         ScriptFault::Stopped(Stop::NoMemory) => give_up(faults, Stop::NoMemory),

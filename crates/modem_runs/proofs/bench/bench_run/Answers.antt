@@ -1,6 +1,7 @@
 use Rattle.std.proofs.Common.{inr, rules}
 use Rattle.std.specs.String.{string_bytes}
 use Rattle.modem_runs.specs.Bench.{IsNoSubmission}
+use Rattle.modem_runs.specs.LineFaults.{SubmissionFault}
 use Rattle.modem_runs.specs.Printed.{IsBenched}
 use Rattle.modem_runs.specs.Stopping.{IsBenchStop}
 use Rattle.modem_runs.specs.declared.stop.Stop.TheVariants as Stop
@@ -10,7 +11,7 @@ use Rattle.modem_runs.proofs.bench.bench_run.Goals as goal
 
 pub returns-clause-refused : goal.returns-clause-refused
 returns-clause-refused g c e =
-    inr (refused_for c.benched-built.result c.finish.result (g.I.Read.remaining c.args.input.now) (IsNoSubmission c.args.callers) c.finish.ensures.ended c.benched-built.ensures.bad_line c.benched-built.ensures.others e)
+    inr (refused_for c.benched-built.result c.finish.result (g.I.Read.remaining c.args.input.now) (IsNoSubmission c.args.callers) (SubmissionFault c.args.callers) c.finish.ensures.ended c.benched-built.ensures.bad_line c.benched-built.ensures.others e)
 
 pub returns-then-not-takes_callers-clause-stopped :
     goal.returns-then-not-takes_callers-clause-stopped

@@ -1,6 +1,7 @@
 use Rattle.std.proofs.Common.{inr, refl}
 use Rattle.std.specs.String.{string_bytes}
 use Rattle.modem_runs.specs.Script.{IsNoOrder}
+use Rattle.modem_runs.specs.LineFaults.{EventFault}
 use Rattle.modem_runs.specs.Printed.{IsReplayedBy}
 use Rattle.modem_runs.specs.Stopping.{IsRunStop}
 use Rattle.modem_runs.specs.declared.stop.Stop.TheVariants as Stop
@@ -15,18 +16,18 @@ returns-clause-done g c =
 
 pub returns-clause-refused : goal.returns-clause-refused
 returns-clause-refused g c e =
-    inr (refused_for c.replayed_by-built.result c.finish.result (g.R.Read.remaining c.args.input.now) IsNoOrder c.finish.ensures.ended c.replayed_by-built.ensures.bad_line c.replayed_by-built.ensures.others e)
+    inr (refused_for c.replayed_by-built.result c.finish.result (g.R.Read.remaining c.args.input.now) IsNoOrder EventFault c.finish.ensures.ended c.replayed_by-built.ensures.bad_line c.replayed_by-built.ensures.others e)
 
 pub returns-in_default-clause-stopped : goal.returns-in_default-clause-stopped
 returns-in_default-clause-stopped g c some =
-    stopped_at_once Stop.BadN1 (IsReplayedBy c.args.dialect.now c.args.n1) (IsRunStop c.args.n1 IsNoOrder (g.R.Read.remaining c.args.input.now)) _ g.W.Write.contents c.args.output.now _ _ _
+    stopped_at_once Stop.BadN1 (IsReplayedBy c.args.dialect.now c.args.n1) (IsRunStop c.args.n1 IsNoOrder EventFault (g.R.Read.remaining c.args.input.now)) _ g.W.Write.contents c.args.output.now _ _ _
     c.give_up.ensures.status c.give_up.ensures.said (c.in_default.ensures.none.0 refl) (λ e. cc)
 
 pub returns-clause-stopped : goal.returns-clause-stopped
 returns-clause-stopped g c some =
-    stopped_for string_bytes c.replayed_by-built.result (IsReplayedBy c.args.dialect.now c.args.n1) (IsRunStop c.args.n1 IsNoOrder (g.R.Read.remaining c.args.input.now)) _ g.W.Write.contents c.args.output.now _ _ _ c.finish.result
+    stopped_for string_bytes c.replayed_by-built.result (IsReplayedBy c.args.dialect.now c.args.n1) (IsRunStop c.args.n1 IsNoOrder EventFault (g.R.Read.remaining c.args.input.now)) _ g.W.Write.contents c.args.output.now _ _ _ c.finish.result
     c.finish.ensures.ended c.finish.ensures.nothing c.finish.ensures.part c.finish.ensures.said (rw c.in-Some.ensures.octets at c.replayed_by-built.ensures.ok)
-    (run_cause c.replayed_by-built.result c.args.n1 IsNoOrder (g.R.Read.remaining c.args.input.now) c.replayed_by-built.ensures.bad_line c.replayed_by-built.ensures.others c.replayed_by-built.ensures.no_line)
+    (run_cause c.replayed_by-built.result c.args.n1 IsNoOrder EventFault (g.R.Read.remaining c.args.input.now) c.replayed_by-built.ensures.bad_line c.replayed_by-built.ensures.others c.replayed_by-built.ensures.no_line)
     c.replayed_by-built.ensures.no_output tt some
 
 pub returns-clause-nothing : goal.returns-clause-nothing

@@ -1,4 +1,5 @@
 use Rattle.modem_runs.specs.Dump.{IsNoDump}
+use Rattle.modem_runs.specs.LineFaults.{DumpFault}
 use Rattle.modem_runs.proofs.inputs.ReadLines.{refused}
 use Rattle.modem_runs.proofs.inputs.Dumps.{line_more}
 use Rattle.modem_runs.proofs.dump.read_dump.Goals as goal
@@ -6,10 +7,10 @@ use Rattle.modem_runs.proofs.dump.read_dump.Goals as goal
 pub returns-in-Err : goal.returns-in-Err
 returns-in-Err c =
     rw c.at_line.ensures
-    (refused IsNoDump c.args.dump.now c.loop-line.left.now c.in-Some.line.now c.in-Some.rest.now c.loop-line.place c.in-Err.refusal
-    c.loop-line.invariant.read c.in-Some.ensures.cut c.in-Err.ensures)
+    (refused IsNoDump DumpFault c.args.dump.now c.loop-line.left.now c.in-Some.line.now c.in-Some.rest.now c.loop-line.place c.in-Err.refusal
+    c.loop-line.invariant.read c.in-Some.ensures.cut c.in-Err.ensures.says c.in-Err.ensures.fault)
 
 pub loop-line-preserved : goal.loop-line-preserved
 loop-line-preserved c =
     line_more c.args.dump.now c.loop-line.left.now c.in-Some.line.now c.in-Some.rest.now c.loop-line.octets.items c.push_pairs.new.octets.items c.loop-line.place
-    c.loop-line.invariant c.in-Some.ensures.cut c.in-Some.ensures.shorter c.in_default-push_pairs.ensures
+    c.loop-line.invariant c.in-Some.ensures.cut c.in-Some.ensures.shorter c.in_default-push_pairs.ensures.says

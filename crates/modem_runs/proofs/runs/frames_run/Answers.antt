@@ -1,6 +1,7 @@
 use Rattle.std.proofs.Common.{inr, refl}
 use Rattle.std.specs.String.{string_bytes}
 use Rattle.modem_runs.specs.Dump.{IsNoDump}
+use Rattle.modem_runs.specs.LineFaults.{DumpFault}
 use Rattle.modem_runs.specs.Printed.{IsFramed}
 use Rattle.modem_runs.specs.Stopping.{IsRunStop}
 use Rattle.modem_runs.specs.declared.stop.Stop.TheVariants as Stop
@@ -15,18 +16,18 @@ returns-clause-done g c =
 
 pub returns-clause-refused : goal.returns-clause-refused
 returns-clause-refused g c e =
-    inr (refused_for c.framed-built.result c.finish.result (g.R.Read.remaining c.args.input.now) IsNoDump c.finish.ensures.ended c.framed-built.ensures.bad_line c.framed-built.ensures.others e)
+    inr (refused_for c.framed-built.result c.finish.result (g.R.Read.remaining c.args.input.now) IsNoDump DumpFault c.finish.ensures.ended c.framed-built.ensures.bad_line c.framed-built.ensures.others e)
 
 pub returns-in_default-clause-stopped : goal.returns-in_default-clause-stopped
 returns-in_default-clause-stopped g c some =
-    stopped_at_once Stop.BadN1 (IsFramed c.args.n1) (IsRunStop c.args.n1 IsNoDump (g.R.Read.remaining c.args.input.now)) _ g.W.Write.contents c.args.output.now _ _ _
+    stopped_at_once Stop.BadN1 (IsFramed c.args.n1) (IsRunStop c.args.n1 IsNoDump DumpFault (g.R.Read.remaining c.args.input.now)) _ g.W.Write.contents c.args.output.now _ _ _
     c.give_up.ensures.status c.give_up.ensures.said (c.in_default.ensures.none.0 refl) (λ e. cc)
 
 pub returns-clause-stopped : goal.returns-clause-stopped
 returns-clause-stopped g c some =
-    stopped_for string_bytes c.framed-built.result (IsFramed c.args.n1) (IsRunStop c.args.n1 IsNoDump (g.R.Read.remaining c.args.input.now)) _ g.W.Write.contents c.args.output.now _ _ _ c.finish.result
+    stopped_for string_bytes c.framed-built.result (IsFramed c.args.n1) (IsRunStop c.args.n1 IsNoDump DumpFault (g.R.Read.remaining c.args.input.now)) _ g.W.Write.contents c.args.output.now _ _ _ c.finish.result
     c.finish.ensures.ended c.finish.ensures.nothing c.finish.ensures.part c.finish.ensures.said (rw c.in-Some.ensures.octets at c.framed-built.ensures.ok)
-    (run_cause c.framed-built.result c.args.n1 IsNoDump (g.R.Read.remaining c.args.input.now) c.framed-built.ensures.bad_line c.framed-built.ensures.others c.framed-built.ensures.no_line)
+    (run_cause c.framed-built.result c.args.n1 IsNoDump DumpFault (g.R.Read.remaining c.args.input.now) c.framed-built.ensures.bad_line c.framed-built.ensures.others c.framed-built.ensures.no_line)
     c.framed-built.ensures.no_output tt some
 
 pub returns-clause-nothing : goal.returns-clause-nothing

@@ -1,13 +1,16 @@
-use Rattle.std.proofs.lemmas.Result.{err_from_is_err_and}
-use Rattle.modem_runs.proofs.inputs.ScriptLines.{cmd_nothing, without_blank, without_command}
+use Rattle.std.specs.Prelude.{◌≡◌, ℕ, List, ◌++◌, codes, None}
+use Rattle.std.proofs.Common.{sym, ap, ◌∙◌}
+use Rattle.at_text.specs.Commands.{refusal_of}
+use Rattle.modem_texts.specs.Words.{number_text}
+use Rattle.modem_texts.proofs.CommandWords.{joined_words, some_line, taken_line}
 use Rattle.modem_runs.proofs.script.command_of.Goals as goal
 
-pub returns-in_default : goal.returns-in_default
-returns-in_default c = λ _. cmd_nothing c.args.words.now (without_blank c.args.words.now c.in_default.ensures)
-
-pub returns-in_err-dlci : goal.returns-in_err-dlci
-returns-in_err-dlci c =
-    let cut = c.in-Some.ensures in
-    let unknown = c.in_err-dlci.ensures in
-    let given = err_from_is_err_and c.from_residual.result c.from_residual.ensures.1 in
-    rw given.1 (λ _. cmd_nothing c.args.words.now (without_command c.args.words.now c.in-Some.word.now c.in-Some.text.now cut.0 cut.1 (λ n s e r. unknown.1 n s e)))
+pub returns-clause-says : goal.returns-clause-says
+returns-clause-says c =
+    let taken = taken_line (refusal_of c.first_word.result.1.now) c.in_ok-line.line c.first_word.result.1.now _ (λ why e. cc) c.in_ok-line.ensures in
+    let good : refusal_of c.in_ok-line.line ≡ None = ap refusal_of taken.1 ∙ taken.0 in (
+      good,
+      ap (λ (l : List ℕ). codes "cmd " ++ l)
+          (joined_words c.args.words.now (number_text c.in_ok-dlci.dlci.number) c.in_ok-line.line (sym c.first_word.ensures.word ∙ c.in_ok-dlci.ensures)
+          (sym c.first_word.ensures.behind ∙ sym taken.1) (some_line c.in_ok-line.line good)),
+    )

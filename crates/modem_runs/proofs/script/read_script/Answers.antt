@@ -1,5 +1,6 @@
 use Rattle.std.proofs.Common.{◌+◌, refl}
 use Rattle.modem_runs.specs.Script.{IsNoOrder}
+use Rattle.modem_runs.specs.LineFaults.{EventFault}
 use Rattle.modem_runs.proofs.inputs.ReadLines.{refused}
 use Rattle.modem_runs.proofs.inputs.Scripts.{all_events, asked_next, heard_next, lost_next, no_line, skipped, some_line, ticked_next}
 use Rattle.modem_runs.proofs.script.read_script.Goals as goal
@@ -13,32 +14,32 @@ pub loop-line-preserved-in-Continue-1 : goal.loop-line-preserved-in-Continue-1
 loop-line-preserved-in-Continue-1 c =
     heard_next c.args.script.now c.loop-line.left.now c.in-Some.line.now c.in-Some.rest.now c.loop-line.events.items _ c.loop-line.asked c.loop-line.place c.in-Ok-Octets.octets
     c.loop-line.invariant c.in-Some.ensures.cut c.in-Some.ensures.shorter (some_line c.in-Some.line.now c.if-is_empty.ensures)
-    (rw c.in-Ok-Octets.field-0-is at c.in-Ok-Octets.ensures) c.in_ok-push-in-Ok-Octets.ensures.items
+    (rw c.in-Ok-Octets.field-0-is at c.in-Ok-Octets.ensures.says) c.in_ok-push-in-Ok-Octets.ensures.items
 
 pub loop-line-preserved-in-Continue-branch-2 : goal.loop-line-preserved-in-Continue-branch-2
 loop-line-preserved-in-Continue-branch-2 c =
     ticked_next c.args.script.now c.loop-line.left.now c.in-Some.line.now c.in-Some.rest.now c.loop-line.events.items _ c.loop-line.asked c.loop-line.place
     c.loop-line.invariant c.in-Some.ensures.cut c.in-Some.ensures.shorter (some_line c.in-Some.line.now c.if-is_empty.ensures)
-    (rw c.in-Ok-Tick.field-0-is at c.in-Ok-Tick.ensures) c.in_ok-push-in-Ok-Tick.ensures.items
+    (rw c.in-Ok-Tick.field-0-is at c.in-Ok-Tick.ensures.says) c.in_ok-push-in-Ok-Tick.ensures.items
 
 pub loop-line-preserved-in-Continue-branch-3 : goal.loop-line-preserved-in-Continue-branch-3
 loop-line-preserved-in-Continue-branch-3 c =
     lost_next c.args.script.now c.loop-line.left.now c.in-Some.line.now c.in-Some.rest.now c.loop-line.events.items _ c.loop-line.asked c.loop-line.place
     c.loop-line.invariant c.in-Some.ensures.cut c.in-Some.ensures.shorter (some_line c.in-Some.line.now c.if-is_empty.ensures)
-    (rw c.in-Ok-Lost.field-0-is at c.in-Ok-Lost.ensures) c.in_ok-push-in-Ok-Lost.ensures.items
+    (rw c.in-Ok-Lost.field-0-is at c.in-Ok-Lost.ensures.says) c.in_ok-push-in-Ok-Lost.ensures.items
 
 pub loop-line-preserved : goal.loop-line-preserved
 loop-line-preserved c =
     asked_next c.args.script.now c.loop-line.left.now c.in-Some.line.now c.in-Some.rest.now c.loop-line.events.items _ c.loop-line.asked c.loop-line.place
     (record { caller = 0; number = c.loop-line.asked + 1; ask = c.in-Ok-Ask.ask })
     c.loop-line.invariant c.in-Some.ensures.cut c.in-Some.ensures.shorter (some_line c.in-Some.line.now c.if-is_empty.ensures)
-    (rw c.in-Ok-Ask.field-0-is at c.in-Ok-Ask.ensures) refl refl c.in_ok-push-in-Ok-Ask.ensures.items
+    (rw c.in-Ok-Ask.field-0-is at c.in-Ok-Ask.ensures.says) refl refl c.in_ok-push-in-Ok-Ask.ensures.items
 
 pub returns-in-Err : goal.returns-in-Err
 returns-in-Err c =
     rw c.at_line.ensures
-    (refused IsNoOrder c.args.script.now c.loop-line.left.now c.in-Some.line.now c.in-Some.rest.now c.loop-line.place c.in-Err.refusal
-    c.loop-line.invariant.read c.in-Some.ensures.cut (λ bad. (some_line c.in-Some.line.now c.if-is_empty.ensures, c.in-Err.ensures bad)))
+    (refused IsNoOrder EventFault c.args.script.now c.loop-line.left.now c.in-Some.line.now c.in-Some.rest.now c.loop-line.place c.in-Err.refusal
+    c.loop-line.invariant.read c.in-Some.ensures.cut (λ bad. (some_line c.in-Some.line.now c.if-is_empty.ensures, c.in-Err.ensures.says bad)) c.in-Err.ensures.fault)
 
 pub returns : goal.returns
 returns c =

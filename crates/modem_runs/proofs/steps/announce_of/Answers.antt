@@ -1,13 +1,14 @@
-use Rattle.std.proofs.lemmas.Result.{err_from_is_err_and}
-use Rattle.modem_runs.proofs.inputs.StepLines.{announces_nothing, no_blank_text, no_connection_text}
+use Rattle.std.specs.Prelude.{ℕ, List, ◌++◌, codes}
+use Rattle.std.proofs.Common.{ap, ◌∙◌}
+use Rattle.modem_runs.proofs.inputs.StepLines.{announces, text_fault_at}
 use Rattle.modem_runs.proofs.steps.announce_of.Goals as goal
 
-pub returns-in_default : goal.returns-in_default
-returns-in_default c = λ _. announces_nothing c.args.words.now (no_blank_text c.args.words.now c.in_default.ensures)
+pub returns-then-word-words-clause-fault : goal.returns-then-word-words-clause-fault
+returns-then-word-words-clause-fault c =
+    text_fault_at c.args.words.now c.first_word.result.0.now c.in_ok-dlci.dlci.number c.first_word.ensures.word c.in_ok-dlci.ensures c.in_ok-dlci.dlci.in_range c.if-word-words.true
 
-pub returns-in_err-dlci : goal.returns-in_err-dlci
-returns-in_err-dlci c =
-    let cut = c.in-Some.ensures in
-    let unknown = c.in_err-dlci.ensures in
-    let given = err_from_is_err_and c.from_residual.result c.from_residual.ensures.1 in
-    rw given.1 (λ _. announces_nothing c.args.words.now (no_connection_text c.args.words.now c.in-Some.word.now c.in-Some.text.now cut.0 cut.1 unknown.1))
+pub returns-clause-says : goal.returns-clause-says
+returns-clause-says c =
+    ap (λ (l : List ℕ). codes "announce " ++ l)
+    (announces c.args.words.now c.first_word.result.0.now c.from-line.result c.in_ok-dlci.dlci.number c.first_word.ensures.word
+    (c.from-line.ensures ∙ c.in_ok-from_slice.ensures.items ∙ c.first_word.ensures.behind) c.in_ok-dlci.ensures c.if-word-words.false)

@@ -1,13 +1,12 @@
-use Rattle.std.proofs.lemmas.Result.{err_from_is_err_and}
-use Rattle.modem_runs.proofs.inputs.StepLines.{holds_nothing, no_blank_two, no_first_of_two, no_second_of_two}
+use Rattle.std.specs.Prelude.{ℕ, List, ◌++◌, codes}
+use Rattle.std.proofs.Common.{sym, ap, ◌∙◌}
+use Rattle.modem_texts.specs.Words.{number_text}
+use Rattle.modem_texts.proofs.CommandWords.{joined_words}
+use Rattle.modem_runs.proofs.inputs.StepLines.{number_some}
 use Rattle.modem_runs.proofs.steps.hold_of.Goals as goal
 
-pub returns-in_default : goal.returns-in_default
-returns-in_default c = λ _. holds_nothing c.args.words.now (no_blank_two c.args.words.now c.in_default.ensures)
-
-pub returns-in_err-held : goal.returns-in_err-held
-returns-in_err-held c =
-    let cut = c.in-Some.ensures in
-    let unknown = c.in_err-held.ensures in
-    let given = err_from_is_err_and c.from_residual.result c.from_residual.ensures.1 in
-    rw given.1 (λ _. holds_nothing c.args.words.now (no_first_of_two c.args.words.now c.in-Some.held.now c.in-Some.awaited.now cut.0 cut.1 unknown.1))
+pub returns-clause-says : goal.returns-clause-says
+returns-clause-says c =
+    ap (λ (l : List ℕ). codes "hold " ++ l)
+    (joined_words c.args.words.now (number_text c.in_ok-held.held.number) (number_text c.in_ok-awaited.awaited.number) (sym c.first_word.ensures.word ∙ c.in_ok-held.ensures)
+    (sym c.first_word.ensures.behind ∙ c.in_ok-awaited.ensures.says) (number_some c.in_ok-awaited.awaited.number))

@@ -1,4 +1,5 @@
 use Rattle.modem_runs.specs.Steps.{IsNoStep}
+use Rattle.modem_runs.specs.LineFaults.{StepFault}
 use Rattle.modem_runs.proofs.inputs.ReadLines.{refused}
 use Rattle.modem_runs.proofs.inputs.Scripts.{no_line, some_line}
 use Rattle.modem_runs.proofs.inputs.StepLines.{all_steps, step_next, step_skipped}
@@ -13,13 +14,13 @@ pub loop-line-preserved : goal.loop-line-preserved
 loop-line-preserved c =
     step_next c.args.script.now c.loop-line.left.now c.in-Some.line.now c.in-Some.rest.now c.loop-line.steps.items _ c.loop-line.place c.in-Ok.step
     c.loop-line.invariant c.in-Some.ensures.cut c.in-Some.ensures.shorter (some_line c.in-Some.line.now c.if-is_empty.ensures)
-    c.in-Ok.ensures c.in_ok-push-in-Ok.ensures.items
+    c.in-Ok.ensures.says c.in_ok-push-in-Ok.ensures.items
 
 pub returns-in-Err : goal.returns-in-Err
 returns-in-Err c =
     rw c.at_line.ensures
-    (refused IsNoStep c.args.script.now c.loop-line.left.now c.in-Some.line.now c.in-Some.rest.now c.loop-line.place c.in-Err.refusal
-    c.loop-line.invariant.read c.in-Some.ensures.cut (λ bad. (some_line c.in-Some.line.now c.if-is_empty.ensures, c.in-Err.ensures bad)))
+    (refused IsNoStep StepFault c.args.script.now c.loop-line.left.now c.in-Some.line.now c.in-Some.rest.now c.loop-line.place c.in-Err.refusal
+    c.loop-line.invariant.read c.in-Some.ensures.cut (λ bad. (some_line c.in-Some.line.now c.if-is_empty.ensures, c.in-Err.ensures.says bad)) c.in-Err.ensures.fault)
 
 pub returns : goal.returns
 returns c =

@@ -1,13 +1,11 @@
-use Rattle.std.proofs.lemmas.Result.{err_from_is_err_and}
-use Rattle.modem_texts.proofs.CommandWords.{no_blank, no_carrier}
+use Rattle.std.proofs.Common.{sym, ap, ◌∙◌}
+use Rattle.at_text.specs.Commands.{refusal_of}
+use Rattle.modem_texts.proofs.CommandWords.{is_command, taken_line}
 use Rattle.modem_texts.proofs.words.command_of.Goals as goal
 
-pub returns-in_default : goal.returns-in_default
-returns-in_default c = λ _. no_blank c.args.words.now c.in_default.ensures
-
-pub returns-in_err-dlci : goal.returns-in_err-dlci
-returns-in_err-dlci c =
-    let cut = c.in-Some.ensures in
-    let unknown = c.in_err-dlci.ensures in
-    let given = err_from_is_err_and c.from_residual.result c.from_residual.ensures.1 in
-    rw given.1 (λ _. no_carrier c.args.words.now c.in-Some.word.now c.in-Some.text.now cut.0 cut.1 unknown.1)
+pub returns-clause-says : goal.returns-clause-says
+returns-clause-says c =
+    let carrier = c.in_ok-dlci.ensures in
+    let taken = taken_line (refusal_of c.first_word.result.1.now) c.in_ok-line.line c.first_word.result.1.now _ (λ why e. cc) c.in_ok-line.ensures in
+    is_command c.args.words.now c.in_ok-dlci.dlci.number c.in_ok-line.line (sym c.first_word.ensures.word ∙ carrier.1) (sym c.first_word.ensures.behind ∙ sym taken.1)
+    carrier.0 c.in_ok-dlci.dlci.in_range (ap refusal_of taken.1 ∙ taken.0)

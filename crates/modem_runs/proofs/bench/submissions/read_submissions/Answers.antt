@@ -1,4 +1,5 @@
 use Rattle.modem_runs.specs.Bench.{IsNoSubmission}
+use Rattle.modem_runs.specs.LineFaults.{SubmissionFault}
 use Rattle.modem_runs.proofs.inputs.ReadLines.{refused}
 use Rattle.modem_runs.proofs.inputs.Scripts.{no_line, some_line}
 use Rattle.modem_runs.proofs.inputs.Submissions.{all_read, passed_over, submitted_next}
@@ -13,13 +14,13 @@ pub loop-line-preserved : goal.loop-line-preserved
 loop-line-preserved c =
     submitted_next c.args.callers c.args.input.now c.loop-line.left.now c.in-Some.line.now c.in-Some.rest.now c.loop-line.all.items _ c.loop-line.place c.in-Ok.submission
     c.loop-line.invariant c.in-Some.ensures.cut c.in-Some.ensures.shorter (some_line c.in-Some.line.now c.if-is_empty.ensures)
-    c.in-Ok.ensures c.in_ok-push-in-Ok.ensures.items
+    c.in-Ok.ensures.says c.in_ok-push-in-Ok.ensures.items
 
 pub returns-in-Err : goal.returns-in-Err
 returns-in-Err c =
     rw c.at_line.ensures
-    (refused (IsNoSubmission c.args.callers) c.args.input.now c.loop-line.left.now c.in-Some.line.now c.in-Some.rest.now c.loop-line.place c.in-Err.refusal
-    c.loop-line.invariant.read c.in-Some.ensures.cut (λ bad. (some_line c.in-Some.line.now c.if-is_empty.ensures, c.in-Err.ensures bad)))
+    (refused (IsNoSubmission c.args.callers) (SubmissionFault c.args.callers) c.args.input.now c.loop-line.left.now c.in-Some.line.now c.in-Some.rest.now c.loop-line.place c.in-Err.refusal
+    c.loop-line.invariant.read c.in-Some.ensures.cut (λ bad. (some_line c.in-Some.line.now c.if-is_empty.ensures, c.in-Err.ensures.says bad)) c.in-Err.ensures.fault)
 
 pub returns : goal.returns
 returns c =

@@ -1,0 +1,57 @@
+-- Only one part of a line is the first that isn't as it must be.
+use Rattle.std.specs.Prelude.{◌≡◌, ◌≢◌, ℕ, List, Option, Some, None}
+use Rattle.std.proofs.Common.{sym, inl, inr, ◌∙◌}
+use Rattle.at_text.specs.Commands.{refusal_of}
+use Rattle.modem_texts.specs.LineFaults.{CommandFault, ConnectionFault, IsCarrier, IsConnection, Wants, WantsNoMore, behind_word, first_word}
+use Rattle.modem_texts.specs.declared.line_fault.LineFault.{LineFault}
+use Rattle.modem_runs.specs.LineFaults.{DumpFault, EventFault, Follows, HasOctets, HasPairs, HasProbe, IsCaller, IsCount, StepFault, SubmissionFault, WordFault, deeds, events, follows}
+
+-- what has one fault at most
+abbrev HasOne : (LineFault → Type 0) → Type 0
+HasOne Has = (a b : LineFault) → Has a → Has b → a ≡ b
+
+one_wanted : (Wanted : Type 0) (fault : LineFault) (Later : LineFault → Type 0) → HasOne Later → HasOne (Wants Wanted fault Later)
+one_wanted Wanted fault Later later a b (inl x) (inl y) = x.1 ∙ sym y.1
+one_wanted Wanted fault Later later a b (inl x) (inr y) = absurd (x.0 y.0)
+one_wanted Wanted fault Later later a b (inr x) (inl y) = absurd (y.0 x.0)
+one_wanted Wanted fault Later later a b (inr x) (inr y) = later a b x.1 y.1
+
+one_none : HasOne WantsNoMore
+one_none a b x y = absurd x
+
+one_last : (Wanted : Type 0) (fault : LineFault) → HasOne (Wants Wanted fault WantsNoMore)
+one_last Wanted fault = one_wanted Wanted fault WantsNoMore one_none
+
+one_connection : (words : List ℕ) → HasOne (ConnectionFault words)
+one_connection words = one_wanted (IsConnection (first_word words)) LineFault.Connection _ (one_last (first_word words ≡ words) LineFault.End)
+
+one_command : (words : List ℕ) → HasOne (CommandFault words)
+one_command words = one_wanted (IsCarrier (first_word words)) LineFault.Carrier _ (one_last _ LineFault.Command)
+
+one_behind : (f : Follows) (unknown : LineFault) (line : List ℕ) → HasOne (WordFault unknown (Some f) line)
+one_behind Follows.Connection unknown line = one_connection (behind_word line)
+one_behind Follows.Connections unknown line = one_wanted (IsConnection (first_word (behind_word line))) LineFault.Connection _ (one_connection (behind_word (behind_word line)))
+one_behind Follows.Command unknown line = one_wanted (IsConnection (first_word (behind_word line))) LineFault.Connection _ (one_last _ LineFault.Command)
+one_behind Follows.Announcement unknown line = one_wanted (IsConnection (first_word (behind_word line))) LineFault.Connection _ (one_last _ LineFault.Text)
+one_behind Follows.Octets unknown line = one_last (HasOctets (behind_word line)) LineFault.Octets
+one_behind Follows.Probe unknown line = one_wanted (HasOctets (behind_word line)) LineFault.Octets _ (one_last (HasProbe (behind_word line)) LineFault.Probe)
+one_behind Follows.Nothing unknown line = one_last (first_word line ≡ line) LineFault.End
+
+one_word : (o : Option Follows) (unknown : LineFault) (line : List ℕ) → HasOne (WordFault unknown o line)
+one_word None unknown line a b x y = x ∙ sym y
+one_word (Some f) unknown line a b x y = one_behind f unknown line a b x y
+
+pub one_event : (line : List ℕ) (a b : LineFault) → EventFault line a → EventFault line b → a ≡ b
+one_event line = one_word (follows events (first_word line)) LineFault.Event line
+
+one_deed : (words : List ℕ) → HasOne (WordFault LineFault.Deed (follows deeds (first_word words)) words)
+one_deed words = one_word (follows deeds (first_word words)) LineFault.Deed words
+
+pub one_step : (line : List ℕ) (a b : LineFault) → StepFault line a → StepFault line b → a ≡ b
+one_step line = one_wanted (IsCount (first_word line)) LineFault.Count _ (one_deed (behind_word line))
+
+pub one_submission : (callers : ℕ) (line : List ℕ) (a b : LineFault) → SubmissionFault callers line a → SubmissionFault callers line b → a ≡ b
+one_submission callers line = one_wanted (IsCaller callers (first_word line)) LineFault.Caller _ (one_command (behind_word line))
+
+pub one_dump : (line : List ℕ) (a b : LineFault) → DumpFault line a → DumpFault line b → a ≡ b
+one_dump line = one_last (HasPairs line) LineFault.Pairs

@@ -1,0 +1,68 @@
+//! What of a line of an input isn't as it must be.
+ghost use Rattle.std.specs.Prelude.{◌≡◌};
+ghost use Rattle.modem_texts.specs.LineFaults.{reason_text};
+
+/// The first part of a line, read from its front, that isn't as it must be.
+#[derive(Clone, Copy, PartialEq, Eq, Debug)]
+pub enum LineFault {
+    /// The word that an event begins with.
+    Event,
+    /// The number of commands that a step begins with.
+    Count,
+    /// The word for what a modem does.
+    Deed,
+    /// A caller.
+    Caller,
+    /// A connection.
+    Connection,
+    /// A connection that carries commands.
+    Carrier,
+    /// A command line.
+    Command,
+    /// The text of an announcement.
+    Text,
+    /// Octets in one word.
+    Octets,
+    /// So few octets that a probe has room for them.
+    Probe,
+    /// Octets in any number of words.
+    Pairs,
+    /// The end of the line.
+    End,
+}
+
+impl LineFault {
+    /// What has to stand there, behind a colon and a blank.
+    pub fn reason(self) -> &'static str
+        ensures { result.now ≡ reason_text self }
+    {
+        match self {
+            LineFault::Event => {
+                ": a line begins with open, close, cmd, probe, in, stop, tick or lost"
+            }
+            LineFault::Count => {
+                ": a step begins with a decimal number below 2^64, without leading zeros"
+            }
+            LineFault::Deed => {
+                ": behind the number stands announce, stop, go, hold, disconnect or closedown"
+            }
+            LineFault::Caller => {
+                ": a caller is below the number of --callers, without leading zeros"
+            }
+            LineFault::Connection => ": a connection is 0 to 61, without leading zeros",
+            LineFault::Carrier => ": a connection is 1 to 61, without leading zeros",
+            LineFault::Command => {
+                ": a command line is AT or at and octets 20 to 7E, at most 256 in all"
+            }
+            LineFault::Text => ": behind the connection stand one blank and a text",
+            LineFault::Octets => {
+                ": octets are pairs of hexadecimal digits, at least one, without blanks"
+            }
+            LineFault::Probe => ": a probe has 1 to 16 octets",
+            LineFault::Pairs => {
+                ": a line is pairs of hexadecimal digits, without blanks inside a pair"
+            }
+            LineFault::End => ": the line has a word or a blank too many",
+        }
+    }
+}
