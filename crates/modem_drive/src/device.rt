@@ -55,7 +55,7 @@ pub struct DeviceThreads {
 fn spawned<H: Drop, F: Drop>(thread: Result<H, SpawnError<F>>) -> Result<(), DriveFault> {
     match thread {
         Ok(_) => Ok(()),
-        Err(_) => Err(DriveFault::NoMemory),
+        Err(_) => Err(DriveFault::NoThread),
     }
 }
 

@@ -1,28 +1,32 @@
 //! Why a drive ends with a fault.
 ghost use Rattle.std.specs.Prelude.{◌≡◌};
-ghost use Rattle.modem_drive.specs.declared.fault.DriveFault.TheVariants.{NoMemory};
+ghost use Rattle.modem_drive.specs.declared.fault.DriveFault.TheVariants.{NoMemory, NoThread};
 ghost use Rattle.modem_drive.specs.Faults.{entry_fault};
 
 use modem_driver::EntryError;
 use std::alloc::{AllocError, AllocFailed};
+use std::io::ErrorKind;
 use std::thread::SpawnError;
 use thiserror::Error;
 
 /// Why a drive ends with a fault.
 #[derive(Clone, Copy, PartialEq, Eq, Debug, Error)]
 pub enum DriveFault {
-    /// A growth was refused, or a thread.
+    /// A growth was refused.
     #[error("fault: no memory")]
     NoMemory,
+    /// A thread can't be started.
+    #[error("fault: no thread: the system starts no more of them, or has no memory for one")]
+    NoThread,
     /// The reader of the input failed. All that came before was submitted and told.
     #[error("fault: input")]
     Input,
     /// The writer failed.
     #[error("fault: output")]
     Output,
-    /// The device can't be opened.
-    #[error("fault: no such device, or no right to open it, or another program has it")]
-    NoDevice,
+    /// The device can't be opened, for this reason.
+    #[error("fault: the device can't be opened: {0}")]
+    NoDevice(ErrorKind),
     /// The device failed or ended before the multiplexer was entered.
     #[error("fault: not a terminal that is set up, or one that ended before the modem answered; to set one up: stty -F DEVICE raw -echo min 0 time 1 -crtscts clocal -hupcl")]
     NotSetUp,
@@ -66,10 +70,10 @@ impl<T: Drop> From<AllocFailed<T>> for DriveFault {
 }
 
 impl<F: Drop> From<SpawnError<F>> for DriveFault {
-    ghost from_gives = { λ _ fault. fault ≡ NoMemory };
+    ghost from_gives = { λ _ fault. fault ≡ NoThread };
 
     fn from(_error: SpawnError<F>) -> DriveFault {
-        DriveFault::NoMemory
+        DriveFault::NoThread
     }
 }
 

@@ -21,8 +21,11 @@ use std::rt::{Clock, Files};
 use std::sync::Wait;
 use std::thread::Threads;
 
-/// Says what a drive left undone, if anything, and gives its status.
-fn say_end<E: Write>(faults: &mut E, ended: Result<Driven, DriveFault>) -> u8
+/// What `stty` sets a terminal up by.
+const STTY: &str = "raw -echo min 0 time 1 -crtscts clocal -hupcl";
+
+/// Says what a drive of the device of this path left undone, if anything, and gives its status.
+fn say_end<E: Write>(faults: &mut E, path: &str, ended: Result<Driven, DriveFault>) -> u8
     ensures status { result ≤ 2 }
     ensures well { result ≢ 1 → IsOkAnd ended (λ d. d.fault ≡ None) }
 {
@@ -33,30 +36,43 @@ fn say_end<E: Write>(faults: &mut E, ended: Result<Driven, DriveFault>) -> u8
                 let _ = writeln!(faults, "left {requests} requests");
             }
             match driven.fault {
-                Some(fault) => say_fault(faults, fault),
+                Some(fault) => say_fault(faults, path, fault),
                 None if driven.was_bad => 2,
                 None => 0,
             }
         }
-        Err(fault) => say_fault(faults, fault),
+        Err(fault) => say_fault(faults, path, fault),
     }
 }
 
-/// Says why a drive ended, and gives the status.
-fn say_fault<E: Write>(faults: &mut E, fault: DriveFault) -> u8
+/// Says why a drive of the device of this path ended, and gives the status.
+fn say_fault<E: Write>(faults: &mut E, path: &str, fault: DriveFault) -> u8
     ensures { result ≡ 1 }
 {
-    let _ = writeln!(faults, "{fault}");
+    let _ = match fault {
+        DriveFault::NoDevice(why) => {
+            writeln!(faults, "fault: the device {path:?} can't be opened: {why}")
+        }
+        DriveFault::NotSetUp => {
+            writeln!(
+                faults,
+                "fault: {path:?} is not a terminal that is set up, or ended before the modem answered; to set it up: stty -F {path:?} {STTY}",
+            )
+        }
+        fault => writeln!(faults, "{fault}"),
+    };
     1
 }
 
 /// The device of this path, opened for reading and for writing.
 fn open_device<R: Files<File = File>>(rt: &R, path: &str) -> Result<(File, File), DriveFault> {
-    let Ok(reader) = File::open(rt, path) else {
-        return Err(DriveFault::NoDevice);
+    let reader = match File::open(rt, path) {
+        Ok(reader) => reader,
+        Err(error) => return Err(DriveFault::NoDevice(error.kind())),
     };
-    let Ok(writer) = OpenOptions::new().write(true).open(rt, path) else {
-        return Err(DriveFault::NoDevice);
+    let writer = match OpenOptions::new().write(true).open(rt, path) {
+        Ok(writer) => writer,
+        Err(error) => return Err(DriveFault::NoDevice(error.kind())),
     };
     Ok((reader, writer))
 }
@@ -222,7 +238,7 @@ where
 }
 
 /// Drives a modem on a device and an input whose calls wait, as `drive_over` does. One thread reads the device, one writes it, and one
-/// reads the input. The frames that pass go into the capture, if there is one. Refused as `drive_over` is, and with NoMemory where a
+/// reads the input. The frames that pass go into the capture, if there is one. Refused as `drive_over` is, and with NoThread where a
 /// thread can't be started: then nothing is written to the device. However it ends, each thread that was started is told to end, and
 /// does so as soon as the call of the reader or of the writer in which it waits comes back.
 pub fn drive_threaded<R, D, O, C, I, W, E>(
@@ -293,8 +309,8 @@ where
         ) => {
             let device = (reader, writer);
             let ended = drive_threaded(rt, device, capture, input, output, faults, settings);
-            say_end(faults, ended)
+            say_end(faults, path, ended)
         }
-        Err(fault) => say_fault(faults, fault),
+        Err(fault) => say_fault(faults, path, fault),
     }
 }

@@ -182,6 +182,7 @@ fn a_drive_is_whole_or_memory_is_refused_and_its_threads_end(rt: HostRuntime) ->
     match came.fault {
         None => assert!(rt; printed == WHOLE),
         Some(DriveFault::NoMemory) => assert!(rt; WHOLE.starts_with(printed) || printed == LOST),
+        Some(DriveFault::NoThread) => assert!(rt; printed.is_empty() && came.written == 0),
         Some(_) => panic!(rt; "another fault"),
     }
     Ok(())
@@ -195,7 +196,7 @@ fn where_a_thread_cant_be_started_nothing_is_written_to_the_device(
     let printed = came.printed.as_slice();
     match came.fault {
         None => assert!(rt; printed == WHOLE),
-        Some(DriveFault::NoMemory) => assert!(rt; printed.is_empty() && came.written == 0),
+        Some(DriveFault::NoThread) => assert!(rt; printed.is_empty() && came.written == 0),
         Some(_) => panic!(rt; "another fault"),
     }
     Ok(())
