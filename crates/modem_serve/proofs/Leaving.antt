@@ -130,4 +130,4 @@ pub left_client : (setup : Setup) (m : ModemState) (mode : Mode) (input rest x y
     → IsLeftAt (setting_by setup m) input rest x y
 left_client setup m mode input rest x y is leaves =
     left_at (setting_by setup m) input rest x y
-    (leaves m (subst (λ (o : Mode). Stands (setting_by setup m) [] [] o) (sym is) (begun_at (setting_by setup m) (plain_begun setup.n1 m) refl)))
+    (leaves m (subst (λ (o : Mode). Stands (setting_by setup m) [] [] o) (sym is) (begun_at (setting_by setup m) (plain_begun setup.n1.octets m) refl)))
