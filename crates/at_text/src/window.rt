@@ -138,10 +138,7 @@ impl Window {
         ensures none { result ≡ None }
         ensures past { (dialect : Codes) → FitsMarks dialect result [] }
     {
-        Window {
-            open: None,
-            alloc,
-        }
+        Window { open: None, alloc }
     }
 
     /// Whether no command is under way.

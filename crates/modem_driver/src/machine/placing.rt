@@ -106,11 +106,11 @@ impl Waiting {
         let mut held_up = [false; KINDS];
         let mut moved = false;
         for place in 0..many {
+            moved |= self.offer_line(driver, &mut held_up);
             if !self.may_offer(driver, &held_up) {
-                self.lines.rotate_left(many - place);
+                self.lines.rotate_left(many - (place + 1));
                 return moved;
             }
-            moved |= self.offer_line(driver, &mut held_up);
         }
         moved
     }
