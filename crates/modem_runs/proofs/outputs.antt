@@ -2,4 +2,3 @@
 pub mod RunEnds
 pub mod ShownOutcomes
 pub mod StoppedRuns
-pub mod WrittenTexts

@@ -1,20 +1,13 @@
 -- How a run ends without its whole output: for which cause, what stands on the output then, and what is said beside it.
 use Rattle.std.specs.Prelude.{◌≡◌, ◌≢◌, ◌⊎◌, ◌<◌, ℕ, List, ◌++◌, Option, IfSome}
-use Rattle.std.specs.Io.KnownBytes.{Appends}
 use Rattle.modem_runs.specs.Bench.{IsNoSubmission}
 use Rattle.modem_texts.specs.Input.{input_lines}
+use Rattle.modem_texts.specs.Writing.{IsBegun}
 use Rattle.modem_texts.specs.declared.line_fault.LineFault.{LineFault}
 use Rattle.modem_runs.specs.Input.{IsFirstBad}
 use Rattle.modem_runs.specs.LineFaults.{SubmissionFault}
 use Rattle.modem_runs.specs.Statuses.{status_of, stop_line}
 use Rattle.modem_runs.specs.declared.stop.Stop.{Stop}
-
--- a beginning of the text stands behind what stood there before, and nothing else: the whole, some octets of it, or none
-pub record IsBegun (before after : Option (List ℕ)) (text : List ℕ) : Type 0 where
-  pub part : List ℕ
-  pub left : List ℕ
-  pub split : text ≡ part ++ left
-  pub appended : Appends before after part
 
 -- for this cause, with its status: nothing was written to the output, unless that is what failed; and what is said of the cause,
 -- or a beginning of it, stands beside the output

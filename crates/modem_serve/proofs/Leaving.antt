@@ -5,56 +5,12 @@ use Rattle.std.specs.Io.KnownBytes.{Appends, Consumes, Keeps}
 use Rattle.modem_sim.specs.declared.state.ModemState.{ModemState}
 use Rattle.modem_serve.specs.declared.server.Mode.{Mode}
 use Rattle.modem_serve.specs.declared.server.Setup.{Setup}
-use Rattle.modem_serve.specs.Leaving.{BeginsAnswer, IsBegun, IsLeftAt, LeavesAnswers, LeftSoFar, NextBegins}
+use Rattle.modem_texts.specs.Writing.{IsBegun}
+use Rattle.modem_serve.specs.Leaving.{BeginsAnswer, IsLeftAt, LeavesAnswers, LeftSoFar, NextBegins}
 use Rattle.modem_serve.specs.Plain.{plain_begun}
 use Rattle.modem_serve.specs.Serving.{Setting}
 use Rattle.modem_serve.specs.Standing.{IsAtLines, ServedSoFar, Stands, StepsBy, setting_by}
 use Rattle.modem_serve.proofs.Served.{answers_by, appended_more, appended_none, begun_at, consumed_more}
-
--- ## Octets that a writer takes piece by piece
-
--- all but what is left was written
-pub record IsLeft (before after : Option (List ℕ)) (octets left : List ℕ) : Type 0 where
-  pub part : List ℕ
-  pub split : octets ≡ part ++ left
-  pub appended : Appends before after part
-
-appended_kept : (a b c : Option (List ℕ)) (xs : List ℕ) → Appends a b xs → Keeps b c → Appends a c xs
-appended_kept None b c xs p q = tt
-appended_kept (Some x) None c xs p q = absurd p
-appended_kept (Some x) (Some y) None xs p q = absurd q
-appended_kept (Some x) (Some y) (Some z) xs p q = q ∙ p
-
-pub left_all : (a : Option (List ℕ)) (octets : List ℕ) → IsLeft a a octets octets
-left_all a octets = record { part = []; split = refl; appended = appended_none a }
-
-pub left_less : (a b c : Option (List ℕ)) (octets left later : List ℕ) (count : ℕ) → IsLeft a b octets left → Appends b c (take count left) → later ≡ drop count left → IsLeft a c octets later
-left_less a b c octets left later count h p e = record {
-  part = h.part ++ take count left;
-  split = rw (e, append_assoc h.part (take count left) (drop count left), take-append-drop count left) h.split;
-  appended = appended_more a b c h.part (take count left) h.appended p;
-}
-
-pub left_same : (a b c : Option (List ℕ)) (octets left : List ℕ) → IsLeft a b octets left → Keeps b c → IsLeft a c octets left
-left_same a b c octets left h k = record { part = h.part; split = h.split; appended = appended_kept a b c h.part h.appended k }
-
-pub begun_left : (a b : Option (List ℕ)) (octets left : List ℕ) → IsLeft a b octets left → IsBegun a b octets
-begun_left a b octets left h = record { part = h.part; left = left; split = h.split; appended = h.appended }
-
-pub begun_kept : (a b c : Option (List ℕ)) (octets : List ℕ) → IsBegun a b octets → Keeps b c → IsBegun a c octets
-begun_kept a b c octets h k = record { part = h.part; left = h.left; split = h.split; appended = appended_kept a b c h.part h.appended k }
-
-pub whole_kept : (a b c : Option (List ℕ)) (octets : List ℕ) → Appends a b octets → Keeps b c → Appends a c octets
-whole_kept a b c octets p k = appended_kept a b c octets p k
-
-none_left : (xs : List ℕ) → length xs ≡ 0 → xs ≡ []
-none_left [] e = refl
-none_left (x ∷ xs) e = cc
-
--- with nothing left all was written
-pub left_none : (a b : Option (List ℕ)) (octets left : List ℕ) → IsLeft a b octets left → length left ≡ 0 → Appends a b octets
-left_none a b octets left h e =
-    subst (λ (l : List ℕ). Appends a b l) (sym (h.split ∙ ap (λ l. h.part ++ l) (none_left left e) ∙ append-nil h.part)) h.appended
 
 -- ## By whatever answers
 

@@ -4,13 +4,6 @@ use Rattle.std.specs.Io.KnownBytes.{Appends, Consumes}
 use Rattle.modem_serve.specs.declared.serving.SimOptions.{SimOptions}
 use Rattle.modem_serve.specs.Serving.{Answers, Setting, setting_of}
 
--- a beginning of the octets was written, and nothing else: all, some of them, or none
-pub record IsBegun (before after : Option (List ℕ)) (octets : List ℕ) : Type 0 where
-  pub part : List ℕ
-  pub left : List ℕ
-  pub split : octets ≡ part ++ left
-  pub appended : Appends before after part
-
 -- with this and some more all that came would be answered
 pub record BeginsAnswer (s : Setting) (came went piece part : List ℕ) : Type 0 where
   pub left : List ℕ

@@ -3,3 +3,4 @@ pub mod FirstWords
 pub mod CommandWords
 pub mod RuleLines
 pub mod DialectLines
+pub mod Written

@@ -4,3 +4,4 @@ pub mod LineFaults
 pub mod Texts
 pub mod DialectNames
 pub mod DialectTexts
+pub mod Writing

@@ -5,7 +5,8 @@ use Rattle.modem_runs.specs.Bench.{IsNoSubmission}
 use Rattle.modem_texts.specs.Input.{input_lines}
 use Rattle.modem_runs.specs.Input.{IsFirstBad}
 use Rattle.modem_runs.specs.Statuses.{status_of, stop_line}
-use Rattle.modem_runs.specs.Stopping.{HasGivenUp, HasStopped, IsBegun, IsBenchStop, IsRunStop}
+use Rattle.modem_runs.specs.Stopping.{HasGivenUp, HasStopped, IsBenchStop, IsRunStop}
+use Rattle.modem_texts.specs.Writing.{IsBegun}
 use Rattle.modem_runs.specs.LineFaults.{SubmissionFault}
 use Rattle.modem_texts.specs.declared.line_fault.LineFault.{LineFault}
 use Rattle.modem_runs.specs.declared.stop.DialectFault.{DialectFault}

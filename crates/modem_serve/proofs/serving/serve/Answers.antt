@@ -1,7 +1,7 @@
 use Rattle.std.proofs.Common.{List, ℕ, [], subst, take, rules}
 use Rattle.std.specs.Io.KnownBytes.{Appends, Consumes}
 use Rattle.mux_capture.specs.declared.packet.Direction.TheVariants.{FromModem}
-use Rattle.modem_serve.specs.Leaving.{IsBegun}
+use Rattle.modem_texts.specs.Writing.{IsBegun}
 use Rattle.modem_serve.specs.Standing.{setting_by}
 use Rattle.modem_serve.proofs.Served.{consumed_none, keeps_same}
 use Rattle.modem_serve.proofs.Leaving.{left_unanswered, left_unwritten, few_taken}

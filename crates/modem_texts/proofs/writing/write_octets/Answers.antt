@@ -1,7 +1,7 @@
 use Rattle.std.proofs.Common.{rules}
-use Rattle.modem_serve.proofs.Leaving.{left_less, left_same}
-use Rattle.modem_serve.proofs.writing.write_on.Goals as goal
-use Rattle.modem_serve.proofs.writing.write_on.Goals.{in-Ok, in-Err}
+use Rattle.modem_texts.proofs.Written.{left_less, left_same}
+use Rattle.modem_texts.proofs.writing.write_octets.Goals as goal
+use Rattle.modem_texts.proofs.writing.write_octets.Goals.{in-Ok, in-Err}
 
 pub loop-preserved : goal.loop-preserved
 loop-preserved g c =

@@ -1,14 +1,14 @@
--- A text that a writer takes piece by piece.
+-- Octets that a writer takes piece by piece.
 use Rattle.std.specs.Prelude.{◌≡◌, ℕ, List, [], ◌∷◌, ◌++◌, Option, None, Some, length, take, drop, refl}
 use Rattle.std.proofs.Common.{sym, ap, ◌∙◌}
 use Rattle.std.proofs.lemmas.List.{append_assoc, append-nil, take-append-drop}
 use Rattle.std.specs.Io.KnownBytes.{Appends, Keeps}
-use Rattle.modem_runs.specs.Stopping.{IsBegun}
+use Rattle.modem_texts.specs.Writing.{IsBegun}
 
 -- all but what is left was written
-pub record IsLeft (before after : Option (List ℕ)) (text left : List ℕ) : Type 0 where
+pub record IsLeft (before after : Option (List ℕ)) (octets left : List ℕ) : Type 0 where
   pub part : List ℕ
-  pub split : text ≡ part ++ left
+  pub split : octets ≡ part ++ left
   pub appended : Appends before after part
 
 appends_none : (a : Option (List ℕ)) → Appends a a []
@@ -27,21 +27,21 @@ appends_kept (Some x) None c xs p q = absurd p
 appends_kept (Some x) (Some y) None xs p q = absurd q
 appends_kept (Some x) (Some y) (Some z) xs p q = q ∙ p
 
-pub left_all : (a : Option (List ℕ)) (text : List ℕ) → IsLeft a a text text
-left_all a text = record { part = []; split = refl; appended = appends_none a }
+pub left_all : (a : Option (List ℕ)) (octets : List ℕ) → IsLeft a a octets octets
+left_all a octets = record { part = []; split = refl; appended = appends_none a }
 
-pub left_less : (a b c : Option (List ℕ)) (text left later : List ℕ) (count : ℕ) → IsLeft a b text left → Appends b c (take count left) → later ≡ drop count left → IsLeft a c text later
-left_less a b c text left later count h p e = record {
+pub left_less : (a b c : Option (List ℕ)) (octets left later : List ℕ) (count : ℕ) → IsLeft a b octets left → Appends b c (take count left) → later ≡ drop count left → IsLeft a c octets later
+left_less a b c octets left later count h p e = record {
   part = h.part ++ take count left;
   split = rw (e, append_assoc h.part (take count left) (drop count left), take-append-drop count left) h.split;
   appended = appends_more a b c h.part (take count left) h.appended p;
 }
 
-pub left_same : (a b c : Option (List ℕ)) (text left : List ℕ) → IsLeft a b text left → Keeps b c → IsLeft a c text left
-left_same a b c text left h k = record { part = h.part; split = h.split; appended = appends_kept a b c h.part h.appended k }
+pub left_same : (a b c : Option (List ℕ)) (octets left : List ℕ) → IsLeft a b octets left → Keeps b c → IsLeft a c octets left
+left_same a b c octets left h k = record { part = h.part; split = h.split; appended = appends_kept a b c h.part h.appended k }
 
-pub begun_left : (a b : Option (List ℕ)) (text left : List ℕ) → IsLeft a b text left → IsBegun a b text
-begun_left a b text left h = record { part = h.part; left = left; split = h.split; appended = h.appended }
+pub begun_left : (a b : Option (List ℕ)) (octets left : List ℕ) → IsLeft a b octets left → IsBegun a b octets
+begun_left a b octets left h = record { part = h.part; left = left; split = h.split; appended = h.appended }
 
 none_left : (xs : List ℕ) → length xs ≡ 0 → xs ≡ []
 none_left [] e = refl
@@ -66,8 +66,8 @@ begun_first a b first second h = record {
 }
 
 -- a writer that keeps what it has
-pub begun_kept : (a b c : Option (List ℕ)) (text : List ℕ) → IsBegun a b text → Keeps b c → IsBegun a c text
-begun_kept a b c text h k = record { part = h.part; left = h.left; split = h.split; appended = appends_kept a b c h.part h.appended k }
+pub begun_kept : (a b c : Option (List ℕ)) (octets : List ℕ) → IsBegun a b octets → Keeps b c → IsBegun a c octets
+begun_kept a b c octets h k = record { part = h.part; left = h.left; split = h.split; appended = appends_kept a b c h.part h.appended k }
 
-pub whole_kept : (a b c : Option (List ℕ)) (text : List ℕ) → Appends a b text → Keeps b c → Appends a c text
-whole_kept a b c text p k = appends_kept a b c text p k
+pub whole_kept : (a b c : Option (List ℕ)) (octets : List ℕ) → Appends a b octets → Keeps b c → Appends a c octets
+whole_kept a b c octets p k = appends_kept a b c octets p k

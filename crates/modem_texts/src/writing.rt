@@ -1,0 +1,57 @@
+//! Texts go to a writer, as far as it takes them.
+ghost use Rattle.std.specs.Prelude.{◌≡◌, ◌++◌, ◌∷◌, [], true};
+ghost use Rattle.std.specs.Io.KnownBytes.{Appends};
+ghost use Rattle.modem_texts.specs.Writing.{IsBegun};
+
+use std::io::{ErrorKind, Write};
+
+/// How many writes a writer has to take octets within.
+const WRITES: u32 = 16_777_216;
+
+/// Writes octets as far as the writer takes them, and says whether it took all. A write that was interrupted is made again.
+pub fn write_octets<W: Write>(output: &mut W, octets: &[u8]) -> bool
+    ensures whole { result ≡ true → Appends (W.contents output.old) (W.contents output.new) octets.now }
+    ensures part { IsBegun (W.contents output.old) (W.contents output.new) octets.now }
+{
+    let mut left = octets;
+    for _ in 0..WRITES {
+        if left.is_empty() {
+            return true;
+        }
+        match output.write(left) {
+            Ok(0) => return false,
+            Ok(count) => (_, left) = left.split_at(count),
+            Err(error) if error.kind() == ErrorKind::Interrupted => {}
+            Err(_) => return false,
+        }
+    }
+    false
+}
+
+/// Writes octets and flushes, and says whether the writer took all.
+pub fn put_octets<W: Write>(output: &mut W, octets: &[u8]) -> bool
+    ensures whole { result ≡ true → Appends (W.contents output.old) (W.contents output.new) octets.now }
+    ensures part { IsBegun (W.contents output.old) (W.contents output.new) octets.now }
+{
+    if !write_octets(output, octets) {
+        return false;
+    }
+    output.flush().is_ok()
+}
+
+/// Writes a line of three parts, as far as the writer takes it.
+pub fn say_line<W: Write>(faults: &mut W, first: &str, second: &str, third: &str)
+    ensures { IsBegun (W.contents faults.old) (W.contents faults.new)
+        (first.now ++ second.now ++ third.now ++ 10 ∷ []) }
+{
+    if !write_octets(faults, first.as_bytes()) {
+        return;
+    }
+    if !write_octets(faults, second.as_bytes()) {
+        return;
+    }
+    if !write_octets(faults, third.as_bytes()) {
+        return;
+    }
+    let _ = write_octets(faults, b"\n");
+}
