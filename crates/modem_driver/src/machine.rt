@@ -87,7 +87,7 @@ impl Machine {
         Machine::with_dialect(alloc, n1, &standard, kinds)
     }
 
-    /// The same at a modem whose codes are those of this dialect.
+    /// As `new`, at a modem whose codes are those of this dialect.
     pub(crate) fn with_dialect(
         alloc: Global,
         n1: u16,

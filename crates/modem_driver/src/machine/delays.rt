@@ -15,7 +15,7 @@ pub(crate) struct Delay {
     pub ticks: u64,
 }
 
-/// Of each of the connections 0 to 61 what its last tick found.
+/// What the last tick found on each of the connections 0 to 61.
 pub(crate) type Delays = [Option<Delay>; Dlci::COUNT];
 
 /// Whether it is a command on this connection.
