@@ -20,8 +20,8 @@ pub record OfCaller (taken queued : List Request) (told waiting : List Outcome) 
 pub record OfListener (announced waiting : List Urc) (l : ListenerView) : Type 0 where
   pub lines : l.heard ++ waiting ≡ announced
 
--- The desk books of these callers and listeners, where so many requests are queued, and these outcomes and
--- lines wait for each in turn.
+-- The desk books of these callers and listeners, where these requests are queued, and these outcomes and lines wait for
+-- each in turn.
 pub record DeskBooks (d : DriverView) (cs : List CallerView) (ls : List ListenerView) (queued : List Request)
     (untaken : List (List Outcome)) (unheard : List (List Urc)) : Type 0 where
   pub callers :

@@ -1,5 +1,5 @@
--- The rule of a desk's request queue: of each caller, what the driver has taken and then what the queue holds
--- is what the caller submitted.
+-- The rule of a desk's request queue: a caller's requests that the driver took, and then those in the queue, are those
+-- that it submitted.
 use Rattle.std.specs.Prelude.{◌≡◌, ℕ, ◌<◌, ◌≤◌, ◌==◌, true, false, List, [], ◌∷◌, ◌++◌, length, Option, Some, None}
 use Rattle.std.specs.List.{filter}
 use mathlib.Core.Option.{some}
@@ -112,9 +112,9 @@ abbrev pub FitsPass : Shared → List Request → ℕ → View → Type 0
 FitsPass d items pass v =
     (v.drives ≡ true → FitsDriver d items pass v) × (v.submits ≡ true → FitsCaller d pass v)
 
--- All that came through the queue is what the driver took and then what is queued. Of a number that wasn't
--- given out nothing came, and nobody has it. Of a caller that has left, what came is what it had submitted.
--- The requests of each caller are numbered one after the other. Each pass knows what fits.
+-- All that came through the queue is what the driver took and then what is queued. No request has a number that wasn't
+-- given out, and no caller has it. The requests of a caller that has left are those that it had submitted. The requests
+-- of each caller are numbered one after the other. Each pass knows what fits.
 pub record RuleKept (items : List Request) (views : List View) : Type 0 where
   pub desk : Shared
   pub whole : desk.all ≡ desk.taken ++ items

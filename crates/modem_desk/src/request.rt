@@ -75,7 +75,7 @@ pub enum Answer {
     Done(AnswerLines),
     /// The connection is open now.
     Opened,
-    /// It is shut now.
+    /// The connection is shut now.
     Shut,
     /// The probe came back.
     ProbeBack,
@@ -100,7 +100,7 @@ pub enum Answer {
 }
 
 impl Answer {
-    /// Its number.
+    /// The number of this answer.
     pub fn number(&self) -> u8
         ensures { result ≡ answer_number self.now }
     {
