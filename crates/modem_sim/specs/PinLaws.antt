@@ -54,7 +54,7 @@ tells_network ContextQuery = true
 tells_network AttachQuery = true
 tells_network _ = false
 
--- before it is ready the former are refused
+-- before the modem is ready, commands that change something of the network are refused
 abbrev pub RefusesBefore : ModemStart → List ℕ → Type 0
 RefusesBefore start pin =
     (lines : List (List ℕ)) (n : ℕ) (c : Command) → WrongTries pin lines n → changes_network c ≡ true
@@ -64,8 +64,8 @@ RefusesBefore start pin =
 abbrev pub unlocked_start : ModemStart → ModemStart
 unlocked_start start = record start { pin = None }
 
--- what a modem is told before it is ready changes nothing of it: once ready it tells what one tells that
--- starts without a PIN
+-- what a modem is told before it is ready changes nothing of it: once ready it tells the same as a modem that starts
+-- without a PIN
 abbrev pub ChangesNothingBefore : ModemStart → List ℕ → Type 0
 ChangesNothingBefore start pin =
     (lines : List (List ℕ)) (line : List ℕ) (n : ℕ) (c : Command) → WrongTries pin lines n → n < 3
