@@ -64,7 +64,7 @@ abbrev pub count_from : ℕ → ℕ → List ℕ
 count_from first zero = []
 count_from first (suc n) = count_from first n ++ (first + n) ∷ []
 
--- its requests are numbered one after the other from its first number
+-- the requests are numbered one after the other from the first number
 abbrev pub IsNumbered : ℕ → List Request → Type 0
 IsNumbered first rs = map (λ r. r.number) rs ≡ count_from first (length rs)
 

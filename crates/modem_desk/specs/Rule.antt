@@ -136,7 +136,7 @@ DrainsOne v x w =
     (rest : List Request) × (w ≡ draining v.given (v.taken ++ x ∷ []) v.known rest) × (x.caller < v.given)
     × (length rest < 64) × (v.counted ≡ true → v.waiting ≡ x ∷ rest)
 
--- of each caller that has left, what was taken and what waits is what it had submitted
+-- the requests of each caller that has left, those taken and then those that wait, are those that it had submitted
 abbrev pub IsDrained : View → List Request → Type 0
 IsDrained v items =
     ((i : ℕ) (k : Known) → get_elem? v.known i ≡ some k → of_caller k.number (v.taken ++ items) ≡ k.submitted)

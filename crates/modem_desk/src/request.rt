@@ -178,7 +178,7 @@ pub struct Urc {
     pub kind: UrcKind,
     /// The connection on which it came.
     pub dlci: Dlci,
-    /// Its octets without the line end, of which the driver keeps at most 512 (V.250, 5.7).
+    /// Its octets without the line end; the driver keeps at most 512 (V.250, 5.7).
     pub line: Text,
 }
 
