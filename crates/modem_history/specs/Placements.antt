@@ -40,7 +40,7 @@ AreReadAsSent commands out =
     AreCommandLines commands → IsPrefixOf out (concat (with_cr commands))
     → lines out ≡ wholly_sent (length out) commands
 
--- of the commands accepted on a connection the other end reads just those that are wholly sent
+-- of the commands accepted on a connection, the other end reads just those that are wholly sent
 unfoldable pub ReadsAccepted : Setting → List Act → Type 0
 ReadsAccepted s past =
     (d : ℕ) → AreCommandLines (map line_of (accepted s.role d past))

@@ -71,7 +71,7 @@ pub record SessionView : Type 0 where
   pub unplaced : List Outcome
   pub unannounced : List Urc
 
--- its history is an initiator's, which listens to these kinds
+-- the setting of a session's history: an initiator that listens to these kinds
 abbrev pub driving : Beginning → Setting
 driving b = record { role = Initiator; n1 = b.n1; dialect = b.dialect; listens = is_listened b.kinds }
 

@@ -224,7 +224,7 @@ pub record IsWriterFull (b : Beginning) (v : SessionView) (t : Exchange)
   pub held : HoldsWhereRoom b v before
   pub no_request : (t.next ≡ Some None) ⊎ (length (in_hand past) + length v.unplaced ≡ 128)
 
--- No octets wait. An outcome for this caller waits, which the desk handed back in this turn; none waits for a lesser
+-- No octets wait, and an outcome for this caller does, which the desk handed back in this turn. None waits for a lesser
 -- caller. Nothing else is held up by it.
 pub record IsWaiting (b : Beginning) (v : SessionView) (t : Exchange) (past : List Act) (c : ℕ) : Type 0 where
   pub written : v.unwritten ≡ []

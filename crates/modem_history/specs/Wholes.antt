@@ -112,7 +112,7 @@ outcomes [] = []
 outcomes (Told o ∷ past) = outcomes past ++ o ∷ []
 outcomes (_ ∷ past) = outcomes past
 
--- by its caller and number it is this request
+-- the requests have the same caller and number
 abbrev pub is_same : Request → Request → Bool
 is_same r q = (r.caller == q.caller) && (r.number == q.number)
 
