@@ -106,8 +106,8 @@ pub record WantsRoom (k : Machine) : Type 0 where
   pub at_hand : k.deframer.next ≢ None
   pub no_room : HandLacksRoom k
 
--- what a machine answers to input. Not blocked: all octets are taken and no frame is at hand. OutputFirst: the frame at
--- hand lacks room. NoMemory: a frame is at hand.
+-- what a machine answers to input: nothing blocks it where all octets are taken and no frame is at hand; OutputFirst
+-- where the frame at hand lacks room; NoMemory where a frame is at hand
 abbrev pub MachineSays : Machine → (all : Type 0) → Option Blocked → Type 0
 MachineSays k all None = all × (k.deframer.next ≡ None)
 MachineSays k all (Some OutputFirst) = WantsRoom k

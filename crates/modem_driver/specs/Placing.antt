@@ -102,7 +102,7 @@ caller_of o = o.caller
 abbrev pub place_of : Urc → ℕ
 place_of u = kind_place u.kind
 
--- of no kind that is listened to and isn't held up a line waits
+-- no line waits of a kind that is listened to and isn't held up
 abbrev pub LeavesAll : (kinds : List UrcKind) → (held : List Bool) → List Urc → Type 0
 LeavesAll kinds held lines =
     (k : UrcKind) → Contains kinds k → slice_index_or held (kind_place k) false ≡ false

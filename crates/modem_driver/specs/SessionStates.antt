@@ -65,7 +65,7 @@ pub record SessionState (X : Type 0) : Type 0 where
   pub driver : DriverView
   pub machine : Machine
 
--- its line is lost: each history that it fits says so too
+-- the session's line is lost: each history that it fits says so too
 abbrev pub has_lost_line : {X : Type 0} → SessionState X → Bool
 has_lost_line s = s.machine.core.lost
 
@@ -115,7 +115,7 @@ session_view look s = seen_by (look s.line) (end_of s.driver) s.machine
 
 -- ## Which histories it fits
 
--- What the view doesn't show. The core fits the history, for this N1 and this desk's kinds and callers, and knows which
+-- What the view doesn't show: the core fits the history, for this N1 and this desk's kinds and callers, and knows which
 -- connections are held. The session knows whether a call on the line has failed since it began, how far it has come on
 -- the way to its end, and how long commands have waited. At most one request in hand is a Stop.
 pub record MachineFits (b : Beginning) (l : LineView) (d : DriverView) (k : Machine)

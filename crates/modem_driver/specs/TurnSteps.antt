@@ -175,7 +175,7 @@ pub record Writes (old new : TurnState) (moved : Bool) : Type 0 where
 
 -- ## The frame at hand is handled
 
--- The frame stays at hand where there is no room for what it calls for.
+-- The frame at hand is handled, or stays where there is no room for what it calls for.
 pub record Gets (old new : TurnState) (moved : Bool) : Type 0 where
   pub acts : List Act
   pub leads : Leads old new acts
@@ -233,7 +233,7 @@ pub record ReadsOn (old new : TurnState) (moved : Bool) : Type 0 where
 
 -- ## A request is taken
 
--- It takes the request kept aside, or else the next of the desk, where those in hand and the outcomes that wait are
+-- The request kept aside is taken, or else the next of the desk, where those in hand and the outcomes that wait are
 -- fewer than 128.
 pub record TakesOne (old new : TurnState) (moved : Bool) : Type 0 where
   pub next : Option (Option Request)

@@ -61,7 +61,7 @@ abbrev pub CountsTick : (old new : List (Option Delay)) → (hand : List Request
 CountsTick old new hand =
     (d : ℕ) → d < 62 → delay_at new d ≡ delay_after (delay_at old d) (first_command d hand)
 
--- of each connection what is kept is what the history says
+-- what is kept of each connection is what the history says
 abbrev pub AreDelays : List (Option Delay) → List Act → Type 0
 AreDelays delays past =
     (d : ℕ) → d < 62 → (who : Asker) → ticks_kept (delay_at delays d) who ≡ ticks_waited d who past

@@ -74,10 +74,10 @@ pub fn turning_away()
     ensures passes { TurnsOn }
 {}
 
-/// Worked ends of a session, computed by the definitions. A Stop that is answered or given up has ended; one that a
-/// loss of the line ends hasn't, nor does a probe that is given up end it. The session has ended where all frames sent
-/// are written and all outcomes told, and stays so; where an octet or an outcome waits it hasn't. A session whose Stop
-/// has ended doesn't go on as if none had.
+/// Worked ends of a session, computed by the definitions. A Stop that is answered or given up has ended. A loss of the
+/// line ends no Stop so, nor does a probe that is given up. The session has ended where all frames sent are written and
+/// all outcomes told, and stays so; where an octet or an outcome waits it hasn't. A session whose Stop has ended
+/// doesn't go on as if none had.
 #[tactic(auto, using(crate::proofs::rows::EndingRowFacts::all_stopped, crate::proofs::rows::EndingRowFacts::none_stopped, crate::proofs::rows::EndingRowFacts::right_ending, crate::proofs::rows::EndingRowFacts::stays_ended, crate::proofs::rows::EndingRowFacts::no_endings, crate::proofs::rows::EndingRowFacts::no_going))]
 pub fn endings()
     ensures stopped { list_all ends_in stopped_rows ≡ true }

@@ -7,8 +7,8 @@ use crate::machine::course::Asker;
 use modem_desk::{Ask, Request};
 use mux_frame::Dlci;
 
-/// Whose command a tick found the first in hand on a connection, and how many ticks in a row did. The count stops at
-/// `u64::MAX`.
+/// The asker of the command that a tick found first in hand on a connection, and how many ticks in a row did. The count
+/// stops at `u64::MAX`.
 #[derive(Clone, Copy)]
 pub(crate) struct Delay {
     pub asker: Asker,
