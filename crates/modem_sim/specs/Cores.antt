@@ -26,8 +26,8 @@ use Rattle.modem_sim.specs.Boxes.{Box, fresh_box, FitsOpen, Brought, box_turned,
 use Rattle.modem_sim.specs.Doing.{acts, call_of, call_owed, left, named_by, is_closed_down}
 use Rattle.modem_sim.specs.Histories.{EachAllowed, got, sent}
 
--- Its station, its modem, whether it repeats commands, what it keeps of each connection, how many lines came (a count
--- that stops at u64::MAX), the steps that are left, and whether it has closed down.
+-- What an end keeps: its station, its modem, whether it repeats commands, what it keeps of each connection, how many
+-- lines came (a count that stops at u64::MAX), the steps that are left, and whether it has closed down.
 pub record Core : Type 0 where
   pub station : stations.Station
   pub modem : ModemState

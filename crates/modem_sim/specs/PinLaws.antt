@@ -87,7 +87,7 @@ IsReadyAlways start =
 
 -- ## The network (7.2, 7.3, 10.1.9)
 
--- it says that it is registered at home, that the SIM is ready, that it isn't deregistered
+-- the answer says that the modem is registered at home; that the SIM is ready; that the modem isn't deregistered
 abbrev pub is_home : Answer → Bool
 is_home (Ok (Reg n registration)) = registration.stat == 1
 is_home _ = false
@@ -108,8 +108,8 @@ pub record Asks (reg pin oper attachment attach : List ℕ) : Type 0 where
   pub attached_is : IsTextOf attachment AttachQuery
   pub attach_is : IsTextOf attach (AttachSet true)
 
--- It is registered where the SIM is ready and it isn't deregistered; it may attach where it is registered, and is
--- attached nowhere else.
+-- The modem is registered where the SIM is ready and it isn't deregistered; it may attach where it is registered, and
+-- is attached nowhere else.
 pub record FollowsNetwork (s : ModemState) (reg pin oper attachment attach : List ℕ) : Type 0 where
   pub registered :
       is_home (answered s RegQuery reg)

@@ -11,8 +11,8 @@ use Rattle.modem_sim.specs.Cores.{IsLater}
 
 -- ## Its turns
 
--- What a turn comes to. Failed just where the line had failed before, and then nothing changes. Line where a call of
--- the line fails in it, and the line has failed from then on. Else want of memory, or what was done.
+-- What a turn comes to: Failed just where the line had failed before, and then nothing changes; Line where a call of
+-- the line fails in it, and the line has failed from then on; else want of memory, or what was done.
 pub record Turned {X : Type 0} (see : Sight X) (old new : SimState X) (says : Result SimTurn SimError) :
     Type 0 where
   pub goes : SimGoes see.received see.sent old new

@@ -221,7 +221,8 @@ impl Channel {
     }
 }
 
-/// Tells every connection that so many lines ended on this one. Each command is told, so that no count can overflow.
+/// Tells every connection that so many lines ended on this one. Every connection hears of each command, so that no
+/// count can overflow.
 pub(crate) fn hear_all(channels: &mut Vec<Channel>, dlci: Dlci, ended: usize)
     ensures { channels.new.items ≡ map (box_heard dlci.number ended) channels.old.items }
 {
