@@ -47,7 +47,7 @@ struct cimbaloty {
 #define CIMBALOTY_NONE { 0 }
 #endif
 
-/* What a call answers. A call that isn't done leaves all as it was, but where it says otherwise. */
+/* What a call answers. A refused call leaves all as it was, but where it says otherwise. */
 enum cimbaloty_status {
 	CIMBALOTY_OK = 0,
 	CIMBALOTY_NO_MEMORY = 1,    /* an allocation was refused: call again later */
@@ -109,13 +109,13 @@ enum cimbaloty_kind {
 #define CIMBALOTY_OWN_BIT(kind) (UINT64_C(1) << ((kind) - CIMBALOTY_OWN))
 #define CIMBALOTY_ALL_OWN UINT64_MAX
 
-/* How a connection stands. */
+/* The state of a connection. */
 enum cimbaloty_channel_state {
 	CIMBALOTY_IS_SHUT = 1, CIMBALOTY_IS_OPENING = 2, CIMBALOTY_IS_OPENED = 3,
 	CIMBALOTY_IS_CLOSING = 4, CIMBALOTY_IS_STOPPING = 5
 };
 
-/* The most that is in hand at a time, and the most octets of a line, of an answer too: a longer line is cut. */
+/* The most requests in hand at a time, and the most octets of a line, also of an answer: a longer one is cut. */
 #define CIMBALOTY_REQUESTS 128
 #define CIMBALOTY_LINE_LENGTH 512
 
@@ -141,7 +141,7 @@ struct cimbaloty_left {
 	size_t lines;           /* likewise */
 };
 
-/* Which lines with a rule's text at their front are lines of the rule: those that go on behind it so. */
+/* How a line of a rule goes on behind the rule's text, with which it begins. */
 enum cimbaloty_form {
 	CIMBALOTY_LINE = 1,         /* not at all: the text alone */
 	CIMBALOTY_PREFIX = 2,       /* in any way */
@@ -168,14 +168,14 @@ struct cimbaloty_dialect {
 /* The version of the library, in the form of CIMBALOTY_VERSION. */
 uint32_t cimbaloty_version(void);
 
-/* Makes a driver where there is none. n1: how many octets of information a frame may have, as AT+CMUX
+/* Makes a driver where there is none. n1: the most octets of information that a frame may have, as AT+CMUX
  * agreed (31 is the default of basic option; 64 to 1509 are usual). kinds: the set of kinds that are kept
- * for cimbaloty_poll_line; a line of another kind is dropped. first: the number of the first request;
- * give the last one that was used and 1 to have numbers go on after a loss of the line.
+ * for cimbaloty_poll_line; a line of another kind is dropped. first: the number of the first request; to
+ * have numbers go on after a loss of the line, give the last one that was used plus 1.
  * Refused, by the first of: HAS_DRIVER, BAD_KINDS, BAD_N1, NO_MEMORY; then there is no new one. */
 uint8_t cimbaloty_new(struct cimbaloty *c, uint16_t n1, uint8_t kinds, uint64_t first);
 
-/* The same at a modem of this dialect, of which it takes a copy: the dialect stays, and may be freed or changed.
+/* As cimbaloty_new, at a modem of this dialect. It takes a copy: the dialect stays, and may be freed or changed.
  * own: the set of the dialect's own kinds that are kept too; a bit of no kind does nothing.
  * Refused, by the first of: HAS_DRIVER, BAD_KINDS, BAD_N1, NO_DIALECT, NO_MEMORY; then there is no new one. */
 uint8_t cimbaloty_new_with_dialect(struct cimbaloty *c, struct cimbaloty_dialect *d, uint16_t n1, uint8_t kinds,
@@ -188,11 +188,11 @@ void cimbaloty_free(struct cimbaloty *c);
 
 /* One T1 has passed (27.010, 5.7.1: 10 to 2550 ms; 1 s suits most lines). An opening or closing that
  * wasn't answered is sent again, and what waits for its fourth tick is told NO_ANSWER. No tick ends a
- * command. Ticks that come early or late change that count alone.
+ * command. Ticks that come early or late change only that count.
  * Refused: NO_DRIVER; LINE_LOST; NO_MEMORY, after which the tick hasn't passed. */
 uint8_t cimbaloty_tick(struct cimbaloty *c);
 
-/* Whether a request waits that a tick may give up. Else your timer may sleep. */
+/* Whether a tick may give up a request that waits. If not, your timer may sleep. */
 bool cimbaloty_wants_tick(struct cimbaloty *c);
 
 /* The line has failed or ended. Each request that has no outcome is told LOST, and nothing is sent any
@@ -200,12 +200,12 @@ bool cimbaloty_wants_tick(struct cimbaloty *c);
  * Refused: NO_DRIVER; LINE_LOST; NO_MEMORY, after which the line isn't lost: call again. */
 uint8_t cimbaloty_line_lost(struct cimbaloty *c);
 
-/* How many ticks in a row have found the command that is the first in hand on a connection there: so long its
- * answer hasn't ended. Nothing is given up by itself: where it is too many, cimbaloty_close the connection.
+/* How many ticks in a row have found the same command first in hand on a connection: for so many ticks its answer
+ * hasn't ended. No command is given up by itself: where there are too many, cimbaloty_close the connection.
  * Refused: NO_DRIVER, BAD_DLCI, NOTHING where no command of the connection is in hand; *ticks is as it was. */
 uint8_t cimbaloty_waiting_ticks(struct cimbaloty *c, uint8_t dlci, uint64_t *ticks);
 
-/* How a connection stands (enum cimbaloty_channel_state); 0 where there is no driver or no such connection. */
+/* The state of a connection (enum cimbaloty_channel_state); 0 where there is no driver or no such connection. */
 uint8_t cimbaloty_state(struct cimbaloty *c, uint8_t dlci);
 
 /* ---- Dialects ------------------------------------------------------------------------------------- */
@@ -225,14 +225,14 @@ void cimbaloty_dialect_free(struct cimbaloty_dialect *d);
 
 /* ---- Requests ------------------------------------------------------------------------------------- */
 
-/* Each request that is taken gets the next number, and one outcome. What can't be done is told by its
- * outcome (NOT_OPEN, BUSY ..). Refused: NO_DRIVER, first; what the call says; FULL; NO_MEMORY. A refused
+/* Each request that is taken gets the next number, and one outcome. One that can't be done is told so by
+ * its outcome (NOT_OPEN, BUSY ..). Refused: NO_DRIVER, first; what the call says; FULL; NO_MEMORY. A refused
  * request has no number and no outcome, and *number is as it was. */
 
 /* Opens a connection. Open 0 first: it is the control channel. BAD_DLCI. */
 uint8_t cimbaloty_open(struct cimbaloty *c, uint8_t dlci, uint64_t *number);
 
-/* Closes it. BAD_DLCI. */
+/* Closes a connection. BAD_DLCI. */
 uint8_t cimbaloty_close(struct cimbaloty *c, uint8_t dlci, uint64_t *number);
 
 /* Ends the multiplexer. */
@@ -256,10 +256,10 @@ uint16_t cimbaloty_dialect_kind_at(struct cimbaloty_dialect *d, const uint8_t *n
 
 /* The library's own functions owe a valid pointer for length 0 too. These below take NULL there. */
 
-/* Octets came from the line, cut as they may be. *taken says how many of the first were taken: give the
- * others again. All are taken with OK, and where one of the others comes with *taken == length; what is
- * taken is never given again, and never lost: what couldn't be handled yet is tried by the next call of
- * cimbaloty_output, of cimbaloty_tick, and with each request.
+/* Takes octets that came from the line, however they are cut. *taken says how many of the first were taken:
+ * give the others again. With OK all are taken; with another answer all are where *taken == length. Never give
+ * again what was taken: it isn't lost. What couldn't be handled yet is tried by the next call of
+ * cimbaloty_output or cimbaloty_tick, and with each request.
  * OUTPUT_FIRST: the line has to take octets first. NO_MEMORY. NO_DRIVER: *taken is 0. */
 static inline uint8_t cimbaloty_input(struct cimbaloty *c, const uint8_t *octets, size_t length, size_t *taken)
 {
@@ -268,11 +268,11 @@ static inline uint8_t cimbaloty_input(struct cimbaloty *c, const uint8_t *octets
 	return cimbaloty_input_at(c, length ? octets : &none, length, taken);
 }
 
-/* The next octets for the line, at most `length`, which count as sent from then on: write them all, in
- * order, or call cimbaloty_line_lost. Fewer than `length` come only where nothing else waits for the line.
- * It handles what waits from before too, and lets the modem send on where lines were taken by
- * cimbaloty_poll_line; memory that is refused for that costs nothing: it is tried again by the next call.
- * 0: nothing waits for the line, or there is no driver. What stands behind the octets stays. */
+/* Writes the next octets for the line to the front of the room, at most `length`, and says how many. They
+ * count as sent from then on: write them all, in order, or call cimbaloty_line_lost. It gives fewer than
+ * `length` only where nothing else waits for the line. It also handles what waits from before, and lets the
+ * modem send on where cimbaloty_poll_line took lines; where memory is refused for that, the next call tries
+ * again. 0: nothing waits for the line, or there is no driver. The rest of the room stays as it was. */
 static inline size_t cimbaloty_output(struct cimbaloty *c, uint8_t *room, size_t length)
 {
 	uint8_t none = 0;
@@ -300,12 +300,12 @@ static inline uint8_t cimbaloty_probe(struct cimbaloty *c, const uint8_t *octets
 
 /* ---- What came of it ------------------------------------------------------------------------------ */
 
-/* cimbaloty_peek_outcome shows the head of the outcome that waits first, which stays. It takes no memory.
+/* cimbaloty_peek_outcome shows the head of the first outcome that waits, which stays. It takes no memory.
  * Refused: NO_DRIVER, NOTHING; then the head is as it was. */
 
-/* Takes the outcome that waits first: its head, and its text at the front of the room, without a 0 behind
+/* Takes the first outcome that waits: its head, and its text at the front of the room, without a 0 behind
  * it. It takes no memory. NO_ROOM: the head says how much room the text needs, and the outcome still waits.
- * NO_DRIVER, NOTHING: the head is as it was. With none but OK is the room written to. */
+ * NO_DRIVER, NOTHING: the head is as it was. The room is written to only with OK. */
 static inline uint8_t cimbaloty_poll_outcome(struct cimbaloty *c, struct cimbaloty_outcome *head, char *text, size_t room)
 {
 	uint8_t none = 0;
@@ -313,8 +313,8 @@ static inline uint8_t cimbaloty_poll_outcome(struct cimbaloty *c, struct cimbalo
 	return cimbaloty_poll_outcome_at(c, head, room ? (uint8_t *)text : &none, room);
 }
 
-/* cimbaloty_peek_line and this do the same with the unsolicited line that waits first. Where 256 lines of a
- * connection wait the modem is asked to send nothing more on it, until fewer than 128 do. */
+/* cimbaloty_peek_line and this do the same with the first unsolicited line that waits. Where 256 lines of a
+ * connection wait, the modem is asked to send nothing more on it until fewer than 128 do. */
 static inline uint8_t cimbaloty_poll_line(struct cimbaloty *c, struct cimbaloty_line *head, char *text, size_t room)
 {
 	uint8_t none = 0;
@@ -343,8 +343,8 @@ static inline uint8_t cimbaloty_dialect_add_final(struct cimbaloty_dialect *d, u
 }
 
 /* Adds a rule behind those that there are: its lines are unsolicited, of the kind of this name. The standard
- * goes before all rules, and of the rules that take a line the first is asked.
- * Refused as that of cimbaloty_dialect_add_final, with BAD_NAME behind LINE_END. */
+ * goes before all rules, and of the rules that take a line the first counts.
+ * Refused as cimbaloty_dialect_add_final is, with BAD_NAME behind LINE_END. */
 static inline uint8_t cimbaloty_dialect_add_unsolicited(struct cimbaloty_dialect *d, uint8_t form, const char *text,
 							size_t length, const char *name, size_t name_length)
 {
@@ -370,9 +370,9 @@ static inline uint16_t cimbaloty_dialect_kind(struct cimbaloty_dialect *d, const
  *  2. One call at a time on one driver, and on one dialect. Calls may come from different threads where your
  *     lock, the start or join of a thread, or a sequentially consistent atomic puts each behind the one before
  *     it. Two drivers share nothing, and a driver nothing with the dialect that it was made with.
- *  3. A pointer isn't null, but beside a length of 0 above, is aligned for its type, and points to as many
- *     values as the length says, which have been written; where the call writes, nothing else that the call
- *     is given lies there. Lengths are at most PTRDIFF_MAX.
+ *  3. A pointer isn't null, but beside a length of 0 above. It is aligned for its type, and points to as many
+ *     values as the length says, which have been written. What the call writes to overlaps nothing else that
+ *     it is given. Lengths are at most PTRDIFF_MAX.
  *  4. The program has rattle_alloc, rattle_realloc and rattle_dealloc, of one allocator, whose blocks are
  *     aligned to each power of two up to 16 that divides their size. They may refuse. No call is made from a
  *     signal handler, nor in the forked child of a process with threads.

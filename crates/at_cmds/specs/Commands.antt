@@ -40,7 +40,7 @@ text_of AttachQuery = codes "AT+CGATT?"
 text_of (ErrorMode n) = codes "AT+CMEE=" ++ numeral n
 text_of Multiplex = codes "AT+CMUX=0"
 
--- why a command has no text that may be written: of several reasons the first by its number
+-- why a command has no text that may be written: the reason with the lowest number
 abbrev pub refused_for : Command → Option CmdError
 refused_for (PinEnter pin) = if is_pin pin then None else Some BadPin
 refused_for (RegReport n) = if is_mode n then None else Some BadNumber

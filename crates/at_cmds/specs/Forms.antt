@@ -19,7 +19,7 @@ numeral_in _ = None
 abbrev pub in_quotes : List ℕ → List ℕ
 in_quotes text = 34 ∷ text ++ 34 ∷ []
 
--- between so many and so many of octets that pass
+-- `least` to `most` octets that all pass the test
 abbrev pub is_run : (ℕ → Bool) → ℕ → ℕ → List ℕ → Bool
 is_run test least most text = list_all test text && (nat_le least (length text) && nat_le (length text) most)
 

@@ -9,7 +9,7 @@ infixl 10 ◌>>=◌
 abbrev pub ◌>>=◌ : {A B : Type 0} → Option A → (A → Option B) → Option B
 o >>= f = option_and_then f o
 
--- an octet more in front of the first of some texts
+-- some texts, with this octet in front of the first
 abbrev pub put_front : ℕ → List (List ℕ) → List (List ℕ)
 put_front c [] = (c ∷ []) ∷ []
 put_front c (first ∷ more) = (c ∷ first) ∷ more

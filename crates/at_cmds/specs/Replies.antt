@@ -131,7 +131,7 @@ abbrev pub is_malformed_context : AnswerLine → Bool
 is_malformed_context line =
     starts_with nat_eq line.text (codes "+CGDCONT:") && is_none (context_of (parameters (drop 9 line.text)))
 
--- the contexts of all lines, if none of those with their name is of another form
+-- the contexts of all lines, unless a line with their name isn't of their form
 abbrev pub contexts_unless : Option ℕ → List AnswerLine → Result Reply ReplyFault
 contexts_unless None lines = Ok (Contexts (filter_map context_in lines))
 contexts_unless (Some index) lines = Err (Malformed index)
@@ -159,7 +159,7 @@ good_reply_of ContextQuery lines = contexts_of lines
 good_reply_of AttachQuery lines = read_line attached_of (first_named (codes "+CGATT:") lines)
 good_reply_of _ lines = Ok Accepted
 
--- a CME code without a number: that of its text behind any blanks, where that is one of the texts
+-- the fault of a CME code whose text has this number, or none
 abbrev pub cme_fault : Option ℕ → ReplyFault
 cme_fault None = PlainError
 cme_fault (Some n) = Cme n

@@ -94,7 +94,7 @@ command_in Cmee value = do
   Some (ErrorMode n)
 command_in Cmux value = if bytes_eq value (codes "=0") then Some Multiplex else None
 
--- what a function answers is what the table says, but where memory for a text is refused
+-- a function answers what the table says, but where memory for a text is refused
 abbrev pub Gives : Result (Option Command) CmdError → Option Command → Type 0
 Gives (Ok found) read = found ≡ read
 Gives (Err why) read = (why ≡ NoMemory) × (option_map_or has_own_text read false ≡ true)

@@ -16,7 +16,7 @@ use std::alloc::Global;
 /// The value of a command that queries.
 const QUERY: &[u8] = b"?";
 
-/// What follows a beginning of a text, if that is this one, with its letters in either case.
+/// What follows this beginning of a text, with its letters in either case, if the text has it.
 pub(crate) fn after_head<'a>(text: &'a [u8], head: &[u8]) -> Option<&'a [u8]>
     ensures { MatchOption result (¬ HasHead head.now text.now)
         (λ value. HasHead head.now text.now × (value.now ≡ drop (length head.now) text.now)) }

@@ -87,7 +87,7 @@ fn cell_code_of(param: &[u8]) -> Option<u32>
     hex_of(quoted_of(param)?)
 }
 
-/// The same, or nothing at all.
+/// A location area code or a cell, or nothing at all.
 pub(crate) fn optional_cell_code(param: &[u8]) -> Option<Option<u32>>
     ensures { result ≡ optional cell_code_of param.now }
 {

@@ -45,7 +45,7 @@ can_be_ambiguous rules (UrcRule form text name) =
     list_any (λ r. can_meet (pattern form text) r.0) standard_finals
     || list_any (λ p. can_meet (pattern form text) p) rules.finals
 
--- why a text is none of a rule
+-- why a text can't be that of a rule
 abbrev pub text_refusal : List ℕ → Option DialectError
 text_refusal text =
     if length text == 0 then Some NoText

@@ -21,7 +21,7 @@ pub record AreKnownFinals : Type 0 where
   pub longer : final_by dialling (codes "BUSY ") ≡ None
   pub connect : final_by dialling (codes "CONNECT") ≡ None
 
--- what kinds lines are of by them
+-- what kinds lines are of, by the dialects that come ready
 pub record AreKnownKinds : Type 0 where
   pub eps : kind_by common (codes "+CEREG: 2") ≡ Some (Own 0)
   pub eps_cell : kind_by common (codes "+CEREG: 1,\"00A1\",\"01B2C3D4\",7") ≡ Some (Own 0)

@@ -1,4 +1,4 @@
--- Where the rules stand that take a line, by its third and fourth octet.
+-- The places of the rules that take a line, by its third and fourth octet.
 use Rattle.std.specs.Prelude.{◌≡◌, ◌<◌, ◌≤◌, ℕ, ◌+◌, ◌*◌, ◌%◌, nat_le, Bool, true, List, length, map, Some, slice_index, slice_index_or}
 use Rattle.std.specs.List.{slice_get}
 use Rattle.at_text.specs.declared.heads.Span.{Span}

@@ -6,7 +6,7 @@ use Rattle.std.specs.List.{list_any}
 abbrev pub is_line_end : ℕ → Bool
 is_line_end c = c == 13 || c == 10
 
--- an octet before the first of some runs; before none of them it is in no run that ended
+-- some runs, with this octet at the front of the first; where there are none, the octet is in no run that ended
 abbrev pub onto_first : ℕ → List (List ℕ) → List (List ℕ)
 onto_first c [] = []
 onto_first c (run ∷ runs) = (c ∷ run) ∷ runs

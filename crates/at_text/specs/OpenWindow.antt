@@ -15,7 +15,7 @@ pub record OpenWindow : Type 0 where
   pub lines : List AnswerLine
   pub fresh : Bool
 
--- no line has come yet
+-- the window of a command, of whose answer no line has come yet
 abbrev pub opened : List ℕ → OpenWindow
 opened command = record { command = command; lines = []; fresh = true }
 
@@ -43,7 +43,7 @@ abbrev pub with_line : OpenWindow → List ℕ → OpenWindow
 with_line o line =
     record { command = o.command; lines = o.lines ++ record { text = line } ∷ []; fresh = false }
 
--- one step: what a line that isn't unsolicited is, by what the window shows, and what the window shows then
+-- one step: what a line that isn't unsolicited is, by what the window shows
 abbrev pub solicited_by : Dialect → Option OpenWindow → List ℕ → Seen
 solicited_by dialect None line = Other
 solicited_by dialect (Some o) line =

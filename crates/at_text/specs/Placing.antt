@@ -24,8 +24,8 @@ marks_from run (Command text ∷ parts) = Begun text ∷ marks_from run parts
 abbrev pub marks_of : List Part → List Mark
 marks_of parts = marks_from [] parts
 
--- the lines that are placed are the lines of all octets, whatever commands come between, and where octets are
--- cut changes no mark
+-- the lines that are placed are the lines of all octets, whatever commands come between, and the marks are the same
+-- wherever octets are cut
 pub record PlacesLines (parts : List Part) : Type 0 where
   pub all : lines_of (marks_of parts) ≡ lines (octets_of parts)
   pub cut :

@@ -81,8 +81,8 @@ pub record IsRefused (rules : Rules) (rule : Rule) (why : DialectError) : Type 0
 abbrev pub is_short : List ℕ → Bool
 is_short text = nat_le (length text) 64
 
--- what is so of every dialect: its rules are few and short, each has a name, by which its kind is found, no line both
--- ends an answer and is unsolicited, and no line that begins as a command line does is either
+-- What holds of every dialect: its rules are few and short, and each unsolicited rule has a name, by which its kind is
+-- found. No line both ends an answer and is unsolicited, and no line that begins as a command line does is either.
 pub record IsSound (rules : Rules) : Type 0 where
   pub few : count rules ≤ 64
   pub short_finals : list_all (λ p. is_short p.text) rules.finals ≡ true

@@ -53,7 +53,7 @@ no_rules = record { finals = []; urcs = [] }
 abbrev pub final_by : Rules → List ℕ → Option Final
 final_by rules line = option_or (final_of line) (option_map Named (position (λ p. takes p line) rules.finals))
 
--- of what kind a line is that no command asked for: by the standard, else by the first rule that takes it
+-- the kind of a line that no command asked for: by the standard, else by the first rule that takes it
 abbrev pub kind_by : Rules → List ℕ → Option UrcKind
 kind_by rules line =
     option_or (unsolicited_of line) (option_map (λ u. Own u.kind) (find (λ u. takes u.pattern line) rules.urcs))

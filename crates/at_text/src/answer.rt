@@ -54,7 +54,7 @@ impl AnswerLines {
         lines
     }
 
-    /// One more line. Want of memory leaves the lines as they were.
+    /// Adds a line. Want of memory leaves the lines as they were.
     pub(crate) fn push(&mut self, line: AnswerLine) -> Result<(), AllocError>
         ensures ok { OnOk result (self.new ≡ self.old ++ line ∷ []) }
         ensures err { OnErr result (self.new ≡ self.old) }
@@ -63,8 +63,7 @@ impl AnswerLines {
         Ok(())
     }
 
-    /// Its lines come before these, and are gone from it; it has the memory that these had. Want of memory leaves both as they
-    /// were.
+    /// Moves its lines to the front of `lines`, and keeps the memory that these had. Want of memory leaves both as they were.
     pub(crate) fn lead(&mut self, lines: &mut AnswerLines) -> Result<(), AllocError>
         ensures lines { OnOk result (lines.new ≡ self.old ++ lines.old) }
         ensures left { OnOk result (self.new ≡ []) }

@@ -80,7 +80,7 @@ impl Dialect {
     /// The standard, and what modems commonly send beside it: as a final code `+CMS ERROR:` (27.005, 3.2.5), and as
     /// unsolicited lines `+CEREG:` (27.007, 10.1.22), `+C5GREG:` (27.007, 10.1.47), `+CMTI:`, `+CDSI:` (27.005,
     /// 3.4.1), `+CLIP:` (27.007, 7.6), `+CCWA:` (27.007, 7.12), `+CTZV:` and `+CTZE:` (27.007, 8.41), each of the kind
-    /// of its name, without `+` and colon. It is refused for 8 NoMemory alone.
+    /// of its name, without `+` and colon. Refused only with 8 NoMemory.
     ///
     /// It has neither `+CMT:` nor `+CDS:`, whose message comes on a second line, nor `CONNECT`, behind which octets
     /// of data follow.
@@ -101,8 +101,8 @@ impl Dialect {
     }
 
     /// What `common` has, and the final codes of dialling, `NO CARRIER`, `BUSY`, `NO ANSWER` and `NO DIALTONE` (V.250,
-    /// 5.7.1). A modem can send these unasked as well: then they end whatever command is under way. It is refused for
-    /// 8 NoMemory alone.
+    /// 5.7.1). A modem can send these unasked as well: then they end whatever command is under way. Refused only with 8
+    /// NoMemory.
     pub fn dialling(alloc: Global) -> Result<Dialect, DialectError>
         ensures rules { IfOk result (λ dialect. dialect ≡ dialling) }
         ensures refused { IfErr result (λ why. why ≡ DialectError.NoMemory) }

@@ -9,7 +9,7 @@ pub fn standard_rules()
     ensures { AreStandard }
 {}
 
-/// Worked examples of dialects, computed by the definitions: what lines are by those that come ready and by one of a
+/// Worked examples of dialects, computed by the definitions: what lines are by the dialects that come ready and by a
 /// vendor's, and which rules are refused.
 #[tactic(auto, using(crate::proofs::dialects::DialectRowFacts::are_known_finals, crate::proofs::dialects::DialectRowFacts::are_known_kinds, crate::proofs::dialects::DialectRowFacts::is_vendor, crate::proofs::dialects::DialectRowFacts::are_refused, crate::proofs::dialects::DialectRowFacts::are_taken))]
 pub fn worked_dialects()

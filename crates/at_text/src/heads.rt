@@ -1,4 +1,4 @@
-//! Where the rules of a dialect stand that may take a line, by the line's third and fourth octet.
+//! The places of the rules of a dialect that may take a line, by the line's third and fourth octet.
 ghost use Rattle.std.specs.Prelude.{◌≡◌, ◌<◌, ◌≤◌, ℕ, List, true, length, map, drop, take};
 ghost use Rattle.at_text.specs.Rules.{pattern, takes};
 ghost use Rattle.at_text.specs.Heads.{head, is_headed, no_places, span_at, IsIn, AreSpanned};
@@ -16,7 +16,7 @@ pub(crate) struct Span {
 }
 
 impl Span {
-    /// That of no places.
+    /// The span of no places.
     pub(crate) fn none() -> Span
         ensures { result ≡ no_places }
     {

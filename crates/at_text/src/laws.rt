@@ -34,7 +34,7 @@ pub fn windows()
     ensures { (dialect : Dialect) (marks : List Mark) → IsInTurn dialect marks → NoneLost dialect marks }
 {}
 
-/// The lines that are placed are those of all octets, and where octets are cut changes no line's place.
+/// The lines that are placed are those of all octets, each at the same place wherever the octets are cut.
 pub fn placing()
     ensures { (parts : List Part) → PlacesLines parts }
 {}

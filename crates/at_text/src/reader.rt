@@ -41,7 +41,7 @@ impl Model for LineReader {
 impl LineReader {
     ghost use Rattle.at_text.specs.contracts.reader.LineReader.{the_row};
 
-    /// Nothing has been read.
+    /// A reader that has read nothing.
     pub fn new() -> LineReader
         ensures { HasRead result [] }
     {

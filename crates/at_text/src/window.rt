@@ -133,7 +133,7 @@ impl Model for Window {
 }
 
 impl Window {
-    /// No command is under way.
+    /// A window with no command under way.
     pub fn new(alloc: Global) -> Window
         ensures none { result ≡ None }
         ensures past { (dialect : Codes) → FitsMarks dialect result [] }
@@ -210,9 +210,9 @@ impl Window {
         })
     }
 
-    /// The other becomes a window of the same command with none of its lines, on which lines can be seen and let go of
-    /// again; where both have a command, in the memory that the other has. `follow` puts the lines so far before its
-    /// own, and `lead` before those of an answer that was whole on it.
+    /// Makes `fork` a window of the same command with none of its lines, on which lines can be seen and dropped again.
+    /// Where both have a command, it uses the memory that `fork` has. `follow` puts the lines so far before the fork's
+    /// own, and `lead` before those of an answer that was whole on the fork.
     pub fn fork_into(&self, fork: &mut Window)
         ensures { fork.new ≡ forked self.now }
     {

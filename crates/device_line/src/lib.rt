@@ -1,5 +1,5 @@
-//! The line of a device whose calls wait, on which no call does. One thread reads the device into a ring, another writes a second
-//! ring out to the device. The line is a `StreamLine` over the other ends of the two rings.
+//! The line of a device. Calls on the device wait; calls on the line don't. One thread reads the device into a ring, another
+//! writes a second ring out to the device. The line is a `StreamLine` over the other ends of the two rings.
 //!
 //! The octets that the line received and sent are those that passed its ends of the rings. No contract says what the device itself
 //! gave and took. The clauses of `pump` and `drain` say what they carry, where the octets of the reader or the writer are known.

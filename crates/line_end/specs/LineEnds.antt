@@ -10,7 +10,7 @@ pub record LineEnd : Type 0 where
   pub unwritten : List ℕ
   pub failed : Bool
 
--- nothing has come or gone yet
+-- an end where nothing has come or gone yet
 abbrev pub new_end : ℕ → LineEnd
 new_end n1 = record {
   unfed = [];

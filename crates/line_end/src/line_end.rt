@@ -41,8 +41,8 @@ impl Model for LineEnd {
 impl LineEnd {
     ghost use Rattle.line_end.specs.contracts.line_end.LineEnd.{the_row};
 
-    /// Nothing has come or gone yet. N1 is the most octets of information that a frame that comes may have. It takes all
-    /// the room that it ever needs. Refused with 3 BadN1 where N1 isn't 31 to 32767, checked first, and with 2 NoMemory.
+    /// A new end. N1 is the most octets of information that a frame that comes may have. It takes all the room that it
+    /// ever needs. Refused with 3 BadN1 where N1 isn't 31 to 32767, checked first, and with 2 NoMemory.
     pub fn new(alloc: Global, n1: u16) -> Result<LineEnd, FrameError>
         ensures ok { IfOk result (λ e. e ≡ new_end n1) }
         ensures past { IfOk result (λ e. Deframes [] [] e.deframer) }
@@ -67,7 +67,7 @@ impl LineEnd {
         self.failed
     }
 
-    /// The line has failed, as the caller found who carries the octets.
+    /// Notes that the line has failed, as the caller found that carries the octets.
     pub fn fail(&mut self)
         ensures { self.new ≡ record self.old { failed = true } }
     {

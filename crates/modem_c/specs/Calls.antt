@@ -22,17 +22,17 @@ abbrev pub HoldsSome : Option EndpointState → (EndpointState → Type 0) → T
 HoldsSome None p = ⊥
 HoldsSome (Some e) p = p e
 
--- it holds an endpoint, of which this holds
+-- the driver holds an endpoint, and this is true of it
 abbrev pub Holds : Cimbaloty → (EndpointState → Type 0) → Type 0
 Holds c p = HoldsSome (endpoint_of c) p
 
--- it held an endpoint and holds one, and this holds of the two
+-- the driver held an endpoint before, holds one now, and this is true of the two
 abbrev pub Goes : (old new : Cimbaloty) → (EndpointState → EndpointState → Type 0) → Type 0
 Goes old new p = Holds old (λ e. Holds new (p e))
 
 -- ## Requests
 
--- a request that asks this of the connection of this number has the next number
+-- a request that asks this of this connection has the next number
 pub record NumbersAt (e f : EndpointState) (asks : Dlci → Ask) (dlci n : ℕ) : Type 0 where
   pub connection : Dlci
   pub is_it : connection.number ≡ dlci
@@ -40,7 +40,7 @@ pub record NumbersAt (e f : EndpointState) (asks : Dlci → Ask) (dlci n : ℕ) 
 
 -- ## Time
 
--- by every history that it fits, so many ticks the first command of the connection of this number has waited, where one is in hand
+-- by every history that the endpoint fits, how many ticks the first command in hand on this connection has waited, if there is one
 abbrev pub HasWaited : EndpointState → ℕ → Option ℕ → Type 0
 HasWaited e n ticks =
     (b : Beginning) (l : LineView) (d : DriverView) (past : List Act) → EndpointFits b l d e past → ticks ≡ waiting_ticks n past
@@ -56,7 +56,7 @@ pub data GivesOn : LineView → DriverView → EndpointState → EndpointState �
   handled : (l : LineView) (d : DriverView) (e f g : EndpointState) (before : List ℕ) (blocked : Option Blocked)
       → GivesOn l d e f before → TakesOctets (with_sent l before) d f g [] blocked → GivesOn l d e g before
 
--- what an output does is calls of an endpoint, over a line that took its octets
+-- an output is a sequence of an endpoint's calls, over a line that took its octets
 unfoldable pub OutputsAreCalls : Type 0
 OutputsAreCalls =
     (l : LineView) (d : DriverView) (e f : EndpointState) (octets : List ℕ) → GivesOn l d e f octets

@@ -17,11 +17,11 @@ abbrev pub HasSome : Option Rules → (Rules → Type 0) → Type 0
 HasSome None p = ⊥
 HasSome (Some rules) p = p rules
 
--- it holds a dialect, of whose rules this holds
+-- it holds a dialect, and this is true of its rules
 abbrev pub Has : CimbalotyDialect → (Rules → Type 0) → Type 0
 Has d p = HasSome (rules_of d) p
 
--- it held a dialect and holds one, and this holds of the rules of the two
+-- it held a dialect before, holds one now, and this is true of the rules of the two
 abbrev pub Changes : (old new : CimbalotyDialect) → (Rules → Rules → Type 0) → Type 0
 Changes old new p = Has old (λ r. Has new (p r))
 

@@ -65,7 +65,7 @@ form_number Form.OpenReport = 5
 
 -- ## Refusals of a dialect
 
--- those of a dialect behind 48, and that of memory as everywhere
+-- a dialect's refusal is 48 and its number; that of memory is 1, as everywhere
 abbrev pub dialect_refusal : DialectError → ℕ
 dialect_refusal DialectError.TooManyRules = 49
 dialect_refusal DialectError.NoText = 50

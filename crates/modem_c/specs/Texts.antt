@@ -34,7 +34,7 @@ lines_text lines = flat_map line_text lines
 abbrev pub text_of : Answer → List ℕ
 text_of answer = lines_text (lines_of answer)
 
--- what an outcome is but for its text; a length that no room has is told as the greatest
+-- the head of an outcome, all but its text; a length above u64::MAX is told as u64::MAX
 pub record IsOutcomeHead (h : OutcomeHead) (o : Outcome) : Type 0 where
   pub number : h.number ≡ o.number
   pub answer : h.answer ≡ answer_number o.answer
@@ -54,7 +54,7 @@ pub record HandsOutcome (e f : EndpointState) (h : OutcomeHead) (before after : 
 
 -- ## Unsolicited lines
 
--- what a line is but for its text
+-- the head of a line, all but its text
 pub record IsLineHead (h : LineHead) (u : Urc) : Type 0 where
   pub kind : h.kind ≡ kind_number u.kind
   pub dlci : h.dlci ≡ u.dlci.number

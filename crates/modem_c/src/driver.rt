@@ -44,7 +44,7 @@ impl Cimbaloty {
         self.is_open
     }
 
-    /// Its endpoint, if there is one; there is none then.
+    /// Takes its endpoint, if there is one; then there is none.
     pub(crate) fn take(&mut self, alloc: Global) -> Option<Box<Endpoint>>
         ensures what { IfSome result (λ b. self.old.handle.held ≡ Some b.value) }
         ensures nothing { result ≡ None → self.old.handle.held ≡ None }

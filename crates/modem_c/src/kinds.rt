@@ -70,7 +70,7 @@ fn add_own_kinds(kinds: &mut Vec<UrcKind>, own: u64) -> Result<(), AllocError>
     Ok(())
 }
 
-/// The kinds of a set, and those of a dialect's own of another.
+/// The kinds of a set, and the kinds of a dialect's own of another set.
 pub(crate) fn kinds_of_sets(alloc: Global, kinds: u8, own: u64) -> Result<Vec<UrcKind>, AllocError>
     ensures { IfOk result (λ v. v.items ≡ kinds_of_sets kinds own) }
 {

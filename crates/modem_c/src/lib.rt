@@ -1,4 +1,4 @@
-//! A driver of a cellular modem for programs in C: the calls of include/cimbaloty.h, each an endpoint's
+//! A driver of a cellular modem for programs in C. Each call of include/cimbaloty.h calls an endpoint
 //! (`modem_driver::Endpoint`), whose contract it carries through.
 #![tactic(auto)]
 

@@ -10,7 +10,7 @@ use crate::places::put;
 use modem_driver::{Endpoint, Urc};
 use std::alloc::Global;
 
-/// What an unsolicited line is but for its text.
+/// An unsolicited line but for its text.
 #[repr(C)]
 #[derive(Clone, Copy)]
 pub struct LineHead {
@@ -71,7 +71,7 @@ fn hand(endpoint: &mut Endpoint, head: &mut LineHead, text: &mut [u8]) -> u8
     OK
 }
 
-/// Shows the head of the unsolicited line that waits first, which stays.
+/// Shows the head of the first unsolicited line that waits. The line stays.
 #[unsafe(no_mangle)]
 pub extern "C" fn cimbaloty_peek_line(alloc: Global, c: &mut Cimbaloty, head: &mut LineHead) -> u8
     ensures ok { result ≡ OK → Holds c.old (λ e. ShowsLine e head.new) }
@@ -89,7 +89,7 @@ pub extern "C" fn cimbaloty_peek_line(alloc: Global, c: &mut Cimbaloty, head: &m
     shown
 }
 
-/// Hands the unsolicited line that waits first out, head and text, if its text has room; it waits no more then.
+/// Hands out the first unsolicited line that waits, head and text, if its text has room. It then waits no more.
 #[unsafe(no_mangle)]
 pub extern "C" fn cimbaloty_poll_line_at(
     alloc: Global,

@@ -1,4 +1,4 @@
-//! A driver is made and freed.
+//! Makes and frees drivers.
 ghost use Rattle.std.specs.Prelude.{◌≡◌, ◌≢◌, ◌<◌, ◌≤◌, ◌⊎◌, ◌↔◌, None, IfSome};
 ghost use Rattle.at_text.specs.Rules.{dialect_of};
 ghost use Rattle.modem_driver.specs.Endpoints.{Begins, BeginsBy, endpoint_by, new_endpoint};

@@ -1,5 +1,5 @@
-//! What calls answer. Refusals of an endpoint, of a text and of a dialect have the numbers of those; a text's stand behind 32, a
-//! dialect's behind 48.
+//! What calls answer. The refusals of an endpoint keep their numbers. A text's refusal is 32 and its number, a dialect's 48 and
+//! its number.
 
 /// It is done.
 pub const OK: u8 = 0;
@@ -49,8 +49,8 @@ pub const NO_DIALECT: u8 = 25;
 /// There is no such form of a rule.
 pub const BAD_FORM: u8 = 26;
 
-/// The refusals of a text stand behind this number.
+/// A text's refusal is this and its number.
 pub const TEXT: u8 = 32;
 
-/// The refusals of a dialect stand behind this number.
+/// A dialect's refusal is this and its number.
 pub const DIALECT: u8 = 48;

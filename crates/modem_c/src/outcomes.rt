@@ -10,7 +10,7 @@ use at_text::AnswerLine;
 use modem_driver::{Answer, Endpoint, Outcome};
 use std::alloc::Global;
 
-/// What an outcome is but for its text.
+/// An outcome but for its text.
 #[repr(C)]
 #[derive(Clone, Copy)]
 pub struct OutcomeHead {
@@ -120,7 +120,7 @@ fn hand(endpoint: &mut Endpoint, head: &mut OutcomeHead, text: &mut [u8]) -> u8
     OK
 }
 
-/// Shows the head of the outcome that waits first, which stays.
+/// Shows the head of the first outcome that waits. The outcome stays.
 #[unsafe(no_mangle)]
 pub extern "C" fn cimbaloty_peek_outcome(
     alloc: Global,
@@ -142,7 +142,7 @@ pub extern "C" fn cimbaloty_peek_outcome(
     shown
 }
 
-/// Hands the outcome that waits first out, head and text, if its text has room; it waits no more then.
+/// Hands out the first outcome that waits, head and text, if its text has room. It then waits no more.
 #[unsafe(no_mangle)]
 pub extern "C" fn cimbaloty_poll_outcome_at(
     alloc: Global,

@@ -1,4 +1,4 @@
-//! Time that passes, the end of the line, and how connections stand.
+//! Time that passes, the end of the line, and the states of connections.
 ghost use Rattle.std.specs.Prelude.{◌≡◌, ◌≢◌, ◌<◌, ◌≤◌, ◌↔◌, ◌⊎◌, true, false, None, Some, OnOk, OnErr, IfErr};
 ghost use Rattle.std.specs.List.{list_any};
 ghost use Rattle.modem_desk.specs.Ends.{DriverView};
@@ -87,7 +87,7 @@ fn waiting_ticks(endpoint: &Endpoint, dlci: Dlci) -> Option<u64>
     endpoint.waiting_ticks(dlci)
 }
 
-/// Hands out how many ticks in a row have found the command that is the first in hand on a connection there.
+/// Hands out how many ticks in a row have found the same command first in hand on a connection.
 #[unsafe(no_mangle)]
 pub extern "C" fn cimbaloty_waiting_ticks(
     alloc: Global,
@@ -136,7 +136,7 @@ fn state_number(state: ChannelState) -> u8
     }
 }
 
-/// How a connection stands; 0 where there is no driver or no such connection.
+/// The state of a connection; 0 where there is no driver or no such connection.
 #[unsafe(no_mangle)]
 pub extern "C" fn cimbaloty_state(alloc: Global, c: &mut Cimbaloty, dlci: u8) -> u8
     ensures value { (e : EndpointState) → endpoint_of c.old ≡ Some e → dlci ≤ 61

@@ -7,21 +7,21 @@ use Rattle.modem_desk.specs.declared.request.Urc.{Urc}
 use Rattle.modem_desk.specs.Rule.{of_caller}
 use Rattle.modem_desk.specs.Ends.{CallerView, ListenerView, DriverView, Each, IsNumbered}
 
--- Of a caller: its requests among those taken, and then its requests still queued, are those that it
--- submitted, numbered one after the other from its first number. The outcomes that it took, and then those
--- that wait for it, are those told to it.
+-- A caller's books: its requests among those taken, and then its requests still queued, are those that it submitted,
+-- numbered one after the other from its first number. The outcomes that it took, and then those that wait for it, are
+-- those told to it.
 pub record OfCaller (taken queued : List Request) (told waiting : List Outcome) (c : CallerView) :
     Type 0 where
   pub order : of_caller c.place.number taken ++ of_caller c.place.number queued ≡ c.submitted
   pub numbered : IsNumbered c.place.first c.submitted
   pub outcomes : c.got ++ waiting ≡ told
 
--- Of a listener: the lines that it took, and then those that wait for it, are those announced to it.
+-- A listener's books: the lines that it took, and then those that wait for it, are those announced to it.
 pub record OfListener (announced waiting : List Urc) (l : ListenerView) : Type 0 where
   pub lines : l.heard ++ waiting ≡ announced
 
--- The desk books of these callers and listeners, where so many requests are queued, and these outcomes and
--- lines wait for each in turn.
+-- The desk books of these callers and listeners, where these requests are queued, and these outcomes and lines wait for
+-- each in turn.
 pub record DeskBooks (d : DriverView) (cs : List CallerView) (ls : List ListenerView) (queued : List Request)
     (untaken : List (List Outcome)) (unheard : List (List Urc)) : Type 0 where
   pub callers :

@@ -1,6 +1,5 @@
--- What contracts see of a caller, of a listener and of the driver's end, and the desk books. A view also
--- has what an end has seen of its ring, so that handing back and finding nothing can be promised as far as
--- that goes.
+-- What contracts see of a caller, of a listener and of the driver's end, and the desk books. A view also has what an
+-- end has seen of its ring: what is promised of handing back and of finding nothing goes as far as that.
 use Rattle.std.specs.Prelude.{◌≡◌, ◌≢◌, ℕ, zero, suc, ◌+◌, ◌-◌, ◌^◌, min, ◌∷◌, map, ◌<◌, ◌≤◌, ◌++◌, List, [], length, slice_index_or, replicate, Contains}
 use mathlib.Core.Option.{some}
 use lib.ListN.{get_elem?}
@@ -39,7 +38,7 @@ pub record ListenerView : Type 0 where
   pub heard : List Urc
   pub seen : List Urc
 
--- which desk: its queue, a ring for each caller, and for each listener its kind and its ring
+-- a desk: its queue, a ring for each caller, and for each listener its kind and its ring
 pub record DeskId : Type 0 where
   pub queue : TableId
   pub rings : List RingId
@@ -60,12 +59,12 @@ pub record DriverView : Type 0 where
   pub told_back : List ℕ
   pub announced_back : List ℕ
 
--- n numbers, one after the other
+-- n numbers from `first`, one after the other
 abbrev pub count_from : ℕ → ℕ → List ℕ
 count_from first zero = []
 count_from first (suc n) = count_from first n ++ (first + n) ∷ []
 
--- its requests are numbered one after the other from its first number
+-- the requests are numbered one after the other from the first number
 abbrev pub IsNumbered : ℕ → List Request → Type 0
 IsNumbered first rs = map (λ r. r.number) rs ≡ count_from first (length rs)
 
@@ -94,13 +93,12 @@ IsAt d p = (p.queue ≡ d.queue) × (get_elem? d.rings p.number ≡ some p.ring)
 abbrev pub IsSubscribed : DeskId → Subscription → Type 0
 IsSubscribed d e = (get_elem? d.kinds e.place ≡ some e.kind) × (get_elem? d.line_rings e.place ≡ some e.ring)
 
--- of lists by place, that at n has the element more, and every other is the same
+-- the list at place n has the element more, and every other list is the same
 pub record Appends {A : Type 0} (n : ℕ) (x : A) (old new : List (List A)) : Type 0 where
   pub here : slice_index_or new n [] ≡ slice_index_or old n [] ++ x ∷ []
   pub others : (k : ℕ) → k ≢ n → slice_index_or new k [] ≡ slice_index_or old k []
 
--- of what was announced to each listener, that of the line's kind has the line more, and every other is the
--- same
+-- what was announced to a listener of the line's kind has the line more, and that of every other listener is the same
 pub record Announces (kinds : List UrcKind) (line : Urc) (old new : List (List Urc)) : Type 0 where
   pub here :
       (k : ℕ) → get_elem? kinds k ≡ some line.kind
@@ -108,7 +106,7 @@ pub record Announces (kinds : List UrcKind) (line : Urc) (old new : List (List U
   pub others :
       (k : ℕ) → (get_elem? kinds k ≡ some line.kind → ⊥) → slice_index_or new k [] ≡ slice_index_or old k []
 
--- of counts by place, those at these places changed in this way, and every other is the same
+-- the counts at these places changed in this way, and every other count is the same
 pub record Changes (at : ℕ → Type 0) (how : ℕ → ℕ → Type 0) (old new : List ℕ) : Type 0 where
   pub here : (k : ℕ) → at k → how (slice_index_or old k 0) (slice_index_or new k 0)
   pub others : (k : ℕ) → (at k → ⊥) → slice_index_or new k 0 ≡ slice_index_or old k 0

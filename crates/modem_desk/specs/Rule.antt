@@ -1,5 +1,5 @@
--- The rule of a desk's request queue: of each caller, what the driver has taken and then what the queue holds
--- is what the caller submitted.
+-- The rule of a desk's request queue: a caller's requests that the driver took, and then those in the queue, are those
+-- that it submitted.
 use Rattle.std.specs.Prelude.{◌≡◌, ℕ, ◌<◌, ◌≤◌, ◌==◌, true, false, List, [], ◌∷◌, ◌++◌, length, Option, Some, None}
 use Rattle.std.specs.List.{filter}
 use mathlib.Core.Option.{some}
@@ -112,9 +112,9 @@ abbrev pub FitsPass : Shared → List Request → ℕ → View → Type 0
 FitsPass d items pass v =
     (v.drives ≡ true → FitsDriver d items pass v) × (v.submits ≡ true → FitsCaller d pass v)
 
--- All that came through the queue is what the driver took and then what is queued. Of a number that wasn't
--- given out nothing came, and nobody has it. Of a caller that has left, what came is what it had submitted.
--- The requests of each caller are numbered one after the other. Each pass knows what fits.
+-- All that came through the queue is what the driver took and then what is queued. No request has a number that wasn't
+-- given out, and no caller has it. The requests of a caller that has left are those that it had submitted. The requests
+-- of each caller are numbered one after the other. Each pass knows what fits.
 pub record RuleKept (items : List Request) (views : List View) : Type 0 where
   pub desk : Shared
   pub whole : desk.all ≡ desk.taken ++ items
@@ -136,7 +136,7 @@ DrainsOne v x w =
     (rest : List Request) × (w ≡ draining v.given (v.taken ++ x ∷ []) v.known rest) × (x.caller < v.given)
     × (length rest < 64) × (v.counted ≡ true → v.waiting ≡ x ∷ rest)
 
--- of each caller that has left, what was taken and what waits is what it had submitted
+-- the requests of each caller that has left, those taken and then those that wait, are those that it had submitted
 abbrev pub IsDrained : View → List Request → Type 0
 IsDrained v items =
     ((i : ℕ) (k : Known) → get_elem? v.known i ≡ some k → of_caller k.number (v.taken ++ items) ≡ k.submitted)

@@ -139,10 +139,11 @@ impl Caller {
         (pass, outcomes, number)
     }
 
-    /// Submits a request, and gives its number: the caller's first number, and each time the next. Rings the caller's bell, if it
-    /// has one.
+    /// Submits a request, and gives its number: numbers rise by one from the caller's first. Rings the caller's bell, if it has
+    /// one.
     ///
-    /// Refused, in this order, with TooMany, Exhausted or Full. A refusal hands the ask back and uses up no number.
+    /// Refused, in this order: TooMany with 16 outcomes yet to take, Exhausted once the last number is used up, Full
+    /// with 64 requests queued. A refusal hands the ask back and uses up no number.
     pub fn submit<R: Wait>(&mut self, rt: &R, ask: Ask) -> Result<u64, (SubmitError, Ask)>
         ensures place { (self.new.place ≡ self.old.place) × (self.new.got ≡ self.old.got)
             × (self.new.seen ≡ self.old.seen) }
@@ -201,10 +202,10 @@ impl Caller {
         Some(outcome)
     }
 
-    /// Whether the driver's end is gone. If it is, the outcomes that wait are the last: `take` still gives them, and nobody tells
-    /// what is submitted later.
+    /// Whether the driver's end is gone. If it is, the outcomes that wait are the last: `take` still gives them, but nobody
+    /// answers what is submitted later.
     ///
-    /// No contract speaks of the answer, since none of `rtrb` does. Tests show it.
+    /// No contract speaks of the answer, since no contract of `rtrb` does. Tests show it.
     pub fn is_alone(&mut self) -> bool
         ensures place { (self.new.place ≡ self.old.place) × (self.new.submitted ≡ self.old.submitted) }
         ensures got { (self.new.got ≡ self.old.got) × (self.new.untaken ≡ self.old.untaken) }

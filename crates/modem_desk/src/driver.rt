@@ -21,7 +21,7 @@ use std::sync::{Arc, Wait};
 /// Contracts see which desk it is of; the requests that it took; the outcomes that it told each caller, by the caller's number; the
 /// lines that it announced to each listener, in the order of the desk's kinds; and how many places of each ring it knows to be
 /// free. They also see how often `next` found nothing, and how often something was handed back because a ring was full. These
-/// counts end at `u64::MAX`.
+/// counts stop at `u64::MAX`.
 #[derive(Drop)]
 pub struct DriverEnd {
     queue: Arc<Queue, Global>,
@@ -243,7 +243,8 @@ impl DriverEnd {
         self.kinds.contains(&kind)
     }
 
-    /// The next request that waits, of any caller. Requests of one caller come in the order in which it submitted them.
+    /// Takes the next request that waits, of any caller. Requests of one caller come in the order in which it submitted
+    /// them.
     pub fn next<R: Wait>(&mut self, rt: &R) -> Option<Request>
         ensures desk { (self.new.desk ≡ self.old.desk) × (self.new.told ≡ self.old.told)
             × (self.new.announced ≡ self.old.announced) × (self.new.free ≡ self.old.free)

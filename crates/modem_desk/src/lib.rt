@@ -1,9 +1,9 @@
 //! The desk of a cellular modem, where its users and its driver meet. Callers submit requests and take an outcome for each;
 //! listeners take unsolicited lines.
 //!
-//! The callers share one queue of 64 requests. Whatever the threads do it keeps a rule: what the driver took of a caller, and then
-//! what is queued, is what that caller submitted. Each caller has a ring of 8 outcomes, each listener a ring of 256 lines. There is
-//! no lock around any of them.
+//! The callers share one queue of 64 requests. Whatever the threads do, the queue keeps a rule: a caller's requests that the driver
+//! took, and then those queued, are those that it submitted. Each caller has a ring of 8 outcomes, each listener a ring of 256
+//! lines. There is no lock around any of them.
 #![tactic(auto)]
 
 mod caller;

@@ -75,7 +75,7 @@ pub enum Answer {
     Done(AnswerLines),
     /// The connection is open now.
     Opened,
-    /// It is shut now.
+    /// The connection is shut now.
     Shut,
     /// The probe came back.
     ProbeBack,
@@ -100,7 +100,7 @@ pub enum Answer {
 }
 
 impl Answer {
-    /// Its number.
+    /// The number of this answer.
     pub fn number(&self) -> u8
         ensures { result ≡ answer_number self.now }
     {
@@ -178,7 +178,7 @@ pub struct Urc {
     pub kind: UrcKind,
     /// The connection on which it came.
     pub dlci: Dlci,
-    /// Its octets without the line end, of which the driver keeps at most 512 (V.250, 5.7).
+    /// Its octets without the line end; the driver keeps at most 512 (V.250, 5.7).
     pub line: Text,
 }
 

@@ -24,7 +24,7 @@ pub struct View {
     pub waiting: LinkedList<Request>,
 }
 
-/// The rule: what the driver took of a caller, and then what is queued, is what the caller submitted.
+/// The rule: a caller's requests that the driver took, and then those queued, are those that it submitted.
 pub struct InOrder;
 
 impl Protocol<Request, View> for InOrder {

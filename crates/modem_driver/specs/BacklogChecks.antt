@@ -11,16 +11,17 @@ use Rattle.modem_driver.specs.Holding.{due_by}
 use Rattle.modem_driver.specs.SessionStates.{Machine, MachineFits, MachineGoes, seen_by, end_of}
 use Rattle.modem_driver.specs.TurnSteps.{is_more}
 
--- Of one connection: afterwards its backlog calls for nothing, or no MSC has a place. Of any other nothing
--- changes, and where no MSC had a place none has.
+-- The connection's backlog calls for nothing afterwards, or no MSC has a place. For any other connection nothing
+-- changes. Where no MSC had a place, none has.
 pub record SettlesOne (b : Beginning) (past acts : List Act) (d : ℕ) (lines : List Urc) : Type 0 where
   pub here : (due_by (driving b) (after past acts) d (backlog_in d lines) ≡ None)
       ⊎ LacksMscRoom b (after past acts)
   pub others : (m n : ℕ) → m ≢ d → due_by (driving b) (after past acts) m n ≡ due_by (driving b) past m n
   pub full : LacksMscRoom b past → LacksMscRoom b (after past acts)
 
--- The connection is held or freed where its backlog calls for it. Where the control queue is empty then, it
--- called for nothing; and where neither was done, it called for nothing, or no MSC had a place.
+-- The connection is held or freed where its backlog calls for it. Where the control queue is empty afterwards, the
+-- backlog called for nothing. Where the connection was neither held nor freed, the backlog called for nothing, or no
+-- MSC had a place.
 pub record ChecksOne (d : ℕ) (old new : Machine) (moved : Bool) : Type 0 where
   pub acts : List Act
   pub goes : MachineGoes old new acts

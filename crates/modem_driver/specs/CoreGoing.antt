@@ -27,14 +27,14 @@ begun_by v d (Some line) =
     then record v { lanes = slice_set v.lanes d (record (lane_at v d) { window = Some (opened line) }) }
     else v
 
--- with the last octets that wait on d its first command is whole
+-- where all octets that wait on d fit into the next frame, the window of the first command on d begins
 abbrev pub begun_on : Core → Option ℕ → Core
 begun_on v None = v
 begun_on v (Some d) =
     if nat_le (length (channel_at v.station d).waiting) v.station.n1
     then begun_by v d (option_map line_of (first_on d v.hand)) else v
 
--- the core, the window begun of the command whose last octets go out next
+-- the core, with the window begun of the command whose last octets go out next
 abbrev pub begun_next : Core → Core
 begun_next v = begun_on v (next_sender v.station v.station.queue)
 
@@ -50,7 +50,7 @@ GoesOut v o = (s : Setting) (past : List Act) → StandsIn s v past → o ≡ ne
 unfoldable pub CoreGoesOn : Core → Type 0
 CoreGoesOn v = (s : Setting) (past : List Act) → StandsIn s v past → StandsIn s (gone_on v) (after_out s past)
 
--- whose data is next may send it, by each past that the station fits
+-- the connection whose data is next may send it, by each past that the station fits
 unfoldable pub SendsTruly : Station → Type 0
 SendsTruly v =
     (d : ℕ) (seen : List station.Act) → next_sender v v.queue ≡ Some d → station_fits.StationFits v seen

@@ -4,7 +4,7 @@ use Rattle.mux_station.specs.declared.role.Role.TheVariants.{Initiator}
 use Rattle.mux_station.specs.Stations.{Station}
 use Rattle.modem_driver.specs.Lanes.{Lane}
 
--- its station is an initiator with this N1, and every connection has its lane
+-- the station is an initiator with this N1, and every connection has its lane
 pub record IsKept (station : Station) (n1 : ℕ) (lanes : List Lane) : Type 0 where
   pub role_is : station.role ≡ Initiator
   pub n1_is : station.n1 ≡ n1

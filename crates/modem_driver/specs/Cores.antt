@@ -44,7 +44,7 @@ pub record Core : Type 0 where
 abbrev pub dialect_in : Core → Dialect
 dialect_in v = dialect_of v.rules
 
--- a core to which nothing has happened yet, with these rules of a dialect
+-- a new core, with these rules of a dialect
 abbrev pub core_by : Rules → ℕ → List UrcKind → Core
 core_by rules n1 kinds = record {
   station = new_station Initiator n1;
@@ -55,7 +55,7 @@ core_by rules n1 kinds = record {
   lost = false;
 }
 
--- a core to which nothing has happened yet, by the standard's codes
+-- a new core, by the standard's codes
 abbrev pub new_core : ℕ → List UrcKind → Core
 new_core n1 kinds = core_by no_rules n1 kinds
 
@@ -69,7 +69,7 @@ state_shown v lost d = if lost then is.Shut else as_shown (channel_at v d).state
 
 -- ## Which histories it fits
 
--- a request may wait while the connections stand so
+-- the state that is shown is Opening
 abbrev pub shows_opening : ChannelState → Bool
 shows_opening is.Opening = true
 shows_opening _ = false
@@ -87,6 +87,7 @@ abbrev pub shows_stopping : ChannelState → Bool
 shows_stopping is.Stopping = true
 shows_stopping _ = false
 
+-- a request may wait while the connections stand so
 abbrev pub may_wait : (ℕ → ChannelState) → Ask → Bool
 may_wait now (OpenChannel d) = shows_opening (now d.number)
 may_wait now (CloseChannel d) = is_closing (now d.number)
@@ -140,7 +141,7 @@ pub record IsRun (s : Setting) (past : List Act) : Type 0 where
   pub whole : CompleteCalls s past
   pub numbers : UsesOnce (taken_requests past)
 
--- whose history it is: an initiator with the core's N1 and its modem's codes, which listens to its kinds
+-- the setting of a core's histories: an initiator with the core's N1 and its modem's codes, which listens to its kinds
 pub record IsSettingOf (s : Setting) (v : Core) : Type 0 where
   pub role_is : s.role ≡ Initiator
   pub n1_is : s.n1 ≡ v.station.n1
@@ -154,7 +155,7 @@ pub record MayCome (s : Setting) (v : Core) (past : List Act) (a : Act) : Type 0
   pub run : IsRun s past
   pub numbers : UsesOnce (taken_requests (a ∷ past))
 
--- what is promised after it: the acts are the first one and all that it calls for, and the core fits them too
+-- what is promised after the act: the acts are this one and all that it calls for, and the core fits them too
 pub record GoesOn (s : Setting) (new : Core) (past : List Act) (a : Act) (acts : List Act) : Type 0 where
   pub called : acts ≡ a ∷ calls s past a
   pub setting : IsSettingOf s new

@@ -19,8 +19,8 @@ use Rattle.modem_driver.specs.TurningAway.{Offline, TurnsAway, offline_from}
 
 -- ## Sessions on a desk
 
--- how the desk's end stands once a session is over, and what of that session isn't done: the requests that
--- were told nothing, and the outcomes and lines that weren't placed
+-- the desk's end once a session is over, and what that session left undone: the requests that were told nothing, and
+-- the outcomes and lines that weren't placed
 pub record Rest : Type 0 where
   pub desk : EndView
   pub in_hand : List Request
@@ -48,8 +48,9 @@ pub data RestsOf (kinds : List UrcKind) (callers : ℕ) : Leftovers → Rest →
       → RestsOf kinds callers f
       (record { desk = end_of after; in_hand = []; unplaced = left.unplaced; unannounced = left.unannounced })
 
--- The session began on this end of the desk, which listens to these kinds and has so many callers. Each request
--- that it took is of one of them. It has this history, `finish` gave what it says, and of that this rests.
+-- The session began on this end of the desk, which listens to these kinds and has so many callers. Each request that it
+-- took is of one of them. The session has this history, `finish` gave what the history says, and this rest is what
+-- rests of that.
 pub record IsSpell (kinds : List UrcKind) (callers : ℕ) (desk : EndView) (s : Spell) : Type 0 where
   pub begins : s.start.desk ≡ desk
   pub kinds_are : s.start.kinds ≡ kinds
@@ -91,7 +92,7 @@ pub record IsDeskSettled (run : DeskRun) : Type 0 where
 
 -- ## What they come to
 
--- of each session what the headline says of one
+-- what the headline says of each session
 pub record SpellHeadline (callers : List CallerView) (s : Spell) : Type 0 where
   pub leaves : (newer older : List Act) → s.past ≡ newer ++ older → (d : ℕ) → Leaves d older callers
   pub none_after_close : NoneAfterClose s.past
@@ -120,11 +121,11 @@ pub record HoldsOver (run : DeskRun) (i : ℕ) (c : CallerView) : Type 0 where
       run.settlement.left r
   pub own : list_all (λ o. list_any (λ r. is_for r o) c.submitted) (outcomes_over run i c) ≡ true
 
--- The headline of a desk, whatever sessions it had, whether or not their lines failed: in each of them what
--- leaves on a connection since it opened is a prefix of its callers' command lines taken since then, each once,
--- each caller's in its submitted order, none after a close, and each answered command has exactly its solicited
--- lines up to its final code; over all of them each subscribed unsolicited line is announced once; and at settle
--- every caller holds each of its outcomes once.
+-- The headline of a desk, whatever sessions it had, whether or not their lines failed. In each session the octets that
+-- left on a connection since it opened are a prefix of its callers' command lines taken since then: each line once,
+-- each caller's in its submitted order, none after a close. Each answered command has exactly its solicited lines up to
+-- its final code. Over all sessions each subscribed unsolicited line is announced once. At settle every caller holds
+-- each of its outcomes once.
 pub record DeskHeadline (run : DeskRun) : Type 0 where
   pub each : Each (λ _ s. SpellHeadline run.callers s) run.spells
   pub announces : Each

@@ -64,7 +64,7 @@ ends_in acts = has_stopped (after [] acts)
 abbrev pub cld_octets : List ℕ
 cld_octets = 0xF9 ∷ 0x03 ∷ 0xEF ∷ 0x05 ∷ 0xC3 ∷ 0x01 ∷ 0xF2 ∷ 0xF9 ∷ []
 
--- so much was written since it began, and so much caller 0 was told
+-- a session that has written so much since it began, and told caller 0 so much
 abbrev pub ending : List ℕ → List Outcome → SessionView
 ending written told = record {
   line = record { received = []; sent = entry_text ++ written; calls = 30; failures = 0; empty_reads = 0; stalled_writes = 0 };
@@ -86,7 +86,7 @@ IsRightEnding =
     HasEnded beginning (ending (sabm_zero ++ cld_octets)
     (ending_outcome 1 Opened ∷ ending_outcome 2 Stopped ∷ [])) (after [] stop_answered)
 
--- and so it is after more was asked and told
+-- it stays ended after more was asked and told
 unfoldable pub StaysEnded : Type 0
 StaysEnded =
     HasEnded beginning (ending (sabm_zero ++ cld_octets)

@@ -51,8 +51,8 @@ pub record Begins {X : Type 0} (xs ys : List X) : Type 0 where
   pub joins : xs ++ rest ≡ ys
 
 -- A session has ended: in some beginning of its history a Stop was answered by Stopped or NoAnswer, all
--- frames sent in that beginning are written, and each caller has all outcomes told in it. So it is ever
--- after, whatever else happens.
+-- frames sent in that beginning are written, and each caller has all outcomes told in it. It stays so, whatever else
+-- happens.
 pub record HasEnded (b : Beginning) (v : SessionView) (past : List Act) : Type 0 where
   pub before : List Act
   pub since : List Act
@@ -69,7 +69,7 @@ IsEnd b v past (Err fault.NoMemory) = ⊥
 IsEnd b v past (Err fault.Line) = is_lost past ≡ true
 IsEnd b v past (Err fault.Failed) = is_lost past ≡ true
 
--- how far it has come: no Stop was answered so; or one was; and then it has ended
+-- how far a session has come: no Stop was answered by Stopped or NoAnswer; one was; or this end holds of it
 abbrev pub HasCome : Beginning → SessionView → List Act → Course → Type 0
 HasCome b v past course.GoesOn = has_stopped past ≡ false
 HasCome b v past course.Stopped = has_stopped past ≡ true
@@ -81,7 +81,7 @@ KeepsEnd old new = (end : Result Ended SessionFault) → old ≡ course.Ended en
 
 -- ## How it is noted
 
--- whose request it is, and which
+-- the asker of a request: its caller, and its number there
 abbrev pub asker_of : Request → Asker
 asker_of q = record { caller = q.caller; number = q.number }
 

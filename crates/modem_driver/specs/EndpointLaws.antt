@@ -60,8 +60,8 @@ pub record WentOn (b : Beginning) (w : World) (past : List Act) : Type 0 where
   pub acts : List Act
   pub fits : EndpointFits b w.line w.driver w.endpoint (after past acts)
 
--- One history: whatever history fitted before some calls, by some acts it goes on to one that fits after them. The
--- desk's end has a caller 0.
+-- One history: any history that fits before some calls goes on, by some acts, to one that fits after them. The desk's
+-- end has a caller 0.
 unfoldable pub OneHistory : Type 0
 OneHistory =
     (b : Beginning) (w v : World) (past : List Act) → 1 ≤ length w.driver.desk.rings
@@ -83,7 +83,7 @@ pub record HasAll (b : Beginning) (v : World) : Type 0 where
   pub past : List Act
   pub all : IsAllOf b v past
 
--- The law: of an endpoint that was begun, whatever calls followed, one history tells all. The desk's end listens to its
+-- The law: one history tells all of an endpoint that was begun, whatever calls followed. The desk's end listens to its
 -- kinds and has a caller 0.
 unfoldable pub TellsAll : Type 0
 TellsAll =

@@ -29,8 +29,8 @@ abbrev pub goes_out : Act → Bool
 goes_out (Sent f) = true
 goes_out a = is_mark a
 
--- By some acts it leads from the one to the other, whatever history there was; none of them is a tick, a loss
--- of the line, or that a connection is held or freed.
+-- By some acts old goes on to new, whatever history there was. None of the acts is a tick or a loss of the line, or
+-- holds or frees a connection.
 pub record Passes (old new : TurnState) : Type 0 where
   pub acts : List Act
   pub leads : Leads old new acts

@@ -55,7 +55,7 @@ pub record EndpointFits (b : Beginning) (l : LineView) (d : DriverView) (e : End
   pub stands : StandingFits b (turn_state l d e.machine) past
   pub numbers : list_all (is_numbered e.next) (taken_since b (seen_by l (end_of d) e.machine)) ≡ true
 
--- by these acts it led from the one to the other, over such lines and desk's ends, whatever history it had
+-- by these acts the endpoint goes on from old to new, over these lines and desk's ends, whatever history it had
 unfoldable pub LeadsOver : (before later : LineView) → (here there : DriverView) → (old new : EndpointState)
     → List Act → Type 0
 LeadsOver before later here there old new acts =
@@ -88,9 +88,9 @@ HoldsNothingBack e = (l : LineView) (d : DriverView) → IsDrained (turn_state l
 
 -- ## Octets of the line
 
--- By some acts the line gave these octets. None of them is a tick or a loss; a connection is held only where
--- 256 of its lines wait, and freed only where fewer than 128 do. Where it isn't blocked each connection is
--- held so, or no MSC has a place.
+-- The line gave these octets, with some acts. None of the acts is a tick or a loss. A connection is held only where 256
+-- of its lines wait, and freed only where fewer than 128 do. Where the endpoint isn't blocked, each connection is held
+-- so, or no MSC has a place.
 pub record TakesOctets (l : LineView) (d : DriverView) (old new : EndpointState) (octets : List ℕ)
     (blocked : Option Blocked) : Type 0 where
   pub acts : List Act
@@ -106,15 +106,15 @@ pub record WantsRoom (k : Machine) : Type 0 where
   pub at_hand : k.deframer.next ≢ None
   pub no_room : HandLacksRoom k
 
--- what it says where no octets are left but for the last: all are taken and no frame is at hand; one at hand
--- lacks room; or there was no memory for one at hand
+-- what a machine answers to input: nothing blocks it where all octets are taken and no frame is at hand; OutputFirst
+-- where the frame at hand lacks room; NoMemory where a frame is at hand
 abbrev pub MachineSays : Machine → (all : Type 0) → Option Blocked → Type 0
 MachineSays k all None = all × (k.deframer.next ≡ None)
 MachineSays k all (Some OutputFirst) = WantsRoom k
 MachineSays k all (Some NoMemory) = k.deframer.next ≢ None
 
--- what an endpoint answers to input: it is as `KeptSays` has it, or there was no memory, behind the last
--- octet, for the MSC of a connection
+-- what an endpoint answers to input: as `MachineSays` has it, or NoMemory behind the last octet, for the MSC of a
+-- connection
 abbrev pub Says : EndpointState → (all : Type 0) → Option Blocked → Type 0
 Says e all (Some NoMemory) = (e.machine.deframer.next ≢ None) ⊎ all
 Says e all says = MachineSays e.machine all says
@@ -125,8 +125,8 @@ Says e all says = MachineSays e.machine all says
 abbrev pub with_taken : DriverView → Request → DriverView
 with_taken d q = record d { taken = d.taken ++ q ∷ [] }
 
--- By some acts the request of this number, which asks for this, was taken from a desk that has a caller 0; and
--- frames at hand were handled. None of the acts is a tick, a loss, or that a connection is held or freed.
+-- The request of this number, which asks for this, was taken from a desk that has a caller 0, and frames at hand were
+-- handled. None of the acts is a tick or a loss, or holds or frees a connection.
 pub record TakesRequest (l : LineView) (d : DriverView) (old new : EndpointState) (ask : Ask) (n : ℕ) : Type 0 where
   pub acts : List Act
   pub leads : 1 ≤ length d.desk.rings
@@ -145,13 +145,13 @@ pub record HandlesAlone (l : LineView) (d : DriverView) (old new : EndpointState
 abbrev pub IsFull : EndpointState → Type 0
 IsFull e = (128 ≤ length e.machine.core.hand + length e.machine.unplaced) ⊎ (e.next ≡ 2 ^ 64 - 1)
 
--- a request that asks for this has the next number, and the next is one more
+-- a request that asks for this is taken with the next number, which then is one more
 pub record Numbers (old new : EndpointState) (ask : Ask) (n : ℕ) : Type 0 where
   pub number : n ≡ old.next
   pub later : new.next ≡ old.next + 1
   pub takes : (l : LineView) (d : DriverView) → TakesRequest l d old new ask n
 
--- frames at hand were handled alone, and the number is still the next
+-- only frames at hand were handled, and the next number stays
 pub record Refuses (old new : EndpointState) : Type 0 where
   pub number : new.next ≡ old.next
   pub handles : (l : LineView) (d : DriverView) → HandlesAlone l d old new
@@ -162,7 +162,7 @@ abbrev pub asks_time : Ask → Bool
 asks_time (Command d line) = false
 asks_time _ = true
 
--- a tick may give it up: it is no command
+-- a tick may give the request up: it isn't a command
 abbrev pub wants_time : Request → Bool
 wants_time q = asks_time q.ask
 
@@ -182,8 +182,8 @@ pub record Ticks (l : LineView) (d : DriverView) (old new : EndpointState) : Typ
       → (waiting : List Urc) → list_all (may_act waiting) frames ≡ true
   pub tick : (b : Beginning) (past : List Act) → EndpointFits b l d old past → IsOneTick (after past frames) acts
 
--- after a past in which the line isn't lost, by these acts it is: behind the loss there are outcomes alone, no
--- frame was handled, no tick passed, and no request is in hand any more
+-- The line wasn't lost before these acts, and is after them. Behind the loss there are outcomes alone. No frame was
+-- handled, no tick passed, and no request is in hand any more.
 pub record IsOneLoss (past acts : List Act) : Type 0 where
   pub live : is_lost past ≡ false
   pub gone : is_lost (after past acts) ≡ true

@@ -43,14 +43,14 @@ abbrev pub code_in : List (List ℕ) → Option Final
 code_in [] = None
 code_in (line ∷ behind) = final_of line
 
--- the lines that end with an octet, one at most, and the final code that one is
+-- the line that ends with an octet, if one does, and the final code that it is
 pub record SeesCode (kept : List ℕ) (octet : ℕ) (code : Option Final) : Type 0 where
   pub given : List (List ℕ)
   pub one : (given ≡ []) ⊎ ((line : List ℕ) × (given ≡ line ∷ []))
   pub past : (octets : List ℕ) → HasRead kept octets → lines (octets ++ octet ∷ []) ≡ lines octets ++ given
   pub code_is : code ≡ code_in given
 
--- an entry is under way: so many calls were made since the line was as at first, and no final code has come
+-- an entry is under way: it made so many calls since the line was `first`, and no final code has come
 pub record IsUnderWay (made : ℕ) (first now : LineView) (entry : Entry) : Type 0 where
   pub read : List ℕ
   pub sent_are : now.sent ≡ first.sent ++ take entry.written entry_text
@@ -65,11 +65,11 @@ pub record IsUnderWay (made : ℕ) (first now : LineView) (entry : Entry) : Type
   pub bounded : now.calls ≤ first.calls + made
   pub sound : now.failures ≡ first.failures
 
--- an entry is over with the call behind so many
+-- an entry ends with this answer in the call after so many
 abbrev pub EntryEnds : ℕ → LineView → LineView → EntryAnswer → Type 0
 EntryEnds made first now answer = (turns : ℕ) → made + 1 ≤ turns → IsEntry turns first now answer
 
--- one call further: on from there, or over where a final code came
+-- after one call more: still under way, or ended where a final code came
 abbrev pub Comes : ℕ → LineView → LineView → Entry → Option Final → Type 0
 Comes made first now entry None = IsUnderWay (made + 1) first now entry
 Comes made first now entry (Some code) = EntryEnds made first now (answer_by code)

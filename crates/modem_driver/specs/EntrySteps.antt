@@ -20,8 +20,8 @@ pub record EntryView : Type 0 where
   pub written : ℕ
   pub kept : List ℕ
 
--- Since the line was as at first a beginning of the text was sent, as far as the entry says, nothing was read before
--- all of it was, and no line of what was read is a final code.
+-- Since the line was `first`, the text was sent as far as the entry says, nothing was read before all of it was sent,
+-- and no line of what was read is a final code.
 pub record IsAsked (first now : LineView) (entry : EntryView) : Type 0 where
   pub few : entry.written ≤ length entry.text
   pub sent_are : now.sent ≡ first.sent ++ take entry.written entry.text
@@ -31,7 +31,7 @@ pub record IsAsked (first now : LineView) (entry : EntryView) : Type 0 where
   pub kept : HasRead entry.kept read
   pub none : list_any is_final (lines read) ≡ false
 
--- Since the line was as at first the whole text was sent, and what was read ends with the first final code, this one.
+-- Since the line was `first`, the whole text was sent, and what was read ends with the first final code, this one.
 pub record IsAnswered (first now : LineView) (text : List ℕ) (code : Final) : Type 0 where
   pub sent_are : now.sent ≡ first.sent ++ text
   pub read : List ℕ
@@ -40,12 +40,12 @@ pub record IsAnswered (first now : LineView) (text : List ℕ) (code : Final) : 
   pub ended : EndsWithFinal read line
   pub code_is : final_of line ≡ Some code
 
--- what a step says where an octet came, by the final code that it ended, if it ended one
+-- what a step says where an octet came, by the final code that ends with it, if one does
 abbrev pub step_by : Option Final → EntryStep
 step_by None = Moved
 step_by (Some code) = Answered code
 
--- what a step leaves behind
+-- what holds of the line and the entry after a step
 abbrev pub StepsTo : (first now : LineView) → EntryView → EntryStep → Type 0
 StepsTo first now entry Moved = IsAsked first now entry
 StepsTo first now entry Idle = IsAsked first now entry

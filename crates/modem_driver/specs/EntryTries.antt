@@ -13,8 +13,8 @@ use Rattle.modem_driver.specs.declared.entering.EntryError.TheVariants as error
 abbrev pub ranges_text : List ℕ
 ranges_text = codes "AT+CMUX=?" ++ 13 ∷ []
 
--- Since the line was as at first a beginning of the text was sent, nothing was read before the whole was, and no final
--- code has come.
+-- Since the line was `first`, a beginning of the text was sent, nothing was read before the whole text was sent, and no
+-- final code has come.
 pub record IsUnanswered (first now : LineView) (text : List ℕ) : Type 0 where
   pub entry : EntryView
   pub text_is : entry.text ≡ text
@@ -71,8 +71,8 @@ pub record IsTurnedDown (first now : LineView) (ranges : Bool) (text : List ℕ)
 abbrev pub KeepsUp : (asked_before asked_after calls_before calls_after : ℕ) → Type 0
 KeepsUp a b c d = min (c + (b - a)) (2 ^ 64 - 1) ≤ d
 
--- an entry by a text that nothing has answered: how it stands, how often the line was called at least, and
--- how often patience was asked
+-- an entry by a text that nothing has answered: its state, how often the line was called at least, and how often
+-- patience was asked
 pub record IsAsking (first now : LineView) (text : List ℕ) (made : ℕ) (entry : EntryView) (before after : ℕ) : Type 0 where
   pub asked : IsAsked first now entry
   pub text_is : entry.text ≡ text

@@ -1,4 +1,4 @@
--- What was read on a fork of a window, behind what came before.
+-- Joins what was read on a fork of a window to what came before.
 use Rattle.std.specs.Prelude.{Bool, true, false, List, [], ◌∷◌, ◌++◌, Option, None, Some, if◌then◌else◌}
 use Rattle.at_text.specs.declared.answer.AnswerLine.{AnswerLine}
 use Rattle.at_text.specs.OpenWindow.{OpenWindow}
@@ -33,8 +33,8 @@ abbrev pub led_first : List AnswerLine → List Act → List Act
 led_first ls [] = []
 led_first ls (a ∷ acts) = if tells_lines a then led ls a ∷ acts else a ∷ led_first ls acts
 
--- what is said of a frame, by what was said on a fork and by its window then: no answer is told while that is
--- open
+-- the acts of a frame, by those of its reading on a fork: once the fork's window is closed, the lines from before lead
+-- its answer; while it is open no answer is told
 abbrev pub joined_acts : List AnswerLine → Option OpenWindow → List Act → List Act
 joined_acts ls None acts = led_first ls acts
 joined_acts ls (Some o) acts = acts
@@ -43,6 +43,6 @@ joined_acts ls (Some o) acts = acts
 abbrev pub forked_lane : Lane → Lane
 forked_lane l = record l { window = forked l.window }
 
--- the lane that was read on a fork of another, behind it
+-- the lane that was read on a fork, with the lines from before in its window
 abbrev pub joined : Lane → Lane → Lane
 joined before fork = record fork { window = led_by (lines_so_far before.window) fork.window }

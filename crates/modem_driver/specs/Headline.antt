@@ -70,8 +70,8 @@ pub record IsSettled (run : Run) : Type 0 where
 
 -- ## What leaves
 
--- a caller's commands among those accepted on d since it opened are those on d in a stretch of what it
--- submitted, in its order
+-- the commands of a caller that were accepted on d since it opened are those on d in one stretch of what it submitted,
+-- in its order
 pub record InSubmittedOrder (d : ℕ) (past : List Act) (caller : ℕ) (submitted : List Request) : Type 0 where
   pub before : List Request
   pub stretch : List Request
@@ -91,8 +91,8 @@ NoneAfterClose past =
     (newer older : List Act) (f : Frame) → past ≡ newer ++ Sent f ∷ older → is_data_frame f ≡ true
     → is_open Initiator f.dlci (wire older) ≡ true
 
--- of each command all data frames but the last have N1 octets, in every history of a session: each was the next
--- in turn (27.010, 5.4)
+-- in every history of a session all data frames of a command but the last have N1 octets: each was the next in turn
+-- (27.010, 5.4)
 unfoldable pub SendsFull : Beginning → SessionView → List Act → Type 0
 SendsFull b v past = SessionFits b v past → AreFull b.n1 past
 
@@ -139,10 +139,10 @@ pub record Holds (run : Run) (i : ℕ) (c : CallerView) : Type 0 where
 
 -- ## The headline
 
--- Whatever the cuts, polls and schedule: at every moment what left on a connection since it opened is a
--- prefix of its callers' command lines taken since then, each once, each caller's in its submitted order,
--- none after a close; each answered command has exactly its solicited lines up to its final code; each
--- subscribed unsolicited line is announced once; and at settle every caller holds each of its outcomes once.
+-- Whatever the cuts, polls and schedule, this holds. At every moment the octets that left on a connection since it
+-- opened are a prefix of its callers' command lines taken since then: each line once, each caller's in its submitted
+-- order, none after a close. Each answered command has exactly its solicited lines up to its final code. Each
+-- subscribed unsolicited line is announced once. At settle every caller holds each of its outcomes once.
 pub record Headline (run : Run) : Type 0 where
   pub past : List Act
   pub fits : SessionFits run.start run.session past

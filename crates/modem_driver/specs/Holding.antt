@@ -12,7 +12,7 @@ use Rattle.modem_driver.specs.CoreGoing.{StandsIn, gone_on}
 use Rattle.modem_history.specs.GoingOut.{after_out}
 use Rattle.modem_driver.specs.Cores.{Core, Fits, IsRun, IsSettingOf, MayCome, GoesOn, lane_at}
 
--- so many lines wait for their listener: a connection is held from 256 on, and freed below 128
+-- what so many waiting lines call for: to hold an open connection from 256 on, to free it below 128
 abbrev pub flow_due : (opened : Bool) → (held : Bool) → (lines : ℕ) → Option Bool
 flow_due opened held lines =
     if not opened then None
@@ -20,7 +20,7 @@ flow_due opened held lines =
     else if held && nat_lt lines 128 then Some true
     else None
 
--- the act that it is then
+-- the act of holding or freeing d
 abbrev pub flow_act : ℕ → (go : Bool) → Act
 flow_act d true = Freed d
 flow_act d false = Held d
@@ -30,7 +30,7 @@ abbrev pub acts_due : ℕ → (go : Option Bool) → List Act
 acts_due d None = []
 acts_due d (Some go) = flow_act d go ∷ Sent (msc_frame Initiator d (if go then ready else held_up)) ∷ []
 
--- what a backlog calls for; after a loss of the line, and of connection 0, nothing
+-- what a backlog calls for; nothing after a loss of the line, and nothing on connection 0
 abbrev pub due_by : Setting → List Act → ℕ → (lines : ℕ) → Option Bool
 due_by s past d lines =
     if is_lost past || (d == 0) then None
@@ -66,7 +66,7 @@ Flows old new d lines acts =
     (s : Setting) (past : List Act) → MayAsk s old past
     → FlowsOn s old new past d (due_by s past d lines) acts
 
--- the MSC that says so has a place in the control queue
+-- the MSC of holding or freeing d has a place in the control queue
 abbrev pub has_flow_room : Setting → List Act → ℕ → (go : Bool) → Bool
 has_flow_room s past d go =
     all_have_room s (seen s past) (by_flow s.role (seen s past).state d (if go then ready else held_up))
@@ -91,7 +91,7 @@ unfoldable pub FindsRoom : Core → ℕ → (lines : ℕ) → Type 0
 FindsRoom v d lines =
     (s : Setting) (past : List Act) → MayAsk s v past → HasPlace s past d (due_by s past d lines)
 
--- on no connection do fewer than 256 lines that wait call for anything
+-- fewer than 256 waiting lines call for nothing, on any connection
 unfoldable pub CallsForNothing : Core → Type 0
 CallsForNothing v = (d lines : ℕ) → d < 62 → lines < 256 → Flows v v d lines []
 
@@ -113,13 +113,13 @@ CannotTurn v d go = (s : Setting) (past : List Act) → MayAsk s v past → Lack
 unfoldable pub CanTurn : Core → ℕ → (go : Bool) → Type 0
 CanTurn v d go = (s : Setting) (past : List Act) → MayAsk s v past → HasPlace s past d (Some go)
 
--- a call on another matter keeps what is held
+-- after a call that begins with this act the lanes still know which connections are held
 unfoldable pub KeepsHeld : Core → Core → Act → List Act → Type 0
 KeepsHeld old new a acts =
     (s : Setting) (past : List Act) → MayCome s old past a → HoldsFit old past
     → HoldsFit new (after past acts)
 
--- what goes out keeps what is held
+-- after the next frame has gone out the lanes still know which connections are held
 unfoldable pub KeepsHeldOut : Core → Type 0
 KeepsHeldOut v =
     (s : Setting) (past : List Act) → StandsIn s v past → HoldsFit v past

@@ -21,7 +21,7 @@ pub record AreLanes (lanes : List Lane) (may_hold : Bool) : Type 0 where
   pub all : length lanes ≡ 62
   pub free : may_hold ≡ false → (d : ℕ) → (lane_in lanes d).held ≡ false
 
--- the lanes, the window of d begun with this command, where none is open there
+-- the lanes, with the window of d begun by this command where none is open there
 abbrev pub begun : List Lane → ℕ → List ℕ → List Lane
 begun lanes d line =
     if is_none (lane_in lanes d).window

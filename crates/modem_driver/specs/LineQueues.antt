@@ -14,10 +14,11 @@ abbrev pub AreCounts : (number : Urc → ℕ) → (counts : List ℕ) → List U
 AreCounts number counts lines =
     (n : ℕ) → n < length counts → slice_index_or counts n 0 ≡ length (filter (λ (u : Urc). number u == n) lines)
 
--- a line's connection, and the place of its kind
+-- a line's connection
 abbrev pub channel_of : Urc → ℕ
 channel_of u = u.dlci.number
 
+-- the place of a line's kind
 abbrev pub place_of_kind : Urc → ℕ
 place_of_kind u = kind_place u.kind
 

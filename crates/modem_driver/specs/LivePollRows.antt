@@ -14,14 +14,14 @@ use Rattle.modem_driver.specs.PollRows.{bare_desk, first_line, lost_session}
 
 -- ## Of every session
 
--- Where all octets that came were fed the line is called, with room: so it is no poll that makes no turn.
+-- Where all octets that came were fed, a poll calls the line: a body that makes no turn makes no poll.
 unfoldable pub ReadsTheLine : {X : Type 0} → (X → LineView) → Type 0
 ReadsTheLine {X} look =
     (old new : SessionState X) (more : Bool) → IsSession look old → old.machine.unfed ≡ []
     → has_ended old.machine ≡ false → (look old.line).calls < 2 ^ 64 - 1 → RunsTurns look old new (Ok more)
     → (look old.line).calls < (look new.line).calls
 
--- nor one that ticks in its place
+-- a body that ticks instead of a turn makes no poll
 unfoldable pub NoTickIsAPoll : {X : Type 0} → (X → LineView) → Type 0
 NoTickIsAPoll {X} look =
     (old new : SessionState X) (more : Bool) → IsSession look old → old.machine.unfed ≡ []
@@ -35,13 +35,13 @@ is_tick _ = false
 abbrev pub ticks_in : List Act → ℕ
 ticks_in past = length (filter is_tick past)
 
--- nor does the history of a session have a tick more behind a poll
+-- no poll adds a tick to a session's history
 unfoldable pub NoTickInAPoll : {X : Type 0} → (X → LineView) → Type 0
 NoTickInAPoll {X} look =
     (b : Beginning) (past now : List Act) (old new : SessionState X) (ran : Result Bool SessionFault)
     → RunsThrough look b old past new now ran → ticks_in now ≡ ticks_in past
 
--- the desk is asked in vain at most 64 times: so it is no poll that makes more turns
+-- a poll asks the desk in vain at most 64 times: a body that makes more turns makes no poll
 unfoldable pub AsksPerTurn : {X : Type 0} → (X → LineView) → Type 0
 AsksPerTurn {X} look =
     (old new : SessionState X) (more : Bool) → IsSession look old → RunsTurns look old new (Ok more)
@@ -49,23 +49,23 @@ AsksPerTurn {X} look =
 
 -- ## Of one
 
--- nothing has happened
+-- a session to which nothing has happened
 abbrev pub new_session : DeskId → SessionState LineView
 new_session at = record { line = first_line; driver = bare_desk at; machine = new_machine 31 [] }
 
--- it is one: its history is empty
+-- it is a session: its history is empty
 unfoldable pub IsNewSession : Type 0
 IsNewSession =
     (at : DeskId) → FitsAll (beginning_of 31 first_line (bare_desk at)) (λ (l : LineView). l) (new_session at) []
 
--- behind so many turns that found nothing to do
+-- the session after so many turns that found nothing to do
 abbrev pub after_idle : ℕ → DeskId → SessionState LineView
 after_idle n at = record (new_session at) {
   line = record first_line { calls = n; empty_reads = n };
   driver = record (bare_desk at) { found_none = n };
 }
 
--- behind so many turns in each of which a flag came
+-- the session after so many turns in each of which a flag came
 abbrev pub after_flags : ℕ → DeskId → SessionState LineView
 after_flags n at = record {
   line = record first_line { received = replicate n 0xF9; calls = n };
@@ -73,7 +73,7 @@ after_flags n at = record {
   machine = record (new_machine 31 []) { deframer = record { n1 = 31; undecided = 0xF9 ∷ []; next = None } };
 }
 
--- where its line was lost and a poll gave Stopped all the same
+-- the session whose line was lost, where a poll gave Stopped all the same
 abbrev pub lost_and_stopped : DeskId → SessionState LineView
 lost_and_stopped at = record (lost_session at) {
   machine = record (lost_session at).machine { course = course.Ended (Ok Stopped) };

@@ -14,7 +14,7 @@ use Rattle.modem_desk.specs.declared.request.Answer.TheVariants.{NotOpen, Contro
 use Rattle.modem_history.specs.Requests.{commands_on}
 use Rattle.modem_driver.specs.Cores.{Core}
 
--- what a command is told at once by how its connection stands
+-- what a command is told at once by the state of its connection
 abbrev pub refused_command : Station → ℕ → Option Answer
 refused_command v d =
     if d == 0 then Some ControlChannel

@@ -23,22 +23,22 @@ pub record Rings (X : Type 0) : Type 0 where
   pub free : List ℕ
   pub back : List ℕ
 
--- what a ring was given, and then what of its key still waits, is what of it waited
+-- what a ring was given since, and then what still waits of its key, is what waited of its key
 pub record Gave {X : Type 0} (key : X → ℕ) (before now : List (List X)) (waited waits : List X)
     (n i : ℕ) : Type 0 where
   pub since : List X
   pub given_are : at_place i now ≡ at_place i before ++ since
   pub rest_are : since ++ of_key key n waits ≡ of_key key n waited
 
--- those that wait are some of those that waited, in their order: behind one that waits all of its key do
+-- those that wait are some of those that waited, in their order; behind one that waits, all of its key wait
 pub data Stay {X : Type 0} (key : X → ℕ) : (waited waits : List X) → Type 0 where
   stays_none : Stay key [] []
   goes_first : (x : X) (xs ys : List X) → Stay key xs ys → Stay key (x ∷ xs) ys
   stays_first : (x : X) (xs ys : List X) → of_key key (key x) xs ≡ of_key key (key x) ys → Stay key xs ys
       → Stay key (x ∷ xs) (x ∷ ys)
 
--- Each of a key that the desk knows was offered until one was handed back: its rings are full where some
--- still wait, and count the one.
+-- Those of each key that the desk knows were offered until one was handed back. Where some still wait, the key's rings
+-- are full, and count the one that was handed back.
 pub record Placed {X : Type 0} (key : X → ℕ) (at : ℕ → ℕ → Type 0) (known : ℕ → Type 0)
     (before now : Rings X) (waited waits : List X) (moved : Bool) : Type 0 where
   pub each : (n i : ℕ) → at n i → Gave key before.given now.given waited waits n i
@@ -57,8 +57,8 @@ abbrev pub one_if : Bool → ℕ
 one_if true = 1
 one_if false = 0
 
--- The same on the way: some wait to be offered, behind those that stay, of which none is of a key that isn't
--- held up.
+-- The same on the way: some still wait to be offered, behind those that stay. All that stay are of keys that are held
+-- up.
 pub record Placing {X : Type 0} (key : X → ℕ) (at : ℕ → ℕ → Type 0) (known : ℕ → Type 0)
     (before now : Rings X) (held : List Bool) (waited waits stay : List X) (moved : Bool) : Type 0 where
   pub each : (n i : ℕ) → at n i → Gave key before.given now.given waited (stay ++ waits) n i
@@ -102,7 +102,7 @@ caller_of o = o.caller
 abbrev pub place_of : Urc → ℕ
 place_of u = kind_place u.kind
 
--- of no kind that is listened to and isn't held up a line waits
+-- no line waits of a kind that is listened to and isn't held up
 abbrev pub LeavesAll : (kinds : List UrcKind) → (held : List Bool) → List Urc → Type 0
 LeavesAll kinds held lines =
     (k : UrcKind) → Contains kinds k → slice_index_or held (kind_place k) false ≡ false

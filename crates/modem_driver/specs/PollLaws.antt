@@ -15,8 +15,8 @@ use Rattle.modem_driver.specs.Polls.{Gives, PollsOn, RunsTurns, end_given, has_e
 
 -- ## Over a history
 
--- so many turns that answer Moved: each session on the way fits the history so far, and each turn is one in it,
--- with all its steps
+-- so many turns that answer Moved: each session on the way fits the history so far, and each turn is a turn of that
+-- history, with all its steps
 pub data MovesThrough {X : Type 0} (look : X → LineView) (b : Beginning) (old : SessionState X)
     (past : List Act) : ℕ → SessionState X → List Act → Type 0 where
   through_none : FitsAll b look old past → MovesThrough look b old past 0 old past
@@ -27,7 +27,7 @@ pub data MovesThrough {X : Type 0} (look : X → LineView) (b : Beginning) (old 
       → TakesSteps b (session_view look mid) (session_view look new) t before acts
       → MovesThrough look b old past (n + 1) new (after before acts)
 
--- all turns of a poll: each session on the way fits the history so far, and each turn is one in it
+-- all turns of a poll: each session on the way fits the history so far, and each turn is a turn of that history
 pub data RunsThrough {X : Type 0} (look : X → LineView) (b : Beginning) (old : SessionState X)
     (past : List Act) (new : SessionState X) : List Act → Result Bool SessionFault → Type 0 where
   all_through : (now : List Act) → MovesThrough look b old past 64 new now
@@ -52,7 +52,7 @@ pub record HasRun {X : Type 0} (look : X → LineView) (b : Beginning) (old : Se
   pub now : List Act
   pub through : RunsThrough look b old past new now ran
 
--- The law: whatever history the session had, the turns of a poll are turns in it, one after the other.
+-- The law: whatever history the session had, the turns of a poll are turns of it, one after the other.
 unfoldable pub RunsInHistories : {X : Type 0} → (X → LineView) → Type 0
 RunsInHistories {X} look =
     (b : Beginning) (past : List Act) (old new : SessionState X) (ran : Result Bool SessionFault)
@@ -84,7 +84,7 @@ NoLossIsStopped {X} look =
     (old new : SessionState X) → IsSession look old → has_lost_line new ≡ true
     → ¬ PollsOn look old new (progress.Ended (Ok Stopped))
 
--- where octets wait the line is called: so it is no poll that makes no turn, or that ticks instead
+-- where octets wait, a poll calls the line: a body that makes no turn, or ticks instead, makes no poll
 unfoldable pub CallsTheLine : {X : Type 0} → (X → LineView) → Type 0
 CallsTheLine {X} look =
     (old new : SessionState X) (more : Bool) → IsSession look old → old.machine.unwritten ≢ []

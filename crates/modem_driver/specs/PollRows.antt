@@ -33,13 +33,13 @@ lost_session at = record {
   machine = record (new_machine 31 []) { core = record (new_machine 31 []).core { lost = true }; faulty = true };
 }
 
--- it is one: its history is the loss
+-- it is a session: its history is the loss
 unfoldable pub IsLostSession : Type 0
 IsLostSession =
     (at : DeskId) → FitsAll (beginning_of 31 first_line (bare_desk at)) (λ (l : LineView). l)
     (lost_session at) (Lost ∷ [])
 
--- To do nothing is no poll of it, nor is it to keep its loss back; and it gives neither Stopped nor Line.
+-- Neither doing nothing nor keeping its loss back is a poll of it, and it gives neither Stopped nor Line.
 unfoldable pub AreNoPolls : Type 0
 AreNoPolls =
     (at : DeskId)

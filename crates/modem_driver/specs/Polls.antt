@@ -37,9 +37,9 @@ SessionGoesOn look old new =
     Goes (session_view look old) (session_view look new) (λ b. FitsInside b look old)
     (λ b. FitsInside b look new)
 
--- One turn where it hadn't ended, that ends in this answer: whatever history the session had goes on by it. The
--- line had at most two calls more, an end that a poll gave stays, and the desk's end took requests of its
--- callers more and forgot none.
+-- One turn, with this answer, of a session that hadn't ended: whatever history the session had goes on by it. The line
+-- had at most two calls more, an end that a poll gave stays, and the desk's end forgot no request, and took more only
+-- of its callers.
 pub record MakesTurn {X : Type 0} (look : X → LineView) (old new : SessionState X)
     (says : TurnAnswer) : Type 0 where
   pub going : has_ended old.machine ≡ false
@@ -63,8 +63,8 @@ pub data MovesOn {X : Type 0} (look : X → LineView) (old : SessionState X) : �
   moves_once : (n : ℕ) (mid new : SessionState X) → MovesOn look old n mid
       → MakesTurn look mid new TurnAnswer.Moved → MovesOn look old (n + 1) new
 
--- The turns of a poll: 64 that answer Moved, and then there may be more; or fewer, where it has ended; or fewer
--- and one that answers otherwise, or that fails.
+-- The turns of a poll: 64 that answer Moved, and then there may be more; or at most 64, where it has ended; or fewer,
+-- and then one that answers otherwise or fails.
 pub data RunsTurns {X : Type 0} (look : X → LineView)
     (old new : SessionState X) : (more : Result Bool SessionFault) → Type 0 where
   goes_on : MovesOn look old 64 new → RunsTurns look old new (Ok true)
@@ -142,7 +142,7 @@ pub data Waits {X : Type 0} (look : X → LineView) : (old new : SessionState X)
   waits_once : (old mid new : SessionState X) (given : Progress) → Polls look old mid given
       → end_in given ≡ None → Waits look mid new → Waits look old new
 
--- after polls that gave no end one gave this, and says so; all of them went on by some acts
+-- after polls that gave no end one gave this end, which holds of the session; by all of them it went on by some acts
 pub record Gives {X : Type 0} (look : X → LineView) (s : SessionState X)
     (given : Result Ended SessionFault) : Type 0 where
   pub mid : SessionState X

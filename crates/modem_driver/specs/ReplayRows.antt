@@ -74,7 +74,7 @@ piece_of first more = record { first = first; more = more; data_frames = [] }
 abbrev pub busy_at_first : Piece
 busy_at_first = piece_of (takes 1 (OpenChannel zero)) (tells 1 Busy ∷ [])
 
--- a second one is, while 0 is being opened
+-- a second request is told Busy, while 0 is being opened
 abbrev pub while_opening : List Act
 while_opening = after [] (takes 1 (OpenChannel zero) ∷ sends Sabm 0 [] ∷ Given ∷ [])
 

@@ -127,6 +127,6 @@ abbrev pub is_full : ℕ → Act → Bool
 is_full n1 (Sent f) = not (is_data_frame f) || ((length f.info == n1) || ends_command f.info)
 is_full n1 _ = true
 
--- of each command all data frames but the last have N1 octets of information
+-- all data frames of a command but the last have N1 octets of information
 abbrev pub AreFull : ℕ → List Act → Type 0
 AreFull n1 acts = list_all (is_full n1) acts ≡ true

@@ -19,7 +19,7 @@ use Rattle.modem_history.specs.Acts.{Act, Told, Heard}
 unfoldable pub Listens : (UrcKind → Bool) → List UrcKind → Type 0
 Listens listens kinds = (kind : UrcKind) → (listens kind ≡ true) ↔ Contains kinds kind
 
--- whose request it is, and which
+-- the owner of a request: its caller, and its number there
 abbrev pub owner_of : Request → Owner
 owner_of r = record { caller = r.caller; number = r.number }
 
@@ -32,7 +32,7 @@ done_by (Some o) ls = Told (record { caller = o.caller; number = o.number; answe
 abbrev pub heard_by : (UrcKind → Bool) → ℕ → UrcKind → List ℕ → List Act
 heard_by listens d kind line = if listens kind then Heard kind d line ∷ [] else []
 
--- what is said of a line, by what it is at its place
+-- what is said of a line, by what it was seen as
 abbrev pub said_as : (UrcKind → Bool) → ℕ → Option Owner → List ℕ → line_is.Seen → List Act
 said_as listens d owner line Echo = []
 said_as listens d owner line Kept = []
@@ -57,7 +57,7 @@ abbrev pub after_all : Dialect → Option OpenWindow → List (List ℕ) → Opt
 after_all dialect w [] = w
 after_all dialect w (l ∷ ls) = after_all dialect (after_line dialect w l) ls
 
--- some octets more
+-- after some octets more, read at once
 abbrev pub read_on : Dialect → (UrcKind → Bool) → ℕ → Option Owner → Read → List ℕ → Read
 read_on dialect listens d owner v octets = record {
   kept = kept_run (v.kept ++ octets);
@@ -65,7 +65,7 @@ read_on dialect listens d owner v octets = record {
   acts = v.acts ++ said_lines dialect listens d owner v.window (lines (v.kept ++ octets));
 }
 
--- one after the other
+-- after some octets more, read one by one
 abbrev pub read_each : Dialect → (UrcKind → Bool) → ℕ → Option Owner → Read → List ℕ → Read
 read_each dialect listens d owner v [] = v
 read_each dialect listens d owner v (c ∷ octets) =

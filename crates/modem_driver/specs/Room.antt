@@ -30,8 +30,8 @@ abbrev pub probe_size : Ask → ℕ
 probe_size (Probe octets) = length octets
 probe_size _ = 0
 
--- Where nothing waits, all has room that is called for: by a request, whose probe has 16 octets at most; by a
--- frame as long as its kind may be; and by a tick, which leaves no connection out.
+-- Where nothing waits, all that is called for has room: by a request, whose probe has 16 octets at most; by a frame as
+-- long as its kind may be; and by a tick, which leaves no connection out.
 pub record FitsEmpty (n1 : ℕ) : Type 0 where
   pub asks : (v : HistoryView) (ask : Ask) → v.queued ≡ 0 → probe_size ask ≤ 16
       → all_have_room (replaying n1) v (asking Initiator ask) ≡ true
@@ -58,8 +58,8 @@ is_under_way v (CloseChannel d) = not (is_opened (v.state d.number))
 is_under_way v (Probe octets) = probe_waits v.waiting
 is_under_way v _ = false
 
--- Busy may be told of it, whatever room there is: it is a request, and 128 are in hand, or what it asks can't
--- be done now, or it is a probe of more octets than any has
+-- the act takes a request that may be told Busy whatever room there is: 128 are in hand, what it asks can't be done
+-- now, or it is a probe of more than 16 octets
 abbrev pub is_busy_by : HistoryView → Act → Bool
 is_busy_by v (Took q) = nat_le 128 (length v.hand) || (is_under_way v q.ask || nat_lt 16 (probe_size q.ask))
 is_busy_by v _ = false
@@ -75,7 +75,7 @@ AllFits n1 past Tick =
     (range_with_len 0 62)
 AllFits n1 past _ = Unit {0}
 
--- in a piece Busy is told for another cause than want of room, and nothing else wants room
+-- in a piece Busy is told only for another cause than want of room, and what a frame or a tick calls for has room
 pub record FindsRoom (n1 : ℕ) (past : List Act) (p : Piece) : Type 0 where
   pub busy : list_any tells_busy p.more ≡ true → is_busy_by (seen (replaying n1) past) p.first ≡ true
   pub fits : AllFits n1 past p.first
@@ -84,7 +84,6 @@ abbrev pub FindRoom : ℕ → List Act → List Piece → Type 0
 FindRoom n1 past [] = Unit {0}
 FindRoom n1 past (p ∷ ps) = FindsRoom n1 past p × FindRoom n1 (with_piece past p) ps
 
--- so it is in every replay: no request is told Busy for want of room, and no frame that comes is refused for
--- it
+-- in every replay no request is told Busy for want of room, and no frame that comes is refused for it
 unfoldable pub NeverWantsRoom : ℕ → List Event → List Act → Type 0
 NeverWantsRoom n1 events acts = (r : Replays n1 events acts) → FindRoom n1 [] r.pieces

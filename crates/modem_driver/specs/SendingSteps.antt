@@ -5,8 +5,7 @@ use Rattle.modem_history.specs.Sessions.{LineView}
 use Rattle.modem_driver.specs.SessionStates.{Machine}
 use Rattle.modem_driver.specs.TurnSteps.{turn_state, SendsOn}
 
--- the next frame goes into the output, whatever line and desk's end there are; what it says is whether data
--- was sent
+-- the next frame goes into the output, whatever line and desk's end there are; `moved` says whether data was sent
 unfoldable pub MachineSends : (old new : Machine) → (moved : Bool) → Type 0
 MachineSends old new moved =
     (l : LineView) (d : DriverView) → SendsOn (turn_state l d old) (turn_state l d new) moved

@@ -3,6 +3,6 @@ use Rattle.std.specs.Prelude.{ℕ, List, [], ◌∷◌, ◌++◌}
 use Rattle.modem_desk.specs.declared.request.Request.{Request}
 use Rattle.modem_history.specs.Information.{line_of}
 
--- its text and CR
+-- a command's text and its CR
 abbrev pub text_of : Request → List ℕ
 text_of q = line_of q ++ 13 ∷ []

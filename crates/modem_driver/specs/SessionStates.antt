@@ -25,9 +25,9 @@ use Rattle.modem_driver.specs.declared.machine.course.Course.TheVariants.{GoesOn
 
 -- ## What is kept
 
--- beside its line and its desk's end: the core, the request kept aside, the octets read and not yet fed, the
--- deframer, the octets, outcomes and lines that wait, whether a call on the line has failed, how far it has come
--- on the way to its end, and how long the first command of each connection has waited
+-- what a session keeps beside its line and its desk's end: the core, the request kept aside, the octets read and not
+-- yet fed, the deframer, the octets, outcomes and lines that wait, whether a call on the line has failed, how far it
+-- has come on the way to its end, and how long the first command of each connection has waited
 pub record Machine : Type 0 where
   pub core : Core
   pub aside : Option Request
@@ -40,7 +40,7 @@ pub record Machine : Type 0 where
   pub course : Course
   pub delays : List (Option Delay)
 
--- what a session keeps to which nothing has happened yet, with these rules of a dialect
+-- what a new session keeps, with these rules of a dialect
 abbrev pub machine_by : Rules → ℕ → List UrcKind → Machine
 machine_by rules n1 kinds = record {
   core = core_by rules n1 kinds;
@@ -55,7 +55,7 @@ machine_by rules n1 kinds = record {
   delays = replicate 62 None;
 }
 
--- what a session keeps to which nothing has happened yet, by the standard's codes
+-- what a new session keeps, by the standard's codes
 abbrev pub new_machine : ℕ → List UrcKind → Machine
 new_machine n1 kinds = machine_by no_rules n1 kinds
 
@@ -65,7 +65,7 @@ pub record SessionState (X : Type 0) : Type 0 where
   pub driver : DriverView
   pub machine : Machine
 
--- its line is lost: each history that it fits says so too
+-- the session's line is lost: each history that it fits says so too
 abbrev pub has_lost_line : {X : Type 0} → SessionState X → Bool
 has_lost_line s = s.machine.core.lost
 
@@ -115,10 +115,9 @@ session_view look s = seen_by (look s.line) (end_of s.driver) s.machine
 
 -- ## Which histories it fits
 
--- What isn't seen there: the core fits the history of this N1, this desk's kinds and callers, and
--- knows which connections are held; a call on the line has failed since the session began just where the
--- session knows of one; of the requests in hand one at most is a Stop; the session has come as far on the
--- way to its end as it knows; and it knows how long commands have waited.
+-- What the view doesn't show: the core fits the history, for this N1 and this desk's kinds and callers, and knows which
+-- connections are held. The session knows whether a call on the line has failed since it began, how far it has come on
+-- the way to its end, and how long commands have waited. At most one request in hand is a Stop.
 pub record MachineFits (b : Beginning) (l : LineView) (d : DriverView) (k : Machine)
     (past : List Act) : Type 0 where
   pub setting : IsSettingOf (driving b) k.core
@@ -168,13 +167,12 @@ IsFormedAsk (Command d line) = refusal_of line ≡ None
 IsFormedAsk (Probe octets) = length octets ≤ 16
 IsFormedAsk _ = Unit {0}
 
--- each of the requests is of its form
+-- each of the requests is well formed
 abbrev pub AreFormed : List Request → Type 0
 AreFormed [] = Unit {0}
 AreFormed (q ∷ qs) = IsFormedAsk q.ask × AreFormed qs
 
--- the desk's end stays one of its desk, and took these requests more, each of a caller of that desk and of
--- its form
+-- the desk's end keeps its desk, and took some requests more, each well formed and of a caller of that desk
 pub record TakesMore (old new : DriverView) : Type 0 where
   pub desk : new.desk ≡ old.desk
   pub more : List Request
@@ -211,8 +209,8 @@ MachineMoves before later old new =
     → GoesBy b (seen_by before (end_of d) old) (seen_by later (end_of d) new) (MachineFits b before d old)
     (MachineFits b later d new) []
 
--- what was told waits behind what waited; nothing was heard and no frame handled; and the acts are such as a
--- turn may have in which the line is lost
+-- What the acts told and heard waits behind what waited. A turn in which the line is lost may have these acts. No frame
+-- was handled.
 pub record AddsLost (old new : Machine) (acts : List Act) : Type 0 where
   pub outcomes : new.unplaced ≡ old.unplaced ++ outcomes_told acts
   pub lines : map heard_as new.unannounced ≡ map heard_as old.unannounced ++ lines_heard acts

@@ -24,7 +24,7 @@ standing_of look s = record { line = look s.line; driver = s.driver; machine = s
 
 -- ## Which answer it is
 
--- of these outcomes this caller has one, and none is of a lesser one
+-- this caller has one of these outcomes, and no caller with a lower number has any
 pub record IsLeast (c : ℕ) (os : List Outcome) : Type 0 where
   pub outcome : Outcome
   pub first : take 1 (caller_outcomes c os) ≡ outcome ∷ []
@@ -36,12 +36,12 @@ pub record IsFirstOf (kind : UrcKind) (us : List Urc) : Type 0 where
   pub first : take 1 us ≡ line ∷ []
   pub is_of : line.kind ≡ kind
 
--- nothing moved, all octets are written, and an outcome waits
+-- all octets are written, and an outcome waits for this caller, the least
 pub record HasOutcome (k : Machine) (c : ℕ) : Type 0 where
   pub written : k.unwritten ≡ []
   pub waits : IsLeast c k.unplaced
 
--- nothing moved, all octets are written and all outcomes placed, and a line waits
+-- all octets are written, all outcomes are placed, and the first line that waits is of this kind
 pub record HasLine (k : Machine) (kind : UrcKind) : Type 0 where
   pub written : k.unwritten ≡ []
   pub placed : k.unplaced ≡ []
@@ -60,7 +60,7 @@ Answers k moved (TurnAnswer.Waiting c) = (moved ≡ false) × HasOutcome k c
 Answers k moved (TurnAnswer.Blocked kind) = (moved ≡ false) × HasLine k kind
 Answers k moved TurnAnswer.Idle = (moved ≡ false) × HasNothing k
 
--- a turn's answer and its fault, as the program names them
+-- a turn's answer, as the definitions name it
 abbrev pub turn_answer : Turn → TurnAnswer
 turn_answer Turn.Moved = TurnAnswer.Moved
 turn_answer Turn.WriterFull = TurnAnswer.WriterFull

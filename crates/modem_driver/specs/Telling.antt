@@ -15,8 +15,8 @@ use Rattle.modem_desk.specs.declared.request.Answer.TheVariants.{Opened, Shut, P
 use Rattle.modem_driver.specs.declared.telling.Happened.{Happened}
 use Rattle.modem_driver.specs.declared.telling.Happened.TheVariants as happened
 
--- why a connection is Shut now, where nothing else is the cause; ended says whether 0 was Opened and isn't
--- any more
+-- why a connection is Shut now; `ended` says whether 0 was Opened and isn't any more, and `why` is the answer where no
+-- loss, no tick and no end of 0 is the cause
 abbrev pub why_shut : Happened → (ended : Bool) → Answer → Answer
 why_shut happened.Lost ended why = LineLost
 why_shut (happened.Tick given_up) ended why = if ended then Closed else NoAnswer
@@ -36,7 +36,7 @@ abbrev pub command_told : ChannelState → Answer → Option Answer
 command_told is.Opened why = None
 command_told _ why = Some why
 
--- by what was noted of a frame
+-- what a probe is told by what was noted of a frame
 abbrev pub probe_noted : Noted → Option Answer
 probe_noted noted.ProbeBack = Some ProbeBack
 probe_noted noted.ProbeRefused = Some Refused
@@ -72,7 +72,7 @@ told_by h ended now Stop = stop_told (now 0) h
 
 -- ## All in hand
 
--- what one request is told, and what each of them is, in their order
+-- what one request is told
 abbrev pub said_to : Request → Option Answer → List Act
 said_to r None = []
 said_to r (Some answer) = act.Told (record { caller = r.caller; number = r.number; answer = answer }) ∷ []

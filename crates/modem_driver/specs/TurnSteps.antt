@@ -42,7 +42,7 @@ inside b s past = MachineFits b s.line s.driver s.machine past
 abbrev pub StandingFits : Beginning → TurnState → List Act → Type 0
 StandingFits b s past = FitsWith b (view_of s) (inside b s) past
 
--- by these acts it led from the one to the other, whatever history there was
+-- by these acts old goes on to new, whatever history there was
 unfoldable pub Leads : (old new : TurnState) → List Act → Type 0
 Leads old new acts = (b : Beginning) → GoesBy b (view_of old) (view_of new) (inside b old) (inside b new) acts
 
@@ -50,8 +50,8 @@ Leads old new acts = (b : Beginning) → GoesBy b (view_of old) (view_of new) (i
 abbrev pub is_more : Act → Bool
 is_more a = not (is_mark a)
 
--- what the acts told and heard waits behind what waited, they are such as a turn may have while these lines
--- wait, and so many frames were handled at most
+-- What the acts told and heard waits behind what waited. A turn may have these acts while these lines wait. At most so
+-- many frames were handled.
 pub record Adds (old new : Machine) (waiting : List Urc) (most : ℕ) (acts : List Act) : Type 0 where
   pub outcomes : new.unplaced ≡ old.unplaced ++ outcomes_told acts
   pub lines : map heard_as new.unannounced ≡ map heard_as old.unannounced ++ lines_heard acts
@@ -106,8 +106,8 @@ pub record Places (old new : TurnState) (moved : Bool) : Type 0 where
 
 -- ## Backlogs are looked at
 
--- Each connection is then held by its backlog, unless control frames wait; and where nothing was done, it was
--- so before, unless no MSC had a place.
+-- Each connection is then held by its backlog, unless control frames wait. Where nothing was done, it was so before,
+-- unless no MSC had a place.
 pub record Checks (old new : TurnState) (moved : Bool) : Type 0 where
   pub acts : List Act
   pub leads : Leads old new acts
@@ -175,7 +175,7 @@ pub record Writes (old new : TurnState) (moved : Bool) : Type 0 where
 
 -- ## The frame at hand is handled
 
--- It stays where there is no room for what it calls for.
+-- The frame at hand is handled, or stays where there is no room for what it calls for.
 pub record Gets (old new : TurnState) (moved : Bool) : Type 0 where
   pub acts : List Act
   pub leads : Leads old new acts
@@ -200,8 +200,7 @@ pub record Gets (old new : TurnState) (moved : Bool) : Type 0 where
 
 -- ## Octets are read and fed
 
--- Where none wait, the line is read once; a call that fails is kept in mind. What waits is given to the
--- deframer.
+-- Where no octets wait, the line is read once; a call that fails is kept in mind. What waits is given to the deframer.
 pub record ReadsOn (old new : TurnState) (moved : Bool) : Type 0 where
   pub read : Option Read
   pub leads : Leads old new []
@@ -234,8 +233,8 @@ pub record ReadsOn (old new : TurnState) (moved : Bool) : Type 0 where
 
 -- ## A request is taken
 
--- The one kept aside, or else the next of the desk, where those in hand and the outcomes that wait are fewer
--- than 128.
+-- The request kept aside is taken, or else the next of the desk, where those in hand and the outcomes that wait are
+-- fewer than 128.
 pub record TakesOne (old new : TurnState) (moved : Bool) : Type 0 where
   pub next : Option (Option Request)
   pub acts : List Act
@@ -270,7 +269,8 @@ pub record TakesOne (old new : TurnState) (moved : Bool) : Type 0 where
     };
   }
 
--- Where there was no memory for it, it is kept aside: the one that was, or else the one that the desk gave.
+-- Where there was no memory for a request, it is kept aside: the one that was aside, or else the one that the desk
+-- gave.
 pub record KeepsAside (old new : TurnState) : Type 0 where
   pub next : Option (Option Request)
   pub leads : Leads old new []

@@ -15,7 +15,7 @@ abbrev pub asks_on : ℕ → Ask → Bool
 asks_on d (Command on line) = on.number == d
 asks_on d _ = false
 
--- whose command is the first in hand on a connection: the others of that connection wait behind it
+-- the asker of the first command in hand on a connection; the others of that connection wait behind it
 abbrev pub first_command : ℕ → List Request → Option Asker
 first_command d hand = option_map asker_of (find (λ (q : Request). asks_on d q.ask) hand)
 
@@ -30,25 +30,25 @@ is_first who (Some first) = is_same who first
 abbrev pub one_more : ℕ → ℕ
 one_more n = min (n + 1) (2 ^ 64 - 1)
 
--- how many ticks in a row, counted back from now, found this one's command the first on the connection
+-- how many ticks in a row, counted back from now, found this asker's command the first on the connection
 abbrev pub ticks_waited : ℕ → Asker → List Act → ℕ
 ticks_waited d who [] = 0
 ticks_waited d who (Tick ∷ past) =
     if is_first who (first_command d (in_hand past)) then one_more (ticks_waited d who past) else 0
 ticks_waited d who (_ ∷ past) = ticks_waited d who past
 
--- so many the first command of a connection has waited, where one is in hand
+-- how many ticks the first command in hand on a connection has waited, if there is one
 abbrev pub waiting_ticks : ℕ → List Act → Option ℕ
 waiting_ticks d past = option_map (λ who. ticks_waited d who past) (first_command d (in_hand past))
 
 -- ## What is kept
 
--- the ticks that are kept for this one
+-- the ticks that are kept for this asker
 abbrev pub ticks_kept : Option Delay → Asker → ℕ
 ticks_kept None who = 0
 ticks_kept (Some delay) who = if is_same who delay.asker then delay.ticks else 0
 
--- what is kept of a connection after a tick that found this one's command its first
+-- what is kept of a connection after a tick that found this asker's command its first
 abbrev pub delay_after : Option Delay → (first : Option Asker) → Option Delay
 delay_after delay None = None
 delay_after delay (Some who) = Some (record { asker = who; ticks = one_more (ticks_kept delay who) })
@@ -56,16 +56,16 @@ delay_after delay (Some who) = Some (record { asker = who; ticks = one_more (tic
 abbrev pub delay_at : List (Option Delay) → ℕ → Option Delay
 delay_at delays d = slice_index_or delays d None
 
--- a tick finds these in hand
+-- what is kept after a tick that found these requests in hand
 abbrev pub CountsTick : (old new : List (Option Delay)) → (hand : List Request) → Type 0
 CountsTick old new hand =
     (d : ℕ) → d < 62 → delay_at new d ≡ delay_after (delay_at old d) (first_command d hand)
 
--- of each connection what is kept is what the history says
+-- what is kept of each connection is what the history says
 abbrev pub AreDelays : List (Option Delay) → List Act → Type 0
 AreDelays delays past =
     (d : ℕ) → d < 62 → (who : Asker) → ticks_kept (delay_at delays d) who ≡ ticks_waited d who past
 
--- what is answered of a connection
+-- the ticks that are answered for a connection
 abbrev pub ticks_shown : List (Option Delay) → (hand : List Request) → ℕ → Option ℕ
 ticks_shown delays hand d = option_map (ticks_kept (delay_at delays d)) (first_command d hand)

@@ -1,4 +1,4 @@
-//! Holds a connection of which too many lines wait for their listener, and frees it (27.010, 5.4.6.3.7).
+//! Holds a connection while too many of its lines wait for their listener, and then frees it (27.010, 5.4.6.3.7).
 ghost use Rattle.std.specs.Prelude.{◌≡◌, ◌≢◌, ◌==◌, ◌||◌, [], ◌∷◌, false, true, length, map, Some, None, if◌then◌else◌, IfOk, OnErr, OnOk};
 ghost use Rattle.std.specs.Result.{result_err};
 ghost use Rattle.mux_station.specs.States.{is_opened};

@@ -29,7 +29,7 @@ pub struct Core {
     pub(crate) lanes: Lanes,
     /// The requests that wait for their outcome, in the order taken.
     pub(crate) hand: Hand,
-    /// By which lines are seen.
+    /// The dialect by which lines are seen.
     pub(crate) dialect: Dialect,
     /// The kinds that are listened to.
     pub(crate) kinds: Vec<UrcKind>,
@@ -153,7 +153,7 @@ impl Core {
         self.hand.left()
     }
 
-    /// Whose Stop is in hand, if one is.
+    /// The asker of the Stop in hand, if there is one.
     pub(crate) fn stop(&self) -> Option<Asker>
         ensures { result ≡ option_map asker_of (find is_stop self.now.hand) }
     {

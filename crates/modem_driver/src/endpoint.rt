@@ -77,10 +77,9 @@ impl Input {
 }
 
 impl Endpoint {
-    /// An endpoint at a standard modem that has done nothing yet. It listens to these kinds of unsolicited lines,
-    /// and its first request has this number. N1 is how many octets of information a frame may have. It takes
-    /// room for 128 requests and 128 outcomes. Refusals: 2 BadN1 where N1 isn't 31 to 32767, checked
-    /// first; 1 NoMemory.
+    /// A new endpoint at a standard modem. It listens to these kinds of unsolicited lines, and its first request has
+    /// this number. N1 is the most octets of information that a frame may have. It takes room for 128 requests and 128
+    /// outcomes. Refusals: 2 BadN1 where N1 isn't 31 to 32767, checked first; 1 NoMemory.
     #[tactic(auto, using(crate::proofs::endpoints::Requests::begins_standard))]
     pub fn new(
         alloc: Global,
@@ -99,7 +98,7 @@ impl Endpoint {
         })
     }
 
-    /// The same at a modem whose codes are those of this dialect, of which it takes a copy.
+    /// As `new`, at a modem whose codes are those of this dialect. It takes a copy of the dialect.
     #[tactic(auto, using(crate::proofs::endpoints::Requests::begins))]
     pub fn with_dialect(
         alloc: Global,

@@ -25,7 +25,7 @@ const TEXT: &[u8] = b"AT+CMUX=0\r";
 /// Why the multiplexer isn't entered.
 #[derive(Clone, Copy, PartialEq, Eq, Debug, Error)]
 pub enum EntryError {
-    /// 1: the answer ended with another final code than `OK`.
+    /// 1: the answer's final code isn't `OK`.
     #[error("the modem refuses")]
     Refused,
     /// 2: no final code came while the entry could wait.
@@ -142,7 +142,7 @@ pub(crate) fn next_octet<L: SerialLine>(line: &mut L) -> Result<Option<u8>, Line
 }
 
 #[tactic(auto, using(crate::proofs::Entries::sees_line))]
-/// An octet is read: the final code that it ends, if it ends one.
+/// Reads an octet, and gives the final code that ends with it, if one does.
 pub(crate) fn see(reader: &mut LineReader, octet: u8) -> Option<Final>
     ensures keeps { HasRead reader.new (reader.old ++ octet ∷ []) }
     ensures given { SeesCode reader.old octet result }

@@ -53,7 +53,7 @@ impl<'a> Model for Entry<'a> {
 }
 
 impl<'a> Entry<'a> {
-    /// Nothing is sent or read yet.
+    /// An entry that has sent and read nothing yet.
     pub fn new(text: &'a [u8]) -> Entry<'a>
         ensures value { result ≡ record { text = text.now; written = 0; kept = [] } }
         ensures begins { (first : LineView) → IsAsked first first result }

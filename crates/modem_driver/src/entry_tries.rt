@@ -16,9 +16,10 @@ use serial_line::SerialLine;
 /// What asks which values an entry may have.
 const RANGES: &[u8] = b"AT+CMUX=?\r";
 
-/// How long an entry goes on. It is asked after each step, and may wait where that moved nothing: by a clock, a count, or a bell.
+/// Decides how long an entry goes on. The entry asks it after each step. Where the step moved nothing it may wait: by a clock, a
+/// count, or a bell.
 ///
-/// Contracts see whether it is used up, and how often it was asked; that count ends at `u64::MAX`.
+/// Contracts see whether it is used up, and how often it was asked; the count stops at `u64::MAX`.
 pub trait Patience {
     /// Whether it is used up.
     ghost is_over: { Self → Bool };

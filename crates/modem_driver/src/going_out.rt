@@ -68,9 +68,9 @@ impl Core {
         }
     }
 
-    /// Takes out the next frame for the line and lends it: the first of the control queue, or where that is empty data
-    /// of the connection whose turn it is. Of data it has as many octets as wait there, at most N1 and at most 1024.
-    /// After a loss of the line there is none. It takes no memory.
+    /// Takes out the next frame for the line and lends it: the first of the control queue, or, where that is empty,
+    /// data of the connection whose turn it is. A data frame has as many octets as wait there, at most N1 and at most
+    /// 1024. After a loss of the line there is none. It takes no memory.
     pub fn outgoing(&mut self) -> Option<Outgoing<'_>>
         ensures frame { GoesOut self.old (option_map outgoing_of result) }
         ensures past { CoreGoesOn self.old }

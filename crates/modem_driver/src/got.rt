@@ -358,9 +358,8 @@ impl Core {
         }
     }
 
-    /// Handles a received frame as `got` does, and gives the acts that follow on its coming: those of `got` without the
-    /// first. So no copy of the frame is made, and data is read on a lane that is there for it. Its refusals are those of
-    /// `got`.
+    /// Handles a received frame as `got` does, and gives the acts of `got` but for the first, the frame's coming. It
+    /// makes no copy of the frame, and reads data on a lane that is kept for it. Refusals as those of `got`.
     pub(crate) fn follow(
         &mut self,
         frame: FrameView<'_>,

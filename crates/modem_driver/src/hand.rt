@@ -74,7 +74,7 @@ impl Hand {
         self.requests.as_slice()
     }
 
-    /// Whose Stop there is, if there is one: at most one waits.
+    /// The asker of the Stop among them, if there is one: at most one waits.
     pub(crate) fn stop(&self) -> Option<Asker>
         ensures { result ≡ option_map asker_of (find is_stop self.now) }
     {

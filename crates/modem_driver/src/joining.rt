@@ -63,7 +63,7 @@ fn lead_first(before: &mut Window, acts: &mut Vec<Act>) -> Result<(), TextError>
 }
 
 impl Lane {
-    /// The other becomes the same, but that the lines of an answer so far aren't on it.
+    /// Makes `fork` the same as this lane, but without the lines of an answer so far.
     pub(crate) fn fork_into(&self, fork: &mut Lane)
         ensures { fork.new ≡ forked_lane self.now }
     {

@@ -109,8 +109,8 @@ impl Lanes {
         self.each[usize::from(dlci.number())].fork_into(fork);
     }
 
-    /// One goes on as its fork, behind what came before. Says whether a command was under way there and
-    /// is no more. Want of memory changes nothing.
+    /// One goes on as its fork, behind what came before. Says whether a command that was under way there has ended.
+    /// Want of memory changes nothing.
     pub(crate) fn join(
         &mut self,
         dlci: Dlci,

@@ -18,10 +18,10 @@ ghost use Rattle.modem_driver.specs.TurningAway.{TurnsOn};
 ghost use Rattle.modem_driver.specs.PollLaws.{RunsInHistories, LostFails, NoLossIsKeptBack, NoLossIsStopped, CallsTheLine, LostGivesFailed};
 
 /// The requests taken, frames got, ticks and losses of a replay are those that its events bring, in their order, and no
-/// others. So no replay loses the line by itself, gets a frame of which no octet came, or drops a request. Of each
-/// command all data frames but the last have N1 octets of information: at N1 31 a command of 41 octets leaves in frames
-/// of 31 and 10, not of 20 and 21. Each call begins where no control frame waits, and then all fits: so no request is
-/// told Busy for want of room, no frame that comes is refused for it, and a tick leaves no connection out.
+/// others. So no replay loses the line by itself, gets a frame of which no octet came, or drops a request. All data
+/// frames of a command but the last have N1 octets of information: at N1 31 a command of 41 octets leaves in frames of
+/// 31 and 10, not of 20 and 21. No control frame waits when a call begins, so what it calls for fits: no request is
+/// told Busy and no frame is refused for want of room, and a tick leaves no connection out.
 #[tactic(auto, using(crate::proofs::replays::FirstActs::brought, crate::proofs::replays::FirstActs::no_loss, crate::proofs::replays::FirstActs::no_invention, crate::proofs::replays::FirstActs::no_request_dropped, crate::proofs::replays::FullFrames::full, crate::proofs::replays::FullFrames::no_halves, crate::proofs::replays::EmptyQueues::begin_empty, crate::proofs::replays::EmptyQueues::fits_empty, crate::proofs::replays::RoomInReplays::never_wants_room, crate::proofs::replays::RoomInReplays::busy_wanted, crate::proofs::replays::RoomInReplays::busy_under_way, crate::proofs::replays::RoomInReplays::place_wanted))]
 pub fn replays()
     ensures brought { (n1 : ℕ) (events : List Event) (acts : List Act)
@@ -41,12 +41,12 @@ pub fn replays()
     ensures place { WantsRoom full_queue test_comes }
 {}
 
-/// The headline, of every run whose desk was settled with the driver's end that `finish` gave and with all its callers:
-/// at every moment what left on a connection since it opened is a prefix of its callers' command lines taken since
-/// then, each once, each caller's in its submitted order, none after a close; each answered command has just its
-/// solicited lines up to its final code; each subscribed unsolicited line was announced once; and every caller holds
-/// each of its outcomes once. Of each command all data frames but the last have N1 octets of information, in every
-/// history of a session. The definitions refuse a request with two places or with none, and commands that left in
+/// The headline, of every run whose desk was settled with the driver's end that `finish` gave and with all its callers.
+/// At every moment the octets that left on a connection since it opened are a prefix of its callers' command lines
+/// taken since then: each line once, each caller's in its submitted order, none after a close. Each answered command
+/// has just its solicited lines up to its final code. Each subscribed unsolicited line was announced once. Every caller
+/// holds each of its outcomes once. In every history of a session all data frames of a command but the last have N1
+/// octets of information. The definitions refuse a request with two places or with none, and commands that left in
 /// another order.
 #[tactic(auto, using(crate::proofs::law_proofs::Headlines::headline, crate::proofs::replays::FullFrames::sends_full, crate::proofs::rows::HeadlineRowFacts::all_right_places, crate::proofs::rows::HeadlineRowFacts::all_wrong_places, crate::proofs::rows::HeadlineRowFacts::other_order))]
 pub fn headlines()
@@ -59,7 +59,8 @@ pub fn headlines()
 
 /// The headline of a desk that had several sessions in turn on the same driver's end, whether or not their lines
 /// failed. Each session keeps what the headline says of one. Over all of them each subscribed unsolicited line was
-/// announced once, and every caller holds each of its outcomes once, also of requests turned away between two sessions.
+/// announced once, and every caller holds each of its outcomes once, those of requests turned away between two sessions
+/// included.
 #[tactic(auto, using(crate::proofs::law_proofs::DeskHeadlines::desk_headline))]
 pub fn desks()
     ensures headline { (run : DeskRun) → IsDeskHeadline run }
@@ -73,10 +74,10 @@ pub fn turning_away()
     ensures passes { TurnsOn }
 {}
 
-/// Worked ends of a session, computed by the definitions. A Stop that is answered or given up has ended; one that a
-/// loss of the line ends hasn't, nor does a probe that is given up end it. The session has ended where all frames sent
-/// are written and all outcomes told, and stays so; where an octet or an outcome waits it hasn't. A session whose Stop
-/// has ended doesn't go on as if none had.
+/// Worked ends of a session, computed by the definitions. A Stop that is answered or given up has ended. A loss of the
+/// line ends no Stop so, nor does a probe that is given up. The session has ended where all frames sent are written and
+/// all outcomes told, and stays so; where an octet or an outcome waits it hasn't. A session whose Stop has ended
+/// doesn't go on as if none had.
 #[tactic(auto, using(crate::proofs::rows::EndingRowFacts::all_stopped, crate::proofs::rows::EndingRowFacts::none_stopped, crate::proofs::rows::EndingRowFacts::right_ending, crate::proofs::rows::EndingRowFacts::stays_ended, crate::proofs::rows::EndingRowFacts::no_endings, crate::proofs::rows::EndingRowFacts::no_going))]
 pub fn endings()
     ensures stopped { list_all ends_in stopped_rows ≡ true }
@@ -111,12 +112,11 @@ pub fn polls()
     ensures no_live_polls { AreNoLivePolls }
 {}
 
-/// The calls of an endpoint, one after the other, by their clauses, over a line that gave and took just the octets of the
-/// calls, and a desk's end that took just their requests and told and announced just what they gave. Whatever history there
-/// was before them, it goes on to one that fits after them. So from the beginning on one history tells all: it is lawful and
-/// of whole calls; of the octets taken in just its frames were read; the octets given, and then those that wait, are the
-/// frames that it gives on; the outcomes given, and then those that wait, are its outcomes, and so are of each kind the
-/// lines: each once, in its order.
+/// Runs of an endpoint's calls, by the calls' clauses. The line gave and took just the octets of the calls. The desk's end
+/// took just their requests, and told and announced just what they gave. A history that fits before the calls goes on to one
+/// that fits after them. So from the beginning on one history tells all. It is lawful and of whole calls. Of the octets
+/// taken in just its frames were read. The octets given, and then those that wait, are the frames that it gives on. The
+/// outcomes given, and then those that wait, are its outcomes; likewise the lines of each kind: each once, in its order.
 #[tactic(auto, using(crate::proofs::endpoints::Law::one_history, crate::proofs::endpoints::Law::tells_all))]
 pub fn endpoints()
     ensures history { OneHistory }

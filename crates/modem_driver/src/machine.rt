@@ -75,8 +75,8 @@ impl Model for Machine {
 }
 
 impl Machine {
-    /// Nothing has happened yet; it listens to these kinds, at a standard modem. It takes all the room that it needs
-    /// but for lines that wait. Refusals: 2 BadN1, checked first; 1 NoMemory.
+    /// A new machine at a standard modem, which listens to these kinds. It takes all the room that it needs but for
+    /// lines that wait. Refusals: 2 BadN1, checked first; 1 NoMemory.
     pub(crate) fn new(alloc: Global, n1: u16, kinds: &[UrcKind]) -> Result<Machine, SessionError>
         ensures ok { IfOk result (λ k. k ≡ new_machine n1 kinds.now) }
         ensures past { IfOk result (λ k. Fits k.core []) }
@@ -87,7 +87,7 @@ impl Machine {
         Machine::with_dialect(alloc, n1, &standard, kinds)
     }
 
-    /// The same at a modem whose codes are those of this dialect.
+    /// As `new`, at a modem whose codes are those of this dialect.
     pub(crate) fn with_dialect(
         alloc: Global,
         n1: u16,

@@ -166,7 +166,7 @@ fn hear(deframer: &mut Deframer, running: &mut Running, octets: &[u8]) -> Result
     Ok(())
 }
 
-/// What one event comes to.
+/// Handles one event.
 pub(crate) fn handle(
     deframer: &mut Deframer,
     running: &mut Running,

@@ -45,8 +45,8 @@ impl<L: SerialLine, R: Wait + Drop> Model for Session<L, R> {
     ghost view = { λ s. record { line = s.line; driver = s.driver; machine = s.machine } };
 }
 
-/// What a session was when it ended: its line, its desk's end, the requests taken and not told, in
-/// order, and last the one kept aside; and the outcomes and lines that still waited for a place.
+/// What an ended session leaves: its line, its desk's end, the requests taken and not told, in order, with the one kept
+/// aside last, and the outcomes and lines that still waited for a place.
 #[derive(Drop)]
 pub struct Finished<L: SerialLine> {
     pub line: L,
@@ -74,10 +74,10 @@ fn begin(
 impl<L: SerialLine, R: Wait + Drop> Session<L, R> {
     ghost use Rattle.modem_driver.specs.contracts.session.Session.{the_row};
 
-    /// A session with a standard modem that has done nothing yet, over a line and the driver's end of a desk,
-    /// whatever they did before. N1 is how many octets of information a frame may have. It keeps the right to wait
-    /// and the allocator, and takes room for 128 requests and 128 outcomes. Refusals, which hand the
-    /// line and the desk's end back: 2 BadN1 where N1 isn't 31 to 32767, checked first; 1 NoMemory.
+    /// A new session with a standard modem, over a line and the driver's end of a desk, whatever they did before. N1 is
+    /// the most octets of information that a frame may have. It keeps the right to wait and the allocator, and takes
+    /// room for 128 requests and 128 outcomes. Refusals, which hand the line and the desk's end back: 2 BadN1 where N1
+    /// isn't 31 to 32767, checked first; 1 NoMemory.
     pub fn new(
         rt: R,
         alloc: Global,
@@ -97,7 +97,7 @@ impl<L: SerialLine, R: Wait + Drop> Session<L, R> {
         Session::with_dialect(rt, alloc, line, driver, n1, &standard)
     }
 
-    /// The same with a modem whose codes are those of this dialect, of which it takes a copy.
+    /// As `new`, with a modem whose codes are those of this dialect. It takes a copy of the dialect.
     pub fn with_dialect(
         rt: R,
         alloc: Global,
@@ -139,8 +139,8 @@ impl<L: SerialLine, R: Wait + Drop> Session<L, R> {
         self.machine.line_end.unwritten()
     }
 
-    /// The line, lent. The session fits afterwards what it fitted before where what was done through
-    /// the loan left the octets received and sent and all counts as they were.
+    /// Lends the line. Where the loan leaves its octets received and sent and all its counts as they were, the session
+    /// fits the same histories as before.
     pub fn line_mut(&mut self) -> &mut L
         ensures value { result.now ≡ self.old.line }
         ensures* lent { sem 𝓛 (Lends (the_row L.row R.row L.SerialLine) L.row self.entry result
@@ -149,8 +149,8 @@ impl<L: SerialLine, R: Wait + Drop> Session<L, R> {
         &mut self.line
     }
 
-    /// A tick: SABM and DISC that weren't answered are sent again, and at the fourth what waits is
-    /// given up. Line and desk's end stay as they are. Refusals, which change nothing: 3 Failed where a turn has answered Line; 1 NoMemory.
+    /// A tick: SABM and DISC that weren't answered are sent again, and at the fourth tick what waits is given up. Line and desk's end stay
+    /// as they are. Refusals, which change nothing: 3 Failed where a turn has answered Line; 1 NoMemory.
     pub fn tick(&mut self) -> Result<(), SessionFault>
         ensures ticks { OnOk result (Ticks (line_by L.received L.sent L.calls L.failures L.empty_reads L.stalled_writes) self.old self.new) }
         ensures same { (self.new.line ≡ self.old.line) × (self.new.driver ≡ self.old.driver) }

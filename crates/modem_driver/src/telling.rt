@@ -66,8 +66,8 @@ pub(crate) fn state_of(station: &Station, lost: bool, dlci: Dlci) -> ChannelStat
     station.state(dlci)
 }
 
-/// What a request that waits is told by now, if anything. `ended` says whether 0 was Opened before
-/// and isn't any more.
+/// The outcome that a request in hand is told now, if any. `ended` says whether connection 0 was Opened before and
+/// isn't any more.
 pub(crate) fn told_by(
     station: &Station,
     lost: bool,

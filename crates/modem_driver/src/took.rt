@@ -90,8 +90,8 @@ fn tell_once(
 
 impl Core {
     /// Takes a request, which is told its outcome at once or is in hand from then on. After a loss of the line it is
-    /// told LineLost, and while 128 requests are in hand Busy. Refusal: 1 NoMemory, which changes nothing and hands the
-    /// request back. It may come after a loss too, since two acts have to be kept.
+    /// told LineLost; while 128 requests are in hand, Busy. Refusal: 1 NoMemory, which changes nothing and hands the
+    /// request back. NoMemory may come after a loss too, since two acts have to be kept.
     #[tactic(auto, using(crate::proofs::holds::OtherCalls::keeps_took))]
     pub fn took(&mut self, request: Request) -> Result<Vec<Act>, (CoreError, Request)>
         ensures past { IfOk result (λ acts.
@@ -144,8 +144,8 @@ impl Core {
         Some(*dlci)
     }
 
-    /// Such a command is in hand from then on, and enters the send ring where no other of its connection is in hand.
-    /// It takes no memory.
+    /// Takes such a command into hand, and into the send ring where no other of its connection is in hand. It takes no
+    /// memory.
     pub(crate) fn send(&mut self, dlci: Dlci, request: Request)
         requires { sends_on self.old request.ask ≡ Some dlci }
         ensures past { Handles self.old self.new (Took request) (Took request ∷ []) }

@@ -1,5 +1,5 @@
--- A driver and a simulated modem at the two ends of one line: what the modem reads, and what its answers are
--- told as (27.010, 5.4; V.250, 5.2, 5.7).
+-- A driver and a simulated modem at the two ends of one line: what the modem reads, and how its answers are told
+-- (27.010, 5.4; V.250, 5.2, 5.7).
 use Rattle.std.specs.Prelude.{◌≡◌, ℕ, List, [], ◌∷◌, ◌++◌, length}
 use Rattle.mux_station.specs.Acts as station
 use Rattle.mux_station.specs.declared.role.Role.TheVariants.{Initiator}
@@ -47,19 +47,19 @@ driver_wire line = driver.wire (driver_past line)
 abbrev pub modem_wire : List EndAct → List station.Act
 modem_wire line = modem.wire (modem_past line)
 
--- what came at each end are the first of the frames that the other sent
+-- the frames that came at each end are the first that the other sent
 pub record ComesBothWays (line : List EndAct) : Type 0 where
   pub at_modem : ComesInOrder (driver_wire line) (modem_wire line)
   pub at_driver : ComesInOrder (modem_wire line) (driver_wire line)
 
--- and so it is at every point
+-- `ComesBothWays` holds at every point of the line
 abbrev pub IsOneLine : List EndAct → Type 0
 IsOneLine [] = Unit {0}
 IsOneLine (a ∷ line) = ComesBothWays (a ∷ line) × IsOneLine line
 
--- A driver of a standard modem that keeps its laws, whose calls are complete, which takes command lines, and of whose callers
--- none uses a number twice; a modem that keeps its laws, and announces unsolicited lines alone; one line
--- between them, on which each connection is asked for once at most.
+-- A driver of a standard modem: it keeps its laws, its calls are complete, it takes command lines, and no caller uses a
+-- number twice. A modem: it keeps its laws, and announces unsolicited lines alone. One line between them, on which each
+-- connection is asked for at most once.
 pub record IsOneModem (s : Setting) (e : End) (line : List EndAct) : Type 0 where
   pub is_initiator : s.role ≡ Initiator
   pub codes : s.dialect ≡ standard
@@ -81,8 +81,8 @@ unfoldable pub ReadsCommands : Setting → End → List EndAct → Type 0
 ReadsCommands s e line =
     IsOneModem s e line → IsAmong (heard (modem_past line)) (commands_sent (driver_past line))
 
--- among these lines stands this command on d, as many on d before it as its place says, and this is what the
--- modem's step gives there, run over all lines before it
+-- Among these lines stands this command on d, behind as many on d as its place says. The answer is what the modem's
+-- step gives there, run over all lines before it.
 pub record IsAnswerAt (e : End) (ls : List (ℕ × List ℕ)) (d place : ℕ) (command : List ℕ)
     (answer : List AnswerLine) : Type 0 where
   pub before : List (ℕ × List ℕ)

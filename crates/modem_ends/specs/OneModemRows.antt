@@ -85,7 +85,7 @@ two_commands =
 abbrev pub ringing : End
 ringing = announcing 1 sim.one
 
--- the premise holds of it
+-- `IsOneModem` holds of the right line
 abbrev pub RightLine : Type 0
 RightLine = IsOneModem (replaying 31) ringing (after [] two_commands)
 
@@ -97,7 +97,7 @@ RightAnswer =
 
 -- ## What isn't right
 
--- not as by a modem to which no mode was set, not at the first place, and not on another connection
+-- it isn't answered as by a modem to which no mode was set, nor at the first place, nor on another connection
 abbrev pub WrongAnswers : Type 0
 WrongAnswers =
     (¬ IsAnswerAt ringing (heard (modem_past (after [] two_commands))) 1 1 ask_mux

@@ -6,8 +6,8 @@ ghost use Rattle.modem_ends.specs.OneModem.{EndAct, ReadsCommands, TellsModem};
 ghost use Rattle.modem_ends.specs.OneModemRows.{RightAnswer, RightLine, WrongAnswers, WrongLines};
 
 /// The lines that the modem reads, over all connections, are commands that the driver was given, each on its connection, in
-/// the order in which they were wholly sent. Each command told Done is among them, at its place, and what it is told is what
-/// the modem's step gives there, run over all lines before it.
+/// the order in which they were wholly sent. Each command told Done is among them, at its place, and is told what the
+/// modem's step gives there, run over all lines before it.
 #[tactic(auto, using(crate::proofs::law_proofs::OneModem::reads_commands, crate::proofs::law_proofs::OneModem::tells_modem))]
 pub fn one_modem()
     ensures reads { (s : Setting) (e : End) (line : List EndAct) → ReadsCommands s e line }

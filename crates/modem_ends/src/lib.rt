@@ -1,4 +1,4 @@
-//! What a driver and a simulated modem at the two ends of one line come to.
+//! Laws of a driver and a simulated modem at the two ends of one line.
 #![tactic(auto)]
 
 pub mod laws;

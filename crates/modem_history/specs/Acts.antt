@@ -53,7 +53,7 @@ wire_act _ = None
 abbrev pub wire : List Act → List station.Act
 wire acts = filter_map wire_act acts
 
--- the outcome answers the request: a caller uses no number twice
+-- the outcome answers the request: it has the same caller and number
 abbrev pub is_for : Request → Outcome → Bool
 is_for r o = (r.caller == o.caller) && (r.number == o.number)
 

@@ -54,7 +54,7 @@ waiting lines acts = record {
   acts = acts;
 }
 
--- 1 and 2 are open, and none is held; 1 is; 2 is; and 1 was, and is so no more
+-- 1 and 2 are open: none is held; 1 is held; 2 is held; 1 was held and freed
 abbrev pub opening_two : List Act
 opening_two =
     opening_one ++ takes 4 (OpenChannel two) ∷ sends Sabm 2 [] ∷ Given ∷ comes Ua 2 [] ∷
@@ -83,8 +83,8 @@ rightly_held =
     waiting (replicate 128 ring) freeing_one ∷ waiting (replicate 127 ring) freeing_one ∷
     waiting (replicate 256 ring_on_two) opening_one ∷ []
 
--- 256 wait and it isn't held, or not any more; it isn't, and another is; lines of two kinds are 256; 127, 1
--- and none wait, and it is held; those that wait are another's
+-- 256 lines wait, and the connection isn't held, or not any more; it isn't held, and another is; lines of two kinds are
+-- 256; 127, 1 and no lines wait, and it is held; the lines that wait are another's
 abbrev pub wrongly_held : List BacklogRow
 wrongly_held =
     waiting (replicate 256 ring) opening_two ∷ waiting (replicate 256 ring) freeing_one ∷
@@ -114,7 +114,7 @@ held_or_full =
     waiting [] (holding_one ++ queued (0x63 ∷ 1 ∷ [])) ∷
     waiting [] opening_two ∷ waiting (replicate 256 ring) (holding_one ++ queued (0x63 ∷ 1 ∷ [])) ∷ []
 
--- with 4117 it has, and with none
+-- with 4117 octets, and with none, an MSC has a place
 abbrev pub neither_held_nor_full : List BacklogRow
 neither_held_nor_full =
     waiting (replicate 256 ring) (opening_two ++ queued (0x63 ∷ [])) ∷
@@ -123,7 +123,7 @@ neither_held_nor_full =
 
 -- ## Acts
 
--- where so many lines wait a turn may hold their connection, and where so many do it may free it
+-- how many lines have to wait so that a turn may hold their connection, and how few so that it may free it
 pub record MayHoldAndFree : Type 0 where
   pub holds : may_act (replicate 256 ring) (Held 1) ≡ true
   pub holds_early : may_act (replicate 255 ring) (Held 1) ≡ false

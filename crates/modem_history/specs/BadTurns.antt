@@ -32,7 +32,7 @@ offers_in_vain v before = record {
   says = WriterFull;
 }
 
--- by one call on the line the one becomes the other, and nothing happens
+-- by one call on the line old becomes new, and nothing happens
 abbrev pub goes_to : (old new : SessionView) → List Act → TurnAnswer → TurnRow
 goes_to old new before says = record {
   old = old;

@@ -30,7 +30,7 @@ use Rattle.modem_history.specs.Information.{command_on}
 use Rattle.modem_history.specs.Kinds.{is_listened, standard_kinds}
 use Rattle.modem_history.specs.Placing.{marks, run_on}
 
--- whose history it is: the role, N1, the codes of the modem, and the kinds that are listened to
+-- the setting of a history: the role, N1, the codes of the modem, and the kinds that are listened to
 pub record Setting : Type 0 where
   pub role : Role
   pub n1 : ℕ
@@ -70,7 +70,7 @@ ticks_since r (_ ∷ past) = ticks_since r past
 pub record HistoryView : Type 0 where
   pub state : ℕ → State
   pub hand : List Request
-  -- of those in hand the ones to which no outcome is owed
+  -- the requests in hand to which no outcome is owed
   pub waiting : List Request
   pub lost : Bool
   -- the octets that wait in the control queue
@@ -119,7 +119,7 @@ abbrev pub all_have_room : Setting → HistoryView → List Frame → Bool
 all_have_room s v [] = true
 all_have_room s v (f ∷ fs) = has_room s.n1 v.queued f && all_have_room s v fs
 
--- in the order of the table of outcomes
+-- the answer that refuses what is asked, if one does, in the order of the table of outcomes
 abbrev pub refused_ask : Setting → HistoryView → Ask → Option Answer
 refused_ask s v (OpenChannel d) =
     if not (d.number == 0) && not (is_opened (v.state 0)) then Some NotOpen
@@ -163,19 +163,20 @@ frames_by s v (Held d) = by_flow s.role v.state d held_up
 frames_by s v (Freed d) = by_flow s.role v.state d ready
 frames_by s v _ = []
 
--- after a loss none is sent
+-- the frames that an act calls for; after a loss none is sent
 abbrev pub frames : Setting → HistoryView → Act → List Frame
 frames s v a = if v.lost then [] else frames_by s v a
 
 -- ## Answers later
 
--- why a connection is Shut now, where nothing else is the cause
+-- why a connection is Shut now: LineLost at a loss; else Closed where 0 was open and isn't now; else NoAnswer at a
+-- tick; else `why`
 abbrev pub cause : HistoryView → (ℕ → State) → Act → Answer → Answer
 cause v now Lost why = LineLost
 cause v now Tick why = if is_opened (v.state 0) && not (is_opened (now 0)) then Closed else NoAnswer
 cause v now a why = if is_opened (v.state 0) && not (is_opened (now 0)) then Closed else why
 
--- its own response is ProbeBack, and an NSC that names its type is Refused
+-- what a message tells a probe: ProbeBack by its own response, Refused by an NSC that names Test
 abbrev pub probe_answer : List ℕ → Option Message → Option Answer
 probe_answer octets None = None
 probe_answer octets (Some m) =
@@ -197,7 +198,7 @@ abbrev pub close_later : State → Answer → Option Answer
 close_later (IsClosing n) why = None
 close_later _ why = Some why
 
--- a stop has ended
+-- how a stop has ended
 abbrev pub stop_ended : Act → Answer
 stop_ended Lost = LineLost
 stop_ended Tick = NoAnswer
@@ -232,7 +233,7 @@ done (Some r) ls = told r (Done ls) ∷ []
 abbrev pub heard : Setting → ℕ → UrcKind → List ℕ → List Act
 heard s d kind line = if s.listens kind then Heard kind d line ∷ [] else []
 
--- what a line calls for, by what it is at its place
+-- what a line calls for, by what it was seen as
 abbrev pub by_seen : Setting → ℕ → Option Request → List ℕ → line_is.Seen → List Act
 by_seen s d owner line Echo = []
 by_seen s d owner line Kept = []

@@ -83,7 +83,7 @@ lines_got r [] = []
 lines_got r (Got f ∷ past) = lines_got r past ++ lines_with r past f
 lines_got r (_ ∷ past) = lines_got r past
 
--- those of one connection
+-- the lines of one connection
 abbrev pub lines_on : ℕ → List (ℕ × List ℕ) → List (List ℕ)
 lines_on d ls = filter_map (λ (p : ℕ × List ℕ). if p.0 == d then Some p.1 else None) ls
 
@@ -107,7 +107,7 @@ reached_in n (t ∷ ts) = if nat_lt 0 n then reached_in (n - length t) ts + 1 el
 abbrev pub wholly_sent : ℕ → List (List ℕ) → List (List ℕ)
 wholly_sent n commands = take (whole_in n (with_cr commands)) commands
 
--- those that a frame sent on d makes whole
+-- the commands that a frame sent on d makes whole
 abbrev pub commands_ended : Role → ℕ → (commands : List (List ℕ)) → List Act → Frame → List (List ℕ)
 commands_ended r d commands past f =
     let out = length (information_sent r d past) in
@@ -151,8 +151,7 @@ all_placed r d commands past = placed_at r d commands (earlier_pasts r d past ++
 abbrev pub begun_in : List Mark → List (List ℕ)
 begun_in ms = map (λ (w : Window). w.command) (windows ms)
 
--- of the lines of all connections those of each are the lines of its information, over all its openings in
--- turn
+-- among the lines of all connections, those of each are the lines of its information, over all its openings in turn
 unfoldable pub HasAllLines : Role → List Act → Type 0
 HasAllLines r past = (d : ℕ) → lines_on d (lines_got r past) ≡ flat_map lines (all_information_got r d past)
 
@@ -182,7 +181,7 @@ PlacesEach r past =
     (d : ℕ) (commands : List (List (List ℕ))) → length commands ≡ length (openings r d past)
     → ArePlacedInEach r d commands past
 
--- all this is said alike where the calls of a station's user stand among the acts and where they don't
+-- all this is the same with and without the calls of a station's user among the acts
 pub record IsSaidAlike (r : Role) (past : List Act) : Type 0 where
   pub got_same : (d : ℕ) → information_got r d (without_calls past) ≡ information_got r d past
   pub sent_same : (d : ℕ) → information_sent r d (without_calls past) ≡ information_sent r d past

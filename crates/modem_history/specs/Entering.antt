@@ -37,7 +37,7 @@ pub record IsRefused (sent read : List ℕ) : Type 0 where
   pub other : line ≢ codes "OK"
   pub ended : EndsWithFinal read line
 
--- how many calls could move octets: those that moved one, at most, and those that moved none though they could
+-- a bound of the calls that could move octets: one for each octet moved, and those that moved none though they could
 abbrev pub calls_with_room : List ℕ → List ℕ → LineView → ℕ
 calls_with_room sent read l = length sent + length read + (l.empty_reads + l.stalled_writes)
 
@@ -61,8 +61,8 @@ abbrev pub FailsBy : LineView → LineView → EntryAnswer → Type 0
 FailsBy old new LineFailed = new.failures ≡ old.failures + 1
 FailsBy old new _ = new.failures ≡ old.failures
 
--- An entry of so many turns, from the one to the other: it sent a beginning of the text, read nothing unless
--- it sent the whole, made no more calls, and its answer means what it says.
+-- An entry of so many turns, from old to new: it sent a beginning of the text, read nothing unless it sent the whole,
+-- made no more calls, and its answer means what it says.
 pub record IsEntry (turns : ℕ) (old new : LineView) (says : EntryAnswer) : Type 0 where
   pub sent : List ℕ
   pub sent_are : new.sent ≡ old.sent ++ sent

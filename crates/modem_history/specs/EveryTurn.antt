@@ -26,7 +26,7 @@ abbrev pub count_at : ℕ → List ℕ → ℕ
 count_at i counts = slice_index_or counts i 0
 
 -- Each outcome that waited was told or still waits, in the order of its caller, and each line that waited was
--- announced or still waits, in the order of its kind. What was handed back the desk's end counted.
+-- announced or still waits, in the order of its kind. The desk's end counted what it handed back.
 pub record OffersWhatWaits (b : Beginning) (old new : SessionView) (t : Exchange) : Type 0 where
   pub outcomes : (c : ℕ) → GivesSome (at_place c old.desk.told) (at_place c new.desk.told)
       (caller_outcomes c old.unplaced) (caller_outcomes c t.still_told)
@@ -95,8 +95,8 @@ abbrev pub ReadsWhereFed : Option Read → List ℕ → Type 0
 ReadsWhereFed None unfed = unfed ≢ []
 ReadsWhereFed (Some r) unfed = 1 ≤ r.room
 
--- the line was read where all octets that had come were fed; and of what waits to be fed some was, unless a
--- frame is at hand
+-- The line was read where all octets that had come were fed. Some of what waits to be fed was fed, unless a frame is at
+-- hand.
 pub record ReadsOn (old new : SessionView) (t : Exchange) : Type 0 where
   pub reads : ReadsWhereFed t.read old.unfed
   pub empty : new.line.empty_reads ≡ empty_after t.read old.line.empty_reads
@@ -117,7 +117,8 @@ abbrev pub asked_in_vain : {A : Type 0} → Option (Option A) → ℕ
 asked_in_vain (Some None) = 1
 asked_in_vain _ = 0
 
--- the desk was asked, unless a request was aside or there was no room for one more; and what it hadn't it counted
+-- The desk was asked for a request, unless one was aside or there was no room for one more. It counted where it had
+-- none.
 pub record Asks (old new : SessionView) (t : Exchange) (past : List Act) : Type 0 where
   pub asks : t.next ≡ None → old.aside ≡ None → length (in_hand past) + length new.unplaced ≡ 128
   pub found_none : new.desk.found_none ≡ counted old.desk.found_none (asked_in_vain t.next)
@@ -141,8 +142,8 @@ pub record TakesSteps (b : Beginning) (old new : SessionView) (t : Exchange) (pa
   pub reads : ReadsOn old new t
   pub asks : Asks old new t (after past acts)
 
--- a turn: some acts and exchange, the same whatever the session began with and whatever history it had, by
--- which it ends in this answer, having taken all its steps
+-- a turn that took all its steps and ends in this answer: its acts and its exchange are the same whatever the session
+-- began with and whatever history it had
 pub record GoesTurn (old new : SessionView) (core later : Beginning → List Act → Type 0)
     (says : TurnAnswer) : Type 0 where
   pub acts : List Act
@@ -153,7 +154,7 @@ pub record GoesTurn (old new : SessionView) (core later : Beginning → List Act
   pub steps : (b : Beginning) (past : List Act) → FitsWith b old (core b) past
       → TakesSteps b old new exchange past acts
 
--- a turn by which it ends in this fault, once it had offered what waits to the desk
+-- a turn that ends in this fault, once what waits was offered to the desk
 pub record GoesFault (old new : SessionView) (core later : Beginning → List Act → Type 0)
     (says : TurnFault) : Type 0 where
   pub acts : List Act

@@ -51,7 +51,7 @@ pub record TakeTheirSteps : Type 0 where
 
 -- ## Steps that are left out
 
--- by some exchange with its line and its desk it ends in its answer
+-- the turn ends in its answer, by some exchange with its line and its desk
 pub record SeemsATurn (row : TurnRow) : Type 0 where
   pub exchange : Exchange
   pub turn : IsTurn beginning row.old row.new exchange (after [] row.before) row.acts row.says

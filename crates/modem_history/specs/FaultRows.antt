@@ -19,13 +19,13 @@ pub record FaultRow : Type 0 where
   pub acts : List Act
   pub says : TurnFault
 
--- by this exchange
+-- the fault is right, by this exchange
 pub record IsRightFault (row : FaultRow) (t : Exchange) : Type 0 where
   pub fitted : SessionFits beginning row.old (after [] row.before)
   pub fits : SessionFits beginning row.new (after (after [] row.before) row.acts)
   pub fault : IsFault beginning row.old row.new t (after [] row.before) row.acts row.says
 
--- whatever it exchanged
+-- the fault is wrong, whatever the turn exchanged
 abbrev pub IsWrongFault : FaultRow → Type 0
 IsWrongFault row =
     (t : Exchange) → ¬ IsFault beginning row.old row.new t (after [] row.before) row.acts row.says

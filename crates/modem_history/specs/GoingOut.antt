@@ -26,7 +26,7 @@ use Rattle.modem_history.specs.Lawful.{OnData}
 abbrev pub may_leave : Dialect → Role → ℕ → List Act → List ℕ
 may_leave dialect r d past = concat (texts (take (answered dialect (marks r d past) + 1) (accepted r d past)))
 
--- what waits on d: that without what left already
+-- what waits on d: what may leave it, without what left already
 abbrev pub waits_on : Dialect → Role → ℕ → List Act → List ℕ
 waits_on dialect r d past = drop (length (information_out r d past)) (may_leave dialect r d past)
 
@@ -43,24 +43,25 @@ abbrev pub else_by : Option ℕ → Option ℕ → Option ℕ
 else_by (Some d) o = Some d
 else_by None o = o
 
--- whose turn it is: of those that are ready the least above the one that last sent data, else the least
+-- the connection whose turn it is: the least that is ready above the one that last sent data, else the least that is
+-- ready
 abbrev pub next_to_send : Dialect → Role → List Act → Option ℕ
 next_to_send dialect r past =
     else_by (find (may_send dialect r past) (from_on (last_sender (wire past) + 1)))
     (find (may_send dialect r past) (from_on 1))
 
--- its frame: as many octets as wait, at most N1
+-- the data frame of d: as many octets as wait, at most N1
 abbrev pub data_of : Setting → List Act → ℕ → Frame
 data_of s past d = written s.role Uih d (take s.n1 (waits_on s.dialect s.role d past))
 
 -- ## What goes out
 
--- the frame, fresh if it is data
+-- the first of the queued frames, or else data, which is fresh
 abbrev pub out_by : Setting → List Act → List Frame → Option Outgoing
 out_by s past (f ∷ fs) = Some (with_freshness false f)
 out_by s past [] = option_map (λ (d : ℕ). with_freshness true (data_of s past d)) (next_to_send s.dialect s.role past)
 
--- nothing after a loss
+-- what goes out next; nothing after a loss
 abbrev pub next_out : Setting → List Act → Option Outgoing
 next_out s past = if is_lost past then None else out_by s past (queue (wire past))
 

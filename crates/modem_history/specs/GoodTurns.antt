@@ -257,7 +257,7 @@ idle_under_way = record {
   says = Idle;
 }
 
--- by this exchange
+-- exchanges in which these outcomes or lines were handed back
 abbrev pub outcomes_back : List Outcome → Exchange
 outcomes_back os = record (exchanged None None) { still_told = os; told_back = os }
 

@@ -1,5 +1,5 @@
--- Which lines are heard: of those of a connection, over all its openings in turn, each that no answer holds
--- and that is no echo, if its kind is listened to (V.250, 5.7.1; 27.007, 9).
+-- Which lines are heard: each line of a connection, over all its openings in turn, that no answer holds and that is no
+-- echo, if its kind is listened to (V.250, 5.7.1; 27.007, 9).
 use Rattle.std.specs.Prelude.{◌≡◌, ℕ, ◌==◌, List, [], ◌∷◌, ◌++◌, filter, if◌then◌else◌}
 use Rattle.std.specs.List.{flat_map}
 use Rattle.mux_station.specs.declared.role.Role.{Role}
@@ -42,7 +42,7 @@ all_marks r d past = earlier_marks r d past ++ marks r d past ∷ []
 abbrev pub announced_in : Dialect → List Mark → List (UrcKind × List ℕ)
 announced_in dialect ms = announced (lines_of ms) (seen_in dialect ms)
 
--- those of a listened kind
+-- the lines of a listened kind
 abbrev pub listened : Setting → List (UrcKind × List ℕ) → List (UrcKind × List ℕ)
 listened s lines = filter (λ (p : UrcKind × List ℕ). s.listens p.0) lines
 
@@ -55,8 +55,8 @@ abbrev pub AreNoneLost : Dialect → List (List Mark) → Type 0
 AreNoneLost dialect [] = Unit {0}
 AreNoneLost dialect (ms ∷ rest) = NoneLost dialect ms × AreNoneLost dialect rest
 
--- what was heard on d is the beginning of all that is announced there, and the rest is owed; and what is
--- announced are just the lines that are part of no answer and no echo, each once
+-- What was heard on d is the beginning of all that is announced there, and the rest is owed. What is announced are just
+-- the lines that are part of no answer and no echo, each once.
 pub record Hears (s : Setting) (d : ℕ) (past : List Act) : Type 0 where
   pub in_order : was_heard d past ++ to_be_heard d (owed s past) ≡ listened_on s d past
   pub each_once : AreNoneLost s.dialect (all_marks s.role d past)

@@ -17,7 +17,7 @@ last_held r d (a ∷ past) = if opens_here r d past a then false else last_held 
 abbrev pub is_held : Role → ℕ → List Act → Bool
 is_held r d past = is_open r d (wire past) && last_held r d past
 
--- it may be held: it isn't 0, is open and isn't held
+-- d may be held: it isn't 0, is open and isn't held
 abbrev pub may_hold : Role → ℕ → List Act → Bool
 may_hold r d past = not (d == 0) && (is_open r d (wire past) && not (is_held r d past))
 

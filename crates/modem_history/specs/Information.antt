@@ -41,7 +41,7 @@ accepted r d (Took q ∷ past) =
     if is_accepted r d past q then accepted r d past ++ q ∷ [] else accepted r d past
 accepted r d (a ∷ past) = if opens_here r d past a then [] else accepted r d past
 
--- those that were accepted in each of its openings, in turn; before the first there are none
+-- the commands that were accepted in each opening of d but the last, in turn; before the first there are none
 abbrev pub earlier_accepted : Role → ℕ → List Act → List (List Request)
 earlier_accepted r d [] = []
 earlier_accepted r d (Got f ∷ past) =

@@ -14,13 +14,13 @@ use Rattle.modem_history.specs.Placing.{marks, reached_in, whole_in}
 use Rattle.modem_history.specs.Holding.{OnHeld}
 use Rattle.modem_history.specs.Calls.{Setting, calls_behind, is_lost}
 
--- what isn't a frame; a loss of the line leaves no frame to be sent
+-- the acts that send no frame: a loss of the line leaves no frame to be sent
 abbrev pub unsent : List Act → List Act
 unsent [] = []
 unsent (Sent f ∷ acts) = unsent acts
 unsent (a ∷ acts) = a ∷ unsent acts
 
--- what was called for and doesn't stand in the past yet, in order, with one act more
+-- what is owed after one act more: what was called for and doesn't stand in the past yet, in order
 abbrev pub owed_after : Setting → List Act → List Act → Act → List Act
 owed_after s past owing (Sent f) = if is_data_frame f then owing else drop 1 owing
 owed_after s past owing (Told o) = drop 1 owing
@@ -35,9 +35,9 @@ owed s (a ∷ past) = owed_after s past (owed s past) a
 
 -- ## The laws of a data frame
 
--- the line isn't lost; it leaves an open connection that isn't stopped, as this end writes it, behind all
--- that is owed and behind every control frame, each of which is given on: so the order of frames sent is that
--- on the line
+-- The line isn't lost. The frame leaves an open connection that isn't stopped, as this end writes it, with 1 to N1
+-- octets of information. Nothing is owed, and every control frame is given on: so the order of frames sent is that on
+-- the line.
 pub record Gated (s : Setting) (past owing : List Act) (f : Frame) : Type 0 where
   pub live : is_lost past ≡ false
   pub is_open : is_open s.role f.dlci (wire past) ≡ true
@@ -62,7 +62,7 @@ InTurn s past f =
 
 -- ## The laws of an act
 
--- of what is owed this is the next
+-- the act is the next of what is owed
 pub record IsNext (owing : List Act) (a : Act) : Type 0 where
   pub later : List Act
   pub is_next : owing ≡ a ∷ later
@@ -114,8 +114,7 @@ abbrev pub OnGiven : List Act → Act → Type 0
 OnGiven past Given = some_wait (queue (wire past)) ≡ true
 OnGiven past _ = Unit {0}
 
--- the act may follow the past, to which so much is owed: a frame that is no data, an outcome, a line is the
--- next one owed
+-- the act may follow the past, where this is owed: a control frame, an outcome or a line is the next act owed
 pub record Allows (s : Setting) (past owing : List Act) (a : Act) : Type 0 where
   pub gated : OnData (Gated s past owing) a
   pub once : OnData (Once s past) a
@@ -127,7 +126,7 @@ pub record Allows (s : Setting) (past owing : List Act) (a : Act) : Type 0 where
   pub held : OnHeld s.role past a
   pub marked : OnGiven past a
 
--- each act might follow what went before it
+-- each act may follow what went before it
 unfoldable pub Lawful : Setting → List Act → Type 0
 Lawful s [] = Unit {0}
 Lawful s (a ∷ past) = Allows s past (owed s past) a × Lawful s past
@@ -149,7 +148,7 @@ Quiet s past =
     → is_stopped s.role d (wire past) ≡ false
     → is_quiet_on s d past ≡ true
 
--- all three
+-- the history is lawful, complete and quiet
 pub record Keeps (s : Setting) (past : List Act) : Type 0 where
   pub lawful : Lawful s past
   pub complete : Complete s past

@@ -34,13 +34,13 @@ abbrev pub AreCommandLines : List (List ℕ) → Type 0
 AreCommandLines [] = Unit {0}
 AreCommandLines (text ∷ texts) = (refusal_of text ≡ None) × AreCommandLines texts
 
--- of command lines that go out the other end reads just those that are wholly sent, wherever they are cut
+-- of command lines that go out, the other end reads just those that are wholly sent, wherever they are cut
 unfoldable pub AreReadAsSent : (commands : List (List ℕ)) → (out : List ℕ) → Type 0
 AreReadAsSent commands out =
     AreCommandLines commands → IsPrefixOf out (concat (with_cr commands))
     → lines out ≡ wholly_sent (length out) commands
 
--- of the commands accepted on a connection the other end reads just those that are wholly sent
+-- of the commands accepted on a connection, the other end reads just those that are wholly sent
 unfoldable pub ReadsAccepted : Setting → List Act → Type 0
 ReadsAccepted s past =
     (d : ℕ) → AreCommandLines (map line_of (accepted s.role d past))

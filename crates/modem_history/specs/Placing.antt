@@ -18,11 +18,11 @@ run_on r d past = unfinished_on r d (wire past)
 abbrev pub whole_after : ℕ → List Request → List Request
 whole_after n qs = take (whole_in n (texts qs)) qs
 
--- the lines that end in what comes: lines can be read on from what is kept of the unfinished one
+-- the lines that end in a frame that comes: lines can be read on from what is kept of the unfinished one
 abbrev pub lines_placed : Role → ℕ → List Act → Frame → List Mark
 lines_placed r d past f = map Line (lines_ended r d (wire past) f)
 
--- the commands that what goes out makes whole
+-- the commands that a frame sent makes whole
 abbrev pub begun_placed : Role → ℕ → List Act → Frame → List Mark
 begun_placed r d past f =
     let out = length (information_out r d past) in

@@ -8,7 +8,7 @@ use Rattle.modem_history.specs.Information.{command_on}
 abbrev pub commands_on : ℕ → Request → Bool
 commands_on d q = command_on d q.ask
 
--- of another caller, or of another number
+-- the requests have different callers, or different numbers
 abbrev pub is_apart : Request → Request → Bool
 is_apart q r = not ((q.caller == r.caller) && (q.number == r.number))
 

@@ -65,7 +65,7 @@ HasMarks b v past =
 
 -- ## Requests
 
--- taken and not told
+-- the requests that were taken and not told
 abbrev pub untold : List Act → List Request
 untold past = filter (λ r. not (list_any (λ o. is_for r o) (outcomes past))) (taken_requests past)
 
@@ -81,7 +81,7 @@ TellsOnce b v =
     → at_place r.caller v.desk.told ≡ at_place r.caller b.desk.told ++ since
     → length (filter (λ o. is_for r o) (since ++ caller_outcomes r.caller v.unplaced)) ≤ 1
 
--- what it says that a session fits a history
+-- what follows where a session fits a history
 pub record SessionSays (b : Beginning) (v : SessionView) (past : List Act) : Type 0 where
   pub read : AreOctets v.unfed → GotAreRead b v past
   pub order : GivesInOrder past
@@ -90,19 +90,19 @@ pub record SessionSays (b : Beginning) (v : SessionView) (past : List Act) : Typ
   pub in_hand : HandIsUntold past
   pub once : TellsOnce b v
 
--- what a session says of each history that it fits
+-- all this follows where the session fits the history
 unfoldable pub FitsSays : Beginning → SessionView → List Act → Type 0
 FitsSays b v past = SessionFits b v past → SessionSays b v past
 
 -- ## Calls
 
--- one call after another is as one call
+-- two calls in a row are as one call
 abbrev pub RunsOn : (old mid new : SessionView) → (first second third : Beginning → List Act → Type 0)
     → Type 0
 RunsOn old mid new first second third =
     Goes old mid first second → Goes mid new second third → Goes old new first third
 
--- what had a history has one after a call
+-- a session that had a history has one after a call
 abbrev pub KeepsHistory : Beginning → (old new : SessionView) → (core later : Beginning → List Act → Type 0)
     → Type 0
 KeepsHistory b old new core later =
@@ -112,7 +112,7 @@ KeepsHistory b old new core later =
 abbrev pub by_test : (Beginning → List Act → Bool) → Beginning → List Act → Type 0
 by_test test b past = test b past ≡ true
 
--- one call after another is as one call
+-- two calls in a row are as one call
 unfoldable pub CallsRunOn : Type 0
 CallsRunOn =
     (old mid new : SessionView) (first second third : Beginning → List Act → Bool)

@@ -154,7 +154,7 @@ IsRight row = SessionFits beginning row.view (after [] row.acts)
 abbrev pub IsWrong : SessionRow → Type 0
 IsWrong row = ¬ SessionFits beginning row.view (after [] row.acts)
 
--- whatever its history
+-- the session fits no history
 abbrev pub HasNone : SessionRow → Type 0
 HasNone row = (past : List Act) → ¬ SessionFits beginning row.view past
 

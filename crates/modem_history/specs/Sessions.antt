@@ -1,5 +1,5 @@
--- What a session fits: of what its line and its desk's end did since it began, and of what it still has, one
--- history tells all.
+-- What a session fits: one history tells all that its line and its desk's end did since it began, and all that it still
+-- has.
 use Rattle.std.specs.Prelude.{◌≡◌, ℕ, ◌+◌, ◌-◌, ◌<◌, ◌≤◌, ◌==◌, true, List, [], ◌∷◌, ◌++◌, length, take, drop, map, filter, flat_map, Option, option_to_list, slice_index_or, if◌then◌else◌, nat_lt, nat_le}
 use Rattle.std.specs.List.{list_all}
 use mathlib.Core.Option.{some}
@@ -71,7 +71,7 @@ pub record SessionView : Type 0 where
   pub unplaced : List Outcome
   pub unannounced : List Urc
 
--- its history is an initiator's, which listens to these kinds
+-- the setting of a session's history: an initiator that listens to these kinds
 abbrev pub driving : Beginning → Setting
 driving b = record { role = Initiator; n1 = b.n1; dialect = b.dialect; listens = is_listened b.kinds }
 
@@ -162,17 +162,17 @@ taken_since b v = drop (length b.desk.taken) v.desk.taken
 abbrev pub AreOnce : Beginning → SessionView → Type 0
 AreOnce b v = are_distinct (taken_since b v) ≡ true
 
--- Requests: what its desk's end took is what the history took, and then what is kept aside. No caller used a
--- number twice, each is a caller of the desk, and those in hand, the one aside and the outcomes that wait are
--- 128 at most.
+-- Requests: the desk's end took those that the history took, and then the one kept aside. No caller used a number
+-- twice, and each is a caller of the desk. The requests in hand, the one aside and the outcomes that wait are 128 at
+-- most.
 pub record FitsRequests (b : Beginning) (v : SessionView) (past : List Act) : Type 0 where
   pub taken_are : v.desk.taken ≡ b.desk.taken ++ taken_requests past ++ option_to_list v.aside
   pub once : AreOnce b v
   pub callers : list_all (λ (q : Request). nat_lt q.caller b.callers) (taken_since b v) ≡ true
   pub few : length (in_hand past) + length (option_to_list v.aside) + length v.unplaced ≤ 128
 
--- Octets that came: those received are those that the deframer took, and then those not fed yet; of the
--- former it has handed out what the history got.
+-- Octets that came: the deframer took the first of those received, and the others aren't fed yet. Of those that it took
+-- it has handed out what the history got.
 pub record FitsReceived (b : Beginning) (v : SessionView) (past : List Act) : Type 0 where
   pub fed : List ℕ
   pub received_are : v.line.received ≡ b.line.received ++ fed ++ v.unfed
@@ -180,7 +180,7 @@ pub record FitsReceived (b : Beginning) (v : SessionView) (past : List Act) : Ty
   pub deframes : Deframes fed (gots past) v.deframer
 
 -- Octets that leave: those sent since the session began, and then those that wait, are the frames given on,
--- each spelled between its two flags; what waits is of the last of them alone.
+-- each spelled between its two flags. What waits is the end of the last one.
 pub record FitsSent (b : Beginning) (v : SessionView) (past : List Act) : Type 0 where
   pub since : List ℕ
   pub sent_are : v.line.sent ≡ b.line.sent ++ since
@@ -212,9 +212,9 @@ pub record AnnouncedTo (b : Beginning) (v : SessionView) (past : List Act) (i : 
 abbrev pub announced_of : SessionView → List Act → UrcKind → ℕ
 announced_of v past k = length (heards k past) - length (of_kind k v.unannounced)
 
--- That is so of each listener, and no line waits that nobody listens to. Those that wait are, in the order in
--- which they were heard, all but the first of each kind, as many as were announced. Where there is no
--- listener nothing is announced.
+-- `AnnouncedTo` holds of each listener, and no line waits that nobody listens to. The lines that wait, in the order in
+-- which they were heard, are all but the first of each kind, as many as were announced. Where there is no listener
+-- nothing is announced.
 pub record FitsHeard (b : Beginning) (v : SessionView) (past : List Act) : Type 0 where
   pub each : (i : ℕ) (k : UrcKind) → get_elem? b.kinds i ≡ some k → AnnouncedTo b v past i k
   pub listened : list_all (λ (u : Urc). is_listened b.kinds u.kind) v.unannounced ≡ true
@@ -231,25 +231,25 @@ pub record SessionFits (b : Beginning) (v : SessionView) (past : List Act) : Typ
   pub told : FitsTold b v past
   pub heard : FitsHeard b v past
 
--- The session fits the history, and so does what else it keeps, of which nothing is seen here: which
--- histories its core fits. (Ticks since a probe was sent leave no trace in what is seen.)
+-- The session fits the history, and so does its core, of which nothing is seen here. (Ticks since a probe was sent
+-- leave no trace in what is seen.)
 pub record FitsWith (b : Beginning) (v : SessionView) (core : List Act → Type 0)
     (past : List Act) : Type 0 where
   pub session : SessionFits b v past
   pub inside : core past
 
--- there is such a history
+-- there is a history that the session and its core fit
 pub record HasHistory (b : Beginning) (v : SessionView) (core : List Act → Type 0) : Type 0 where
   pub past : List Act
   pub fits : FitsWith b v core past
 
--- by these acts a call led from the one to the other, whatever history it had before
+-- by these acts a call goes on from old to new, whatever history there was before
 abbrev pub GoesBy : Beginning → (old new : SessionView) → (core later : List Act → Type 0) → List Act → Type 0
 GoesBy b old new core later acts =
     (past : List Act) → FitsWith b old core past → FitsWith b new later (after past acts)
 
--- a call led from the one to the other by some acts, the same whatever it began with and whatever history it
--- had, and took these requests more
+-- a call goes on from old to new by some acts, the same whatever the session began with and whatever history it had,
+-- and takes some requests more
 pub record Goes (old new : SessionView) (core later : Beginning → List Act → Type 0) : Type 0 where
   pub acts : List Act
   pub more : List Request

@@ -58,7 +58,7 @@ abbrev pub request_given : Option (Option Request) → List Request
 request_given None = []
 request_given (Some q) = option_to_list q
 
--- a write offers the first octets that wait, some of them, of which the line takes some or none
+-- a write offers the first of the octets that wait, at least one; the line takes some or none of them
 pub record IsOffer (w : Write) (unwritten : List ℕ) : Type 0 where
   pub some : 1 ≤ length w.offered
   pub bound : w.count ≤ length w.offered
@@ -77,7 +77,7 @@ ReadHasRoom (Some r) = length r.octets ≤ r.room
 abbrev pub calls_made : {A : Type 0} → Option A → ℕ
 calls_made o = length (option_to_list o)
 
--- a count of calls after so many more, which ends at u64::MAX
+-- a count of calls after so many more, which stops at u64::MAX
 abbrev pub counted : ℕ → ℕ → ℕ
 counted n zero = n
 counted n (suc made) = min (n + suc made) (2 ^ 64 - 1)
@@ -137,7 +137,7 @@ abbrev pub amount : {A : Type 0} → List (List A) → ℕ
 amount xss = length (flat_map (λ xs. xs) xss)
 
 -- the history, the octets received, the octets sent or what the desk was given grew, or the octets read and
--- not yet fed became fewer; that a control frame was given on alone doesn't count
+-- not yet fed became fewer; a control frame given on doesn't count
 abbrev pub has_moved : SessionView → SessionView → List Act → Bool
 has_moved old new acts =
     list_any (λ a. not (is_mark a)) acts
@@ -204,14 +204,14 @@ abbrev pub LacksMscRoom : Beginning → List Act → Type 0
 LacksMscRoom b past =
     (d : ℕ) → 4096 + b.n1 < octets_of (queue (wire past) ++ msc_frame Initiator d ready ∷ [])
 
--- each connection is held by its backlog, or no MSC has a place that would say so
+-- each connection is held by its backlog, or no MSC has a place
 abbrev pub HoldsWhereRoom : Beginning → SessionView → List Act → Type 0
 HoldsWhereRoom b v past = HoldsByBacklog v past ⊎ LacksMscRoom b past
 
--- Octets wait, the line was offered some of them in this turn and took none; and meanwhile nothing came, or
--- octets that came before wait, since a frame is at hand; one at hand finds no room for what it calls for; no
--- request waits at the desk, or those in hand and the outcomes that wait are 128. Before a frame went into
--- the output, if one did, each connection was held by its backlog, unless an MSC had no place.
+-- Octets wait; the line was offered some of them in this turn and took none. Nothing came, or octets that came before
+-- wait, since a frame is at hand. A frame at hand finds no room for what it calls for. No request waits at the desk, or
+-- those in hand and the outcomes that wait are 128. Before a frame went into the output, if one did, each connection
+-- was held by its backlog, unless no MSC had a place.
 pub record IsWriterFull (b : Beginning) (v : SessionView) (t : Exchange)
     (before past : List Act) : Type 0 where
   pub waits : v.unwritten ≢ []
@@ -224,8 +224,8 @@ pub record IsWriterFull (b : Beginning) (v : SessionView) (t : Exchange)
   pub held : HoldsWhereRoom b v before
   pub no_request : (t.next ≡ Some None) ⊎ (length (in_hand past) + length v.unplaced ≡ 128)
 
--- no octets wait, and an outcome for this caller does, which the desk handed back in this turn; for no lesser
--- caller does one wait; and nothing else is held up by it
+-- No octets wait, and an outcome for this caller does, which the desk handed back in this turn. None waits for a lesser
+-- caller. Nothing else is held up by it.
 pub record IsWaiting (b : Beginning) (v : SessionView) (t : Exchange) (past : List Act) (c : ℕ) : Type 0 where
   pub written : v.unwritten ≡ []
   pub outcome : Outcome
@@ -234,8 +234,8 @@ pub record IsWaiting (b : Beginning) (v : SessionView) (t : Exchange) (past : Li
   pub least : list_all (λ (o : Outcome). nat_le c o.caller) v.unplaced ≡ true
   pub rest : IsAtRest b v t past
 
--- no octets and no outcomes wait, and of the lines that wait the first is of this kind, which the desk handed
--- back in this turn; and nothing else is held up by it
+-- No octets and no outcomes wait. The first line that waits is of this kind, and the desk handed it back in this turn.
+-- Nothing else is held up by it.
 pub record IsBlocked (b : Beginning) (v : SessionView) (t : Exchange) (past : List Act)
     (k : UrcKind) : Type 0 where
   pub written : v.unwritten ≡ []
@@ -315,8 +315,8 @@ pub record HasFailed (old new : SessionView) (past acts : List Act) : Type 0 whe
   pub gone : is_lost past ≡ true
   pub places : PlacesAlone old new acts
 
--- there is no memory: the line isn't lost yet; and where a call on it had failed before, what waits is placed
--- alone
+-- there is no memory: the line isn't lost yet; and where a call on it had failed before, what waits is placed, and
+-- nothing else is done
 pub record WantsMemory (b : Beginning) (old new : SessionView) (past acts : List Act) : Type 0 where
   pub live : is_lost (after past acts) ≡ false
   pub behind : (old.line.failures ≡ b.line.failures) ⊎ PlacesAlone old new acts
@@ -326,7 +326,7 @@ FaultMeans b old new past acts NoMemory = WantsMemory b old new past acts
 FaultMeans b old new past acts LineFailed = LosesLine b old new past acts
 FaultMeans b old new past acts Failed = HasFailed old new past acts
 
--- the line may be lost too
+-- an act of a turn, or a loss of the line
 abbrev pub may_fail : List Urc → Act → Bool
 may_fail waiting Lost = true
 may_fail waiting a = may_act waiting a

@@ -1,4 +1,4 @@
--- What a whole history says: of all that it called for, what stands in it is the beginning.
+-- What a whole history says: what stands in it is the beginning of all that it called for.
 use Rattle.std.specs.Prelude.{◌≡◌, ℕ, ◌≤◌, ◌==◌, ◌&&◌, Bool, true, false, not, List, [], ◌∷◌, ◌++◌, length, filter, map, take, Some, is_some, if◌then◌else◌}
 use Rattle.std.specs.List.{concat, list_any}
 use Rattle.mux_frame.specs.Frames.{Frame}
@@ -38,7 +38,7 @@ called s (Given ∷ past) = called s past
 called s (Lost ∷ past) = stands past ++ owed_after s past (owed s past) Lost
 called s (a ∷ past) = called s past ++ calls_behind s past (owed s past) a
 
--- what stands there is the beginning of what was called for, and the rest is owed
+-- what stands in the past is the beginning of what was called for, and the rest is owed
 abbrev pub IsBeginning : Setting → List Act → Type 0
 IsBeginning s past = stands past ++ owed s past ≡ called s past
 
@@ -57,14 +57,14 @@ follows (Told o) = true
 follows (Heard kind d line) = true
 follows a = false
 
--- what a call may be called for
+-- an act that may be called for: a control frame sent, an outcome or a line
 abbrev pub is_said : Act → Bool
 is_said (Sent f) = not (is_data_frame f)
 is_said (Told o) = true
 is_said (Heard kind d line) = true
 is_said a = false
 
--- a call that does just what its first act calls for keeps a history lawful and complete
+-- after these acts the history is lawful and complete
 pub record GoesOn (s : Setting) (past acts : List Act) : Type 0 where
   pub lawful : Lawful s (after past acts)
   pub complete : Complete s (after past acts)
@@ -84,8 +84,7 @@ abbrev pub LeavesOnce : Setting → List Act → Type 0
 LeavesOnce s past =
     (d : ℕ) → IsPrefixOf (information_out s.role d past) (concat (texts (accepted s.role d past)))
 
--- the commands that began since d opened are those of the accepted that are wholly sent, each where no window
--- is open
+-- the commands that began since d opened are the accepted ones that are wholly sent, each begun where no window is open
 pub record AreInTurn (s : Setting) (d : ℕ) (past : List Act) : Type 0 where
   pub in_turn : IsInTurn s.dialect (marks s.role d past)
   pub first : begun_in (marks s.role d past)
@@ -113,7 +112,7 @@ outcomes [] = []
 outcomes (Told o ∷ past) = outcomes past ++ o ∷ []
 outcomes (_ ∷ past) = outcomes past
 
--- by its caller and number it is this request
+-- the requests have the same caller and number
 abbrev pub is_same : Request → Request → Bool
 is_same r q = (r.caller == q.caller) && (r.number == q.number)
 
@@ -164,7 +163,7 @@ CompleteCalls s (a ∷ past) = (is_said a ≡ false → owed s past ≡ []) × C
 abbrev pub commands_for : ℕ → List Request → List Request
 commands_for d qs = filter (λ (q : Request). command_on d q.ask) qs
 
--- of the commands accepted on d those before have their answers, and the others are in hand
+-- of the commands accepted on d the first have their answers, and the others are in hand
 pub record InStep (s : Setting) (d : ℕ) (past : List Act) : Type 0 where
   pub before : List Request
   pub accepted_are : accepted s.role d past ≡ before ++ commands_for d (in_hand past)
@@ -181,9 +180,9 @@ StaysInStep s past =
     s.role ≡ Initiator → CompleteCalls s past → UsesOnce (taken_requests past) → is_lost past ≡ false
     → Complete s past → (d : ℕ) → (d == 0) ≡ false → OnChannel s d past
 
--- the answer is that of the request's own command, by its place: the commands accepted before it have their
--- answers, it is the last that began, its window is open when the frame comes, which brings information to
--- its open connection, and one of the lines of the frame ends it
+-- The answer is that of the request's own command, by its place. The commands accepted before it have their answers, it
+-- is the last that began, and its window is open when the frame comes. The frame brings information to its open
+-- connection, and one of the frame's lines ends the window.
 pub record IsOwnAnswer (s : Setting) (past : List Act) (f : Frame) (r : Request)
     (ls : List AnswerLine) : Type 0 where
   pub before : List Request

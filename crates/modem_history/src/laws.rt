@@ -29,12 +29,12 @@ ghost use Rattle.modem_history.specs.Hearing.{HearsAll, HearsInOrder};
 ghost use Rattle.modem_history.specs.TwoEnds.{ReadsInOrder};
 ghost use Rattle.modem_history.specs.Wholes.{AnswersOnce, BeginsInTurn, CallGoesOn, IsBeginning, LeavesOnce, NoneAfterLoss, StaysInStep, TellsAnswers, TellsOwn};
 
-/// Of all that a lawful history called for, what stands in it is the beginning; and a call that does just what
-/// its first act calls for keeps a history lawful and complete. What left a connection since it opened is a
-/// prefix of the command lines accepted on it since then, and nothing is sent once the line is lost. The commands
-/// that began since then are the accepted ones that are wholly sent, each where no window is open. Each outcome
-/// answers a request that was taken before it, and where no caller uses a number twice no request has two. Each
-/// answer that was told is that of the window of the last command, at the line that ended it.
+/// What stands in a lawful history is the beginning of all that it called for. A call that does just what its first act
+/// calls for keeps a history lawful and complete. The octets that left a connection since it opened are a prefix of the
+/// command lines accepted on it since then, and nothing is sent once the line is lost. The commands that began since
+/// then are the accepted ones that are wholly sent, each begun where no window is open. Each outcome answers a request
+/// that was taken before it, and where no caller uses a number twice no request has two. Each answer that was told is
+/// that of the window of the last command, at the line that ended it.
 #[tactic(auto, using(crate::proofs::law_proofs::WholeHistories::beginning, crate::proofs::law_proofs::WholeHistories::call_goes_on, crate::proofs::commands::SentPrefixes::leaves_once, crate::proofs::connections::SendingAfterLoss::none_after_loss, crate::proofs::commands::BegunCommands::begins_in_turn, crate::proofs::outcomes::OutcomeCounts::answers_once, crate::proofs::outcomes::WindowAnswers::tells_answers))]
 pub fn histories()
     ensures beginning { (s : Setting) (past : List Act) → Lawful s past → IsBeginning s past }
@@ -46,29 +46,29 @@ pub fn histories()
     ensures call { (s : Setting) (past : List Act) (a : Act) → CallGoesOn s past a }
 {}
 
-/// An initiator whose calls are complete has its commands in step, where no caller uses a number twice: of those that
-/// were accepted on an open connection the ones before have their answers, and the others are in hand. So each answer
-/// that was told is that of the request's own command.
+/// Where an initiator's calls are complete and no caller uses a number twice, its commands are in step: of those
+/// accepted on an open connection the first have their answers, and the others are in hand. So each answer that was
+/// told is that of the request's own command.
 #[tactic(auto, using(crate::proofs::requests::StepsOfHistory::stays_in_step, crate::proofs::outcomes::OwnAnswers::tells_own))]
 pub fn commands()
     ensures steps { (s : Setting) (past : List Act) → Lawful s past → StaysInStep s past }
     ensures own { (s : Setting) (past : List Act) → Lawful s past → TellsOwn s past }
 {}
 
-/// What was heard on a connection is, in every lawful history, the beginning of what its lines announce to a listener,
-/// over all its openings in turn: of the lines placed on it those that are part of no answer and no echo, each once and
-/// in order, if their kind is listened to. The rest is owed; and where nothing is owed, all of it was heard.
+/// In every lawful history, what was heard on a connection is the beginning of what its lines announce to a listener,
+/// over all its openings in turn. They announce the lines placed on it that are part of no answer and no echo, each
+/// once and in order, if their kind is listened to. The rest is owed; where nothing is owed, all of it was heard.
 #[tactic(auto, using(crate::proofs::lines::HeardLines::hears_in_order, crate::proofs::lines::HeardLines::hears_all))]
 pub fn hearings()
     ensures order { (s : Setting) (past : List Act) → Lawful s past → HearsInOrder s past }
     ensures all { (s : Setting) (past : List Act) → Lawful s past → HearsAll s past }
 {}
 
-/// At either end of the line the lines of a connection, among those of all in the order in which they end, are the lines
-/// of its information over all its openings in turn; and what is placed on it since it opened, and in each opening before,
-/// are the lines of what came and the commands that are wholly sent. The calls of a station's user change nothing of it.
-/// A history's own places are these, read off its frames and the commands that it accepted, in each opening; and over all
-/// openings they have all lines.
+/// At either end of the line: among the lines of all connections, in the order in which they end, those of one connection
+/// are the lines of its information over all its openings in turn. What is placed on it since it opened, and in each
+/// opening before, are the lines that came and the commands that are wholly sent. The calls of a station's user change
+/// nothing of it. A history's own places are these, read off its frames and the commands that it accepted, in each
+/// opening. Over all openings they have all lines.
 #[tactic(auto, using(crate::proofs::lines::LinePlaces::has_all_lines, crate::proofs::commands::CommandPlaces::places_all, crate::proofs::lines::PlacingOverOpenings::places_each, crate::proofs::connections::PastsWithoutCalls::needs_no_calls, crate::proofs::lines::MarkPlaces::are_marks_placed, crate::proofs::lines::PlacingOverOpenings::are_all_marks_placed, crate::proofs::lines::MarkPlaces::have_marks_all_lines))]
 pub fn connections()
     ensures lines { (r : Role) (past : List WireAct) → HasAllLines r past }
@@ -80,17 +80,17 @@ pub fn connections()
     ensures all { (s : Setting) (past : List Act) → HaveMarksAllLines s past }
 {}
 
-/// Of command lines that go out the other end reads just those that are wholly sent, wherever they are cut; and so it
-/// does of the commands that were accepted on a connection since it opened.
+/// Of command lines that go out, the other end reads just those that are wholly sent, wherever they are cut. This holds
+/// of the commands that were accepted on a connection since it opened.
 #[tactic(auto, using(crate::proofs::commands::ReadCommands::are_read_as_sent, crate::proofs::commands::ReadCommands::reads_accepted))]
 pub fn readings()
     ensures texts { (commands : List (List ℕ)) (out : List ℕ) → AreReadAsSent commands out }
     ensures commands { (s : Setting) (past : List Act) → Lawful s past → ReadsAccepted s past }
 {}
 
-/// Where a responder got the first frames that an initiator sent, and each connection is asked for once, the lines that it
-/// reads, over all connections, are commands that the initiator was given, each on its connection, in the order in which
-/// they were wholly sent.
+/// Let a responder have got the first of the frames that an initiator sent, which asked for each connection at most once.
+/// Then the lines that the responder reads, over all connections, are commands that the initiator was given, each on its
+/// connection, in the order in which they were wholly sent.
 #[tactic(auto, using(crate::proofs::commands::SentCommands::reads_in_order))]
 pub fn two_ends()
     ensures order { (s : Setting) (past : List Act) (responder : List WireAct)
@@ -124,8 +124,8 @@ pub fn worked_connections()
 /// A new session fits the empty history. Of every session and each history that it fits: the frames got are the first
 /// that are read in the octets received since it began; the octets sent are the first of the spellings of the frames
 /// sent, in order; those frames that are wholly among them were given on; the requests in hand are those taken and not
-/// told; and no caller is told an outcome twice. One call after another is as one call, and what had a history has one
-/// after a call.
+/// told; and no caller is told an outcome twice. Two calls in a row are as one call, and a session that had a history
+/// has one after a call.
 #[tactic(auto, using(crate::proofs::law_proofs::SessionLaws::begins_fitting, crate::proofs::law_proofs::SessionLaws::fits_says, crate::proofs::law_proofs::SessionLaws::calls_run_on, crate::proofs::law_proofs::SessionLaws::calls_keep_history))]
 pub fn sessions()
     ensures begins { (b : Beginning) → BeginsFitting b }
@@ -136,8 +136,8 @@ pub fn sessions()
 
 /// Worked sessions, turns, faults, ticks, entries and ends, computed by the definitions: those of a right driver, and
 /// those that don't fit what happened, don't mean what they say, don't go with what line and desk answered, or leave
-/// out a step: nothing offered to the line, no room to read into, no request asked for, no look at a backlog, half a
-/// frame, an outcome that isn't offered.
+/// out a step. Steps left out are: nothing offered to the line, no room to read into, no request asked for, no look at
+/// a backlog, half a frame, an outcome that isn't offered.
 #[tactic(auto, using(crate::proofs::rows::SessionRowFacts::all_right, crate::proofs::rows::SessionRowFacts::all_wrong, crate::proofs::law_proofs::SessionLaws::kept_has_none, crate::proofs::rows::GoodTurnFacts::are_right, crate::proofs::rows::BadTurnFacts::all_wrong_turns, crate::proofs::rows::BadExchangeFacts::all_wrong_exchanges, crate::proofs::rows::EveryTurnRowFacts::take_their_steps, crate::proofs::rows::EveryTurnRowFacts::all_seem, crate::proofs::rows::EveryTurnRowFacts::all_skip, crate::proofs::rows::EntryRowFacts::all_right_entries, crate::proofs::rows::EntryRowFacts::all_wrong_entries, crate::proofs::rows::EntryRowFacts::all_right_ends, crate::proofs::rows::EntryRowFacts::all_wrong_ends, crate::proofs::rows::FaultRowFacts::are_right_faults, crate::proofs::rows::FaultRowFacts::all_wrong_faults, crate::proofs::rows::FaultRowFacts::all_right_ticks, crate::proofs::rows::FaultRowFacts::all_wrong_ticks))]
 pub fn session_examples()
     ensures fit { Each IsRight right_sessions }

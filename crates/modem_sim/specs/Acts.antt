@@ -16,8 +16,8 @@ pub data Act : Type 0 where
   -- a step of its script is done
   Did : StepAct → Act
 
--- whose history it is: N1, whether commands are repeated, the steps of its script, and the modem as it was
--- handed in
+-- the setting of a simulated modem's history: N1, whether commands are repeated, the steps of its script, and the modem
+-- as it was handed in
 pub record End : Type 0 where
   pub n1 : ℕ
   pub echo : Bool
@@ -28,7 +28,7 @@ pub record End : Type 0 where
 abbrev pub end_of : ℕ → ModemState → Script → End
 end_of n1 modem script = record { n1 = n1; echo = script.echo; steps = script.steps; modem = modem }
 
--- whose history the station has: it is the responder
+-- the setting of its station's history: it is the responder
 abbrev pub setting : End → StationSetting
 setting e = record { role = Responder; n1 = e.n1 }
 
@@ -38,8 +38,7 @@ wire [] = []
 wire (Wire a ∷ past) = a ∷ wire past
 wire (Did step ∷ past) = wire past
 
--- acts by which steps are done: they are done, and the station is asked for something and sends what that calls
--- for
+-- an act by which steps are done: a step itself, a call of the station other than an offer, or a frame sent
 abbrev pub is_step_act : Act → Bool
 is_step_act (Did step) = true
 is_step_act (Wire (station.Called (station.Offer d octets))) = false

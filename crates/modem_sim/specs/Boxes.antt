@@ -17,8 +17,8 @@ pub record Waited : Type 0 where
 abbrev pub waited_of : Wanted → Waited
 waited_of w = record { dlci = w.dlci.number; over = w.over }
 
--- The line that hasn't ended; the octets said that the station wasn't handed; those that a hold holds back,
--- which are kept apart also once it is over, until they are moved; and the hold.
+-- What is kept of a connection: the line that hasn't ended; the octets said that the station wasn't handed; those that
+-- a hold holds back, kept apart also once it is over, until they are moved; and the hold.
 pub record Box : Type 0 where
   pub run : List ℕ
   pub unsent : List ℕ
@@ -34,7 +34,7 @@ abbrev pub lasting : Option Waited → Option ℕ
 lasting None = None
 lasting (Some w) = if w.over then None else Some w.dlci
 
--- while the connection is open, each of them is what the past says
+-- while the connection is open, each part of its box is what the past says
 pub record BoxFits (e : End) (d : ℕ) (past : List Act) (b : Box) : Type 0 where
   pub run_is : unfinished_on Responder d (wire past) ≡ b.run
   pub hold_is : hold_on d past ≡ lasting b.hold
@@ -50,7 +50,7 @@ pub record BoxFits (e : End) (d : ℕ) (past : List Act) (b : Box) : Type 0 wher
 abbrev pub FitsOpen : End → ℕ → List Act → Box → Type 0
 FitsOpen e d past b = is_open_at_modem d past ≡ true → BoxFits e d past b
 
--- what is said next goes behind this
+-- by the hold, the octets behind which goes what is said next
 abbrev pub queue_by : Option Waited → Box → List ℕ
 queue_by None b = b.unsent
 queue_by (Some w) b = b.held

@@ -64,7 +64,7 @@ pub record Read : Type 0 where
 abbrev pub nothing_read : Read
 nothing_read = record { place = Before; whole = []; begun = [] }
 
--- the one that has begun, if one has
+-- the command that has begun, if one has
 abbrev pub one_begun : List ℕ → List (List ℕ)
 one_begun begun = if nat_lt 0 (length begun) then begun ∷ [] else []
 

@@ -26,8 +26,8 @@ use Rattle.modem_sim.specs.Boxes.{Box, fresh_box, FitsOpen, Brought, box_turned,
 use Rattle.modem_sim.specs.Doing.{acts, call_of, call_owed, left, named_by, is_closed_down}
 use Rattle.modem_sim.specs.Histories.{EachAllowed, got, sent}
 
--- Its station, its modem, whether it repeats commands, what it keeps of each connection, how many lines came,
--- which is told up to u64::MAX, the steps that are left, and whether it has closed down.
+-- What an end keeps: its station, its modem, whether it repeats commands, what it keeps of each connection, how many
+-- lines came (a count that stops at u64::MAX), the steps that are left, and whether it has closed down.
 pub record Core : Type 0 where
   pub station : stations.Station
   pub modem : ModemState
@@ -101,7 +101,7 @@ wire_after (f ∷ fs) past = wire_after fs (Wire (station.Sent f) ∷ past)
 abbrev pub after_wire_act : End → List Act → station.Act → List Act
 after_wire_act e past a = wire_after (sending.called_frames (setting e) (wire past) a) (Wire a ∷ past)
 
--- whatever past an end fits, it fits that with the frame behind it and all that this calls for
+-- whatever past an end fits, it fits that past with the frame behind it and all that the frame calls for
 abbrev pub EndGoesOn : Core → Core → Frame → Type 0
 EndGoesOn old new f =
     (e : End) (w : Wired) (past : List Act) → Fits e w old past
@@ -112,11 +112,11 @@ abbrev pub octets_in : Core → Frame → List ℕ
 octets_in c f =
     if is_data_frame f && is_opened (stations.channel_at c.station f.dlci).state then f.info else []
 
--- the lines that end in it
+-- the lines that end in a frame
 abbrev pub lines_in : Core → Frame → List (List ℕ)
 lines_in c f = lines ((box_at c f.dlci).run ++ octets_in c f)
 
--- what it brings to its connection
+-- what a frame brings to its connection
 abbrev pub brought : Core → Frame → Brought
 brought c f = record {
   run = kept_run ((box_at c f.dlci).run ++ octets_in c f);
@@ -200,7 +200,7 @@ GivesOut c =
 
 -- ## Steps
 
--- a step says or holds back something on a connection
+-- the boxes after a step, which says or holds back something on a connection
 abbrev pub boxes_done : StepAct → List Box → List Box
 boxes_done (Announce d line) boxes =
     slice_set boxes d.number (box_announced line (slice_index_or boxes d.number fresh_box))

@@ -49,11 +49,12 @@ done [] = []
 done (Did step ∷ past) = done past ++ step ∷ []
 done (Wire a ∷ past) = done past
 
--- those that are left, without those that are passed over
+-- the steps that are left, without those that are passed over
 abbrev pub left : End → List Act → List Step
 left e past = drop (length (done past)) (filter (λ (s : Step). acts s.act) e.steps)
 
--- the step may be done now: it is the first that is left, so many lines have come, and what it names is open
+-- the step may be done now: it is the first that is left, as many lines have come as it waits for, and what it names is
+-- open
 pub record IsDue (e : End) (past : List Act) (act : StepAct) : Type 0 where
   pub next : Step
   pub later : List Step

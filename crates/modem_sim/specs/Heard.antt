@@ -16,7 +16,7 @@ texts_of ls = map (λ (p : ℕ × List ℕ). p.1) ls
 abbrev pub heard : List Act → List (ℕ × List ℕ)
 heard past = lines_got Responder (wire past)
 
--- those that end in a frame that comes
+-- the lines that end in a frame that comes
 abbrev pub texts_with : List Act → Frame → List (List ℕ)
 texts_with past f = texts_of (lines_with Responder (wire past) f)
 

@@ -19,7 +19,7 @@ use Rattle.modem_sim.specs.Pieces.{pieces_octets, asked_for}
 use Rattle.modem_sim.specs.Outboxes.{outbox, hold_on, replies_since}
 use Rattle.modem_sim.specs.Doing.{IsDue, call_owed, acts, done}
 
--- the octets that the station is handed, of which there are some, are the next ones of what is said
+-- the octets that the station is handed, at least one, are the next ones of what is said
 pub record IsStationOffer (e : End) (past : List Act) (d : ℕ) (octets : List ℕ) : Type 0 where
   pub free : call_owed past ≡ None
   pub some : octets ≢ []
@@ -27,12 +27,12 @@ pub record IsStationOffer (e : End) (past : List Act) (d : ℕ) (octets : List �
       starts_with nat_eq (pieces_octets (outbox e d past).said) (offered Responder d (wire past) ++ octets)
       ≡ true
 
--- a call is one that a step asks for that was just done, and it isn't refused
+-- the call is what the step that was just done asks for, and it isn't refused
 pub record IsAsked (e : End) (past : List Act) (call : station.Call) : Type 0 where
   pub owed : call_owed past ≡ Some call
   pub taken : sending.refused (setting e) (sending.station_view (setting e) (wire past)) call ≡ None
 
--- a step is done where it is due, and no other asks something of the station
+-- a step is done where it is due, and no step before it still asks something of the station
 pub record MayDo (e : End) (past : List Act) (step : StepAct) : Type 0 where
   pub free : call_owed past ≡ None
   pub due : IsDue e past step
@@ -42,8 +42,8 @@ pub record MayGive (past : List Act) : Type 0 where
   pub free : call_owed past ≡ None
   pub waits : sending.queue (wire past) ≢ []
 
--- the act may follow: what the station is asked for is what a step asked that was just done, and there is no
--- time and no loss
+-- the act may follow: the station is handed octets that are said, or asked for what the step asks that was just done;
+-- there is no tick and no loss
 abbrev pub Allows : End → List Act → Act → Type 0
 Allows e past (Did step) = MayDo e past step
 Allows e past (Wire (station.Called (station.Offer d octets))) = IsStationOffer e past d octets
@@ -99,7 +99,7 @@ pub record IsThrough (n1 : ℕ) (received sent_octets : List ℕ) (past : List A
 abbrev pub FitsModem : End → List Act → ModemState → Type 0
 FitsModem e past m = modem_after e past ≡ m
 
--- on each open connection that isn't stopped and not held all is out that there is to say
+-- on each open connection that is neither stopped nor held, all that is said has gone out
 abbrev pub AllIsOut : End → List Act → Type 0
 AllIsOut e past =
     (d : ℕ) → d < 62 → is_open_at_modem d past ≡ true → is_stopped Responder d (wire past) ≡ false

@@ -27,7 +27,7 @@ abbrev pub lasts : List Act → station.Act → Option ℕ → Option ℕ
 lasts past a None = None
 lasts past a (Some e) = if brings_command e past a then None else Some e
 
--- the connection on which the answers on d wait for a command
+-- the connection whose next command the answers on d wait for
 abbrev pub hold_on : ℕ → List Act → Option ℕ
 hold_on d [] = None
 hold_on d (Did (Hold x e) ∷ past) = if x.number == d then Some e.number else hold_on d past

@@ -43,7 +43,7 @@ abbrev pub replies : Bool → ModemState → List (List ℕ) → List Piece
 replies echo m [] = []
 replies echo m (line ∷ lines) = reply echo m line ++ replies echo (step m line).state lines
 
--- without the lines that no command asked for
+-- the pieces without the lines that no command asked for
 abbrev pub asked_for : List Piece → List Piece
 asked_for [] = []
 asked_for (Announced line ∷ pieces) = asked_for pieces

@@ -54,7 +54,7 @@ tells_network ContextQuery = true
 tells_network AttachQuery = true
 tells_network _ = false
 
--- before it is ready the former are refused
+-- before the modem is ready, commands that change something of the network are refused
 abbrev pub RefusesBefore : ModemStart → List ℕ → Type 0
 RefusesBefore start pin =
     (lines : List (List ℕ)) (n : ℕ) (c : Command) → WrongTries pin lines n → changes_network c ≡ true
@@ -64,8 +64,8 @@ RefusesBefore start pin =
 abbrev pub unlocked_start : ModemStart → ModemStart
 unlocked_start start = record start { pin = None }
 
--- what a modem is told before it is ready changes nothing of it: once ready it tells what one tells that
--- starts without a PIN
+-- what a modem is told before it is ready changes nothing of it: once ready it tells the same as a modem that starts
+-- without a PIN
 abbrev pub ChangesNothingBefore : ModemStart → List ℕ → Type 0
 ChangesNothingBefore start pin =
     (lines : List (List ℕ)) (line : List ℕ) (n : ℕ) (c : Command) → WrongTries pin lines n → n < 3
@@ -87,7 +87,7 @@ IsReadyAlways start =
 
 -- ## The network (7.2, 7.3, 10.1.9)
 
--- it says that it is registered at home, that the SIM is ready, that it isn't deregistered
+-- the answer says that the modem is registered at home; that the SIM is ready; that the modem isn't deregistered
 abbrev pub is_home : Answer → Bool
 is_home (Ok (Reg n registration)) = registration.stat == 1
 is_home _ = false
@@ -108,8 +108,8 @@ pub record Asks (reg pin oper attachment attach : List ℕ) : Type 0 where
   pub attached_is : IsTextOf attachment AttachQuery
   pub attach_is : IsTextOf attach (AttachSet true)
 
--- It is registered where the SIM is ready and it isn't deregistered; it may attach where it is registered, and is
--- attached nowhere else.
+-- The modem is registered where the SIM is ready and it isn't deregistered; it may attach where it is registered, and
+-- is attached nowhere else.
 pub record FollowsNetwork (s : ModemState) (reg pin oper attachment attach : List ℕ) : Type 0 where
   pub registered :
       is_home (answered s RegQuery reg)

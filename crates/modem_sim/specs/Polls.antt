@@ -11,8 +11,8 @@ use Rattle.modem_sim.specs.Cores.{IsLater}
 
 -- ## Its turns
 
--- A turn comes to this: Failed just where the line had failed, and then nothing changes; Line where a call of
--- the line fails in it, and so it is from then on; else want of memory, or what was done.
+-- What a turn comes to: Failed just where the line had failed before, and then nothing changes; Line where a call of
+-- the line fails in it, and the line has failed from then on; else want of memory, or what was done.
 pub record Turned {X : Type 0} (see : Sight X) (old new : SimState X) (says : Result SimTurn SimError) :
     Type 0 where
   pub goes : SimGoes see.received see.sent old new
@@ -38,8 +38,8 @@ pub data MovesOn {X : Type 0} (see : Sight X) (old : SimState X) :
       → Turned see mid new (Ok Moved)
       → MovesOn see old (n + 1) new
 
--- The turns of a poll are 64 that answer Moved, or fewer and one that answers otherwise: after Idle, and
--- after 64, there is nothing yet; after Ended, and after a refusal, it is that.
+-- The turns of a poll are 64 that answer Moved, or fewer and then one that answers otherwise. After 64, and after Idle,
+-- the poll gives nothing yet; after Ended, and after a refusal, it gives that.
 pub data Runs {X : Type 0} (see : Sight X) (old new : SimState X) :
     Option (Result SimTurn SimError) → Type 0 where
   goes_on : MovesOn see old 64 new → Runs see old new None
@@ -57,7 +57,7 @@ pub data Runs {X : Type 0} (see : Sight X) (old new : SimState X) :
 
 -- ## Its turns in a history
 
--- a turn that goes on from a past to this one, of which its answer says the truth
+-- a turn that goes on from a past to this one, and whose answer is true of it
 pub record TurnsTo {X : Type 0} (see : Sight X) (at : LineAt) (e : End) (past now : List Act)
     (old new : SimState X) (says : SimTurn) : Type 0 where
   pub turned : Turned see old new (Ok says)
@@ -187,8 +187,9 @@ Says failures old new (Err why.Line) = FailsOnce failures old new
 Says failures old new (Err why.Failed) = HadFailed failures old new
 Says failures old new _ = ⊥
 
--- After polls that gave nothing one gave this, which says so where none had given an end before. Whatever past
--- it fitted before, it goes on to one that it fits before that poll, and from there to one after it.
+-- After polls that gave nothing one gave this end, which means what it says where none had given an end before.
+-- Whatever past the simulated modem fitted before, it goes on to one that it fits before that poll, and from there to
+-- one after it.
 pub record Gives {X : Type 0} (see : Sight X) (s : SimState X)
     (given : Result SimTurn SimError) : Type 0 where
   pub mid : SimState X

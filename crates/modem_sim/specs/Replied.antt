@@ -79,8 +79,8 @@ AnswersInLines start =
     (before : List (List ℕ)) (line : List ℕ)
     → list_all is_answer_line (step (reached start before) line).answer ≡ true
 
--- of what left on a connection the lines that aren't unsolicited are the first of the replies to the lines
--- that came on it, each from the one modem after all lines before it
+-- of what left on a connection, the lines that aren't unsolicited are the first of the replies to the lines that came
+-- on it, each from the one modem after all lines before it
 unfoldable pub SendsReplies : End → List Act → Type 0
 SendsReplies e past =
     SimLawful e past → IsModem e.modem → AnnouncesUnsolicited past → (d : ℕ) → IsAskedOnce d past

@@ -26,7 +26,7 @@ Answer = Result Reply ReplyFault
 abbrev pub answered : ModemState → Command → List ℕ → Answer
 answered s c line = reply_of c (step s line).answer
 
--- of a modem in this state, whatever line asks this
+-- whatever line asks this of a modem in this state, this holds of the answer
 abbrev pub Tells : ModemState → Command → (Answer → Type 0) → Type 0
 Tells s c Holds = (line : List ℕ) → IsTextOf line c → Holds (answered s c line)
 

@@ -153,9 +153,8 @@ SimGoes received sent old new =
 
 -- ## What that comes to
 
--- Of the octets received, those before the ones that wait for its deframer are read as the frames that came;
--- its history keeps the laws and nothing is owed; its modem is the one that was handed in, after all lines
--- that came.
+-- Of the octets received, those before the ones that wait for the deframer are read as the frames that came. The
+-- history keeps the laws, and nothing is owed. The modem is the one that was handed in, after all lines that came.
 pub record Simulates (e : End) (came went : List ℕ) (k : SimMachine) (past : List Act) : Type 0 where
   pub lawful : SimLawful e past
   pub complete : SimComplete e past
@@ -164,7 +163,7 @@ pub record Simulates (e : End) (came went : List ℕ) (k : SimMachine) (past : L
   pub octets : FitsOctets e.n1 taken went past
   pub modem_is : FitsModem e past k.core.modem
 
--- how a connection stands to a caller of a simulated modem, after its past
+-- the state of a connection that a simulated modem shows, after its past
 abbrev pub state_shown : ℕ → List Act → ChannelState
 state_shown d past = as_shown (state_of Responder d (wire past))
 

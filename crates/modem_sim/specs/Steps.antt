@@ -1,6 +1,6 @@
--- The modem, by three tables (what a command is refused with, the state after it, what it tells), which the
--- law that an answer is read back shares: what it answers to a command line, and its state afterwards
--- (V.250, 5.2 and 5.7; 27.007, 7.2, 7.3, 8.3, 8.5, 9.1, 9.2, 10.1.1, 10.1.9).
+-- What a modem answers to a command line, and its state afterwards, by three tables: what a command is refused with,
+-- the state after it, what it tells. The law that an answer is read back shares them (V.250, 5.2 and 5.7; 27.007, 7.2,
+-- 7.3, 8.3, 8.5, 9.1, 9.2, 10.1.1, 10.1.9).
 use Rattle.std.specs.Prelude.{ℕ, ◌-◌, ◌==◌, ◌||◌, nat_lt, Bool, true, false, List, [], ◌∷◌, ◌++◌, map, filter, fold, Option, Some, None, is_some, unwrap_or, if◌then◌else◌, codes}
 use Rattle.std.specs.Fmt.{decimal}
 use Rattle.std.specs.Str.{bytes_eq}
@@ -94,7 +94,7 @@ is_registered Ready oper = is_on_network oper
 is_registered (NeedPin pin tries) oper = false
 is_registered NeedPuk oper = false
 
--- what attaching is refused with: before the SIM is ready that, else 30 no network service where the modem
+-- what attaching is refused with: the SIM's error before the SIM is ready, else 30 no network service where the modem
 -- isn't registered
 abbrev pub attach_error : Option ℕ → Bool → Option ℕ
 attach_error (Some number) registered = Some number
@@ -216,12 +216,12 @@ obeyed_unless (Some number) s c =
 abbrev pub obeyed : ModemState → Command → Step
 obeyed s c = obeyed_unless (refusal_of s c) s c
 
--- what a line does that is this command, or none
+-- what a line does, by the command that it is, if it is one
 abbrev pub step_by : ModemState → Option Command → Step
 step_by s None = record { state = s; answer = line_of (codes "ERROR") ∷ [] }
 step_by s (Some c) = obeyed s c
 
--- what a line does of which the first table is all
+-- what a line does to a modem that has the first table alone
 abbrev pub standard_step : ModemState → List ℕ → Step
 standard_step s line =
     if is_attention line then record { state = s; answer = good_answer [] }
@@ -258,8 +258,8 @@ abbrev pub with_reports : Words → Domain → ℕ → Words
 with_reports w Packet n = record w { packet_reports = n }
 with_reports w Evolved n = record w { evolved_reports = n }
 
--- what a command for contexts is refused with: before the SIM is ready that, then 3 operation not allowed where the context isn't
--- defined
+-- what a command for contexts is refused with: the SIM's error before the SIM is ready, else 3 operation not allowed where the
+-- context isn't defined
 abbrev pub context_error : Option ℕ → Bool → Option ℕ
 context_error (Some number) defined = Some number
 context_error None true = None

@@ -18,7 +18,7 @@ SimMachineStays old new =
     (e : End) (came went : List ℕ) (past : List Act) → SimMachineFits e came went old past
     → SimMachineFits e came went new past
 
--- of what is said on each open connection all is handed to the station, or some octets wait there
+-- all that is said on each open connection is handed to the station, or some octets wait there
 abbrev pub AllHanded : Core → Type 0
 AllHanded c = (d : ℕ) → d < 62 → IsHandedOn c d
 

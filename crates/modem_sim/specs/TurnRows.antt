@@ -48,8 +48,8 @@ RightIdle =
     ((k : SimMachine) → IsIdle plain [] [] k only_read [])
     × ((k : SimMachine) → OneWaits k → IsHeldUp plain k (offered_one 0) [])
 
--- It isn't idle where the line wasn't read; where it took the octet; where a command wasn't answered; where a
--- step is due.
+-- A simulated modem isn't idle where the line wasn't read; where it took the octet; where a command wasn't answered;
+-- where a step is due.
 abbrev pub WrongIdle : Type 0
 WrongIdle =
     ((k : SimMachine) → ¬ IsIdle plain [] [] k nothing_asked [])
@@ -65,8 +65,8 @@ unseen = sight (λ l. []) (λ l. []) (λ l. 0) (λ l. 0) (λ l. 0) (λ l. 0)
 abbrev pub gave : Sight (List ℕ)
 gave = sight (λ l. l) (λ l. []) (λ l. 0) (λ l. 0) (λ l. 0) (λ l. 0)
 
--- A turn in which octets came has moved, one in which a frame was got, and one in which octets were handed to the
--- station; one that leaves all as it was hasn't, also where a mark followed that a frame was given on.
+-- A turn has moved in which octets came, a frame was got, or octets were handed to the station. One that leaves all as
+-- it was hasn't, even where a frame was given on.
 abbrev pub MovedRows : Type 0
 MovedRows =
     ((k : SimMachine)
@@ -76,12 +76,12 @@ MovedRows =
     × ((s : SimState ℕ) → has_moved unseen s s [] ≡ false)
     × ((s : SimState ℕ) → has_moved unseen s s (gives ∷ []) ≡ false)
 
--- of a line that is seen so
+-- what a turn comes to, of a line that is seen so
 abbrev pub ComesTo : (old new : SimState ℕ) → Result SimTurn SimError → Type 0
 ComesTo old new says = Turned unseen old new says
 
--- A turn doesn't answer Failed where the line hadn't failed; and it has failed neither after a turn that did
--- something nor after want of memory; and where it had, a turn answers nothing else.
+-- A turn doesn't answer Failed where the line hadn't failed, and answers nothing else where it had. The line has failed
+-- neither after a turn that did something nor after want of memory.
 abbrev pub WrongFailures : Type 0
 WrongFailures =
     ((old new : SimState ℕ) → has_failed old ≡ false → ¬ ComesTo old new (Err why.Failed))
@@ -114,15 +114,16 @@ WrongGivings =
     × ((old new : SimState ℕ) → ¬ Says (λ l. l) old new (Ok Moved))
     × ((old new : SimState ℕ) → ¬ Says (λ l. l) old new (Err why.BadN1))
 
--- of a turn with nothing to be fed: what it answers, its line was called; and so where octets wait for the line
+-- a turn calls its line, whatever it answers: where it hasn't ended and nothing is to be fed, and where octets wait for
+-- the line
 abbrev pub CallsNothing : Type 0
 CallsNothing =
     ((old new : SimState ℕ) (says : SimTurn) → is_ended old.machine ≡ false → old.machine.unfed ≡ []
     → ¬ GoesTurn unseen old new says)
     × ((old new : SimState ℕ) (says : SimTurn) → old.machine.out ≢ [] → ¬ GoesTurn unseen old new says)
 
--- It isn't idle by a line whose reads that gave nothing aren't more than before, nor, where octets wait, by one
--- whose writes that took none aren't.
+-- A simulated modem isn't idle where all is fed and its line counts no further empty read, nor where octets wait and
+-- its line counts no further stalled write.
 abbrev pub WrongCounts : Type 0
 WrongCounts =
     ((old new : SimState ℕ) → new.machine.unfed ≡ [] → ¬ IsIdleAtLine unseen old new)

@@ -48,7 +48,7 @@ abbrev pub octets_read : Option Read → List ℕ
 octets_read None = []
 octets_read (Some r) = r.octets
 
--- a write offers the first octets that wait, some of them, of which the line takes some or none
+-- a write offers the first of the octets that wait, at least one; the line takes some or none of them
 pub record IsOffer (w : Write) (unwritten : List ℕ) : Type 0 where
   pub some : w.offered ≢ []
   pub bound : w.count ≤ length w.offered
@@ -96,13 +96,13 @@ pub record Exchanges {X : Type 0} (see : Sight X) (old new : SimState X) (t : Ex
   pub stalled_are : see.stalled_writes new.line ≡ stalled_after t.write (see.stalled_writes old.line)
   pub empty_are : see.empty_reads new.line ≡ empty_after t.read (see.empty_reads old.line)
 
--- of these octets the line didn't take the last
+-- the octets that the line didn't take
 abbrev pub left_of : Option Write → List ℕ → List ℕ
 left_of None out = out
 left_of (Some w) out = drop w.count out
 
 -- Steps were done or passed over in their order. The line was read just where all octets that had come were fed.
--- Octets that it didn't take wait for the next turn. Of those that have come the first were fed, one at least
+-- Octets that it didn't take wait for the next turn. The first of the octets that have come were fed, at least one
 -- where there was one, unless a frame is at hand.
 pub record Leaves (old new : SimMachine) (t : Exchange) : Type 0 where
   pub passed : HasPassed old.core new.core
@@ -172,8 +172,8 @@ pub data TakesAtHand (e : End) (hand : Option Frame) (past now : List Act) : Typ
       (f : Frame) → hand ≡ Some f → has_room_for e past f ≡ true
       → now ≡ after_wire_act e past (station.Got f) → TakesAtHand e hand past now
 
--- The turn of one that hadn't ended did each of these once, in this order: the steps that are due; the next frame,
--- where the line left no octets; the frame at hand.
+-- A turn of a simulated modem that hadn't ended did each of these once, in this order: the steps that are due; the next
+-- frame, where the line left no octets; the frame at hand.
 pub record DoesEach (e : End) (old new : SimMachine) (t : Exchange) (past now : List Act) : Type 0 where
   pub stepped : List Act
   pub loaded : List Act
@@ -203,7 +203,7 @@ is_work (Wire (station.Got f)) = true
 is_work (Wire (station.Called (station.Offer d octets))) = true
 is_work _ = false
 
--- something was done: such an act followed, or that changed
+-- something was done: a frame was got, octets were handed to the station, or something changed
 abbrev pub has_moved : {X : Type 0} → Sight X → (old new : SimState X) → List Act → Bool
 has_moved see old new acts = list_any is_work acts || has_changed see old new
 
@@ -215,9 +215,8 @@ pub record ReadsNothing (t : Exchange) : Type 0 where
   pub some : 1 ≤ room
   pub nothing : t.read ≡ Some (record { room = room; octets = [] })
 
--- Octets wait, the line was offered some in this turn and took none; and meanwhile nothing came, or octets
--- that came before wait behind a frame at hand; that finds no room for what it calls for; and no step could be
--- done.
+-- Octets wait; the line was offered some in this turn and took none. Nothing came, or octets that came before wait
+-- behind a frame at hand. A frame at hand finds no room for what it calls for. No step could be done.
 pub record IsHeldUp (e : End) (k : SimMachine) (t : Exchange) (past : List Act) : Type 0 where
   pub waits : k.out ≢ []
   pub offered : List ℕ
@@ -228,9 +227,8 @@ pub record IsHeldUp (e : End) (k : SimMachine) (t : Exchange) (past : List Act) 
   pub no_room : (f : Frame) → k.deframer.next ≡ Some f → has_room_for e past f ≡ false
   pub steps : NoneCanBeDone e past
 
--- All is written; this turn's read gave nothing; every frame that the octets received are read as has come;
--- on each open connection that isn't stopped and not held all is out that there is to say; and no step could
--- be done.
+-- All is written, and this turn's read gave nothing. Every frame that the octets received are read as has come. On each
+-- open connection that is neither stopped nor held, all that is said has gone out. No step could be done.
 pub record IsAtRest (e : End) (came went : List ℕ) (t : Exchange) (past : List Act) : Type 0 where
   pub nothing_came : ReadsNothing t
   pub through : IsThrough e.n1 came went past
@@ -251,15 +249,15 @@ pub data IsIdle (e : End) (came went : List ℕ) (k : SimMachine) (t : Exchange)
 -- ## Want of memory
 
 -- What a turn that was refused memory leaves to be done: a step that is due and asks nothing of the station,
--- but says or holds back something; on an open connection, octets that a hold kept apart that is over; or a
--- frame at hand.
+-- but says or holds back something; on an open connection, octets of a hold that is over, still kept apart; or a frame
+-- at hand.
 pub data IsLeft (e : End) (k : SimMachine) (past : List Act) : Type 0 where
   step_is_due : (act : StepAct) → IsDue e past act → call_of act ≡ None → IsLeft e k past
   hold_is_over :
       (d : ℕ) → is_open_at_modem d past ≡ true → is_released (box_at k.core d).hold ≡ true → IsLeft e k past
   frame_at_hand : (f : Frame) → k.deframer.next ≡ Some f → IsLeft e k past
 
--- whatever past it fits, something is left that takes memory
+-- in each past that the simulated modem fits, something is left that takes memory
 abbrev pub WantsMemory : {X : Type 0} → (received sent : X → List ℕ) → SimState X → Type 0
 WantsMemory received sent s =
     (at : LineAt) (e : End) (past : List Act) → FitsSim received sent at e s past → IsLeft e s.machine past
@@ -275,8 +273,7 @@ pub data Means {X : Type 0} (see : Sight X) (e : End) (came went : List ℕ) (ol
       → Means see e came went old new t acts past Idle
   is_over : is_ended new.machine ≡ true → Means see e came went old new t acts past Ended
 
--- by all that a turn does, the past goes on to one that the simulated modem fits; and of that its answer
--- says the truth
+-- by all that a turn does, the past goes on to one that the simulated modem fits, and its answer is true of that
 pub record TurnFrom {X : Type 0} (see : Sight X) (at : LineAt) (e : End) (past : List Act)
     (old new : SimState X) (t : Exchange) (says : SimTurn) : Type 0 where
   pub now : List Act

@@ -79,8 +79,8 @@ impl Channel {
         self.hold = None;
     }
 
-    /// What octets that come bring: the replies to the lines that end in them, behind what was said before, and how many
-    /// lines those are. The modem is to be a copy; after an error nothing is said of it.
+    /// The replies to the lines that end in these octets, behind what was said before, and how many lines those are. The
+    /// modem has to be a copy: after an error nothing is said of it.
     pub(crate) fn answered(
         &self,
         modem: &mut Modem,
@@ -201,7 +201,7 @@ impl Channel {
         &self.unsent[..most.min(self.unsent.len())]
     }
 
-    /// So many of them were handed to it.
+    /// Notes that so many of them were handed to the station.
     pub(crate) fn handed(&mut self, count: usize)
         requires { count ≤ length self.old.unsent }
         ensures { self.new ≡ record self.old { unsent = drop count self.old.unsent } }
@@ -221,7 +221,8 @@ impl Channel {
     }
 }
 
-/// So many lines ended on a connection. Every connection hears of each command, so that no count can overflow.
+/// Tells every connection that so many lines ended on this one. Every connection hears of each command, so that no
+/// count can overflow.
 pub(crate) fn hear_all(channels: &mut Vec<Channel>, dlci: Dlci, ended: usize)
     ensures { channels.new.items ≡ map (box_heard dlci.number ended) channels.old.items }
 {

@@ -106,7 +106,7 @@ impl SimCore {
         Ok(moved)
     }
 
-    /// The next frame for the line, lent, which is then no longer kept. It takes no memory.
+    /// Takes out the next frame for the line and lends it. It takes no memory.
     #[tactic(auto, using(crate::proofs::ends::OfferedPieces::gives_out))]
     pub(crate) fn outgoing(&mut self) -> Option<Outgoing<'_>>
         ensures frame { option_map outgoing_of result

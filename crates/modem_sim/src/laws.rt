@@ -17,7 +17,7 @@ ghost use Rattle.modem_sim.specs.Sims.{IsOver, SimMachine, SimMachineFits, Simul
 ghost use Rattle.modem_sim.specs.TurnRows.{CallsNothing, EndRows, MovedRows, RightIdle, WantRows, WrongCalls, WrongCounts, WrongFailures, WrongGivings, WrongIdle, WrongTurns};
 ghost use Rattle.modem_sim.specs.HistoryRows.{GoodRows, WrongAnswers, WrongSteps, WrongOtherwise};
 
-/// The step reads a line as the one command whose text it is, and as none where it is no command's.
+/// The step reads a line as the one command whose text it is, and as no command where it is the text of none.
 #[tactic(auto, using(crate::proofs::modem_steps::ReadCommands::command_reads))]
 pub fn commands()
     ensures { (line : List ℕ) → Reads (IsTextOf line) (Ok (command_of line)) }
@@ -37,8 +37,8 @@ pub fn contexts()
     ensures rise { (start : ModemStart) (lines : List (List ℕ)) → AreInOrder (reached start lines).contexts }
 {}
 
-/// What a modem was told and accepted it tells later, after any lines that don't set the same: reports of registration,
-/// how errors are told, attachment, a context by its number, the operator. It holds whatever lines came before.
+/// A modem tells later what it was told and accepted, after any lines that don't set the same: reports of registration,
+/// how errors are told, attachment, a context by its number, the operator. This holds whatever lines came before.
 pub fn settings()
     ensures reports { (start : ModemStart) → IsStart start → KeepsReports start }
     ensures errors { (start : ModemStart) → IsStart start → KeepsErrors start }
@@ -98,10 +98,10 @@ pub fn worked_settings()
     ensures locks { PinLocks }
 {}
 
-/// What left a simulated modem on a connection since it opened is the beginning of what is said there, piece by piece.
-/// What is said and held back there is, but for lines that no command asked for, the replies to the lines that came on
-/// it since it opened, each from the one modem after all lines before it. The steps of a script are done in their order,
-/// each once.
+/// The octets that left a simulated modem on a connection since it opened are the beginning of what is said there, piece
+/// by piece. But for lines that no command asked for, what is said and held back there are the replies to the lines that
+/// came on it since it opened, each from the one modem after all lines before it. The steps of a script are done in
+/// their order, each once.
 #[tactic(auto, using(crate::proofs::law_proofs::Histories::leaves_in_pieces, crate::proofs::law_proofs::Histories::keeps_order, crate::proofs::connections::Outboxes::says_replies))]
 pub fn histories()
     ensures leaves { (e : End) (past : List Act) → SimLawful e past → LeavesInPieces e past }
@@ -109,9 +109,9 @@ pub fn histories()
     ensures steps { (e : End) (past : List Act) → SimLawful e past → DoesInOrder e past }
 {}
 
-/// Each line of an answer is one line as the other end reads it, and no command line. Of what left on a connection that
-/// was asked for once, the lines that aren't unsolicited are the first of the replies to the lines that came on it, each
-/// from the one modem after all lines before it, where what is announced is unsolicited.
+/// Each line of an answer is one line as the other end reads it, and no command line. Where a connection is asked for
+/// once, and only unsolicited lines are announced: of what left on it, the lines that aren't unsolicited are the first
+/// of the replies to the lines that came on it, each from the one modem after all lines before it.
 #[tactic(auto, using(crate::proofs::replies::AnswerTexts::answers_in_lines, crate::proofs::replies::ReplyOrder::sends_replies))]
 pub fn replies()
     ensures lines { (start : ModemStart) → IsStart start → AnswersInLines start }
@@ -142,8 +142,8 @@ pub fn worked_turns()
 {}
 
 /// What is no turn: one that doesn't call its line though octets wait for it or all that came was fed; one that says Moved and changed
-/// nothing, or Idle though the line's counts say otherwise; an offer without octets, and a read without room; a turn that leaves a step that
-/// is due, a frame at hand, an answer, or a frame that is to go out.
+/// nothing, or Idle against the line's counts; one that offers no octets, or reads without room; one that leaves undone a step that is due,
+/// a frame at hand, an answer, or a frame that is to go out.
 #[tactic(auto, using(crate::proofs::rows::WrongTurnFacts::calls_nothing, crate::proofs::rows::WrongTurnFacts::wrong_counts, crate::proofs::rows::WrongTurnFacts::wrong_calls, crate::proofs::rows::WrongTurnFacts::wrong_turns))]
 pub fn refused_turns()
     ensures silent { CallsNothing }
@@ -152,9 +152,9 @@ pub fn refused_turns()
     ensures turns { WrongTurns }
 {}
 
-/// Whatever past a simulated modem fits, that past keeps the laws of its histories and nothing is owed in it; the frames that came are
-/// those that its octets are read as, and the octets that went spell the frames that it sent; its modem is the one that was handed in,
-/// after all lines that came. Where it is ended it has closed down, and all is written.
+/// Each past that a simulated modem fits keeps the laws of its histories, and nothing is owed in it. The frames that came are those
+/// that its octets are read as. The octets that went spell the frames that it sent. Its modem is the one that was handed in, after all
+/// lines that came. Where it is ended, it has closed down, and all is written.
 #[tactic(auto, using(crate::proofs::sims::SimPasts::simulates, crate::proofs::sims::SimPasts::is_over))]
 pub fn simulators()
     ensures histories { (e : End) (came went : List ℕ) (k : SimMachine) (past : List Act)

@@ -130,8 +130,8 @@ impl Modem {
         })
     }
 
-    /// Carries out a command line, given without its CR, and answers it in lines, the last a final code. A modem with
-    /// words announces a change of registration behind that, and gives no lines for a line without `AT`. Refused with 1
+    /// Carries out a command line, given without its CR, and answers it in lines, the last a final code. Behind that a
+    /// modem with words announces a change of registration. It gives no lines for a line without `AT`. Refused with 1
     /// NoMemory, which leaves the modem as it was.
     #[tactic(auto, using(crate::proofs::modem_steps::StandardModems::step_standard, crate::proofs::modem_steps::StandardModems::step_worded))]
     pub fn execute(&mut self, line: &[u8]) -> Result<Vec<AnswerLine>, SimError>

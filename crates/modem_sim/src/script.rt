@@ -33,8 +33,8 @@ pub enum StepAct {
     /// Lets data come on a connection (true) or not: an MSC, for connection 0 an FCon or FCoff (27.010, 5.4.6.3).
     Flow(Dlci, bool),
     /// Holds back the answers on the first connection until the next command has come on the second; unsolicited lines
-    /// pass. A close of the first one, or its opening anew, ends that and drops what was held back. A later hold takes
-    /// the place of an earlier one.
+    /// pass. A close of the first one, or its opening anew, ends the hold and drops what was held back. A later hold
+    /// takes the place of an earlier one.
     Hold(Dlci, Dlci),
     /// Closes a connection (27.010, 5.4.2).
     Disconnect(Dlci),

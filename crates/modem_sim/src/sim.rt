@@ -58,9 +58,8 @@ impl<L: SerialLine> Sim<L> {
     ghost use Rattle.modem_sim.specs.Acts.{Act, End};
     ghost use Rattle.modem_sim.specs.Sims.{LineAt, state_shown};
 
-    /// A simulated modem to which nothing has happened yet, whatever its line did before. N1 is the most octets of
-    /// information that a frame may have. Refusals, which hand everything back: 2 BadN1 where N1 isn't 31 to 32767,
-    /// checked first; 1 NoMemory.
+    /// A new simulated modem, whatever its line did before. N1 is the most octets of information that a frame may have.
+    /// Refusals, which hand everything back: 2 BadN1 where N1 isn't 31 to 32767, checked first; 1 NoMemory.
     pub fn new(
         alloc: Global,
         line: L,
@@ -136,8 +135,8 @@ impl<L: SerialLine> Sim<L> {
         Ok(SimTurn::Idle)
     }
 
-    /// How a connection stands at its end. Connection 0 is Shut before the multiplexer is opened and again once a DISC on 0 was
-    /// answered, which closes the multiplexer down as a CLD does (27.010, 5.4.6.3.3).
+    /// The state of a connection at this end. Connection 0 is Shut before the multiplexer is opened and again once a DISC on 0
+    /// was answered, which closes the multiplexer down as a CLD does (27.010, 5.4.6.3.3).
     #[tactic(auto, using(crate::proofs::sims::ShownStates::shown_is))]
     pub fn state(&self, dlci: Dlci) -> ChannelState
         ensures { (at : LineAt) (e : End) (past : List Act) → FitsSim L.received L.sent at e self.now past

@@ -20,7 +20,7 @@ pub struct Came {
     pub line: Option<Urc>,
 }
 
-/// Asks, and waits for what it is told.
+/// Submits a request, and waits for its answer.
 pub fn ask<R: Wait + Clock>(rt: &R, mut caller: Caller, ask: Ask) -> (Caller, Option<Answer>)
     ensures { result.0.place ≡ caller.place }
 {

@@ -36,7 +36,7 @@ fn outcome(driver: &mut Endpoint, modem: &mut Sim<CutLine>) -> Result<Outcome, S
     Err(Stop::Unexpected)
 }
 
-/// Opens connection 0 and this one, and sends a command on it: what it is answered.
+/// Opens connection 0 and this one, sends a command on it, and gives its outcome.
 pub fn ask(
     driver: &mut Endpoint,
     modem: &mut Sim<CutLine>,

@@ -1,4 +1,4 @@
-//! Octets are fed as they come, and each frame that they end is looked at (27.010, 5.2).
+//! Feeds octets as they come, and looks at each frame that they end (27.010, 5.2).
 use crate::Stop;
 use mux_frame::Deframer;
 use std::alloc::Global;

@@ -24,7 +24,7 @@ fn steps(alloc: Global) -> Result<Vec<Step>, AllocError> {
     Ok(steps)
 }
 
-/// Asks a command on connection 2, and then one on connection 1: what that is answered.
+/// Asks a command on connection 2, and then one on connection 1, and gives the outcome of the second.
 pub fn ask_both(
     alloc: Global,
     driver: &mut Endpoint,
@@ -44,7 +44,7 @@ pub fn ask_both(
     )
 }
 
-/// A driver that knows the dialect, and this modem.
+/// Runs a driver that knows the dialect, and this modem.
 pub fn run<R: Print>(rt: &R, alloc: Global) -> Result<(), Stop> {
     let dialect = dialect(alloc)?;
     match modem_in_memory(alloc, steps(alloc)?) {

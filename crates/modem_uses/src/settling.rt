@@ -1,4 +1,4 @@
-//! A session is ended, and its desk settled.
+//! Ends a session, and settles its desk.
 ghost use Rattle.std.specs.Prelude.{map};
 ghost use Rattle.modem_desk.specs.Ends.{IsWhole, place_of};
 
@@ -9,7 +9,7 @@ use serial_line::SerialLine;
 use std::alloc::Global;
 use std::sync::Wait;
 
-/// Ends a session, and settles its desk with all its callers: what it still held.
+/// Ends a session, settles its desk with all its callers, and gives what the desk still held.
 pub fn end<L: SerialLine + Drop, R: Wait + Drop>(
     rt: &R,
     alloc: Global,

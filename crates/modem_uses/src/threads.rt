@@ -18,7 +18,7 @@ use std::sync::Wait;
 use std::thread;
 use std::thread::Threads;
 
-/// Runs all of them beside one another, and then settles the desk: what came of it.
+/// Runs all of them beside one another, settles the desk, and gives what came of it.
 pub fn run_beside<L: SerialLine + Drop + Send, R: Threads + Wait + Clock + Sync + Send + Drop>(
     rt: &R,
     alloc: Global,

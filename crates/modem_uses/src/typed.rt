@@ -1,4 +1,4 @@
-//! A typed command is asked, and its reply read (27.007, 8.5).
+//! Asks a typed command, and reads its reply (27.007, 8.5).
 use crate::Stop;
 use crate::endpoint::ask;
 use crate::own_modem::modem_in_memory;

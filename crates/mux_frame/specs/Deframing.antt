@@ -56,7 +56,7 @@ abbrev pub AtHand : ℕ → List ℕ → Option Frame → Type 0
 AtHand n1 u None = Reads n1 u [] u
 AtHand n1 u (Some f) = IsNext n1 u f
 
--- whatever follows, reading on in new gives what reading on in old gives
+-- whatever follows, reading on in old gives what reading on in new gives
 pub record SameReading (n1 : ℕ) (old new : List ℕ) : Type 0 where
   pub reads : (x : List ℕ) (gs : List Frame) (rest : List ℕ)
       → Reads n1 (new ++ x) gs rest

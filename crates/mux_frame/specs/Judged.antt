@@ -38,13 +38,13 @@ pub record IsWholeTo (n1 : ℕ) (text : List ℕ) (place : ℕ) : Type 0 where
   pub fits_so : fits header ≡ verdict_on n1 text
   pub place_is : place ≡ header.size + header.info_len
 
--- the candidate of the octets after a flag is this
+-- how the candidate of the octets after a flag stands
 abbrev pub StandsSo : ℕ → List ℕ → Standing → Type 0
 StandsSo n1 text (Standing.Whole place) = IsWholeTo n1 text place
 StandsSo n1 text Standing.Unfinished = unfinished ≡ verdict_on n1 text
 StandsSo n1 text Standing.Refused = refused ≡ verdict_on n1 text
 
--- what stands before this place begins no frame, and nothing is lost ahead of what can begin one
+-- what stands before this place begins no frame; where one can begin at the front, nothing is passed
 pub record IsPassed (n1 : ℕ) (octets : List ℕ) (place : ℕ) : Type 0 where
   pub within : place ≤ length octets
   pub reads : SameReading n1 octets (drop place octets)
@@ -71,14 +71,14 @@ pub record IsSearched (n1 : ℕ) (octets : List ℕ) (place : ℕ) (check_place 
   pub decided : decision_on n1 (drop place octets) ≢ refused
   pub at_hand : IsAtHand n1 (drop place octets) check_place
 
--- a deframer keeps that place, and memory to put a frame into one piece
+-- a deframer keeps the check place of the frame at hand, and memory to put a frame into one piece
 pub record IsReady (n1 : ℕ) (undecided : List ℕ) (capacity piece : ℕ) (check_place : Option ℕ) : Type 0 where
   pub settled : IsSettled n1 undecided capacity
   pub memory : n1 + 7 ≤ piece
   pub at_hand : IsAtHand n1 undecided check_place
 
--- from the front of octets goes what begins no frame; then this is the check place of the frame at hand, if
--- there is one
+-- octets at the front that begin no frame are dropped; then this is the check place of the frame at hand, if there is
+-- one
 pub record Settles (n1 : ℕ) (old new : Buffer ℕ) (check_place : Option ℕ) : Type 0 where
   pub decided : decision_on n1 new.items ≢ refused
   pub reads : SameReading n1 old.items new.items

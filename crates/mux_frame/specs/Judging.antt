@@ -1,6 +1,5 @@
--- What a candidate's octets at hand say, for the clauses of private functions. Above it stands what they
--- mean: a candidate that fits is a frame, one that is refused can become none, and one that is unfinished can
--- become one.
+-- What a candidate's octets at hand say, for the clauses of private functions. `Means` says what they mean: a candidate
+-- that fits is a frame, one that is refused can't become one, and one that is unfinished can.
 use Rattle.std.specs.Prelude.{◌≡◌, ℕ, ◌+◌, ◌*◌, ◌/◌, ◌%◌, ◌==◌, nat_lt, Bool, ◌||◌, List, [], ◌∷◌, ◌++◌, length, take, drop, Option, None, Some, slice_get, if◌then◌else◌}
 use Rattle.mux_frame.specs.CheckOctet.{check_octet_of}
 use Rattle.mux_frame.specs.Frames.{Frame}

@@ -78,7 +78,7 @@ impl Deframer {
         })
     }
 
-    /// Takes as many octets from the front of these as there is room for, and gives their number.
+    /// Takes octets from the front of `octets`, as many as there is room for, and says how many.
     pub fn feed(&mut self, octets: &[u8]) -> usize
         ensures count { result ≡
             min (length octets.now) (ring_room self.old.n1 - length self.old.undecided) }

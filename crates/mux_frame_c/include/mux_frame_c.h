@@ -1,4 +1,4 @@
-/* Octets are read as frames of 3GPP TS 27.010, basic option, and counted. C99 and C++. */
+/* Reads octets as frames of 3GPP TS 27.010, basic option, and counts them. C99 and C++. */
 #ifndef MUX_FRAME_C_H
 #define MUX_FRAME_C_H
 
@@ -22,8 +22,8 @@ enum mux_frame_c_status {
 };
 
 /* Reads octets as frames, as they would come in pieces of 4096, counts what was read, and answers
- * 0. N1 is how many octets of information a frame may have. Otherwise it answers 2 or 3 and leaves
- * the counts as they were.
+ * 0. Otherwise it answers 2 or 3 and leaves the counts as they were. N1 is the most octets of
+ * information that a frame may have.
  *
  * The caller owes:
  * - `octets` isn't null, also where `length` is 0, and points to `length` octets that have been

@@ -1,4 +1,4 @@
-//! Octets are read as frames and counted, for a caller in C.
+//! Reads octets as frames and counts them, for a caller in C.
 #![tactic(auto)]
 
 ghost use Rattle.std.specs.Prelude.{◌≡◌, ◌≢◌, ◌<◌, ◌↔◌, ◌⊎◌};

@@ -1,4 +1,4 @@
-//! That counting succeeds where there is memory.
+//! Tests that counting succeeds where there is memory.
 
 use crate::counts::Counts;
 use crate::mux_frame_c_count;

@@ -10,6 +10,6 @@ abbrev pub frames_in : Option ControlFrame → List Frame
 frames_in None = []
 frames_in (Some f) = control_frame f ∷ []
 
--- one after the other
+-- both frames, in their order
 abbrev pub answers_sent : Answers → List Frame
 answers_sent a = frames_in a.first ++ frames_in a.second

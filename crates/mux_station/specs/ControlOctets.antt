@@ -53,7 +53,7 @@ pub record HasFront (octets : List ℕ) : Type 0 where
   pub whole : front_len octets ≤ length octets
   pub control : IsControlFrame (front_frame octets)
 
--- of so many frames that the octets spell, the one of this index begins at this place
+-- the frame of this index, of so many that the octets spell, begins at this place
 pub record BeginsAt (octets : List ℕ) (count index place : ℕ) : Type 0 where
   pub within : index < count
   pub later : drop place octets ≡ flat_map spelled (drop index (read_frames count octets))

@@ -11,9 +11,8 @@ use Rattle.mux_station.specs.Sending.{is_loss, queue, station_view, refused, got
 use Rattle.mux_station.specs.Offering.{offered, data_out, last_sender}
 use Rattle.mux_station.specs.Stations.{Channel, Station, channel_at, setting_of, refused_in, frame_refused_in}
 
--- The connection's state is that of the table. While it is open, no SABM was sent on it since it opened, its
--- own stop is what the last MSC for it said, and of what was offered on it what was given on is the
--- beginning and the ring holds the rest.
+-- The connection's state is that of the table. While it is open, no SABM was sent on it since it opened, its own stop
+-- is what the last MSC for it said, and what was offered on it is what was given on and then what its ring holds.
 pub record ChannelFits (r : Role) (d : ℕ) (past : List Act) (c : Channel) : Type 0 where
   pub state_is : state_of r d past ≡ c.state
   pub unasked : is_opened c.state ≡ true → (standings r d past).own.is_asked ≡ false

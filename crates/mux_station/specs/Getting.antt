@@ -18,7 +18,7 @@ use Rattle.mux_station.specs.Ticking.{turned_in}
 
 -- ## Frames of the tables
 
--- the state that it is turned to
+-- the state that a connection is turned to
 abbrev pub turned : Turn → State → State
 turned Stays s = s
 turned Opens s = IsOpened
@@ -39,7 +39,7 @@ pub record TurnsBy (r : Role) (at_zero : Bool) (own : State) (k : Kind) (t : Tur
   pub state : turned t own ≡ got_by r at_zero own k
   pub opens : is_opens t ≡ opens_by r at_zero own k
 
--- a UA or DM, and MSC where the connection opens
+-- the UA or DM of a row, if it has one
 abbrev pub answer_frames : Role → ℕ → Option Kind → List Frame
 answer_frames r d None = []
 answer_frames r d (Some k) = written r k d [] ∷ []
@@ -89,7 +89,7 @@ stops_set v m =
     then slice_set v.channels (msc_dlci m.value) (record c { is_stopped = msc_stops m.value })
     else v.channels
 
--- the probe waits no more where this answers it
+-- the probe, which waits no more where this message answers it
 abbrev pub probe_answered : Option Waiting → Message → Option Waiting
 probe_answered None m = None
 probe_answered (Some w) m =

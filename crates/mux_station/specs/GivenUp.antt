@@ -14,8 +14,7 @@ use Rattle.mux_station.specs.Ticking.{Up, UpChannel, probe_up, noticed}
 abbrev pub sends_disc : StationSetting → List Act → ℕ → Bool
 sends_disc s past d = list_any (is_on Disc d) (called_frames s past Tick)
 
--- it is the fourth tick of a connection in this state; an opening is given up by a DISC, so where that has
--- room
+-- a connection in this state is given up at its fourth tick; an opening only where its DISC has room
 abbrev pub gives_up_by : State → (disc : Bool) → Bool
 gives_up_by (IsOpening n) disc = (n == 3) && disc
 gives_up_by (IsClosing n) disc = n == 3

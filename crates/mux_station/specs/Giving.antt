@@ -31,16 +31,16 @@ else_first None o = o
 abbrev pub ready_from : Station → ℕ → Option ℕ
 ready_from v d = first_ready v d (62 - d)
 
--- whose turn it is: the least that is ready above the last that sent data, else the least that is ready
+-- the connection whose turn it is: the least that is ready above the last that sent data, else the least that is ready
 abbrev pub next_turn : Station → Option ℕ
 next_turn v = else_first (ready_from v (v.last + 1)) (ready_from v 1)
 
--- whose data is next: where nothing waits in the control queue
+-- the connection whose data is next, where nothing waits in the control queue
 abbrev pub next_sender : Station → List Frame → Option ℕ
 next_sender v (f ∷ fs) = None
 next_sender v [] = next_turn v
 
--- as many octets as are there, at most N1
+-- the data frame of d: as many octets as wait, at most N1
 abbrev pub data_frame : Station → ℕ → Frame
 data_frame v d = written v.role Uih d (take v.n1 (channel_at v d).waiting)
 
@@ -57,7 +57,7 @@ abbrev pub data_sent : Station → Option ℕ → List Act → List Act
 data_sent v None past = past
 data_sent v (Some d) past = Sent (data_frame v d) ∷ past
 
--- first the control queue, in its order; where it is empty, data
+-- the next frame: the first of the control queue, or, where that is empty, data
 abbrev pub next_given : Station → List Frame → Option Frame
 next_given v (f ∷ fs) = Some f
 next_given v [] = option_map (data_frame v) (next_turn v)
@@ -76,7 +76,8 @@ after_given v [] past = data_sent v (next_turn v) past
 unfoldable pub Waits : Role → ℕ → List Act → ℕ → Type 0
 Waits r d past n = is_open r d past ≡ true → length (data_out r d past) + n ≡ length (offered r d past)
 
--- data may leave d next: it is open and not stopped, and more was offered on it than was given on
+-- data may leave d next: it is open and not stopped, more was offered on it than was given on, and no control frame
+-- waits
 pub record SendsNext (r : Role) (d : ℕ) (past : List Act) : Type 0 where
   pub in_range : d < 62
   pub no_zero : (d == 0) ≡ false

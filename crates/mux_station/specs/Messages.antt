@@ -40,7 +40,7 @@ command_of octet = octet + 2
 abbrev pub response_of : ℕ → ℕ
 response_of octet = octet - 2
 
--- the connection of which an MSC speaks, and whether its FC says that no frames can be accepted
+-- the connection that an MSC names; 0 where it has no value
 abbrev pub msc_dlci : List ℕ → ℕ
 msc_dlci [] = 0
 msc_dlci (d ∷ rest) = d / 4

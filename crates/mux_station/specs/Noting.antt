@@ -33,7 +33,7 @@ by_initiator d (IsClosing n) Dm = Closed
 by_initiator d (IsStopping n) Dm = closed_on d
 by_initiator d own k = Nothing
 
--- the responder's, where at_zero says whether d is 0, or 0 is Opened
+-- the responder's table, where at_zero says whether d is 0, or 0 is Opened
 abbrev pub by_responder : ℕ → Bool → State → Kind → Noted
 by_responder d at_zero own Sabm = if at_zero then (if is_opened own then Reset else Opened) else Nothing
 by_responder d at_zero IsOpened Uih = Info
@@ -100,7 +100,7 @@ pub record NotesWhatHappens (s : StationSetting) (past : List Act) (f : Frame) :
       is_open s.role 0 past ≡ true → is_open s.role 0 (Got f ∷ past) ≡ false
       → noted_of s.role (station_view s past) f ≡ AllClosed
 
--- in each past that a station fits
+-- what is noted is what happens, in each past that the station fits
 abbrev pub NotedTruly : Station → List Act → Frame → Type 0
 NotedTruly v past f =
     StationFits v past → length v.channels ≡ 62 → f.dlci < 62 → NotesWhatHappens (setting_of v) past f

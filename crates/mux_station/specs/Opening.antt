@@ -108,7 +108,7 @@ pub record OpenedBefore (r : Role) (d : ℕ) (past : List Act) : Type 0 where
   pub opens : opens_now r d older opening ≡ true
   pub lasts : NoneEnds r d newer (opening ∷ older)
 
--- the law that says of places what it is to be open
+-- the law: d is open exactly where some act opened it and no later one ended it
 pub record IsOpenByPlaces (r : Role) (d : ℕ) (past : List Act) : Type 0 where
   pub place : is_open r d past ≡ true → OpenedBefore r d past
   pub open_there : OpenedBefore r d past → is_open r d past ≡ true

@@ -19,12 +19,12 @@ has_data r past d =
     is_open r d past
     && (not (is_stopped r d past) && nat_lt (length (data_out r d past)) (length (offered r d past)))
 
--- in which order connections have their turn after one of them: those above it, then from 1 on, itself the
--- last: so it has its turn again where no other has data
+-- the order in which connections have their turn after d: those above it, then all from 1 on; so d has its turn again
+-- where no other has data
 abbrev pub turns_after : ℕ → List ℕ
 turns_after d = range_with_len (d + 1) (61 - d) ++ range_with_len 1 61
 
--- whose turn it is: after the one that last sent data, the first that may send some
+-- the connection whose turn it is: after the one that last sent data, the first that may send some
 abbrev pub turn_of : Role → List Act → Option ℕ
 turn_of r past = find (has_data r past) (turns_after (last_sender past))
 
@@ -33,10 +33,10 @@ abbrev pub where_none_waits : List Frame → Option ℕ → Option ℕ
 where_none_waits [] turn = turn
 where_none_waits (f ∷ fs) turn = None
 
--- whose data is next
+-- the connection whose data is next
 abbrev pub sender_of : StationSetting → List Act → Option ℕ
 sender_of s past = where_none_waits (queue past) (turn_of s.role past)
 
--- whose data is next at a station is what each past that it fits says
+-- the connection whose data is next at a station is what each past that it fits says
 unfoldable pub SeesTheTurn : Station → List Act → Type 0
 SeesTheTurn v past = StationFits v past → next_sender v v.queue ≡ sender_of (setting_of v) past

@@ -17,7 +17,7 @@ use Rattle.mux_station.specs.Stopping.{is_stopped}
 use Rattle.mux_station.specs.Offering.{offered, data_out}
 use Rattle.mux_station.specs.Tables.{message_frame, msc_frame, ready, held_up, by_frame, by_tick, have_room, octets_of}
 
--- whose history it is
+-- the setting of a station's history
 pub record StationSetting : Type 0 where
   pub role : Role
   pub n1 : ℕ
@@ -109,7 +109,7 @@ queue (Given ∷ past) = drop 1 (queue past)
 queue (Lost ∷ past) = []
 queue (_ ∷ past) = queue past
 
--- the message answers a probe with these octets: its response, or an NSC that names the type of a Test
+-- the type octet is that of a Test command or response
 abbrev pub is_test_or_response : ℕ → Bool
 is_test_or_response octet = (octet == test) || (command_of octet == test)
 
@@ -118,10 +118,12 @@ abbrev pub names_test : List ℕ → Bool
 names_test (octet ∷ []) = is_test_or_response octet
 names_test _ = false
 
+-- the message is the response to a probe with these octets
 abbrev pub brings_probe_back : List ℕ → Option Message → Bool
 brings_probe_back octets None = false
 brings_probe_back octets (Some m) = (command_of m.octet == test) && bytes_eq m.value octets
 
+-- the message is an NSC that names Test
 abbrev pub refuses_probe : Option Message → Bool
 refuses_probe None = false
 refuses_probe (Some m) = (command_of m.octet == nsc) && names_test m.value
@@ -178,8 +180,8 @@ owed_frames s (Sent f ∷ past) = if is_data_frame f then owed_frames s past els
 owed_frames s (Lost ∷ past) = []
 owed_frames s (a ∷ past) = owed_frames s past ++ called_frames s past a
 
--- data leaves an open connection that isn't stopped, in a frame as this role writes it, behind all that is
--- owed; it is the octets that were offered next
+-- data leaves an open connection that isn't stopped, in a frame as this role writes it, behind all that is owed; its
+-- octets are the next of those offered
 pub record StationGated (s : StationSetting) (past : List Act) (f : Frame) : Type 0 where
   pub live : IsTrue (not (list_any is_loss past))
   pub is_open : IsTrue (is_open s.role f.dlci past)
@@ -191,7 +193,7 @@ pub record StationGated (s : StationSetting) (past : List Act) (f : Frame) : Typ
   pub later : List ℕ
   pub is_offered : offered s.role f.dlci past ≡ data_out s.role f.dlci past ++ f.info ++ later
 
--- a frame that is no data is the next one owed
+-- a control frame is the next one owed
 pub record Controlled (s : StationSetting) (past : List Act) (f : Frame) : Type 0 where
   pub later : List Frame
   pub is_next : owed_frames s past ≡ f ∷ later
@@ -200,7 +202,7 @@ unfoldable pub Sends : StationSetting → List Act → Frame → Bool → Type 0
 Sends s past f true = StationGated s past f
 Sends s past f false = Controlled s past f
 
--- each frame might be sent after what went before it
+-- each frame may be sent after what went before it
 unfoldable pub StationLawful : StationSetting → List Act → Type 0
 StationLawful s [] = Unit {0}
 StationLawful s (Sent f ∷ past) = Sends s past f (is_data_frame f) × StationLawful s past
@@ -237,7 +239,7 @@ pub record AnswersKeep (s : StationSetting) (past : List Act) (a : Act) : Type 0
 abbrev pub NoFrameAfterLoss : StationSetting → List Act → Type 0
 NoFrameAfterLoss s past = (f : Frame) → list_any is_loss past ≡ true → ¬ StationLawful s (Sent f ∷ past)
 
--- of what was offered on d since it opened, what was given on is the beginning
+-- what was given on since d opened is the beginning of what was offered on it
 pub record GivesBeginning (s : StationSetting) (d : ℕ) (past : List Act) : Type 0 where
   pub rest : List ℕ
   pub joins : data_out s.role d past ++ rest ≡ offered s.role d past

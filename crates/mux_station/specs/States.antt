@@ -8,7 +8,7 @@ use Rattle.mux_station.specs.Messages.{cld, brings_command, brings_response}
 use Rattle.mux_station.specs.Acts.{Act, Got, Sent, Tick, Lost}
 use Rattle.mux_station.specs.Opening.{is_open, ends_itself}
 
--- the counts are of the SABM or DISC sent again, and in Stopping of the ticks
+-- the state of a connection: the counts are of the SABM or DISC sent again, and in Stopping of the ticks
 pub data State : Type 0 where
   IsShut : State
   IsOpening : (again : ℕ) → State
@@ -36,7 +36,7 @@ at_tick (IsClosing n) = if n == 3 then IsShut else IsClosing n
 at_tick (IsStopping n) = if n == 3 then IsShut else IsStopping (n + 1)
 at_tick s = s
 
--- a frame on the connection itself is sent; what no lawful history has is read as Opening reads it
+-- the state after a frame on the connection is sent; what no lawful history has is read as Opening reads it
 abbrev pub at_sent : State → Kind → State
 at_sent IsShut Sabm = IsOpening 0
 at_sent (IsOpening n) Sabm = IsOpening (n + 1)
@@ -49,7 +49,7 @@ at_sent (IsClosing n) Sabm = IsOpening 0
 at_sent (IsStopping n) Sabm = IsOpening 0
 at_sent s k = s
 
--- a frame on the connection itself is got by an initiator
+-- the state after an initiator got a frame on the connection
 abbrev pub at_got : State → Kind → State
 at_got (IsOpening n) Ua = IsOpened
 at_got (IsOpening n) Dm = IsShut
@@ -63,7 +63,7 @@ at_got (IsClosing n) Dm = IsShut
 at_got (IsStopping n) Dm = IsShut
 at_got s k = s
 
--- by a responder, where at_zero says whether d is 0, or 0 is Opened
+-- the state after a responder got one, where at_zero says whether d is 0, or 0 is Opened
 abbrev pub at_answered : Bool → State → Kind → State
 at_answered at_zero s Sabm = if at_zero then IsOpened else IsShut
 at_answered at_zero IsOpened Disc = IsShut
@@ -127,6 +127,6 @@ abbrev pub states_then : Role → ℕ → States → List Act → States
 states_then r d s [] = s
 states_then r d s (a ∷ acts) = states_then r d (states_after r d s a) acts
 
--- the law that joins the table with what it is to be open
+-- the law: a connection is Opened in the table exactly where it is open
 abbrev pub OpenedIsOpen : Role → List Act → Type 0
 OpenedIsOpen r past = (d : ℕ) → is_opened (state_of r d past) ≡ is_open r d past

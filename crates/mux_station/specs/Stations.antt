@@ -35,7 +35,7 @@ pub record Station : Type 0 where
 abbrev pub channel_at : Station → ℕ → Channel
 channel_at v d = slice_index_or v.channels d shut_channel
 
--- a station to which nothing has happened yet
+-- a new station
 abbrev pub new_station : Role → ℕ → Station
 new_station r n1 = record {
   role = r;
@@ -47,7 +47,7 @@ new_station r n1 = record {
   last = 0;
 }
 
--- whose history a station has
+-- the setting of a station's history
 abbrev pub setting_of : Station → StationSetting
 setting_of v = record { role = v.role; n1 = v.n1 }
 
@@ -55,7 +55,7 @@ setting_of v = record { role = v.role; n1 = v.n1 }
 abbrev pub seen_in : Station → StationView
 seen_in v = record { state = λ d. (channel_at v d).state; queued = octets_of v.queue; probe = v.probe }
 
--- by what it keeps: why it refuses a call, why a frame that comes, and why these frames for its control queue
+-- why a call is refused, by what a station keeps
 abbrev pub refused_in : Station → Call → Option StationError
 refused_in v c = refused (setting_of v) (seen_in v) c
 

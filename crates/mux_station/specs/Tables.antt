@@ -15,7 +15,7 @@ use Rattle.mux_station.specs.States.{State, IsOpening, IsOpened, IsClosing, IsSt
 abbrev pub message_frame : Role → ℕ → List ℕ → Frame
 message_frame r octet value = written r Uih 0 (spelled_message octet value)
 
--- signals of an MSC: DV, RTR, RTC and EA, and the same with FC
+-- the signals of an MSC: DV, RTR, RTC and EA
 abbrev pub ready : ℕ
 ready = 0x8d
 
@@ -51,7 +51,7 @@ by_table Responder d channel own Sabm =
 by_table r d channel own Disc = ua_or_dm r d (is_opened own) ∷ []
 by_table r d channel own _ = []
 
--- the response to a command: the same value, and NSC to a type that isn't supported
+-- a message of this type is supported
 abbrev pub is_supported : ℕ → Bool
 is_supported octet =
     (octet == test) || ((octet == fcoff) || ((octet == fcon) || ((octet == cld) || (octet == msc))))

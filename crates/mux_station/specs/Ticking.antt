@@ -22,7 +22,7 @@ gives_up (IsClosing n) fs = n == 3
 gives_up (IsStopping n) fs = n == 3
 gives_up s fs = false
 
--- of so many connections from d on, behind what this tick queued already, those that are given up
+-- the connections that are given up, of so many from d on, behind what this tick queued already
 abbrev pub given_up : Role → ℕ → (ℕ → State) → ℕ → ℕ → ℕ → List Up
 given_up r n1 state queued d zero = []
 given_up r n1 state queued d (suc count) =
@@ -51,7 +51,7 @@ turned_in v d state = record v {
   channels = slice_set v.channels d (record { state = state; is_stopped = false; waiting = [] });
 }
 
--- the frame is queued and d turned where it fits
+-- where the frame fits it is queued and d turned
 abbrev pub asked_if : Station → ℕ → State → Frame → Station
 asked_if v d state f = if has_room v.n1 (octets_of v.queue) f then asked_in v d state f else v
 
@@ -75,7 +75,7 @@ unfoldable pub ticked_all : Station → ℕ → ℕ → Station
 ticked_all v d zero = v
 ticked_all v d (suc count) = ticked_all (ticked_one v d) (d + 1) count
 
--- the probe that waits after a tick
+-- the probe after a tick, if it still waits
 abbrev pub ticked_probe : Option Waiting → Option Waiting
 ticked_probe None = None
 ticked_probe (Some w) = if w.ticks == 3 then None else Some (record w { ticks = w.ticks + 1 })

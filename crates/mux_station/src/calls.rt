@@ -21,7 +21,7 @@ use crate::written::{CLD, FCOFF, FCON, HELD_UP, READY, TEST};
 use mux_frame::{Dlci, Kind, ProbeData};
 
 impl Station {
-    /// How a connection stands, with its count.
+    /// The state of a connection, with its count.
     pub(crate) fn stage(&self, dlci: Dlci) -> Stage
         ensures { stage_state result ≡ (channel_at self.now dlci.number).state }
     {

@@ -98,7 +98,7 @@ pub(crate) fn frame_at(octets: &HeapCircularBuffer<u8>, place: usize) -> Control
     }
 }
 
-/// Where the frame of an index begins, of so many that the octets spell; nothing past the last.
+/// Where the frame of this index begins, of the `count` frames that the octets spell. `None` past the last.
 pub(crate) fn place_of(octets: &HeapCircularBuffer<u8>, count: usize, index: usize) -> Option<usize>
     requires { AreSpelled octets.now.items count }
     ensures none { IfNone result (count ≤ index) }

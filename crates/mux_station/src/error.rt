@@ -17,7 +17,7 @@ pub enum StationError {
     /// 3: the connection is being opened, closed or stopped, or a probe waits.
     #[error("the connection is being opened or closed, or a probe waits")]
     Busy,
-    /// 4: connection 0 isn't closed alone and carries no data.
+    /// 4: connection 0 can't be closed alone, and carries no data.
     #[error("connection 0 is the control channel")]
     ControlChannel,
     /// 5: memory was refused.

@@ -61,8 +61,8 @@ pub fn turns()
     ensures sender { (v : Station) (past : List Act) → SeesTheTurn v past }
 {}
 
-/// Whatever past a station fits, after `next_frame` it fits that past with what was given on, and a lawful and complete past stays
-/// so. The law takes a station, whose numbers are known to be in their ranges.
+/// After `next_frame` a station fits each past that it fitted, with what was given on, and a lawful and complete past stays so.
+/// The law takes a station because a station's numbers are in their ranges.
 #[tactic(auto, using(crate::proofs::turns::FramesGivenOn::gives_on))]
 pub fn givings(station: &crate::Station)
     ensures { GivesOn station.now }

@@ -8,7 +8,7 @@ pub enum Role {
     Responder,
 }
 
-/// How a connection stands (27.010, 5.4.1, 5.4.2 and 5.4.6.3.3).
+/// The state of a connection (27.010, 5.4.1, 5.4.2 and 5.4.6.3.3).
 #[derive(Clone, Copy, PartialEq, Eq, Debug)]
 pub enum ChannelState {
     Shut,

@@ -81,9 +81,9 @@ impl Station {
         })
     }
 
-    /// Takes out the next frame for the line and lends it: the first of the control queue, or where that is empty data
-    /// of the connection whose turn it is. Its information is at most 1024 octets. `laws::givings` says what this does
-    /// to each past that the station fits.
+    /// Takes out the next frame for the line and lends it: the first of the control queue, or, where that is empty,
+    /// data of the connection whose turn it is. Its information is at most 1024 octets. `laws::givings` says what this
+    /// does to each past that the station fits.
     #[tactic(auto, using(crate::proofs::turns::ReadyConnections::next_data, crate::proofs::turns::ReadyConnections::after_data, crate::proofs::turns::ReadyConnections::next_control, crate::proofs::turns::ReadyConnections::after_control))]
     pub fn next_frame(&mut self) -> Option<Outgoing<'_>>
         ensures frame { option_map outgoing_of result

@@ -100,7 +100,7 @@ impl Station {
         self.n1.octets
     }
 
-    /// How a connection stands.
+    /// The state of a connection.
     pub fn state(&self, dlci: Dlci) -> ChannelState
         ensures value { result ≡ as_shown (channel_at self.now dlci.number).state }
         ensures past { (past : List Happened) → StationFits self.now past

@@ -1,4 +1,4 @@
--- Counts that end.
+-- Counts that stop at u64::MAX.
 use Rattle.std.specs.Prelude.{ℕ, ◌+◌, ◌-◌, ◌^◌, ◌==◌, ◌&&◌, nat_lt, min, if◌then◌else◌}
 
 -- one more, but never above u64::MAX

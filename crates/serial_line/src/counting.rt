@@ -1,4 +1,4 @@
-//! Calls on a line are counted.
+//! Counts calls on a line.
 ghost use Rattle.std.specs.Prelude.{◌≡◌};
 ghost use Rattle.serial_line.specs.Counts.{counted_if_none};
 

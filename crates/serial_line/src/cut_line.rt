@@ -53,7 +53,7 @@ impl Model for CutLine {
 impl CutLine {
     /// A line on which nothing has happened yet. Each call uses up one entry of its list, also a call with an empty
     /// slice; with none left there is no limit. Input beyond `room` octets isn't kept: neither reading nor `take` frees
-    /// any. Refused with `NoMemory` where memory is refused.
+    /// room. Refused with `NoMemory` where memory is refused.
     pub fn new(
         alloc: Global,
         input: &[u8],
@@ -109,8 +109,8 @@ impl CutLine {
         self.output.all()
     }
 
-    /// Carries what was sent on each line to the other, where it is to be received, at most `k` octets each way, and says how many
-    /// it carried in all. What `take` gave isn't carried again.
+    /// Carries octets sent on each line to the other, to be received there, at most `k` each way, and says how many it carried in
+    /// all. What `take` gave isn't carried again.
     pub fn carry(&mut self, other: &mut CutLine, k: usize) -> usize
         ensures value { result ≡ carried k self.old other.old + carried k other.old self.old }
         ensures here { self.new ≡ after_carry k self.old other.old }

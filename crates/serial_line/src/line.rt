@@ -14,7 +14,7 @@ pub struct LineFault;
 ///
 /// Contracts see all octets that the line gave and took, and counts: of its calls, of those that failed, and of those that moved
 /// nothing though they could. These are reads with room for an octet that gave none, and writes that were offered an octet and took
-/// none. Counts end at `u64::MAX`. The counts of calls stay there; a line that failed so often gives no more faults.
+/// none. Counts stop at `u64::MAX`; a line that failed so often gives no more faults.
 pub trait SerialLine {
     /// All octets that it gave, in order.
     ghost received: { Self → List ℕ };

@@ -1,9 +1,9 @@
 //! A line over a reader and a writer.
 //!
-//! A call on it waits where its reader or writer waits, and `SerialLine` asks that no call waits. That is kept over files and
-//! slices, and over a reader and a writer that answer `WouldBlock` instead of waiting, such as those of `device_line`. It isn't
-//! kept directly on a terminal set to `min 0 time 1`: each read that finds nothing waits a tenth of a second, and a command was
-//! measured to take 400 ms. Use the line of `device_line` there.
+//! `SerialLine` asks that no call waits; a call on this line waits where its reader or writer waits. Files and slices don't,
+//! nor do a reader and a writer that answer `WouldBlock` instead, such as those of `device_line`. A terminal set to `min 0 time
+//! 1` does: each read that finds nothing waits a tenth of a second, and a command was measured to take 400 ms. Use the line of
+//! `device_line` there.
 ghost use Rattle.std.specs.Prelude.{◌≡◌, ◌+◌, ◌<◌, ◌≤◌, ◌++◌, ◌⊎◌, [], take, length, IfOk, OnErr, MatchResult};
 ghost use Rattle.std.specs.Io.KnownBytes.{Keeps, Consumes, Appends, IsAtEnd};
 ghost use Rattle.serial_line.specs.Counts.{one_more, counted_if_none};
@@ -30,7 +30,8 @@ pub enum ZeroRead {
 /// `WouldBlock` or `TimedOut`, nothing can be moved now; any other error is a fault.
 ///
 /// Contracts see the octets and counts of a line; what the reader is still to give and what the writer holds, where those are
-/// known; what an empty read means; and how many calls the reader or the writer refused for now. That count ends at `u64::MAX`.
+/// known; what an empty read means; and how many calls the reader or the writer refused for now. That count stops at
+/// `u64::MAX`.
 #[derive(Drop)]
 pub struct StreamLine<R: Read, W: Write> {
     reader: R,

@@ -1,4 +1,4 @@
-//! Rules of a dialect are added, and its kinds looked up.
+//! Adds rules to a dialect, and looks up its kinds.
 ghost use Rattle.std.specs.Prelude.{◌≡◌, ◌≢◌, ◌<◌, ◌≤◌, ◌↔◌, ◌⊎◌, None, Some, OnOk, IfErr, IfSome};
 ghost use Rattle.at_text.specs.Rules.{FinalRule, Rules, UrcRule, kind_with_name};
 ghost use Rattle.modem_c.specs.DialectCalls.{Adds, Changes, Has, RefusesRule, number_or_0, rules_of};

@@ -44,7 +44,7 @@ impl CimbalotyDialect {
         self.is_there
     }
 
-    /// The dialect, if there is one; there is none then.
+    /// Takes the dialect, if there is one; then there is none.
     pub(crate) fn take(&mut self, alloc: Global) -> Option<Box<Dialect>>
         ensures what { IfSome result (λ b. self.old.handle.held ≡ Some b.value) }
         ensures nothing { result ≡ None → self.old.handle.held ≡ None }

@@ -1,4 +1,4 @@
-//! A dialect is made and freed.
+//! Makes and frees dialects.
 ghost use Rattle.std.specs.Prelude.{◌≡◌, ◌≢◌, ◌↔◌, None, Some};
 ghost use Rattle.at_text.specs.KnownRules.{common, dialling};
 ghost use Rattle.at_text.specs.Rules.{Rules, no_rules};
@@ -55,7 +55,7 @@ pub extern "C" fn cimbaloty_dialect_common(alloc: Global, d: &mut CimbalotyDiale
     }
 }
 
-/// Makes a dialect of that, and of the final codes of dialling, where there is none.
+/// Makes a dialect of what modems commonly send and of the final codes of dialling, where there is none.
 #[unsafe(no_mangle)]
 pub extern "C" fn cimbaloty_dialect_dialling(alloc: Global, d: &mut CimbalotyDialect) -> u8
     ensures made { result ≡ OK → rules_of d.new ≡ Some dialling }

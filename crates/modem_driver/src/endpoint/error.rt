@@ -38,7 +38,7 @@ pub struct RequestRefused {
 }
 
 impl RequestRefused {
-    /// It wasn't taken for this.
+    /// A refusal for this reason.
     pub(crate) fn new(why: RequestError, ask: Ask) -> RequestRefused
         ensures { result ≡ record { why = why; ask = ask } }
     {

@@ -1,4 +1,4 @@
-//! What came of the requests, what was heard, and what is left at the end.
+//! Hands out outcomes and unsolicited lines, and at the end what is left.
 ghost use Rattle.std.specs.Prelude.{◌≡◌, ◌∷◌, [], take, IfSome, IfNone, MatchOption};
 ghost use Rattle.modem_driver.specs.Cores.{state_shown};
 ghost use Rattle.modem_driver.specs.Endpoints.{GivesLine, GivesOutcome, Leaves};
@@ -8,8 +8,8 @@ use modem_desk::{Outcome, Request, Urc};
 use mux_frame::Dlci;
 use mux_station::ChannelState;
 
-/// What an endpoint was when it ended: the requests that weren't told, in the order taken, and the
-/// outcomes and unsolicited lines that weren't polled, in their orders.
+/// What an ended endpoint leaves: the requests that weren't told, in the order taken, and the outcomes and unsolicited
+/// lines that weren't polled, in their orders.
 #[derive(Drop)]
 pub struct Left {
     pub in_hand: Vec<Request>,
@@ -18,7 +18,7 @@ pub struct Left {
 }
 
 impl Endpoint {
-    /// The outcome that waits first, if one does. It stays.
+    /// The first outcome that waits, if any. It stays.
     pub fn peek_outcome(&self) -> Option<&Outcome>
         ensures none { IfNone result (self.now.machine.unplaced ≡ []) }
         ensures some { IfSome result (λ o. take 1 self.now.machine.unplaced ≡ o.now ∷ []) }
@@ -26,7 +26,7 @@ impl Endpoint {
         self.machine.waiting.outcomes.front()
     }
 
-    /// The outcome that waits first, if one does; it waits no more. It takes no memory.
+    /// Removes and gives the first outcome that waits, if any. It takes no memory.
     pub fn poll_outcome(&mut self) -> Option<Outcome>
         ensures { MatchOption result ((self.old.machine.unplaced ≡ []) × (self.new ≡ self.old))
             (λ o. GivesOutcome self.old self.new o) }
@@ -34,7 +34,7 @@ impl Endpoint {
         self.machine.next_outcome()
     }
 
-    /// The unsolicited line that waits first, if one does. It stays.
+    /// The first unsolicited line that waits, if any. It stays.
     pub fn peek_unsolicited(&self) -> Option<&Urc>
         ensures none { IfNone result (self.now.machine.unannounced ≡ []) }
         ensures some { IfSome result (λ u. take 1 self.now.machine.unannounced ≡ u.now ∷ []) }
@@ -42,8 +42,8 @@ impl Endpoint {
         self.machine.waiting.lines.front()
     }
 
-    /// The unsolicited line that waits first, if one does; it waits no more. It takes no memory. A
-    /// connection that was stopped for its lines is freed by the next `handle_input`.
+    /// Removes and gives the first unsolicited line that waits, if any. It takes no memory. The next `handle_input`
+    /// frees a connection that was held for its lines.
     pub fn poll_unsolicited(&mut self) -> Option<Urc>
         ensures { MatchOption result ((self.old.machine.unannounced ≡ []) × (self.new ≡ self.old))
             (λ u. GivesLine self.old self.new u) }

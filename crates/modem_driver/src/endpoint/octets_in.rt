@@ -7,12 +7,12 @@ ghost use Rattle.modem_driver.specs.Endpoints.{Says, TakesOctets};
 use crate::endpoint::{Blocked, Endpoint, Input};
 
 impl Endpoint {
-    /// Takes octets that came, from the front of these, handles the frames that they make, and says how
-    /// many it took. It tries the frame at hand first. Where it isn't blocked it has taken all and
-    /// handled every frame, and each connection was stopped or freed by how many of its lines wait.
-    /// Where it is, it keeps what it took: call it again with the octets behind those, or with none,
-    /// after `poll_output` (OutputFirst) or once there is memory (NoMemory). After lines were taken by
-    /// `poll_unsolicited`, a call with no octets frees the connections that were stopped for them.
+    /// Takes octets from the front of `octets`, handles the frames that they make, and says how many octets it took. It
+    /// tries the frame at hand first. Where it isn't blocked, it took all octets, handled every frame, and held or
+    /// freed each connection by how many of its lines wait. Where it is blocked, it keeps what it took: call it again
+    /// with the octets behind those, or with none, after `poll_output` (OutputFirst) or once there is memory
+    /// (NoMemory). After `poll_unsolicited`, a call with no octets frees the connections that were held for the lines
+    /// taken.
     #[tactic(auto, using(crate::proofs::endpoints::WholeCalls::takes_octets, crate::proofs::endpoints::WholeCalls::takes_blocked, crate::proofs::endpoints::WholeCalls::takes_part))]
     pub fn handle_input(&mut self, octets: &[u8]) -> Input
         ensures takes { (l : LineView) (d : DriverView)

@@ -27,7 +27,7 @@ impl Endpoint {
         self.machine.tick()
     }
 
-    /// Whether a tick may give something up: a request that is no command waits for its outcome.
+    /// Whether a tick may give something up: a request other than a command waits for its outcome.
     pub fn wants_tick(&self) -> bool
         ensures { result ≡ list_any wants_time self.now.machine.core.hand }
     {
@@ -51,10 +51,10 @@ impl Endpoint {
         }
         self.machine.lose_line()
     }
-    /// How many ticks in a row have found the command that is the first in hand on this connection there, by every history that
-    /// the endpoint fits: so long its answer hasn't ended. `None` where no command of the connection is in hand; commands behind
-    /// the first one aren't counted. The count stops at `u64::MAX`. Nothing is given up by itself: whoever finds it too high
-    /// can close the connection.
+    /// How many ticks in a row have found the same command first in hand on this connection, by every history that the endpoint
+    /// fits: for so many ticks its answer hasn't ended. `None` where no command of the connection is in hand. Commands behind
+    /// the first aren't counted. The count stops at `u64::MAX`. No command is given up by itself: a caller that finds the count
+    /// too high can close the connection.
     #[tactic(auto, using(crate::proofs::sessions::steps::WaitedTicks::endpoint_shows))]
     pub fn waiting_ticks(&self, dlci: Dlci) -> Option<u64>
         ensures { (b : Beginning) (l : LineView) (d : DriverView) (past : List Act)

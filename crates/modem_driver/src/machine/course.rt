@@ -10,7 +10,7 @@ use crate::session::{Ended, SessionFault};
 use modem_desk::Answer;
 use modem_history::Act;
 
-/// Whose request it is: its caller, and its number there.
+/// The asker of a request: its caller, and its number there.
 #[derive(Clone, Copy)]
 pub(crate) struct Asker {
     pub caller: u8,
@@ -67,7 +67,7 @@ fn is_answered(stop: Option<Asker>, acts: &[Act]) -> bool
 }
 
 impl Course {
-    /// A call had these acts, before which this one's Stop was in hand, if one was.
+    /// Notes the acts of a call. `stop` is the asker of the Stop that was in hand before the call, if there was one.
     pub(crate) fn note(&mut self, stop: Option<Asker>, acts: &[Act])
         ensures { self.new ≡ course_after self.old (is_answered stop (map act_of acts.now)) }
     {

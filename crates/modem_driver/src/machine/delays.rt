@@ -7,15 +7,15 @@ use crate::machine::course::Asker;
 use modem_desk::{Ask, Request};
 use mux_frame::Dlci;
 
-/// Whose command a tick found the first in hand on a connection, and how many ticks in a row did. The count stops at
-/// `u64::MAX`.
+/// The asker of the command that a tick found first in hand on a connection, and how many ticks in a row did. The count
+/// stops at `u64::MAX`.
 #[derive(Clone, Copy)]
 pub(crate) struct Delay {
     pub asker: Asker,
     pub ticks: u64,
 }
 
-/// Of each of the connections 0 to 61 what its last tick found.
+/// What the last tick found on each of the connections 0 to 61.
 pub(crate) type Delays = [Option<Delay>; Dlci::COUNT];
 
 /// Whether it is a command on this connection.

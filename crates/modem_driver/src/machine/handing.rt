@@ -5,7 +5,7 @@ use crate::machine::Machine;
 use modem_desk::{Outcome, Urc};
 
 impl Machine {
-    /// The outcome that waits first, which waits no more.
+    /// Removes and gives the first outcome that waits, if any.
     pub(crate) fn next_outcome(&mut self) -> Option<Outcome>
         ensures { MatchOption result ((self.old.unplaced ≡ []) × (self.new ≡ self.old))
             (λ o. (self.old.unplaced ≡ o ∷ self.new.unplaced)
@@ -14,7 +14,7 @@ impl Machine {
         self.waiting.outcomes.pop_front()
     }
 
-    /// The line that waits first, which waits no more.
+    /// Removes and gives the first line that waits, if any.
     pub(crate) fn next_line(&mut self) -> Option<Urc>
         ensures { MatchOption result ((self.old.unannounced ≡ []) × (self.new ≡ self.old))
             (λ u. (self.old.unannounced ≡ u ∷ self.new.unannounced)

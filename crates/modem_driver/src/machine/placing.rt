@@ -38,8 +38,8 @@ impl Waiting {
         false
     }
 
-    /// Each outcome is offered to its caller, in order. What is handed back stays, in its order, and
-    /// once one of a caller was handed back no other of that caller is offered. Whether any was told.
+    /// Offers each outcome to its caller, in order. What is handed back stays, in its order. Once one of a caller was
+    /// handed back, no other of that caller is offered. Says whether any was told.
     pub(crate) fn place_outcomes(&mut self, driver: &mut DriverEnd) -> bool
         ensures placed { Placed caller_of IsRingOf (IsCaller driver.old.desk) (caller_rings driver.old)
             (caller_rings driver.new) self.old.outcomes self.new.outcomes result }
@@ -90,9 +90,9 @@ impl Waiting {
         driver.kinds().iter().any(|kind| !held_up[kind.place()] && self.lines.of_kind(*kind) > 0)
     }
 
-    /// Each line is offered to the listener of its kind, in order. What is handed back stays, in its
-    /// order, and once one of a kind was handed back no other of that kind is offered: where none is left
-    /// to be offered it ends. Whether any was announced.
+    /// Offers each line to the listener of its kind, in order. What is handed back stays, in its order. Once one of a
+    /// kind was handed back, no other of that kind is offered. It ends where none is left to be offered. Says whether
+    /// any was announced.
     pub(crate) fn place_lines(&mut self, driver: &mut DriverEnd) -> bool
         ensures placed { Placed place_of (IsListenerOf driver.old.desk.kinds) (IsHeard driver.old.desk.kinds)
             (listener_rings driver.old) (listener_rings driver.new) self.old.lines self.new.lines result }
@@ -117,9 +117,9 @@ impl Waiting {
 }
 
 impl Machine {
-    /// Each outcome that waits is offered in order to its caller, and each line in order to its
-    /// listener. What is handed back stays, in its order; once one of a caller or a kind was handed
-    /// back, no other of it is offered. Whether anything was placed.
+    /// Offers each outcome that waits to its caller, and each line to its listener, in order. What is handed back
+    /// stays, in its order. Once one of a caller or a kind was handed back, no other of it is offered. Says whether
+    /// anything was placed.
     pub(crate) fn place(&mut self, driver: &mut DriverEnd) -> bool
         ensures { (l : LineView)
             → Places (turn_state l driver.old self.old) (turn_state l driver.new self.new) result }

@@ -5,9 +5,9 @@ ghost use Rattle.modem_driver.specs.SendingSteps.{MachineSends};
 use crate::machine::Machine;
 
 impl Machine {
-    /// The next frame's octets go into the output: the first of the control queue, else data. Where
-    /// octets wait, nothing is done. It says whether data was sent: a control frame was sent when it was
-    /// queued. It takes no memory.
+    /// Puts the next frame's octets into the output: the first of the control queue, else data. Where octets wait, it
+    /// does nothing. It says whether data was sent: a control frame counts as sent when it was queued. It takes no
+    /// memory.
     pub(crate) fn send_on(&mut self) -> bool
         ensures sends { MachineSends self.old self.new result }
         ensures unfed { self.new.unfed ≡ self.old.unfed }

@@ -13,8 +13,8 @@ use std::collections::VecDeque;
 use std::marker::Model;
 use std::sync::Wait;
 
-/// What stands at a desk in the place of a session whose line is gone. It still places the outcomes and the lines
-/// that wait, and tells everyone LineLost: those in hand, and those who submit a request from then on.
+/// What stands at a desk in the place of a session whose line is gone. It places the outcomes and the lines that still
+/// wait, and tells LineLost to every request in hand and to each that is submitted from then on.
 ///
 /// Contracts see the outcomes and the lines that wait for a place.
 #[derive(Drop)]
@@ -104,9 +104,9 @@ impl Waiting {
 }
 
 impl Offline {
-    /// What stands in the place of a session that left these: the requests in hand, the outcomes and the lines
-    /// that wait, as `Session::finish` gives them. Everyone in hand is told LineLost, behind the outcomes that
-    /// wait. Refused, and all handed back, where memory is.
+    /// Takes the place of a session that left these: the requests in hand, the outcomes and the lines that wait, as
+    /// `Session::finish` gives them. Each request in hand is told LineLost, behind the outcomes that wait. Refusal: no
+    /// memory, which hands all back.
     pub fn new(
         alloc: Global,
         in_hand: Vec<Request>,
@@ -152,9 +152,9 @@ impl Offline {
         }
     }
 
-    /// Takes a request from the desk, unless 128 outcomes wait, and tells it LineLost; and offers the outcomes and
-    /// the lines that wait to the desk, each in its order. Answers Moved where it took or placed anything; else
-    /// what still waits, as a turn does: an outcome for this caller, a line of this kind, or nothing.
+    /// Takes a request from the desk, unless 128 outcomes wait, and tells it LineLost. Offers the outcomes and the
+    /// lines that wait to the desk, each in its order. Answers Moved where it took or placed anything; else what still
+    /// waits, as a turn does: an outcome for this caller, a line of this kind, or nothing.
     pub fn turn_away<R: Wait>(&mut self, rt: &R, driver: &mut DriverEnd) -> Turn
         ensures { PassesAway self.old self.new driver.old driver.new result }
     {

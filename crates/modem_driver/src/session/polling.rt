@@ -23,9 +23,9 @@ const TURNS: usize = 64;
 pub enum Progress {
     /// Its 64 turns all moved something: there may be more to do at once.
     More,
-    /// A turn moved nothing: there is nothing to do until octets or requests come, or room.
+    /// A turn moved nothing: there is nothing to do until octets, a request or room comes.
     Idle,
-    /// It has ended so, or a turn failed so; after `NoMemory`, which is no end, a poll goes on.
+    /// The session's end, or a turn's fault. `NoMemory` is no end: the next poll goes on.
     Ended(Result<Ended, SessionFault>),
 }
 
@@ -120,10 +120,10 @@ impl<L: SerialLine, R: Wait + Drop> Session<L, R> {
         }
     }
 
-    /// One poll: the end that one gave before, after which nothing is done; else that to which at most 64
-    /// turns lead, up to the first that doesn't answer Moved; or, where that is no end, whether there may be
-    /// more to do at once. A loop or a future of one's own calls it, since of a session that is polled as a
-    /// future only the output is known.
+    /// One poll. Where an earlier poll gave an end, it gives that again and does nothing. Else it makes turns, at most
+    /// 64, up to the first that doesn't answer Moved. It gives the end that they lead to, or, where that is no end,
+    /// whether there may be more to do at once. It is for a loop or a future of one's own: of a session that is polled
+    /// as a future only the output is known.
     pub fn advance(&mut self) -> Progress
         ensures polls { Polls (line_by L.received L.sent L.calls L.failures L.empty_reads L.stalled_writes) self.old self.new result }
         ensures goes { SessionGoesOn (line_by L.received L.sent L.calls L.failures L.empty_reads L.stalled_writes) self.old self.new }

@@ -13,8 +13,8 @@ use serial_line::SerialLine;
 use std::sync::Wait;
 
 impl<L: SerialLine, R: Wait + Drop> Session<L, R> {
-    /// Whether a tick may send something again or give something up: a request that is no command waits for its outcome, by every
-    /// history that the session fits. Where none does its caller needn't count time.
+    /// Whether a tick may send something again or give something up: a request other than a command waits for its outcome, by
+    /// every history that the session fits. Where none does, the caller needn't count time.
     #[tactic(auto, using(crate::proofs::EntryTries::hand_wants))]
     pub fn wants_tick(&self) -> bool
         ensures { (b : Beginning) (past : List Act)
@@ -23,11 +23,11 @@ impl<L: SerialLine, R: Wait + Drop> Session<L, R> {
     {
         self.machine.wants_tick()
     }
-    /// How many ticks in a row have found the command that is the first in hand on this connection there, by every history that
-    /// the session fits: so long its answer hasn't ended. `None` where no command of the connection is in hand; commands behind
-    /// the first one aren't counted. The count stops at `u64::MAX`. Nothing is given up by itself: whoever finds it too high
-    /// can close the connection. A session whose requests in hand are commands alone wants no tick (see `wants_tick`), and
-    /// counts those that it is given.
+    /// How many ticks in a row have found the same command first in hand on this connection, by every history that the session
+    /// fits: for so many ticks its answer hasn't ended. `None` where no command of the connection is in hand. Commands behind
+    /// the first aren't counted. The count stops at `u64::MAX`. No command is given up by itself: a caller that finds the count
+    /// too high can close the connection. A session whose requests in hand are commands alone wants no tick (see `wants_tick`),
+    /// and counts those that it is given.
     #[tactic(auto, using(crate::proofs::sessions::steps::WaitedTicks::session_shows))]
     pub fn waiting_ticks(&self, dlci: Dlci) -> Option<u64>
         ensures { (b : Beginning) (past : List Act)

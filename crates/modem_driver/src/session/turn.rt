@@ -14,11 +14,11 @@ use std::sync::Wait;
 /// What a turn came to.
 #[derive(Clone, Copy, PartialEq, Eq, Debug)]
 pub enum Turn {
-    /// Something was done other than that a control frame went into the output.
+    /// Something was done, other than putting a control frame into the output.
     Moved,
     /// Nothing was done: octets wait for the line, which took none.
     WriterFull,
-    /// Nothing was done: an outcome waits for a place with this caller, the least of those.
+    /// Nothing was done: an outcome waits for a place with this caller, the least of such callers.
     Waiting(u8),
     /// Nothing was done: a line waits for a place with the listener of this kind. It was heard before
     /// all others that wait.
