@@ -194,8 +194,8 @@ fn is_malformed_context(text: &[u8]) -> bool
     text.starts_with(CONTEXT) && context_in(&text[CONTEXT.len()..]).is_none()
 }
 
-#[tactic(auto, using(crate::proofs::AnswerLines::more_none, crate::proofs::AnswerLines::more_some, crate::proofs::AnswerLines::one_left))]
 /// The contexts of the lines that have one. It takes memory only where there is a context.
+#[tactic(auto, using(crate::proofs::AnswerLines::more_none, crate::proofs::AnswerLines::more_some, crate::proofs::AnswerLines::one_left))]
 fn contexts_in(alloc: Global, lines: &[AnswerLine]) -> Result<Vec<Context>, AllocError>
     ensures ok { IfOk result (λ contexts. contexts.items ≡ filter_map context_in lines.now) }
     ensures err { OnErr result (takes_memory (Reply.Contexts (filter_map context_in lines.now)) ≡ true) }

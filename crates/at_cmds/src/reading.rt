@@ -199,8 +199,8 @@ fn context_set_in(value: &[u8]) -> Option<(u8, Pdp, &[u8])>
     context_in(after_equals(value)?)
 }
 
-#[tactic(auto, using(crate::proofs::values_read::ParameterCounts::too_many))]
 /// A context's number, its kind and its access point's name, and nothing behind them.
+#[tactic(auto, using(crate::proofs::values_read::ParameterCounts::too_many))]
 fn context_in(text: &[u8]) -> Option<(u8, Pdp, &[u8])>
     ensures { option_map (λ context. (context.0, context.1, context.2.now)) result
         ≡ context_value (parameters text.now) }

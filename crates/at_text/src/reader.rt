@@ -99,8 +99,8 @@ fn drop_ended(run: &mut ArrayVec<u8, LINE_LEN>, has_ended: bool)
     }
 }
 
-#[tactic(auto, using(crate::proofs::lines::KeptOctets::cut_room, crate::proofs::lines::KeptOctets::cut_full))]
 /// Reads one more octet of a line, and says whether it ends the line. What doesn't fit is cut off.
+#[tactic(auto, using(crate::proofs::lines::KeptOctets::cut_room, crate::proofs::lines::KeptOctets::cut_full))]
 fn read_octet(run: &mut ArrayVec<u8, LINE_LEN>, octet: u8) -> bool
     ensures ends { result ≡ is_line_end octet }
     ensures run { run.new.items

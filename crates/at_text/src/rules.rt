@@ -68,9 +68,9 @@ impl PatternRef<'_> {
         }
     }
 
-    #[tactic(auto, unfolding(crate::specs::Deciding::can_meet))]
     /// Whether some line is of both rules, where their texts are short: the longer text, or the longer text with a
     /// quote or a digit behind it.
+    #[tactic(auto, unfolding(crate::specs::Deciding::can_meet))]
     pub(crate) fn meets(self, other: PatternRef<'_>) -> bool
         ensures { result ≡ can_meet (lent self.entry) (lent other.entry) }
     {

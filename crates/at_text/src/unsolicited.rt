@@ -106,8 +106,8 @@ pub(crate) fn is_without_second(line: &[u8]) -> bool
     }
 }
 
-#[tactic(auto, using(crate::proofs::Commas::behind_none, crate::proofs::Commas::behind_some))]
 /// What follows the first comma.
+#[tactic(auto, using(crate::proofs::Commas::behind_none, crate::proofs::Commas::behind_some))]
 pub(crate) fn behind_comma(line: &[u8]) -> Option<&[u8]>
     ensures { option_map (λ rest. rest.now) result ≡ after_comma line.now }
 {

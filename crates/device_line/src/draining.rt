@@ -73,10 +73,10 @@ fn turn<W: Write, R: Wait>(
     None
 }
 
-#[tactic(auto, using(crate::proofs::Written::none_out, crate::proofs::Written::both_out))]
 /// Writes what comes out of a ring to a device, until the ring's writer is gone and all is written. It rings `bell` whenever there
 /// is room again. It waits on `own`, which a `RingWriter` rings, and stops once `own` is over. A write that takes nothing is a
 /// failure.
+#[tactic(auto, using(crate::proofs::Written::none_out, crate::proofs::Written::both_out))]
 pub fn drain<W: Write, R: Wait>(
     rt: &R,
     writer: &mut W,

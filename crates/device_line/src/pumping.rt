@@ -103,10 +103,10 @@ fn turn<R: Read, K: Clock>(
     }
 }
 
-#[tactic(auto, using(crate::proofs::Written::none_in, crate::proofs::Written::both_in))]
 /// Reads a device into a ring until the device ends, and rings `bell` whenever octets came. It stops once `own` is over or nobody
 /// is left to read the ring; some octets of the last read may then be lost. `zero` says what an empty read means: the end, or
 /// nothing yet. Eight empty reads in a row that come back at once are the end in any case.
+#[tactic(auto, using(crate::proofs::Written::none_in, crate::proofs::Written::both_in))]
 pub fn pump<R: Read, K: Clock>(
     clock: &K,
     reader: &mut R,

@@ -141,8 +141,8 @@ pub(crate) fn next_octet<L: SerialLine>(line: &mut L) -> Result<Option<u8>, Line
     Ok(Some(octet[0]))
 }
 
-#[tactic(auto, using(crate::proofs::Entries::sees_line))]
 /// Reads an octet, and gives the final code that ends with it, if one does.
+#[tactic(auto, using(crate::proofs::Entries::sees_line))]
 pub(crate) fn see(reader: &mut LineReader, octet: u8) -> Option<Final>
     ensures keeps { HasRead reader.new (reader.old ++ octet ∷ []) }
     ensures given { SeesCode reader.old octet result }

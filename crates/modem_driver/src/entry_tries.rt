@@ -74,8 +74,8 @@ fn ask<L: SerialLine, P: Patience>(
     Err(EntryError::NoAnswer)
 }
 
-#[tactic(auto, using(crate::proofs::EntryTries::closed))]
 /// Sends the CLD frame, whatever comes meanwhile. Refusals as those of `ask`.
+#[tactic(auto, using(crate::proofs::EntryTries::closed))]
 fn shut_down<L: SerialLine, P: Patience>(line: &mut L, patience: &mut P) -> Result<(), EntryError>
     ensures closed { OnOk result (IsClosedDown (line_by L.received L.sent L.calls L.failures L.empty_reads L.stalled_writes line.old)
         (line_by L.received L.sent L.calls L.failures L.empty_reads L.stalled_writes line.new)) }
@@ -109,8 +109,8 @@ fn shut_down<L: SerialLine, P: Patience>(line: &mut L, patience: &mut P) -> Resu
     Err(EntryError::NoAnswer)
 }
 
-#[tactic(auto, using(crate::proofs::EntryTries::tried_at, crate::proofs::EntryTries::tried_behind, crate::proofs::EntryTries::no_ranges_told))]
 /// One try: it asks for the ranges first where that is wanted, whatever is answered, and then sends the text.
+#[tactic(auto, using(crate::proofs::EntryTries::tried_at, crate::proofs::EntryTries::tried_behind, crate::proofs::EntryTries::no_ranges_told))]
 fn try_once<L: SerialLine, P: Patience>(
     line: &mut L,
     ranges: bool,
@@ -186,7 +186,6 @@ fn try_twice<L: SerialLine, P: Patience>(
     try_once(line, ranges, text, patience)
 }
 
-#[tactic(auto, using(crate::proofs::EntryTries::turned_down))]
 /// Enters the multiplexer with the caller's text: any octets, CR included, as `AT+CMUX=0,0,5,127` and CR. With `ranges`
 /// it asks `AT+CMUX=?` first, and goes on whatever is answered. However much comes before, it reads on to the first
 /// line that is a final code. Where nothing answers, a driver that was killed may have left the modem in the
@@ -195,6 +194,7 @@ fn try_twice<L: SerialLine, P: Patience>(
 ///
 /// Refusals: 1 Refused, where the code isn't `OK`; 2 NoAnswer, where patience was used up in the second try or with the CLD frame,
 /// or the line's count of calls is at `u64::MAX`; 3 Line, where the line failed.
+#[tactic(auto, using(crate::proofs::EntryTries::turned_down))]
 pub fn enter_by<L: SerialLine, P: Patience>(
     line: &mut L,
     ranges: bool,

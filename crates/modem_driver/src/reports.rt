@@ -122,8 +122,8 @@ fn read_octet(
     say(reading, kinds, line.text, seen, acts)
 }
 
-#[tactic(auto, using(crate::proofs::lines::ReportedLines::reads_first))]
 /// Reads the octets that came.
+#[tactic(auto, using(crate::proofs::lines::ReportedLines::reads_first))]
 pub(crate) fn read_octets(
     reading: Reading,
     dialect: &Dialect,
