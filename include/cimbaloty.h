@@ -1,12 +1,12 @@
-/* cimbaloty.h - drives a cellular modem over one serial line that several users share: the basic
- * option of the multiplexer of 3GPP TS 27.010, and on each of its connections AT commands (ITU-T
- * V.250, 3GPP TS 27.007). C99, and C++.
+/* cimbaloty.h - drives a cellular modem over one serial line that several users share. It speaks the
+ * basic option of the multiplexer of 3GPP TS 27.010, and on each of its connections AT commands
+ * (ITU-T V.250, 3GPP TS 27.007). C99, and C++.
  *
  * The library does no I/O: it opens no file, starts no thread, takes no lock, keeps nothing global,
- * reads no clock and calls nothing back. You give it the octets that came and take those that have to
- * go; you make requests, and each gets a number; later you take one outcome of each number.
+ * reads no clock and calls nothing back. You give it the octets that came, and write those that it
+ * gives. You make requests, and each gets a number. Later you take one outcome for each number.
  *
- * One round of a program, once the modem answered AT+CMUX=0 by OK:
+ * This is one round of a program, once the modem answered AT+CMUX=0 by OK:
  *
  *     while ((count = cimbaloty_output(&c, room, sizeof room)) > 0)
  *         write all of them to the line, or cimbaloty_line_lost(&c);
@@ -18,8 +18,8 @@
  *     while (cimbaloty_poll_outcome(&c, &outcome, text, sizeof text) == CIMBALOTY_OK) ..
  *     while (cimbaloty_poll_line(&c, &line, text, sizeof text) == CIMBALOTY_OK) ..
  *
- * Link with libcimbaloty.a, and with the three functions by which it takes memory: liblibc_c.a of the
- * toolchain on x86-64, or examples/c/memory.c anywhere. See docs/C.md. */
+ * Link with libcimbaloty.a, which takes memory by malloc (examples/c/memory.c). Or link with
+ * libmodem_c.a and define the three functions of memory.c yourself. See docs/C.md. */
 #ifndef CIMBALOTY_H
 #define CIMBALOTY_H
 
@@ -31,11 +31,11 @@
 extern "C" {
 #endif
 
-/* The version of this header: the major number by 65536, the minor by 256, and the patch. */
+/* The version of this header: major * 65536 + minor * 256 + patch. */
 #define CIMBALOTY_VERSION 0x000100
 
-/* A driver, or none. All zero is none. Its fields are the library's: don't read, write or copy them.
- * It may be moved in memory between calls. */
+/* A driver, or none. All zero means none. The fields are the library's: don't read, write or copy them.
+ * The struct may be moved in memory between calls. */
 struct cimbaloty {
 	void *at;
 	bool is_open;
@@ -47,25 +47,25 @@ struct cimbaloty {
 #define CIMBALOTY_NONE { 0 }
 #endif
 
-/* What a call answers. A refused call leaves all as it was, but where it says otherwise. */
+/* What a call returns. A refused call leaves everything as it was, unless its text says otherwise. */
 enum cimbaloty_status {
 	CIMBALOTY_OK = 0,
 	CIMBALOTY_NO_MEMORY = 1,    /* an allocation was refused: call again later */
 	CIMBALOTY_BAD_N1 = 2,       /* of cimbaloty_new: N1 is 31 to 32767 */
-	CIMBALOTY_FULL = 2,         /* of a request: 128 are in hand, or told and not polled; poll first.
-	                             * Or all numbers are used up. */
+	CIMBALOTY_FULL = 2,         /* of a request: 128 are in hand, or have outcomes not yet polled: poll
+	                             * first. Or all numbers are used up. */
 	CIMBALOTY_LINE_LOST = 3,    /* of cimbaloty_tick, cimbaloty_line_lost: the line was lost before */
 	CIMBALOTY_NO_DRIVER = 16,   /* there is no driver */
 	CIMBALOTY_HAS_DRIVER = 17,  /* there is one already */
 	CIMBALOTY_BAD_DLCI = 18,    /* a connection is 0 to 61 */
 	CIMBALOTY_LONG_PROBE = 19,  /* more than 16 octets */
 	CIMBALOTY_BAD_KINDS = 20,   /* a bit of no kind */
-	CIMBALOTY_OUTPUT_FIRST = 21,/* the line has to take octets first: cimbaloty_output */
-	CIMBALOTY_NO_ROOM = 22,     /* the text is longer than the room; the head says how long; it stays */
+	CIMBALOTY_OUTPUT_FIRST = 21,/* write octets to the line first: cimbaloty_output */
+	CIMBALOTY_NO_ROOM = 22,     /* the text is longer than the room: the head has its length, it still waits */
 	CIMBALOTY_NOTHING = 23,     /* nothing waits */
 	CIMBALOTY_HAS_DIALECT = 24, /* there is a dialect already */
 	CIMBALOTY_NO_DIALECT = 25,  /* there is none */
-	CIMBALOTY_BAD_FORM = 26,    /* no enum cimbaloty_form */
+	CIMBALOTY_BAD_FORM = 26,    /* not one of enum cimbaloty_form */
 	CIMBALOTY_NO_AT = 33,       /* a command line begins with AT or at, */
 	CIMBALOTY_BAD_OCTET = 34,   /* has the octets 20 to 7E hex alone, */
 	CIMBALOTY_TOO_LONG = 35,    /* and is at most 256 octets long */
@@ -87,10 +87,10 @@ enum cimbaloty_answer {
 	CIMBALOTY_STOPPED = 5,      /* the multiplexer has ended: the modem reads plain AT commands again */
 	CIMBALOTY_NOT_OPEN = 6,     /* the connection, or connection 0, isn't open */
 	CIMBALOTY_ALREADY_OPEN = 7,
-	CIMBALOTY_REFUSED = 8,      /* the modem refused */
+	CIMBALOTY_REFUSED = 8,      /* the modem answered the opening by DM, or knows no probes */
 	CIMBALOTY_NO_ANSWER = 9,    /* the modem didn't answer by the fourth tick */
 	CIMBALOTY_CLOSED = 10,      /* the connection closed before the request was answered */
-	CIMBALOTY_CONTROL_CHANNEL = 11, /* connection 0 carries no commands */
+	CIMBALOTY_CONTROL_CHANNEL = 11, /* connection 0 carries no commands, and isn't closed: stop instead */
 	CIMBALOTY_LOST = 12,        /* the line was lost */
 	CIMBALOTY_BUSY = 13         /* another such request is under way */
 };
@@ -99,8 +99,8 @@ enum cimbaloty_answer {
 enum cimbaloty_kind {
 	CIMBALOTY_RING = 1, CIMBALOTY_CRING = 2, CIMBALOTY_CREG = 3, CIMBALOTY_CGREG = 4,
 	CIMBALOTY_CGEV = 5, CIMBALOTY_CIEV = 6,
-	CIMBALOTY_OTHER = 7,        /* a line of none of these that belongs to no answer */
-	CIMBALOTY_OWN = 8           /* the first of a dialect's own; the others follow, up to 71 */
+	CIMBALOTY_OTHER = 7,        /* any other line that belongs to no answer */
+	CIMBALOTY_OWN = 8           /* the first kind of a dialect; its others follow, up to 71 */
 };
 #define CIMBALOTY_BIT(kind) ((uint8_t)(1u << ((kind) - 1)))
 #define CIMBALOTY_ALL_KINDS ((uint8_t)0x7F)
@@ -115,7 +115,7 @@ enum cimbaloty_channel_state {
 	CIMBALOTY_IS_CLOSING = 4, CIMBALOTY_IS_STOPPING = 5
 };
 
-/* The most requests in hand at a time, and the most octets of a line, also of an answer: a longer one is cut. */
+/* The most requests in hand at a time. The most octets of a line, also in an answer: a longer line is cut. */
 #define CIMBALOTY_REQUESTS 128
 #define CIMBALOTY_LINE_LENGTH 512
 
@@ -136,9 +136,9 @@ struct cimbaloty_line {
 
 /* What is left of a driver. */
 struct cimbaloty_left {
-	size_t requests;        /* those that have no outcome */
-	size_t outcomes;        /* those that weren't polled */
-	size_t lines;           /* likewise */
+	size_t requests;        /* requests without an outcome */
+	size_t outcomes;        /* outcomes that weren't polled */
+	size_t lines;           /* lines that weren't polled */
 };
 
 /* How a line of a rule goes on behind the rule's text, with which it begins. */
@@ -150,8 +150,8 @@ enum cimbaloty_form {
 	CIMBALOTY_OPEN_REPORT = 5   /* by any blanks and a digit, and no digit behind the first comma: +CEREG: 3,,,,0,11 */
 };
 
-/* The codes of a modem: which lines end an answer, and which are unsolicited. All zero is none. Its fields are the
- * library's: don't read, write or copy them. It may be moved in memory between calls. */
+/* The codes of a modem: which lines end an answer, and which are unsolicited. All zero means none. The fields are the
+ * library's: don't read, write or copy them. The struct may be moved in memory between calls. */
 struct cimbaloty_dialect {
 	void *at;
 	bool is_there;
@@ -170,39 +170,39 @@ uint32_t cimbaloty_version(void);
 
 /* Makes a driver where there is none. n1: the most octets of information that a frame may have, as AT+CMUX
  * agreed (31 is the default of basic option; 64 to 1509 are usual). kinds: the set of kinds that are kept
- * for cimbaloty_poll_line; a line of another kind is dropped. first: the number of the first request; to
- * have numbers go on after a loss of the line, give the last one that was used plus 1.
+ * for cimbaloty_poll_line; lines of other kinds are dropped. first: the number of the first request. For
+ * numbers to go on after a loss of the line, give the last used number plus 1.
  * Refused, by the first of: HAS_DRIVER, BAD_KINDS, BAD_N1, NO_MEMORY; then there is no new one. */
 uint8_t cimbaloty_new(struct cimbaloty *c, uint16_t n1, uint8_t kinds, uint64_t first);
 
-/* As cimbaloty_new, at a modem of this dialect. It takes a copy: the dialect stays, and may be freed or changed.
- * own: the set of the dialect's own kinds that are kept too; a bit of no kind does nothing.
+/* As cimbaloty_new, for a modem of this dialect. It takes a copy: the dialect stays, and may be freed or changed.
+ * own: the set of the dialect's own kinds that are kept too. A bit of no kind does nothing.
  * Refused, by the first of: HAS_DRIVER, BAD_KINDS, BAD_N1, NO_DIALECT, NO_MEMORY; then there is no new one. */
 uint8_t cimbaloty_new_with_dialect(struct cimbaloty *c, struct cimbaloty_dialect *d, uint16_t n1, uint8_t kinds,
 				   uint64_t own, uint64_t first);
 
-/* Ends the driver, if there is one. What wasn't polled is gone. */
+/* Ends the driver, if there is one. Outcomes and lines that weren't polled are gone. */
 void cimbaloty_free(struct cimbaloty *c);
 
 /* ---- Time, and the line's end --------------------------------------------------------------------- */
 
-/* One T1 has passed (27.010, 5.7.1: 10 to 2550 ms; 1 s suits most lines). An opening or closing that
- * wasn't answered is sent again, and what waits for its fourth tick is told NO_ANSWER. No tick ends a
- * command. Ticks that come early or late change only that count.
+/* One T1 has passed (27.010, 5.7.1: 10 to 2550 ms; 1 s suits most lines). An opening or closing without
+ * an answer is sent again. At its fourth tick a request other than a command is told NO_ANSWER. No tick
+ * ends a command. Ticks that come early or late change only that count.
  * Refused: NO_DRIVER; LINE_LOST; NO_MEMORY, after which the tick hasn't passed. */
 uint8_t cimbaloty_tick(struct cimbaloty *c);
 
-/* Whether a tick may give up a request that waits. If not, your timer may sleep. */
+/* Whether a tick may send something again or give up a request. If not, your timer may sleep. */
 bool cimbaloty_wants_tick(struct cimbaloty *c);
 
-/* The line has failed or ended. Each request that has no outcome is told LOST, and nothing is sent any
- * more. To go on, poll what waits, cimbaloty_free and cimbaloty_new.
+/* The line has failed or ended. Each request without an outcome is told LOST, and nothing more is sent.
+ * To go on, poll what waits, then call cimbaloty_free and cimbaloty_new.
  * Refused: NO_DRIVER; LINE_LOST; NO_MEMORY, after which the line isn't lost: call again. */
 uint8_t cimbaloty_line_lost(struct cimbaloty *c);
 
-/* How many ticks in a row have found the same command first in hand on a connection: for so many ticks its answer
- * hasn't ended. No command is given up by itself: where there are too many, cimbaloty_close the connection.
- * Refused: NO_DRIVER, BAD_DLCI, NOTHING where no command of the connection is in hand; *ticks is as it was. */
+/* For how many ticks the first command in hand on a connection has waited for the end of its answer. The driver gives
+ * up no command by itself: where the ticks are too many, cimbaloty_close the connection.
+ * Refused: NO_DRIVER, BAD_DLCI, NOTHING where no command of the connection is in hand. Then *ticks is as it was. */
 uint8_t cimbaloty_waiting_ticks(struct cimbaloty *c, uint8_t dlci, uint64_t *ticks);
 
 /* The state of a connection (enum cimbaloty_channel_state); 0 where there is no driver or no such connection. */
@@ -214,8 +214,8 @@ uint8_t cimbaloty_state(struct cimbaloty *c, uint8_t dlci);
  *
  * cimbaloty_dialect_new has the standard's codes alone: OK, ERROR and +CME ERROR: end an answer, and the
  * kinds 1 to 6 are unsolicited. cimbaloty_dialect_common has +CMS ERROR: too, and kinds of the names CEREG,
- * C5GREG, CMTI, CDSI, CLIP, CCWA, CTZV and CTZE. cimbaloty_dialect_dialling has beside these NO CARRIER, BUSY,
- * NO ANSWER and NO DIALTONE, which end an answer: also that of another command, where they come unasked. */
+ * C5GREG, CMTI, CDSI, CLIP, CCWA, CTZV and CTZE. cimbaloty_dialect_dialling also has NO CARRIER, BUSY, NO ANSWER
+ * and NO DIALTONE. These end an answer; where they come unasked they end that of whatever command waits. */
 uint8_t cimbaloty_dialect_new(struct cimbaloty_dialect *d);
 uint8_t cimbaloty_dialect_common(struct cimbaloty_dialect *d);
 uint8_t cimbaloty_dialect_dialling(struct cimbaloty_dialect *d);
@@ -225,9 +225,9 @@ void cimbaloty_dialect_free(struct cimbaloty_dialect *d);
 
 /* ---- Requests ------------------------------------------------------------------------------------- */
 
-/* Each request that is taken gets the next number, and one outcome. One that can't be done is told so by
- * its outcome (NOT_OPEN, BUSY ..). Refused: NO_DRIVER, first; what the call says; FULL; NO_MEMORY. A refused
- * request has no number and no outcome, and *number is as it was. */
+/* Each request that is taken gets the next number, and one outcome. If it can't be done, its outcome says so
+ * (NOT_OPEN, BUSY ..). Refused, in this order: NO_DRIVER; the refusals that the call names; FULL; NO_MEMORY. A
+ * refused request has no number and no outcome, and *number is as it was. */
 
 /* Opens a connection. Open 0 first: it is the control channel. BAD_DLCI. */
 uint8_t cimbaloty_open(struct cimbaloty *c, uint8_t dlci, uint64_t *number);
@@ -238,7 +238,7 @@ uint8_t cimbaloty_close(struct cimbaloty *c, uint8_t dlci, uint64_t *number);
 /* Ends the multiplexer. */
 uint8_t cimbaloty_stop(struct cimbaloty *c, uint64_t *number);
 
-/* ---- Calls with octets: see below for those that are called --------------------------------------- */
+/* ---- Exports with octets: call the inline functions below instead --------------------------------- */
 
 uint8_t cimbaloty_input_at(struct cimbaloty *c, const uint8_t *octets, size_t length, size_t *taken);
 size_t cimbaloty_output_at(struct cimbaloty *c, uint8_t *room, size_t length);
@@ -254,13 +254,13 @@ uint8_t cimbaloty_dialect_add_unsolicited_at(struct cimbaloty_dialect *d, uint8_
 					     const uint8_t *name, size_t name_length);
 uint16_t cimbaloty_dialect_kind_at(struct cimbaloty_dialect *d, const uint8_t *name, size_t length);
 
-/* The library's own functions owe a valid pointer for length 0 too. These below take NULL there. */
+/* The exports above need a valid pointer for length 0 too. The inline functions below take NULL there. */
 
-/* Takes octets that came from the line, however they are cut. *taken says how many of the first were taken:
- * give the others again. With OK all are taken; with another answer all are where *taken == length. Never give
- * again what was taken: it isn't lost. What couldn't be handled yet is tried by the next call of
- * cimbaloty_output or cimbaloty_tick, and with each request.
- * OUTPUT_FIRST: the line has to take octets first. NO_MEMORY. NO_DRIVER: *taken is 0. */
+/* Takes octets that came from the line, however they are cut. *taken says how many were taken, from the first
+ * on: give the others again. With OK all are taken; with another answer all are where *taken == length. Never
+ * give again an octet that was taken: none is lost. A frame that couldn't be handled yet is tried by the next
+ * call of cimbaloty_output or cimbaloty_tick, and with each request.
+ * OUTPUT_FIRST: write octets to the line first. NO_MEMORY. NO_DRIVER: *taken is 0. */
 static inline uint8_t cimbaloty_input(struct cimbaloty *c, const uint8_t *octets, size_t length, size_t *taken)
 {
 	static const uint8_t none = 0;
@@ -270,9 +270,9 @@ static inline uint8_t cimbaloty_input(struct cimbaloty *c, const uint8_t *octets
 
 /* Writes the next octets for the line to the front of the room, at most `length`, and says how many. They
  * count as sent from then on: write them all, in order, or call cimbaloty_line_lost. It gives fewer than
- * `length` only where nothing else waits for the line. It also handles what waits from before, and lets the
- * modem send on where cimbaloty_poll_line took lines; where memory is refused for that, the next call tries
- * again. 0: nothing waits for the line, or there is no driver. The rest of the room stays as it was. */
+ * `length` only where nothing else waits for the line. 0: nothing waits, or there is no driver. The rest of
+ * the room stays as it was. It also handles frames that wait from before, and lets the modem send on where
+ * cimbaloty_poll_line took lines. Where memory is refused for that, the next call tries again. */
 static inline size_t cimbaloty_output(struct cimbaloty *c, uint8_t *room, size_t length)
 {
 	uint8_t none = 0;
@@ -290,7 +290,7 @@ static inline uint8_t cimbaloty_command(struct cimbaloty *c, uint8_t dlci, const
 	return cimbaloty_command_at(c, dlci, length ? (const uint8_t *)text : &none, length, number);
 }
 
-/* Has the modem send these octets back, at most 16: is it alive? LONG_PROBE. */
+/* Has the modem send these octets back, at most 16. It shows whether the modem is alive. LONG_PROBE. */
 static inline uint8_t cimbaloty_probe(struct cimbaloty *c, const uint8_t *octets, size_t length, uint64_t *number)
 {
 	static const uint8_t none = 0;
@@ -298,10 +298,10 @@ static inline uint8_t cimbaloty_probe(struct cimbaloty *c, const uint8_t *octets
 	return cimbaloty_probe_at(c, length ? octets : &none, length, number);
 }
 
-/* ---- What came of it ------------------------------------------------------------------------------ */
+/* ---- Outcomes and unsolicited lines --------------------------------------------------------------- */
 
-/* cimbaloty_peek_outcome shows the head of the first outcome that waits, which stays. It takes no memory.
- * Refused: NO_DRIVER, NOTHING; then the head is as it was. */
+/* cimbaloty_peek_outcome shows the head of the first outcome that waits, and leaves the outcome there. It takes
+ * no memory. Refused: NO_DRIVER, NOTHING; then the head is as it was. */
 
 /* Takes the first outcome that waits: its head, and its text at the front of the room, without a 0 behind
  * it. It takes no memory. NO_ROOM: the head says how much room the text needs, and the outcome still waits.
@@ -313,8 +313,8 @@ static inline uint8_t cimbaloty_poll_outcome(struct cimbaloty *c, struct cimbalo
 	return cimbaloty_poll_outcome_at(c, head, room ? (uint8_t *)text : &none, room);
 }
 
-/* cimbaloty_peek_line and this do the same with the first unsolicited line that waits. Where 256 lines of a
- * connection wait, the modem is asked to send nothing more on it until fewer than 128 do. */
+/* cimbaloty_peek_line and cimbaloty_poll_line do the same with the first unsolicited line that waits. Where 256
+ * lines of a connection wait, the modem is asked to send nothing more on it until fewer than 128 wait. */
 static inline uint8_t cimbaloty_poll_line(struct cimbaloty *c, struct cimbaloty_line *head, char *text, size_t room)
 {
 	uint8_t none = 0;
@@ -322,9 +322,9 @@ static inline uint8_t cimbaloty_poll_line(struct cimbaloty *c, struct cimbaloty_
 	return cimbaloty_poll_line_at(c, head, room ? (uint8_t *)text : &none, room);
 }
 
-/* Ends the driver as cimbaloty_free does, and says what is left: how many requests have no outcome, and
- * their numbers, as many as there is room for (at most 128 are in hand); how many outcomes and lines weren't
- * polled, which are gone. NO_DRIVER: left and numbers are as they were. */
+/* Ends the driver as cimbaloty_free does, and says what is left: how many requests have no outcome, and their
+ * numbers, as many as there is room for (at most 128 are in hand). It also counts the outcomes and lines that
+ * weren't polled; these are gone. NO_DRIVER: left and numbers are as they were. */
 static inline uint8_t cimbaloty_finish(struct cimbaloty *c, struct cimbaloty_left *left, uint64_t *numbers, size_t room)
 {
 	uint64_t none = 0;
@@ -332,7 +332,7 @@ static inline uint8_t cimbaloty_finish(struct cimbaloty *c, struct cimbaloty_lef
 	return cimbaloty_finish_at(c, left, room ? numbers : &none, room);
 }
 
-/* Adds a rule behind those that there are: its lines end an answer. form: enum cimbaloty_form.
+/* Adds a rule behind the others: its lines end an answer. form: enum cimbaloty_form.
  * Refused, by the first of: NO_DIALECT, BAD_FORM, TOO_MANY_RULES, NO_TEXT, LONG_TEXT, LINE_END, IS_COMMAND,
  * AMBIGUOUS, NO_MEMORY; then the dialect is as it was. */
 static inline uint8_t cimbaloty_dialect_add_final(struct cimbaloty_dialect *d, uint8_t form, const char *text, size_t length)
@@ -342,8 +342,8 @@ static inline uint8_t cimbaloty_dialect_add_final(struct cimbaloty_dialect *d, u
 	return cimbaloty_dialect_add_final_at(d, form, length ? (const uint8_t *)text : &none, length);
 }
 
-/* Adds a rule behind those that there are: its lines are unsolicited, of the kind of this name. The standard
- * goes before all rules, and of the rules that take a line the first counts.
+/* Adds a rule behind the others: its lines are unsolicited, of the kind of this name. The standard's codes come
+ * first, then the first rule that takes the line.
  * Refused as cimbaloty_dialect_add_final is, with BAD_NAME behind LINE_END. */
 static inline uint8_t cimbaloty_dialect_add_unsolicited(struct cimbaloty_dialect *d, uint8_t form, const char *text,
 							size_t length, const char *name, size_t name_length)
@@ -354,8 +354,8 @@ static inline uint8_t cimbaloty_dialect_add_unsolicited(struct cimbaloty_dialect
 						    name_length ? (const uint8_t *)name : &none, name_length);
 }
 
-/* The kind of this name, 8 or more, as cimbaloty_poll_line tells it; 0 where no rule has the name, or there is
- * no dialect. */
+/* The kind of this name, 8 or more, as cimbaloty_poll_line tells it. 0: no rule has the name, or there is no
+ * dialect. */
 static inline uint16_t cimbaloty_dialect_kind(struct cimbaloty_dialect *d, const char *name, size_t length)
 {
 	static const uint8_t none = 0;
@@ -365,25 +365,25 @@ static inline uint16_t cimbaloty_dialect_kind(struct cimbaloty_dialect *d, const
 
 /* ---- What you owe (nothing checks it) ---------------------------------------------------------------
  *
- *  1. A struct cimbaloty begins as CIMBALOTY_NONE, a struct cimbaloty_dialect as CIMBALOTY_DIALECT_NONE, and
- *     these functions alone touch them. Where one was copied or moved, the other copy isn't used any more.
- *  2. One call at a time on one driver, and on one dialect. Calls may come from different threads where your
+ *  1. A struct cimbaloty begins as CIMBALOTY_NONE, a struct cimbaloty_dialect as CIMBALOTY_DIALECT_NONE. Only
+ *     these functions touch them. If one was copied or moved, the old copy isn't used any more.
+ *  2. One driver, or one dialect, has one call at a time. Calls may come from different threads where your
  *     lock, the start or join of a thread, or a sequentially consistent atomic puts each behind the one before
- *     it. Two drivers share nothing, and a driver nothing with the dialect that it was made with.
- *  3. A pointer isn't null, but beside a length of 0 above. It is aligned for its type, and points to as many
- *     values as the length says, which have been written. What the call writes to overlaps nothing else that
- *     it is given. Lengths are at most PTRDIFF_MAX.
+ *     it. Two drivers share nothing. A driver shares nothing with the dialect that it was made with.
+ *  3. A pointer isn't null, unless its length is 0 as above. It is aligned for its type. It points to as many
+ *     values as the length says, and these have been written. Memory that the call writes to overlaps nothing
+ *     else that it is given. Lengths are at most PTRDIFF_MAX.
  *  4. The program has rattle_alloc, rattle_realloc and rattle_dealloc, of one allocator, whose blocks are
  *     aligned to each power of two up to 16 that divides their size. They may refuse. No call is made from a
  *     signal handler, nor in the forked child of a process with threads.
- *  5. What cimbaloty_output gives goes to the line whole and in order, and nothing else does while the
- *     multiplexer runs. What cimbaloty_input is given is what came from it, in order, each octet once.
+ *  5. The octets that cimbaloty_output gives go to the line whole and in order, and no others do while the
+ *     multiplexer runs. cimbaloty_input is given the octets that came from the line, in order, each once.
  *
  * ---- What is proved then, of every sequence of calls ------------------------------------------------
  *
  *  No call reads or writes outside of what it is given or owns, uses memory that was freed, divides by zero,
- *  wraps a sum or runs for ever; and each refusal leaves what is said above. There is one history of requests,
- *  frames, outcomes and lines of a driver, from its making on, such that
+ *  wraps a sum or runs for ever. Each refusal leaves what is said above. From the making of a driver on there is
+ *  one history of its requests, frames, outcomes and lines, such that
  *   - the octets that cimbaloty_input took are read as the frames of the history by the rules of 27.010, each
  *     octet once, in order;
  *   - the octets that cimbaloty_output gave, and then those that wait, are the frames that the history sends;
@@ -393,13 +393,13 @@ static inline uint16_t cimbaloty_dialect_kind(struct cimbaloty_dialect *d, const
  *     those of the history, each once and in order: of a command just the lines of its own answer;
  *   - of each kind the unsolicited lines polled, and then those that wait, are those of the history, each once
  *     and in order, and none is part of an answer.
- *  Which lines are final codes and which unsolicited, and of which kind, is said by the standard and then by the
- *  rules that the dialect had as the driver was made. A rule is taken just where nothing above speaks against it:
- *  no line both ends an answer and is unsolicited.
- *  The text of an outcome or a line is at the front of the room as it was kept. Drivers and dialects say the same
- *  to every thread: they may be passed from one to another.
+ *  The standard, and then the rules that the dialect had when the driver was made, say which lines are final codes
+ *  and which are unsolicited, of which kind. A rule is taken just where no refusal named above holds. No line both
+ *  ends an answer and is unsolicited.
+ *  The text of an outcome or a line stands at the front of the room as it was kept. Drivers and dialects may be
+ *  passed from one thread to another.
  *
- *  Not proved, and tested: that a call succeeds where there is memory; that memory is given back. Not claimed:
+ *  Not proved, but tested: that a call succeeds where there is memory; that memory is given back. Not claimed:
  *  any time or speed, that a modem answers, and anything about code in C. */
 
 #ifdef __cplusplus

@@ -1,5 +1,5 @@
-/* ask.c - one command to a modem, and its answer: ask TTY COMMAND, as in ask /dev/ttyUSB2 AT+CSQ
- * The status is 0 where the answer ends with OK, 1 where it doesn't or none came, 2 where it wasn't asked. */
+/* ask.c - sends one command to a modem and prints the answer: ask TTY COMMAND, as in ask /dev/ttyUSB2 AT+CSQ
+ * Status 0: the answer ends with OK. 1: it ends otherwise, or none came. 2: the command wasn't sent. */
 #define _POSIX_C_SOURCE 200809L
 #include "cimbaloty.h"
 #include "line.h"
@@ -10,7 +10,7 @@
 #include <string.h>
 #include <unistd.h>
 
-/* Writes all that has to go; false where the line failed. */
+/* Writes all octets that wait for the line; false if the line failed. */
 static bool send_all(struct cimbaloty *c, int fd)
 {
 	uint8_t room[256];
@@ -29,7 +29,7 @@ static bool send_all(struct cimbaloty *c, int fd)
 	return true;
 }
 
-/* Waits for octets, at most a second, and takes them in; false where the line failed or memory is short. */
+/* Waits for octets, at most a second, and takes them in; false if the line failed or there is no memory. */
 static bool receive(struct cimbaloty *c, int fd)
 {
 	struct pollfd p = { fd, POLLIN, 0 };
@@ -47,8 +47,8 @@ static bool receive(struct cimbaloty *c, int fd)
 	return true;
 }
 
-/* Waits for the outcome of a request, at most `seconds` without an octet, and prints its text. Says how it
- * ended, or 0 where the line failed. */
+/* Waits for the outcome of a request, and prints its text. Gives the answer, or 0 if the line failed or there is
+ * no memory. Nothing limits the time of a command. */
 static unsigned wait_for(struct cimbaloty *c, int fd, uint64_t number, bool *ok)
 {
 	struct cimbaloty_outcome o;

@@ -1,11 +1,11 @@
 /* cimbalotyd.c - shares one modem among programs: cimbalotyd TTY COUNT DIRECTORY
  *
- * Brings the modem on TTY into the multiplexer, opens connections 1 to COUNT, and gives each to other
- * programs as a pseudo-terminal, DIRECTORY/at1 and so on: a program writes a command line and CR there, and
- * reads its answer, each line between CR LF and CR LF (V.250, 5.7.1). Unsolicited lines come to
- * DIRECTORY/events. Which lines are what is said by cimbaloty_dialect_common. What can't be answered is
- * answered by ERROR: a line that is no command or too long, and a command whose connection or line was lost.
- * Where the line hangs up it is opened again. Ends by SIGTERM or SIGINT, having ended the multiplexer. */
+ * Brings the modem on TTY into the multiplexer and opens connections 1 to COUNT. Other programs get each as a
+ * pseudo-terminal, DIRECTORY/at1 and so on. A program writes a command line and CR there, and reads the answer,
+ * each line between CR LF and CR LF (V.250, 5.7.1). Unsolicited lines come to DIRECTORY/events.
+ * cimbaloty_dialect_common says which lines are unsolicited and which end an answer. ERROR answers a line that is
+ * no command or too long, and a command whose connection or line was lost. If the line hangs up, it is opened
+ * again. At SIGTERM or SIGINT the daemon ends the multiplexer and itself. */
 #define _GNU_SOURCE
 #include "cimbaloty.h"
 #include "line.h"

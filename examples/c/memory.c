@@ -1,10 +1,10 @@
 /* memory.c - the three functions by which the library takes memory, over malloc, realloc and free. On x86-64
- * the toolchain's liblibc_c.a has them too. Another allocator takes their place here. */
+ * the toolchain's liblibc_c.a has them too. For another allocator, replace these functions. */
 #include <stdbool.h>
 #include <stddef.h>
 #include <stdlib.h>
 
-/* Whether memory was given, and where; an address of its own where it wasn't. */
+/* Whether memory was given, and where. If not, `at` is an address that is of no block. */
 struct tried {
 	bool ok;
 	void *at;
