@@ -1,16 +1,18 @@
 -- What was answered where a client is left at a fault.
-use Rattle.std.specs.Prelude.{◌≡◌, ◌≤◌, ◌⊎◌, ℕ, List, [], ◌∷◌, ◌++◌, length, take, drop, Option, Some, None, IfSome, refl}
-use Rattle.std.proofs.Common.{suc, zero, inl, inr, arith, ap, sym, ◌∙◌, append-nil, append_assoc, take-append-drop, subst}
-use Rattle.std.specs.Io.KnownBytes.{Appends, Consumes, Keeps}
+use Rattle.std.specs.Result.{result_err}
+use Rattle.std.specs.Prelude.{Result, Ok, Err, IfErr, IsErrAnd, ◌≡◌, ◌≢◌, ◌≤◌, ℕ, List, [], ◌∷◌, ◌++◌, length, take, Option, Some, None, refl}
+use Rattle.std.proofs.Common.{suc, zero, arith, ap, sym, ◌∙◌, append-nil, subst}
+use Rattle.std.specs.Io.KnownBytes.{Appends, Consumes}
 use Rattle.modem_sim.specs.declared.state.ModemState.{ModemState}
 use Rattle.modem_serve.specs.declared.server.Mode.{Mode}
 use Rattle.modem_serve.specs.declared.server.Setup.{Setup}
 use Rattle.modem_texts.specs.Writing.{IsBegun}
-use Rattle.modem_serve.specs.Leaving.{BeginsAnswer, IsLeftAt, LeavesAnswers, LeftSoFar, NextBegins}
+use Rattle.modem_serve.specs.declared.fault.ServeFault.{ServeFault}
+use Rattle.modem_serve.specs.Leaving.{BeginsAnswer, IsLeftAt, IsLeftBy, IsOfModem, IsOfReader, LeftSoFar, NextBegins}
 use Rattle.modem_serve.specs.Plain.{plain_begun}
 use Rattle.modem_serve.specs.Serving.{Setting}
 use Rattle.modem_serve.specs.Standing.{IsAtLines, ServedSoFar, Stands, StepsBy, setting_by}
-use Rattle.modem_serve.proofs.Served.{answers_by, appended_more, appended_none, begun_at, consumed_more}
+use Rattle.modem_serve.proofs.Served.{answers_by, appended_more, begun_at, consumed_more}
 
 -- ## By whatever answers
 
@@ -23,10 +25,53 @@ taken_at_most (suc n) (x ∷ xs) = let more = taken_at_most n xs in omega (arith
 pub few_taken : (n : ℕ) (xs : List ℕ) → length xs ≤ 4096 → length (take n xs) ≤ 4096
 few_taken n xs few = let most = taken_at_most n xs in omega (arith, most, few)
 
+pub some_taken : (n : ℕ) (xs : List ℕ) → n ≢ 0 → n ≤ length xs → take n xs ≢ []
+some_taken zero xs some bound none = some refl
+some_taken (suc n) [] some bound none = omega (arith, bound)
+some_taken (suc n) (x ∷ xs) some bound none = cc
+
+-- what faults say of a piece to which nothing is written
+pub reader_leaves : (fault : ServeFault) (Begun : Type 0) → IsOfReader fault → IsLeftBy (Some fault) [] [] Begun
+reader_leaves ServeFault.Input Begun is = (refl, refl)
+reader_leaves ServeFault.EndlessInput Begun is = (refl, refl)
+reader_leaves ServeFault.NoMemory Begun is = absurd is
+reader_leaves ServeFault.Output Begun is = absurd is
+reader_leaves ServeFault.Capture Begun is = absurd is
+reader_leaves ServeFault.EndlessModem Begun is = absurd is
+
+pub modem_leaves : (fault : ServeFault) (piece : List ℕ) (Begun : Type 0) → IsOfModem fault → piece ≢ [] → IsLeftBy (Some fault) piece [] Begun
+modem_leaves ServeFault.NoMemory piece Begun is some = (some, refl)
+modem_leaves ServeFault.EndlessModem piece Begun is some = (some, refl)
+modem_leaves ServeFault.Input piece Begun is some = absurd is
+modem_leaves ServeFault.EndlessInput piece Begun is some = absurd is
+modem_leaves ServeFault.Output piece Begun is some = absurd is
+modem_leaves ServeFault.Capture piece Begun is some = absurd is
+
+-- neither is of the capture
+pub reader_no_capture : (fault : ServeFault) → IsOfReader fault → fault ≢ ServeFault.Capture
+reader_no_capture fault is same = subst IsOfReader same is
+
+pub modem_no_capture : (fault : ServeFault) → IsOfModem fault → fault ≢ ServeFault.Capture
+modem_no_capture fault is same = subst IsOfModem same is
+
+-- a result gives this fault on
+fault_given : {A : Type 0} (given : Result A ServeFault) (fault : ServeFault) → IsErrAnd given (λ f. f ≡ fault) → result_err given ≡ Some fault
+fault_given (Ok x) fault h = absurd h
+fault_given (Err f) fault h = ap Some h
+
+pub left_given : {X A : Type 0} (Holds : Setting → List ℕ → List ℕ → X → Type 0) (s : Setting) (given : Result A ServeFault) (fault : ServeFault) (input rest x y : Option (List ℕ))
+    → IsErrAnd given (λ f. f ≡ fault) → LeftSoFar Holds s (Some fault) input rest x y → LeftSoFar Holds s (result_err given) input rest x y
+left_given Holds s given fault input rest x y is left =
+    subst (λ (o : Option ServeFault). LeftSoFar Holds s o input rest x y) (sym (fault_given given fault is)) left
+
+pub given_no_capture : {A : Type 0} (given : Result A ServeFault) (fault : ServeFault) → IsErrAnd given (λ f. f ≡ fault) → fault ≢ ServeFault.Capture → IfErr given (λ f. f ≢ ServeFault.Capture)
+given_no_capture (Ok x) fault is other = tt
+given_no_capture (Err f) fault is other = λ same. other (sym is ∙ same)
+
 -- at a piece that isn't answered
-pub left_unanswered : {X : Type 0} (Holds : Setting → List ℕ → List ℕ → X → Type 0) (s : Setting) (a b c x y : Option (List ℕ)) (now : X) (piece : List ℕ)
-    → ServedSoFar Holds s a b x y now → Consumes b c piece → length piece ≤ 4096 → LeftSoFar Holds s a c x y
-left_unanswered Holds s a b c x y now piece so_far read few = record {
+pub left_unanswered : {X : Type 0} (Holds : Setting → List ℕ → List ℕ → X → Type 0) (s : Setting) (fault : Option ServeFault) (a b c x y : Option (List ℕ)) (now : X) (piece : List ℕ)
+    → ServedSoFar Holds s a b x y now → Consumes b c piece → length piece ≤ 4096 → ((Begun : Type 0) → IsLeftBy fault piece [] Begun) → LeftSoFar Holds s fault a c x y
+left_unanswered Holds s fault a b c x y now piece so_far read few begun = record {
   came = so_far.came;
   went = so_far.went;
   piece = piece;
@@ -35,14 +80,14 @@ left_unanswered Holds s a b c x y now piece so_far read few = record {
   read = consumed_more a b c so_far.came piece so_far.read read;
   few = few;
   stands = so_far.stands;
-  begun = inl refl;
+  begun = begun (NextBegins Holds s so_far.came so_far.went piece []);
   written = subst (λ (l : List ℕ). Appends x y l) (sym (append-nil so_far.went)) so_far.written;
 }
 
 -- at a piece whose answer isn't written whole
-pub left_unwritten : {X : Type 0} (Holds : Setting → List ℕ → List ℕ → X → Type 0) (s : Setting) (a b c x y z : Option (List ℕ)) (old new : X) (piece before out : List ℕ)
-    → ServedSoFar Holds s a b x y old → Consumes b c piece → length piece ≤ 4096 → StepsBy Holds s old new piece before out → before ≡ [] → IsBegun y z out → LeftSoFar Holds s a c x z
-left_unwritten Holds s a b c x y z old new piece before out so_far read few steps none begun =
+pub left_unwritten : {X : Type 0} (Holds : Setting → List ℕ → List ℕ → X → Type 0) (s : Setting) (fault : ServeFault) (a b c x y z : Option (List ℕ)) (old new : X) (piece before out : List ℕ)
+    → fault ≡ ServeFault.Output → ServedSoFar Holds s a b x y old → Consumes b c piece → length piece ≤ 4096 → piece ≢ [] → StepsBy Holds s old new piece before out → before ≡ [] → IsBegun y z out → LeftSoFar Holds s (Some fault) a c x z
+left_unwritten Holds s fault a b c x y z old new piece before out is so_far read few some steps none begun =
     let says : steps.more ≡ begun.part ++ begun.left = sym (steps.written ∙ ap (λ l. l ++ steps.more) none) ∙ begun.split in
     record {
       came = so_far.came;
@@ -53,23 +98,33 @@ left_unwritten Holds s a b c x y z old new piece before out so_far read few step
       read = consumed_more a b c so_far.came piece so_far.read read;
       few = few;
       stands = so_far.stands;
-      begun = inr (record {
-        left = begun.left;
-        next = new;
-        stands = subst (λ (l : List ℕ). Holds s (so_far.came ++ piece) (so_far.went ++ l) new) says (steps.stands so_far.came so_far.went so_far.stands);
-      });
+      begun =
+          subst (λ (f : ServeFault). IsLeftBy (Some f) piece begun.part (NextBegins Holds s so_far.came so_far.went piece begun.part)) (sym is) (
+            some,
+            record {
+              left = begun.left;
+              next = new;
+              stands = subst (λ (l : List ℕ). Holds s (so_far.came ++ piece) (so_far.went ++ l) new) says (steps.stands so_far.came so_far.went so_far.stands);
+            },
+          );
       written = appended_more x y z so_far.went begun.part so_far.written begun.appended;
     }
 
 -- ## From plain lines on
 
-begins_by : (s : Setting) (came went piece part : List ℕ) → (part ≡ []) ⊎ NextBegins Stands s came went piece part → (part ≡ []) ⊎ BeginsAnswer s came went piece part
-begins_by s came went piece part (inl none) = inl none
-begins_by s came went piece part (inr h) = inr (record { left = h.left; answers = answers_by s (came ++ piece) (went ++ (part ++ h.left)) h.next h.stands })
+begins_by : (s : Setting) (fault : Option ServeFault) (came went piece part : List ℕ) → IsLeftBy fault piece part (NextBegins Stands s came went piece part) → IsLeftBy fault piece part (BeginsAnswer s came went piece part)
+begins_by s None came went piece part h = h
+begins_by s (Some ServeFault.Input) came went piece part h = h
+begins_by s (Some ServeFault.EndlessInput) came went piece part h = h
+begins_by s (Some ServeFault.Capture) came went piece part h = h
+begins_by s (Some ServeFault.NoMemory) came went piece part h = h
+begins_by s (Some ServeFault.EndlessModem) came went piece part h = h
+begins_by s (Some ServeFault.Output) came went piece part h =
+    (h.0, record { left = h.1.left; answers = answers_by s (came ++ piece) (went ++ (part ++ h.1.left)) h.1.next h.1.stands })
 
-left_at : (s : Setting) (input rest x y : Option (List ℕ)) → LeftSoFar Stands s input rest x y → IsLeftAt s input rest x y
-left_at s None rest x y h = tt
-left_at s (Some all) rest x y h = record {
+left_at : (s : Setting) (fault : Option ServeFault) (input rest x y : Option (List ℕ)) → LeftSoFar Stands s fault input rest x y → IsLeftAt s fault input rest x y
+left_at s fault None rest x y h = tt
+left_at s fault (Some all) rest x y h = record {
   came = h.came;
   went = h.went;
   piece = h.piece;
@@ -77,13 +132,13 @@ left_at s (Some all) rest x y h = record {
   read = h.read;
   few = h.few;
   answers = answers_by s h.came h.went h.now h.stands;
-  begun = begins_by s h.came h.went h.piece h.part h.begun;
+  begun = begins_by s fault h.came h.went h.piece h.part h.begun;
   written = h.written;
 }
 
-pub left_client : (setup : Setup) (m : ModemState) (mode : Mode) (input rest x y : Option (List ℕ)) → IsAtLines setup m mode
-    → ((n : ModemState) → Stands (setting_by setup n) [] [] mode → LeftSoFar Stands (setting_by setup n) input rest x y)
-    → IsLeftAt (setting_by setup m) input rest x y
-left_client setup m mode input rest x y is leaves =
-    left_at (setting_by setup m) input rest x y
+pub left_client : (setup : Setup) (m : ModemState) (mode : Mode) (fault : Option ServeFault) (input rest x y : Option (List ℕ)) → IsAtLines setup m mode
+    → ((n : ModemState) → Stands (setting_by setup n) [] [] mode → LeftSoFar Stands (setting_by setup n) fault input rest x y)
+    → IsLeftAt (setting_by setup m) fault input rest x y
+left_client setup m mode fault input rest x y is leaves =
+    left_at (setting_by setup m) fault input rest x y
     (leaves m (subst (λ (o : Mode). Stands (setting_by setup m) [] [] o) (sym is) (begun_at (setting_by setup m) (plain_begun setup.n1.octets m) refl)))

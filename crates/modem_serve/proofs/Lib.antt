@@ -1,4 +1,5 @@
 pub mod Answering
+pub mod Ending
 pub mod Feeding
 pub mod Leaving
 pub mod Muxes

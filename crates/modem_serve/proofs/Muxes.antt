@@ -1,27 +1,26 @@
 -- What turns of a simulated modem at a line in memory come to.
-use Rattle.std.specs.Prelude.{◌≡◌, ◌≢◌, ℕ, ◌<◌, ◌==◌, ◌&&◌, ◌||◌, not, Bool, true, false, List, [], ◌∷◌, ◌++◌, length, refl}
+use Rattle.std.specs.Prelude.{◌≡◌, ◌≢◌, ℕ, ◌&&◌, ◌||◌, not, Bool, true, false, List, [], ◌++◌, refl}
 use Rattle.std.proofs.Common.{ap, sym, ◌∙◌, append_assoc, append-nil, subst}
 use Rattle.mux_station.specs.declared.role.Role.TheVariants.{Responder}
 use Rattle.mux_station.specs.declared.role.ChannelState.{ChannelState}
-use Rattle.mux_station.specs.declared.role.ChannelState.TheVariants.{Shut, Opening, Opened, Closing, Stopping}
+use Rattle.mux_station.specs.declared.role.ChannelState.TheVariants.{Opened}
 use Rattle.mux_station.specs.Stages.{as_shown}
 use Rattle.mux_station.specs.States.{State, IsShut, IsOpening, IsOpened, IsClosing, IsStopping, is_opened, state_of}
 use Rattle.mux_station.proofs.states.OpenedStates.{opened_is_open}
 use Rattle.modem_sim.specs.declared.sim.SimTurn.{SimTurn}
 use Rattle.modem_sim.specs.declared.sim.SimTurn.TheVariants.{Moved, Idle, Ended}
-use Rattle.modem_sim.specs.declared.state.ModemState.{ModemState}
 use Rattle.modem_sim.specs.Acts.{Act, End, is_open_at_modem, wire}
 use Rattle.modem_sim.specs.Cores.{IsLater}
 use Rattle.modem_sim.specs.Heard.{modem_after}
 use Rattle.modem_sim.specs.Histories.{FitsOctets, IsThrough}
 use Rattle.serial_line.specs.OtherSide.{OtherSide}
-use Rattle.modem_sim.specs.Sims.{FitsSim, IsOver, SimMachine, Sight, SimGoes, SimState, Simulates, has_ended, modem_of, state_shown}
+use Rattle.modem_sim.specs.Sims.{IsOver, Sight, SimGoes, SimState, has_ended, modem_of, state_shown}
 use Rattle.modem_sim.specs.Turns.{Exchange, GoesTurn, IsIdle, Means, TurnFrom, at_rest, has_done, is_over, line_is_full, stood_still}
 use Rattle.modem_sim.proofs.ends.OfferedPieces.{later_then}
 use Rattle.modem_sim.proofs.sims.SimPasts as pasts
 use Rattle.modem_serve.specs.HeldLine.{HeldState, at_first, held_side, sent_by, sight_held}
-use Rattle.modem_serve.specs.InMux.{ClosesDown, IsEndedBy, Rests, is_closed, is_closed_by, is_closed_down}
-use Rattle.modem_serve.specs.Muxes.{ComesToRest, FedTo, FitsHeld, FitsMux, GoesOnFed, IsFed, IsOverFed, RestsFrom}
+use Rattle.modem_serve.specs.InMux.{ClosesDown, Rests, is_closed, is_closed_by, is_closed_down}
+use Rattle.modem_serve.specs.Muxes.{ComesToRest, FedTo, FitsHeld, FitsMux, IsFed, RestsFrom}
 
 -- ## Turns
 

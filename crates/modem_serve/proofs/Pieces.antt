@@ -1,5 +1,5 @@
 -- Pieces up to a flag.
-use Rattle.std.specs.Prelude.{◌≡◌, ℕ, ◌+◌, ◌<◌, ◌==◌, ◌&&◌, nat_lt, not, Bool, true, false, List, [], ◌∷◌, length, take, refl, Option, Some, None}
+use Rattle.std.specs.Prelude.{◌≡◌, ℕ, ◌+◌, ◌==◌, ◌&&◌, nat_lt, not, Bool, true, false, List, [], ◌∷◌, length, take, refl, Some, None}
 use Rattle.std.specs.List.{position, position_or_len, prefix_len}
 use Rattle.std.proofs.Common.{ap, sym, ◌∙◌, arith, cond, suc, subst}
 use Rattle.std.proofs.lemmas.Bool.Decides.{nat_tests}

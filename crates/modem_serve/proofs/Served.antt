@@ -1,5 +1,5 @@
 -- What is said piece by piece is what is said to all.
-use Rattle.std.specs.Prelude.{◌≡◌, ℕ, List, [], ◌∷◌, ◌++◌, fold, Option, Some, None, IfSome, refl}
+use Rattle.std.specs.Prelude.{◌≡◌, ℕ, List, [], ◌∷◌, ◌++◌, fold, Option, Some, None, refl}
 use Rattle.std.proofs.Common.{ap, sym, ◌∙◌, append_assoc, append-nil, subst}
 use Rattle.std.proofs.lemmas.List.Sums.{fold-append}
 use Rattle.std.specs.Io.KnownBytes.{Appends, Consumes, IsAtEnd, Keeps}
@@ -8,7 +8,7 @@ use Rattle.modem_sim.specs.declared.state.ModemState.{ModemState}
 use Rattle.modem_serve.specs.declared.server.Mode.{Mode}
 use Rattle.modem_serve.specs.declared.server.Mode.TheVariants.{Lines, Mux}
 use Rattle.modem_serve.specs.Plain.{plain_begun}
-use Rattle.modem_serve.specs.Serving.{Answers, Begins, IsAnswered, Setting, WritesAnswers, at_first, at_lines, in_mux, plain_by_now}
+use Rattle.modem_serve.specs.Serving.{Answers, IsAnswered, Setting, WritesAnswers, at_first, at_lines, in_mux}
 use Rattle.modem_serve.specs.Standing.{AtLines, IsAtLines, ServedSoFar, ServedWhole, Stands, StepsBy, setting_by, unsaid, with_said}
 use Rattle.modem_serve.specs.declared.server.Setup.{Setup}
 

@@ -1,20 +1,19 @@
 -- What a modem for a client does with octets: at plain lines, and in the multiplexer.
-use Rattle.std.specs.Prelude.{◌≡◌, ℕ, Bool, true, false, List, [], ◌++◌, Option, Some, None, take, length, refl}
-use Rattle.std.proofs.Common.{ap, sym, ◌∙◌, append_assoc, append-nil, subst, drop}
+use Rattle.std.specs.Prelude.{◌≡◌, ℕ, ◌+◌, ◌<◌, Bool, true, false, List, [], ◌++◌, Option, Some, None, take, length, refl}
+use Rattle.std.proofs.Common.{arith, ap, sym, ◌∙◌, append_assoc, append-nil, subst, drop}
 use Rattle.std.proofs.lemmas.List.{take-append-drop}
 use Rattle.modem_sim.specs.declared.state.ModemState.{ModemState}
-use Rattle.modem_sim.specs.Acts.{Act}
 use Rattle.modem_sim.specs.Sims.{SimState, modem_of}
 use Rattle.modem_sim.specs.Heard.{modem_after}
 use Rattle.modem_serve.specs.declared.server.Mode.{Mode}
 use Rattle.modem_serve.specs.declared.server.Mode.TheVariants.{Lines, Mux}
 use Rattle.modem_serve.specs.declared.server.Setup.{Setup}
 use Rattle.modem_serve.specs.HeldLine.{HeldState}
-use Rattle.modem_serve.specs.InMux.{EndsMux, InMux, begins, goes_on, is_piece, mux_end}
-use Rattle.modem_serve.specs.Muxes.{FedTo, FitsMux, IsFed}
+use Rattle.modem_serve.specs.InMux.{EndsMux, begins, goes_on, is_piece, mux_end}
+use Rattle.modem_serve.specs.Muxes.{FitsMux, IsFed}
 use Rattle.modem_serve.specs.Plain.{Plain, plain_after, plain_begun}
-use Rattle.modem_serve.specs.Serving.{Begins, EntersAfter, Setting, again, plain_by_now}
-use Rattle.modem_serve.specs.Standing.{AtLines, AtMux, IsEntered, Stands, StepsOn, enters, setting_by, unsaid, with_said}
+use Rattle.modem_serve.specs.Serving.{Setting, again, plain_by_now}
+use Rattle.modem_serve.specs.Standing.{AtLines, AtMux, IsEntered, Stands, StepsOn, enters, once_entered, setting_by, turns_due, unsaid, with_said}
 use Rattle.modem_serve.proofs.Served.{after_none, both_served}
 
 -- ## At plain lines
@@ -83,6 +82,19 @@ entered setup s p n1 m _ piece before out steps is none same written (enters sim
       entered_at s came went p piece n1 sim is none
       (subst (λ (x : ModemState). FitsMux (mux_end n1 x s.steps) [] [] sim []) same (subst (λ x. FitsMux (mux_end n1 m x) [] [] sim []) (sym steps) fits)) at;
 }
+
+-- either the multiplexer begins that was entered before, or an octet is taken
+entered_by : (setup : Setup) (m : ModemState) (n1 : ℕ) (mode : Mode) → IsEntered setup m n1 mode → turns_due mode ≡ 0
+entered_by setup m n1 _ (enters sim fits) = refl
+
+some_taken : (before : Option ℕ) (n : ℕ) (octets : List ℕ) → (before ≡ None → 0 < length octets → 0 < n) → 0 < length octets → 0 < once_entered before + n
+some_taken None n octets some h = let one = some refl h in omega (arith, one)
+some_taken (Some n1) n octets some h = omega (arith)
+
+pub moves_on : (setup : Setup) (m : ModemState) (n1 : ℕ) (mode : Mode) (before : Option ℕ) (n : ℕ) (octets : List ℕ) → IsEntered setup m n1 mode
+    → (before ≡ None → 0 < length octets → 0 < n) → 0 < length octets → turns_due mode < once_entered before + n
+moves_on setup m n1 mode before n octets is some h =
+    subst (λ (due : ℕ). due < once_entered before + n) (sym (entered_by setup m n1 mode is)) (some_taken before n octets some h)
 
 -- ## In the multiplexer
 

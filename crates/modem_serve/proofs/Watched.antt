@@ -1,5 +1,5 @@
 -- What a watcher sees of what passes.
-use Rattle.std.specs.Prelude.{◌≡◌, ℕ, Bool, true, false, List, [], ◌∷◌, ◌++◌, Option, Some, None, IfSome, refl}
+use Rattle.std.specs.Prelude.{◌≡◌, ℕ, false, List, [], ◌∷◌, ◌++◌, Option, Some, None, IfSome, refl}
 use Rattle.std.proofs.Common.{ap, sym, ◌∙◌, append-nil, append_assoc, subst}
 use Rattle.std.specs.Io.KnownBytes.{Appends, Consumes, IsAtEnd}
 use Rattle.mux_capture.specs.declared.packet.Direction.{Direction}
@@ -10,8 +10,8 @@ use Rattle.modem_serve.specs.declared.server.Mode.{Mode}
 use Rattle.modem_serve.specs.declared.server.Setup.{Setup}
 use Rattle.modem_serve.specs.declared.serving.SimOptions.{SimOptions}
 use Rattle.modem_serve.specs.Plain.{plain_begun}
-use Rattle.modem_serve.specs.Serving.{Answers, Setting, setting_of}
-use Rattle.modem_serve.specs.Standing.{IsAtLines, ServedWhole, Stands, StepsBy, setting_by}
+use Rattle.modem_serve.specs.Serving.{Setting, setting_of}
+use Rattle.modem_serve.specs.Standing.{IsAtLines, Stands, StepsBy, setting_by}
 use Rattle.modem_serve.specs.Watching.{CapturesAnswers, Exchanged, Exchanges, IsCaptured, IsWatched, Seen, SeesPassed, WatchedAnswers, WatchedSoFar, WatchedWhole, begins, goes_on, nothing, nothing_yet, seen, turn}
 use Rattle.modem_serve.proofs.Served.{answers_by, begun_at, served_end, served_more, served_none}
 

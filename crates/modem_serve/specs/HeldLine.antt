@@ -1,5 +1,5 @@
 -- The line of a modem whose client hands octets in and takes octets out.
-use Rattle.std.specs.Prelude.{◌≡◌, ℕ, List, [], ◌++◌}
+use Rattle.std.specs.Prelude.{ℕ, List, [], ◌++◌}
 use Rattle.serial_line.specs.OtherSide.{OtherSide}
 use Rattle.modem_sim.specs.Sims.{LineAt, Sight, sight}
 

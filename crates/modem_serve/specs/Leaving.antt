@@ -1,17 +1,54 @@
--- What stands on the output where a client is left at a fault.
-use Rattle.std.specs.Prelude.{◌≡◌, ◌≤◌, ◌⊎◌, ℕ, List, [], ◌++◌, length, Option, Some, IfSome}
+-- Why and how a client is left: what stands on the output where a fault ends that it is served, and what is said of the fault.
+use Rattle.std.specs.Prelude.{◌≡◌, ◌≢◌, ◌≤◌, ℕ, List, [], ◌++◌, length, ⊤, Option, Some, None, IfSome}
 use Rattle.std.specs.Io.KnownBytes.{Appends, Consumes}
+use Rattle.modem_texts.specs.Writing.{IsBegun}
+use Rattle.modem_serve.specs.declared.fault.BadOption.{BadOption}
+use Rattle.modem_serve.specs.declared.fault.ServeFault.{ServeFault}
 use Rattle.modem_serve.specs.declared.serving.SimOptions.{SimOptions}
-use Rattle.modem_serve.specs.Serving.{Answers, Setting, setting_of}
+use Rattle.modem_serve.specs.Saying.{fault_line, option_line}
+use Rattle.modem_serve.specs.Serving.{Answers, IsBadBy, Setting, setting_of}
+
+-- ## Faults
+
+-- of the reader: it failed, or gave no end
+abbrev pub IsOfReader : ServeFault → Type 0
+IsOfReader ServeFault.Input = ⊤
+IsOfReader ServeFault.EndlessInput = ⊤
+IsOfReader ServeFault.NoMemory = ⊥
+IsOfReader ServeFault.Output = ⊥
+IsOfReader ServeFault.Capture = ⊥
+IsOfReader ServeFault.EndlessModem = ⊥
+
+-- of what answers: memory was refused, or the simulated modem goes on without an end
+abbrev pub IsOfModem : ServeFault → Type 0
+IsOfModem ServeFault.NoMemory = ⊤
+IsOfModem ServeFault.EndlessModem = ⊤
+IsOfModem ServeFault.Input = ⊥
+IsOfModem ServeFault.EndlessInput = ⊥
+IsOfModem ServeFault.Output = ⊥
+IsOfModem ServeFault.Capture = ⊥
+
+-- How the last piece is left that was read. Where no fault came, or one of the reader or of the capture, there is none. Where what
+-- answers failed, octets were read, and nothing was written to them; where the writer failed, what answers them is begun.
+abbrev pub IsLeftBy : Option ServeFault → (piece part : List ℕ) → (Begun : Type 0) → Type 0
+IsLeftBy None piece part Begun = (piece ≡ []) × (part ≡ [])
+IsLeftBy (Some ServeFault.Input) piece part Begun = (piece ≡ []) × (part ≡ [])
+IsLeftBy (Some ServeFault.EndlessInput) piece part Begun = (piece ≡ []) × (part ≡ [])
+IsLeftBy (Some ServeFault.Capture) piece part Begun = (piece ≡ []) × (part ≡ [])
+IsLeftBy (Some ServeFault.NoMemory) piece part Begun = (piece ≢ []) × (part ≡ [])
+IsLeftBy (Some ServeFault.EndlessModem) piece part Begun = (piece ≢ []) × (part ≡ [])
+IsLeftBy (Some ServeFault.Output) piece part Begun = (piece ≢ []) × Begun
+
+-- ## What stands on the output
 
 -- with this and some more all that came would be answered
 pub record BeginsAnswer (s : Setting) (came went piece part : List ℕ) : Type 0 where
   pub left : List ℕ
   pub answers : Answers s (came ++ piece) (went ++ (part ++ left))
 
--- Of all that the reader had, some was read. All of that but the last piece, of 4096 octets at most, was answered whole; to that
--- piece nothing was written, or a beginning of what answers it; and nothing else was written.
-pub record LeavesAnswers (s : Setting) (rest before after : Option (List ℕ)) (all : List ℕ) : Type 0 where
+-- Of all that the reader had, some was read. All of that but the last piece, of 4096 octets at most, was answered whole; of what
+-- answers that piece, what the fault says was written; and nothing else was written.
+pub record LeavesAnswers (s : Setting) (fault : Option ServeFault) (rest before after : Option (List ℕ)) (all : List ℕ) : Type 0 where
   pub came : List ℕ
   pub went : List ℕ
   pub piece : List ℕ
@@ -19,15 +56,33 @@ pub record LeavesAnswers (s : Setting) (rest before after : Option (List ℕ)) (
   pub read : Consumes (Some all) rest (came ++ piece)
   pub few : length piece ≤ 4096
   pub answers : Answers s came went
-  pub begun : (part ≡ []) ⊎ BeginsAnswer s came went piece part
+  pub begun : IsLeftBy fault piece part (BeginsAnswer s came went piece part)
   pub written : Appends before after (went ++ part)
 
 -- of all that the reader had, where that is known
-abbrev pub IsLeftAt : Setting → (input rest before after : Option (List ℕ)) → Type 0
-IsLeftAt s input rest before after = IfSome input (LeavesAnswers s rest before after)
+abbrev pub IsLeftAt : Setting → Option ServeFault → (input rest before after : Option (List ℕ)) → Type 0
+IsLeftAt s fault input rest before after = IfSome input (LeavesAnswers s fault rest before after)
 
-abbrev pub IsServedInPart : SimOptions → (input rest before after : Option (List ℕ)) → Type 0
-IsServedInPart options input rest before after = IsLeftAt (setting_of options) input rest before after
+-- by some fault
+pub record IsServedInPart (options : SimOptions) (input rest before after : Option (List ℕ)) : Type 0 where
+  pub fault : ServeFault
+  pub left : IsLeftAt (setting_of options) (Some fault) input rest before after
+
+-- ## What is said
+
+-- One fault ended it: it is said on a line, as far as that is taken, nothing else is, and so the client is left. Of the capture it is
+-- where that holds which is given.
+pub record EndsFor (OfCapture : Type 0) (options : SimOptions) (input rest before after told_before told_after : Option (List ℕ)) : Type 0 where
+  pub fault : ServeFault
+  pub said : IsBegun told_before told_after (fault_line fault)
+  pub left : IsLeftAt (setting_of options) (Some fault) input rest before after
+  pub capture : fault ≡ ServeFault.Capture → OfCapture
+
+-- an option is bad: that is said on a line, as far as that is taken, and nothing else
+pub record SaysBad (options : SimOptions) (told_before told_after : Option (List ℕ)) : Type 0 where
+  pub why : BadOption
+  pub bad : IsBadBy options why
+  pub said : IsBegun told_before told_after (option_line why)
 
 -- ## By whatever answers
 
@@ -38,7 +93,7 @@ pub record NextBegins {X : Type 0} (Holds : Setting → (came went : List ℕ) �
   pub stands : Holds s (came ++ piece) (went ++ (part ++ left)) next
 
 -- some was read, and answered as far as that
-pub record LeftSoFar {X : Type 0} (Holds : Setting → (came went : List ℕ) → X → Type 0) (s : Setting) (input rest before after : Option (List ℕ)) : Type 0 where
+pub record LeftSoFar {X : Type 0} (Holds : Setting → (came went : List ℕ) → X → Type 0) (s : Setting) (fault : Option ServeFault) (input rest before after : Option (List ℕ)) : Type 0 where
   pub came : List ℕ
   pub went : List ℕ
   pub piece : List ℕ
@@ -47,5 +102,5 @@ pub record LeftSoFar {X : Type 0} (Holds : Setting → (came went : List ℕ) �
   pub read : Consumes input rest (came ++ piece)
   pub few : length piece ≤ 4096
   pub stands : Holds s came went now
-  pub begun : (part ≡ []) ⊎ NextBegins Holds s came went piece part
+  pub begun : IsLeftBy fault piece part (NextBegins Holds s came went piece part)
   pub written : Appends before after (went ++ part)

@@ -4,6 +4,7 @@ pub mod Leaving
 pub mod Muxes
 pub mod Plain
 pub mod Requests
+pub mod Saying
 pub mod Serving
 pub mod Standing
 pub mod Watching

@@ -1,13 +1,12 @@
 -- A simulated modem at a line in memory, between two pieces that it is handed.
 use Rattle.std.specs.Prelude.{◌≡◌, ℕ, Bool, true, false, List, [], ◌++◌}
-use Rattle.modem_sim.specs.declared.state.ModemState.{ModemState}
 use Rattle.modem_sim.specs.Acts.{Act, End}
 use Rattle.modem_sim.specs.Cores.{IsLater}
 use Rattle.modem_sim.specs.Heard.{modem_after}
 use Rattle.modem_sim.specs.Histories.{IsThrough, AllIsOut}
-use Rattle.modem_sim.specs.Sims.{FitsSim, SimState, has_ended, modem_of}
+use Rattle.modem_sim.specs.Sims.{FitsSim, SimState, modem_of}
 use Rattle.modem_sim.specs.Turns.{NoneCanBeDone}
-use Rattle.modem_serve.specs.HeldLine.{HeldState, at_first, sent_by, held_side}
+use Rattle.modem_serve.specs.HeldLine.{HeldState, at_first, sent_by}
 use Rattle.modem_serve.specs.InMux.{Rests, IsEndedBy, is_closed_by}
 
 -- it fits a past since its line was new

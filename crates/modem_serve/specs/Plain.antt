@@ -4,9 +4,12 @@ use Rattle.at_text.specs.Lines.{kept_run, lines}
 use Rattle.modem_sim.specs.declared.state.ModemState.{ModemState}
 use Rattle.modem_sim.specs.Pieces.{framed, pieces_octets, reply}
 use Rattle.modem_sim.specs.Steps.{echoes, step}
-use Rattle.modem_serve.specs.declared.requests.MuxRequest.{MuxRequest}
-use Rattle.modem_serve.specs.declared.requests.MuxRequest.TheVariants.{Ranges, Enter}
-use Rattle.modem_serve.specs.Requests.{mux_request}
+use Rattle.mux_frame.specs.declared.n1.N1.{N1}
+use Rattle.modem_serve.specs.Requests.{Asked, Ranges, Enter, mux_request}
+
+-- N1 as a number
+abbrev pub octets_of : N1 → ℕ
+octets_of n1 = n1.octets
 
 -- N1 where a line doesn't name it; the line that hasn't ended; the modem; what it has said; the N1 of the multiplexer once a line
 -- has entered it, and the octets behind that line, which are the multiplexer's
@@ -32,26 +35,26 @@ abbrev pub ranges : List ℕ
 ranges = codes "+CMUX: (0),(0),(1-8),(31-32767),(1-255),(0-100),(2-255),(1-255)"
 
 -- what is said to a line that asks this of the multiplexer
-unfoldable pub said_by : MuxRequest → Bool → List ℕ → List ℕ
+unfoldable pub said_by : Asked → Bool → List ℕ → List ℕ
 said_by Ranges echo line = repeated_as echo line ++ framed ranges ++ framed (codes "OK")
 said_by (Enter n1) echo line = repeated_as echo line ++ framed (codes "OK")
 
 -- what is said to a line
-unfoldable pub said_to : Option MuxRequest → ModemState → List ℕ → List ℕ
+unfoldable pub said_to : Option Asked → ModemState → List ℕ → List ℕ
 said_to None m line = pieces_octets (reply false m line)
 said_to (Some request) m line = said_by request (echoes false m) line
 
 -- the modem after it
-abbrev pub modem_by : Option MuxRequest → ModemState → List ℕ → ModemState
+abbrev pub modem_by : Option Asked → ModemState → List ℕ → ModemState
 modem_by None m line = (step m line).state
 modem_by (Some request) m line = m
 
 -- the N1 of the multiplexer, where it enters that
-abbrev pub n1_by : MuxRequest → Option ℕ
+abbrev pub n1_by : Asked → Option ℕ
 n1_by Ranges = None
 n1_by (Enter n1) = Some n1
 
-abbrev pub entered_by : Option MuxRequest → Option ℕ
+abbrev pub entered_by : Option Asked → Option ℕ
 entered_by None = None
 entered_by (Some request) = n1_by request
 

@@ -5,7 +5,16 @@ use Rattle.at_text.specs.Octets.{is_comma, is_digit}
 use Rattle.modem_sim.specs.CommandLines.{commands_in}
 use Rattle.modem_sim.specs.Reading.{lowered}
 use Rattle.modem_serve.specs.declared.requests.MuxRequest.{MuxRequest}
-use Rattle.modem_serve.specs.declared.requests.MuxRequest.TheVariants.{Ranges, Enter}
+use Rattle.modem_serve.specs.declared.requests.MuxRequest.TheVariants as code
+
+-- what is asked: the ranges of the parameters; or the multiplexer, with this N1
+pub data Asked : Type 0 where
+  Ranges : Asked
+  Enter : ℕ → Asked
+
+abbrev pub asked_of : MuxRequest → Asked
+asked_of code.Ranges = Ranges
+asked_of (code.Enter n1) = Enter n1.octets
 
 -- a parameter is left out or between these
 abbrev pub is_between : ℕ → ℕ → Option ℕ → Bool
@@ -38,10 +47,10 @@ pub record Read : Type 0 where
   pub n1 : ℕ
   pub good : Bool
 
--- N1 is the fourth
+-- N1 is the fourth, where that is named and in its range
 abbrev pub n1_of : Option ℕ → ℕ → ℕ
 n1_of None n1 = n1
-n1_of (Some n) n1 = if nat_le n 32767 then n else n1
+n1_of (Some n) n1 = if is_between 31 32767 (Some n) then n else n1
 
 abbrev pub parameter_ended : Read → Read
 parameter_ended r = record {
@@ -71,24 +80,24 @@ parameter_octet r c =
 abbrev pub none_read : ℕ → Read
 none_read n1 = record { place = 0; digits = None; n1 = n1; good = true }
 
-abbrev pub entered_with : Read → Option MuxRequest
+abbrev pub entered_with : Read → Option Asked
 entered_with r = if r.good then Some (Enter r.n1) else None
 
 -- parameters that enter the basic option
-unfoldable pub entering : ℕ → List ℕ → Option MuxRequest
+unfoldable pub entering : ℕ → List ℕ → Option Asked
 entering n1 text = entered_with (parameter_ended (fold parameter_octet (none_read n1) text))
 
 -- what one command asks, its letters in either case
-abbrev pub request_in : ℕ → List ℕ → Option MuxRequest
+abbrev pub request_in : ℕ → List ℕ → Option Asked
 request_in n1 command =
     if bytes_eq (lowered command) (codes "at+cmux=?") then Some Ranges
     else if bytes_eq (lowered (take 8 command)) (codes "at+cmux=") then entering n1 (drop 8 command)
     else None
 
 -- a line asks it whose only command does
-abbrev pub asked_by : ℕ → Option (List (List ℕ)) → Option MuxRequest
+abbrev pub asked_by : ℕ → Option (List (List ℕ)) → Option Asked
 asked_by n1 (Some (command ∷ [])) = request_in n1 command
 asked_by n1 _ = None
 
-abbrev pub mux_request : ℕ → List ℕ → Option MuxRequest
+abbrev pub mux_request : ℕ → List ℕ → Option Asked
 mux_request n1 line = asked_by n1 (commands_in line)

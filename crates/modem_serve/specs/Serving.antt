@@ -1,5 +1,5 @@
 -- What a modem for a client answers, over a reader and a writer: plain lines and multiplexers in turn.
-use Rattle.std.specs.Prelude.{◌≡◌, ℕ, ◌<◌, ◌⊎◌, not, Bool, true, false, List, [], ◌++◌, Option, Some, None, IfSome}
+use Rattle.std.specs.Prelude.{◌≡◌, ℕ, ◌<◌, ◌≤◌, ◌⊎◌, not, Bool, true, false, List, [], ◌++◌, Option, Some, None, IfSome}
 use Rattle.std.specs.Io.KnownBytes.{Appends}
 use Rattle.at_cmds.specs.Forms.{is_pin}
 use Rattle.modem_sim.specs.declared.script.Step.{Step}
@@ -7,6 +7,7 @@ use Rattle.modem_sim.specs.declared.state.ModemState.{ModemState}
 use Rattle.modem_sim.specs.Acts.{Act}
 use Rattle.modem_sim.specs.Heard.{modem_after}
 use Rattle.modem_sim.specs.Steps.{started_with_words}
+use Rattle.modem_serve.specs.declared.fault.BadOption.{BadOption}
 use Rattle.modem_serve.specs.declared.serving.SimOptions.{SimOptions}
 use Rattle.modem_serve.specs.InMux.{EndsMux, InMux, mux_end}
 use Rattle.modem_serve.specs.Plain.{Plain, plain_after, plain_begun}
@@ -74,6 +75,11 @@ IsServed options input before after = IsAnswered (setting_of options) input befo
 abbrev pub has_bad_pin : Option (List ℕ) → Bool
 has_bad_pin None = false
 has_bad_pin (Some pin) = not (is_pin pin)
+
+-- this option is bad: N1 isn't 31 to 32767; or it is, and the PIN isn't 4 to 8 digits
+abbrev pub IsBadBy : SimOptions → BadOption → Type 0
+IsBadBy options BadOption.N1 = (options.n1 < 31) ⊎ (32767 < options.n1)
+IsBadBy options BadOption.Pin = (31 ≤ options.n1) × (options.n1 ≤ 32767) × (has_bad_pin options.pin ≡ true)
 
 -- N1 isn't 31 to 32767, or the PIN isn't 4 to 8 digits
 abbrev pub HasBadOption : SimOptions → Type 0

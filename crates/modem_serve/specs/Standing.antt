@@ -1,5 +1,5 @@
 -- How a modem for a client stands after octets that came.
-use Rattle.std.specs.Prelude.{◌≡◌, ℕ, List, [], ◌++◌, Option, None}
+use Rattle.std.specs.Prelude.{◌≡◌, ℕ, List, [], ◌++◌, Option, Some, None}
 use Rattle.std.specs.Io.KnownBytes.{Appends, Consumes, IsAtEnd}
 use Rattle.modem_sim.specs.declared.state.ModemState.{ModemState}
 use Rattle.modem_sim.specs.Acts.{Act}
@@ -66,6 +66,15 @@ StepsOn s old new octets before out = StepsBy Stands s old new octets before out
 -- the setting of a modem that was handed in so
 abbrev pub setting_by : Setup → ModemState → Setting
 setting_by setup m = record { n1 = setup.n1.octets; steps = setup.steps; modem = m }
+
+-- how often no octet is taken before the next: once where a line has entered the multiplexer, which begins then
+abbrev pub once_entered : Option ℕ → ℕ
+once_entered None = 0
+once_entered (Some n1) = 1
+
+abbrev pub turns_due : Mode → ℕ
+turns_due (Lines p) = once_entered p.entered
+turns_due (Mux sim) = 0
 
 -- the multiplexer begins
 pub data IsEntered (setup : Setup) (m : ModemState) (n1 : ℕ) : Mode → Type 0 where

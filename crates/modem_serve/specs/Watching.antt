@@ -1,6 +1,5 @@
 -- What passes between a client and its modem, in its order.
 use Rattle.std.specs.Prelude.{◌≡◌, ℕ, false, List, [], ◌∷◌, ◌++◌, Option, IfSome}
-use Rattle.std.specs.List.{flat_map}
 use Rattle.std.specs.Io.KnownBytes.{Appends}
 use Rattle.mux_capture.specs.declared.packet.Direction.{Direction}
 use Rattle.mux_capture.specs.declared.packet.Direction.TheVariants.{ToModem, FromModem}

@@ -1,18 +1,19 @@
 //! A simulated modem in the multiplexer, whose octets are handed in and out.
-ghost use Rattle.std.specs.Prelude.{◌≡◌, ◌<◌, ◌==◌, ◌&&◌, ◌||◌, [], not, true, false, length, take, IfOk, List};
+ghost use Rattle.std.specs.Prelude.{◌≡◌, ◌<◌, ◌==◌, ◌&&◌, ◌||◌, [], not, true, false, length, take, IfErr, IfOk, List};
 ghost use Rattle.std.specs.List.{position};
 ghost use Rattle.modem_sim.specs.Acts.{Act, End, is_open_at_modem};
 ghost use Rattle.modem_sim.specs.Sims.{SimGoes, has_ended};
 ghost use Rattle.modem_serve.specs.HeldLine.{at_first, held_side, sent_by};
 ghost use Rattle.modem_serve.specs.InMux.{is_piece, mux_end};
+ghost use Rattle.modem_serve.specs.Leaving.{IsOfModem};
 ghost use Rattle.modem_serve.specs.Muxes.{ComesToRest, FitsHeld, FitsMux, IsFed};
 
 use crate::fault::ServeFault;
 use crate::held_line::HeldLine;
 use modem_sim::{Modem, Script, Sim, SimTurn};
-use mux_frame::Dlci;
+use mux_frame::{Dlci, N1};
 use mux_station::ChannelState;
-use std::alloc::Global;
+use std::alloc::{AllocError, Global};
 
 /// A frame begins and ends with it (27.010, 5.2.6.1).
 const FLAG: u8 = 0xF9;
@@ -37,18 +38,18 @@ pub(crate) fn piece_of(octets: &[u8]) -> &[u8]
     }
 }
 
-/// A simulated modem to which nothing has happened yet, at a line in memory. N1 is 31 to 32767.
+/// A simulated modem to which nothing has happened yet, at a line in memory.
 pub(crate) fn begun(
     alloc: Global,
     modem: Modem,
     script: Script,
-    n1: u16,
-) -> Result<Sim<HeldLine>, ServeFault>
-    ensures { IfOk result (λ s. script.echo ≡ false → FitsMux (mux_end n1 modem script.steps) [] [] s []) }
+    n1: N1,
+) -> Result<Sim<HeldLine>, AllocError>
+    ensures { IfOk result (λ s. script.echo ≡ false → FitsMux (mux_end n1.octets modem script.steps) [] [] s []) }
 {
-    match Sim::new(alloc, HeldLine::new(alloc), modem, script, n1) {
+    match Sim::new(alloc, HeldLine::new(alloc), modem, script, n1.octets) {
         Ok(sim) => Ok(sim),
-        Err(_) => Err(ServeFault::NoMemory),
+        Err(_) => Err(AllocError),
     }
 }
 
@@ -64,7 +65,7 @@ enum Turned {
 }
 
 /// One turn.
-fn turn(sim: &mut Sim<HeldLine>) -> Result<Turned, ServeFault>
+fn turn(sim: &mut Sim<HeldLine>) -> Result<Turned, AllocError>
     ensures goes { SimGoes (λ l. l.received) sent_by sim.old sim.new }
     ensures side { held_side sim.new.line ≡ held_side sim.old.line }
     ensures rests { IfOk result (λ turned. turned ≡ Turned.Rests → ComesToRest sim.old sim.new) }
@@ -75,14 +76,14 @@ fn turn(sim: &mut Sim<HeldLine>) -> Result<Turned, ServeFault>
         Ok(SimTurn::Ended) => Ok(Turned::Ends),
         Ok(SimTurn::Idle) => {
             if !sim.unwritten().is_empty() {
-                Err(ServeFault::NoMemory)
+                Err(AllocError)
             } else if sim.line().is_read() {
                 Ok(Turned::Rests)
             } else {
                 Ok(Turned::Moves)
             }
         }
-        Err(_) => Err(ServeFault::NoMemory),
+        Err(_) => Err(AllocError),
     }
 }
 
@@ -92,6 +93,7 @@ fn settle(sim: &mut Sim<HeldLine>) -> Result<bool, ServeFault>
     ensures side { held_side sim.new.line ≡ held_side sim.old.line }
     ensures rests { IfOk result (λ ended. ended ≡ false → ComesToRest sim.old sim.new) }
     ensures ends { IfOk result (λ ended. ended ≡ true → has_ended sim.new ≡ true) }
+    ensures fault { IfErr result IsOfModem }
 {
     for _ in 0..u64::MAX {
         match turn(sim)? {
@@ -100,7 +102,7 @@ fn settle(sim: &mut Sim<HeldLine>) -> Result<bool, ServeFault>
             Turned::Ends => return Ok(true),
         }
     }
-    Err(ServeFault::GaveUp)
+    Err(ServeFault::EndlessModem)
 }
 
 /// Whether 0 is open at its end.
@@ -127,7 +129,8 @@ pub(crate) fn feed(
     piece: &[u8],
     out: &mut Vec<u8>,
 ) -> Result<bool, ServeFault>
-    ensures { IfOk result (λ over. IsFed sim.old sim.new piece.now out.old.items out.new.items over) }
+    ensures fed { IfOk result (λ over. IsFed sim.old sim.new piece.now out.old.items out.new.items over) }
+    ensures fault { IfErr result IsOfModem }
 {
     let was_up = is_up(sim);
     sim.line_mut().put(piece)?;

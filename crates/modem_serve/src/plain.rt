@@ -1,14 +1,14 @@
 //! A modem at plain command lines.
-ghost use Rattle.std.specs.Prelude.{◌≡◌, ◌≤◌, ◌++◌, ◌∷◌, [], None, length, take, IfOk, OnOk};
+ghost use Rattle.std.specs.Prelude.{◌≡◌, ◌≤◌, ◌<◌, ◌++◌, ◌∷◌, [], None, length, take, option_map, IfOk, OnOk};
 ghost use Rattle.at_text.specs.Lines.{kept_run, lines};
-ghost use Rattle.modem_serve.specs.Plain.{entered_by, entered_by_all, modem_by, modem_by_all, plain_after, plain_begun, n1_by, plain_octet, repeated_as, said_by, said_to, said_to_all};
+ghost use Rattle.modem_serve.specs.Plain.{entered_by, entered_by_all, modem_by, modem_by_all, plain_after, plain_begun, n1_by, octets_of, plain_octet, repeated_as, said_by, said_to, said_to_all};
 ghost use Rattle.modem_sim.specs.Pieces.{framed};
-ghost use Rattle.modem_serve.specs.Requests.{mux_request};
+ghost use Rattle.modem_serve.specs.Requests.{asked_of, mux_request};
 
-use crate::fault::ServeFault;
 use crate::requests::{MuxRequest, mux_request};
 use at_text::LineReader;
 use modem_sim::{Modem, reply};
+use mux_frame::N1;
 use std::alloc::{AllocError, Global};
 use std::marker::Model;
 
@@ -20,25 +20,25 @@ const RANGES: &[u8] = b"+CMUX: (0),(0),(1-8),(31-32767),(1-255),(0-100),(2-255),
 #[derive(Drop)]
 pub struct PlainMode {
     alloc: Global,
-    n1: u16,
+    n1: N1,
     reader: LineReader,
     modem: Modem,
     said: Vec<u8>,
-    entered: Option<u16>,
+    entered: Option<N1>,
 }
 
 impl Model for PlainMode {
-    ghost use Rattle.std.specs.Prelude.{[]};
-    ghost use Rattle.modem_serve.specs.Plain.{Plain};
+    ghost use Rattle.std.specs.Prelude.{[], option_map};
+    ghost use Rattle.modem_serve.specs.Plain.{Plain, octets_of};
 
     ghost Value = { Plain };
 
     ghost view = { λ p. record {
-      n1 = p.n1;
+      n1 = p.n1.octets;
       run = p.reader;
       modem = p.modem;
       said = p.said.items;
-      entered = p.entered;
+      entered = option_map octets_of p.entered;
       behind = [];
     } };
 }
@@ -70,9 +70,9 @@ fn answer_request(
     echo: bool,
     line: &[u8],
     out: &mut Vec<u8>,
-) -> Result<Option<u16>, AllocError>
-    ensures said { OnOk result (out.new.items ≡ out.old.items ++ said_by request echo line.now) }
-    ensures entered { IfOk result (λ entered. entered ≡ n1_by request) }
+) -> Result<Option<N1>, AllocError>
+    ensures said { OnOk result (out.new.items ≡ out.old.items ++ said_by (asked_of request) echo line.now) }
+    ensures entered { IfOk result (λ entered. option_map octets_of entered ≡ n1_by (asked_of request)) }
 {
     push_repeated(echo, line, out)?;
     match request {
@@ -92,21 +92,22 @@ fn answer_request(
 #[tactic(auto, using(crate::proofs::Answering::said_none, crate::proofs::Answering::said_some))]
 fn answer(
     alloc: Global,
-    n1: u16,
+    n1: N1,
     modem: &mut Modem,
     line: &[u8],
     out: &mut Vec<u8>,
-) -> Result<Option<u16>, ServeFault>
+) -> Result<Option<N1>, AllocError>
     ensures said { OnOk result
-        (out.new.items ≡ out.old.items ++ said_to (mux_request n1 line.now) modem.old line.now) }
-    ensures modem { OnOk result (modem.new ≡ modem_by (mux_request n1 line.now) modem.old line.now) }
-    ensures entered { IfOk result (λ entered. entered ≡ entered_by (mux_request n1 line.now)) }
+        (out.new.items ≡ out.old.items ++ said_to (mux_request n1.octets line.now) modem.old line.now) }
+    ensures modem { OnOk result (modem.new ≡ modem_by (mux_request n1.octets line.now) modem.old line.now) }
+    ensures entered { IfOk result
+        (λ entered. option_map octets_of entered ≡ entered_by (mux_request n1.octets line.now)) }
 {
     match mux_request(alloc, n1, line)? {
         Some(request) => Ok(answer_request(request, modem.echoes(false), line, out)?),
         None => match reply(modem, false, line, out) {
             Ok(()) => Ok(None),
-            Err(_) => Err(ServeFault::NoMemory),
+            Err(_) => Err(AllocError),
         },
     }
 }
@@ -114,18 +115,18 @@ fn answer(
 /// Reads an octet, and answers the line that it ends, if it ends one.
 fn read_octet(
     alloc: Global,
-    n1: u16,
+    n1: N1,
     reader: &mut LineReader,
     modem: &mut Modem,
     octet: u8,
     out: &mut Vec<u8>,
-) -> Result<Option<u16>, ServeFault>
+) -> Result<Option<N1>, AllocError>
     ensures run { OnOk result (reader.new ≡ kept_run (reader.old ++ octet ∷ [])) }
     ensures said { OnOk result
-        (out.new.items ≡ out.old.items ++ said_to_all n1 modem.old (lines (reader.old ++ octet ∷ []))) }
-    ensures modem { OnOk result (modem.new ≡ modem_by_all n1 modem.old (lines (reader.old ++ octet ∷ []))) }
+        (out.new.items ≡ out.old.items ++ said_to_all n1.octets modem.old (lines (reader.old ++ octet ∷ []))) }
+    ensures modem { OnOk result (modem.new ≡ modem_by_all n1.octets modem.old (lines (reader.old ++ octet ∷ []))) }
     ensures entered { IfOk result
-        (λ entered. entered ≡ entered_by_all n1 (lines (reader.old ++ octet ∷ []))) }
+        (λ entered. option_map octets_of entered ≡ entered_by_all n1.octets (lines (reader.old ++ octet ∷ []))) }
 {
     let Some(line) = reader.push(octet) else {
         return Ok(None);
@@ -135,8 +136,8 @@ fn read_octet(
 
 impl PlainMode {
     /// Plain lines begin. N1 is that of a multiplexer that is entered without naming it.
-    pub fn new(alloc: Global, n1: u16, modem: Modem) -> PlainMode
-        ensures { result ≡ plain_begun n1 modem }
+    pub fn new(alloc: Global, n1: N1, modem: Modem) -> PlainMode
+        ensures { result ≡ plain_begun n1.octets modem }
     {
         PlainMode {
             alloc,
@@ -149,7 +150,7 @@ impl PlainMode {
     }
 
     /// Takes an octet. After an error nothing is said of it.
-    fn push(&mut self, octet: u8) -> Result<(), ServeFault>
+    fn push(&mut self, octet: u8) -> Result<(), AllocError>
         requires { self.old.entered ≡ None }
         ensures { OnOk result (self.new ≡ plain_octet self.old octet) }
     {
@@ -165,12 +166,13 @@ impl PlainMode {
     }
 
     /// Takes octets as they come, up to the end of a line that enters the multiplexer, and says how many: answers the lines that end
-    /// in them, in order. After an error, which is NoMemory, nothing is said of it.
+    /// in them, in order. After an error nothing is said of it.
     #[tactic(auto, using(crate::proofs::Feeding::fed_none, crate::proofs::Feeding::fed_more, crate::proofs::Feeding::fed_all))]
-    pub fn feed(&mut self, octets: &[u8]) -> Result<usize, ServeFault>
+    pub fn feed(&mut self, octets: &[u8]) -> Result<usize, AllocError>
         ensures bound { IfOk result (λ n. n ≤ length octets.now) }
         ensures taken { IfOk result (λ n. self.new ≡ plain_after self.old (take n octets.now)) }
         ensures all { IfOk result (λ n. self.new.entered ≡ None → n ≡ length octets.now) }
+        ensures some { IfOk result (λ n. self.old.entered ≡ None → 0 < length octets.now → 0 < n) }
     {
         for (count, octet) in octets.iter().enumerate() {
             if self.entered.is_some() {
@@ -196,8 +198,8 @@ impl PlainMode {
     }
 
     /// The N1 of the multiplexer, once a line has entered it; nothing behind that line was taken.
-    pub fn entered(&self) -> Option<u16>
-        ensures entered { result ≡ self.now.entered }
+    pub fn entered(&self) -> Option<N1>
+        ensures entered { option_map octets_of result ≡ self.now.entered }
         ensures none_behind { self.now.behind ≡ [] }
     {
         self.entered

@@ -1,8 +1,9 @@
 //! What a command line asks of the multiplexer (27.007, 5.7).
-ghost use Rattle.std.specs.Prelude.{◌≡◌, ◌≤◌, IfOk};
-ghost use Rattle.modem_serve.specs.Requests.{Read, digit_read, entered_with, entering, is_basic, is_between, is_good, mux_request, n1_of, none_read, number_so_far, parameter_ended, parameter_octet, request_in};
+ghost use Rattle.std.specs.Prelude.{◌≡◌, ◌≤◌, option_map, IfOk};
+ghost use Rattle.modem_serve.specs.Requests.{Read, asked_of, digit_read, entered_with, entering, is_basic, is_between, is_good, mux_request, n1_of, none_read, number_so_far, parameter_ended, parameter_octet, request_in};
 
 use modem_sim::commands_in;
+use mux_frame::N1;
 use std::alloc::{AllocError, Global};
 use std::marker::Model;
 
@@ -11,8 +12,8 @@ use std::marker::Model;
 pub enum MuxRequest {
     /// `AT+CMUX=?`: what values its parameters take.
     Ranges,
-    /// `AT+CMUX=0` with or without further parameters: enters the basic option, with this N1.
-    Enter(u16),
+    /// `AT+CMUX=0` with or without further parameters, each in its range: enters the basic option, with this N1.
+    Enter(N1),
 }
 
 /// Whether a parameter is left out, or between these.
@@ -48,14 +49,14 @@ fn is_good(place: u8, number: Option<u32>) -> bool
 struct Parameters {
     place: u8,
     digits: Option<u32>,
-    n1: u16,
+    n1: N1,
     good: bool,
 }
 
 impl Model for Parameters {
     ghost Value = { Read };
 
-    ghost view = { λ p. record { place = p.place; digits = p.digits; n1 = p.n1; good = p.good } };
+    ghost view = { λ p. record { place = p.place; digits = p.digits; n1 = p.n1.octets; good = p.good } };
 }
 
 impl Parameters {
@@ -73,13 +74,13 @@ impl Parameters {
         self.digits = None;
     }
 
-    /// N1 is the number that was read, if one was.
+    /// N1 is the number that was read, if one was and it is 31 to 32767.
     fn take_n1(&mut self)
         ensures { self.new ≡ record self.old { n1 = n1_of self.old.digits self.old.n1 } }
     {
         if let Some(number) = self.digits {
             if number <= 32767 {
-                self.n1 = number as u16;
+                self.n1 = N1::new(number as u16).unwrap_or(self.n1);
             }
         }
     }
@@ -111,8 +112,8 @@ impl Parameters {
 
 /// What parameters ask that enter the multiplexer; N1 is this where they leave it out.
 #[tactic(auto, unfolding(crate::specs::Requests::entering))]
-fn entering(n1: u16, text: &[u8]) -> Option<MuxRequest>
-    ensures { result ≡ entering n1 text.now }
+fn entering(n1: N1, text: &[u8]) -> Option<MuxRequest>
+    ensures { option_map asked_of result ≡ entering n1.octets text.now }
 {
     let mut parameters = Parameters {
         place: 0,
@@ -132,8 +133,8 @@ fn entering(n1: u16, text: &[u8]) -> Option<MuxRequest>
 }
 
 /// What one command asks.
-fn request_in(n1: u16, command: &[u8]) -> Option<MuxRequest>
-    ensures { result ≡ request_in n1 command.now }
+fn request_in(n1: N1, command: &[u8]) -> Option<MuxRequest>
+    ensures { option_map asked_of result ≡ request_in n1.octets command.now }
 {
     if command.eq_ignore_ascii_case(b"AT+CMUX=?") {
         return Some(MuxRequest::Ranges);
@@ -145,9 +146,10 @@ fn request_in(n1: u16, command: &[u8]) -> Option<MuxRequest>
     entering(n1, parameters)
 }
 
-/// What a command line asks of the multiplexer, if its only command asks something; N1 is this where it isn't named.
-pub fn mux_request(alloc: Global, n1: u16, line: &[u8]) -> Result<Option<MuxRequest>, AllocError>
-    ensures { IfOk result (λ asked. asked ≡ mux_request n1 line.now) }
+/// What a command line asks of the multiplexer, if its only command asks something; N1 is this where it isn't named. A line one of
+/// whose parameters is out of its range asks nothing: the modem answers it as a command that it doesn't know.
+pub fn mux_request(alloc: Global, n1: N1, line: &[u8]) -> Result<Option<MuxRequest>, AllocError>
+    ensures { IfOk result (λ asked. option_map asked_of asked ≡ mux_request n1.octets line.now) }
 {
     let Some(commands) = commands_in(alloc, line)? else {
         return Ok(None);

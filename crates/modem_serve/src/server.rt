@@ -1,8 +1,9 @@
 //! A modem for a client whose octets are handed in and out: at plain lines or in the multiplexer.
-ghost use Rattle.std.specs.Prelude.{◌≡◌, ◌≤◌, ℕ, List, take, length, IfOk};
+ghost use Rattle.std.specs.Prelude.{◌≡◌, ◌≤◌, ◌<◌, ◌+◌, ℕ, List, take, length, IfErr, IfOk};
 ghost use Rattle.modem_serve.specs.Serving.{Setting};
 ghost use Rattle.modem_sim.specs.declared.state.ModemState.{ModemState};
-ghost use Rattle.modem_serve.specs.Standing.{IsEntered, Stands, StepsBy, StepsOn, setting_by};
+ghost use Rattle.modem_serve.specs.Leaving.{IsOfModem};
+ghost use Rattle.modem_serve.specs.Standing.{IsEntered, Stands, StepsBy, StepsOn, setting_by, turns_due};
 ghost use Rattle.modem_serve.specs.declared.server.Mode.TheVariants.{Lines, Mux};
 
 use crate::fault::ServeFault;
@@ -12,7 +13,7 @@ use crate::plain::PlainMode;
 use crate::steps::copied;
 use modem_sim::{Modem, Script, Sim, Steps};
 use mux_frame::N1;
-use std::alloc::Global;
+use std::alloc::{AllocError, Global};
 
 /// How it stands.
 #[derive(Drop)]
@@ -32,8 +33,9 @@ pub(crate) trait Answering: Drop {
     fn take_all(self, setup: &Setup, octets: &[u8], out: &mut Vec<u8>) -> Result<Self, ServeFault>
     where
         Self: Sized,
-        ensures { IfOk result (λ new. (m : ModemState)
-            → StepsBy holds (setting_by setup.now m) self new octets.now out.old.items out.new.items) };
+        ensures steps { IfOk result (λ new. (m : ModemState)
+            → StepsBy holds (setting_by setup.now m) self new octets.now out.old.items out.new.items) }
+        ensures fault { IfErr result IsOfModem };
 }
 
 /// What is the same all along: N1 where a line doesn't name it, and what the modem does of its own accord in each multiplexer.
@@ -45,8 +47,8 @@ pub(crate) struct Setup {
 }
 
 /// The multiplexer begins, with this N1.
-fn enter(setup: &Setup, modem: Modem, n1: u16) -> Result<Mode, ServeFault>
-    ensures { IfOk result (λ mode. IsEntered setup.now modem n1 mode) }
+fn enter(setup: &Setup, modem: Modem, n1: N1) -> Result<Mode, AllocError>
+    ensures { IfOk result (λ mode. IsEntered setup.now modem n1.octets mode) }
 {
     let script = Script {
         echo: false,
@@ -61,8 +63,9 @@ fn take_lines(
     plain: PlainMode,
     octets: &[u8],
     out: &mut Vec<u8>,
-) -> Result<(Mode, usize), ServeFault>
+) -> Result<(Mode, usize), AllocError>
     ensures bound { IfOk result (λ r. r.1 ≤ length octets.now) }
+    ensures some { IfOk result (λ r. 0 < length octets.now → turns_due r.0 < turns_due (Lines plain) + r.1) }
     ensures steps { IfOk result (λ r. (m : ModemState) → StepsOn (setting_by setup.now m) (Lines plain) r.0 (take r.1 octets.now) out.old.items out.new.items) }
 {
     let mut lines = plain;
@@ -83,6 +86,8 @@ fn take_piece(
     out: &mut Vec<u8>,
 ) -> Result<(Mode, usize), ServeFault>
     ensures bound { IfOk result (λ r. r.1 ≤ length octets.now) }
+    ensures some { IfOk result (λ r. 0 < length octets.now → turns_due r.0 < r.1) }
+    ensures fault { IfErr result IsOfModem }
     ensures steps { IfOk result (λ r. (m : ModemState) → StepsOn (setting_by setup.now m) (Mux sim) r.0 (take r.1 octets.now) out.old.items out.new.items) }
 {
     let mut mux = sim;
@@ -91,7 +96,7 @@ fn take_piece(
         return Ok((Mode::Mux(mux), piece.len()));
     }
     let (_line, modem) = mux.finish();
-    let lines = PlainMode::new(setup.alloc, setup.n1.octets, modem);
+    let lines = PlainMode::new(setup.alloc, setup.n1, modem);
     Ok((Mode::Lines(lines), piece.len()))
 }
 
@@ -103,10 +108,12 @@ fn step(
     out: &mut Vec<u8>,
 ) -> Result<(Mode, usize), ServeFault>
     ensures bound { IfOk result (λ r. r.1 ≤ length octets.now) }
+    ensures some { IfOk result (λ r. 0 < length octets.now → turns_due r.0 < turns_due mode + r.1) }
+    ensures fault { IfErr result IsOfModem }
     ensures steps { IfOk result (λ r. (m : ModemState) → StepsOn (setting_by setup.now m) mode r.0 (take r.1 octets.now) out.old.items out.new.items) }
 {
     match mode {
-        Mode::Lines(plain) => take_lines(setup, plain, octets, out),
+        Mode::Lines(plain) => Ok(take_lines(setup, plain, octets, out)?),
         Mode::Mux(sim) => take_piece(setup, sim, octets, out),
     }
 }
@@ -118,19 +125,17 @@ fn take_each(
     octets: &[u8],
     out: &mut Vec<u8>,
 ) -> Result<Mode, ServeFault>
-    ensures { IfOk result (λ new. (m : ModemState) → StepsOn (setting_by setup.now m) mode new octets.now out.old.items out.new.items) }
+    ensures steps { IfOk result (λ new. (m : ModemState) → StepsOn (setting_by setup.now m) mode new octets.now out.old.items out.new.items) }
+    ensures fault { IfErr result IsOfModem }
 {
     let mut now = mode;
     let mut rest = octets;
-    for _ in 0..u64::MAX {
-        if rest.is_empty() {
-            return Ok(now);
-        }
+    while !rest.is_empty() {
         let (next, count) = step(setup, now, rest, out)?;
         now = next;
         rest = &rest[count..];
     }
-    Err(ServeFault::GaveUp)
+    Ok(now)
 }
 
 impl Answering for Mode {

@@ -1,13 +1,17 @@
 //! A modem on a reader and a writer.
-ghost use Rattle.std.specs.Prelude.{◌≡◌, ◌≤◌, ◌<◌, [], false, length, take, None, Some, IfOk, IsOk, MatchResult, OnErr, OnOk};
+ghost use Rattle.std.specs.Prelude.{◌≡◌, ◌≢◌, ◌≤◌, ◌<◌, [], true, false, length, take, None, Some, Err, if◌then◌else◌, IfErr, IfOk, IsOk, MatchResult, OnErr, OnOk};
+ghost use Rattle.std.specs.Result.{result_err};
 ghost use Rattle.std.specs.Io.KnownBytes.{Consumes, IsAtEnd};
 ghost use Rattle.std.specs.List.{list_all};
 ghost use Rattle.at_text.specs.Octets.{is_digit};
 ghost use Rattle.at_cmds.specs.Forms.{is_pin};
-ghost use Rattle.modem_serve.specs.Leaving.{IsLeftAt, IsServedInPart, LeftSoFar};
-ghost use Rattle.modem_serve.specs.Serving.{HasBadOption, IsAnswered, IsServed, client_modem, has_bad_pin, setting_of};
+ghost use Rattle.modem_texts.specs.Writing.{IsBegun};
+ghost use Rattle.modem_serve.specs.Leaving.{EndsFor, IsLeftAt, IsOfReader, IsServedInPart, LeftSoFar, SaysBad};
+ghost use Rattle.modem_serve.specs.Saying.{fault_line, option_line};
+ghost use Rattle.modem_serve.specs.Serving.{HasBadOption, IsAnswered, IsBadBy, IsServed, client_modem, has_bad_pin, setting_of};
 ghost use Rattle.modem_serve.specs.Standing.{IsAtLines, setting_by};
 ghost use Rattle.modem_serve.specs.Watching.{IsCaptured, IsWatched, WatchedWhole};
+ghost use Rattle.modem_serve.specs.declared.fault.ServeFault.TheVariants as ServeFault;
 ghost use Rattle.modem_sim.specs.declared.state.ModemState.{ModemState};
 
 use crate::fault::{BadOption, ServeFault};
@@ -17,6 +21,7 @@ use crate::watching::{Nobody, Recorder, Watcher};
 use crate::writing::put;
 use at_cmds::Pin;
 use modem_sim::{Modem, ModemStart, Steps};
+use modem_texts::say_line;
 use mux_capture::{Capture, Direction};
 use mux_frame::N1;
 use std::alloc::Global;
@@ -47,6 +52,7 @@ fn read_some<I: Read>(input: &mut I, piece: &mut [u8]) -> Result<usize, ServeFau
         (λ n. Consumes (I.remaining input.old) (I.remaining input.new) (take n piece.new)) }
     ensures end { IfOk result (λ n. n ≡ 0 → 0 < length piece.new → IsAtEnd (I.remaining input.new)) }
     ensures none { OnErr result (Consumes (I.remaining input.old) (I.remaining input.new) []) }
+    ensures fault { IfErr result IsOfReader }
 {
     for _ in 0..u64::MAX {
         match input.read(piece) {
@@ -55,7 +61,7 @@ fn read_some<I: Read>(input: &mut I, piece: &mut [u8]) -> Result<usize, ServeFau
             Err(_) => return Err(ServeFault::Input),
         }
     }
-    Err(ServeFault::GaveUp)
+    Err(ServeFault::EndlessInput)
 }
 
 /// Takes all octets of the input as they come, and writes what is said to them before it reads on. What answers isn't named here,
@@ -71,8 +77,9 @@ fn serve<M: Answering, V: Watcher, I: Read, W: Write>(
         → WatchedWhole M.holds V.sees (setting_by setup.now m) (I.remaining input.old) (W.contents output.old)
         (W.contents output.new) watcher.old watcher.new) }
     ensures left { (m : ModemState) → M.holds (setting_by setup.now m) [] [] first
-        → LeftSoFar M.holds (setting_by setup.now m) (I.remaining input.old) (I.remaining input.new) (W.contents output.old)
-        (W.contents output.new) }
+        → LeftSoFar M.holds (setting_by setup.now m) (result_err result) (I.remaining input.old) (I.remaining input.new)
+        (W.contents output.old) (W.contents output.new) }
+    ensures fault { IfErr result (λ fault. fault ≢ ServeFault.Capture) }
 {
     let mut now = first;
     let mut piece = [0u8; PIECE];
@@ -88,14 +95,14 @@ fn serve<M: Answering, V: Watcher, I: Read, W: Write>(
         watcher.see(Direction::FromModem, out.as_slice());
         out.clear();
     }
-    Err(ServeFault::GaveUp)
+    Err(ServeFault::EndlessInput)
 }
 
 /// A modem at plain lines.
 fn at_lines(setup: &Setup, modem: Modem) -> Mode
     ensures { IsAtLines setup.now modem result }
 {
-    Mode::Lines(PlainMode::new(setup.alloc, setup.n1.octets, modem))
+    Mode::Lines(PlainMode::new(setup.alloc, setup.n1, modem))
 }
 
 /// The same, from plain lines on.
@@ -110,8 +117,9 @@ fn serve_client<V: Watcher, I: Read, W: Write>(
         (W.contents output.old) (W.contents output.new)) }
     ensures watched { OnOk result (IsWatched V.sees (setting_by setup.now modem) (I.remaining input.old)
         (W.contents output.old) (W.contents output.new) watcher.old watcher.new) }
-    ensures left { IsLeftAt (setting_by setup.now modem) (I.remaining input.old) (I.remaining input.new) (W.contents output.old)
-        (W.contents output.new) }
+    ensures left { IsLeftAt (setting_by setup.now modem) (result_err result) (I.remaining input.old) (I.remaining input.new)
+        (W.contents output.old) (W.contents output.new) }
+    ensures fault { IfErr result (λ fault. fault ≢ ServeFault.Capture) }
 {
     serve(setup, at_lines(setup, modem), watcher, input, output)
 }
@@ -142,23 +150,26 @@ fn is_pin(text: &[u8]) -> bool
 
 /// Says why it ended, and gives the status.
 fn give_up<E: Write>(faults: &mut E, fault: ServeFault) -> u8
-    ensures { result ≡ 1 }
+    ensures status { result ≡ 1 }
+    ensures said { IsBegun (E.contents faults.old) (E.contents faults.new) (fault_line fault) }
 {
-    let _ = writeln!(faults, "{fault}");
+    say_line(faults, fault.words(), "", "");
     1
 }
 
 /// Says why it isn't begun, and gives the status.
 fn refuse<E: Write>(faults: &mut E, why: BadOption) -> u8
-    ensures { result ≡ 2 }
+    ensures status { result ≡ 2 }
+    ensures said { IsBegun (E.contents faults.old) (E.contents faults.new) (option_line why) }
 {
-    let _ = writeln!(faults, "{why}");
+    say_line(faults, why.words(), "", "");
     2
 }
 
 /// What serves a client by these options.
 fn begin(alloc: Global, options: SimOptions) -> Result<(Setup, Modem), BadOption>
-    ensures { MatchResult result (λ r. (HasBadOption options → ⊥) × (setting_by r.0 r.1 ≡ setting_of options)) (λ _. HasBadOption options) }
+    ensures { MatchResult result (λ r. (HasBadOption options → ⊥) × (setting_by r.0 r.1 ≡ setting_of options))
+        (λ why. HasBadOption options × IsBadBy options why) }
 {
     let SimOptions {
         n1,
@@ -183,9 +194,9 @@ fn begin(alloc: Global, options: SimOptions) -> Result<(Setup, Modem), BadOption
 
 /// Says why it ended before its input, if it did, and gives the status.
 fn end<E: Write>(faults: &mut E, served: Result<(), ServeFault>) -> u8
-    ensures status { result ≤ 1 }
-    ensures well { result ≡ 0 → IsOk served }
-    ensures silent { result ≡ 0 → faults.new ≡ faults.old }
+    ensures well { OnOk served ((result ≡ 0) × (faults.new ≡ faults.old)) }
+    ensures said { IfErr served (λ fault. (result ≡ 1)
+        × IsBegun (E.contents faults.old) (E.contents faults.new) (fault_line fault)) }
 {
     match served {
         Ok(()) => 0,
@@ -199,8 +210,9 @@ fn end<E: Write>(faults: &mut E, served: Result<(), ServeFault>) -> u8
 /// it reads on.
 ///
 /// The status is 0 at the end of the input, 1 at a fault, 2 where N1 isn't 31 to 32767 or the PIN isn't 4 to 8 digits, and then nothing
-/// is read; at 1 and 2 it says on `faults` why. At 1 all that was read was answered, but for the last piece of 4096 octets at most: of
-/// what answers that, a beginning may be written.
+/// is read; at 1 and 2 it says on `faults` why. At 1 all that was read was answered, but for the last piece of 4096 octets at most
+/// where memory was refused, the simulated modem goes on without an end, or the writer failed: then of what answers that, a beginning
+/// may be written.
 pub fn sim_run<I: Read, W: Write, E: Write>(
     alloc: Global,
     input: &mut I,
@@ -213,8 +225,11 @@ pub fn sim_run<I: Read, W: Write, E: Write>(
         (W.contents output.new) }
     ensures left { result ≡ 1 → IsServedInPart options (I.remaining input.old) (I.remaining input.new)
         (W.contents output.old) (W.contents output.new) }
+    ensures said { result ≡ 1 → EndsFor ⊥ options (I.remaining input.old) (I.remaining input.new) (W.contents output.old)
+        (W.contents output.new) (E.contents faults.old) (E.contents faults.new) }
     ensures refused { result ≡ 2 → HasBadOption options }
     ensures bad { HasBadOption options → (result ≡ 2) × (input.new ≡ input.old) × (output.new ≡ output.old) }
+    ensures told { result ≡ 2 → SaysBad options (E.contents faults.old) (E.contents faults.new) }
     ensures silent { result ≡ 0 → faults.new ≡ faults.old }
 {
     match begin(alloc, options) {
@@ -228,7 +243,8 @@ pub fn sim_run<I: Read, W: Write, E: Write>(
 
 /// What a capture came to beside what was served.
 fn captured(served: Result<(), ServeFault>, failed: bool) -> Result<(), ServeFault>
-    ensures { IsOk result → IsOk served × (failed ≡ false) }
+    ensures well { OnOk served (result ≡ if failed then Err ServeFault.Capture else served) }
+    ensures fault { OnErr served (result ≡ served) }
 {
     served?;
     if failed {
@@ -238,7 +254,8 @@ fn captured(served: Result<(), ServeFault>, failed: bool) -> Result<(), ServeFau
 }
 
 /// The same, and the frames of all that is read and written go into a capture with their times, each way and in the order in which
-/// they pass; it is given back. Where it can't be written the client is served to the end, and the status is 1 then.
+/// they pass; it is given back. Where it can't be written the client is served to the end, and the status is 1 then, unless another
+/// fault ended it.
 pub fn sim_captured<K: Clock, I: Read, W: Write, E: Write, C: Write>(
     clock: &K,
     alloc: Global,
@@ -255,9 +272,15 @@ pub fn sim_captured<K: Clock, I: Read, W: Write, E: Write, C: Write>(
         (W.contents output.new) capture result.1 }
     ensures left { result.0 ≡ 1 → IsServedInPart options (I.remaining input.old) (I.remaining input.new)
         (W.contents output.old) (W.contents output.new) }
+    ensures said { result.0 ≡ 1 → EndsFor
+        (IsServed options (I.remaining input.old) (W.contents output.old) (W.contents output.new) × (result.1.failed ≡ true))
+        options (I.remaining input.old) (I.remaining input.new) (W.contents output.old) (W.contents output.new)
+        (E.contents faults.old) (E.contents faults.new) }
     ensures refused { result.0 ≡ 2 → HasBadOption options }
     ensures bad { HasBadOption options → (result.0 ≡ 2) × (input.new ≡ input.old) × (output.new ≡ output.old)
         × (result.1 ≡ capture) }
+    ensures told { result.0 ≡ 2 → SaysBad options (E.contents faults.old) (E.contents faults.new) }
+    ensures sound { result.0 ≡ 0 → result.1.failed ≡ false }
     ensures silent { result.0 ≡ 0 → faults.new ≡ faults.old }
 {
     match begin(alloc, options) {

@@ -1,6 +1,7 @@
 //! Octets are written as far as their writer takes them.
-ghost use Rattle.std.specs.Prelude.{OnErr, OnOk};
+ghost use Rattle.std.specs.Prelude.{IsOkUnless, OnErr, OnOk};
 ghost use Rattle.std.specs.Io.KnownBytes.{Appends};
+ghost use Rattle.modem_serve.specs.declared.fault.ServeFault.TheVariants.{Output};
 ghost use Rattle.modem_texts.specs.Writing.{IsBegun};
 
 use crate::fault::ServeFault;
@@ -11,6 +12,7 @@ use std::io::Write;
 pub(crate) fn put<W: Write>(output: &mut W, octets: &[u8]) -> Result<(), ServeFault>
     ensures whole { OnOk result (Appends (W.contents output.old) (W.contents output.new) octets.now) }
     ensures part { OnErr result (IsBegun (W.contents output.old) (W.contents output.new) octets.now) }
+    ensures fault { IsOkUnless result Output }
 {
     if put_octets(output, octets) {
         Ok(())

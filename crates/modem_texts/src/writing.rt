@@ -8,21 +8,26 @@ use std::io::{ErrorKind, Write};
 /// How many writes a writer has to take octets within.
 const WRITES: u32 = 16_777_216;
 
-/// Writes octets as far as the writer takes them, and says whether it took all. A write that was interrupted is made again.
+/// Writes octets as far as the writer takes them, and says whether it took all: it didn't where a write failed or took none, or where
+/// 16,777,216 writes weren't enough. A write that was interrupted is made again. Where there are no octets, none is made.
 pub fn write_octets<W: Write>(output: &mut W, octets: &[u8]) -> bool
     ensures whole { result ≡ true → Appends (W.contents output.old) (W.contents output.new) octets.now }
     ensures part { IsBegun (W.contents output.old) (W.contents output.new) octets.now }
+    ensures none { octets.now ≡ [] → (result ≡ true) × (output.new ≡ output.old) }
 {
+    if octets.is_empty() {
+        return true;
+    }
     let mut left = octets;
     for _ in 0..WRITES {
-        if left.is_empty() {
-            return true;
-        }
         match output.write(left) {
             Ok(0) => return false,
             Ok(count) => (_, left) = left.split_at(count),
             Err(error) if error.kind() == ErrorKind::Interrupted => {}
             Err(_) => return false,
+        }
+        if left.is_empty() {
+            return true;
         }
     }
     false

@@ -1,6 +1,6 @@
 -- Captures in the file format of tcpdump (pcap, version 2.4), each number with its lowest octet first, of link type 236: frames of
 -- 3GPP TS 27.010, each behind two octets.
-use Rattle.std.specs.Prelude.{ℕ, List, ◌∷◌, ◌++◌, length}
+use Rattle.std.specs.Prelude.{ℕ, ◌/◌, ◌%◌, min, List, ◌∷◌, ◌++◌, length}
 use Rattle.std.specs.Int.{bytes_low_first}
 use Rattle.mux_capture.specs.declared.packet.Direction.{Direction}
 use Rattle.mux_capture.specs.declared.packet.Direction.TheVariants.{ToModem, FromModem}
@@ -9,6 +9,10 @@ use Rattle.mux_capture.specs.declared.packet.Stamp.{Stamp}
 -- a number in so many octets, the lowest first
 abbrev pub little_endian : ℕ → ℕ → List ℕ
 little_endian octets n = bytes_low_first 0 octets n
+
+-- the stamp of a time in nanoseconds: its whole seconds, as far as a stamp tells them, and the microseconds beyond those
+abbrev pub stamp_of : ℕ → Stamp
+stamp_of nanos = record { seconds = min (nanos / 1000000000) 4294967295; micros = nanos % 1000000000 / 1000 }
 
 -- The header of a file: the number that says that times have microseconds, and the order of octets; version 2.4; no offset and no
 -- accuracy of times; the most octets that are kept of a packet; the link type.

@@ -1,9 +1,11 @@
 //! The octets of a capture.
-ghost use Rattle.std.specs.Prelude.{◌≡◌, ◌+◌, ◌≤◌, ◌++◌, length, vec_len, vec_capacity, OnOk, OnErr};
-ghost use Rattle.mux_capture.specs.Pcap.{captured, direction_octet, file_header, little_endian, packet, packet_of};
+ghost use Rattle.std.specs.Prelude.{◌≡◌, ◌+◌, ◌<◌, ◌≤◌, ◌++◌, length, vec_len, vec_capacity, OnOk, OnErr};
+ghost use Rattle.std.specs.Duration.{as_nanos};
+ghost use Rattle.mux_capture.specs.Pcap.{captured, direction_octet, file_header, little_endian, packet, packet_of, stamp_of};
 
 use std::alloc::AllocError;
 use std::rt::Clock;
+use std::time::Duration;
 
 /// Which end sent a frame.
 #[derive(Clone, Copy, PartialEq, Eq, Debug)]
@@ -24,17 +26,23 @@ pub struct Stamp {
 }
 
 impl Stamp {
-    /// The time since 1970 began; none has passed where the clock fails, and after 2106 it stays at the last second that a stamp has.
-    pub fn now<K: Clock>(clock: &K) -> Stamp {
+    /// The stamp of a time: after 2^32 seconds it stays at the last second that a stamp has.
+    pub fn of(time: Duration) -> Stamp
+        ensures { result ≡ stamp_of (as_nanos time) }
+    {
+        Stamp {
+            seconds: u32::try_from(time.as_secs()).unwrap_or(u32::MAX),
+            micros: time.subsec_micros(),
+        }
+    }
+
+    /// The time since 1970 began, as this clock says; none has passed where it fails.
+    pub fn now<K: Clock>(clock: &K) -> Stamp
+        ensures { result.micros < 1000000 }
+    {
         match clock.since_1970() {
-            Ok(time) => Stamp {
-                seconds: u32::try_from(time.as_secs()).unwrap_or(u32::MAX),
-                micros: time.subsec_micros(),
-            },
-            Err(_) => Stamp {
-                seconds: 0,
-                micros: 0,
-            },
+            Ok(time) => Stamp::of(time),
+            Err(_) => Stamp::of(Duration::ZERO),
         }
     }
 }

@@ -1,12 +1,11 @@
-use Rattle.std.proofs.Common.{◌≡◌, ◌++◌, List, ℕ, [], ap, sym, ◌∙◌}
-use Rattle.modem_sim.specs.Sims.{SimState}
+use Rattle.std.proofs.Common.{◌++◌, [], ap, ◌∙◌}
 use Rattle.modem_sim.specs.Stills.{at_line}
 use Rattle.modem_serve.specs.HeldLine.{HeldState}
 use Rattle.modem_serve.proofs.Muxes.{fed_by}
 use Rattle.modem_serve.proofs.mux.feed.Goals as goal
 
-pub returns : goal.returns
-returns c =
+pub returns-clause-fed : goal.returns-clause-fed
+returns-clause-fed c =
     let line = c.line_mut-2.ensures.value in
     fed_by c.args.sim.now (at_line c.put.new.self c.args.sim.now.machine) c.settle.new.sim (at_line c.take.new.self c.settle.new.sim.machine) c.args.piece.now c.args.out.now.items
     c.take.new.out.items c.is_up-was_up.result c.is_up.result c.in_ok-ended.ended c.is_over.result c.is_up-was_up.ensures

@@ -1,4 +1,4 @@
-use Rattle.std.proofs.Common.{◌∙◌, refl}
+use Rattle.std.proofs.Common.{◌∙◌}
 use Rattle.modem_sim.proofs.sims.SimPasts.{sim_then}
 use Rattle.modem_serve.specs.HeldLine.{HeldState, sent_by}
 use Rattle.modem_serve.proofs.Muxes.{rests_then}

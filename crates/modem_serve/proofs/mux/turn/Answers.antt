@@ -1,4 +1,4 @@
-use Rattle.std.proofs.Common.{ap, ◌∙◌, ◌≡◌, List, ℕ, [], sym, arith, rules, length, refl}
+use Rattle.std.proofs.Common.{ap, ◌∙◌, ◌≡◌, [], sym, arith}
 use Rattle.std.proofs.lemmas.Grind.{common_steps}
 use Rattle.std.proofs.lemmas.List.{nil_from_length}
 use Rattle.modem_serve.specs.HeldLine.{HeldState}

@@ -8,4 +8,4 @@ use Rattle.modem_serve.proofs.server.enter.Goals as goal
 pub returns : goal.returns
 returns c =
     enters c.in_ok-begun.field-0
-    (subst (λ (steps : List Step). FitsMux (mux_end c.args.n1 c.args.modem steps) [] [] c.in_ok-begun.field-0 []) c.in_ok-copied.ensures (c.in_ok-begun.ensures refl))
+    (subst (λ (steps : List Step). FitsMux (mux_end c.args.n1.octets c.args.modem steps) [] [] c.in_ok-begun.field-0 []) c.in_ok-copied.ensures (c.in_ok-begun.ensures refl))

@@ -1,5 +1,5 @@
 -- What came so far was answered by what was written, and all of it was seen.
-use Rattle.std.specs.Prelude.{◌≡◌, List, ℕ, []}
+use Rattle.std.specs.Prelude.{◌≡◌, []}
 use Rattle.modem_sim.specs.declared.state.ModemState.{ModemState}
 use Rattle.modem_serve.specs.Standing.{setting_by}
 use Rattle.modem_serve.specs.Watching.{WatchedSoFar}

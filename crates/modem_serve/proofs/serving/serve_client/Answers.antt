@@ -1,5 +1,4 @@
 use Rattle.std.proofs.Common.{Result, Ok, Err, OnOk}
-use Rattle.modem_sim.specs.declared.state.ModemState.{ModemState}
 use Rattle.modem_serve.proofs.Leaving.{left_client}
 use Rattle.modem_serve.proofs.Served.{served_whole}
 use Rattle.modem_serve.proofs.Watched.{watched_client}
@@ -24,5 +23,5 @@ returns-clause-watched g c =
 
 pub returns-clause-left : goal.returns-clause-left
 returns-clause-left g c =
-    left_client c.args.setup.now c.args.modem c.at_lines.result (g.I.Read.remaining c.args.input.now) (g.I.Read.remaining c.serve.new.input)
+    left_client c.args.setup.now c.args.modem c.at_lines.result _ (g.I.Read.remaining c.args.input.now) (g.I.Read.remaining c.serve.new.input)
     (g.W.Write.contents c.args.output.now) (g.W.Write.contents c.serve.new.output) c.at_lines.ensures c.serve.ensures.left
