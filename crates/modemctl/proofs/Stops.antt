@@ -1,7 +1,6 @@
 -- Why a run ends without its output.
 use Rattle.std.specs.Prelude.{◌≡◌}
 use Rattle.modem_runs.specs.Statuses.{status_of}
-use Rattle.modem_runs.specs.declared.stop.DialectFault.{DialectFault}
 use Rattle.modem_runs.specs.declared.stop.Stop.{Stop}
 
 -- who stops doesn't end well
@@ -10,11 +9,9 @@ ends_badly Stop.NoMemory e = cc
 ends_badly Stop.Input e = cc
 ends_badly Stop.Output e = cc
 ends_badly Stop.Line e = cc
-ends_badly Stop.GaveUp e = cc
+ends_badly (Stop.GaveUp cause) e = cc
 ends_badly Stop.BadN1 e = cc
 ends_badly Stop.BadCallers e = cc
 ends_badly Stop.BadCut e = cc
 ends_badly (Stop.BadLine place why) e = cc
-ends_badly (Stop.Dialect DialectFault.Unread) e = cc
-ends_badly (Stop.Dialect (DialectFault.NoRule place)) e = cc
-ends_badly (Stop.Dialect (DialectFault.Refused place why)) e = cc
+ends_badly (Stop.Dialect fault) e = cc

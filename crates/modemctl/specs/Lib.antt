@@ -2,3 +2,4 @@ pub mod Dialects
 pub mod Benches
 pub mod Words
 pub mod Drives
+pub mod Files
