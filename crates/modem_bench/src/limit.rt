@@ -36,11 +36,7 @@ impl Limit {
         ensures refused { IfErr result (λ cause. cause_at self.old moved ≡ Some cause) }
         ensures still { OnErr result (self.new ≡ self.old) }
     {
-        let quiet = if moved == self.moved {
-            self.quiet
-        } else {
-            0
-        };
+        let quiet = if moved == self.moved { self.quiet } else { 0 };
         if self.left == 0 {
             return Err(Cause::UsedUp);
         }
