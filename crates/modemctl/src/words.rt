@@ -353,7 +353,9 @@ where
         → IsShut (R.is_shut rt.now) (raw_in (subcommand_rows_of matches.now) (codes "dialect"))
         → NamesCause (raw_in (subcommand_rows_of matches.now) (codes "dialect")) output.old output.new (E.contents faults.old)
         (E.contents faults.new) result }
-    ensures shut { subcommand_name_of matches.now ≡ Some (codes "replay") ⊎ (subcommand_name_of matches.now ≡ Some (codes "drive"))
+    ensures replay_shut { subcommand_name_of matches.now ≡ Some (codes "replay")
+        → IsShut (R.is_shut rt.now) (raw_in (subcommand_rows_of matches.now) (codes "dialect")) → 0 < result }
+    ensures drive_shut { subcommand_name_of matches.now ≡ Some (codes "drive")
         → IsShut (R.is_shut rt.now) (raw_in (subcommand_rows_of matches.now) (codes "dialect"))
         → (0 < result) × (output.new ≡ output.old) }
     ensures frames { result ≡ 0 → subcommand_name_of matches.now ≡ Some (codes "frames")
@@ -436,7 +438,9 @@ where
         → IsShut (R.is_shut rt.now) (raw_in (met_in (map string_bytes words.now)) (codes "dialect"))
         → NamesCause (raw_in (met_in (map string_bytes words.now)) (codes "dialect")) output.old output.new
         (E.contents faults.old) (E.contents faults.new) result }
-    ensures shut { AreFor (codes "replay") (map string_bytes words.now) ⊎ AreFor (codes "drive") (map string_bytes words.now)
+    ensures replay_shut { AreFor (codes "replay") (map string_bytes words.now)
+        → IsShut (R.is_shut rt.now) (raw_in (met_in (map string_bytes words.now)) (codes "dialect")) → 0 < result }
+    ensures drive_shut { AreFor (codes "drive") (map string_bytes words.now)
         → IsShut (R.is_shut rt.now) (raw_in (met_in (map string_bytes words.now)) (codes "dialect"))
         → (0 < result) × (output.new ≡ output.old) }
     ensures frames { result ≡ 0 → AreFor (codes "frames") (map string_bytes words.now)

@@ -60,6 +60,18 @@ fn refuse_dialect<E: Write>(alloc: Global, faults: &mut E, path: &str, fault: Te
     }
 }
 
+/// The dialect that comes ready under this name, else that of the file of this name.
+fn find_dialect<R: TextFiles>(rt: &R, alloc: Global, name: &str) -> Result<Dialect, TextFault>
+    ensures named { IfOk result (IsReadyOrRead (dialect_with_name name.now) (R.text_of rt.now name.now)) }
+    ensures shut { IsShut (R.is_shut rt.now) (Some name.now) → MatchResult result (λ _. ⊥) (λ fault. text_status fault ≡ 1) }
+{
+    match dialect_named(alloc, name.as_bytes()) {
+        Ok(Some(dialect)) => Ok(dialect),
+        Ok(None) => dialect_in_file(rt, alloc, name),
+        Err(_) => Err(TextFault::Stopped(Stop::NoMemory)),
+    }
+}
+
 /// The dialect that comes ready under this name, else that of the file of this name. Where there is none it says why, and gives the
 /// status.
 pub fn dialect_by<R: TextFiles, E: Write>(
@@ -75,15 +87,10 @@ pub fn dialect_by<R: TextFiles, E: Write>(
     ensures refused { IfErr result
         (IsNoText (codes "dialect") (Some name.now) (E.contents faults.old) (E.contents faults.new)) }
 {
-    let fault = match dialect_named(alloc, name.as_bytes()) {
-        Ok(Some(dialect)) => return Ok(dialect),
-        Ok(None) => match dialect_in_file(rt, alloc, name) {
-            Ok(dialect) => return Ok(dialect),
-            Err(fault) => fault,
-        },
-        Err(_) => TextFault::Stopped(Stop::NoMemory),
-    };
-    Err(refuse_dialect(alloc, faults, name, fault))
+    match find_dialect(rt, alloc, name) {
+        Ok(dialect) => Ok(dialect),
+        Err(fault) => Err(refuse_dialect(alloc, faults, name, fault)),
+    }
 }
 
 /// The dialect that the words give; the standard's codes alone where they give none. Where there is none it says why, and gives the
