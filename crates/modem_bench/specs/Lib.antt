@@ -2,6 +2,7 @@ pub mod Asks
 pub mod Calling
 pub mod Driving
 pub mod Faults
+pub mod Limits
 pub mod OneLine
 pub mod Rounds
 pub mod Running

@@ -9,8 +9,10 @@ pub struct Bells {
     pub driver: Bell,
     /// The simulated modem's: octets or room on the line.
     pub modem: Bell,
-    /// The callers', by their numbers: outcomes, or room for requests.
-    pub callers: Vec<Bell>,
+    /// Caller 0's: outcomes, or room for requests.
+    first: Bell,
+    /// The other callers', by their numbers.
+    others: Vec<Bell>,
 }
 
 impl Bells {
@@ -19,19 +21,31 @@ impl Bells {
         let mut bells = Bells {
             driver: Bell::new(alloc)?,
             modem: Bell::new(alloc)?,
-            callers: Vec::new(alloc),
+            first,
+            others: Vec::new(alloc),
         };
-        bells.callers.push(first)?;
         for _ in 1..callers {
             let bell = Bell::new(alloc)?;
-            bells.callers.push(bell)?;
+            bells.others.push(bell)?;
         }
         Ok(bells)
     }
 
+    /// The bell of the caller of this number, or of caller 0 where there is none of this number.
+    pub fn of_caller(&self, number: u8) -> &Bell {
+        if number == 0 {
+            return &self.first;
+        }
+        match self.others.get(usize::from(number) - 1) {
+            Some(bell) => bell,
+            None => &self.first,
+        }
+    }
+
     /// Rings the bell of each caller.
     pub fn ring_callers(&self) {
-        for bell in &self.callers {
+        self.first.ring();
+        for bell in &self.others {
             bell.ring();
         }
     }

@@ -1,9 +1,12 @@
 //! What the callers of a bench do.
-ghost use Rattle.std.specs.Prelude.{◌≡◌, ◌≤◌, ◌<◌, ◌++◌, ◌∷◌, [], true, IfOk, OnOk, length};
+ghost use Rattle.std.specs.Prelude.{◌≡◌, ◌≤◌, ◌<◌, ◌++◌, ◌∷◌, [], IfErr, IfOk, OnOk, MatchResult, length};
 ghost use Rattle.std.specs.List.Sorted.{IsPermutation};
 ghost use Rattle.modem_desk.specs.declared.request.Ask.TheVariants as ask;
 ghost use Rattle.modem_bench.specs.Calling.{AreAnswers, Asks, Opens, OpensAll, PutsBehind, Stops, Works, asked};
+ghost use Rattle.modem_bench.specs.Faults.{opening_end, stop_end};
+ghost use Rattle.modem_bench.specs.declared.cause.Cause.TheVariants.{OtherOutcomes};
 
+use crate::cause::Cause;
 use crate::signals::{Fault, Signals};
 use crate::submission::{Submission, names};
 use modem_desk::{Answer, Ask, Caller, Outcome};
@@ -108,18 +111,19 @@ fn in_order(outcomes: Vec<Outcome>) -> Vec<Outcome>
 
 /// Whether these outcomes answer the requests of these numbers, each the one at its place. By the headline they do;
 /// comparing them lets the clause stand in the caller's own thread.
-fn answer_all(numbers: &[u64], outcomes: &[Outcome]) -> bool
-    ensures { result ≡ true → AreAnswers numbers.now outcomes.now }
+fn answer_all(numbers: &[u64], outcomes: &[Outcome]) -> Result<(), Cause>
+    ensures answers { OnOk result (AreAnswers numbers.now outcomes.now) }
+    ensures others { IfErr result (λ cause. (cause ≡ OtherOutcomes) × (AreAnswers numbers.now outcomes.now → ⊥)) }
 {
     if numbers.len() != outcomes.len() {
-        return false;
+        return Err(Cause::OtherOutcomes);
     }
     for i in 0..numbers.len() {
         if outcomes[i].number != numbers[i] {
-            return false;
+            return Err(Cause::OtherOutcomes);
         }
     }
-    true
+    Ok(())
 }
 
 /// Submits requests in order, taking outcomes where it is refused, and then takes outcomes until it has as many. Given up where
@@ -138,9 +142,7 @@ fn work_on<R: Wait>(
     let numbers = submit_all(rt, alloc, &mut caller, asks, &mut outcomes, signals)?;
     take_all(rt, &mut caller, numbers.len(), &mut outcomes, signals)?;
     let outcomes = in_order(outcomes);
-    if !answer_all(numbers.as_slice(), outcomes.as_slice()) {
-        return Err(Fault::GaveUp);
-    }
+    answer_all(numbers.as_slice(), outcomes.as_slice())?;
     Ok(Worked { caller, outcomes })
 }
 
@@ -197,16 +199,24 @@ fn next_outcome<R: Wait>(rt: &R, caller: &mut Caller, signals: &Signals) -> Resu
     unreachable!()
 }
 
+/// What an opening of this connection comes to by what it was told.
+fn opened(dlci: Dlci, answer: &Answer) -> Result<(), Cause>
+    ensures { result ≡ opening_end dlci answer.now }
+{
+    match answer {
+        Answer::Opened => Ok(()),
+        _ => Err(Cause::NotOpened(dlci)),
+    }
+}
+
 /// Opens a connection, and waits until it is open.
 fn open<R: Wait>(rt: &R, caller: &mut Caller, dlci: Dlci, signals: &Signals) -> Result<(), Fault>
     ensures { OnOk result (Opens caller.old caller.new (ask.OpenChannel dlci ∷ [])) }
 {
     submit_alone(rt, caller, Ask::OpenChannel(dlci), signals)?;
     let outcome = next_outcome(rt, caller, signals)?;
-    match &outcome.answer {
-        Answer::Opened => Ok(()),
-        _ => Err(Fault::GaveUp),
-    }
+    opened(dlci, &outcome.answer)?;
+    Ok(())
 }
 
 /// Opens 0, and then each connection that a submission is for, in rising order, each once the one before is open.
@@ -229,14 +239,22 @@ pub fn open_all<R: Wait>(
     Ok(())
 }
 
+/// What a stop comes to by what it was told.
+fn stopped(answer: &Answer) -> Result<(), Cause>
+    ensures { result ≡ stop_end answer.now }
+{
+    match answer {
+        Answer::Stopped | Answer::NoAnswer => Ok(()),
+        _ => Err(Cause::NotStopped),
+    }
+}
+
 /// Ends the multiplexer, and waits until it has ended.
 pub fn stop<R: Wait>(rt: &R, caller: &mut Caller, signals: &Signals) -> Result<(), Fault>
     ensures { OnOk result (Stops caller.old caller.new) }
 {
     submit_alone(rt, caller, Ask::Stop, signals)?;
     let outcome = next_outcome(rt, caller, signals)?;
-    match &outcome.answer {
-        Answer::Stopped | Answer::NoAnswer => Ok(()),
-        _ => Err(Fault::GaveUp),
-    }
+    stopped(&outcome.answer)?;
+    Ok(())
 }

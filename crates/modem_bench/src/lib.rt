@@ -4,6 +4,7 @@
 
 mod bells;
 mod calling;
+mod cause;
 mod crew;
 mod driving;
 mod ends;
@@ -20,6 +21,7 @@ mod simulating;
 mod submission;
 mod threads;
 
+pub use cause::Cause;
 pub use meeting::{Meeting, meet};
 pub use rounds::{Rest, run_in_rounds};
 pub use running::{run_bench, run_bench_within};

@@ -1,5 +1,5 @@
 //! What rounds begin with: a session and a simulated modem, each at a new line in memory.
-ghost use Rattle.std.specs.Prelude.{◌≡◌, ◌≤◌, [], IfOk, IsOkUnless};
+ghost use Rattle.std.specs.Prelude.{◌≡◌, [], IfOk, IsOkUnless};
 ghost use Rattle.serial_line.specs.CutLine.{new_line};
 ghost use Rattle.modem_driver.specs.SessionStates.{FitsAll, beginning_of};
 ghost use Rattle.modem_sim.specs.Acts.{end_of};
@@ -81,23 +81,21 @@ fn far_end(
 
 /// A session over this desk's end and a simulated modem that starts so, which have done nothing yet, each at a line in memory
 /// with room for so many octets each way. Their joint list is empty, and is one line's. N1 is how many octets of information a
-/// frame of both may have. Refusal: 1 NoMemory. The condition is that N1 is 31 to 32767.
+/// frame of both may have. Refusal: 1 NoMemory.
 pub fn meet<R: Wait + Drop>(
     rt: R,
     alloc: Global,
     driver: DriverEnd,
     start: ModemStart,
     script: Script,
-    n1: u16,
+    n1: N1,
     room: usize,
 ) -> Result<Meeting<R>, Fault>
-    requires { (31 ≤ n1) × (n1 ≤ 32767) }
     ensures memory { IsOkUnless result Fault.NoMemory }
     ensures on { IfOk result (λ m.
-        AreOnOneLine (beginning_of n1 (look_in (new_line [] [] [] room)) driver) at_nothing
-        (end_of n1 (started start) script) [] (pair m.session m.sim)) }
+        AreOnOneLine (beginning_of n1.octets (look_in (new_line [] [] [] room)) driver) at_nothing
+        (end_of n1.octets (started start) script) [] (pair m.session m.sim)) }
 {
-    let n1 = N1 { octets: n1 };
     let session = near_end(rt, alloc, driver, n1, room)?;
     let (sim, session) = beside(far_end(alloc, start, script, n1, room), session)?;
     Ok(Meeting { session, sim })

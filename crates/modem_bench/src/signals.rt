@@ -1,9 +1,10 @@
 //! What the threads of a bench tell one another beside the desk and the line.
 ghost use Rattle.std.specs.Prelude.{◌≡◌, IfOk, IfErr};
 ghost use Rattle.std.specs.Arc.{arc_value};
-ghost use Rattle.modem_bench.specs.declared.signals.Fault.TheVariants.{NoMemory};
+ghost use Rattle.modem_bench.specs.declared.signals.Fault.TheVariants.{GaveUp, NoMemory};
 
 use crate::bells::Bells;
+use crate::cause::Cause;
 use bell::Bell;
 use std::alloc::{AllocError, AllocFailed, Global};
 use std::sync::{Arc, OnceLock, OnceToken, Wait};
@@ -20,8 +21,8 @@ pub enum Fault {
     NoMemory,
     /// The line failed.
     Line,
-    /// It didn't come to its end.
-    GaveUp,
+    /// It didn't come to its end, for this cause.
+    GaveUp(Cause),
 }
 
 impl From<AllocError> for Fault {
@@ -29,6 +30,14 @@ impl From<AllocError> for Fault {
 
     fn from(_error: AllocError) -> Fault {
         Fault::NoMemory
+    }
+}
+
+impl From<Cause> for Fault {
+    ghost from_gives = { λ cause fault. fault ≡ GaveUp cause };
+
+    fn from(cause: Cause) -> Fault {
+        Fault::GaveUp(cause)
     }
 }
 
@@ -119,14 +128,11 @@ impl Signals {
         self.share(&self.shared.bells.modem)
     }
 
-    /// The same for the thread of the caller of this number, if the bench has one.
-    pub fn of_caller(&self, number: u8) -> Result<Signals, Fault>
+    /// The same for the thread of the caller of this number, or of caller 0 where the bench has none of this number.
+    pub fn of_caller(&self, number: u8) -> Result<Signals, AllocError>
         ensures { IfOk result (λ s. arc_value s.shared ≡ arc_value self.now.shared) }
     {
-        let Some(bell) = self.shared.bells.callers.get(number as usize) else {
-            return Err(Fault::GaveUp);
-        };
-        Ok(self.share(bell)?)
+        self.share(self.shared.bells.of_caller(number))
     }
 
     /// Waits until somebody rings this thread's bell, or for a tenth of a second.

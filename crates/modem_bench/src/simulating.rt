@@ -2,9 +2,10 @@
 ghost use Rattle.std.specs.Prelude.{◌≡◌, OnOk, Ok};
 ghost use Rattle.modem_sim.specs.Sims.{sight};
 ghost use Rattle.modem_sim.specs.declared.sim.SimTurn.TheVariants.{Ended};
-ghost use Rattle.modem_bench.specs.Faults.{sim_fault};
+ghost use Rattle.modem_bench.specs.Faults.{sim_end, sim_fault};
 ghost use Rattle.modem_bench.specs.Simulating.{IsSimulated};
 
+use crate::cause::Cause;
 use crate::ringing_line::CountedLine;
 use crate::signals::{Fault, Signals};
 use modem_sim::{Sim, SimError, SimTurn};
@@ -19,17 +20,18 @@ pub fn fault_of(why: SimError) -> Fault
     match why {
         SimError::NoMemory => Fault::NoMemory,
         SimError::Line | SimError::Failed => Fault::Line,
-        SimError::BadN1 => Fault::GaveUp,
+        SimError::BadN1 => Fault::GaveUp(Cause::NoEnd),
     }
 }
 
 /// The end that a simulated modem gave. No poll gives Moved or Idle.
 fn ended(given: Result<SimTurn, SimError>) -> Result<(), Fault>
-    ensures { OnOk result (given ≡ Ok Ended) }
+    ensures end { result ≡ sim_end given }
+    ensures ended { OnOk result (given ≡ Ok Ended) }
 {
     match given {
         Ok(SimTurn::Ended) => Ok(()),
-        Ok(SimTurn::Moved | SimTurn::Idle) => Err(Fault::GaveUp),
+        Ok(SimTurn::Moved | SimTurn::Idle) => Err(Fault::GaveUp(Cause::NoEnd)),
         Err(why) => Err(fault_of(why)),
     }
 }

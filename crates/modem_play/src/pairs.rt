@@ -4,6 +4,7 @@ use crate::setup::Setup;
 use crate::sims::made;
 use crate::words::{BAD, Begins, Host, Lines, Player, beside, play_by};
 use modem_driver::Turn;
+use modem_bench::Cause;
 use modem_runs::Stop;
 use modem_sim::{Sim, SimTurn};
 use serial_line::{LineError, ThreadLine};
@@ -36,7 +37,7 @@ impl<R: Host> Pair<R> {
                 return Ok(());
             }
         }
-        Err(Stop::GaveUp)
+        Err(Stop::GaveUp(Cause::UsedUp))
     }
 }
 

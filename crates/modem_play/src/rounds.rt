@@ -3,7 +3,7 @@ use crate::near::Near;
 use crate::setup::Setup;
 use crate::sims::made;
 use crate::words::{Begins, Host, Lines, Player, beside, play_by};
-use modem_bench::{Rest, run_in_rounds};
+use modem_bench::{Cause, Rest, run_in_rounds};
 use modem_runs::Stop;
 use modem_sim::Sim;
 use serial_line::{CutLine, LineError};
@@ -34,8 +34,8 @@ impl<R: Host> Rounds<R> {
             ROUNDS,
         ) {
             Ok(Rest::Still) => Ok(()),
-            Ok(Rest::Full | Rest::UsedUp) => Err(Stop::GaveUp),
-            Err(_) => Err(Stop::Line),
+            Ok(Rest::UsedUp) => Err(Stop::GaveUp(Cause::UsedUp)),
+            Ok(Rest::Full) | Err(_) => Err(Stop::Line),
         }
     }
 }

@@ -12,23 +12,22 @@ pub record HasText (rules : Rules) : Type 0 where
   pub text : List ℕ
   pub lines : AreLinesOf (input_lines text) rules
 
--- it can't be read, or a line of it is the first bad one, and is so for this reason
+-- a line of it is the first bad one, and is so for this reason
 abbrev pub IsDialectFault : (input : Option (List ℕ)) → DialectFault → Type 0
-IsDialectFault input DialectFault.Unread = Unit {0}
 IsDialectFault input (DialectFault.NoRule place) =
     IfSome input (λ text. IsDialectRefusal (input_lines text) (DialectRefusal.NoRule place))
 IsDialectFault input (DialectFault.Refused place why) =
     IfSome input (λ text. IsDialectRefusal (input_lines text) (DialectRefusal.Refused place why))
 
--- the causes for which there is no dialect
+-- the causes for which there is no dialect: memory was refused, the reader failed, or a line is bad
 abbrev pub IsDialectStop : (input : Option (List ℕ)) → Stop → Type 0
 IsDialectStop input Stop.NoMemory = Unit {0}
+IsDialectStop input Stop.Input = Unit {0}
 IsDialectStop input (Stop.Dialect fault) = IsDialectFault input fault
 IsDialectStop input (Stop.BadLine place why) = ⊥
-IsDialectStop input Stop.Input = ⊥
 IsDialectStop input Stop.Output = ⊥
 IsDialectStop input Stop.Line = ⊥
-IsDialectStop input Stop.GaveUp = ⊥
+IsDialectStop input (Stop.GaveUp cause) = ⊥
 IsDialectStop input Stop.BadN1 = ⊥
 IsDialectStop input Stop.BadCallers = ⊥
 IsDialectStop input Stop.BadCut = ⊥

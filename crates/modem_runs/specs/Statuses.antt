@@ -2,6 +2,7 @@
 use Rattle.std.specs.Prelude.{ℕ, List, [], ◌∷◌, ◌++◌, codes}
 use Rattle.std.specs.Fmt.{decimal}
 use Rattle.at_text.specs.declared.dialect_error.DialectError.{DialectError}
+use Rattle.modem_bench.specs.declared.cause.Cause.{Cause}
 use Rattle.modem_bench.specs.declared.signals.Fault.{Fault}
 use Rattle.modem_runs.specs.declared.stop.DialectFault.{DialectFault}
 use Rattle.modem_runs.specs.declared.stop.Stop.{Stop}
@@ -9,34 +10,21 @@ use Rattle.modem_texts.specs.LineFaults.{reason_text}
 use Rattle.modem_texts.specs.declared.dialects.DialectRefusal.{DialectRefusal}
 use Rattle.modem_texts.specs.declared.refusal.Refusal.{Refusal}
 
--- 1 for a dialect that can't be read, 2 for a bad line in it
-abbrev pub dialect_status : DialectFault → ℕ
-dialect_status DialectFault.Unread = 1
-dialect_status (DialectFault.NoRule place) = 2
-dialect_status (DialectFault.Refused place why) = 2
-
 -- 1 for a fault, 2 for words or a line that are bad.
 abbrev pub status_of : Stop → ℕ
 status_of Stop.NoMemory = 1
 status_of Stop.Input = 1
 status_of Stop.Output = 1
 status_of Stop.Line = 1
-status_of Stop.GaveUp = 1
+status_of (Stop.GaveUp cause) = 1
 status_of Stop.BadN1 = 2
 status_of Stop.BadCallers = 2
 status_of Stop.BadCut = 2
 status_of (Stop.BadLine place why) = 2
-status_of (Stop.Dialect fault) = dialect_status fault
-
--- what is said of a dialect, but for the number and the reason of a bad line
-abbrev pub dialect_words : DialectFault → List ℕ
-dialect_words DialectFault.Unread = codes "fault: dialect"
-dialect_words (DialectFault.NoRule place) = codes "dialect: bad line "
-dialect_words (DialectFault.Refused place why) = codes "dialect: bad line "
+status_of (Stop.Dialect fault) = 2
 
 -- the number of a bad line of a dialect, in decimal
 abbrev pub dialect_number : DialectFault → List ℕ
-dialect_number DialectFault.Unread = []
 dialect_number (DialectFault.NoRule place) = decimal place
 dialect_number (DialectFault.Refused place why) = decimal place
 
@@ -53,37 +41,55 @@ rule_words DialectError.NoMemory = codes ": no memory"
 
 -- why a line of a dialect is bad
 abbrev pub dialect_reason : DialectFault → List ℕ
-dialect_reason DialectFault.Unread = []
 dialect_reason (DialectFault.NoRule place) = codes ": no rule"
 dialect_reason (DialectFault.Refused place why) = rule_words why
 
--- what is said of it, but for the number and the reason of a bad line
+-- why a bench was given up, but for the number of a connection and what stands behind that
+abbrev pub cause_words : Cause → List ℕ
+cause_words Cause.Quiet = codes "fault: gave up: no octet moved in 600 polls in a row"
+cause_words Cause.UsedUp = codes "fault: gave up: all polls of the session are made"
+cause_words (Cause.NotOpened d) = codes "fault: gave up: connection "
+cause_words Cause.NotStopped = codes "fault: gave up: the multiplexer wasn't ended"
+cause_words Cause.OtherOutcomes = codes "fault: gave up: a caller was told outcomes of other requests"
+cause_words Cause.NoEnd = codes "fault: gave up: the simulated modem came to an end that none has"
+
+-- the number of the connection that wasn't opened, in decimal
+abbrev pub cause_number : Cause → List ℕ
+cause_number (Cause.NotOpened d) = decimal d.number
+cause_number _ = []
+
+-- what stands behind it
+abbrev pub cause_reason : Cause → List ℕ
+cause_reason (Cause.NotOpened d) = codes " wasn't opened"
+cause_reason _ = []
+
+-- what is said of it, but for the number of a line or a connection and what stands behind that
 abbrev pub stop_words : Stop → List ℕ
 stop_words Stop.NoMemory = codes "fault: no memory"
 stop_words Stop.Input = codes "fault: input"
 stop_words Stop.Output = codes "fault: output"
 stop_words Stop.Line = codes "fault: line"
-stop_words Stop.GaveUp = codes "fault: gave up"
+stop_words (Stop.GaveUp cause) = cause_words cause
 stop_words Stop.BadN1 = codes "error: N1 is 31 to 32767"
 stop_words Stop.BadCallers = codes "error: callers are 1 to 8"
 stop_words Stop.BadCut = codes "error: the cut is 1 to 4096"
 stop_words (Stop.BadLine place why) = codes "bad line "
-stop_words (Stop.Dialect fault) = dialect_words fault
+stop_words (Stop.Dialect fault) = codes "dialect: bad line "
 
--- the number of a bad line, in decimal
+-- the number of a bad line or of a connection, in decimal
 abbrev pub stop_number : Stop → List ℕ
 stop_number (Stop.BadLine place why) = decimal place
 stop_number Stop.NoMemory = []
 stop_number Stop.Input = []
 stop_number Stop.Output = []
 stop_number Stop.Line = []
-stop_number Stop.GaveUp = []
+stop_number (Stop.GaveUp cause) = cause_number cause
 stop_number Stop.BadN1 = []
 stop_number Stop.BadCallers = []
 stop_number Stop.BadCut = []
 stop_number (Stop.Dialect fault) = dialect_number fault
 
--- why a line is bad
+-- why a line is bad, or what a connection wasn't
 abbrev pub stop_reason : Stop → List ℕ
 stop_reason (Stop.Dialect fault) = dialect_reason fault
 stop_reason (Stop.BadLine place why) = reason_text why
@@ -91,7 +97,7 @@ stop_reason Stop.NoMemory = []
 stop_reason Stop.Input = []
 stop_reason Stop.Output = []
 stop_reason Stop.Line = []
-stop_reason Stop.GaveUp = []
+stop_reason (Stop.GaveUp cause) = cause_reason cause
 stop_reason Stop.BadN1 = []
 stop_reason Stop.BadCallers = []
 stop_reason Stop.BadCut = []
@@ -119,4 +125,4 @@ stop_at_rule DialectRefusal.NoMemory = Stop.NoMemory
 abbrev pub stop_of : Fault → Stop
 stop_of Fault.NoMemory = Stop.NoMemory
 stop_of Fault.Line = Stop.Line
-stop_of Fault.GaveUp = Stop.GaveUp
+stop_of (Fault.GaveUp cause) = Stop.GaveUp cause

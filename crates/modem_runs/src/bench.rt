@@ -37,7 +37,7 @@ impl From<Fault> for Stop {
         match fault {
             Fault::NoMemory => Stop::NoMemory,
             Fault::Line => Stop::Line,
-            Fault::GaveUp => Stop::GaveUp,
+            Fault::GaveUp(cause) => Stop::GaveUp(cause),
         }
     }
 }

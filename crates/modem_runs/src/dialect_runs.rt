@@ -13,6 +13,7 @@ ghost use Rattle.modem_runs.specs.LineFaults.{EventFault};
 ghost use Rattle.modem_runs.specs.Printed.{IsPrinted, IsReplayedBy};
 ghost use Rattle.modem_runs.specs.Script.{IsNoOrder};
 ghost use Rattle.modem_runs.specs.Stopping.{HasGivenUp, HasStopped, IsRunStop};
+ghost use Rattle.modem_bench.specs.declared.cause.Cause.{Cause};
 ghost use Rattle.modem_texts.specs.declared.line_fault.LineFault.{LineFault};
 ghost use Rattle.modem_runs.specs.declared.stop.DialectFault.{DialectFault};
 ghost use Rattle.modem_runs.specs.declared.stop.Stop.TheVariants as Stop;
@@ -29,19 +30,15 @@ use mux_frame::N1;
 use std::alloc::{AllocError, Global};
 use std::io::{Read, Write};
 
-/// The dialect whose text `input` has, a rule a line (`modem_texts::read_dialect`). It stops where the text can't be read, at the
-/// first bad line, and where memory is refused.
+/// The dialect whose text `input` has, a rule a line (`modem_texts::read_dialect`). Refusals: the first bad line; NoMemory; Input,
+/// where the reader fails or gives no end.
 pub fn dialect_from<R: Read>(alloc: Global, input: &mut R) -> Result<Dialect, Stop>
     ensures made { IfOk result
         (λ dialect. IfSome (R.remaining input.old) (λ text. AreLinesOf (input_lines text) dialect)) }
     ensures some { IfOk result HasText }
     ensures refused { IfErr result (IsDialectStop (R.remaining input.old)) }
 {
-    let text = match read_whole(alloc, input) {
-        Ok(text) => text,
-        Err(Stop::NoMemory) => return Err(Stop::NoMemory),
-        Err(_) => return Err(Stop::Dialect(DialectFault::Unread)),
-    };
+    let text = read_whole(alloc, input)?;
     let dialect = read_dialect(alloc, text.as_slice())?;
     Ok(dialect)
 }
@@ -76,7 +73,7 @@ fn replayed_by<R: Read>(
         → IfSome (R.remaining input.old) (λ text. IsFirstBad IsNoOrder EventFault (input_lines text) place why) }
     ensures others { (result ≢ Err Stop.BadN1) × (result ≢ Err Stop.BadCallers) × (result ≢ Err Stop.BadCut)
         × ((fault : DialectFault) → result ≢ Err (Stop.Dialect fault)) }
-    ensures no_line { (result ≢ Err Stop.Line) × (result ≢ Err Stop.GaveUp) }
+    ensures no_line { (result ≢ Err Stop.Line) × ((cause : Cause) → result ≢ Err (Stop.GaveUp cause)) }
     ensures no_output { result ≢ Err Stop.Output }
 {
     let script = read_whole(alloc, input)?;

@@ -17,6 +17,7 @@ mod writing;
 
 pub use bench::bench_run;
 pub use dialect_runs::{dialect_from, replay_with_dialect_run};
+pub use modem_bench::Cause;
 pub use modem_texts::LineFault;
 pub use runs::{frames_run, replay_run};
 pub use script::read_script;

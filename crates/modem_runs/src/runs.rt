@@ -13,6 +13,7 @@ ghost use Rattle.modem_runs.specs.LineFaults.{DumpFault, EventFault};
 ghost use Rattle.modem_runs.specs.Printed.{IsFramed, IsPrinted, IsReplayed};
 ghost use Rattle.modem_runs.specs.Script.{IsNoOrder};
 ghost use Rattle.modem_runs.specs.Stopping.{HasGivenUp, HasStopped, IsRunStop};
+ghost use Rattle.modem_bench.specs.declared.cause.Cause.{Cause};
 ghost use Rattle.modem_texts.specs.declared.line_fault.LineFault.{LineFault};
 ghost use Rattle.modem_runs.specs.declared.stop.DialectFault.{DialectFault};
 ghost use Rattle.modem_runs.specs.declared.stop.Stop.TheVariants as Stop;
@@ -60,7 +61,7 @@ fn replayed<R: Read>(alloc: Global, input: &mut R, n1: N1) -> Result<String, Sto
         → IfSome (R.remaining input.old) (λ text. IsFirstBad IsNoOrder EventFault (input_lines text) place why) }
     ensures others { (result ≢ Err Stop.BadN1) × (result ≢ Err Stop.BadCallers) × (result ≢ Err Stop.BadCut)
         × ((fault : DialectFault) → result ≢ Err (Stop.Dialect fault)) }
-    ensures no_line { (result ≢ Err Stop.Line) × (result ≢ Err Stop.GaveUp) }
+    ensures no_line { (result ≢ Err Stop.Line) × ((cause : Cause) → result ≢ Err (Stop.GaveUp cause)) }
     ensures no_output { result ≢ Err Stop.Output }
 {
     let script = read_whole(alloc, input)?;
@@ -78,7 +79,7 @@ fn framed<R: Read>(alloc: Global, input: &mut R, n1: N1) -> Result<String, Stop>
         → IfSome (R.remaining input.old) (λ text. IsFirstBad IsNoDump DumpFault (input_lines text) place why) }
     ensures others { (result ≢ Err Stop.BadN1) × (result ≢ Err Stop.BadCallers) × (result ≢ Err Stop.BadCut)
         × ((fault : DialectFault) → result ≢ Err (Stop.Dialect fault)) }
-    ensures no_line { (result ≢ Err Stop.Line) × (result ≢ Err Stop.GaveUp) }
+    ensures no_line { (result ≢ Err Stop.Line) × ((cause : Cause) → result ≢ Err (Stop.GaveUp cause)) }
     ensures no_output { result ≢ Err Stop.Output }
 {
     let dump = read_whole(alloc, input)?;

@@ -1,9 +1,10 @@
 //! Why a run ends without its output.
 ghost use Rattle.std.specs.Prelude.{◌≡◌};
-ghost use Rattle.modem_runs.specs.Statuses.{dialect_reason, dialect_status, dialect_words, rule_words, status_of, stop_at, stop_at_rule, stop_reason, stop_words};
+ghost use Rattle.modem_runs.specs.Statuses.{cause_reason, cause_words, dialect_reason, rule_words, status_of, stop_at, stop_at_rule, stop_reason, stop_words};
 ghost use Rattle.modem_runs.specs.declared.stop.Stop.TheVariants.{NoMemory};
 
 use at_text::DialectError;
+use modem_bench::Cause;
 use modem_texts::{DialectRefusal, LineFault, Refusal};
 use std::alloc::{AllocError, AllocFailed};
 use std::{error, fmt};
@@ -19,8 +20,8 @@ pub enum Stop {
     Output,
     /// The line failed.
     Line,
-    /// A bench didn't come to its end.
-    GaveUp,
+    /// A bench didn't come to its end, for this cause.
+    GaveUp(Cause),
     /// N1 isn't 31 to 32767.
     BadN1,
     /// Callers aren't 1 to 8.
@@ -29,15 +30,13 @@ pub enum Stop {
     BadCut,
     /// This line of the input is bad, counted from 1, and this part of it is the first that isn't as it must be.
     BadLine(u64, LineFault),
-    /// There is no dialect.
+    /// A line of a dialect is bad.
     Dialect(DialectFault),
 }
 
-/// Why there is no dialect.
+/// Why a text is none of a dialect.
 #[derive(Clone, Copy, PartialEq, Eq, Debug)]
 pub enum DialectFault {
-    /// Its text can't be read.
-    Unread,
     /// This line of its text says no rule, counted from 1.
     NoRule(u64),
     /// The rule of this line of its text is refused, counted from 1.
@@ -45,30 +44,11 @@ pub enum DialectFault {
 }
 
 impl DialectFault {
-    fn status(self) -> u8
-        ensures { result ≡ dialect_status self }
-    {
-        match self {
-            DialectFault::Unread => 1,
-            DialectFault::NoRule(_) | DialectFault::Refused(..) => 2,
-        }
-    }
-
-    fn words(self) -> &'static str
-        ensures { result.now ≡ dialect_words self }
-    {
-        match self {
-            DialectFault::Unread => "fault: dialect",
-            DialectFault::NoRule(_) | DialectFault::Refused(..) => "dialect: bad line ",
-        }
-    }
-
     /// Why a line is bad.
     fn reason(self) -> &'static str
         ensures { result.now ≡ dialect_reason self }
     {
         match self {
-            DialectFault::Unread => "",
             DialectFault::NoRule(_) => ": no rule",
             DialectFault::Refused(_, why) => rule_words(why),
         }
@@ -91,19 +71,43 @@ fn rule_words(why: DialectError) -> &'static str
     }
 }
 
+/// Why a bench was given up, but for the number of a connection and what stands behind that.
+fn cause_words(cause: Cause) -> &'static str
+    ensures { result.now ≡ cause_words cause }
+{
+    match cause {
+        Cause::Quiet => "fault: gave up: no octet moved in 600 polls in a row",
+        Cause::UsedUp => "fault: gave up: all polls of the session are made",
+        Cause::NotOpened(_) => "fault: gave up: connection ",
+        Cause::NotStopped => "fault: gave up: the multiplexer wasn't ended",
+        Cause::OtherOutcomes => "fault: gave up: a caller was told outcomes of other requests",
+        Cause::NoEnd => "fault: gave up: the simulated modem came to an end that none has",
+    }
+}
+
+/// What stands behind the number of a connection.
+fn cause_reason(cause: Cause) -> &'static str
+    ensures { result.now ≡ cause_reason cause }
+{
+    match cause {
+        Cause::NotOpened(_) => " wasn't opened",
+        _ => "",
+    }
+}
+
 impl Stop {
     /// The exit status: 1 for a fault, 2 for words or a line that are bad.
     pub fn status(self) -> u8
         ensures { result ≡ status_of self }
     {
         match self {
-            Stop::NoMemory | Stop::Input | Stop::Output | Stop::Line | Stop::GaveUp => 1,
-            Stop::BadN1 | Stop::BadCallers | Stop::BadCut | Stop::BadLine(..) => 2,
-            Stop::Dialect(fault) => fault.status(),
+            Stop::NoMemory | Stop::Input | Stop::Output | Stop::Line | Stop::GaveUp(_) => 1,
+            Stop::BadN1 | Stop::BadCallers | Stop::BadCut => 2,
+            Stop::BadLine(..) | Stop::Dialect(_) => 2,
         }
     }
 
-    /// What is said of it, but for the number and the reason of a bad line.
+    /// What is said of it, but for the number of a line or a connection and what stands behind that.
     pub fn words(self) -> &'static str
         ensures { result.now ≡ stop_words self }
     {
@@ -112,22 +116,23 @@ impl Stop {
             Stop::Input => "fault: input",
             Stop::Output => "fault: output",
             Stop::Line => "fault: line",
-            Stop::GaveUp => "fault: gave up",
+            Stop::GaveUp(cause) => cause_words(cause),
             Stop::BadN1 => "error: N1 is 31 to 32767",
             Stop::BadCallers => "error: callers are 1 to 8",
             Stop::BadCut => "error: the cut is 1 to 4096",
             Stop::BadLine(..) => "bad line ",
-            Stop::Dialect(fault) => fault.words(),
+            Stop::Dialect(_) => "dialect: bad line ",
         }
     }
 
-    /// Why a line is bad, else nothing.
+    /// What stands behind that number, else nothing: why a line is bad, or what a connection wasn't.
     pub fn reason(self) -> &'static str
         ensures { result.now ≡ stop_reason self }
     {
         match self {
             Stop::BadLine(_, fault) => fault.reason(),
             Stop::Dialect(fault) => fault.reason(),
+            Stop::GaveUp(cause) => cause_reason(cause),
             _ => "",
         }
     }
@@ -156,6 +161,10 @@ impl fmt::Display for Stop {
             Stop::BadLine(place, _)
             | Stop::Dialect(DialectFault::NoRule(place) | DialectFault::Refused(place, _)) => {
                 write!(f, "{words}{place}{reason}")
+            }
+            Stop::GaveUp(Cause::NotOpened(dlci)) => {
+                let number = dlci.number;
+                write!(f, "{words}{number}{reason}")
             }
             _ => f.write_str(words),
         }

@@ -8,10 +8,11 @@ ghost use Rattle.modem_texts.specs.Writing.{IsBegun};
 
 use crate::stop::{DialectFault, Stop};
 use itoa::Buffer;
+use modem_bench::Cause;
 use modem_texts::{put_octets, say_line};
 use std::io::Write;
 
-/// The number of a bad line in decimal, else nothing.
+/// The number of a bad line, or of a connection that wasn't opened, in decimal; else nothing.
 fn number_of(stop: Stop, digits: &mut Buffer) -> &str
     ensures { result.now ≡ stop_number stop }
 {
@@ -20,6 +21,7 @@ fn number_of(stop: Stop, digits: &mut Buffer) -> &str
         | Stop::Dialect(DialectFault::NoRule(place) | DialectFault::Refused(place, _)) => {
             digits.format(place)
         }
+        Stop::GaveUp(Cause::NotOpened(dlci)) => digits.format(dlci.number),
         _ => "",
     }
 }

@@ -44,19 +44,27 @@ pub fn put_octets<W: Write>(output: &mut W, octets: &[u8]) -> bool
     output.flush().is_ok()
 }
 
+/// Writes a text as far as the writer takes it, and says whether it took the whole.
+fn write_text<W: Write>(output: &mut W, text: &str) -> bool
+    ensures whole { result ≡ true → Appends (W.contents output.old) (W.contents output.new) text.now }
+    ensures part { IsBegun (W.contents output.old) (W.contents output.new) text.now }
+{
+    write_octets(output, text.as_bytes())
+}
+
 /// Writes a line of three parts, as far as the writer takes it.
 pub fn say_line<W: Write>(faults: &mut W, first: &str, second: &str, third: &str)
     ensures { IsBegun (W.contents faults.old) (W.contents faults.new)
         (first.now ++ second.now ++ third.now ++ 10 ∷ []) }
 {
-    if !write_octets(faults, first.as_bytes()) {
+    if !write_text(faults, first) {
         return;
     }
-    if !write_octets(faults, second.as_bytes()) {
+    if !write_text(faults, second) {
         return;
     }
-    if !write_octets(faults, third.as_bytes()) {
+    if !write_text(faults, third) {
         return;
     }
-    let _ = write_octets(faults, b"\n");
+    let _ = write_text(faults, "\n");
 }

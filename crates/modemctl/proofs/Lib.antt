@@ -1,2 +1,3 @@
+pub mod FileFaults
 pub mod Stops
 pub mod TextFiles

@@ -1,7 +1,7 @@
 -- Why a run ends without its output.
-use Rattle.std.specs.Prelude.{◌≡◌}
+use Rattle.std.specs.Prelude.{◌≡◌, ◌<◌, ◌≤◌}
+use Rattle.std.proofs.Common.{arith}
 use Rattle.modem_runs.specs.Statuses.{status_of}
-use Rattle.modem_runs.specs.declared.stop.DialectFault.{DialectFault}
 use Rattle.modem_runs.specs.declared.stop.Stop.{Stop}
 
 -- who stops doesn't end well
@@ -10,11 +10,22 @@ ends_badly Stop.NoMemory e = cc
 ends_badly Stop.Input e = cc
 ends_badly Stop.Output e = cc
 ends_badly Stop.Line e = cc
-ends_badly Stop.GaveUp e = cc
+ends_badly (Stop.GaveUp cause) e = cc
 ends_badly Stop.BadN1 e = cc
 ends_badly Stop.BadCallers e = cc
 ends_badly Stop.BadCut e = cc
 ends_badly (Stop.BadLine place why) e = cc
-ends_badly (Stop.Dialect DialectFault.Unread) e = cc
-ends_badly (Stop.Dialect (DialectFault.NoRule place)) e = cc
-ends_badly (Stop.Dialect (DialectFault.Refused place why)) e = cc
+ends_badly (Stop.Dialect fault) e = cc
+
+-- its status is 1 or 2
+pub stops_badly : (stop : Stop) → (0 < status_of stop) × (status_of stop ≤ 2)
+stops_badly Stop.NoMemory = (omega arith, omega arith)
+stops_badly Stop.Input = (omega arith, omega arith)
+stops_badly Stop.Output = (omega arith, omega arith)
+stops_badly Stop.Line = (omega arith, omega arith)
+stops_badly (Stop.GaveUp cause) = (omega arith, omega arith)
+stops_badly Stop.BadN1 = (omega arith, omega arith)
+stops_badly Stop.BadCallers = (omega arith, omega arith)
+stops_badly Stop.BadCut = (omega arith, omega arith)
+stops_badly (Stop.BadLine place why) = (omega arith, omega arith)
+stops_badly (Stop.Dialect fault) = (omega arith, omega arith)

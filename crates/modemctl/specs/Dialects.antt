@@ -1,5 +1,5 @@
 -- The dialect that the words give, and what the program prints at `replay` by it.
-use Rattle.std.specs.Prelude.{◌≡◌, ℕ, List, Option, None, Some, IfSome}
+use Rattle.std.specs.Prelude.{◌≡◌, ℕ, Bool, true, List, Option, None, Some, IfSome}
 use Rattle.clap.specs.Words.{Text}
 use Rattle.at_text.specs.Rules.{Rules, no_rules}
 use Rattle.modem_texts.specs.DialectNames.{dialect_with_name}
@@ -22,6 +22,11 @@ IsReadyOrRead None file rules = GivesRules file rules
 abbrev pub IsGivenDialect : (texts : Text → Option (List ℕ)) (name : Option Text) → Rules → Type 0
 IsGivenDialect texts None rules = rules ≡ no_rules
 IsGivenDialect texts (Some name) rules = IsReadyOrRead (dialect_with_name name) (texts name) rules
+
+-- no dialect comes ready under the name that is given, and it is known that the file of this name can't be opened
+abbrev pub IsShut : (shut : Text → Bool) (name : Option Text) → Type 0
+IsShut shut None = ⊥
+IsShut shut (Some name) = (dialect_with_name name ≡ None) × (shut name ≡ true)
 
 -- these acts were printed, at a modem with the dialect of this name, or else of the file of this name
 pub record PrintsActsBy (texts : Text → Option (List ℕ)) (name : Text) (n1 : ℕ) (input before after : Option (List ℕ)) : Type 0 where

@@ -1,23 +1,26 @@
 //! The words of the program.
 ghost use Rattle.std.specs.Prelude.{◌≡◌, ◌≢◌, ◌<◌, ◌≤◌, ◌⊎◌, [], map, Some, IfOk, false, codes};
 ghost use Rattle.std.specs.String.{string_bytes};
-ghost use Rattle.clap.specs.Words.{app_of, first_value, found_of, one_text, rule_of, kind_of, subcommand_name_of, subcommand_rows_of};
+ghost use Rattle.clap.specs.Words.{app_of, rule_of, kind_of, subcommand_name_of, subcommand_rows_of};
 ghost use Rattle.modem_runs.specs.Printed.{IsBenched, IsPrinted};
 ghost use Rattle.modem_runs.specs.Stopping.{HasGivenUp};
 ghost use Rattle.modem_serve.specs.Leaving.{IsServedInPart};
 ghost use Rattle.modem_serve.specs.Serving.{IsServed};
-ghost use Rattle.modemctl.specs.Benches.{IsFlag, LeavesClient, LeavesWith, PrintsBench, PrintsFrames, PrintsReplay, ServesClient, ServesWith, plain_script};
+ghost use Rattle.modemctl.specs.Benches.{LeavesClient, LeavesWith, PrintsBench, PrintsFrames, PrintsReplay, ServesClient, ServesWith, plain_script};
+ghost use Rattle.modemctl.specs.Dialects.{IsShut};
 ghost use Rattle.modemctl.specs.Drives.{PrintsDrive};
-ghost use Rattle.modemctl.specs.Words.{callers_rule, cut_rule, echo_rule, n1_rule, pin_rule, program_app, fault_in, met_in, with_four, with_one, with_three, with_two, AreFor, AsksNoHelp, HasNoNumber};
+ghost use Rattle.modemctl.specs.Files.{NamesCause};
+ghost use Rattle.modemctl.specs.Words.{callers_rule, cut_rule, n1_rule, program_app, fault_in, met_in, raw_in, with_four, with_one, with_three, with_two, AreFor, AsksNoHelp, HasNoNumber};
 
 mod dialects;
 mod driving;
+mod file_faults;
 mod files;
 mod help;
 mod numbers;
+mod sims;
 mod text_files;
 
-use at_cmds::Pin;
 use clap::error::ErrorKind;
 use clap::{Arg, ArgAction, ArgMatches, Command, Error, value_parser};
 use dialects::{dialect_option, replay_words};
@@ -27,6 +30,7 @@ use modem_runs::{Stop, bench_run, frames_run, give_up};
 use modem_serve::{SimOptions, sim_captured, sim_run};
 use modem_sim::{Script, Steps};
 use numbers::{Numbers, numbers_of};
+use sims::{echo_of, echo_option, pin_of, pin_option};
 use std::alloc::{AllocError, AllocGlobal, Global};
 use std::fs::File;
 use std::io::{Read, Write};
@@ -76,29 +80,6 @@ fn cut_option<'a>(alloc: Global) -> Arg<'a>
         .action(ArgAction::Set)
         .default_value("64")
         .value_parser(value_parser!(u16).range(1..=4096))
-}
-
-/// The option `--pin`.
-fn pin_option<'a>(alloc: Global) -> Arg<'a>
-    ensures rule { rule_of result ≡ pin_rule }
-    ensures own { result.global ≡ false }
-{
-    Arg::new(alloc, "pin")
-        .long("pin")
-        .value_name("PIN")
-        .help("The PIN that its SIM wants, 4 to 8 digits")
-        .action(ArgAction::Set)
-}
-
-/// The option `--echo`.
-fn echo_option<'a>(alloc: Global) -> Arg<'a>
-    ensures rule { rule_of result ≡ echo_rule }
-    ensures own { result.global ≡ false }
-{
-    Arg::new(alloc, "echo")
-        .long("echo")
-        .help("Repeat commands, until an ATE0")
-        .action(ArgAction::SetTrue)
 }
 
 /// The program with the subcommand that reads octets.
@@ -262,23 +243,6 @@ where
     )
 }
 
-/// The PIN that the words give, if they give one.
-fn pin_of(alloc: Global, matches: &ArgMatches<'_>) -> Result<Option<Pin>, AllocError>
-    ensures { IfOk result (λ pin. pin ≡ first_value (found_of matches.now) (codes "pin")) }
-{
-    match matches.get_str("pin") {
-        Some(pin) => Ok(Some(Pin::from(Vec::from_slice(alloc, pin.as_bytes())?))),
-        None => Ok(None),
-    }
-}
-
-/// Whether commands are repeated.
-fn echo_of(matches: &ArgMatches<'_>) -> bool
-    ensures { IsFlag (one_text (found_of matches.now) (codes "echo")) result }
-{
-    matches.get_flag("echo")
-}
-
 /// Is a modem for a client, with a capture where the words name a file for it.
 fn sim_with<R, I: Read, W: Write, E: Write>(
     rt: &R,
@@ -306,7 +270,7 @@ where
             let (status, _) = sim_captured(rt, alloc, input, output, faults, options, capture);
             status
         }
-        Err(fault) => refuse_capture(faults, path, fault),
+        Err(fault) => refuse_capture(alloc, faults, path, fault),
     }
 }
 
@@ -336,7 +300,12 @@ where
     let steps = match steps_of(rt, alloc, matches) {
         Ok(steps) => steps,
         Err(fault) => {
-            return refuse_script(faults, matches.get_str("script").unwrap_or(""), fault);
+            return refuse_script(
+                alloc,
+                faults,
+                matches.get_str("script").unwrap_or(""),
+                fault,
+            );
         }
     };
     let options = SimOptions {
@@ -375,8 +344,20 @@ where
     ensures bad { result ≡ 2 → subcommand_name_of matches.now ≢ Some (codes "drive") → output.new ≡ output.old }
     ensures unread { HasNoNumber (subcommand_rows_of matches.now) → input.new ≡ input.old }
     ensures nothing { result ≡ 1 → subcommand_name_of matches.now ≢ Some (codes "sim")
-        → subcommand_name_of matches.now ≢ Some (codes "drive")
+        → subcommand_name_of matches.now ≢ Some (codes "drive") → subcommand_name_of matches.now ≢ Some (codes "replay")
         → HasGivenUp output.old output.new (E.contents faults.old) (E.contents faults.new) result }
+    ensures unreplayed { result ≡ 1 → subcommand_name_of matches.now ≡ Some (codes "replay")
+        → NamesCause (raw_in (subcommand_rows_of matches.now) (codes "dialect")) output.old output.new (E.contents faults.old)
+        (E.contents faults.new) result }
+    ensures undriven { result ≡ 1 → subcommand_name_of matches.now ≡ Some (codes "drive")
+        → IsShut (R.is_shut rt.now) (raw_in (subcommand_rows_of matches.now) (codes "dialect"))
+        → NamesCause (raw_in (subcommand_rows_of matches.now) (codes "dialect")) output.old output.new (E.contents faults.old)
+        (E.contents faults.new) result }
+    ensures replay_shut { subcommand_name_of matches.now ≡ Some (codes "replay")
+        → IsShut (R.is_shut rt.now) (raw_in (subcommand_rows_of matches.now) (codes "dialect")) → 0 < result }
+    ensures drive_shut { subcommand_name_of matches.now ≡ Some (codes "drive")
+        → IsShut (R.is_shut rt.now) (raw_in (subcommand_rows_of matches.now) (codes "dialect"))
+        → (0 < result) × (output.new ≡ output.old) }
     ensures frames { result ≡ 0 → subcommand_name_of matches.now ≡ Some (codes "frames")
         → PrintsFrames (subcommand_rows_of matches.now) (I.remaining input.old) (W.contents output.old)
         (W.contents output.new) }
@@ -448,7 +429,20 @@ where
         → HasNoNumber (met_in (map string_bytes words.now)) → input.new ≡ input.old }
     ensures nothing { result ≡ 1 → (AreFor (codes "sim") (map string_bytes words.now) → ⊥)
         → (AreFor (codes "drive") (map string_bytes words.now) → ⊥)
+        → (AreFor (codes "replay") (map string_bytes words.now) → ⊥)
         → HasGivenUp output.old output.new (E.contents faults.old) (E.contents faults.new) result }
+    ensures unreplayed { result ≡ 1 → AreFor (codes "replay") (map string_bytes words.now)
+        → NamesCause (raw_in (met_in (map string_bytes words.now)) (codes "dialect")) output.old output.new
+        (E.contents faults.old) (E.contents faults.new) result }
+    ensures undriven { result ≡ 1 → AreFor (codes "drive") (map string_bytes words.now)
+        → IsShut (R.is_shut rt.now) (raw_in (met_in (map string_bytes words.now)) (codes "dialect"))
+        → NamesCause (raw_in (met_in (map string_bytes words.now)) (codes "dialect")) output.old output.new
+        (E.contents faults.old) (E.contents faults.new) result }
+    ensures replay_shut { AreFor (codes "replay") (map string_bytes words.now)
+        → IsShut (R.is_shut rt.now) (raw_in (met_in (map string_bytes words.now)) (codes "dialect")) → 0 < result }
+    ensures drive_shut { AreFor (codes "drive") (map string_bytes words.now)
+        → IsShut (R.is_shut rt.now) (raw_in (met_in (map string_bytes words.now)) (codes "dialect"))
+        → (0 < result) × (output.new ≡ output.old) }
     ensures frames { result ≡ 0 → AreFor (codes "frames") (map string_bytes words.now)
         → PrintsFrames (met_in (map string_bytes words.now)) (I.remaining input.old) (W.contents output.old)
         (W.contents output.new) }

@@ -207,7 +207,7 @@ stops_by input octets (Stop.BadLine place why) whole reason = record { text = oc
 stops_by input octets Stop.Input whole reason = tt
 stops_by input octets Stop.Output whole reason = reason
 stops_by input octets Stop.Line whole reason = reason
-stops_by input octets Stop.GaveUp whole reason = reason
+stops_by input octets (Stop.GaveUp cause) whole reason = reason
 stops_by input octets Stop.BadN1 whole reason = reason
 stops_by input octets Stop.BadCallers whole reason = reason
 stops_by input octets Stop.BadCut whole reason = reason

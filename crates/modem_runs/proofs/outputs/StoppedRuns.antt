@@ -1,6 +1,7 @@
 -- How a run that wasn't written whole ended.
 use Rattle.std.specs.Prelude.{◌≡◌, ◌≢◌, ◌≤◌, ℕ, List, Option, Result, Ok, Err, IfErr, IfOk, IfSome, IsErrOf, MatchResult, OnErr, refl}
 use Rattle.std.proofs.Common.{arith, ap}
+use Rattle.modem_bench.specs.declared.cause.Cause.{Cause}
 use Rattle.modem_runs.specs.Bench.{IsNoSubmission}
 use Rattle.modem_texts.specs.Input.{input_lines}
 use Rattle.modem_runs.specs.Input.{IsFirstBad}
@@ -16,14 +17,14 @@ use Rattle.modem_runs.specs.declared.stop.Stop.{Stop}
 pub run_cause : {T : Type 0} (built : Result T Stop) (n1 : ℕ) (IsBad : List ℕ → Type 0) (Has : List ℕ → LineFault → Type 0) (known : Option (List ℕ))
     → ((place : ℕ) (why : LineFault) → IsErrOf built (Stop.BadLine place why) → IfSome known (λ text. IsFirstBad IsBad Has (input_lines text) place why))
     → (built ≢ Err Stop.BadN1) × (built ≢ Err Stop.BadCallers) × (built ≢ Err Stop.BadCut) × ((fault : DialectFault) → built ≢ Err (Stop.Dialect fault))
-    → (built ≢ Err Stop.Line) × (built ≢ Err Stop.GaveUp)
+    → (built ≢ Err Stop.Line) × ((cause : Cause) → built ≢ Err (Stop.GaveUp cause))
     → IfErr built (IsRunStop n1 IsBad Has known)
 run_cause (Ok x) n1 IsBad Has known line others no_line = tt
 run_cause (Err Stop.NoMemory) n1 IsBad Has known line others no_line = tt
 run_cause (Err Stop.Input) n1 IsBad Has known line others no_line = tt
 run_cause (Err Stop.Output) n1 IsBad Has known line others no_line = tt
 run_cause (Err Stop.Line) n1 IsBad Has known line others no_line = no_line.0 refl
-run_cause (Err Stop.GaveUp) n1 IsBad Has known line others no_line = no_line.1 refl
+run_cause (Err (Stop.GaveUp cause)) n1 IsBad Has known line others no_line = no_line.1 cause refl
 run_cause (Err Stop.BadN1) n1 IsBad Has known line others no_line = absurd (others.0 refl)
 run_cause (Err Stop.BadCallers) n1 IsBad Has known line others no_line = others.1 refl
 run_cause (Err Stop.BadCut) n1 IsBad Has known line others no_line = others.2 refl
@@ -39,7 +40,7 @@ bench_cause (Err Stop.NoMemory) callers cut known line others = tt
 bench_cause (Err Stop.Input) callers cut known line others = tt
 bench_cause (Err Stop.Output) callers cut known line others = tt
 bench_cause (Err Stop.Line) callers cut known line others = tt
-bench_cause (Err Stop.GaveUp) callers cut known line others = tt
+bench_cause (Err (Stop.GaveUp cause)) callers cut known line others = tt
 bench_cause (Err Stop.BadN1) callers cut known line others = others.0 refl
 bench_cause (Err Stop.BadCallers) callers cut known line others = absurd (others.1 refl)
 bench_cause (Err Stop.BadCut) callers cut known line others = absurd (others.2 refl)

@@ -1,6 +1,6 @@
 //! Callers, connections and the driver side by side.
 use at_text::CommandLine;
-use modem_bench::{Fault, Submission, run_bench_within};
+use modem_bench::{Cause, Fault, Submission, run_bench_within};
 use modem_runs::bench_run;
 use modem_sim::{Script, Step, StepAct, Steps};
 use mux_frame::Dlci;
@@ -24,7 +24,8 @@ type End = (u8, &'static str, &'static str);
 
 const ALL_TOLD: End = (0, TWO_TOLD, "");
 
-const GAVE_UP: End = (1, "", "fault: gave up\n");
+// The modem ends the multiplexer once connection 0 is open, so that connection 1 isn't opened.
+const GAVE_UP: End = (1, "", "fault: gave up: connection 1 wasn't opened\n");
 
 // Two callers on such a line come to this.
 fn expect_two<R>(rt: &R, alloc: Global, cut: usize, script: Script, want: End)
@@ -121,6 +122,6 @@ fn a_bench_is_given_up_when_its_polls_are_used_up(rt: HostRuntime) -> Result<(),
         },
     ]?;
     let ended = run_bench_within(&rt, alloc, submissions.as_slice(), 1, 1, script, 1);
-    assert!(rt; matches!(ended, Err(Fault::GaveUp)));
+    assert!(rt; matches!(ended, Err(Fault::GaveUp(Cause::UsedUp))));
     Ok(())
 }

@@ -1,15 +1,16 @@
 //! The dialect that the words give.
-ghost use Rattle.std.specs.Prelude.{◌≡◌, ◌≤◌, IfOk, codes, false};
+ghost use Rattle.std.specs.Prelude.{◌≡◌, ◌<◌, ◌≤◌, IfErr, IfOk, IsErrOf, MatchResult, OnOk, Some, codes, false, true};
 ghost use Rattle.clap.specs.Words.{first_value, found_of, rule_of};
 ghost use Rattle.modem_texts.specs.DialectNames.{dialect_with_name};
-ghost use Rattle.modem_runs.specs.Stopping.{HasGivenUp};
-ghost use Rattle.modemctl.specs.Dialects.{GivesRules, IsGivenDialect, IsReadyOrRead, PrintsActs};
+ghost use Rattle.modemctl.specs.Dialects.{GivesRules, IsGivenDialect, IsReadyOrRead, IsShut, PrintsActs};
+ghost use Rattle.modemctl.specs.Files.{IsNoText, NamesCause, text_status};
 ghost use Rattle.modemctl.specs.Words.{dialect_rule};
 
-use crate::words::text_files::TextFiles;
+use crate::words::file_faults::{FileFault, refuse_file};
+use crate::words::text_files::{TextFault, TextFiles};
 use at_text::Dialect;
 use clap::{Arg, ArgAction, ArgMatches};
-use modem_runs::{DialectFault, Stop, dialect_from, give_up, replay_run, replay_with_dialect_run};
+use modem_runs::{Stop, dialect_from, give_up, replay_run, replay_with_dialect_run};
 use modem_texts::dialect_named;
 use std::alloc::Global;
 use std::io::{Read, Write};
@@ -26,38 +27,88 @@ pub fn dialect_option<'a>(alloc: Global) -> Arg<'a>
         .action(ArgAction::Set)
 }
 
-#[tactic(auto, using(crate::proofs::TextFiles::rules_of_file))]
 /// The dialect of the file of this path.
-fn dialect_in_file<R: TextFiles>(rt: &R, alloc: Global, path: &str) -> Result<Dialect, Stop>
-    ensures { IfOk result (GivesRules (R.text_of rt.now path.now)) }
+#[tactic(auto, using(crate::proofs::TextFiles::rules_of_file))]
+fn dialect_in_file<R: TextFiles>(rt: &R, alloc: Global, path: &str) -> Result<Dialect, TextFault>
+    ensures rules { IfOk result (GivesRules (R.text_of rt.now path.now)) }
+    ensures shut { R.is_shut rt.now path.now ≡ true → MatchResult result (λ _. ⊥) (λ fault. text_status fault ≡ 1) }
 {
-    let Ok(mut file) = rt.open_text(path) else {
-        return Err(Stop::Dialect(DialectFault::Unread));
+    let mut file = match rt.open_text(path) {
+        Ok(file) => file,
+        Err(error) => return Err(TextFault::Closed(error.kind())),
     };
-    dialect_from(alloc, &mut file)
+    match dialect_from(alloc, &mut file) {
+        Ok(dialect) => Ok(dialect),
+        Err(stop) => Err(TextFault::Stopped(stop)),
+    }
+}
+
+/// Says why the file of this path gives no dialect, and gives the status.
+fn refuse_dialect<E: Write>(alloc: Global, faults: &mut E, path: &str, fault: TextFault) -> u8
+    ensures status { result ≡ text_status fault }
+    ensures bad { (0 < result) × (result ≤ 2) }
+    ensures said { IsNoText (codes "dialect") (Some path.now) (E.contents faults.old) (E.contents faults.new) result }
+{
+    match fault {
+        TextFault::Closed(kind) => {
+            refuse_file(alloc, faults, "dialect", path, FileFault::Closed(kind))
+        }
+        TextFault::Stopped(Stop::Input) => {
+            refuse_file(alloc, faults, "dialect", path, FileFault::Unread)
+        }
+        TextFault::Stopped(stop) => give_up(faults, stop),
+    }
 }
 
 /// The dialect that comes ready under this name, else that of the file of this name.
-pub fn dialect_by<R: TextFiles>(rt: &R, alloc: Global, name: &str) -> Result<Dialect, Stop>
+fn find_dialect<R: TextFiles>(rt: &R, alloc: Global, name: &str) -> Result<Dialect, TextFault>
     ensures named { IfOk result (IsReadyOrRead (dialect_with_name name.now) (R.text_of rt.now name.now)) }
+    ensures shut { IsShut (R.is_shut rt.now) (Some name.now) → MatchResult result (λ _. ⊥) (λ fault. text_status fault ≡ 1) }
 {
     match dialect_named(alloc, name.as_bytes()) {
         Ok(Some(dialect)) => Ok(dialect),
         Ok(None) => dialect_in_file(rt, alloc, name),
-        Err(_) => Err(Stop::NoMemory),
+        Err(_) => Err(TextFault::Stopped(Stop::NoMemory)),
     }
 }
 
-/// The dialect that the words give; the standard's codes alone where they give none.
-pub fn given_dialect<R: TextFiles>(
+/// The dialect that comes ready under this name, else that of the file of this name. Where there is none it says why, and gives the
+/// status.
+pub fn dialect_by<R: TextFiles, E: Write>(
+    rt: &R,
+    alloc: Global,
+    name: &str,
+    faults: &mut E,
+) -> Result<Dialect, u8>
+    ensures named { IfOk result (IsReadyOrRead (dialect_with_name name.now) (R.text_of rt.now name.now)) }
+    ensures silent { OnOk result (faults.new ≡ faults.old) }
+    ensures shut { IsShut (R.is_shut rt.now) (Some name.now) → IsErrOf result 1 }
+    ensures bad { IfErr result (λ status. (0 < status) × (status ≤ 2)) }
+    ensures refused { IfErr result
+        (IsNoText (codes "dialect") (Some name.now) (E.contents faults.old) (E.contents faults.new)) }
+{
+    match find_dialect(rt, alloc, name) {
+        Ok(dialect) => Ok(dialect),
+        Err(fault) => Err(refuse_dialect(alloc, faults, name, fault)),
+    }
+}
+
+/// The dialect that the words give; the standard's codes alone where they give none. Where there is none it says why, and gives the
+/// status.
+pub fn given_dialect<R: TextFiles, E: Write>(
     rt: &R,
     alloc: Global,
     matches: &ArgMatches<'_>,
-) -> Result<Dialect, Stop>
-    ensures { IfOk result (IsGivenDialect (R.text_of rt.now) (first_value (found_of matches.now) (codes "dialect"))) }
+    faults: &mut E,
+) -> Result<Dialect, u8>
+    ensures given { IfOk result (IsGivenDialect (R.text_of rt.now) (first_value (found_of matches.now) (codes "dialect"))) }
+    ensures shut { IsShut (R.is_shut rt.now) (first_value (found_of matches.now) (codes "dialect")) → IsErrOf result 1 }
+    ensures bad { IfErr result (λ status. (0 < status) × (status ≤ 2)) }
+    ensures refused { IfErr result (IsNoText (codes "dialect") (first_value (found_of matches.now) (codes "dialect"))
+        (E.contents faults.old) (E.contents faults.new)) }
 {
     match matches.get_str("dialect") {
-        Some(name) => dialect_by(rt, alloc, name),
+        Some(name) => dialect_by(rt, alloc, name, faults),
         None => Ok(Dialect::standard(alloc)),
     }
 }
@@ -81,14 +132,16 @@ where
     ensures bad { result ≡ 2 → output.new ≡ output.old }
     ensures done { result ≡ 0 → PrintsActs (R.text_of rt.now) (first_value (found_of matches.now) (codes "dialect")) n1
         (I.remaining input.old) (W.contents output.old) (W.contents output.new) }
-    ensures nothing { result ≡ 1 → HasGivenUp output.old output.new (E.contents faults.old)
+    ensures shut { IsShut (R.is_shut rt.now) (first_value (found_of matches.now) (codes "dialect")) → result ≡ 1 }
+    ensures nothing { result ≡ 1
+        → NamesCause (first_value (found_of matches.now) (codes "dialect")) output.old output.new (E.contents faults.old)
         (E.contents faults.new) result }
 {
     let Some(name) = matches.get_str("dialect") else {
         return replay_run(alloc, input, output, faults, n1);
     };
-    match dialect_by(rt, alloc, name) {
+    match dialect_by(rt, alloc, name, faults) {
         Ok(dialect) => replay_with_dialect_run(alloc, input, output, faults, n1, &dialect),
-        Err(stop) => give_up(faults, stop),
+        Err(status) => status,
     }
 }

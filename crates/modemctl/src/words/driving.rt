@@ -1,7 +1,9 @@
 //! The words of a drive.
-ghost use Rattle.std.specs.Prelude.{◌≡◌, ◌≤◌, ◌⊎◌, IfOk, false};
-ghost use Rattle.clap.specs.Words.{app_of, rule_of, with_subcommand};
+ghost use Rattle.std.specs.Prelude.{◌≡◌, ◌<◌, ◌≤◌, ◌⊎◌, IfOk, codes, false};
+ghost use Rattle.clap.specs.Words.{app_of, first_value, found_of, rule_of, with_subcommand};
+ghost use Rattle.modemctl.specs.Dialects.{IsShut};
 ghost use Rattle.modemctl.specs.Drives.{DrivesWith};
+ghost use Rattle.modemctl.specs.Files.{NamesCause};
 ghost use Rattle.modemctl.specs.Words.{device_rule, drive_app, entry_rule, quiet_rule, tick_rule};
 
 use crate::words::dialects::{dialect_option, given_dialect};
@@ -11,7 +13,6 @@ use crate::words::text_files::TextFiles;
 use crate::words::{help, n1_option, refuse};
 use clap::{Arg, ArgAction, ArgMatches, Command, value_parser};
 use modem_drive::{Settings, drive_run};
-use modem_runs::give_up;
 use std::alloc::{AllocError, AllocGlobal, Global};
 use std::fs::File;
 use std::io::{Read, Write};
@@ -116,7 +117,8 @@ fn times_of(matches: &ArgMatches<'_>) -> Result<Times, &'static str> {
     })
 }
 
-/// Drives a modem on the device that the words name. A number or a dialect that isn't one is refused before the device is opened.
+/// Drives a modem on the device that the words name. A number that isn't one and a dialect that isn't had are refused before the
+/// device is opened.
 pub fn drive_words<R, I, W, E>(
     rt: &R,
     matches: &ArgMatches<'_>,
@@ -143,6 +145,11 @@ where
     ensures done { result ≡ 0 → DrivesWith (R.text_of rt.now) n1 matches.now (W.contents output.old) (W.contents output.new) }
     ensures bad { result ≡ 2
         → (output.new ≡ output.old) ⊎ DrivesWith (R.text_of rt.now) n1 matches.now (W.contents output.old) (W.contents output.new) }
+    ensures shut { IsShut (R.is_shut rt.now) (first_value (found_of matches.now) (codes "dialect"))
+        → (0 < result) × (output.new ≡ output.old) }
+    ensures unread { IsShut (R.is_shut rt.now) (first_value (found_of matches.now) (codes "dialect")) → result ≡ 1
+        → NamesCause (first_value (found_of matches.now) (codes "dialect")) output.old output.new (E.contents faults.old)
+        (E.contents faults.new) result }
 {
     let Some(path) = matches.get_str("device") else {
         return 2;
@@ -151,7 +158,7 @@ where
         Ok(times) => times,
         Err(option) => return refuse(faults, option),
     };
-    match given_dialect(rt, rt.alloc(), matches) {
+    match given_dialect(rt, rt.alloc(), matches, faults) {
         Ok(dialect) => {
             let settings = Settings {
                 n1,
@@ -163,6 +170,6 @@ where
             };
             drive_run(rt, path, input, output, faults, settings)
         }
-        Err(stop) => give_up(faults, stop),
+        Err(status) => status,
     }
 }

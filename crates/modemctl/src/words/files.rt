@@ -1,10 +1,13 @@
 //! The files of `sim`: the script of its modem, and the capture.
-ghost use Rattle.std.specs.Prelude.{◌≡◌, ◌<◌, ◌≤◌, IfOk, codes, false};
+ghost use Rattle.std.specs.Prelude.{◌≡◌, ◌<◌, ◌≤◌, IfOk, Some, codes, false};
 ghost use Rattle.clap.specs.Words.{first_value, found_of, rule_of};
 ghost use Rattle.modemctl.specs.Benches.{AreScripted};
+ghost use Rattle.modemctl.specs.Captures.{SaysNoCapture};
+ghost use Rattle.modemctl.specs.Files.{IsNoText};
 ghost use Rattle.modemctl.specs.Words.{capture_rule, script_rule};
 
-use crate::words::text_files::TextFiles;
+use crate::words::file_faults::{FileFault, refuse_file};
+use crate::words::text_files::{TextFault, TextFiles};
 use clap::{Arg, ArgAction, ArgMatches};
 use modem_runs::{Stop, give_up, steps_from};
 use modem_sim::Steps;
@@ -38,21 +41,12 @@ pub fn capture_option<'a>(alloc: Global) -> Arg<'a>
         .action(ArgAction::Set)
 }
 
-/// Why a script gives no steps.
-#[derive(Drop)]
-pub enum ScriptFault {
-    /// It can't be opened.
-    Closed(ErrorKind),
-    /// It can't be read, or has a bad line.
-    Stopped(Stop),
-}
-
 /// The steps of the script that the words name; none where they name none.
 pub fn steps_of<R: TextFiles>(
     rt: &R,
     alloc: Global,
     matches: &ArgMatches<'_>,
-) -> Result<Steps, ScriptFault>
+) -> Result<Steps, TextFault>
     ensures { IfOk result (AreScripted (R.text_of rt.now) (first_value (found_of matches.now) (codes "script"))) }
 {
     let Some(path) = matches.get_str("script") else {
@@ -60,34 +54,31 @@ pub fn steps_of<R: TextFiles>(
     };
     let mut file = match rt.open_text(path) {
         Ok(file) => file,
-        Err(error) => return Err(ScriptFault::Closed(error.kind())),
+        Err(error) => return Err(TextFault::Closed(error.kind())),
     };
     match steps_from(alloc, &mut file) {
         Ok(steps) => Ok(steps),
-        Err(stop) => Err(ScriptFault::Stopped(stop)),
+        Err(stop) => Err(TextFault::Stopped(stop)),
     }
 }
 
 /// Says why the script of this path gives no steps, and gives the status.
-pub fn refuse_script<E: Write>(faults: &mut E, path: &str, fault: ScriptFault) -> u8
+pub fn refuse_script<E: Write>(alloc: Global, faults: &mut E, path: &str, fault: TextFault) -> u8
     ensures some { 0 < result }
     ensures status { result ≤ 2 }
+    ensures said { result ≡ 1 → IsNoText (codes "script") (Some path.now) (E.contents faults.old) (E.contents faults.new) result }
 {
     match fault {
-        ScriptFault::Closed(kind) => {
-            let _ = writeln!(faults, "fault: the script {path:?} can't be opened: {kind}");
-            1
+        TextFault::Closed(kind) => {
+            refuse_file(alloc, faults, "script", path, FileFault::Closed(kind))
         }
-        ScriptFault::Stopped(Stop::BadLine(place, fault)) => {
+        TextFault::Stopped(Stop::BadLine(place, fault)) => {
             let reason = fault.reason();
             let _ = writeln!(faults, "bad line {place} of the script{reason}");
             2
         }
-        ScriptFault::Stopped(Stop::NoMemory) => give_up(faults, Stop::NoMemory),
-        ScriptFault::Stopped(_) => {
-            let _ = writeln!(faults, "fault: the script {path:?} can't be read");
-            1
-        }
+        TextFault::Stopped(Stop::NoMemory) => give_up(faults, Stop::NoMemory),
+        TextFault::Stopped(_) => refuse_file(alloc, faults, "script", path, FileFault::Unread),
     }
 }
 
@@ -113,14 +104,22 @@ pub fn capture_at<R: Files<File = File>>(
 }
 
 /// Says why there is no capture at this path, and gives the status.
-pub fn refuse_capture<E: Write>(faults: &mut E, path: &str, fault: NoCapture) -> u8
-    ensures { result ≡ 1 }
+pub fn refuse_capture<E: Write>(
+    alloc: Global,
+    faults: &mut E,
+    path: &str,
+    fault: NoCapture,
+) -> u8
+    ensures status { result ≡ 1 }
+    ensures said { SaysNoCapture fault path.now (E.contents faults.old) (E.contents faults.new) }
 {
-    let _ = match fault {
+    match fault {
         NoCapture::Closed(kind) => {
-            writeln!(faults, "fault: the capture {path:?} can't be made: {kind}")
+            refuse_file(alloc, faults, "capture", path, FileFault::Unmade(kind))
         }
-        NoCapture::Begun(fault) => writeln!(faults, "{fault}"),
-    };
-    1
+        NoCapture::Begun(fault) => {
+            let _ = writeln!(faults, "{fault}");
+            1
+        }
+    }
 }

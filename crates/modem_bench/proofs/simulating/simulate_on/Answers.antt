@@ -9,7 +9,7 @@ use Rattle.modem_bench.proofs.simulating.simulate_on.Goals as goal
 pub returns-in-Some-advance : goal.returns-in-Some-advance
 returns-in-Some-advance g c =
     gives_if_ended (sight g.L.SerialLine.received g.L.SerialLine.sent g.L.SerialLine.calls g.L.SerialLine.failures g.L.SerialLine.empty_reads g.L.SerialLine.stalled_writes)
-    c.args.sim.now c.loop.sim c.advance.new.self c.in-Some-advance.given c.ended.result c.loop.invariant c.in-Some-advance.ensures.polls c.ended.ensures
+    c.args.sim.now c.loop.sim c.advance.new.self c.in-Some-advance.given c.ended.result c.loop.invariant c.in-Some-advance.ensures.polls c.ended.ensures.ended
 
 pub loop-preserved : goal.loop-preserved
 loop-preserved g c later =

@@ -1,4 +1,4 @@
-use Rattle.std.proofs.Common.{◌≡◌, ◌≢◌, ◌∙◌, ◌<◌, ◌⊎◌, ℕ, ⊎_elim, inl, inr, ap, arith, refl, subst, sym, true, List, [], ◌∷◌, Option, None, Some, option_map, codes}
+use Rattle.std.proofs.Common.{◌≡◌, ◌≢◌, ◌∙◌, ◌<◌, ◌⊎◌, ℕ, Bool, ⊎_elim, inl, inr, ap, arith, refl, subst, sym, true, List, [], ◌∷◌, Option, None, Some, option_map, codes}
 use Rattle.clap.specs.Words.{App, HasKind, IsAmong, Kinds, Row, Text, fault_of, is_simple, is_simple_and_free, subcommand_of, subcommand_name_of, subcommand_rows_of}
 use Rattle.clap.specs.declared.ArgMatches.{ArgMatches}
 use Rattle.clap.specs.declared.error.ErrorKind.{ErrorKind}
@@ -8,7 +8,9 @@ use Rattle.modemctl.specs.Words.{AsksNoHelp, HasNoNumber, program_app, fault_in,
 use Rattle.modem_runs.specs.declared.stop.Stop.TheVariants as Stop
 use Rattle.modem_runs.proofs.outputs.StoppedRuns.{gave_up}
 use Rattle.modemctl.specs.Benches.{LeavesClient, PrintsBench, PrintsFrames, PrintsReplay, ServesClient}
+use Rattle.modemctl.specs.Dialects.{IsShut}
 use Rattle.modemctl.specs.Drives.{PrintsDrive}
+use Rattle.modemctl.specs.Files.{NamesCause}
 use Rattle.modemctl.proofs.words.run.Goals as goal
 
 simple : is_simple program_app ≡ true
@@ -167,13 +169,71 @@ returns-in-Ok-try_get_matches_from-clause-no_number g c right none =
 
 pub returns-in-Ok-try_get_matches_from-clause-nothing :
     goal.returns-in-Ok-try_get_matches_from-clause-nothing
-returns-in-Ok-try_get_matches_from-clause-nothing g c one no_sim no_drive =
+returns-in-Ok-try_get_matches_from-clause-nothing g c one no_sim no_drive no_replay =
     let right = at_program (λ kinds. kinds ≡ []) _ _ c.in-Ok.ensures c.in-Ok-try_get_matches_from.ensures.kinds in
     let name = sym (named c.in-Ok-try_get_matches_from.matches _ _ c.in-Ok.ensures (λ e. (c.in-Ok-try_get_matches_from.ensures.matches e).1)) in
-    c.run_named.ensures.nothing one (λ is. no_sim (right, name ∙ is)) (λ is. no_drive (right, name ∙ is))
+    c.run_named.ensures.nothing one (λ is. no_sim (right, name ∙ is)) (λ is. no_drive (right, name ∙ is)) (λ is. no_replay (right, name ∙ is))
 
 pub returns-in-Err-clause-nothing : goal.returns-in-Err-clause-nothing
-returns-in-Err-clause-nothing g c one no_sim no_drive = gave_up Stop.NoMemory c.args.output.now _ _ _ _ c.give_up.ensures.status c.give_up.ensures.said (λ other. refl)
+returns-in-Err-clause-nothing g c one no_sim no_drive no_replay = gave_up Stop.NoMemory c.args.output.now _ _ _ _ c.give_up.ensures.status c.give_up.ensures.said (λ other. refl)
+
+-- ## A dialect whose file can't be used
+
+pub returns-in-Ok-try_get_matches_from-clause-unreplayed :
+    goal.returns-in-Ok-try_get_matches_from-clause-unreplayed
+returns-in-Ok-try_get_matches_from-clause-unreplayed g c one for =
+    subst (λ (m : Option (Text × List Row)). NamesCause (raw_in m (codes "dialect")) c.args.output.now c.run_named.new.output (g.E.Write.contents c.args.faults.now) (g.E.Write.contents c.run_named.new.faults) c.run_named.result) (met c.in-Ok-try_get_matches_from.matches _ _ c.in-Ok.ensures (λ e. (c.in-Ok-try_get_matches_from.ensures.matches e).1))
+    (c.run_named.ensures.unreplayed one (named c.in-Ok-try_get_matches_from.matches _ _ c.in-Ok.ensures (λ e. (c.in-Ok-try_get_matches_from.ensures.matches e).1) ∙ for.1))
+
+shut : (is : Text → Bool) (a b : Option (Text × List Row)) → a ≡ b → IsShut is (raw_in b (codes "dialect")) → IsShut is (raw_in a (codes "dialect"))
+shut is a b same h = subst (λ (m : Option (Text × List Row)). IsShut is (raw_in m (codes "dialect"))) (sym same) h
+
+pub returns-in-Ok-try_get_matches_from-clause-undriven :
+    goal.returns-in-Ok-try_get_matches_from-clause-undriven
+returns-in-Ok-try_get_matches_from-clause-undriven g c one for is =
+    let same = met c.in-Ok-try_get_matches_from.matches _ _ c.in-Ok.ensures (λ e. (c.in-Ok-try_get_matches_from.ensures.matches e).1) in
+    subst (λ (m : Option (Text × List Row)). NamesCause (raw_in m (codes "dialect")) c.args.output.now c.run_named.new.output (g.E.Write.contents c.args.faults.now) (g.E.Write.contents c.run_named.new.faults) c.run_named.result) same
+    (c.run_named.ensures.undriven one (named c.in-Ok-try_get_matches_from.matches _ _ c.in-Ok.ensures (λ e. (c.in-Ok-try_get_matches_from.ensures.matches e).1) ∙ for.1)
+    (shut (g.R.TextFiles.is_shut c.args.rt.now) _ _ same is))
+
+pub returns-in-Ok-try_get_matches_from-clause-replay_shut :
+    goal.returns-in-Ok-try_get_matches_from-clause-replay_shut
+returns-in-Ok-try_get_matches_from-clause-replay_shut g c for is =
+    c.run_named.ensures.replay_shut (named c.in-Ok-try_get_matches_from.matches _ _ c.in-Ok.ensures (λ e. (c.in-Ok-try_get_matches_from.ensures.matches e).1) ∙ for.1)
+    (shut (g.R.TextFiles.is_shut c.args.rt.now) _ _ (met c.in-Ok-try_get_matches_from.matches _ _ c.in-Ok.ensures (λ e. (c.in-Ok-try_get_matches_from.ensures.matches e).1)) is)
+
+pub returns-in-Ok-try_get_matches_from-clause-drive_shut :
+    goal.returns-in-Ok-try_get_matches_from-clause-drive_shut
+returns-in-Ok-try_get_matches_from-clause-drive_shut g c for is =
+    c.run_named.ensures.drive_shut (named c.in-Ok-try_get_matches_from.matches _ _ c.in-Ok.ensures (λ e. (c.in-Ok-try_get_matches_from.ensures.matches e).1) ∙ for.1)
+    (shut (g.R.TextFiles.is_shut c.args.rt.now) _ _ (met c.in-Ok-try_get_matches_from.matches _ _ c.in-Ok.ensures (λ e. (c.in-Ok-try_get_matches_from.ensures.matches e).1)) is)
+
+pub returns-in-Err-try_get_matches_from-clause-unreplayed :
+    goal.returns-in-Err-try_get_matches_from-clause-unreplayed
+returns-in-Err-try_get_matches_from-clause-unreplayed g c one for = inl (c.explain.ensures.nothing one)
+
+pub returns-in-Err-try_get_matches_from-clause-undriven :
+    goal.returns-in-Err-try_get_matches_from-clause-undriven
+returns-in-Err-try_get_matches_from-clause-undriven g c one for is = inl (c.explain.ensures.nothing one)
+
+pub returns-in-Err-try_get_matches_from-clause-replay_shut :
+    goal.returns-in-Err-try_get_matches_from-clause-replay_shut
+returns-in-Err-try_get_matches_from-clause-replay_shut g c for is =
+    let one = c.explain.ensures.memory (by_memory _ _ (at_program (λ kinds. HasKind kinds c.in-Err-try_get_matches_from.error) _ _ c.in-Ok.ensures c.in-Err-try_get_matches_from.ensures.kinds) for.0) in
+    omega (arith, one)
+
+pub returns-in-Err-try_get_matches_from-clause-drive_shut :
+    goal.returns-in-Err-try_get_matches_from-clause-drive_shut
+returns-in-Err-try_get_matches_from-clause-drive_shut g c for is =
+    let memory = by_memory _ _ (at_program (λ kinds. HasKind kinds c.in-Err-try_get_matches_from.error) _ _ c.in-Ok.ensures c.in-Err-try_get_matches_from.ensures.kinds) for.0 in
+    let one = c.explain.ensures.memory memory in
+    (omega (arith, one), c.explain.ensures.silent memory)
+
+pub returns-in-Err-clause-unreplayed : goal.returns-in-Err-clause-unreplayed
+returns-in-Err-clause-unreplayed g c one for = inl (gave_up Stop.NoMemory c.args.output.now _ _ _ _ c.give_up.ensures.status c.give_up.ensures.said (λ other. refl))
+
+pub returns-in-Err-clause-undriven : goal.returns-in-Err-clause-undriven
+returns-in-Err-clause-undriven g c one for is = inl (gave_up Stop.NoMemory c.args.output.now _ _ _ _ c.give_up.ensures.status c.give_up.ensures.said (λ other. refl))
 
 -- ## Rows
 

@@ -1,5 +1,5 @@
 -- What was printed, by the numbers that the matches of the subcommand give.
-use Rattle.std.proofs.Common.{◌≡◌, ◌∙◌, ◌⊎◌, ⊎_elim, ℕ, ap, is_some, sym, subst, inl, inr, List, Option, None, Some, option_map, codes}
+use Rattle.std.proofs.Common.{◌≡◌, ◌∙◌, ◌⊎◌, ⊎_elim, ℕ, Bool, ap, arith, is_some, sym, subst, inl, inr, List, Option, None, Some, option_map, codes}
 use Rattle.clap.specs.Words.{Row, Text, first_of, first_value, found_of, one_of, one_text, rows_of, subcommand_rows_of}
 use Rattle.clap.specs.declared.ArgMatches.{ArgMatches}
 use Rattle.clap.proofs.WalkLemmas.{first_value-rows, one_text-rows}
@@ -8,8 +8,9 @@ use Rattle.modem_serve.specs.declared.serving.SimOptions.{SimOptions}
 use Rattle.modemctl.specs.Benches.{AreGiven, AreMatched, AreScripted, IsFlag, LeavesClient, LeavesWith}
 use Rattle.modem_drive.specs.Entry.{entry_for}
 use Rattle.modem_drive.specs.OnDevice.{DroveDevice}
-use Rattle.modemctl.specs.Dialects.{IsGivenDialect, PrintsActs}
+use Rattle.modemctl.specs.Dialects.{IsGivenDialect, IsShut, PrintsActs}
 use Rattle.modemctl.specs.Drives.{DrivesWith, PrintsDrive}
+use Rattle.modemctl.specs.Files.{NamesCause}
 use Rattle.modemctl.proofs.words.run_named.Goals as goal
 
 of_rows : (met : Option (Text × List Row)) (rows : List Row) (option : Text) → Some rows ≡ option_map (λ p. p.1) met → one_of option rows ≡ text_in met option
@@ -141,3 +142,28 @@ returns-in-drive-clause-drive g c zero named =
 pub returns-in-drive-clause-drive_bad : goal.returns-in-drive-clause-drive_bad
 returns-in-drive-clause-drive_bad g c two named =
     ⊎_elim (λ same. inl same) (λ drove. inr (prints_drive (g.R.TextFiles.text_of c.args.rt.now) c.args.matches.now c.in-Some.given.now c.in-Ok.numbers.n1 _ _ c.in-Some.ensures.rows c.in-Ok.ensures.n1 drove)) (c.drive_words.ensures.bad two)
+
+names : {O : Type 0} (top m : ArgMatches) (old new : O) (before after : Option (List ℕ)) (status : ℕ) → Some (rows_of (found_of m)) ≡ option_map (λ p. p.1) (subcommand_rows_of top)
+    → NamesCause (first_value (found_of m) (codes "dialect")) old new before after status → NamesCause (raw_in (subcommand_rows_of top) (codes "dialect")) old new before after status
+names top m old new before after status rows said = subst (λ (t : Option Text). NamesCause t old new before after status) (word_given top m (codes "dialect") rows) said
+
+shut : (top m : ArgMatches) (is : Text → Bool) → Some (rows_of (found_of m)) ≡ option_map (λ p. p.1) (subcommand_rows_of top) → IsShut is (raw_in (subcommand_rows_of top) (codes "dialect")) → IsShut is (first_value (found_of m) (codes "dialect"))
+shut top m is rows h = subst (IsShut is) (sym (word_given top m (codes "dialect") rows)) h
+
+pub returns-in-replay-clause-unreplayed : goal.returns-in-replay-clause-unreplayed
+returns-in-replay-clause-unreplayed g c one named =
+    names c.args.matches.now c.in-Some.given.now _ _ _ _ _ c.in-Some.ensures.rows (c.replay_words.ensures.nothing one)
+
+pub returns-in-replay-clause-replay_shut : goal.returns-in-replay-clause-replay_shut
+returns-in-replay-clause-replay_shut g c named is =
+    let one = c.replay_words.ensures.shut (shut c.args.matches.now c.in-Some.given.now (g.R.TextFiles.is_shut c.args.rt.now) c.in-Some.ensures.rows is) in
+    omega (arith, one)
+
+pub returns-in-drive-clause-undriven : goal.returns-in-drive-clause-undriven
+returns-in-drive-clause-undriven g c one named is =
+    names c.args.matches.now c.in-Some.given.now _ _ _ _ _ c.in-Some.ensures.rows
+    (c.drive_words.ensures.unread (shut c.args.matches.now c.in-Some.given.now (g.R.TextFiles.is_shut c.args.rt.now) c.in-Some.ensures.rows is) one)
+
+pub returns-in-drive-clause-drive_shut : goal.returns-in-drive-clause-drive_shut
+returns-in-drive-clause-drive_shut g c named is =
+    c.drive_words.ensures.shut (shut c.args.matches.now c.in-Some.given.now (g.R.TextFiles.is_shut c.args.rt.now) c.in-Some.ensures.rows is)

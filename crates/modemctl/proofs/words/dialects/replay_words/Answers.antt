@@ -1,9 +1,10 @@
 -- A replay by the dialect of the words.
-use Rattle.std.proofs.Common.{◌≡◌, refl, sym, subst, ◌∙◌, Option}
+use Rattle.std.proofs.Common.{◌≡◌, ℕ, List, Option, arith, inl, subst}
 use Rattle.clap.specs.Words.{Text}
-use Rattle.modem_runs.proofs.outputs.StoppedRuns.{gave_up}
+use Rattle.modem_runs.specs.Stopping.{HasGivenUp}
 use Rattle.modemctl.specs.Dialects.{PrintsActs}
-use Rattle.modemctl.proofs.Stops.{ends_badly}
+use Rattle.modemctl.specs.Files.{NamesCause}
+use Rattle.modemctl.proofs.FileFaults.{names_cause}
 use Rattle.modemctl.proofs.words.dialects.replay_words.Goals as goal
 
 pub returns-in_default-clause-done : goal.returns-in_default-clause-done
@@ -16,7 +17,20 @@ returns-in-Ok-clause-done g c zero =
     (record { rules = c.in-Ok.dialect; named = c.in-Ok.ensures.named; printed = c.replay_with_dialect_run.ensures.done zero })
 
 pub returns-in-Err-clause-done : goal.returns-in-Err-clause-done
-returns-in-Err-clause-done g c zero = absurd (ends_badly c.in-Err.stop (sym c.give_up.ensures.status ∙ zero))
+returns-in-Err-clause-done g c zero = let some = c.in-Err.ensures.bad.0 in absurd (omega (arith, some, zero))
+
+names : {E O : Type 0} (contents : E → Option (List ℕ)) (path : Option Text) (old new : O) (start before after : E) (status : ℕ) → before ≡ start
+    → HasGivenUp old new (contents before) (contents after) status → NamesCause path old new (contents start) (contents after) status
+names contents path old new start before after status same gave = inl (subst (λ (e : _). HasGivenUp old new (contents e) (contents after) status) same gave)
+
+pub returns-in_default-clause-nothing : goal.returns-in_default-clause-nothing
+returns-in_default-clause-nothing g c one = inl (c.replay_run.ensures.nothing one)
+
+pub returns-in-Ok-clause-nothing : goal.returns-in-Ok-clause-nothing
+returns-in-Ok-clause-nothing g c one =
+    names g.E.Write.contents _ c.args.output.now c.replay_with_dialect_run.new.output c.args.faults.now c.dialect_by.new.faults c.replay_with_dialect_run.new.faults _ c.in-Ok.ensures.silent (c.replay_with_dialect_run.ensures.nothing one)
 
 pub returns-in-Err-clause-nothing : goal.returns-in-Err-clause-nothing
-returns-in-Err-clause-nothing g c one = gave_up c.in-Err.stop c.args.output.now _ _ _ _ c.give_up.ensures.status c.give_up.ensures.said (λ other. refl)
+returns-in-Err-clause-nothing g c one =
+    subst (λ (t : Option Text). NamesCause t c.args.output.now c.args.output.now (g.E.Write.contents c.args.faults.now) (g.E.Write.contents c.dialect_by.new.faults) c.in-Err.status) c.in-Some.ensures
+    (names_cause _ c.args.output.now _ _ _ c.in-Err.ensures.refused)

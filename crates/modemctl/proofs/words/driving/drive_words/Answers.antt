@@ -7,7 +7,7 @@ use Rattle.modem_drive.specs.Entry.{entry_for}
 use Rattle.modem_drive.specs.OnDevice.{DroveDevice}
 use Rattle.modemctl.specs.Dialects.{IsGivenDialect}
 use Rattle.modemctl.specs.Drives.{DrivesWith}
-use Rattle.modemctl.proofs.Stops.{ends_badly}
+use Rattle.modemctl.proofs.FileFaults.{names_cause}
 use Rattle.modemctl.proofs.words.driving.drive_words.Goals as goal
 
 -- what the settings have is that of the words
@@ -54,4 +54,7 @@ returns-in-Ok-given_dialect-clause-bad g c two =
     (c.drive_run.ensures.drove (λ one. omega (arith, two, one))))
 
 pub returns-in-Err-given_dialect-clause-done : goal.returns-in-Err-given_dialect-clause-done
-returns-in-Err-given_dialect-clause-done g c zero = absurd (ends_badly c.in-Err-given_dialect.stop (sym c.give_up.ensures.status ∙ zero))
+returns-in-Err-given_dialect-clause-done g c zero = let some = c.in-Err-given_dialect.ensures.bad.0 in absurd (omega (arith, some, zero))
+
+pub returns-in-Err-given_dialect-clause-unread : goal.returns-in-Err-given_dialect-clause-unread
+returns-in-Err-given_dialect-clause-unread g c shut one = names_cause _ c.args.output.now _ _ _ c.in-Err-given_dialect.ensures.refused

@@ -1,0 +1,19 @@
+//! Why a bench is given up.
+use mux_frame::Dlci;
+
+/// Why a bench was given up before it came to its end.
+#[derive(Clone, Copy, PartialEq, Eq, Debug)]
+pub enum Cause {
+    /// No octet moved on its line in 600 polls in a row.
+    Quiet,
+    /// All polls that its session may make were made.
+    UsedUp,
+    /// This connection wasn't opened: what was asked to open it was told something else.
+    NotOpened(Dlci),
+    /// The multiplexer wasn't ended: what was asked to end it was told something else.
+    NotStopped,
+    /// A caller was told outcomes that aren't those of its requests, in their order.
+    OtherOutcomes,
+    /// The simulated modem came to an end that none has.
+    NoEnd,
+}

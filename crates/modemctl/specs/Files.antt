@@ -1,0 +1,89 @@
+-- Files that the words name, and what is said where one can't be used.
+use Rattle.std.specs.Prelude.{◌≡◌, ◌⊎◌, ℕ, ◌==◌, ◌||◌, List, [], ◌∷◌, ◌++◌, Option, Some, codes, if◌then◌else◌}
+use Rattle.std.specs.List.{flat_map}
+use Rattle.clap.specs.Words.{Text}
+use Rattle.modem_runs.specs.Statuses.{status_of, stop_line}
+use Rattle.modem_runs.specs.Stopping.{HasGivenUp}
+use Rattle.modem_runs.specs.declared.stop.Stop.{Stop}
+use Rattle.modem_texts.specs.Texts.{octet_text}
+use Rattle.modem_texts.specs.Writing.{IsBegun}
+use Rattle.modemctl.specs.declared.words.file_faults.FileFault.{FileFault}
+use Rattle.modemctl.specs.declared.words.text_files.TextFault.{TextFault}
+
+-- ## What is said of a file
+
+-- an octet of a path: `\` before a quote and a `\`; outside 20 to 7E hex `\x` and two digits
+abbrev pub quoted_octet : ℕ → List ℕ
+quoted_octet c = if (c == 34) || (c == 92) then 92 ∷ c ∷ [] else octet_text c
+
+-- a path in quotes
+abbrev pub quoted : List ℕ → List ℕ
+quoted path = 34 ∷ (flat_map quoted_octet path ++ 34 ∷ [])
+
+-- what can't be done with a file, and the system's words for why
+abbrev pub rest_of : FileFault → (cause : List ℕ) → List ℕ
+rest_of (FileFault.Closed kind) cause = codes " can't be opened: " ++ cause
+rest_of (FileFault.Unmade kind) cause = codes " can't be made: " ++ cause
+rest_of FileFault.Unread cause = codes " can't be read"
+
+-- that stands behind a text, with some words for why
+pub record PutsRest (fault : FileFault) (old new : List ℕ) : Type 0 where
+  pub cause : List ℕ
+  pub put : new ≡ old ++ rest_of fault cause
+
+-- a line about a file: what it is for, its path, what can't be done with it, and some words for why
+pub record IsFileLine (what path : List ℕ) (fault : FileFault) (line : List ℕ) : Type 0 where
+  pub cause : List ℕ
+  pub line_is : line ≡ codes "fault: the " ++ what ++ codes " " ++ quoted path ++ rest_of fault cause ++ codes "\n"
+
+-- such a line is said, or a beginning of it
+pub record SaysFile (what path : List ℕ) (fault : FileFault) (before after : Option (List ℕ)) : Type 0 where
+  pub line : List ℕ
+  pub is_line : IsFileLine what path fault line
+  pub said : IsBegun before after line
+
+-- that is said, or that memory was refused
+abbrev pub SaysWhy : (what path : List ℕ) → FileFault → (before after : Option (List ℕ)) → Type 0
+SaysWhy what path fault before after = SaysFile what path fault before after ⊎ IsBegun before after (stop_line Stop.NoMemory)
+
+-- ## A file that is to be read
+
+-- it can't be opened, or can't be read
+abbrev pub IsToBeRead : FileFault → Type 0
+IsToBeRead (FileFault.Closed kind) = Unit {0}
+IsToBeRead (FileFault.Unmade kind) = ⊥
+IsToBeRead FileFault.Unread = Unit {0}
+
+-- the words name this file, and it is said of it that it can't be opened or read
+pub record IsUnread (what : List ℕ) (path : Option Text) (before after : Option (List ℕ)) : Type 0 where
+  pub named : Text
+  pub path_is : path ≡ Some named
+  pub fault : FileFault
+  pub to_be_read : IsToBeRead fault
+  pub says : SaysFile what named fault before after
+
+-- the cause of a stop is said, or a beginning of that, and this is its status
+pub record SaysStop (before after : Option (List ℕ)) (status : ℕ) : Type 0 where
+  pub stop : Stop
+  pub has_status : status ≡ status_of stop
+  pub said : IsBegun before after (stop_line stop)
+
+-- the status where the file gives nothing: 1 where it can't be opened, else that of the stop
+abbrev pub text_status : TextFault → ℕ
+text_status (TextFault.Closed kind) = 1
+text_status (TextFault.Stopped stop) = status_of stop
+
+-- the file that the words name gives nothing: it can't be opened or read, at status 1, or there is a cause to stop
+abbrev pub IsNoText : (what : List ℕ) (path : Option Text) (before after : Option (List ℕ)) (status : ℕ) → Type 0
+IsNoText what path before after status = ((status ≡ 1) × IsUnread what path before after) ⊎ SaysStop before after status
+
+-- nothing was written to the output, since the file that the words name can't be opened or read, which is said beside it
+pub record HasNoFile {O : Type 0} (what : List ℕ) (path : Option Text) (old new : O) (before after : Option (List ℕ)) : Type 0 where
+  pub nothing : new ≡ old
+  pub unread : IsUnread what path before after
+
+-- what is said beside the output names the cause: that of a stop, or that the file of the dialect can't be opened or read; and nothing
+-- was written to the output, unless that is what failed
+abbrev pub NamesCause : {O : Type 0} → (dialect : Option Text) → (old new : O) → (before after : Option (List ℕ)) → (status : ℕ) → Type 0
+NamesCause dialect old new before after status =
+    HasGivenUp old new before after status ⊎ HasNoFile (codes "dialect") dialect old new before after
