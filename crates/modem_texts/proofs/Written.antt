@@ -71,3 +71,10 @@ begun_kept a b c octets h k = record { part = h.part; left = h.left; split = h.s
 
 pub whole_kept : (a b c : Option (List ℕ)) (octets : List ℕ) → Appends a b octets → Keeps b c → Appends a c octets
 whole_kept a b c octets p k = appends_kept a b c octets p k
+
+-- the octets of a text
+pub whole_of : (a b : Option (List ℕ)) (octets text : List ℕ) → octets ≡ text → Appends a b octets → Appends a b text
+whole_of a b octets text is p = rw is at p
+
+pub begun_of : (a b : Option (List ℕ)) (octets text : List ℕ) → octets ≡ text → IsBegun a b octets → IsBegun a b text
+begun_of a b octets text is h = rw is at h
