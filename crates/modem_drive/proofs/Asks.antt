@@ -1,50 +1,85 @@
 -- What the lines of the input ask is submitted.
-use Rattle.std.specs.Prelude.{◌≡◌, ℕ, Bool, true, false, List, [], ◌∷◌, ◌++◌, Option, None, Some, IfSome, refl}
-use Rattle.std.proofs.Common.{ap, sym, subst, append-nil, ◌∙◌}
+use Rattle.std.specs.Prelude.{◌≡◌, ℕ, ◌+◌, Bool, true, false, List, [], ◌∷◌, ◌++◌, length, Option, None, Some, Result, Ok, Err, IfSome, OnErr, OnOk, refl}
+use Rattle.std.proofs.Common.{ap, arith, sym, subst, append-nil, ◌∙◌}
 use Rattle.std.specs.Io.KnownBytes.{Consumes, IsAtEnd}
 use Rattle.modem_desk.specs.declared.request.Ask.{Ask}
 use Rattle.modem_desk.specs.declared.request.Request.{Request}
 use Rattle.modem_texts.specs.Input.{input_lines}
-use Rattle.modem_drive.specs.Asking.{AsksOn, HasAsked, IsThrough, LineAsks, LinesAsk, PlanView, asks_of}
+use Rattle.modem_drive.specs.Asking.{AsksOn, HasAsked, IsThrough, LinesAsk, PlanView, NamesRead, ReadsAll, ReadsLine, StopsOn, asks_of}
 use Rattle.modem_drive.specs.Input.{HasRead, LinesView, Reads}
 use Rattle.modem_drive.specs.Running.{plan_begun}
+use Rattle.modem_drive.specs.Saying.{NamesBad}
+use Rattle.modem_drive.proofs.Said.{names_at, names_none}
 
 apart : true ≡ false → ⊥
 apart e = cc
 
-pub asks_none : (p : PlanView) (rs : List Request) → AsksOn p p rs rs
-asks_none p rs = record { on = λ first h. h }
+pub asks_none : (p : PlanView) (rs : List Request) (said : Option (List ℕ)) → AsksOn p p rs rs said said
+asks_none p rs said = record { on = λ first silent h. h }
 
-pub asks_then : (p q r : PlanView) (a b c : List Request) → AsksOn p q a b → AsksOn q r b c → AsksOn p r a c
-asks_then p q r a b c g h = record { on = λ first k. h.on first (g.on first k) }
+pub asks_then : (p q r : PlanView) (a b c : List Request) (u v w : Option (List ℕ)) → AsksOn p q a b u v → AsksOn q r b c v w → AsksOn p r a c u w
+asks_then p q r a b c u v w g h = record { on = λ first silent k. h.on first silent (g.on first silent k) }
+
+-- no more was asked
+pub stops_here : (p q : PlanView) (a b : List Request) (u v : Option (List ℕ)) → AsksOn p q a b u v → StopsOn p a u v
+stops_here p q a b u v h = record { last = q; submitted = b; asks = h }
+
+pub stops_then : (p q : PlanView) (a b : List Request) (u v w : Option (List ℕ)) → AsksOn p q a b u v → StopsOn q b v w → StopsOn p a u w
+stops_then p q a b u v w g h = record { last = h.last; submitted = h.submitted; asks = asks_then p q h.last a b h.submitted u v w g h.asks }
+
+-- whatever it gives
+pub stops_if : {T E : Type 0} (r : Result T E) (p : PlanView) (a : List Request) (u v : Option (List ℕ)) → StopsOn p a u v → OnErr r (StopsOn p a u v)
+stops_if (Ok x) p a u v h = tt
+stops_if (Err why) p a u v h = h
+
+-- however it went
+pub stops_either : {T E : Type 0} (r : Result T E) (p q : PlanView) (a b : List Request) (u v : Option (List ℕ)) → OnOk r (AsksOn p q a b u v) → OnErr r (StopsOn p a u v) → StopsOn p a u v
+stops_either (Ok x) p q a b u v asks stops = stops_here p q a b u v asks
+stops_either (Err why) p q a b u v asks stops = stops
 
 -- nothing was asked
-pub asks_same : (p q : PlanView) (a b : List Request) → q ≡ p → b ≡ a → AsksOn p q a b
-asks_same p q a b plan submitted = subst (λ (x : PlanView × List Request). AsksOn p x.0 a x.1) (λ i. (sym plan i, sym submitted i)) (asks_none p a)
+pub asks_same : (p q : PlanView) (a b : List Request) (said : Option (List ℕ)) → q ≡ p → b ≡ a → AsksOn p q a b said said
+asks_same p q a b said plan submitted =
+    subst (λ (x : PlanView × List Request). AsksOn p x.0 a x.1 said said) (λ i. (sym plan i, sym submitted i)) (asks_none p a said)
+
+length_more : (lines : List (List ℕ)) (line : List ℕ) → length (lines ++ line ∷ []) ≡ length lines + 1
+length_more [] line = refl
+length_more (l ∷ lines) line = let more = length_more lines line in omega (arith, more)
 
 -- a line was read
-pub asks_read : (old new : PlanView) (line : List ℕ) (rs : List Request) → old.next ≡ [] → old.stopping ≡ false → new.stopping ≡ old.stopping → Reads old.input new.input (line ∷ []) → LineAsks line new.next → AsksOn old new rs rs
+pub asks_read : (old mid new : PlanView) (line : List ℕ) (rs : List Request) (said more : Option (List ℕ)) → old.next ≡ [] → old.stopping ≡ false → Reads old.input mid.input (line ∷ []) → mid ≡ record old { input = mid.input }
+    → ReadsLine mid new line said more → AsksOn old new rs rs said more
 unfolding Reads
-asks_read old new line rs none going same reads said = record {
-  on = λ first h.
-      let before : LinesAsk h.lines (asks_of rs) = subst (LinesAsk h.lines) (ap (λ (l : List Ask). asks_of rs ++ l) none ∙ append-nil (asks_of rs)) h.asked in
+asks_read old mid new line rs said more none going reads stays h = record {
+  on = λ first silent k.
+      let before : LinesAsk k.lines (asks_of rs) = subst (LinesAsk k.lines) (ap (λ (l : List Ask). asks_of rs ++ l) none ∙ append-nil (asks_of rs)) k.asked in
+      let count : mid.count ≡ length k.lines = ap (λ (p : PlanView). p.count) stays ∙ k.counted in
+      let was : NamesBad k.lines mid.was_bad silent said = subst (λ (b : Bool). NamesBad k.lines b silent said) (sym (ap (λ (p : PlanView). p.was_bad) stays)) k.named in
       record {
-        lines = h.lines ++ line ∷ [];
-        read = reads first h.lines h.read;
-        asked = LinesAsk.ask_next h.lines (asks_of rs) line new.next before said;
-        through = λ e. absurd (apart (sym e ∙ same ∙ going));
+        lines = k.lines ++ line ∷ [];
+        read = subst (λ (l : LinesView). HasRead first l (k.lines ++ line ∷ [])) (sym (ap (λ (p : PlanView). p.input) h.stays)) (reads first k.lines k.read);
+        counted = ap (λ (p : PlanView). p.count) h.stays ∙ ap (λ (n : ℕ). n + 1) count ∙ sym (length_more k.lines line);
+        asked = LinesAsk.ask_next k.lines (asks_of rs) line new.next before h.asks;
+        named = names_at k.lines mid.count line mid.was_bad new.was_bad silent said more count was h.names;
+        through = λ e. absurd (apart (sym e ∙ ap (λ (p : PlanView). p.stopping) h.stays ∙ ap (λ (p : PlanView). p.stopping) stays ∙ going));
       };
 }
 
+-- of the same line
+pub reads_same : (old new : PlanView) (line same : List ℕ) (said more : Option (List ℕ)) → line ≡ same → ReadsLine old new line said more → ReadsLine old new same said more
+reads_same old new line same said more is h = subst (λ (l : List ℕ). ReadsLine old new l said more) is h
+
 -- none was there
-pub asks_waits : (old new : PlanView) (rs : List Request) → old.stopping ≡ false → new.stopping ≡ old.stopping → Reads old.input new.input [] → new.next ≡ old.next → AsksOn old new rs rs
+pub asks_waits : (old new : PlanView) (rs : List Request) (said : Option (List ℕ)) → old.stopping ≡ false → Reads old.input new.input [] → new ≡ record old { input = new.input } → AsksOn old new rs rs said said
 unfolding Reads
-asks_waits old new rs going same reads next = record {
-  on = λ first h. record {
+asks_waits old new rs said going reads stays = record {
+  on = λ first silent h. record {
     lines = h.lines;
     read = subst (HasRead first new.input) (append-nil h.lines) (reads first h.lines h.read);
-    asked = subst (λ (l : List Ask). LinesAsk h.lines (asks_of rs ++ l)) (sym next) h.asked;
-    through = λ e. absurd (apart (sym e ∙ same ∙ going));
+    counted = ap (λ (p : PlanView). p.count) stays ∙ h.counted;
+    asked = subst (λ (l : List Ask). LinesAsk h.lines (asks_of rs ++ l)) (sym (ap (λ (p : PlanView). p.next) stays)) h.asked;
+    named = subst (λ (b : Bool). NamesBad h.lines b silent said) (sym (ap (λ (p : PlanView). p.was_bad) stays)) h.named;
+    through = λ e. absurd (apart (sym e ∙ ap (λ (p : PlanView). p.stopping) stays ∙ going));
   };
 }
 
@@ -56,27 +91,31 @@ pub asks_more : (new old : List Request) (r : Request) → new ≡ old ++ r ∷ 
 asks_more new old r e = ap asks_of e ∙ asks_append old r
 
 -- of the same plan
-pub asks_from : (view old new : PlanView) (a b : List Request) → view ≡ old → AsksOn view new a b → AsksOn old new a b
-asks_from view old new a b same h = subst (λ (p : PlanView). AsksOn p new a b) same h
+pub asks_from : (view old new : PlanView) (a b : List Request) (said more : Option (List ℕ)) → view ≡ old → AsksOn view new a b said more → AsksOn old new a b said more
+asks_from view old new a b said more same h = subst (λ (p : PlanView). AsksOn p new a b said more) same h
 
 -- the command that was next was submitted
-pub asks_submitted : (old new : PlanView) (a b : List Request) → new ≡ record old { next = [] } → asks_of b ≡ asks_of a ++ old.next → AsksOn old new a b
-asks_submitted old new a b same more = subst (λ (p : PlanView). AsksOn old p a b) (sym same) (record {
-  on = λ first h. record {
+pub asks_submitted : (old new : PlanView) (a b : List Request) (said : Option (List ℕ)) → new ≡ record old { next = [] } → asks_of b ≡ asks_of a ++ old.next → AsksOn old new a b said said
+asks_submitted old new a b said same more = subst (λ (p : PlanView). AsksOn old p a b said said) (sym same) (record {
+  on = λ first silent h. record {
     lines = h.lines;
     read = h.read;
+    counted = h.counted;
     asked = subst (LinesAsk h.lines) (sym more ∙ sym (append-nil (asks_of b))) h.asked;
+    named = h.named;
     through = λ e. let t = h.through e in record { ended = t.ended; no_text = t.no_text; no_next = refl };
   };
 })
 
 -- a Stop was asked
-pub asks_stops : (old new : PlanView) (rs : List Request) → IsThrough old → new ≡ record old { stopping = true } → AsksOn old new rs rs
-asks_stops old new rs through same = subst (λ (p : PlanView). AsksOn old p rs rs) (sym same) (record {
-  on = λ first h. record {
+pub asks_stops : (old new : PlanView) (rs : List Request) (said : Option (List ℕ)) → IsThrough old → new ≡ record old { stopping = true } → AsksOn old new rs rs said said
+asks_stops old new rs said through same = subst (λ (p : PlanView). AsksOn old p rs rs said said) (sym same) (record {
+  on = λ first silent h. record {
     lines = h.lines;
     read = h.read;
+    counted = h.counted;
     asked = h.asked;
+    named = h.named;
     through = λ e. record { ended = through.ended; no_text = through.no_text; no_next = through.no_next };
   };
 })
@@ -87,8 +126,8 @@ consumed_none : (a : Option (List ℕ)) → Consumes a a []
 consumed_none None = tt
 consumed_none (Some a) = refl
 
-asked_none : (input : Option (List ℕ)) → HasAsked input (plan_begun input) []
-asked_none input = record {
+asked_none : (input silent : Option (List ℕ)) → HasAsked input (plan_begun input) [] silent silent
+asked_none input silent = record {
   lines = [];
   read = record {
     came = [];
@@ -96,27 +135,49 @@ asked_none input = record {
     lines_are = λ more e. refl;
     at_end = λ e f. absurd (apart (sym e));
   };
+  counted = refl;
   asked = LinesAsk.ask_none;
+  named = names_none silent;
   through = λ e. absurd (apart (sym e));
 }
 
-read_all : (octets : List ℕ) (left : Option (List ℕ)) (came : List ℕ) → Consumes (Some octets) left came → IsAtEnd left → octets ≡ came
-read_all octets None came h e = absurd h
-read_all octets (Some rest) came h e = h ∙ ap (λ (l : List ℕ). came ++ l) e ∙ append-nil came
+came_all : (had left : Option (List ℕ)) (came : List ℕ) → Consumes had left came → IsAtEnd left → IfSome had (λ known. came ≡ known)
+came_all None left came h e = tt
+came_all (Some octets) None came h e = absurd h
+came_all (Some octets) (Some rest) came h e = sym (h ∙ ap (λ (l : List ℕ). came ++ l) e ∙ append-nil came)
 
-lines_read : (octets : List ℕ) (l : LinesView) (lines : List (List ℕ)) → HasRead (Some octets) l lines → l.ended ≡ true → l.failed ≡ false → l.text ≡ [] → input_lines octets ≡ lines
-lines_read octets l lines h ended well none =
-    ap input_lines (read_all octets l.left h.came h.consumed (h.at_end ended well) ∙ sym (append-nil h.came))
-    ∙ h.lines_are [] (λ e. refl)
-    ∙ ap (λ (t : List ℕ). lines ++ input_lines (t ++ [])) none
-    ∙ append-nil lines
+lines_read : (had : Option (List ℕ)) (l : LinesView) (lines : List (List ℕ)) (h : HasRead had l lines) → l.text ≡ [] → input_lines h.came ≡ lines
+lines_read had l lines h none =
+    ap input_lines (sym (append-nil h.came)) ∙ h.lines_are [] (λ e. refl) ∙ ap (λ (t : List ℕ). lines ++ input_lines (t ++ [])) none ∙ append-nil lines
 
 -- all was asked where the multiplexer was to end
-asked_all : (input : Option (List ℕ)) (p : PlanView) (rs : List Request) → HasAsked input p rs → p.stopping ≡ true → p.input.failed ≡ false → IfSome input (λ octets. LinesAsk (input_lines octets) (asks_of rs))
-asked_all None p rs h stops well = tt
-asked_all (Some octets) p rs h stops well =
+asked_all : (input : Option (List ℕ)) (p : PlanView) (rs : List Request) (silent said : Option (List ℕ)) → HasAsked input p rs silent said → p.stopping ≡ true → p.input.failed ≡ false → ReadsAll input rs p.was_bad silent said
+asked_all input p rs silent said h stops well =
     let t = h.through stops in
-    subst (λ (x : List (List ℕ) × List Ask). LinesAsk x.0 x.1) (λ i. (sym (lines_read octets p.input h.lines h.read t.ended well t.no_text) i, (ap (λ (l : List Ask). asks_of rs ++ l) t.no_next ∙ append-nil (asks_of rs)) i)) h.asked
+    let same : h.lines ≡ input_lines h.read.came = sym (lines_read input p.input h.lines h.read t.no_text) in
+    record {
+      octets = h.read.came;
+      all = came_all input p.input.left h.read.came h.read.consumed (h.read.at_end t.ended well);
+      asked = subst (λ (x : List (List ℕ) × List Ask). LinesAsk x.0 x.1) (λ i. (same i, (ap (λ (l : List Ask). asks_of rs ++ l) t.no_next ∙ append-nil (asks_of rs)) i)) h.asked;
+      named = subst (λ (lines : List (List ℕ)). NamesBad lines p.was_bad silent said) same h.named;
+    }
 
-pub all_asked : (input : Option (List ℕ)) (p : PlanView) (begun ended : List Request) → begun ≡ [] → AsksOn (plan_begun input) p begun ended → p.stopping ≡ true → p.input.failed ≡ false → IfSome input (λ octets. LinesAsk (input_lines octets) (asks_of ended))
-all_asked input p begun ended none asks stops well = asked_all input p ended (asks.on input (subst (HasAsked input (plan_begun input)) (sym none) (asked_none input))) stops well
+-- what was asked and named of a plan that has begun
+pub has_asked : (input : Option (List ℕ)) (p : PlanView) (begun ended : List Request) (silent said : Option (List ℕ)) → begun ≡ [] → AsksOn (plan_begun input) p begun ended silent said → HasAsked input p ended silent said
+has_asked input p begun ended silent said none asks = asks.on input silent (subst (λ (rs : List Request). HasAsked input (plan_begun input) rs silent silent) (sym none) (asked_none input silent))
+
+pub all_asked : (input : Option (List ℕ)) (p : PlanView) (rs : List Request) (silent said : Option (List ℕ)) (was_bad : Bool) → HasAsked input p rs silent said → was_bad ≡ p.was_bad → p.stopping ≡ true → p.input.failed ≡ false → ReadsAll input rs was_bad silent said
+all_asked input p rs silent said was_bad h same stops well = subst (λ (b : Bool). ReadsAll input rs b silent said) (sym same) (asked_all input p rs silent said h stops well)
+
+-- what was named of it
+pub names_read : (input : Option (List ℕ)) (p : PlanView) (rs : List Request) (silent said : Option (List ℕ)) → HasAsked input p rs silent said → NamesRead input silent said
+names_read input p rs silent said h = record { input = p.input; lines = h.lines; read = h.read; was_bad = p.was_bad; named = h.named }
+
+-- nothing was read
+pub names_nothing : (input silent : Option (List ℕ)) → NamesRead input silent silent
+names_nothing input silent = names_read input (plan_begun input) [] silent silent (asked_none input silent)
+
+pub names_stopped : (input : Option (List ℕ)) (p : PlanView) (begun : List Request) (silent said : Option (List ℕ)) → p ≡ plan_begun input → begun ≡ [] → StopsOn p begun silent said → NamesRead input silent said
+names_stopped input p begun silent said same none stops =
+    let h : StopsOn (plan_begun input) begun silent said = subst (λ (q : PlanView). StopsOn q begun silent said) same stops in
+    names_read input h.last h.submitted silent said (has_asked input h.last begun h.submitted silent said none h.asks)

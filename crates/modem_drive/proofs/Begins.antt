@@ -1,5 +1,5 @@
 -- How a drive begins.
-use Rattle.std.specs.Prelude.{◌≡◌, ◌+◌, ◌<◌, ℕ, All, zero, suc, List, [], ◌∷◌, ◌++◌, Option, None, Some, Result, Ok, Err, IfOk, IsOkAnd, drop, get_or, length, map, refl, replicate, slice_index_or, take}
+use Rattle.std.specs.Prelude.{◌≡◌, ◌+◌, ◌<◌, ℕ, All, Bool, zero, suc, List, [], ◌∷◌, ◌++◌, Option, None, Some, drop, get_or, length, map, refl, replicate, slice_index_or, take}
 use mathlib.Core.Option.{some}
 use lib.ListN.{get_elem?}
 use Rattle.std.specs.Io.KnownBytes.{Appends}
@@ -14,11 +14,11 @@ use Rattle.modem_history.specs.Sessions.{LineView}
 use Rattle.modem_driver.specs.SessionStates.{FitsAll, SessionState, beginning_by}
 use Rattle.modem_drive.specs.declared.users.UnderWay.{UnderWay}
 use Rattle.modem_drive.specs.declared.users.Users.{Users}
-use Rattle.modem_drive.specs.Asking.{PlanView}
+use Rattle.modem_drive.specs.Asking.{AsksOn, HasAsked, NamesRead, PlanView}
 use Rattle.modem_drive.specs.Running.{Begins, Drove, HasEntered, IsNewDesk, kinds_by, plan_begun}
 use Rattle.modem_drive.specs.Ending.{HasDriven, HasEndedBy}
 use Rattle.modem_drive.specs.declared.fault.DriveFault.{DriveFault}
-use Rattle.modem_drive.proofs.Asks.{all_asked, asks_same, asks_then}
+use Rattle.modem_drive.proofs.Asks.{all_asked, asks_same, asks_then, has_asked, names_read}
 use Rattle.modem_desk.specs.declared.settling.Settled.{Settled}
 use Rattle.modem_drive.specs.Showing.{HasShown, IsLine, IsRightPiece, count_on}
 
@@ -37,30 +37,42 @@ begins look rules n1 line d s users fits same new whole subscribed shown none_as
 }
 
 -- the same, and it was driven to its end
-pub drove : {X : Type 0} (look : X → LineView) (rules : Rules) (text : List ℕ) (n1 : ℕ) (first line last : X) (s : SessionState X) (users : Users) (input before after : Option (List ℕ)) (p : PlanView) (end : Option DriveFault) (left : Settled)
-    → HasEntered text (look first) (look line) → Begins look rules n1 line s users → HasDriven look s users (plan_begun input) p before after end left last → Drove look rules text n1 first last input before after end left
-drove {X} look rules text n1 first line last s users input before after p end left entered b driven = record {
-  session = s;
-  entered = subst (λ (x : X). HasEntered text (look first) (look x)) (sym b.at_line) entered;
-  users = users;
-  begins = record {
-    new = b.new;
-    at_line = refl;
-    fits = subst (λ (x : X). FitsAll (beginning_by (dialect_of rules) n1 (look x) s.driver) look s []) (sym b.at_line) b.fits;
-    whole = b.whole;
-    subscribed = b.subscribed;
-    shown = b.shown;
-    none_asked = b.none_asked;
-    dialect = b.dialect;
-  };
-  through = p;
-  driven = driven;
-  asked = λ e.
-      let by : HasEndedBy driven.stopped.machine.course p None = subst (HasEndedBy driven.stopped.machine.course p) e driven.by in
-      all_asked input p users.lines.submitted driven.ends.ended.lines.submitted b.none_asked
-      (asks_then _ p p users.lines.submitted driven.mid.lines.submitted driven.ends.ended.lines.submitted driven.asks (asks_same p p driven.mid.lines.submitted driven.ends.ended.lines.submitted refl driven.ends.submits_none))
-      by.1 by.2;
-}
+pub drove : {X : Type 0} (look : X → LineView) (rules : Rules) (text : List ℕ) (n1 : ℕ) (first line last : X) (s : SessionState X) (users : Users) (input before after silent said : Option (List ℕ)) (p : PlanView) (end : Option DriveFault) (was_bad : Bool) (left : Settled)
+    → HasEntered text (look first) (look line) → Begins look rules n1 line s users → HasDriven look s users (plan_begun input) p before after silent said end left last → was_bad ≡ p.was_bad
+    → Drove look rules text n1 first last input before after silent said end was_bad left
+drove {X} look rules text n1 first line last s users input before after silent said p end was_bad left entered b driven bad =
+    let asks : AsksOn (plan_begun input) p users.lines.submitted driven.ends.ended.lines.submitted silent said =
+    asks_then _ p p users.lines.submitted driven.mid.lines.submitted driven.ends.ended.lines.submitted silent said said driven.asks
+    (asks_same p p driven.mid.lines.submitted driven.ends.ended.lines.submitted said refl driven.ends.submits_none) in
+    let asked : HasAsked input p driven.ends.ended.lines.submitted silent said = has_asked input p users.lines.submitted driven.ends.ended.lines.submitted silent said b.none_asked asks in
+    record {
+      session = s;
+      entered = subst (λ (x : X). HasEntered text (look first) (look x)) (sym b.at_line) entered;
+      users = users;
+      begins = record {
+        new = b.new;
+        at_line = refl;
+        fits = subst (λ (x : X). FitsAll (beginning_by (dialect_of rules) n1 (look x) s.driver) look s []) (sym b.at_line) b.fits;
+        whole = b.whole;
+        subscribed = b.subscribed;
+        shown = b.shown;
+        none_asked = b.none_asked;
+        dialect = b.dialect;
+      };
+      through = p;
+      driven = driven;
+      read = asked;
+      bad_is = bad;
+      asked = λ e.
+          let by : HasEndedBy driven.stopped.machine.course p None = subst (HasEndedBy driven.stopped.machine.course p) e driven.by in
+          all_asked input p driven.ends.ended.lines.submitted silent said was_bad asked bad by.1 by.2;
+    }
+
+-- what it named
+pub named_by : {X : Type 0} (look : X → LineView) (rules : Rules) (text : List ℕ) (n1 : ℕ) (line last : X) (input before after silent said : Option (List ℕ)) (end : Option DriveFault) (was_bad : Bool) (left : Settled)
+    → Drove look rules text n1 line last input before after silent said end was_bad left → NamesRead input silent said
+named_by look rules text n1 line last input before after silent said end was_bad left h =
+    names_read input h.through h.driven.ends.ended.lines.submitted silent said h.read
 
 -- ## The desk that is opened
 

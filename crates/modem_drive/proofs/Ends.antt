@@ -1,5 +1,5 @@
 -- How a drive ends.
-use Rattle.std.specs.Prelude.{◌≡◌, ℕ, List, [], ◌∷◌, ◌++◌, map, refl, slice_index_or, vec_items, Option, Result, Ok, Err, IfOk, OnOk}
+use Rattle.std.specs.Prelude.{◌≡◌, ℕ, List, [], ◌∷◌, ◌++◌, map, refl, slice_index_or, vec_items, Option, Result, Ok, IfOk, OnOk}
 use Rattle.std.proofs.Common.{ap, sym, subst, ◌∙◌, append-nil}
 use Rattle.modem_desk.specs.declared.request.Outcome.{Outcome}
 use Rattle.modem_desk.specs.Ends.{AreSubscribed, DeskId, DriverView, IsWhole, Place, Subscription, place_of, subscription_of}
@@ -97,10 +97,10 @@ ends_drive look s users kept ended used given driver away end f o p before after
       (λ i. (h.end_is i, h.used_is i)) books;
 }
 
-pub has_driven : {X : Type 0} (look : X → LineView) (s t u : SessionState X) (users mid kept : Users) (p q : PlanView) (before between after : Option (List ℕ)) (end : Option DriveFault) (left : Settled) (last : X)
-    → DrivesOn look s t → GoOn before between users mid → AsksOn p q users.lines.submitted mid.lines.submitted → HasEndedBy t.machine.course q end
-    → u ≡ t → kept ≡ mid → EndsDrive look u kept between after left → last ≡ u.line → HasDriven look s users p q before after end left last
-has_driven {X} look s t u users mid kept p q before between after end left last drives goes asks by same stays ends line = record {
+pub has_driven : {X : Type 0} (look : X → LineView) (s t u : SessionState X) (users mid kept : Users) (p q : PlanView) (before between after said more : Option (List ℕ)) (end : Option DriveFault) (left : Settled) (last : X)
+    → DrivesOn look s t → GoOn before between users mid → AsksOn p q users.lines.submitted mid.lines.submitted said more → HasEndedBy t.machine.course q end
+    → u ≡ t → kept ≡ mid → EndsDrive look u kept between after left → last ≡ u.line → HasDriven look s users p q before after said more end left last
+has_driven {X} look s t u users mid kept p q before between after said more end left last drives goes asks by same stays ends line = record {
   stopped = t;
   drives = drives;
   line_is = sym (line ∙ ap (λ (x : SessionState X). x.line) same);

@@ -1,5 +1,5 @@
 -- What a poll gives, and how a drive ends by it.
-use Rattle.std.specs.Prelude.{◌≡◌, ◌≢◌, true, false, Option, None, Some, Result, Ok, Err, refl}
+use Rattle.std.specs.Prelude.{◌≡◌, ◌≢◌, Option, None, Some, Result, Ok, Err, refl}
 use Rattle.std.proofs.Common.{ap, sym, subst, ◌∙◌}
 use Rattle.modem_history.specs.Sessions.{LineView}
 use Rattle.modem_driver.specs.Polls.{Polls, PollsFrom, end_in, with_given}
@@ -14,7 +14,6 @@ use Rattle.modem_driver.specs.declared.session.polling.Progress.{Progress}
 use Rattle.modem_driver.specs.declared.session.polling.Progress.TheVariants as progress
 use Rattle.modem_drive.specs.Asking.{PlanView}
 use Rattle.modem_drive.specs.Ending.{FailedFor, HasEndedBy, KeepsGiven, SaysBy}
-use Rattle.modem_drive.specs.declared.driving.Went.{Went}
 use Rattle.modem_drive.specs.declared.driving.Went.TheVariants as went
 use Rattle.modem_drive.specs.declared.fault.DriveFault.{DriveFault}
 use Rattle.modem_drive.specs.declared.fault.DriveFault.TheVariants as fault
@@ -71,7 +70,8 @@ ended_by said c p (Some fault.Refused) k s = tt
 ended_by said c p (Some fault.NoAnswer) k s = tt
 ended_by said c p (Some fault.NotOpened) k s = tt
 ended_by said c p (Some fault.Closed) k s = tt
-ended_by said c p (Some fault.GaveUp) k s = tt
+ended_by said c p (Some (fault.GaveUp cause)) k s = tt
+ended_by said c p (Some (fault.NoCapture kind)) k s = tt
 ended_by said c p (Some fault.Capture) k s = tt
 
 -- a fault other than a line that hung up
@@ -87,7 +87,8 @@ other_fault c p fault.Refused n = tt
 other_fault c p fault.NoAnswer n = tt
 other_fault c p fault.NotOpened n = tt
 other_fault c p fault.Closed n = tt
-other_fault c p fault.GaveUp n = tt
+other_fault c p (fault.GaveUp cause) n = tt
+other_fault c p (fault.NoCapture kind) n = tt
 other_fault c p fault.Capture n = tt
 
 pub ended_otherwise : (c : Course) (p : PlanView) (f : DriveFault) (end : Option DriveFault) → went.Ends (Some f) ≡ went.Ends end → Some f ≢ Some fault.HungUp → HasEndedBy c p end

@@ -1,4 +1,7 @@
 pub mod Reading
+pub mod Said
+pub mod OneNaming
+pub mod SayingRowFacts
 pub mod Asks
 pub mod Judges
 pub mod Lines

@@ -1,5 +1,5 @@
 -- How a drive ends.
-use Rattle.std.specs.Prelude.{◌≡◌, ℕ, Bool, true, false, List, [], ◌∷◌, Option, None, Some, Result, Ok, Err, map, vec_items}
+use Rattle.std.specs.Prelude.{◌≡◌, ℕ, true, false, List, [], ◌∷◌, Option, None, Some, Ok, Err, map, vec_items}
 use Rattle.modem_desk.specs.declared.settling.Settled.{Settled}
 use Rattle.modem_desk.specs.declared.request.Request.{Request}
 use Rattle.modem_desk.specs.Books.{DeskBooks}
@@ -9,7 +9,6 @@ use Rattle.modem_driver.specs.SessionStates.{SessionEnds, SessionState, end_of}
 use Rattle.modem_driver.specs.TurningAway.{Offline, TurnsAway, offline_from}
 use Rattle.modem_driver.specs.declared.machine.course.Course.{Course}
 use Rattle.modem_driver.specs.declared.machine.course.Course.TheVariants as course
-use Rattle.modem_driver.specs.declared.session.ending.Ended.{Ended}
 use Rattle.modem_driver.specs.declared.session.ending.Ended.TheVariants.{Stopped}
 use Rattle.modem_driver.specs.declared.session.error.SessionFault.{SessionFault}
 use Rattle.modem_driver.specs.declared.session.error.SessionFault.TheVariants as error
@@ -68,16 +67,16 @@ SaysBy said p None = (said ≡ progress.Ended (Ok Stopped)) × (p.stopping ≡ t
 SaysBy said p (Some fault.HungUp) = (why : SessionFault) × (said ≡ progress.Ended (Err why)) × (why ≡ error.NoMemory → ⊥)
 SaysBy said p (Some _) = Unit {0}
 
--- The session went on by polls and ticks while its users submitted what the input asks, took and printed; it or the drive
--- ended so, its line as it is last; and then all was settled.
+-- The session went on by polls and ticks while its users submitted what the input asks, took and printed, and bad lines were named;
+-- it or the drive ended so, its line as it is last; and then all was settled.
 pub record HasDriven {X : Type 0} (look : X → LineView) (s : SessionState X) (users : Users) (p q : PlanView)
-    (before after : Option (List ℕ)) (end : Option DriveFault) (settled : Settled) (last : X) : Type 0 where
+    (before after said more : Option (List ℕ)) (end : Option DriveFault) (settled : Settled) (last : X) : Type 0 where
   pub stopped : SessionState X
   pub drives : DrivesOn look s stopped
   pub line_is : stopped.line ≡ last
   pub mid : Users
   pub between : Option (List ℕ)
   pub goes : GoOn before between users mid
-  pub asks : AsksOn p q users.lines.submitted mid.lines.submitted
+  pub asks : AsksOn p q users.lines.submitted mid.lines.submitted said more
   pub by : HasEndedBy stopped.machine.course q end
   pub ends : EndsDrive look stopped mid between after settled

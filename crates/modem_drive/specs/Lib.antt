@@ -1,4 +1,6 @@
 pub mod Faults
+pub mod Saying
+pub mod SayingRows
 pub mod Entry
 pub mod Input
 pub mod Asking

@@ -1,5 +1,5 @@
 -- A drive, from its line to its end.
-use Rattle.std.specs.Prelude.{◌≡◌, ℕ, List, [], ◌∷◌, ◌++◌, Option, None, IfSome, false, length, map, replicate}
+use Rattle.std.specs.Prelude.{◌≡◌, ℕ, Bool, List, [], ◌∷◌, ◌++◌, Option, None, false, length, map, replicate}
 use Rattle.at_text.specs.declared.finals.Final.TheVariants.{Good}
 use Rattle.at_text.specs.declared.unsolicited.UrcKind.{UrcKind}
 use Rattle.at_text.specs.Rules.{Rules, dialect_of}
@@ -10,8 +10,7 @@ use Rattle.modem_history.specs.Sessions.{LineView}
 use Rattle.modem_driver.specs.DialectReplays.{own_kinds}
 use Rattle.modem_driver.specs.EntryTries.{IsRepliedTo}
 use Rattle.modem_driver.specs.SessionStates.{FitsAll, SessionState, beginning_by}
-use Rattle.modem_texts.specs.Input.{input_lines}
-use Rattle.modem_drive.specs.Asking.{LinesAsk, PlanView, asks_of}
+use Rattle.modem_drive.specs.Asking.{HasAsked, PlanView, ReadsAll}
 use Rattle.modem_drive.specs.Ending.{HasDriven}
 use Rattle.modem_drive.specs.declared.fault.DriveFault.{DriveFault}
 use Rattle.modem_drive.specs.Showing.{HasShown}
@@ -47,18 +46,26 @@ HasEntered text first now = IsRepliedTo first now false text Good
 
 -- nothing of this input was read yet
 abbrev pub plan_begun : Option (List ℕ) → PlanView
-plan_begun input = record { input = record { left = input; text = []; ended = false; failed = false }; next = []; stopping = false }
+plan_begun input = record {
+  input = record { left = input; text = []; ended = false; failed = false };
+  count = 0;
+  was_bad = false;
+  next = [];
+  stopping = false;
+}
 
 -- The multiplexer was entered by this text, a session with this N1 and the codes of these rules began on the line, went on, and
--- ended, and all that came for its users was printed. Without a fault the commands that were submitted, and told before the end, are
--- those that the lines of the input are, in order, where it is known what the reader had. The line is as it is last.
+-- ended, and all that came for its users was printed. The commands that were submitted, and told before the end, are those that the
+-- lines are which were read, but for one that was next, and the bad ones of those lines were named: was_bad says whether there was
+-- any. Without a fault all lines of the input were read. The line is as it is last.
 pub record Drove {X : Type 0} (look : X → LineView) (rules : Rules) (text : List ℕ) (n1 : ℕ) (line last : X)
-    (input before after : Option (List ℕ)) (end : Option DriveFault) (left : Settled) : Type 0 where
+    (input before after silent said : Option (List ℕ)) (end : Option DriveFault) (was_bad : Bool) (left : Settled) : Type 0 where
   pub session : SessionState X
   pub entered : HasEntered text (look line) (look session.line)
   pub users : Users
   pub begins : Begins look rules n1 session.line session users
   pub through : PlanView
-  pub driven : HasDriven look session users (plan_begun input) through before after end left last
-  pub asked : end ≡ None
-      → IfSome input (λ octets. LinesAsk (input_lines octets) (asks_of driven.ends.ended.lines.submitted))
+  pub driven : HasDriven look session users (plan_begun input) through before after silent said end left last
+  pub read : HasAsked input through driven.ends.ended.lines.submitted silent said
+  pub bad_is : was_bad ≡ through.was_bad
+  pub asked : end ≡ None → ReadsAll input driven.ends.ended.lines.submitted was_bad silent said

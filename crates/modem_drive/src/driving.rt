@@ -1,14 +1,14 @@
 //! The loop of a drive: it asks, polls the session, prints what came, and waits.
-ghost use Rattle.std.specs.Prelude.{◌≡◌, IfOk, OnOk, Option};
+ghost use Rattle.std.specs.Prelude.{◌≡◌, IfOk, OnErr, OnOk, Option};
 ghost use Rattle.modem_driver.specs.SessionStates.{line_by};
-ghost use Rattle.modem_drive.specs.Asking.{AsksOn};
+ghost use Rattle.modem_drive.specs.Asking.{AsksOn, StopsOn};
 ghost use Rattle.modem_drive.specs.Driving.{DrivesOn};
 ghost use Rattle.modem_drive.specs.Ending.{HasEndedBy, KeepsGiven, SaysBy};
 ghost use Rattle.modem_drive.specs.declared.driving.Went.TheVariants as went;
 ghost use Rattle.modem_drive.specs.declared.fault.DriveFault.{DriveFault};
 ghost use Rattle.modem_drive.specs.Showing.{GoOn};
 
-use crate::fault::DriveFault;
+use crate::fault::{DriveFault, GiveUp};
 use crate::plan::Plan;
 use crate::users::Users;
 use bell::Bell;
@@ -136,7 +136,7 @@ fn judge<I: Read>(said: Progress, plan: &Plan<I>, moved: bool) -> Went
 {
     match said {
         Progress::Ended(Ok(Ended::Stopped)) if !plan.is_stopping() => Went::Ends(Some(
-            DriveFault::GaveUp,
+            DriveFault::GaveUp(GiveUp::Unasked),
         )),
         Progress::Ended(Ok(Ended::Stopped)) if plan.has_failed() => Went::Ends(Some(
             DriveFault::Input,
@@ -164,7 +164,9 @@ fn round<L: SerialLine, R: Wait + Clock + Drop, I: Read, W: Write, E: Write>(
 ) -> Result<Went, DriveFault>
     ensures drives { DrivesOn (line_by L.received L.sent L.calls L.failures L.empty_reads L.stalled_writes) session.old session.new }
     ensures goes { OnOk result (GoOn (W.contents output.old) (W.contents output.new) users.old users.new) }
-    ensures asks { OnOk result (AsksOn plan.old plan.new users.old.lines.submitted users.new.lines.submitted) }
+    ensures asks { OnOk result (AsksOn plan.old plan.new users.old.lines.submitted users.new.lines.submitted
+        (E.contents faults.old) (E.contents faults.new)) }
+    ensures stops { OnErr result (StopsOn plan.old users.old.lines.submitted (E.contents faults.old) (E.contents faults.new)) }
     ensures ends { IfOk result (λ w. (end : Option DriveFault) → w ≡ went.Ends end → HasEndedBy session.new.machine.course plan.new end) }
 {
     let said = poll(rt, session, ticks);
@@ -195,7 +197,9 @@ pub fn drive_on<L: SerialLine, R: Wait + Clock + Drop, I: Read, W: Write, E: Wri
 ) -> Result<Option<DriveFault>, DriveFault>
     ensures drives { DrivesOn (line_by L.received L.sent L.calls L.failures L.empty_reads L.stalled_writes) session.old session.new }
     ensures goes { OnOk result (GoOn (W.contents output.old) (W.contents output.new) users.old users.new) }
-    ensures asks { OnOk result (AsksOn plan.old plan.new users.old.lines.submitted users.new.lines.submitted) }
+    ensures asks { OnOk result (AsksOn plan.old plan.new users.old.lines.submitted users.new.lines.submitted
+        (E.contents faults.old) (E.contents faults.new)) }
+    ensures stops { OnErr result (StopsOn plan.old users.old.lines.submitted (E.contents faults.old) (E.contents faults.new)) }
     ensures ends { IfOk result (HasEndedBy session.new.machine.course plan.new) }
 {
     let most = Duration::from_secs(LOOK_SECONDS);

@@ -8,7 +8,7 @@ ghost use Rattle.modem_drive.specs.Ending.{EndsDrive, TurnsSome};
 ghost use Rattle.modem_drive.specs.Showing.{GoOn};
 
 use crate::driving::show;
-use crate::fault::DriveFault;
+use crate::fault::{DriveFault, GiveUp};
 use crate::plan::Plan;
 use crate::results::beside;
 use crate::users::Users;
@@ -48,7 +48,7 @@ fn turn_away<R: Wait + Clock, I: Read, W: Write>(
             return Ok(());
         }
     }
-    Err(DriveFault::GaveUp)
+    Err(DriveFault::GaveUp(GiveUp::Desk))
 }
 
 /// The desk in the place of a session that left these.

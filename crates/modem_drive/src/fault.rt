@@ -1,57 +1,138 @@
 //! Why a drive ends with a fault.
-ghost use Rattle.std.specs.Prelude.{◌≡◌};
+ghost use Rattle.std.specs.Prelude.{◌≡◌, option_map};
 ghost use Rattle.modem_drive.specs.declared.fault.DriveFault.TheVariants.{NoMemory, NoThread};
-ghost use Rattle.modem_drive.specs.Faults.{entry_fault};
+ghost use Rattle.modem_drive.specs.Faults.{entry_fault, fault_head, fault_words, give_up_words};
 
 use modem_driver::EntryError;
 use std::alloc::{AllocError, AllocFailed};
 use std::io::ErrorKind;
 use std::thread::SpawnError;
-use thiserror::Error;
+use std::{error, fmt};
+
+/// Why a drive gives up.
+#[derive(Clone, Copy, PartialEq, Eq, Debug)]
+pub enum GiveUp {
+    /// The input had 2^64 - 1 lines, or a connection had so many, and another came.
+    Lines,
+    /// An outcome came of a line that isn't under way.
+    Outcome,
+    /// The desk wasn't empty after 100,000 passes.
+    Desk,
+    /// The session stopped, though nobody asked it to.
+    Unasked,
+}
+
+impl GiveUp {
+    fn words(self) -> &'static str
+        ensures { result.now ≡ give_up_words self }
+    {
+        match self {
+            GiveUp::Lines => "fault: gave up: more than 2^64 - 1 lines came",
+            GiveUp::Outcome => "fault: gave up: an outcome came of a line that isn't under way",
+            GiveUp::Desk => "fault: gave up: the desk wasn't empty after 100,000 passes",
+            GiveUp::Unasked => "fault: gave up: the session stopped, though nobody asked it to",
+        }
+    }
+}
 
 /// Why a drive ends with a fault.
-#[derive(Clone, Copy, PartialEq, Eq, Debug, Error)]
+#[derive(Clone, Copy, PartialEq, Eq, Debug)]
 pub enum DriveFault {
     /// A growth was refused.
-    #[error("fault: no memory")]
     NoMemory,
     /// A thread can't be started.
-    #[error("fault: no thread: the system starts no more of them, or has no memory for one")]
     NoThread,
     /// The reader of the input failed. All that came before was submitted and told.
-    #[error("fault: input")]
     Input,
     /// The writer failed.
-    #[error("fault: output")]
     Output,
     /// The device can't be opened, for this reason.
-    #[error("fault: the device can't be opened: {0}")]
     NoDevice(ErrorKind),
     /// The device failed or ended before the multiplexer was entered.
-    #[error("fault: not a terminal that is set up, or one that ended before the modem answered; to set one up: stty -F DEVICE raw -echo min 0 time 1 -crtscts clocal -hupcl")]
     NotSetUp,
     /// The modem refused to enter the multiplexer.
-    #[error("fault: refused: the modem didn't answer OK to the text that enters the multiplexer (--entry gives another)")]
     Refused,
     /// The modem didn't answer.
-    #[error("fault: no answer to the text that enters the multiplexer, in two tries: is it the modem's port for AT commands, and its speed right?")]
     NoAnswer,
     /// The modem didn't open connection 0.
-    #[error("fault: connection 0 isn't open: the modem entered the multiplexer, and refused it or didn't answer")]
     NotOpened,
     /// The modem ended the multiplexer by itself.
-    #[error("fault: the modem ended the multiplexer: commands without an answer were told so")]
     Closed,
     /// The line was lost.
-    #[error("fault: hung up: the line was lost, and commands without an answer were told so")]
     HungUp,
+    /// The file of the capture can't be made, for this reason.
+    NoCapture(ErrorKind),
     /// The capture can't be written. All else was done.
-    #[error("fault: capture")]
     Capture,
     /// It didn't come to its end.
-    #[error("fault: gave up")]
-    GaveUp,
+    GaveUp(GiveUp),
 }
+
+impl DriveFault {
+    /// What is said of it, but for the path and the cause of what can't be opened or made.
+    pub fn words(self) -> &'static str
+        ensures { result.now ≡ fault_words self }
+    {
+        match self {
+            DriveFault::NoMemory => "fault: no memory",
+            DriveFault::NoThread => {
+                "fault: no thread: the system starts no more of them, or has no memory for one"
+            }
+            DriveFault::Input => "fault: input",
+            DriveFault::Output => "fault: output",
+            DriveFault::NoDevice(_) => "fault: the device can't be opened",
+            DriveFault::NotSetUp => {
+                "fault: not a terminal that is set up, or one that ended before the modem answered; to set one up: stty -F DEVICE raw -echo min 0 time 1 -crtscts clocal -hupcl"
+            }
+            DriveFault::Refused => {
+                "fault: refused: the modem didn't answer OK to the text that enters the multiplexer (--entry gives another)"
+            }
+            DriveFault::NoAnswer => {
+                "fault: no answer to the text that enters the multiplexer, in two tries: is it the modem's port for AT commands, and its speed right?"
+            }
+            DriveFault::NotOpened => {
+                "fault: connection 0 isn't open: the modem entered the multiplexer, and refused it or didn't answer"
+            }
+            DriveFault::Closed => {
+                "fault: the modem ended the multiplexer: commands without an answer were told so"
+            }
+            DriveFault::HungUp => {
+                "fault: hung up: the line was lost, and commands without an answer were told so"
+            }
+            DriveFault::NoCapture(_) => "fault: the capture can't be made",
+            DriveFault::Capture => "fault: capture",
+            DriveFault::GaveUp(why) => why.words(),
+        }
+    }
+
+    /// How the line begins that is said of it with the path of a file, up to the path, where it concerns one.
+    pub fn head(self) -> Option<&'static str>
+        ensures { option_map (λ head. head.now) result ≡ fault_head self }
+    {
+        match self {
+            DriveFault::NoDevice(_) => Some("fault: the device "),
+            DriveFault::NotSetUp => Some("fault: "),
+            DriveFault::NoCapture(_) => Some("fault: the capture "),
+            _ => None,
+        }
+    }
+}
+
+impl fmt::Display for DriveFault {
+    ghost use Rattle.modem_drive.specs.Faults.{fault_text};
+
+    ghost output = { λ fault. fault_text fault };
+
+    fn fmt<W: fmt::Write>(&self, f: &mut fmt::Formatter<W>) -> fmt::Result {
+        let words = self.words();
+        match self {
+            DriveFault::NoDevice(why) | DriveFault::NoCapture(why) => write!(f, "{words}: {why}"),
+            _ => f.write_str(words),
+        }
+    }
+}
+
+impl error::Error for DriveFault {}
 
 impl From<AllocError> for DriveFault {
     ghost from_gives = { λ _ fault. fault ≡ NoMemory };

@@ -1,15 +1,17 @@
 //! A drive on a device, from its path to its status.
-ghost use Rattle.std.specs.Prelude.{◌≡◌, ◌≢◌, ◌≤◌, [], false, IfOk, IfSome, IsOkAnd, None, is_some};
+ghost use Rattle.std.specs.Prelude.{◌≡◌, ◌≢◌, ◌≤◌, ◌==◌, [], false, IfOk, IfSome, None, is_some};
 ghost use Rattle.modem_driver.specs.SessionStates.{line_by};
+ghost use Rattle.modem_drive.specs.Asking.{NamesRead};
 ghost use Rattle.modem_drive.specs.CapturedLine.{HasBegun};
 ghost use Rattle.modem_drive.specs.Entry.{entry_for, given_text};
-ghost use Rattle.modem_drive.specs.OnDevice.{DroveCaptured, DroveDevice, DroveLine, DroveWell};
+ghost use Rattle.modem_drive.specs.OnDevice.{DroveCaptured, DroveDevice, DroveLine, DroveWell, EndsByFault, RanDevice, capture_path};
 
 use crate::captured_line::CapturedLine;
 use crate::device::{line_beside, read_beside};
 use crate::fault::DriveFault;
 use crate::results::beside;
 use crate::running::{Driven, drive_over};
+use crate::saying::{Paths, say_end, say_fault};
 use crate::settings::Settings;
 use bell::Bell;
 use mux_capture::Capture;
@@ -20,49 +22,6 @@ use std::io::{Read, Write};
 use std::rt::{Clock, Files};
 use std::sync::Wait;
 use std::thread::Threads;
-
-/// What `stty` sets a terminal up by.
-const STTY: &str = "raw -echo min 0 time 1 -crtscts clocal -hupcl";
-
-/// Says what a drive of the device of this path left undone, if anything, and gives its status.
-fn say_end<E: Write>(faults: &mut E, path: &str, ended: Result<Driven, DriveFault>) -> u8
-    ensures status { result ≤ 2 }
-    ensures well { result ≢ 1 → IsOkAnd ended (λ d. d.fault ≡ None) }
-{
-    match ended {
-        Ok(driven) => {
-            let requests = driven.left.left.len();
-            if requests > 0 {
-                let _ = writeln!(faults, "left {requests} requests");
-            }
-            match driven.fault {
-                Some(fault) => say_fault(faults, path, fault),
-                None if driven.was_bad => 2,
-                None => 0,
-            }
-        }
-        Err(fault) => say_fault(faults, path, fault),
-    }
-}
-
-/// Says why a drive of the device of this path ended, and gives the status.
-fn say_fault<E: Write>(faults: &mut E, path: &str, fault: DriveFault) -> u8
-    ensures { result ≡ 1 }
-{
-    let _ = match fault {
-        DriveFault::NoDevice(why) => {
-            writeln!(faults, "fault: the device {path:?} can't be opened: {why}")
-        }
-        DriveFault::NotSetUp => {
-            writeln!(
-                faults,
-                "fault: {path:?} is not a terminal that is set up, or ended before the modem answered; to set it up: stty -F {path:?} {STTY}",
-            )
-        }
-        fault => writeln!(faults, "{fault}"),
-    };
-    1
-}
 
 /// The device of this path, opened for reading and for writing.
 fn open_device<R: Files<File = File>>(rt: &R, path: &str) -> Result<(File, File), DriveFault> {
@@ -86,8 +45,9 @@ fn open_capture<R: Files<File = File>>(
 ) -> Result<Capture<File>, DriveFault>
     ensures { IfOk result HasBegun }
 {
-    let Ok(file) = File::create(rt, path) else {
-        return Err(DriveFault::Capture);
+    let file = match File::create(rt, path) {
+        Ok(file) => file,
+        Err(error) => return Err(DriveFault::NoCapture(error.kind())),
     };
     match Capture::begin(alloc, file) {
         Ok(capture) => Ok(capture),
@@ -142,10 +102,11 @@ where
     I: Read + Drop,
     W: Write,
     E: Write,
-    ensures { IfOk result (λ d. d.fault ≡ None
+    ensures drove { IfOk result (λ d. d.fault ≡ None
         → DroveWell (line_by L.received L.sent L.calls L.failures L.empty_reads L.stalled_writes) settings.entry.dialect.now
         (entry_for (given_text settings.entry.entry) settings.entry.n1) settings.entry.n1 line (I.remaining input)
-        (W.contents output.old) (W.contents output.new)) }
+        (W.contents output.old) (W.contents output.new) (E.contents faults.old) (E.contents faults.new) d.was_bad d.left) }
+    ensures named { NamesRead (I.remaining input) (E.contents faults.old) (E.contents faults.new) }
 {
     let (_, driven) = drive_over(rt, alloc, bell, line, input, output, faults, settings)?;
     Ok(driven)
@@ -183,10 +144,11 @@ where
     E: Write,
     requires fresh { (L.received line ≡ []) × (L.sent line ≡ []) }
     requires begun { HasBegun capture }
-    ensures { IfOk result (λ d. d.fault ≡ None
+    ensures drove { IfOk result (λ d. d.fault ≡ None
         → DroveCaptured (line_by L.received L.sent L.calls L.failures L.empty_reads L.stalled_writes) settings.entry.dialect.now
         (entry_for (given_text settings.entry.entry) settings.entry.n1) settings.entry.n1 line (I.remaining input)
-        (W.contents output.old) (W.contents output.new)) }
+        (W.contents output.old) (W.contents output.new) (E.contents faults.old) (E.contents faults.new) d.was_bad d.left) }
+    ensures named { NamesRead (I.remaining input) (E.contents faults.old) (E.contents faults.new) }
 {
     let line = CapturedLine::new(line, *rt, capture);
     let (last, driven) = drive_over(rt, alloc, bell, line, input, output, faults, settings)?;
@@ -224,10 +186,11 @@ where
     E: Write,
     requires fresh { (L.received line ≡ []) × (L.sent line ≡ []) }
     requires begun { IfSome capture HasBegun }
-    ensures { IfOk result (λ d. d.fault ≡ None → DroveLine (is_some capture)
+    ensures drove { IfOk result (λ d. d.fault ≡ None → DroveLine (is_some capture)
         (line_by L.received L.sent L.calls L.failures L.empty_reads L.stalled_writes) settings.entry.dialect.now
         (entry_for (given_text settings.entry.entry) settings.entry.n1) settings.entry.n1 line (I.remaining input)
-        (W.contents output.old) (W.contents output.new)) }
+        (W.contents output.old) (W.contents output.new) (E.contents faults.old) (E.contents faults.new) d.was_bad d.left) }
+    ensures named { NamesRead (I.remaining input) (E.contents faults.old) (E.contents faults.new) }
 {
     match capture {
         Some(capture) => drive_captured(
@@ -259,9 +222,10 @@ where
     W: Write,
     E: Write,
     requires { IfSome capture HasBegun }
-    ensures { IfOk result (λ d. d.fault ≡ None → DroveDevice (is_some capture) settings.entry.dialect.now
+    ensures drove { IfOk result (λ d. d.fault ≡ None → DroveDevice (is_some capture) settings.entry.dialect.now
         (entry_for (given_text settings.entry.entry) settings.entry.n1) settings.entry.n1 (W.contents output.old)
-        (W.contents output.new)) }
+        (W.contents output.new) (E.contents faults.old) (E.contents faults.new) d.was_bad d.left) }
+    ensures named { NamesRead None (E.contents faults.old) (E.contents faults.new) }
 {
     let alloc = rt.alloc();
     let bell = Bell::new(alloc)?;
@@ -280,7 +244,8 @@ where
 /// Drives a modem on the device of this path, as `drive_over` does, with the lines of `input`, which a thread of its own reads. The
 /// device is a terminal that is set up so that a read waits a while and then gives nothing. Where the settings name a file, the frames
 /// that are read and written go there, with their times; where that file can't be written the drive goes on to its end. The status is 0
-/// where all is done, 2 where a line of the input was bad and all else is done, and 1 at a fault; at 1 and 2 it says on `faults` why.
+/// where all is done, 2 where a line of the input was bad and all else is done, and 1 at a fault; at 1 and 2 it says on `faults` why:
+/// each bad line as it is read, then how many requests were left, if any were, and then the fault.
 pub fn drive_run<R, I, W, E>(
     rt: &R,
     path: &str,
@@ -295,11 +260,18 @@ where
     W: Write,
     E: Write,
     ensures status { result ≤ 2 }
-    ensures drove { result ≢ 1 → DroveDevice (is_some (given_text settings.entry.capture)) settings.entry.dialect.now
+    ensures drove { result ≢ 1 → RanDevice (is_some (given_text settings.entry.capture)) settings.entry.dialect.now
         (entry_for (given_text settings.entry.entry) settings.entry.n1) settings.entry.n1 (W.contents output.old)
-        (W.contents output.new) }
+        (W.contents output.new) (E.contents faults.old) (E.contents faults.new) (result == 2) }
+    ensures fault { result ≡ 1 → EndsByFault path.now (capture_path settings.entry.capture)
+        (E.contents faults.old) (E.contents faults.new) }
 {
-    match open_all(rt, rt.alloc(), path, &settings) {
+    let alloc = rt.alloc();
+    let paths = Paths {
+        device: path,
+        capture: settings.capture.unwrap_or(""),
+    };
+    match open_all(rt, alloc, path, &settings) {
         Ok(
             Opened {
                 reader,
@@ -309,8 +281,8 @@ where
         ) => {
             let device = (reader, writer);
             let ended = drive_threaded(rt, device, capture, input, output, faults, settings);
-            say_end(faults, path, ended)
+            say_end(alloc, faults, paths, ended)
         }
-        Err(fault) => say_fault(faults, path, fault),
+        Err(fault) => say_fault(alloc, faults, paths, fault),
     }
 }

@@ -1,15 +1,16 @@
 //! What is asked of the desk next: the lines of the input as commands, and what they need.
-ghost use Rattle.std.specs.Prelude.{◌≡◌, ◌≢◌, ℕ, [], List, Option, Some, true, IfSome, OnOk};
+ghost use Rattle.std.specs.Prelude.{◌≡◌, ◌≢◌, ℕ, [], List, Option, Some, true, IfSome, OnErr, OnOk};
 ghost use Rattle.modem_desk.specs.declared.request.Request.{Request};
-ghost use Rattle.modem_drive.specs.Asking.{AsksOn, IsThrough, LineAsks};
+ghost use Rattle.modem_drive.specs.Asking.{AsksOn, IsThrough, ReadsLine, StopsOn};
 ghost use Rattle.modem_drive.specs.Plans.{after_asking};
 ghost use Rattle.modem_drive.specs.Showing.{GoOn};
 ghost use Rattle.modem_drive.specs.declared.fault.DriveFault.TheVariants as fault;
 ghost use Rattle.modem_drive.specs.declared.plan.Control.TheVariants as control;
 
 use crate::channels::{ChannelState, Channels};
-use crate::fault::DriveFault;
+use crate::fault::{DriveFault, GiveUp};
 use crate::input::Lines;
+use crate::saying::name_bad;
 use crate::users::{UnderWay, Users};
 use at_text::CommandLine;
 use modem_desk::{Answer, Ask, Outcome};
@@ -72,6 +73,8 @@ impl<I: Read> Model for Plan<I> {
 
     ghost view = { λ p. record {
       input = p.input;
+      count = p.number;
+      was_bad = p.bad;
       next = next_asks p.next;
       stopping = is_stopping p.phase;
     } };
@@ -82,7 +85,7 @@ impl<I: Read> Plan<I> {
 
     /// To open connection 0, and then what this input says. A connection whose commands wait for longer than that is closed.
     pub fn new(input: Lines<I>, quiet_for: Option<Duration>) -> Plan<I>
-        ensures { result ≡ record { input = input; next = []; stopping = false } }
+        ensures { result ≡ record { input = input; count = 0; was_bad = false; next = []; stopping = false } }
     {
         Plan {
             input,
@@ -96,7 +99,9 @@ impl<I: Read> Plan<I> {
     }
 
     /// Whether a line of the input was bad.
-    pub fn was_bad(&self) -> bool {
+    pub fn was_bad(&self) -> bool
+        ensures { result ≡ self.now.was_bad }
+    {
         self.bad
     }
 
@@ -122,7 +127,8 @@ impl<I: Read> Plan<I> {
         self.channels.time_left(clock, most)
     }
 
-    /// What a line of the input says. One that is bad is told by its number, and passed over.
+    /// What a line of the input says. One that is bad is named, and passed over. Refused with NoMemory, and with GaveUp where 2^64 - 1
+    /// lines came before.
     fn read_line<E: Write>(
         &mut self,
         alloc: Global,
@@ -130,9 +136,13 @@ impl<I: Read> Plan<I> {
         faults: &mut E,
     ) -> Result<(), DriveFault>
         requires { self.old.next ≡ [] }
-        ensures { OnOk result ((LineAsks line.now self.new.next) × (self.new ≡ record self.old { next = self.new.next })) }
+        ensures reads { OnOk result (ReadsLine self.old self.new line.now (E.contents faults.old) (E.contents faults.new)) }
+        ensures silent { OnErr result (faults.new ≡ faults.old) }
     {
-        self.number = self.number.saturating_add(1);
+        let Some(number) = self.number.checked_add(1) else {
+            return Err(DriveFault::GaveUp(GiveUp::Lines));
+        };
+        self.number = number;
         if line.is_empty() {
             return Ok(());
         }
@@ -146,9 +156,7 @@ impl<I: Read> Plan<I> {
             }
             Err(Refusal::Bad(fault)) => {
                 self.bad = true;
-                let number = self.number;
-                let reason = fault.reason();
-                let _ = writeln!(faults, "bad line {number}{reason}");
+                name_bad(faults, number, fault);
             }
             Err(Refusal::NoMemory) => return Err(DriveFault::NoMemory),
         }
@@ -157,7 +165,9 @@ impl<I: Read> Plan<I> {
 
     /// Reads the next line of the input, if there is none and one is there, and says whether it read one.
     fn read_on<E: Write>(&mut self, alloc: Global, faults: &mut E) -> Result<bool, DriveFault>
-        ensures { OnOk result ((submitted : List Request) → AsksOn self.old self.new submitted submitted) }
+        ensures asks { OnOk result ((submitted : List Request)
+            → AsksOn self.old self.new submitted submitted (E.contents faults.old) (E.contents faults.new)) }
+        ensures silent { OnErr result (faults.new ≡ faults.old) }
     {
         if self.phase != Phase::Going || self.next.is_some() {
             return Ok(false);
@@ -211,7 +221,8 @@ impl<I: Read> Plan<I> {
     /// Asks what is to be asked beside commands, where nothing such is under way, and says whether it asked.
     fn ask_on<R: Wait + Clock>(&mut self, rt: &R, users: &mut Users) -> bool
         ensures goes { (out : Option (List ℕ)) → GoOn out out users.old users.new }
-        ensures asks { AsksOn self.old self.new users.old.lines.submitted users.new.lines.submitted }
+        ensures asks { (said : Option (List ℕ))
+            → AsksOn self.old self.new users.old.lines.submitted users.new.lines.submitted said said }
     {
         if self.asked.is_some() {
             return false;
@@ -245,7 +256,8 @@ impl<I: Read> Plan<I> {
     /// Submits the next line, if it may be and can be, and says whether it did.
     fn submit_on<R: Wait + Clock>(&mut self, rt: &R, users: &mut Users) -> Result<bool, DriveFault>
         ensures goes { OnOk result ((out : Option (List ℕ)) → GoOn out out users.old users.new) }
-        ensures asks { OnOk result (AsksOn self.old self.new users.old.lines.submitted users.new.lines.submitted) }
+        ensures asks { OnOk result ((said : Option (List ℕ))
+            → AsksOn self.old self.new users.old.lines.submitted users.new.lines.submitted said said) }
     {
         if !self.is_next_ready() {
             return Ok(false);
@@ -276,7 +288,9 @@ impl<I: Read> Plan<I> {
         faults: &mut E,
     ) -> Result<bool, DriveFault>
         ensures goes { OnOk result ((out : Option (List ℕ)) → GoOn out out users.old users.new) }
-        ensures asks { OnOk result (AsksOn self.old self.new users.old.lines.submitted users.new.lines.submitted) }
+        ensures asks { OnOk result (AsksOn self.old self.new users.old.lines.submitted users.new.lines.submitted
+            (E.contents faults.old) (E.contents faults.new)) }
+        ensures stops { OnErr result (StopsOn self.old users.old.lines.submitted (E.contents faults.old) (E.contents faults.new)) }
     {
         let mut any = false;
         for _ in 0..STEPS {

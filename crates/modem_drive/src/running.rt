@@ -1,8 +1,9 @@
 //! A drive, from its line to its end.
-ghost use Rattle.std.specs.Prelude.{◌≡◌, [], ◌∷◌, ℕ, List, Option, IfOk, OnOk, map};
+ghost use Rattle.std.specs.Prelude.{◌≡◌, [], ◌∷◌, ℕ, List, Option, IfOk, OnErr, OnOk, map};
 ghost use Rattle.modem_desk.specs.Ends.{AreSubscribed, IsWhole, place_of, subscription_of};
 ghost use Rattle.at_text.specs.Rules.{dialect_of};
 ghost use Rattle.modem_driver.specs.SessionStates.{FitsAll, beginning_by, line_by};
+ghost use Rattle.modem_drive.specs.Asking.{NamesRead, StopsOn};
 ghost use Rattle.modem_drive.specs.Ending.{HasDriven};
 ghost use Rattle.modem_drive.specs.Entry.{entry_for, given_text};
 ghost use Rattle.modem_drive.specs.Running.{Begins, Drove, HasEntered, IsNewDesk, kinds_by};
@@ -165,8 +166,10 @@ where
     E: Write,
     requires whole { IsWhole session.driver.desk (map place_of (users.lines ∷ users.control ∷ [])) }
     requires subscribed { AreSubscribed session.driver.desk (map subscription_of users.listeners.items) }
-    ensures { IfOk result (λ r. HasDriven (line_by L.received L.sent L.calls L.failures L.empty_reads L.stalled_writes)
-        session users plan.old plan.new (W.contents output.old) (W.contents output.new) r.1 r.2 r.0) }
+    ensures driven { IfOk result (λ r. HasDriven (line_by L.received L.sent L.calls L.failures L.empty_reads L.stalled_writes)
+        session users plan.old plan.new (W.contents output.old) (W.contents output.new) (E.contents faults.old)
+        (E.contents faults.new) r.1 r.2 r.0) }
+    ensures stops { OnErr result (StopsOn plan.old users.lines.submitted (E.contents faults.old) (E.contents faults.new)) }
 {
     let mut session = session;
     let mut users = users;
@@ -211,7 +214,7 @@ fn enter<L: SerialLine, R: Wait + Clock>(
 /// have come.
 ///
 /// It gives the line, and what the drive came to. Where the line is lost, or the modem ends the multiplexer, everyone who waits is told,
-/// and the fault is in what it gives.
+/// and the fault is in what it gives. However it ends, each bad line that was read is named on `faults`, and nothing else is said there.
 /// Refused, with something left undone: where the multiplexer isn't entered, and with NoMemory, Output and GaveUp.
 pub fn drive_over<L, R, I, W, E>(
     rt: &R,
@@ -229,9 +232,11 @@ where
     I: Read + Drop,
     W: Write,
     E: Write,
-    ensures { IfOk result (λ r. Drove (line_by L.received L.sent L.calls L.failures L.empty_reads L.stalled_writes)
+    ensures drove { IfOk result (λ r. Drove (line_by L.received L.sent L.calls L.failures L.empty_reads L.stalled_writes)
         settings.entry.dialect.now (entry_for (given_text settings.entry.entry) settings.entry.n1) settings.entry.n1 line r.0
-        (I.remaining input) (W.contents output.old) (W.contents output.new) r.1.fault r.1.left) }
+        (I.remaining input) (W.contents output.old) (W.contents output.new) (E.contents faults.old) (E.contents faults.new)
+        r.1.fault r.1.was_bad r.1.left) }
+    ensures named { NamesRead (I.remaining input) (E.contents faults.old) (E.contents faults.new) }
 {
     let mut line = line;
     enter(rt, alloc, bell, &mut line, &settings)?;

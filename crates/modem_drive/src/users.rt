@@ -6,7 +6,7 @@ ghost use Rattle.modem_drive.specs.Asking.{asks_of};
 ghost use Rattle.modem_drive.specs.Showing.{GoOn, TakesLine};
 ghost use Rattle.modem_drive.specs.declared.users.UnderWay.{UnderWay};
 
-use crate::fault::DriveFault;
+use crate::fault::{DriveFault, GiveUp};
 use at_text::{CommandLine, Dialect};
 use modem_desk::{Ask, Caller, Listener};
 use mux_frame::Dlci;
@@ -47,7 +47,7 @@ impl Users {
     {
         let d = usize::from(dlci.number());
         let Some(place) = self.counts[d].checked_add(1) else {
-            return Err(DriveFault::GaveUp);
+            return Err(DriveFault::GaveUp(GiveUp::Lines));
         };
         self.under_way.try_reserve(1)?;
         match self.lines.submit(rt, Ask::Command(dlci, line)) {
@@ -84,7 +84,7 @@ impl Users {
     {
         match self.find_line(number) {
             Some(at) => Ok(self.under_way.remove(at)),
-            None => Err(DriveFault::GaveUp),
+            None => Err(DriveFault::GaveUp(GiveUp::Outcome)),
         }
     }
 }

@@ -1,5 +1,5 @@
 -- The next line, or none.
-use Rattle.std.proofs.Common.{List, ℕ, [], ◌∷◌, Option, subst}
+use Rattle.std.proofs.Common.{ℕ, [], ◌∷◌, Option, subst}
 use Rattle.std.specs.declared.vec.Vec.{Vec}
 use Rattle.std.specs.declared.alloc.Global.{Global}
 use Rattle.modem_drive.specs.Input.{Reads, line_in}

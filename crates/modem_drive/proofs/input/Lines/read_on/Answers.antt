@@ -1,5 +1,5 @@
 -- What the reader gave.
-use Rattle.std.proofs.Common.{◌≡◌, ◌∙◌, ◌<◌, ◌++◌, ℕ, Bool, Option, take, Ok, Result, sym, subst, ap, refl, arith, List, [], ◌∷◌, true, false, length}
+use Rattle.std.proofs.Common.{◌≡◌, ◌∙◌, ◌<◌, ◌++◌, ℕ, Bool, Option, take, Ok, Result, sym, subst, ap, refl, arith, List, [], false, length}
 use Rattle.modem_drive.specs.Input.{LinesView, Reads}
 use Rattle.std.specs.Io.KnownBytes.{Consumes, IsAtEnd, ReadConsumes}
 use Rattle.modem_drive.proofs.Reading.{reads_ended, reads_failed, reads_from, reads_nothing, reads_piece}
