@@ -12,7 +12,8 @@ use Rattle.modem_serve.specs.Leaving.{BeginsAnswer, IsLeftAt, IsLeftBy, IsOfMode
 use Rattle.modem_serve.specs.Plain.{plain_begun}
 use Rattle.modem_serve.specs.Serving.{Setting}
 use Rattle.modem_serve.specs.Standing.{IsAtLines, ServedSoFar, Stands, StepsBy, setting_by}
-use Rattle.modem_serve.proofs.Served.{answers_by, appended_more, begun_at, consumed_more}
+use Rattle.modem_texts.proofs.Written.{appends_more}
+use Rattle.modem_serve.proofs.Served.{answers_by, begun_at, consumed_more}
 
 -- ## By whatever answers
 
@@ -107,7 +108,7 @@ left_unwritten Holds s fault a b c x y z old new piece before out is so_far read
               stands = subst (λ (l : List ℕ). Holds s (so_far.came ++ piece) (so_far.went ++ l) new) says (steps.stands so_far.came so_far.went so_far.stands);
             },
           );
-      written = appended_more x y z so_far.went begun.part so_far.written begun.appended;
+      written = appends_more x y z so_far.went begun.part so_far.written begun.appended;
     }
 
 -- ## From plain lines on

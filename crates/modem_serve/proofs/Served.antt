@@ -3,6 +3,7 @@ use Rattle.std.specs.Prelude.{◌≡◌, ℕ, List, [], ◌∷◌, ◌++◌, fol
 use Rattle.std.proofs.Common.{ap, sym, ◌∙◌, append_assoc, append-nil, subst}
 use Rattle.std.proofs.lemmas.List.Sums.{fold-append}
 use Rattle.std.specs.Io.KnownBytes.{Appends, Consumes, IsAtEnd, Keeps}
+use Rattle.modem_texts.proofs.Written.{appends_more, appends_none}
 use Rattle.modem_serve.specs.Plain.{Plain, plain_after, plain_by, plain_octet}
 use Rattle.modem_sim.specs.declared.state.ModemState.{ModemState}
 use Rattle.modem_serve.specs.declared.server.Mode.{Mode}
@@ -24,16 +25,6 @@ consumed_more None b c xs ys p q = tt
 consumed_more (Some x) None c xs ys p q = absurd p
 consumed_more (Some x) (Some y) None xs ys p q = absurd q
 consumed_more (Some x) (Some y) (Some z) xs ys p q = p ∙ ap (λ l. xs ++ l) q ∙ sym (append_assoc xs ys z)
-
-pub appended_none : (a : Option (List ℕ)) → Appends a a []
-appended_none None = tt
-appended_none (Some x) = sym (append-nil x)
-
-pub appended_more : (a b c : Option (List ℕ)) (xs ys : List ℕ) → Appends a b xs → Appends b c ys → Appends a c (xs ++ ys)
-appended_more None b c xs ys p q = tt
-appended_more (Some x) None c xs ys p q = absurd p
-appended_more (Some x) (Some y) None xs ys p q = absurd q
-appended_more (Some x) (Some y) (Some z) xs ys p q = q ∙ ap (λ l. l ++ ys) p ∙ append_assoc x xs ys
 
 -- ## Plain lines
 
@@ -76,7 +67,7 @@ served_none Holds s input before now holds = record {
   came = [];
   went = [];
   read = consumed_none input input (keeps_same input);
-  written = appended_none before;
+  written = appends_none before;
   stands = holds;
 }
 
@@ -88,7 +79,7 @@ served_more Holds s a b c x y z old new piece before out so_far read steps none 
       came = so_far.came ++ piece;
       went = so_far.went ++ steps.more;
       read = consumed_more a b c so_far.came piece so_far.read read;
-      written = subst (λ (l : List ℕ). Appends x z (so_far.went ++ l)) says (appended_more x y z so_far.went out so_far.written written);
+      written = subst (λ (l : List ℕ). Appends x z (so_far.went ++ l)) says (appends_more x y z so_far.went out so_far.written written);
       stands = steps.stands so_far.came so_far.went so_far.stands;
     }
 

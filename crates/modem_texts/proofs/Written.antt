@@ -11,7 +11,7 @@ pub record IsLeft (before after : Option (List ℕ)) (octets left : List ℕ) : 
   pub split : octets ≡ part ++ left
   pub appended : Appends before after part
 
-appends_none : (a : Option (List ℕ)) → Appends a a []
+pub appends_none : (a : Option (List ℕ)) → Appends a a []
 appends_none None = tt
 appends_none (Some x) = sym (append-nil x)
 
