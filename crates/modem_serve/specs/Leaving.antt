@@ -28,8 +28,9 @@ IsOfModem ServeFault.EndlessInput = ⊥
 IsOfModem ServeFault.Output = ⊥
 IsOfModem ServeFault.Capture = ⊥
 
--- How the last piece is left that was read. Where no fault came, or one of the reader or of the capture, there is none. Where what
--- answers failed, octets were read, and nothing was written to them; where the writer failed, what answers them is begun.
+-- How the last piece is left that was read. Where no fault came, or one of the reader or of the capture, there is none: all is
+-- answered. Where what answers failed, octets were read, and nothing was written to them; where the writer failed, octets were read,
+-- and what answers them is begun.
 abbrev pub IsLeftBy : Option ServeFault → (piece part : List ℕ) → (Begun : Type 0) → Type 0
 IsLeftBy None piece part Begun = (piece ≡ []) × (part ≡ [])
 IsLeftBy (Some ServeFault.Input) piece part Begun = (piece ≡ []) × (part ≡ [])
@@ -70,8 +71,8 @@ pub record IsServedInPart (options : SimOptions) (input rest before after : Opti
 
 -- ## What is said
 
--- One fault ended it: it is said on a line, as far as that is taken, nothing else is, and so the client is left. Of the capture it is
--- where that holds which is given.
+-- One fault ended it. It is said on a line, as far as that is taken, and nothing else is said; and the client is left as it says. It is
+-- that of the capture only where this holds.
 pub record EndsFor (OfCapture : Type 0) (options : SimOptions) (input rest before after told_before told_after : Option (List ℕ)) : Type 0 where
   pub fault : ServeFault
   pub said : IsBegun told_before told_after (fault_line fault)
