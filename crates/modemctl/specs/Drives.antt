@@ -1,10 +1,10 @@
 -- What the program prints at `drive`.
-use Rattle.std.specs.Prelude.{ℕ, List, Option, codes, is_some}
+use Rattle.std.specs.Prelude.{ℕ, Bool, List, Option, codes, is_some}
 use Rattle.clap.specs.Words.{Row, Text, first_value, found_of}
 use Rattle.clap.specs.declared.ArgMatches.{ArgMatches}
 use Rattle.at_text.specs.Rules.{Rules}
 use Rattle.modem_drive.specs.Entry.{entry_for}
-use Rattle.modem_drive.specs.OnDevice.{DroveDevice}
+use Rattle.modem_drive.specs.OnDevice.{RanDevice}
 use Rattle.modemctl.specs.Dialects.{IsGivenDialect}
 use Rattle.modemctl.specs.Words.{IsGiven, raw_in}
 
@@ -15,12 +15,20 @@ pub record PrintsDrive (texts : Text → Option (List ℕ)) (met : Option (Text 
   pub given : IsGiven met (codes "n1") 31 n1
   pub rules : Rules
   pub named : IsGivenDialect texts (raw_in met (codes "dialect")) rules
-  pub drove : DroveDevice (is_some (raw_in met (codes "capture"))) rules (entry_for (raw_in met (codes "entry")) n1) n1 before after
+  pub was_bad : Bool
+  pub silent : Option (List ℕ)
+  pub said : Option (List ℕ)
+  pub drove :
+      RanDevice (is_some (raw_in met (codes "capture"))) rules (entry_for (raw_in met (codes "entry")) n1) n1 before after silent said
+      was_bad
 
 -- the same by the matches of the subcommand
 pub record DrivesWith (texts : Text → Option (List ℕ)) (n1 : ℕ) (m : ArgMatches) (before after : Option (List ℕ)) : Type 0 where
   pub rules : Rules
   pub named : IsGivenDialect texts (first_value (found_of m) (codes "dialect")) rules
+  pub was_bad : Bool
+  pub silent : Option (List ℕ)
+  pub said : Option (List ℕ)
   pub drove :
-      DroveDevice (is_some (first_value (found_of m) (codes "capture"))) rules
-      (entry_for (first_value (found_of m) (codes "entry")) n1) n1 before after
+      RanDevice (is_some (first_value (found_of m) (codes "capture"))) rules
+      (entry_for (first_value (found_of m) (codes "entry")) n1) n1 before after silent said was_bad

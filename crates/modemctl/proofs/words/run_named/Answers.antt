@@ -7,7 +7,7 @@ use Rattle.modemctl.specs.Words.{HasNoNumber, IsGiven, IsNoNumber, IsNumberOf, r
 use Rattle.modem_serve.specs.declared.serving.SimOptions.{SimOptions}
 use Rattle.modemctl.specs.Benches.{AreGiven, AreMatched, AreScripted, IsFlag, LeavesClient, LeavesWith}
 use Rattle.modem_drive.specs.Entry.{entry_for}
-use Rattle.modem_drive.specs.OnDevice.{DroveDevice}
+use Rattle.modem_drive.specs.OnDevice.{RanDevice}
 use Rattle.modemctl.specs.Dialects.{IsGivenDialect, IsShut, PrintsActs}
 use Rattle.modemctl.specs.Drives.{DrivesWith, PrintsDrive}
 use Rattle.modemctl.specs.Files.{NamesCause}
@@ -130,8 +130,11 @@ prints_drive texts top m n1 before after e is drives = record {
   given = number_in top m (codes "n1") 31 n1 e is;
   rules = drives.rules;
   named = subst (λ (t : Option Text). IsGivenDialect texts t drives.rules) (word_given top m (codes "dialect") e) drives.named;
+  was_bad = drives.was_bad;
+  silent = drives.silent;
+  said = drives.said;
   drove =
-      subst (λ (t : Option Text × Option Text). DroveDevice (is_some t.0) drives.rules (entry_for t.1 n1) n1 before after)
+      subst (λ (t : Option Text × Option Text). RanDevice (is_some t.0) drives.rules (entry_for t.1 n1) n1 before after drives.silent drives.said drives.was_bad)
       (λ i. (word_given top m (codes "capture") e i, word_given top m (codes "entry") e i)) drives.drove;
 }
 

@@ -1,10 +1,10 @@
 -- A drive by the words.
-use Rattle.std.proofs.Common.{◌≡◌, ◌≢◌, ◌∙◌, ℕ, List, Option, arith, codes, inl, inr, is_some, refl, subst, sym}
+use Rattle.std.proofs.Common.{◌≡◌, ◌≢◌, ◌∙◌, ℕ, Bool, List, Option, arith, codes, inl, inr, is_some, refl, subst, sym}
 use Rattle.clap.specs.Words.{Text, first_value, found_of}
 use Rattle.clap.specs.declared.ArgMatches.{ArgMatches}
 use Rattle.at_text.specs.Rules.{Rules}
 use Rattle.modem_drive.specs.Entry.{entry_for}
-use Rattle.modem_drive.specs.OnDevice.{DroveDevice}
+use Rattle.modem_drive.specs.OnDevice.{RanDevice}
 use Rattle.modemctl.specs.Dialects.{IsGivenDialect}
 use Rattle.modemctl.specs.Drives.{DrivesWith}
 use Rattle.modemctl.proofs.FileFaults.{names_cause}
@@ -18,19 +18,22 @@ pub record AreOf (texts : Text → Option (List ℕ)) (m : ArgMatches) (n1 n : �
   pub same_capture : capture ≡ first_value (found_of m) (codes "capture")
   pub named : IsGivenDialect texts (first_value (found_of m) (codes "dialect")) rules
 
-drives_with : (texts : Text → Option (List ℕ)) (m : ArgMatches) (n1 n : ℕ) (rules own : Rules) (entry capture before after : Option (List ℕ)) → AreOf texts m n1 n rules own entry capture
-    → DroveDevice (is_some capture) own (entry_for entry n) n before after → DrivesWith texts n1 m before after
-drives_with texts m n1 n rules own entry capture before after are drove = record {
+drives_with : (texts : Text → Option (List ℕ)) (m : ArgMatches) (n1 n : ℕ) (rules own : Rules) (entry capture before after silent said : Option (List ℕ)) (was_bad : Bool) → AreOf texts m n1 n rules own entry capture
+    → RanDevice (is_some capture) own (entry_for entry n) n before after silent said was_bad → DrivesWith texts n1 m before after
+drives_with texts m n1 n rules own entry capture before after silent said was_bad are drove = record {
   rules = rules;
   named = are.named;
+  was_bad = was_bad;
+  silent = silent;
+  said = said;
   drove =
-      subst (λ (x : ℕ × Rules × Option (List ℕ) × Option (List ℕ)). DroveDevice (is_some x.3) x.1 (entry_for x.2 x.0) x.0 before after)
+      subst (λ (x : ℕ × Rules × Option (List ℕ) × Option (List ℕ)). RanDevice (is_some x.3) x.1 (entry_for x.2 x.0) x.0 before after silent said was_bad)
       (λ i. (are.same_n1 i, are.same_rules i, are.same_entry i, are.same_capture i)) drove;
 }
 
 pub returns-in-Ok-given_dialect-clause-done : goal.returns-in-Ok-given_dialect-clause-done
 returns-in-Ok-given_dialect-clause-done g c zero =
-    drives_with _ _ _ _ _ _ _ _ _ _
+    drives_with _ _ _ _ _ _ _ _ _ _ _ _ _
     (record {
       same_n1 = refl;
       same_rules = refl;
@@ -43,7 +46,7 @@ returns-in-Ok-given_dialect-clause-done g c zero =
 pub returns-in-Ok-given_dialect-clause-bad : goal.returns-in-Ok-given_dialect-clause-bad
 returns-in-Ok-given_dialect-clause-bad g c two =
     inr
-    (drives_with _ _ _ _ _ _ _ _ _ _
+    (drives_with _ _ _ _ _ _ _ _ _ _ _ _ _
     (record {
       same_n1 = refl;
       same_rules = refl;
