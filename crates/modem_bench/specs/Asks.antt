@@ -5,7 +5,7 @@ use Rattle.modem_desk.specs.declared.request.Ask.{Ask}
 use Rattle.modem_desk.specs.declared.request.Ask.TheVariants as ask
 use Rattle.modem_bench.specs.declared.submission.Submission.{Submission}
 
--- one of them is for this connection
+-- one of the submissions is for this connection
 abbrev pub is_named : List Submission → ℕ → Bool
 is_named all d = list_any (λ (s : Submission). s.dlci.number == d) all
 
@@ -17,7 +17,7 @@ command_of s = ask.Command s.dlci s.line
 abbrev pub asks_for : ℕ → List Submission → List Ask
 asks_for caller all = map command_of (filter (λ (s : Submission). s.caller == caller) all)
 
--- 0, and the connections below this one that they are for, in rising order
+-- 0, and the connections below this one that the submissions are for, in rising order
 abbrev pub channels_below : List Submission → ℕ → List ℕ
 channels_below all zero = []
 channels_below all (suc n) =

@@ -24,7 +24,7 @@ pub record IsBegun {X : Type 0} (look : X → LineView) (s : SessionState X) : T
   pub desk : end_of s.driver ≡ start.desk
   pub kinds : s.driver.desk.kinds ≡ start.kinds
 
--- a poll of it gave a fault, which is told so
+-- a poll of the session gave a fault, which is told as this one
 pub record FailsOnce {X : Type 0} (look : X → LineView) (old new : SessionState X) (told : Fault) :
     Type 0 where
   pub why : SessionFault

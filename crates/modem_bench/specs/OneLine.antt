@@ -27,7 +27,7 @@ use Rattle.modem_bench.specs.Rounds.{AreJoined, Pair, look_in, pair, sight_in}
 
 -- ## One line
 
--- what was given on of what the one line took is what the other was given, read or not
+-- the octets that one line took and gave on are those that the other was given, read or not
 pub record AreCrossed (near far : CutState) : Type 0 where
   pub to_far : far.received ++ far.waiting ≡ take near.moved near.sent
   pub to_near : near.received ++ near.waiting ≡ take far.moved far.sent
@@ -50,8 +50,8 @@ pub record TookFormed (b : Beginning) (s : SessionState CutState) : Type 0 where
   pub taken_are : s.driver.taken ≡ b.desk.taken ++ since
   pub formed : AreFormed since
 
--- They have this joint list, which is one line's: at every point of it what came at each end are the first frames that the other
--- sent.
+-- They have this joint list, which is one line's: at every point of it the frames that came at each end are the first that the
+-- other sent.
 pub record AreOnOneLine (b : Beginning) (at : LineAt) (e : End) (line : List EndAct) (p : Pair) : Type 0 where
   pub began : BeganFresh b at e
   pub joined : AreJoined b at e line p
@@ -91,8 +91,8 @@ BeginsOnOneLine =
 
 -- ## One modem
 
--- in each such joint list of theirs, with each connection asked for once at most and unsolicited lines alone announced, each
--- command told Done was read, and is told what the modem's step gives at its place
+-- In each joint list of theirs that is one line's: where each connection is asked for at most once, and only unsolicited
+-- lines are announced, each command told Done was read, and is told what the modem's step gives at its place.
 unfoldable pub TellsModemTo : Pair → Type 0
 TellsModemTo p =
     (b : Beginning) (at : LineAt) (e : End) (line : List EndAct) → AreOnOneLine b at e line p
@@ -107,7 +107,7 @@ TellsModemTo p =
 abbrev pub given_more : List ℕ → CutState → CutState
 given_more octets to = record to { waiting = to.waiting ++ octets }
 
--- an octet more that waits at one of two such lines, or one fewer, and they are no longer such
+-- two such lines aren't crossed any more with an octet more or one fewer that waits at one of them
 pub record WrongCrossings : Type 0 where
   pub stray_at_far :
       (near far : CutState) (x : ℕ) → AreCrossed near far
@@ -119,7 +119,7 @@ pub record WrongCrossings : Type 0 where
       (near far : CutState) (x : ℕ) → AreCrossed near far
       → ¬ AreCrossed (given_more (x ∷ []) near) far
 
--- what is carried once leaves them such; where octets went over, giving them once more doesn't
+-- carrying leaves two lines crossed; giving octets that went over once more doesn't
 pub record RightCrossings : Type 0 where
   pub once :
       (cut : ℕ) (near far : CutState) → AreCrossed near far

@@ -22,7 +22,7 @@ use Rattle.modem_bench.specs.declared.submission.Submission.{Submission}
 abbrev pub Work : Type 0
 Work = PromisedHandle (Result Worked Fault) HasWorked
 
--- this caller is out, with what the submissions ask of the caller of this number
+-- this caller is out in a thread, with what the submissions ask of the caller of this number
 pub record IsOut (all : List Submission) (n : ℕ) (c : CallerView) (h : Work) : Type 0 where
   pub was : h.promise.was.value ≡ c
   pub asks : h.promise.asks.value.items ≡ asks_for n all

@@ -2,7 +2,7 @@
 use bell::Bell;
 use std::alloc::{AllocError, Global};
 
-/// A bell for each thread of a bench. Who made work for another thread rings its bell.
+/// A bell for each thread of a bench. A thread that made work for another rings the other's bell.
 #[derive(Drop)]
 pub struct Bells {
     /// The driver's: requests, room for outcomes, octets or room on the line.

@@ -7,8 +7,8 @@ pub fn new_lines()
     ensures { BeginsOnOneLine }
 {}
 
-/// Of two lines of which each was given what was given on of the other: carrying leaves them so; an octet more at one of them, one
-/// fewer, or octets that are given a second time don't.
+/// Two lines are crossed where each was given what the other gave on. Carrying leaves them crossed; an octet more at one of them,
+/// one fewer, or octets given a second time don't.
 #[tactic(auto, using(crate::proofs::Crossings::right_crossings, crate::proofs::Crossings::wrong_crossings))]
 pub fn worked_crossings()
     ensures right { RightCrossings }

@@ -79,9 +79,9 @@ fn far_end(
     }
 }
 
-/// A session over this desk's end and a simulated modem that starts so, which have done nothing yet, each at a line in memory
-/// with room for so many octets each way. Their joint list is empty, and is one line's. N1 is how many octets of information a
-/// frame of both may have. Refusal: 1 NoMemory.
+/// A new session over this desk's end and a new simulated modem with this start, each at a line in memory with room for so
+/// many octets each way. Their joint list is empty, and is one line's. N1 is the most octets of information in a frame of
+/// both. Refusal: 1 NoMemory.
 pub fn meet<R: Wait + Drop>(
     rt: R,
     alloc: Global,

@@ -197,9 +197,9 @@ fn steps<R: Wait + Drop>(
 /// round that has one.
 ///
 /// Whatever joint list of acts the two had before, it goes on to one that they have after it; and where they began at new lines,
-/// with one N1, it stays one line's: what came at each end are the first frames that the other sent. In each such list in which
-/// each connection is asked for once at most and only unsolicited lines are announced, each command told Done is told what the
-/// modem answered to it at its place.
+/// with one N1, it stays one line's: the frames that came at each end are the first that the other sent. Where each connection
+/// is asked for at most once and only unsolicited lines are announced, each command told Done is told what the modem answered to
+/// it at its place.
 #[tactic(auto, using(crate::proofs::OneLine::tells_modem_to))]
 pub fn run_in_rounds<R: Wait + Drop>(
     session: &mut Session<CutLine, R>,

@@ -88,7 +88,7 @@ pub struct Signals {
 }
 
 impl Signals {
-    /// Nothing has happened yet. There are bells for so many callers. The share is that of caller 0.
+    /// New signals, with bells for so many callers. The share is that of caller 0.
     pub fn new(alloc: Global, callers: u8) -> Result<Signals, AllocError> {
         let bell = Bell::new(alloc)?;
         let bells = Bells::new(alloc, bell.share()?, callers)?;

@@ -8,7 +8,7 @@ use Rattle.modem_texts.specs.Input.{input_lines}
 use Rattle.modem_drive.specs.Input.{HasRead, LinesView}
 use Rattle.modem_drive.specs.Saying.{Names, NamesBad}
 
--- the line is this command on a connection; one that is none asks nothing
+-- what a line asks: this command on a connection, or nothing where the line is no command
 abbrev pub LineAsks : List ℕ → List Ask → Type 0
 LineAsks line [] = IsNoCommand line
 LineAsks line (ask.Command d text ∷ []) = IsCommand line d.number text

@@ -25,6 +25,6 @@ pub record CapturesAll (received sent : List ℕ) (c : CaptureState) : Type 0 wh
   pub from_modem : octets_in FromModem passed ≡ received
   pub to_modem : octets_in ToModem passed ≡ sent
 
--- so it is until it fails
+-- the capture has all that passed, until it fails
 abbrev pub CapturesUnlessFailed : (received sent : List ℕ) → CaptureState → Type 0
 CapturesUnlessFailed received sent c = c.failed ≡ false → CapturesAll received sent c

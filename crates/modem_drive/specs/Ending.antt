@@ -26,8 +26,9 @@ pub record TurnsSome (old new : Offline) (before after : DriverView) : Type 0 wh
   pub taken : List Request
   pub turns : TurnsAway old new before after taken
 
--- The session was finished, which left what each of its histories says. Its desk turned away who wasn't told yet, and
--- all that came was printed, until no line was under way. Then the desk was settled with all who used it.
+-- The session was finished, which left what each of its histories says. Its desk turned away the requests that weren't
+-- told yet, and all that came was printed, until no line was under way. Then the desk was settled with all callers and
+-- listeners.
 pub record EndsDrive {X : Type 0} (look : X → LineView) (s : SessionState X) (users : Users)
     (before after : Option (List ℕ)) (settled : Settled) : Type 0 where
   pub leftovers : Leftovers
@@ -50,7 +51,7 @@ KeepsGiven (progress.Ended (Err error.NoMemory)) c = Unit {0}
 KeepsGiven (progress.Ended (Err why)) c = c ≡ course.Ended (Err why)
 KeepsGiven _ c = Unit {0}
 
--- it failed so, which is an end
+-- the session failed with this fault, which is an end
 abbrev pub FailedFor : SessionFault → Course → Type 0
 FailedFor why c = c ≡ course.Ended (Err why)
 

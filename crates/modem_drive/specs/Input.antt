@@ -13,8 +13,8 @@ pub record LinesView : Type 0 where
   pub ended : Bool
   pub failed : Bool
 
--- Since the reader had this left these lines were given, in order: whatever comes yet, they are the first lines of all that came
--- and comes. Where the reader has ended nothing comes any more, and unless it failed it has nothing left.
+-- Since the reader had this left, these lines were given, in order: whatever still comes, they are the first lines of all that
+-- came and comes. Where the reader has ended, nothing comes any more; unless it failed, it has nothing left.
 pub record HasRead (first : Option (List ℕ)) (l : LinesView) (lines : List (List ℕ)) : Type 0 where
   pub came : List ℕ
   pub consumed : Consumes first l.left came
@@ -22,7 +22,7 @@ pub record HasRead (first : Option (List ℕ)) (l : LinesView) (lines : List (Li
       → input_lines (came ++ more) ≡ lines ++ input_lines (l.text ++ more)
   pub at_end : l.ended ≡ true → l.failed ≡ false → IsAtEnd l.left
 
--- these lines more were given
+-- some lines more were given: these
 unfoldable pub Reads : (old new : LinesView) → List (List ℕ) → Type 0
 Reads old new more =
     (first : Option (List ℕ)) (lines : List (List ℕ)) → HasRead first old lines → HasRead first new (lines ++ more)

@@ -28,7 +28,7 @@ pub record DroveCaptured {X : Type 0} (look : X → LineView) (rules : Rules) (t
   pub drove : Drove (λ l. look l.line) rules text n1 (captured_line line first) last input before after silent said None was_bad left
   pub captures : CapturesAll (look last.line).received (look last.line).sent last.capture
 
--- so, with a capture where one is wanted
+-- a line was driven without a fault, with a capture where one is wanted
 abbrev pub DroveLine : (captures : Bool) {X : Type 0} (look : X → LineView) (rules : Rules) (text : List ℕ) (n1 : ℕ) (line : X)
     (input before after silent said : Option (List ℕ)) (was_bad : Bool) (left : Settled) → Type 0
 DroveLine false look rules text n1 line input before after silent said was_bad left =

@@ -18,7 +18,7 @@ abbrev pub is_stopping : Phase → Bool
 is_stopping phase.Stopping = true
 is_stopping _ = false
 
--- a Stop was asked, or something else
+-- the plan after a Stop was asked, or something else
 abbrev pub after_asking : Control → PlanView → PlanView
 after_asking control.Stop p = record p { stopping = true }
 after_asking (control.Open d) p = p

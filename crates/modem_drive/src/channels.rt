@@ -7,7 +7,7 @@ use std::time::{Duration, Instant};
 /// What is known of a connection.
 #[derive(Clone, Copy, PartialEq, Eq, Debug)]
 pub enum ChannelState {
-    /// It isn't open, or not any more.
+    /// It isn't open.
     Shut,
     /// It was opened.
     Open,
@@ -29,7 +29,7 @@ pub struct Channels {
 }
 
 impl Channels {
-    /// None is open.
+    /// Connections of which none is open.
     pub fn new(quiet_for: Option<Duration>) -> Channels {
         let shut = Channel {
             state: ChannelState::Shut,
@@ -47,12 +47,12 @@ impl Channels {
         self.all[usize::from(dlci.number())].state == ChannelState::Open
     }
 
-    /// It is in this state from now on.
+    /// Puts a connection into this state.
     pub fn set(&mut self, dlci: Dlci, state: ChannelState) {
         self.all[usize::from(dlci.number())].state = state;
     }
 
-    /// A command was submitted on it.
+    /// Notes that a command was submitted on a connection.
     pub fn note_submitted<K: Clock>(&mut self, clock: &K, dlci: Dlci) {
         let channel = &mut self.all[usize::from(dlci.number())];
         if channel.waiting == 0 {
@@ -61,7 +61,7 @@ impl Channels {
         channel.waiting = channel.waiting.saturating_add(1);
     }
 
-    /// A command on it was told this.
+    /// Notes what a command on a connection was told.
     pub fn note_told<K: Clock>(&mut self, clock: &K, dlci: Dlci, answer: &Answer) {
         let channel = &mut self.all[usize::from(dlci.number())];
         channel.waiting = channel.waiting.saturating_sub(1);
@@ -97,7 +97,7 @@ impl Channels {
         None
     }
 
-    /// How long it is at least until one has waited too long.
+    /// The least time until a connection has waited too long, at most `most`.
     pub fn time_left<K: Clock>(&self, clock: &K, most: Duration) -> Duration {
         let mut least = most;
         for channel in self.all.iter() {

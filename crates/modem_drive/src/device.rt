@@ -18,8 +18,8 @@ use std::thread::{SpawnError, Threads};
 /// Octets that a ring has room for.
 const ROOM: usize = 65536;
 
-/// A bell by which a thread is told to end. It is told so once this is dropped, and ends as soon as the call in which it waits comes
-/// back.
+/// A bell by which a thread is told to end. The thread is told once this is dropped, and ends as soon as the call in which it waits
+/// comes back.
 pub struct StopBell {
     own: Bell,
 }
@@ -59,8 +59,8 @@ fn spawned<H: Drop, F: Drop>(thread: Result<H, SpawnError<F>>) -> Result<(), Dri
     }
 }
 
-/// Has a thread read it into a ring, until what ends the thread is dropped, or the ring's reader. Refused where the ring or the thread
-/// can't be had: then there is no thread.
+/// Has a thread read a device into a ring, until what ends the thread or the ring's reader is dropped. Refused where the ring or the
+/// thread can't be had: then there is no thread.
 pub fn read_beside<R, I>(
     rt: &R,
     input: I,
@@ -85,8 +85,8 @@ where
     Ok((RingReader::new(octets), stop))
 }
 
-/// Has a thread write it out of a ring, until what ends the thread is dropped, or the ring's writer and all is written. Refused where
-/// the ring or the thread can't be had: then there is no thread.
+/// Has a thread write a ring out to a device, until what ends the thread is dropped, or the ring's writer is dropped and all is
+/// written. Refused where the ring or the thread can't be had: then there is no thread.
 pub fn write_beside<R, O>(
     rt: &R,
     output: O,

@@ -31,7 +31,7 @@ pub struct Ticks {
 }
 
 impl Ticks {
-    /// One each so much time.
+    /// A tick each `period`.
     pub fn new(period: Duration) -> Ticks {
         Ticks { period, last: None }
     }
@@ -96,8 +96,8 @@ fn poll<L: SerialLine, R: Wait + Drop, K: Clock>(
     session.advance()
 }
 
-#[tactic(auto, using(crate::proofs::Lines::goes_then))]
 /// Prints all that came, and says whether anything did.
+#[tactic(auto, using(crate::proofs::Lines::goes_then))]
 pub fn show<I: Read, W: Write, K: Clock>(
     clock: &K,
     alloc: Global,
@@ -181,9 +181,9 @@ fn round<L: SerialLine, R: Wait + Clock + Drop, I: Read, W: Write, E: Write>(
     Ok(judge(said, plan, asked || shown))
 }
 
+/// Goes on until the multiplexer has ended, or the drive ends by a fault. It prints all that came by then, and gives the fault, if
+/// there was one. Refused with NoMemory, Output or GaveUp.
 #[tactic(auto, using(crate::proofs::Lines::stays, crate::proofs::Lines::goes_then, crate::proofs::Drives::drives_none, crate::proofs::Drives::drives_then))]
-/// Goes on until the multiplexer has ended, or the drive ends by a fault: that fault, after which all that came was printed. Refused
-/// where it can't be: NoMemory, Output and GaveUp.
 pub fn drive_on<L: SerialLine, R: Wait + Clock + Drop, I: Read, W: Write, E: Write>(
     rt: &R,
     alloc: Global,

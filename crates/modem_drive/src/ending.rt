@@ -96,7 +96,8 @@ fn settle_all<R: Wait>(
     }
 }
 
-/// Ends a session: everyone is told, all that comes is printed, and the desk is settled. It gives the line, and what the desk still held.
+/// Ends a session: tells every request that waits, prints all that comes, and settles the desk. It gives the line, and what the desk
+/// still held.
 pub fn end_drive<L: SerialLine + Drop, R: Wait + Clock + Drop, I: Read, W: Write>(
     rt: &R,
     alloc: Global,

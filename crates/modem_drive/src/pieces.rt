@@ -1,4 +1,4 @@
-//! One piece of the output as text, and how it is written.
+//! Writes one piece of the output as text.
 ghost use Rattle.std.specs.Prelude.{OnOk};
 ghost use Rattle.std.specs.Io.KnownBytes.{Appends};
 ghost use Rattle.modem_texts.specs.Texts.{heard_text_by, told_text};

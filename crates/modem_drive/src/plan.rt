@@ -119,7 +119,7 @@ impl<I: Read> Plan<I> {
         self.input.has_failed()
     }
 
-    /// How long it is at least until a connection has to be closed, where that can be asked.
+    /// The least time until a connection has to be closed, where a close can be asked.
     pub fn time_left<K: Clock>(&self, clock: &K, most: Duration) -> Duration {
         if self.asked.is_some() {
             return most;
@@ -217,8 +217,8 @@ impl<I: Read> Plan<I> {
         }
     }
 
-    #[tactic(auto, using(crate::proofs::Lines::stays, crate::proofs::Lines::controls_alone))]
     /// Asks what is to be asked beside commands, where nothing such is under way, and says whether it asked.
+    #[tactic(auto, using(crate::proofs::Lines::stays, crate::proofs::Lines::controls_alone))]
     fn ask_on<R: Wait + Clock>(&mut self, rt: &R, users: &mut Users) -> bool
         ensures goes { (out : Option (List ℕ)) → GoOn out out users.old users.new }
         ensures asks { (said : Option (List ℕ))
@@ -252,8 +252,8 @@ impl<I: Read> Plan<I> {
         }
     }
 
-    #[tactic(auto, using(crate::proofs::Lines::stays))]
     /// Submits the next line, if it may be and can be, and says whether it did.
+    #[tactic(auto, using(crate::proofs::Lines::stays))]
     fn submit_on<R: Wait + Clock>(&mut self, rt: &R, users: &mut Users) -> Result<bool, DriveFault>
         ensures goes { OnOk result ((out : Option (List ℕ)) → GoOn out out users.old users.new) }
         ensures asks { OnOk result ((said : Option (List ℕ))
@@ -278,8 +278,8 @@ impl<I: Read> Plan<I> {
         }
     }
 
-    #[tactic(auto, using(crate::proofs::Lines::stays, crate::proofs::Lines::goes_then, crate::proofs::Asks::asks_none))]
     /// Asks what is to be asked now, and says whether it asked or read anything.
+    #[tactic(auto, using(crate::proofs::Lines::stays, crate::proofs::Lines::goes_then, crate::proofs::Asks::asks_none))]
     pub fn go_on<R: Wait + Clock, E: Write>(
         &mut self,
         rt: &R,
@@ -305,7 +305,7 @@ impl<I: Read> Plan<I> {
         Ok(any)
     }
 
-    /// A line was told this.
+    /// Notes what a line was told.
     pub fn note_told<K: Clock>(&mut self, clock: &K, line: UnderWay, outcome: &Outcome)
         ensures { self.new ≡ self.old }
     {
@@ -344,8 +344,8 @@ impl<I: Read> Plan<I> {
         }
     }
 
-    #[tactic(auto, using(crate::proofs::Lines::controls_alone))]
     /// Takes what the caller that opens, closes and stops was told, if anything: the fault by which the drive ends, if it does.
+    #[tactic(auto, using(crate::proofs::Lines::controls_alone))]
     pub fn take_told(&mut self, users: &mut Users) -> Option<DriveFault>
         ensures goes { (out : Option (List ℕ)) → GoOn out out users.old users.new }
         ensures same { self.new ≡ self.old }

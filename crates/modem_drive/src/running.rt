@@ -206,16 +206,16 @@ fn enter<L: SerialLine, R: Wait + Clock>(
     Ok(())
 }
 
-/// Drives a modem on a line on which no call waits: enters the multiplexer, opens connection 0, and each connection when a line of
-/// the input first names it; submits the lines `D TEXT` as they come, at most 16 at a time; and prints what each was told as
-/// `D i answer` and each line that is announced as `heard KIND D TEXT`, as they come; a kind of the dialect's own has its name. A
-/// connection whose command has no answer for so long as the settings say is closed, and opened again for the next line. At the end
-/// of the input it waits for what is under way, and ends the multiplexer. `bell` is rung where octets of the line or of the input may
-/// have come.
+/// Drives a modem on a line on which no call waits. It enters the multiplexer, opens connection 0, and opens each other connection when
+/// a line of the input first names it. It submits the lines `D TEXT` as they come, at most 16 at a time. It prints the outcome of each
+/// as `D i answer` and each announced line as `heard KIND D TEXT`, as they come; a kind of the dialect's own has its name. A connection
+/// whose command has had no answer for as long as the settings say is closed, and opened again for the next line. At the end of the
+/// input it waits for what is under way, and ends the multiplexer. `bell` is rung where octets of the line or of the input may have
+/// come.
 ///
-/// It gives the line, and what the drive came to. Where the line is lost, or the modem ends the multiplexer, everyone who waits is told,
-/// and the fault is in what it gives. However it ends, each bad line that was read is named on `faults`, and nothing else is said there.
-/// Refused, with something left undone: where the multiplexer isn't entered, and with NoMemory, Output and GaveUp.
+/// It gives the line, and what the drive came to. Where the line is lost, or the modem ends the multiplexer, each request that waits is
+/// told so, and the answer has the fault. However it ends, each bad line that was read is named on `faults`, and nothing else is said
+/// there. Refused where the multiplexer isn't entered, and with NoMemory, Output or GaveUp; then something is left undone.
 pub fn drive_over<L, R, I, W, E>(
     rt: &R,
     alloc: Global,

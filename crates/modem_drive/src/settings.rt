@@ -20,7 +20,8 @@ pub struct Settings<'a> {
     pub entry: Option<&'a str>,
     /// The time from tick to tick, while something waits for one: T1 (27.010, 5.7.1).
     pub tick: Duration,
-    /// After so long without an answer to its command a connection is closed. Where it is `None` none is.
+    /// How long a connection may be without an answer to its command before it is closed. `None`: no connection is
+    /// closed for that.
     pub quiet_for: Option<Duration>,
     /// The codes of the modem.
     pub dialect: &'a Dialect,

@@ -1,4 +1,4 @@
-//! What came for those who use the desk is printed.
+//! Prints what came for the callers and listeners of the desk.
 ghost use Rattle.std.specs.Prelude.{◌≡◌, ◌<◌, length, OnOk};
 ghost use Rattle.modem_drive.specs.Showing.{GoOn};
 
@@ -48,8 +48,8 @@ impl Users {
         }
     }
 
-    #[tactic(auto, using(crate::proofs::Lines::stays, crate::proofs::Lines::goes_then))]
     /// Prints a line of each listener that heard one, and says whether one did.
+    #[tactic(auto, using(crate::proofs::Lines::stays, crate::proofs::Lines::goes_then))]
     pub fn show_lines<W: Write>(
         &mut self,
         alloc: Global,

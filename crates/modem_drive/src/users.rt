@@ -78,7 +78,8 @@ impl Users {
         None
     }
 
-    /// The line that an outcome of this number is for: it isn't under way any more. Given up where there is none.
+    /// Takes the line that an outcome of this number is for from those under way. Refused with GaveUp where there is
+    /// none.
     pub fn settle_line(&mut self, number: u64) -> Result<UnderWay, DriveFault>
         ensures { IfOk result (λ line. TakesLine self.old self.new number line) }
     {

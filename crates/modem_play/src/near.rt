@@ -107,7 +107,7 @@ impl<L: SerialLine + Drop, R: Host> Near<L, R> {
         }
     }
 
-    /// Turns as long as they move, also where memory was refused: what the last one answers.
+    /// Makes turns as long as they move, also where memory was refused, and gives what the last one answers.
     pub fn turns(&mut self) -> Result<Turn, SessionFault> {
         for _ in 0..TURNS {
             match self.session.turn() {

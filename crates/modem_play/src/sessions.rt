@@ -108,7 +108,7 @@ pub fn play<R: Host>(lines: &mut Lines<R>, setup: &mut Setup) -> Result<(), Stop
     play_by::<R, Played<R>>(lines, setup)
 }
 
-/// Enters the multiplexer with so many calls of the line at most, and what was sent.
+/// Enters the multiplexer with at most so many calls on the line, and prints what was sent.
 pub fn enter_line<R: Host>(lines: &mut Lines<R>, setup: &Setup, calls: u32) -> Result<(), Stop> {
     let mut line = setup.line()?;
     let _ = match enter(&mut line, calls) {

@@ -16,8 +16,8 @@ pub trait Host: Wait + Input + Print + AllocGlobal + RandomSource + Copy + Drop 
 
 impl<R: Wait + Input + Print + AllocGlobal + RandomSource + Copy + Drop> Host for R {}
 
-/// The line that was read last is bad, whatever of it isn't as it must be. Each is read by itself, where it is the first one;
-/// `Lines::place` says which it is.
+/// The line that was read last is bad, in whatever part. Each line is read by itself, so it counts as line 1; `Lines::place`
+/// says which it is.
 pub const BAD: Stop = Stop::BadLine(1, LineFault::Event);
 
 /// The lines on standard input, and how many were read.
@@ -180,7 +180,7 @@ pub fn octets(alloc: Global, line: &str) -> Result<Vec<u8>, Stop> {
     }
 }
 
-/// Octets are printed as pairs of hexadecimal digits, or as `-` where there is none.
+/// Prints octets as pairs of hexadecimal digits, or `-` where there is none.
 pub fn print_octets<R: Host>(rt: &R, octets: &[u8]) -> Result<(), Stop> {
     if octets.is_empty() {
         let _ = rt.println("-");

@@ -79,7 +79,7 @@ pub data Follows : Type 0 where
   Probe : Follows
   Nothing : Follows
 
--- of a line with such a first word
+-- the fault behind a first word after which this follows
 abbrev pub BehindFault : Follows → (line : List ℕ) → LineFault → Type 0
 BehindFault Connection line = ConnectionFault (behind_word line)
 BehindFault Connections line = ConnectionsFault (behind_word line)
@@ -111,7 +111,7 @@ abbrev pub WordFault : (unknown : LineFault) → Option Follows → (line : List
 WordFault unknown None line why = why ≡ unknown
 WordFault unknown (Some follows) line why = BehindFault follows line why
 
--- that of a word behind which nothing stands that has to, or something that mustn't
+-- the fault where nothing stands behind a word that wants more, or something behind a word that wants nothing
 abbrev pub lone_fault : (unknown : LineFault) → Option Follows → LineFault
 lone_fault unknown None = unknown
 lone_fault unknown (Some Connection) = LineFault.Connection

@@ -26,11 +26,11 @@ Says line (order.Octets octets) = (pairs : List ℕ) × (line ≡ codes "in " ++
 Says line order.Tick = line ≡ codes "tick"
 Says line order.Lost = line ≡ codes "lost"
 
--- the line is none of the words that stand alone
+-- the line isn't one of the words that stand alone
 abbrev pub IsNoWord : List ℕ → Type 0
 IsNoWord line = (line ≢ codes "stop") × (line ≢ codes "tick") × (line ≢ codes "lost")
 
--- the line begins with none of the words behind which something stands, and a blank
+-- the line doesn't begin with a word that wants more, and a blank
 pub record BeginsNone (line : List ℕ) : Type 0 where
   pub no_open : (rest : List ℕ) → line ≢ codes "open " ++ rest
   pub no_close : (rest : List ℕ) → line ≢ codes "close " ++ rest

@@ -3,7 +3,7 @@ use Rattle.std.specs.Prelude.{ℕ, ◌+◌, List, [], ◌∷◌, ◌++◌}
 use Rattle.modem_desk.specs.declared.request.Outcome.{Outcome}
 use Rattle.modem_texts.specs.Texts.{told_text}
 
--- what it was told of its lines from this place on
+-- what a caller was told of its lines from this place on
 abbrev pub told_from : ℕ → ℕ → List Outcome → List ℕ
 told_from caller place [] = []
 told_from caller place (o ∷ outcomes) =

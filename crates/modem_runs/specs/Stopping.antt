@@ -9,14 +9,14 @@ use Rattle.modem_runs.specs.LineFaults.{SubmissionFault}
 use Rattle.modem_runs.specs.Statuses.{status_of, stop_line}
 use Rattle.modem_runs.specs.declared.stop.Stop.{Stop}
 
--- for this cause, with its status: nothing was written to the output, unless that is what failed; and what is said of the cause,
--- or a beginning of it, stands beside the output
+-- The run gave up for this cause, with the cause's status. Nothing was written to the output, unless that failed. What is said
+-- of the cause, or a beginning of it, stands beside the output.
 pub record GivesUp {O : Type 0} (old new : O) (before after : Option (List ℕ)) (status : ℕ) (stop : Stop) : Type 0 where
   pub has_status : status ≡ status_of stop
   pub nothing : stop ≢ Stop.Output → new ≡ old
   pub said : IsBegun before after (stop_line stop)
 
--- for one of the causes that there are
+-- the run gave up for one of the causes that there are
 pub record HasGivenUp {O : Type 0} (old new : O) (before after : Option (List ℕ)) (status : ℕ) : Type 0 where
   pub stop : Stop
   pub gives_up : GivesUp old new before after status stop
@@ -49,7 +49,8 @@ IsRunStop n1 IsBad Has input Stop.BadCut = ⊥
 IsRunStop n1 IsBad Has input (Stop.Dialect fault) = ⊥
 IsRunStop n1 IsBad Has input (Stop.BadLine place why) = IfSome input (λ text. IsFirstBad IsBad Has (input_lines text) place why)
 
--- those of a bench: its line failed, or it didn't come to its end; callers aren't 1 to 8, the cut isn't 1 to 4096
+-- the causes for which a bench stops: its line failed, or it didn't come to its end; callers aren't 1 to 8, the cut
+-- isn't 1 to 4096
 abbrev pub IsBenchStop : (callers cut : ℕ) (input : Option (List ℕ)) → Stop → Type 0
 IsBenchStop callers cut input Stop.NoMemory = Unit {0}
 IsBenchStop callers cut input Stop.Input = Unit {0}

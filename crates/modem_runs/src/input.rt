@@ -1,4 +1,4 @@
-//! Input: it is read whole.
+//! Reads an input whole.
 ghost use Rattle.std.specs.Prelude.{◌≡◌, ◌⊎◌, IfOk, IfErr, IfSome};
 ghost use Rattle.modem_runs.specs.declared.stop.Stop.TheVariants as Stop;
 

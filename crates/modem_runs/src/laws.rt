@@ -4,7 +4,7 @@ ghost use Rattle.modem_runs.specs.LineFaultRows.{AreDumpFaults, AreEventFaults, 
 ghost use Rattle.modem_runs.specs.LineFaults.{DumpFault, EventFault, StepFault, SubmissionFault};
 ghost use Rattle.modem_texts.specs.declared.line_fault.LineFault.{LineFault};
 
-/// Of a line only one part is the first that isn't as it must be.
+/// Only one part of a line is the first that isn't as it must be.
 #[tactic(auto, using(crate::proofs::inputs::OneFault::one_event, crate::proofs::inputs::OneFault::one_step, crate::proofs::inputs::OneFault::one_submission, crate::proofs::inputs::OneFault::one_dump))]
 pub fn one_fault()
     ensures events { (line : List ℕ) (a b : LineFault) → EventFault line a → EventFault line b → a ≡ b }

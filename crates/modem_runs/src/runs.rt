@@ -90,8 +90,8 @@ fn framed<R: Read>(alloc: Global, input: &mut R, n1: N1) -> Result<String, Stop>
 }
 
 /// Replays the script of `input`, and writes the acts to `output`. The status is 0 where all of them are
-/// written, 1 at a fault, 2 at a bad line; at 1 and 2 it says on `faults` why. It is 2 at a bad N1, one
-/// that isn't 31 to 32767, and then nothing is read.
+/// written, 1 at a fault, 2 at a bad line; at 1 and 2 it says on `faults` why. It is also 2 where N1 isn't 31 to 32767,
+/// and then nothing is read.
 pub fn replay_run<R: Read, W: Write, E: Write>(
     alloc: Global,
     input: &mut R,

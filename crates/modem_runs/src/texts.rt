@@ -179,7 +179,7 @@ pub fn acts_text(alloc: Global, acts: &[Act]) -> Result<String, AllocError>
     Ok(text)
 }
 
-/// The same at a modem with the codes of this dialect: lines of its own kinds are heard under their names.
+/// As `push_act`, at a modem with the codes of this dialect: lines of its own kinds are heard under their names.
 pub fn push_act_by(
     alloc: Global,
     dialect: &Dialect,

@@ -26,7 +26,7 @@ fn number_of(stop: Stop, digits: &mut Buffer) -> &str
     }
 }
 
-/// Says why a run ended, and gives the status. A writer that fails changes nothing but that.
+/// Says why a run ended, and gives the status. A writer that fails doesn't change the status.
 pub fn give_up<E: Write>(faults: &mut E, stop: Stop) -> u8
     ensures status { result ≡ status_of stop }
     ensures said { IsBegun (E.contents faults.old) (E.contents faults.new) (stop_line stop) }

@@ -23,7 +23,7 @@ abbrev pub is_closed_by : (past now : List Act) → Bool
 is_closed_by past now = is_open_at_modem 0 past && not (is_open_at_modem 0 now)
 
 -- At rest: each frame that is called for was sent, and no other; every frame that the octets are read as has come; on each open
--- connection that isn't stopped or held all is out that there is to say; and all frames sent are written.
+-- connection that is neither stopped nor held, all that is said has gone out; and all frames sent are written.
 pub record Rests (e : End) (came went : List ℕ) (now : List Act) : Type 0 where
   pub lawful : SimLawful e now
   pub complete : SimComplete e now
@@ -49,12 +49,12 @@ pub data InMux (e : End) : (came went : List ℕ) (now : List Act) → Type 0 wh
       → is_piece piece ≡ true → IsLater past now → Rests e (came ++ piece) (went ++ more) now
       → is_closed_by past now ≡ false → InMux e (came ++ piece) (went ++ more) now
 
--- so a piece ends the multiplexer
+-- a piece ends the multiplexer
 pub data IsEndedBy (e : End) (past : List Act) (came went : List ℕ) (now : List Act) : Type 0 where
   is_closed : Rests e came went now → is_closed_by past now ≡ true → IsEndedBy e past came went now
   is_closed_down : ClosesDown e came went now → IsEndedBy e past came went now
 
--- and the last piece closed it down
+-- the pieces before left the modem in the multiplexer, and the last one closed it down
 pub record EndsMux (e : End) (came went : List ℕ) (now : List Act) : Type 0 where
   pub before : List ℕ
   pub sent_before : List ℕ

@@ -47,8 +47,8 @@ pub record BeginsAnswer (s : Setting) (came went piece part : List ℕ) : Type 0
   pub left : List ℕ
   pub answers : Answers s (came ++ piece) (went ++ (part ++ left))
 
--- Of all that the reader had, some was read. All of that but the last piece, of 4096 octets at most, was answered whole; of what
--- answers that piece, what the fault says was written; and nothing else was written.
+-- Some of what the reader had was read. All of that was answered whole, but for the last piece of at most 4096 octets. Of that piece's
+-- answer as much was written as the fault says. Nothing else was written.
 pub record LeavesAnswers (s : Setting) (fault : Option ServeFault) (rest before after : Option (List ℕ)) (all : List ℕ) : Type 0 where
   pub came : List ℕ
   pub went : List ℕ

@@ -44,7 +44,7 @@ unfoldable pub said_to : Option Asked → ModemState → List ℕ → List ℕ
 said_to None m line = pieces_octets (reply false m line)
 said_to (Some request) m line = said_by request (echoes false m) line
 
--- the modem after it
+-- the modem after a line
 abbrev pub modem_by : Option Asked → ModemState → List ℕ → ModemState
 modem_by None m line = (step m line).state
 modem_by (Some request) m line = m
@@ -58,7 +58,7 @@ abbrev pub entered_by : Option Asked → Option ℕ
 entered_by None = None
 entered_by (Some request) = n1_by request
 
--- the same for the line that an octet ends, if it ends one
+-- what is said to the line that an octet ends, if it ends one
 abbrev pub said_to_all : ℕ → ModemState → List (List ℕ) → List ℕ
 said_to_all n1 m [] = []
 said_to_all n1 m (line ∷ more) = said_to (mux_request n1 line) m line
@@ -87,6 +87,6 @@ plain_by None p c = plain_lines (lines (p.run ++ c ∷ [])) (record p { run = ke
 abbrev pub plain_octet : Plain → ℕ → Plain
 plain_octet p c = plain_by p.entered p c
 
--- and octets, one after the other
+-- plain lines after octets, one after the other
 unfoldable pub plain_after : Plain → List ℕ → Plain
 plain_after p octets = fold plain_octet p octets

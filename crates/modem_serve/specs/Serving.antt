@@ -12,7 +12,8 @@ use Rattle.modem_serve.specs.declared.serving.SimOptions.{SimOptions}
 use Rattle.modem_serve.specs.InMux.{EndsMux, InMux, mux_end}
 use Rattle.modem_serve.specs.Plain.{Plain, plain_after, plain_begun}
 
--- whose client it is: N1 where a line doesn't name it, what its modem does of its own accord in each multiplexer, and the modem
+-- the setting of a client: N1 where a line doesn't name it, what its modem does of its own accord in each multiplexer, and the
+-- modem
 pub record Setting : Type 0 where
   pub n1 : ℕ
   pub steps : List Step
@@ -27,7 +28,7 @@ pub record EntersAfter (s : Setting) (m : ModemState) (octets : List ℕ) (n1 : 
   pub entered : (plain_by_now s m octets).entered ≡ Some n1
   pub none_behind : (plain_by_now s m octets).behind ≡ []
 
--- Plain lines begin, by this modem: before any octet, and behind the piece that ends a multiplexer. These octets came before, and these
+-- Plain lines begin with this modem, before any octet or behind the piece that ends a multiplexer. These octets came before, and these
 -- went.
 pub data Begins (s : Setting) : (came went : List ℕ) → ModemState → Type 0 where
   at_first : Begins s [] [] s.modem

@@ -122,8 +122,8 @@ fn is_over(ended: bool, was_up: bool, up: bool) -> bool
     ended || (was_up && !up)
 }
 
-/// Takes a piece, does all that can be done, and writes what is sent behind other octets. Says whether the multiplexer was closed
-/// down: 0 was open and isn't any more, or a CLD was answered.
+/// Takes a piece, does all that can be done, and writes what is sent behind the octets in `out`. Says whether the multiplexer was
+/// closed down: 0 was open and isn't any more, or a CLD was answered.
 pub(crate) fn feed(
     sim: &mut Sim<HeldLine>,
     piece: &[u8],

@@ -166,7 +166,7 @@ impl PlainMode {
     }
 
     /// Takes octets as they come, up to the end of a line that enters the multiplexer, and says how many: answers the lines that end
-    /// in them, in order. After an error nothing is said of it.
+    /// in them, in order. Refused only with NoMemory; nothing is said of the plain lines then.
     #[tactic(auto, using(crate::proofs::Feeding::fed_none, crate::proofs::Feeding::fed_more, crate::proofs::Feeding::fed_all))]
     pub fn feed(&mut self, octets: &[u8]) -> Result<usize, AllocError>
         ensures bound { IfOk result (λ n. n ≤ length octets.now) }
@@ -183,14 +183,14 @@ impl PlainMode {
         Ok(octets.len())
     }
 
-    /// What it has said that wasn't handed out.
+    /// The octets said and not yet handed out.
     pub fn said(&self) -> &[u8]
         ensures { result.now ≡ self.now.said }
     {
         self.said.as_slice()
     }
 
-    /// What it said is handed out.
+    /// Notes that all that it said is handed out.
     pub fn clear_said(&mut self)
         ensures { self.new ≡ record self.old { said = [] } }
     {

@@ -146,8 +146,8 @@ fn request_in(n1: N1, command: &[u8]) -> Option<MuxRequest>
     entering(n1, parameters)
 }
 
-/// What a command line asks of the multiplexer, if its only command asks something; N1 is this where it isn't named. Where a parameter
-/// is out of its range it asks nothing, and is answered as any other line.
+/// What a command line asks of the multiplexer, if its only command asks something. Where the line names no N1, it is `n1`. Where a
+/// parameter is out of its range it asks nothing, and is answered as any other line.
 pub fn mux_request(alloc: Global, n1: N1, line: &[u8]) -> Result<Option<MuxRequest>, AllocError>
     ensures { IfOk result (λ asked. option_map asked_of asked ≡ mux_request n1.octets line.now) }
 {

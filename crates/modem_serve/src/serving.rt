@@ -210,9 +210,9 @@ fn end<E: Write>(faults: &mut E, served: Result<(), ServeFault>) -> u8
 /// it reads on.
 ///
 /// The status is 0 at the end of the input, 1 at a fault, 2 where N1 isn't 31 to 32767 or the PIN isn't 4 to 8 digits, and then nothing
-/// is read; at 1 and 2 it says on `faults` why. At 1 all that was read was answered, but for the last piece of 4096 octets at most
-/// where memory was refused, the simulated modem goes on without an end, or the writer failed: then of what answers that, a beginning
-/// may be written.
+/// is read; at 1 and 2 it says on `faults` why. At 1 all that was read was answered. Where memory was refused, the simulated modem
+/// goes on without an end, or the writer failed, the last piece of at most 4096 octets wasn't: of its answer a beginning may be
+/// written.
 pub fn sim_run<I: Read, W: Write, E: Write>(
     alloc: Global,
     input: &mut I,
@@ -253,9 +253,8 @@ fn captured(served: Result<(), ServeFault>, failed: bool) -> Result<(), ServeFau
     Ok(())
 }
 
-/// The same, and the frames of all that is read and written go into a capture with their times, each way and in the order in which
-/// they pass; it is given back. Where it can't be written the client is served to the end, and the status is 1 then, unless another
-/// fault ended it.
+/// As `sim_run`, and captures the frames of all that is read and written, each way, in the order in which they pass and with their
+/// times. It gives the capture back. Where the capture can't be written, the client is served to the end, and the status is 1.
 pub fn sim_captured<K: Clock, I: Read, W: Write, E: Write, C: Write>(
     clock: &K,
     alloc: Global,

@@ -1,4 +1,4 @@
-//! Octets are written as far as their writer takes them.
+//! Writes octets, as far as their writer takes them.
 ghost use Rattle.std.specs.Prelude.{IsOkUnless, OnErr, OnOk};
 ghost use Rattle.std.specs.Io.KnownBytes.{Appends};
 ghost use Rattle.modem_serve.specs.declared.fault.ServeFault.TheVariants.{Output};
@@ -8,7 +8,7 @@ use crate::fault::ServeFault;
 use modem_texts::put_octets;
 use std::io::Write;
 
-/// Writes octets whole. Refused where the writer doesn't take all: then it took a beginning of them, and nothing else.
+/// Writes octets whole. Refused where the writer doesn't take all; it then took a beginning of them, and nothing else.
 pub(crate) fn put<W: Write>(output: &mut W, octets: &[u8]) -> Result<(), ServeFault>
     ensures whole { OnOk result (Appends (W.contents output.old) (W.contents output.new) octets.now) }
     ensures part { OnErr result (IsBegun (W.contents output.old) (W.contents output.new) octets.now) }

@@ -1,4 +1,4 @@
-//! Sizes at which a give-up would cost a user: where there is memory, the calls succeed.
+//! Large sizes, at which giving up would cost a user: where there is memory, the calls succeed.
 
 use at_cmds::{Command, PinState, Reply};
 use at_text::*;

@@ -48,8 +48,8 @@ rule_in (text_of.Unsolicited form text name) = UrcRule form text.now name.now
 
 -- ## Lines
 
--- lines make one dialect of another, one line after the other: a line that is passed over leaves it as it is, any other says a rule,
--- which it has no reason to refuse and which stands behind those that it has
+-- Lines make one dialect of another, line by line. A line that is passed over leaves it as it is. Any other says a rule, which the
+-- dialect has no reason to refuse; the rule stands behind those that it has.
 pub data Makes : (old : Rules) → List (List ℕ) → (new : Rules) → Type 0 where
   ends : (rules : Rules) → Makes rules [] rules
   passes : (old new : Rules) (line : List ℕ) (lines : List (List ℕ))

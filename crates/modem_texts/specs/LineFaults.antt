@@ -57,7 +57,7 @@ abbrev pub HasFault : (LineFault → Type 0) → Refusal → Type 0
 HasFault Has (Refusal.Bad why) = Has why
 HasFault Has Refusal.NoMemory = Unit {0}
 
--- an error is told so: that memory was refused as that, any other as this fault
+-- how an error is told: a refusal of memory as NoMemory, any other error as this fault
 abbrev pub IsToldAs : {E : Type 0} → (out error : E) → LineFault → Refusal → Type 0
 IsToldAs out error fault refusal =
     ((error ≡ out) × (refusal ≡ Refusal.NoMemory)) ⊎ ((error ≢ out) × (refusal ≡ Refusal.Bad fault))

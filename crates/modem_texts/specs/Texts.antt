@@ -66,7 +66,7 @@ abbrev pub named_text : Option (List ℕ) → UrcKind → List ℕ
 named_text None kind = urc_text kind
 named_text (Some name) kind = line_text name
 
--- the same at a modem with rules of its own: the kinds of its own have their names
+-- a line that was heard, at a modem with rules of its own: the kinds of its own have their names
 abbrev pub heard_text_by : Rules → Urc → List ℕ
 heard_text_by rules u =
     codes "heard " ++ named_text (name_of rules u.kind) u.kind ++ codes " " ++ decimal u.dlci.number ++ codes " "

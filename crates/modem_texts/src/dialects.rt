@@ -11,7 +11,7 @@ use at_text::octets::skip_blanks;
 use at_text::{Dialect, DialectError, Form};
 use std::alloc::Global;
 
-/// Why a text is none of a dialect.
+/// Why a text isn't that of a dialect.
 #[derive(Clone, Copy, PartialEq, Eq, Debug)]
 pub enum DialectRefusal {
     /// This line, counted from 1, says no rule.
@@ -130,8 +130,8 @@ impl DialectRefusal {
 
 /// The dialect of a text: the standard, and the rule of each line, in order. A line is `final FORM TEXT` or `unsolicited FORM
 /// TEXT NAME`, where FORM is `line`, `prefix`, `quoted`, `report` or `open-report` and NAME the name of the lines' kind, without
-/// blanks. Lines that begin with `#` and those of nothing but blanks are passed over. It is refused for the first line that says no
-/// rule or whose rule is refused, and for NoMemory.
+/// blanks. Lines that begin with `#` and those of nothing but blanks are passed over. Refused at the first line that says no rule
+/// or whose rule is refused, and with NoMemory.
 pub fn read_dialect(alloc: Global, text: &[u8]) -> Result<Dialect, DialectRefusal>
     ensures { MatchResult result (AreLinesOf (input_lines text.now)) (IsDialectRefusal (input_lines text.now)) }
 {
@@ -154,7 +154,7 @@ pub fn read_dialect(alloc: Global, text: &[u8]) -> Result<Dialect, DialectRefusa
     Ok(dialect)
 }
 
-/// The dialect that comes ready under this name: `common` or `dialling`. It is refused for 8 NoMemory alone.
+/// The dialect that comes ready under this name: `common` or `dialling`. Refused only with 8 NoMemory.
 pub fn dialect_named(alloc: Global, name: &[u8]) -> Result<Option<Dialect>, DialectError>
     ensures known { IfOk result (λ dialect. dialect ≡ dialect_with_name name.now) }
     ensures refused { IfErr result (λ why. why ≡ DialectError.NoMemory) }

@@ -1,4 +1,4 @@
-//! What of a line of an input isn't as it must be.
+//! The first part of an input's line that isn't as it must be.
 ghost use Rattle.std.specs.Prelude.{◌≡◌};
 ghost use Rattle.modem_texts.specs.LineFaults.{reason_text};
 
@@ -23,7 +23,7 @@ pub enum LineFault {
     Text,
     /// Octets in one word.
     Octets,
-    /// So few octets that a probe has room for them.
+    /// At most 16 octets, the data of a probe.
     Probe,
     /// Octets in any number of words.
     Pairs,

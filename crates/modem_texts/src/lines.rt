@@ -34,7 +34,8 @@ pub fn first_word(text: &[u8]) -> (&[u8], &[u8])
     split_once(text, b' ').unwrap_or((text, &[]))
 }
 
-/// The first line of a text that may go on, without its end, and the text behind it: none where no LF stands in the text.
+/// The first line that an LF ends, without its end, and the text behind it. `None` where no LF stands in the text: the
+/// line may go on.
 pub fn ended_line(text: &[u8]) -> Option<(&[u8], &[u8])>
     ensures cut { MatchOption result (LacksByte 10 text.now)
         (λ parts. (more : List ℕ) → input_lines (text.now ++ more) ≡ parts.0.now ∷ input_lines (parts.1.now ++ more)) }

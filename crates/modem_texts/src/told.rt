@@ -103,7 +103,7 @@ pub fn push_heard(alloc: Global, urc: &Urc, text: &mut String) -> Result<(), All
     text.push_str("\n")
 }
 
-/// The same at a modem with the codes of this dialect: a kind of its own is named as its rule names it.
+/// As `push_heard`, at a modem with the codes of this dialect: a kind of its own is named as its rule names it.
 pub fn push_heard_by(
     alloc: Global,
     dialect: &Dialect,

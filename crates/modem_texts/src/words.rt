@@ -27,7 +27,7 @@ fn dlci_of(word: &[u8]) -> Option<Dlci>
     Dlci::new(number)
 }
 
-/// The same, and every other word is refused as bad.
+/// The connection that a word is. Every other word is refused as bad.
 pub fn connection_of(word: &[u8]) -> Result<Dlci, Refusal>
     ensures { MatchResult result
         (λ dlci. word.now ≡ number_text dlci.number)

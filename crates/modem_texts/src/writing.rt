@@ -1,4 +1,4 @@
-//! Texts go to a writer, as far as it takes them.
+//! Writes texts, as far as their writer takes them.
 ghost use Rattle.std.specs.Prelude.{◌≡◌, ◌++◌, ◌∷◌, [], true};
 ghost use Rattle.std.specs.Io.KnownBytes.{Appends};
 ghost use Rattle.modem_texts.specs.Writing.{IsBegun};

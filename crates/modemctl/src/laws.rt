@@ -7,14 +7,14 @@ ghost use Rattle.modem_ends.specs.OneModemRows.{RightAnswer, RightLine, WrongAns
 
 use modem_ends::laws;
 
-/// Of every list of what happened at the two ends of one line. The premise (`IsOneModem`): the driver is the initiator (27.010, 5.1)
-/// and sees lines by the standard's codes, its part of the list keeps the laws of a driver's history, and of its callers none uses a number twice; the modem's part keeps
-/// those of a simulated modem's, and each line that it announces is unsolicited (27.007, 9); at every point the frames that came at
-/// each end are the first that the other sent; and each connection is asked for once at most.
+/// A law of every list of what happened at the two ends of one line. The premise (`IsOneModem`): the driver is the initiator (27.010, 5.1)
+/// and sees lines by the standard's codes. Its part of the list keeps the laws of a driver's history, and no caller uses a number twice.
+/// The modem's part keeps the laws of a simulated modem's history, and each line that it announces is unsolicited (27.007, 9). At every
+/// point the frames that came at each end are the first that the other sent. Each connection is asked for at most once.
 ///
 /// The lines that the modem reads, over all connections, are commands that the driver was given, each on its connection, in the
-/// order in which they were wholly sent (`ReadsCommands`). Each command told Done is among them, at its place, and what it is told is
-/// what the modem's step gives there, run over all lines before it (`TellsModem`).
+/// order in which they were wholly sent (`ReadsCommands`). Each command told Done is among them, at its place, and is told what the
+/// modem's step gives there, run over all lines before it (`TellsModem`).
 pub fn one_modem()
     ensures reads { (s : Setting) (e : End) (line : List EndAct) → ReadsCommands s e line }
     ensures told { (s : Setting) (e : End) (line : List EndAct) → TellsModem s e line }

@@ -23,7 +23,7 @@ pub record Caught : Type 0 where
   pub direction : Direction
   pub frame : Frame
 
--- its packet: the frame between its flags, its length in the shortest form
+-- the packet of a captured frame: the frame between its flags, its length in the shortest form
 abbrev pub caught_packet : Caught → List ℕ
 caught_packet c = packet c.stamp c.direction (spelled c.frame)
 
@@ -47,8 +47,8 @@ frames_in d (c ∷ more) = if is_same c.direction d then c.frame ∷ frames_in d
 abbrev pub caught_with : Passed → Frame → Caught
 caught_with p f = record { stamp = p.stamp; direction = p.direction; frame = f }
 
--- As octets passed, those frames were captured with them that all octets that had passed this way are read as, and that weren't
--- captured before. A frame may have as much information as a length indicator can tell.
+-- As octets passed, the frames were captured that all octets passed this way so far are read as, but for those captured before.
+-- A frame may have as much information as a length indicator can tell.
 pub data Catches : List Passed → List Caught → Type 0 where
   none : Catches [] []
   more :

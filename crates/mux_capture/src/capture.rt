@@ -24,8 +24,8 @@ impl From<AllocError> for CaptureFault {
     }
 }
 
-/// Writes the frames that pass on a line to a file, each as a packet, as soon as its closing flag has passed. What is outside frames
-/// it passes over. A frame's length is written in its shortest form.
+/// Writes the frames that pass on a line to a file, each as a packet, as soon as its closing flag has passed. It passes over what
+/// lies outside frames. A frame's length is written in its shortest form.
 ///
 /// After a write that failed it writes nothing more.
 #[derive(Drop)]
@@ -138,8 +138,8 @@ impl<C: Write> Capture<C> {
         }
     }
 
-    /// Takes octets that passed at this time, and writes a packet for each frame that ends in them. Once that can't be, the capture
-    /// has failed, and nothing more is written.
+    /// Takes octets that passed at this time, and writes a packet for each frame that ends in them. Once a packet can't be written,
+    /// the capture has failed, and nothing more is written.
     pub fn take(&mut self, stamp: Stamp, direction: Direction, octets: &[u8])
         ensures captures { self.new.failed ≡ false
             → Captures self.old self.new (record { stamp = stamp; direction = direction; octets = octets.now }) }

@@ -36,7 +36,7 @@ impl Stamp {
         }
     }
 
-    /// The time since 1970 began, as this clock says; none has passed where it fails.
+    /// The time since 1970 began, as this clock says; 0 where it fails.
     pub fn now<K: Clock>(clock: &K) -> Stamp
         ensures { result.micros < 1000000 }
     {
@@ -52,7 +52,7 @@ const HEADER: [u8; 24] = [
     0xD4, 0xC3, 0xB2, 0xA1, 2, 0, 4, 0, 0, 0, 0, 0, 0, 0, 0, 0, 0xFF, 0xFF, 0, 0, 236, 0, 0, 0,
 ];
 
-/// Writes the header of a file behind other octets. A want of memory leaves those as they were.
+/// Writes the header of a file behind other octets. Want of memory leaves those as they were.
 pub fn push_header(out: &mut Vec<u8>) -> Result<(), AllocError>
     ensures ok { OnOk result (out.new.items ≡ out.old.items ++ file_header) }
     ensures err { OnErr result (out.new.items ≡ out.old.items) }
@@ -81,8 +81,8 @@ fn octet_of(direction: Direction) -> u8
     }
 }
 
-/// Writes the packet of a frame behind other octets: the frame's octets from flag to flag, at most 65533; one of 27.010 has at most
-/// 32774. A want of memory leaves those before as they were.
+/// Writes the packet of a frame behind other octets: the frame's octets from flag to flag, at most 65533 (a frame of 27.010 has at
+/// most 32774). Want of memory leaves the octets before as they were.
 pub fn push_packet(
     stamp: Stamp,
     direction: Direction,

@@ -56,12 +56,7 @@ fn push_fault(alloc: Global, fault: FileFault, text: &mut String) -> Result<(), 
 }
 
 /// The line that says why the file of this path, which is there for this, can't be used.
-fn line_about(
-    alloc: Global,
-    what: &str,
-    path: &str,
-    fault: FileFault,
-) -> Result<String, AllocError>
+fn line_about(alloc: Global, what: &str, path: &str, fault: FileFault) -> Result<String, AllocError>
     ensures { IfOk result (λ line. IsFileLine what.now path.now fault (string_bytes line)) }
 {
     let mut line = String::new(alloc);

@@ -91,7 +91,7 @@ pub enum NoCapture {
     Begun(CaptureFault),
 }
 
-/// A capture into the file of this path, which is made, or emptied where there is one.
+/// A capture into the file of this path. The file is made, or emptied where there is one.
 pub fn capture_at<R: Files<File = File>>(
     rt: &R,
     alloc: Global,
@@ -104,12 +104,7 @@ pub fn capture_at<R: Files<File = File>>(
 }
 
 /// Says why there is no capture at this path, and gives the status.
-pub fn refuse_capture<E: Write>(
-    alloc: Global,
-    faults: &mut E,
-    path: &str,
-    fault: NoCapture,
-) -> u8
+pub fn refuse_capture<E: Write>(alloc: Global, faults: &mut E, path: &str, fault: NoCapture) -> u8
     ensures status { result ≡ 1 }
     ensures said { SaysNoCapture fault path.now (E.contents faults.old) (E.contents faults.new) }
 {

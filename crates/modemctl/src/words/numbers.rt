@@ -16,7 +16,7 @@ const DEFAULT_CALLERS: u16 = 2;
 /// The octets under way each way where no word gives them.
 const DEFAULT_CUT: u16 = 64;
 
-/// What the options give, and else the defaults.
+/// The numbers that the options give, or else the defaults.
 #[derive(Clone, Copy)]
 pub struct Numbers {
     pub n1: u16,
@@ -30,7 +30,7 @@ struct Decimal {
     number: u16,
 }
 
-/// A text is no such number.
+/// A text isn't a decimal number.
 #[derive(Drop)]
 pub struct NotDecimal;
 

@@ -27,6 +27,7 @@ impl TextFiles for HostRuntime {
     type Text = File;
 
     ghost text_of = { λ _ _. None };
+
     ghost is_shut = { λ _ _. false };
 
     fn open_text(&self, path: &str) -> io::Result<File> {
