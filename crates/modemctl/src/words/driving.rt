@@ -24,10 +24,6 @@ use std::time::Duration;
 /// T1 in milliseconds where no word gives it (27.010, 5.7.1).
 const DEFAULT_TICK: u16 = 100;
 
-/// What a drive is for, and what its device has to be.
-const ABOUT: &str =
-    "Drives a modem on a terminal. Set the terminal up first: stty -F DEVICE raw -echo min 0 time 1 -crtscts clocal -hupcl. Each line of the input is a connection, 1 to 61, a blank and a command. An interrupt can't be caught: the modem then stays in the multiplexer, and the next drive, where nothing answers it, begins with a CLD frame";
-
 /// The option `--tick`.
 fn tick_option<'a>(alloc: Global) -> Arg<'a>
     ensures rule { rule_of result ≡ tick_rule }
@@ -84,7 +80,7 @@ pub fn with_drive<'a>(alloc: Global, command: Command<'a>) -> Result<Command<'a>
     ensures { IfOk result (λ c. app_of c ≡ with_subcommand (app_of command.entry) drive_app.top) }
 {
     let drive = Command::new(alloc, "drive")
-        .about(ABOUT)
+        .about("Drives a modem on a terminal")
         .after_help(help::DRIVE)
         .arg(n1_option(alloc))?
         .arg(tick_option(alloc))?
