@@ -12,29 +12,28 @@ use Rattle.modemctl.specs.declared.words.text_files.TextFault.{TextFault}
 
 -- ## What is said of a file
 
--- an octet of a path: `\` before a quote and a `\`; outside 20 to 7E hex `\x` and two digits
+-- an octet of a path, as an octet of a text; `\` stands before a quote and a `\`
 abbrev pub quoted_octet : ℕ → List ℕ
-quoted_octet c = if (c == 34) || (c == 92) then 92 ∷ c ∷ [] else octet_text c
+quoted_octet c = if (c == 34) || (c == 92) then 92 ∷ octet_text c else octet_text c
 
 -- a path in quotes
 abbrev pub quoted : List ℕ → List ℕ
-quoted path = 34 ∷ (flat_map quoted_octet path ++ 34 ∷ [])
+quoted path = codes "\"" ++ flat_map quoted_octet path ++ codes "\""
 
--- what can't be done with a file, and the system's words for why
-abbrev pub rest_of : FileFault → (cause : List ℕ) → List ℕ
-rest_of (FileFault.Closed kind) cause = codes " can't be opened: " ++ cause
-rest_of (FileFault.Unmade kind) cause = codes " can't be made: " ++ cause
-rest_of FileFault.Unread cause = codes " can't be read"
+-- what can't be done with a file
+abbrev pub cant_words : FileFault → List ℕ
+cant_words (FileFault.Closed kind) = codes " can't be opened: "
+cant_words (FileFault.Unmade kind) = codes " can't be made: "
+cant_words FileFault.Unread = codes " can't be read"
 
--- that stands behind a text, with some words for why
-pub record PutsRest (fault : FileFault) (old new : List ℕ) : Type 0 where
-  pub cause : List ℕ
-  pub put : new ≡ old ++ rest_of fault cause
+-- a line about a file: what it is for, its path, what can't be done with it, and these words for why
+abbrev pub file_line : (what path : List ℕ) → FileFault → (cause : List ℕ) → List ℕ
+file_line what path fault cause = codes "fault: the " ++ what ++ codes " " ++ quoted path ++ cant_words fault ++ cause ++ codes "\n"
 
--- a line about a file: what it is for, its path, what can't be done with it, and some words for why
+-- it is such a line, with some words for why
 pub record IsFileLine (what path : List ℕ) (fault : FileFault) (line : List ℕ) : Type 0 where
   pub cause : List ℕ
-  pub line_is : line ≡ codes "fault: the " ++ what ++ codes " " ++ quoted path ++ rest_of fault cause ++ codes "\n"
+  pub line_is : line ≡ file_line what path fault cause
 
 -- such a line is said, or a beginning of it
 pub record SaysFile (what path : List ℕ) (fault : FileFault) (before after : Option (List ℕ)) : Type 0 where

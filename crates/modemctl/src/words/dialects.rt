@@ -6,11 +6,11 @@ ghost use Rattle.modemctl.specs.Dialects.{GivesRules, IsGivenDialect, IsReadyOrR
 ghost use Rattle.modemctl.specs.Files.{IsNoText, NamesCause, text_status};
 ghost use Rattle.modemctl.specs.Words.{dialect_rule};
 
-use crate::words::file_faults::{FileFault, refuse_file};
+use crate::words::file_faults::refuse_text;
 use crate::words::text_files::{TextFault, TextFiles};
 use at_text::Dialect;
 use clap::{Arg, ArgAction, ArgMatches};
-use modem_runs::{Stop, dialect_from, give_up, replay_run, replay_with_dialect_run};
+use modem_runs::{Stop, dialect_from, replay_run, replay_with_dialect_run};
 use modem_texts::dialect_named;
 use std::alloc::Global;
 use std::io::{Read, Write};
@@ -43,23 +43,6 @@ fn dialect_in_file<R: TextFiles>(rt: &R, alloc: Global, path: &str) -> Result<Di
     }
 }
 
-/// Says why the file of this path gives no dialect, and gives the status.
-fn refuse_dialect<E: Write>(alloc: Global, faults: &mut E, path: &str, fault: TextFault) -> u8
-    ensures status { result ≡ text_status fault }
-    ensures bad { (0 < result) × (result ≤ 2) }
-    ensures said { IsNoText (codes "dialect") (Some path.now) (E.contents faults.old) (E.contents faults.new) result }
-{
-    match fault {
-        TextFault::Closed(kind) => {
-            refuse_file(alloc, faults, "dialect", path, FileFault::Closed(kind))
-        }
-        TextFault::Stopped(Stop::Input) => {
-            refuse_file(alloc, faults, "dialect", path, FileFault::Unread)
-        }
-        TextFault::Stopped(stop) => give_up(faults, stop),
-    }
-}
-
 /// The dialect that comes ready under this name, else that of the file of this name.
 fn find_dialect<R: TextFiles>(rt: &R, alloc: Global, name: &str) -> Result<Dialect, TextFault>
     ensures named { IfOk result (IsReadyOrRead (dialect_with_name name.now) (R.text_of rt.now name.now)) }
@@ -89,7 +72,7 @@ pub fn dialect_by<R: TextFiles, E: Write>(
 {
     match find_dialect(rt, alloc, name) {
         Ok(dialect) => Ok(dialect),
-        Err(fault) => Err(refuse_dialect(alloc, faults, name, fault)),
+        Err(fault) => Err(refuse_text(alloc, faults, "dialect", name, fault)),
     }
 }
 

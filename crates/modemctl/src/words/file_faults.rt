@@ -1,8 +1,10 @@
 //! What is said of a file that can't be used.
-ghost use Rattle.std.specs.Prelude.{◌≡◌, ◌++◌, IfOk, OnOk};
+ghost use Rattle.std.specs.Prelude.{◌≡◌, ◌<◌, ◌≤◌, ◌++◌, IfOk, OnOk, Some};
+ghost use Rattle.std.specs.List.{flat_map};
 ghost use Rattle.std.specs.String.{string_bytes};
-ghost use Rattle.modemctl.specs.Files.{IsFileLine, PutsRest, SaysWhy, quoted};
+ghost use Rattle.modemctl.specs.Files.{IsFileLine, IsNoText, SaysWhy, cant_words, file_line, quoted, quoted_octet, text_status};
 
+use crate::words::text_files::TextFault;
 use modem_runs::{Stop, give_up};
 use modem_texts::{push_line, write_octets};
 use std::alloc::{AllocError, Global};
@@ -19,53 +21,84 @@ pub enum FileFault {
     Unread,
 }
 
+/// An octet of a path in quotes.
+fn push_octet(alloc: Global, octet: u8, text: &mut String) -> Result<(), AllocError>
+    ensures { OnOk result (string_bytes text.new ≡ string_bytes text.old ++ quoted_octet octet) }
+{
+    if octet == b'"' || octet == b'\\' {
+        text.push_str("\\")?;
+        return push_line(alloc, &[octet], text);
+    }
+    push_line(alloc, &[octet], text)
+}
+
+/// The octets of a path in quotes.
+fn push_octets(alloc: Global, octets: &[u8], text: &mut String) -> Result<(), AllocError>
+    ensures { OnOk result (string_bytes text.new ≡ string_bytes text.old ++ flat_map quoted_octet octets.now) }
+{
+    for octet in octets {
+        push_octet(alloc, *octet, text)?;
+    }
+    Ok(())
+}
+
 /// A path in quotes: `\` stands before a quote and a `\`, and octets outside 20 to 7E hex are `\x` and two digits.
 fn push_quoted(alloc: Global, path: &str, text: &mut String) -> Result<(), AllocError>
     ensures { OnOk result (string_bytes text.new ≡ string_bytes text.old ++ quoted path.now) }
 {
     text.push_str("\"")?;
-    for octet in path.as_bytes() {
-        match *octet {
-            b'"' => text.push_str("\\\"")?,
-            b'\\' => text.push_str("\\\\")?,
-            other => push_line(alloc, &[other], text)?,
-        }
-    }
+    push_octets(alloc, path.as_bytes(), text)?;
     text.push_str("\"")?;
     Ok(())
 }
 
-/// What can't be done with a file, and why, in the system's words.
-fn push_fault(alloc: Global, fault: FileFault, text: &mut String) -> Result<(), AllocError>
-    ensures { OnOk result (PutsRest fault (string_bytes text.old) (string_bytes text.new)) }
-{
+/// Why a file can't be opened or made, in the system's words.
+fn cause_of(alloc: Global, fault: FileFault) -> Result<String, AllocError> {
     match fault {
-        FileFault::Closed(kind) => {
-            let cause = format!(in alloc; "{kind}")?;
-            text.push_str(" can't be opened: ")?;
-            text.push_str(cause.as_str())?;
-        }
-        FileFault::Unmade(kind) => {
-            let cause = format!(in alloc; "{kind}")?;
-            text.push_str(" can't be made: ")?;
-            text.push_str(cause.as_str())?;
-        }
-        FileFault::Unread => text.push_str(" can't be read")?,
+        FileFault::Closed(kind) | FileFault::Unmade(kind) => format!(in alloc; "{kind}"),
+        FileFault::Unread => Ok(String::new(alloc)),
     }
-    Ok(())
 }
 
-/// The line that says why the file of this path, which is there for this, can't be used.
-fn line_about(alloc: Global, what: &str, path: &str, fault: FileFault) -> Result<String, AllocError>
-    ensures { IfOk result (λ line. IsFileLine what.now path.now fault (string_bytes line)) }
+/// What can't be done with a file.
+fn cant(fault: FileFault) -> &'static str
+    ensures { result.now ≡ cant_words fault }
+{
+    match fault {
+        FileFault::Closed(_) => " can't be opened: ",
+        FileFault::Unmade(_) => " can't be made: ",
+        FileFault::Unread => " can't be read",
+    }
+}
+
+/// The line that says why the file of this path, which is there for this, can't be used, with these words for why.
+fn line_with(
+    alloc: Global,
+    what: &str,
+    path: &str,
+    fault: FileFault,
+    cause: &str,
+) -> Result<String, AllocError>
+    ensures { IfOk result (λ line. string_bytes line ≡ file_line what.now path.now fault cause.now) }
 {
     let mut line = String::new(alloc);
     line.push_str("fault: the ")?;
     line.push_str(what)?;
     line.push_str(" ")?;
     push_quoted(alloc, path, &mut line)?;
-    push_fault(alloc, fault, &mut line)?;
+    line.push_str(cant(fault))?;
+    line.push_str(cause)?;
     line.push_str("\n")?;
+    Ok(line)
+}
+
+/// The same, with the system's words.
+#[tactic(auto, using(crate::proofs::FileFaults::is_file_line))]
+fn line_about(alloc: Global, what: &str, path: &str, fault: FileFault) -> Result<String, AllocError>
+    ensures { IfOk result (λ line. IsFileLine what.now path.now fault (string_bytes line)) }
+{
+    let cause = cause_of(alloc, fault)?;
+    let line = line_with(alloc, what, path, fault, cause.as_str())?;
     Ok(line)
 }
 
@@ -86,5 +119,31 @@ pub fn refuse_file<E: Write>(
             1
         }
         Err(_) => give_up(faults, Stop::NoMemory),
+    }
+}
+
+/// Says why the file of this path, which is there for this, gives nothing, and gives the status.
+#[tactic(auto, using(crate::proofs::FileFaults::no_text, crate::proofs::FileFaults::stop_said, crate::proofs::Stops::stops_badly))]
+pub fn refuse_text<E: Write>(
+    alloc: Global,
+    faults: &mut E,
+    what: &str,
+    path: &str,
+    fault: TextFault,
+) -> u8
+    ensures status { result ≡ text_status fault }
+    ensures bad { (0 < result) × (result ≤ 2) }
+    ensures said { IsNoText what.now (Some path.now) (E.contents faults.old) (E.contents faults.new) result }
+{
+    match fault {
+        TextFault::Closed(kind) => refuse_file(alloc, faults, what, path, FileFault::Closed(kind)),
+        TextFault::Stopped(Stop::Input) => refuse_file(
+            alloc,
+            faults,
+            what,
+            path,
+            FileFault::Unread,
+        ),
+        TextFault::Stopped(stop) => give_up(faults, stop),
     }
 }

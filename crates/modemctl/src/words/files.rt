@@ -6,10 +6,10 @@ ghost use Rattle.modemctl.specs.Captures.{SaysNoCapture};
 ghost use Rattle.modemctl.specs.Files.{IsNoText};
 ghost use Rattle.modemctl.specs.Words.{capture_rule, script_rule};
 
-use crate::words::file_faults::{FileFault, refuse_file};
+use crate::words::file_faults::{FileFault, refuse_file, refuse_text};
 use crate::words::text_files::{TextFault, TextFiles};
 use clap::{Arg, ArgAction, ArgMatches};
-use modem_runs::{Stop, give_up, steps_from};
+use modem_runs::{Stop, steps_from};
 use modem_sim::Steps;
 use mux_capture::{Capture, CaptureFault};
 use std::alloc::Global;
@@ -69,16 +69,12 @@ pub fn refuse_script<E: Write>(alloc: Global, faults: &mut E, path: &str, fault:
     ensures said { result ≡ 1 → IsNoText (codes "script") (Some path.now) (E.contents faults.old) (E.contents faults.new) result }
 {
     match fault {
-        TextFault::Closed(kind) => {
-            refuse_file(alloc, faults, "script", path, FileFault::Closed(kind))
-        }
         TextFault::Stopped(Stop::BadLine(place, fault)) => {
             let reason = fault.reason();
             let _ = writeln!(faults, "bad line {place} of the script{reason}");
             2
         }
-        TextFault::Stopped(Stop::NoMemory) => give_up(faults, Stop::NoMemory),
-        TextFault::Stopped(_) => refuse_file(alloc, faults, "script", path, FileFault::Unread),
+        other => refuse_text(alloc, faults, "script", path, other),
     }
 }
 

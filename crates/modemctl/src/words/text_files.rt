@@ -36,7 +36,7 @@ impl TextFiles for HostRuntime {
 }
 
 /// Why a file of text that the words name gives nothing.
-#[derive(Drop)]
+#[derive(Clone, Copy)]
 pub enum TextFault {
     /// It can't be opened.
     Closed(ErrorKind),

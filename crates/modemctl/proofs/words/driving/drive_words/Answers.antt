@@ -39,7 +39,7 @@ returns-in-Ok-given_dialect-clause-done g c zero =
       same_rules = refl;
       same_entry = c.get_str-in-Ok-given_dialect.ensures;
       same_capture = c.get_str-in-Ok-given_dialect-2.ensures;
-      named = c.in-Ok-given_dialect.ensures;
+      named = c.in-Ok-given_dialect.ensures.given;
     })
     (c.drive_run.ensures.drove (λ one. omega (arith, zero, one)))
 
@@ -52,7 +52,7 @@ returns-in-Ok-given_dialect-clause-bad g c two =
       same_rules = refl;
       same_entry = c.get_str-in-Ok-given_dialect.ensures;
       same_capture = c.get_str-in-Ok-given_dialect-2.ensures;
-      named = c.in-Ok-given_dialect.ensures;
+      named = c.in-Ok-given_dialect.ensures.given;
     })
     (c.drive_run.ensures.drove (λ one. omega (arith, two, one))))
 
