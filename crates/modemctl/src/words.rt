@@ -1,5 +1,5 @@
 //! The words of the program.
-ghost use Rattle.std.specs.Prelude.{◌≡◌, ◌≢◌, ◌<◌, ◌≤◌, ◌⊎◌, [], map, Some, IfOk, false, codes};
+ghost use Rattle.std.specs.Prelude.{◌≡◌, ◌≢◌, ◌<◌, ◌≤◌, ◌⊎◌, [], map, Some, IfOk, false, codes, true};
 ghost use Rattle.std.specs.String.{string_bytes};
 ghost use Rattle.clap.specs.Words.{app_of, rule_of, kind_of, subcommand_name_of, subcommand_rows_of};
 ghost use Rattle.modem_runs.specs.Printed.{IsBenched, IsPrinted};
@@ -375,9 +375,11 @@ where
         ⊎ LeavesClient (R.text_of rt.now) (subcommand_rows_of matches.now) (I.remaining input.old) (I.remaining input.new)
         (W.contents output.old) (W.contents output.new) }
     ensures drive { result ≡ 0 → subcommand_name_of matches.now ≡ Some (codes "drive")
-        → PrintsDrive (R.text_of rt.now) (subcommand_rows_of matches.now) (W.contents output.old) (W.contents output.new) }
+        → PrintsDrive (R.text_of rt.now) (subcommand_rows_of matches.now) (W.contents output.old) (W.contents output.new)
+        (E.contents faults.old) (E.contents faults.new) false }
     ensures drive_bad { result ≡ 2 → subcommand_name_of matches.now ≡ Some (codes "drive") → (output.new ≡ output.old)
-        ⊎ PrintsDrive (R.text_of rt.now) (subcommand_rows_of matches.now) (W.contents output.old) (W.contents output.new) }
+        ⊎ PrintsDrive (R.text_of rt.now) (subcommand_rows_of matches.now) (W.contents output.old) (W.contents output.new)
+        (E.contents faults.old) (E.contents faults.new) true }
 {
     let Some((name, given)) = matches.subcommand() else {
         return 2;
@@ -460,9 +462,11 @@ where
         ⊎ LeavesClient (R.text_of rt.now) (met_in (map string_bytes words.now)) (I.remaining input.old) (I.remaining input.new)
         (W.contents output.old) (W.contents output.new) }
     ensures drive { result ≡ 0 → AreFor (codes "drive") (map string_bytes words.now)
-        → PrintsDrive (R.text_of rt.now) (met_in (map string_bytes words.now)) (W.contents output.old) (W.contents output.new) }
+        → PrintsDrive (R.text_of rt.now) (met_in (map string_bytes words.now)) (W.contents output.old) (W.contents output.new)
+        (E.contents faults.old) (E.contents faults.new) false }
     ensures drive_bad { result ≡ 2 → AreFor (codes "drive") (map string_bytes words.now) → (output.new ≡ output.old)
-        ⊎ PrintsDrive (R.text_of rt.now) (met_in (map string_bytes words.now)) (W.contents output.old) (W.contents output.new) }
+        ⊎ PrintsDrive (R.text_of rt.now) (met_in (map string_bytes words.now)) (W.contents output.old) (W.contents output.new)
+        (E.contents faults.old) (E.contents faults.new) true }
 {
     let command = match program(alloc) {
         Ok(command) => command,

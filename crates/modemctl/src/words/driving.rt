@@ -1,5 +1,5 @@
 //! The words of a drive.
-ghost use Rattle.std.specs.Prelude.{◌≡◌, ◌<◌, ◌≤◌, ◌⊎◌, IfOk, codes, false};
+ghost use Rattle.std.specs.Prelude.{◌≡◌, ◌<◌, ◌≤◌, ◌⊎◌, IfOk, codes, false, true};
 ghost use Rattle.clap.specs.Words.{app_of, first_value, found_of, rule_of, with_subcommand};
 ghost use Rattle.modemctl.specs.Dialects.{IsShut};
 ghost use Rattle.modemctl.specs.Drives.{DrivesWith};
@@ -138,9 +138,11 @@ where
     W: Write,
     E: Write,
     ensures status { result ≤ 2 }
-    ensures done { result ≡ 0 → DrivesWith (R.text_of rt.now) n1 matches.now (W.contents output.old) (W.contents output.new) }
+    ensures done { result ≡ 0 → DrivesWith (R.text_of rt.now) n1 matches.now (W.contents output.old) (W.contents output.new)
+        (E.contents faults.old) (E.contents faults.new) false }
     ensures bad { result ≡ 2
-        → (output.new ≡ output.old) ⊎ DrivesWith (R.text_of rt.now) n1 matches.now (W.contents output.old) (W.contents output.new) }
+        → (output.new ≡ output.old) ⊎ DrivesWith (R.text_of rt.now) n1 matches.now (W.contents output.old) (W.contents output.new)
+        (E.contents faults.old) (E.contents faults.new) true }
     ensures shut { IsShut (R.is_shut rt.now) (first_value (found_of matches.now) (codes "dialect"))
         → (0 < result) × (output.new ≡ output.old) }
     ensures unread { IsShut (R.is_shut rt.now) (first_value (found_of matches.now) (codes "dialect")) → result ≡ 1

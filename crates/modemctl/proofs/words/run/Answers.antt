@@ -1,4 +1,4 @@
-use Rattle.std.proofs.Common.{◌≡◌, ◌≢◌, ◌∙◌, ◌<◌, ◌⊎◌, ℕ, Bool, ⊎_elim, inl, inr, ap, arith, refl, subst, sym, true, List, [], ◌∷◌, Option, None, Some, option_map, codes}
+use Rattle.std.proofs.Common.{◌≡◌, ◌≢◌, ◌∙◌, ◌<◌, ◌⊎◌, ℕ, Bool, ⊎_elim, inl, inr, ap, arith, refl, subst, sym, true, List, [], ◌∷◌, Option, None, Some, option_map, codes, false}
 use Rattle.clap.specs.Words.{App, HasKind, IsAmong, Kinds, Row, Text, fault_of, is_simple, is_simple_and_free, subcommand_of, subcommand_name_of, subcommand_rows_of}
 use Rattle.clap.specs.declared.ArgMatches.{ArgMatches}
 use Rattle.clap.specs.declared.error.ErrorKind.{ErrorKind}
@@ -66,14 +66,14 @@ returns-in-Ok-try_get_matches_from-clause-sim_left g c one for =
 pub returns-in-Ok-try_get_matches_from-clause-drive :
     goal.returns-in-Ok-try_get_matches_from-clause-drive
 returns-in-Ok-try_get_matches_from-clause-drive g c zero for =
-    subst (λ (m : Option (Text × List Row)). PrintsDrive (g.R.TextFiles.text_of c.args.rt.now) m (g.W.Write.contents c.args.output.now) (g.W.Write.contents c.run_named.new.output)) (met c.in-Ok-try_get_matches_from.matches _ _ c.in-Ok.ensures (λ e. (c.in-Ok-try_get_matches_from.ensures.matches e).1))
+    subst (λ (m : Option (Text × List Row)). PrintsDrive (g.R.TextFiles.text_of c.args.rt.now) m (g.W.Write.contents c.args.output.now) (g.W.Write.contents c.run_named.new.output) (g.E.Write.contents c.args.faults.now) (g.E.Write.contents c.run_named.new.faults) false) (met c.in-Ok-try_get_matches_from.matches _ _ c.in-Ok.ensures (λ e. (c.in-Ok-try_get_matches_from.ensures.matches e).1))
     (c.run_named.ensures.drive zero (named c.in-Ok-try_get_matches_from.matches _ _ c.in-Ok.ensures (λ e. (c.in-Ok-try_get_matches_from.ensures.matches e).1) ∙ for.1))
 
 pub returns-in-Ok-try_get_matches_from-clause-drive_bad :
     goal.returns-in-Ok-try_get_matches_from-clause-drive_bad
 returns-in-Ok-try_get_matches_from-clause-drive_bad g c two for =
     ⊎_elim (λ same. inl same)
-    (λ prints. inr (subst (λ (m : Option (Text × List Row)). PrintsDrive (g.R.TextFiles.text_of c.args.rt.now) m (g.W.Write.contents c.args.output.now) (g.W.Write.contents c.run_named.new.output)) (met c.in-Ok-try_get_matches_from.matches _ _ c.in-Ok.ensures (λ e. (c.in-Ok-try_get_matches_from.ensures.matches e).1)) prints))
+    (λ prints. inr (subst (λ (m : Option (Text × List Row)). PrintsDrive (g.R.TextFiles.text_of c.args.rt.now) m (g.W.Write.contents c.args.output.now) (g.W.Write.contents c.run_named.new.output) (g.E.Write.contents c.args.faults.now) (g.E.Write.contents c.run_named.new.faults) true) (met c.in-Ok-try_get_matches_from.matches _ _ c.in-Ok.ensures (λ e. (c.in-Ok-try_get_matches_from.ensures.matches e).1)) prints))
     (c.run_named.ensures.drive_bad two (named c.in-Ok-try_get_matches_from.matches _ _ c.in-Ok.ensures (λ e. (c.in-Ok-try_get_matches_from.ensures.matches e).1) ∙ for.1))
 
 -- ## What is wrong with the words

@@ -123,28 +123,25 @@ pub returns-in-sim-clause-sim_left : goal.returns-in-sim-clause-sim_left
 returns-in-sim-clause-sim_left g c one named =
     leaves_client (g.R.TextFiles.text_of c.args.rt.now) c.args.matches.now c.in-Some.given.now c.in-Ok.numbers.n1 _ _ _ _ c.in-Some.ensures.rows c.in-Ok.ensures.n1 (c.sim_words.ensures.left one)
 
-prints_drive : (texts : Text → Option (List ℕ)) (top m : ArgMatches) (n1 : ℕ) (before after : Option (List ℕ)) → Some (rows_of (found_of m)) ≡ option_map (λ p. p.1) (subcommand_rows_of top) → IsNumberOf 31 (one_text (found_of m) (codes "n1")) n1
-    → DrivesWith texts n1 m before after → PrintsDrive texts (subcommand_rows_of top) before after
-prints_drive texts top m n1 before after e is drives = record {
+prints_drive : (texts : Text → Option (List ℕ)) (top m : ArgMatches) (n1 : ℕ) (before after silent said : Option (List ℕ)) (was_bad : Bool) → Some (rows_of (found_of m)) ≡ option_map (λ p. p.1) (subcommand_rows_of top) → IsNumberOf 31 (one_text (found_of m) (codes "n1")) n1
+    → DrivesWith texts n1 m before after silent said was_bad → PrintsDrive texts (subcommand_rows_of top) before after silent said was_bad
+prints_drive texts top m n1 before after silent said was_bad e is drives = record {
   n1 = n1;
   given = number_in top m (codes "n1") 31 n1 e is;
   rules = drives.rules;
   named = subst (λ (t : Option Text). IsGivenDialect texts t drives.rules) (word_given top m (codes "dialect") e) drives.named;
-  was_bad = drives.was_bad;
-  silent = drives.silent;
-  said = drives.said;
   drove =
-      subst (λ (t : Option Text × Option Text). RanDevice (is_some t.0) drives.rules (entry_for t.1 n1) n1 before after drives.silent drives.said drives.was_bad)
+      subst (λ (t : Option Text × Option Text). RanDevice (is_some t.0) drives.rules (entry_for t.1 n1) n1 before after silent said was_bad)
       (λ i. (word_given top m (codes "capture") e i, word_given top m (codes "entry") e i)) drives.drove;
 }
 
 pub returns-in-drive-clause-drive : goal.returns-in-drive-clause-drive
 returns-in-drive-clause-drive g c zero named =
-    prints_drive (g.R.TextFiles.text_of c.args.rt.now) c.args.matches.now c.in-Some.given.now c.in-Ok.numbers.n1 _ _ c.in-Some.ensures.rows c.in-Ok.ensures.n1 (c.drive_words.ensures.done zero)
+    prints_drive (g.R.TextFiles.text_of c.args.rt.now) c.args.matches.now c.in-Some.given.now c.in-Ok.numbers.n1 _ _ _ _ _ c.in-Some.ensures.rows c.in-Ok.ensures.n1 (c.drive_words.ensures.done zero)
 
 pub returns-in-drive-clause-drive_bad : goal.returns-in-drive-clause-drive_bad
 returns-in-drive-clause-drive_bad g c two named =
-    ⊎_elim (λ same. inl same) (λ drove. inr (prints_drive (g.R.TextFiles.text_of c.args.rt.now) c.args.matches.now c.in-Some.given.now c.in-Ok.numbers.n1 _ _ c.in-Some.ensures.rows c.in-Ok.ensures.n1 drove)) (c.drive_words.ensures.bad two)
+    ⊎_elim (λ same. inl same) (λ drove. inr (prints_drive (g.R.TextFiles.text_of c.args.rt.now) c.args.matches.now c.in-Some.given.now c.in-Ok.numbers.n1 _ _ _ _ _ c.in-Some.ensures.rows c.in-Ok.ensures.n1 drove)) (c.drive_words.ensures.bad two)
 
 names : {O : Type 0} (top m : ArgMatches) (old new : O) (before after : Option (List ℕ)) (status : ℕ) → Some (rows_of (found_of m)) ≡ option_map (λ p. p.1) (subcommand_rows_of top)
     → NamesCause (first_value (found_of m) (codes "dialect")) old new before after status → NamesCause (raw_in (subcommand_rows_of top) (codes "dialect")) old new before after status

@@ -1,5 +1,5 @@
 -- A drive by the words.
-use Rattle.std.proofs.Common.{◌≡◌, ◌≢◌, ◌∙◌, ℕ, Bool, List, Option, arith, codes, inl, inr, is_some, refl, subst, sym}
+use Rattle.std.proofs.Common.{◌≡◌, ◌≢◌, ◌∙◌, ℕ, Bool, List, Option, arith, codes, inl, inr, is_some, refl, subst, sym, ◌==◌}
 use Rattle.clap.specs.Words.{Text, first_value, found_of}
 use Rattle.clap.specs.declared.ArgMatches.{ArgMatches}
 use Rattle.at_text.specs.Rules.{Rules}
@@ -19,33 +19,23 @@ pub record AreOf (texts : Text → Option (List ℕ)) (m : ArgMatches) (n1 n : �
   pub named : IsGivenDialect texts (first_value (found_of m) (codes "dialect")) rules
 
 drives_with : (texts : Text → Option (List ℕ)) (m : ArgMatches) (n1 n : ℕ) (rules own : Rules) (entry capture before after silent said : Option (List ℕ)) (was_bad : Bool) → AreOf texts m n1 n rules own entry capture
-    → RanDevice (is_some capture) own (entry_for entry n) n before after silent said was_bad → DrivesWith texts n1 m before after
+    → RanDevice (is_some capture) own (entry_for entry n) n before after silent said was_bad → DrivesWith texts n1 m before after silent said was_bad
 drives_with texts m n1 n rules own entry capture before after silent said was_bad are drove = record {
   rules = rules;
   named = are.named;
-  was_bad = was_bad;
-  silent = silent;
-  said = said;
   drove =
       subst (λ (x : ℕ × Rules × Option (List ℕ) × Option (List ℕ)). RanDevice (is_some x.3) x.1 (entry_for x.2 x.0) x.0 before after silent said was_bad)
       (λ i. (are.same_n1 i, are.same_rules i, are.same_entry i, are.same_capture i)) drove;
 }
 
+-- by the status it is told whether a line was bad
+by_status : (texts : Text → Option (List ℕ)) (n1 : ℕ) (m : ArgMatches) (before after silent said : Option (List ℕ)) (status wanted : ℕ) → status ≡ wanted
+    → DrivesWith texts n1 m before after silent said (status == 2) → DrivesWith texts n1 m before after silent said (wanted == 2)
+by_status texts n1 m before after silent said status wanted is drives = subst (λ (n : ℕ). DrivesWith texts n1 m before after silent said (n == 2)) is drives
+
 pub returns-in-Ok-given_dialect-clause-done : goal.returns-in-Ok-given_dialect-clause-done
 returns-in-Ok-given_dialect-clause-done g c zero =
-    drives_with _ _ _ _ _ _ _ _ _ _ _ _ _
-    (record {
-      same_n1 = refl;
-      same_rules = refl;
-      same_entry = c.get_str-in-Ok-given_dialect.ensures;
-      same_capture = c.get_str-in-Ok-given_dialect-2.ensures;
-      named = c.in-Ok-given_dialect.ensures.given;
-    })
-    (c.drive_run.ensures.drove (λ one. omega (arith, zero, one)))
-
-pub returns-in-Ok-given_dialect-clause-bad : goal.returns-in-Ok-given_dialect-clause-bad
-returns-in-Ok-given_dialect-clause-bad g c two =
-    inr
+    by_status _ _ _ _ _ _ _ _ 0 zero
     (drives_with _ _ _ _ _ _ _ _ _ _ _ _ _
     (record {
       same_n1 = refl;
@@ -54,7 +44,21 @@ returns-in-Ok-given_dialect-clause-bad g c two =
       same_capture = c.get_str-in-Ok-given_dialect-2.ensures;
       named = c.in-Ok-given_dialect.ensures.given;
     })
-    (c.drive_run.ensures.drove (λ one. omega (arith, two, one))))
+    (c.drive_run.ensures.drove (λ one. omega (arith, zero, one))))
+
+pub returns-in-Ok-given_dialect-clause-bad : goal.returns-in-Ok-given_dialect-clause-bad
+returns-in-Ok-given_dialect-clause-bad g c two =
+    inr
+    (by_status _ _ _ _ _ _ _ _ 2 two
+    (drives_with _ _ _ _ _ _ _ _ _ _ _ _ _
+    (record {
+      same_n1 = refl;
+      same_rules = refl;
+      same_entry = c.get_str-in-Ok-given_dialect.ensures;
+      same_capture = c.get_str-in-Ok-given_dialect-2.ensures;
+      named = c.in-Ok-given_dialect.ensures.given;
+    })
+    (c.drive_run.ensures.drove (λ one. omega (arith, two, one)))))
 
 pub returns-in-Err-given_dialect-clause-done : goal.returns-in-Err-given_dialect-clause-done
 returns-in-Err-given_dialect-clause-done g c zero = let some = c.in-Err-given_dialect.ensures.bad.0 in absurd (omega (arith, some, zero))
