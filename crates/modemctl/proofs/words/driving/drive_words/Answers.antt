@@ -35,8 +35,8 @@ by_status texts n1 m before after silent said status wanted is drives = subst (Î
 
 pub returns-in-Ok-given_dialect-clause-done : goal.returns-in-Ok-given_dialect-clause-done
 returns-in-Ok-given_dialect-clause-done g c zero =
-    by_status _ _ _ _ _ _ _ _ 0 zero
-    (drives_with _ _ _ _ _ _ _ _ _ _ _ _ _
+    by_status (g.R.TextFiles.text_of c.args.rt.now) _ _ _ _ _ _ _ 0 zero
+    (drives_with (g.R.TextFiles.text_of c.args.rt.now) _ _ _ _ _ _ _ _ _ _ _ _
     (record {
       same_n1 = refl;
       same_rules = refl;
@@ -49,8 +49,8 @@ returns-in-Ok-given_dialect-clause-done g c zero =
 pub returns-in-Ok-given_dialect-clause-bad : goal.returns-in-Ok-given_dialect-clause-bad
 returns-in-Ok-given_dialect-clause-bad g c two =
     inr
-    (by_status _ _ _ _ _ _ _ _ 2 two
-    (drives_with _ _ _ _ _ _ _ _ _ _ _ _ _
+    (by_status (g.R.TextFiles.text_of c.args.rt.now) _ _ _ _ _ _ _ 2 two
+    (drives_with (g.R.TextFiles.text_of c.args.rt.now) _ _ _ _ _ _ _ _ _ _ _ _
     (record {
       same_n1 = refl;
       same_rules = refl;
