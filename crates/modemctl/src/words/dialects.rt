@@ -85,6 +85,7 @@ pub fn given_dialect<R: TextFiles, E: Write>(
     faults: &mut E,
 ) -> Result<Dialect, u8>
     ensures given { IfOk result (IsGivenDialect (R.text_of rt.now) (first_value (found_of matches.now) (codes "dialect"))) }
+    ensures silent { OnOk result (faults.new ≡ faults.old) }
     ensures shut { IsShut (R.is_shut rt.now) (first_value (found_of matches.now) (codes "dialect")) → IsErrOf result 1 }
     ensures bad { IfErr result (λ status. (0 < status) × (status ≤ 2)) }
     ensures refused { IfErr result (IsNoText (codes "dialect") (first_value (found_of matches.now) (codes "dialect"))

@@ -1,5 +1,5 @@
 -- A drive by the words.
-use Rattle.std.proofs.Common.{◌≡◌, ◌≢◌, ◌∙◌, ℕ, Bool, List, Option, arith, codes, inl, inr, is_some, refl, subst, sym, ◌==◌}
+use Rattle.std.proofs.Common.{ap, ◌≡◌, ◌≢◌, ◌∙◌, ℕ, Bool, List, Option, arith, codes, inl, inr, is_some, refl, subst, sym, ◌==◌}
 use Rattle.clap.specs.Words.{Text, first_value, found_of}
 use Rattle.clap.specs.declared.ArgMatches.{ArgMatches}
 use Rattle.at_text.specs.Rules.{Rules}
@@ -29,13 +29,15 @@ drives_with texts m n1 n rules own entry capture before after silent said was_ba
 }
 
 -- by the status it is told whether a line was bad
-by_status : (texts : Text → Option (List ℕ)) (n1 : ℕ) (m : ArgMatches) (before after silent said : Option (List ℕ)) (status wanted : ℕ) → status ≡ wanted
-    → DrivesWith texts n1 m before after silent said (status == 2) → DrivesWith texts n1 m before after silent said (wanted == 2)
-by_status texts n1 m before after silent said status wanted is drives = subst (λ (n : ℕ). DrivesWith texts n1 m before after silent said (n == 2)) is drives
+by_status : (texts : Text → Option (List ℕ)) (n1 : ℕ) (m : ArgMatches) (before after first silent said : Option (List ℕ)) (status wanted : ℕ) → status ≡ wanted → silent ≡ first
+    → DrivesWith texts n1 m before after silent said (status == 2) → DrivesWith texts n1 m before after first said (wanted == 2)
+by_status texts n1 m before after first silent said status wanted is same drives =
+    subst (λ (s : Option (List ℕ)). DrivesWith texts n1 m before after s said (wanted == 2)) same
+    (subst (λ (n : ℕ). DrivesWith texts n1 m before after silent said (n == 2)) is drives)
 
 pub returns-in-Ok-given_dialect-clause-done : goal.returns-in-Ok-given_dialect-clause-done
 returns-in-Ok-given_dialect-clause-done g c zero =
-    by_status (g.R.TextFiles.text_of c.args.rt.now) _ _ _ _ _ _ _ 0 zero
+    by_status (g.R.TextFiles.text_of c.args.rt.now) _ _ _ _ _ _ _ _ 0 zero (ap g.E.Write.contents c.in-Ok-given_dialect.ensures.silent)
     (drives_with (g.R.TextFiles.text_of c.args.rt.now) _ _ _ _ _ _ _ _ _ _ _ _
     (record {
       same_n1 = refl;
@@ -49,7 +51,7 @@ returns-in-Ok-given_dialect-clause-done g c zero =
 pub returns-in-Ok-given_dialect-clause-bad : goal.returns-in-Ok-given_dialect-clause-bad
 returns-in-Ok-given_dialect-clause-bad g c two =
     inr
-    (by_status (g.R.TextFiles.text_of c.args.rt.now) _ _ _ _ _ _ _ 2 two
+    (by_status (g.R.TextFiles.text_of c.args.rt.now) _ _ _ _ _ _ _ _ 2 two (ap g.E.Write.contents c.in-Ok-given_dialect.ensures.silent)
     (drives_with (g.R.TextFiles.text_of c.args.rt.now) _ _ _ _ _ _ _ _ _ _ _ _
     (record {
       same_n1 = refl;
