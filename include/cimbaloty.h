@@ -47,7 +47,8 @@ struct cimbaloty {
 #define CIMBALOTY_NONE { 0 }
 #endif
 
-/* What a call returns. A refused call leaves everything as it was, unless its text says otherwise. */
+/* What a call returns. A refused call leaves everything as it was, unless its text says otherwise. But frames that
+ * came before may have been handled by it, so that there are new outcomes and lines. */
 enum cimbaloty_status {
 	CIMBALOTY_OK = 0,
 	CIMBALOTY_NO_MEMORY = 1,    /* an allocation was refused: call again later */
@@ -87,12 +88,12 @@ enum cimbaloty_answer {
 	CIMBALOTY_STOPPED = 5,      /* the multiplexer has ended: the modem reads plain AT commands again */
 	CIMBALOTY_NOT_OPEN = 6,     /* the connection, or connection 0, isn't open */
 	CIMBALOTY_ALREADY_OPEN = 7,
-	CIMBALOTY_REFUSED = 8,      /* the modem answered the opening by DM, or knows no probes */
+	CIMBALOTY_REFUSED = 8,      /* the modem answered the opening by DM, DISC or SABM; or it knows no probes */
 	CIMBALOTY_NO_ANSWER = 9,    /* the modem didn't answer by the fourth tick */
 	CIMBALOTY_CLOSED = 10,      /* the connection closed before the request was answered */
 	CIMBALOTY_CONTROL_CHANNEL = 11, /* connection 0 carries no commands, and isn't closed: stop instead */
 	CIMBALOTY_LOST = 12,        /* the line was lost */
-	CIMBALOTY_BUSY = 13         /* another such request is under way */
+	CIMBALOTY_BUSY = 13         /* another such request is under way, or the control queue is full */
 };
 
 /* Kinds of unsolicited lines, and their bits in a set of kinds: 1 << (kind - 1). */
@@ -169,7 +170,7 @@ struct cimbaloty_dialect {
 uint32_t cimbaloty_version(void);
 
 /* Makes a driver where there is none. n1: the most octets of information that a frame may have, as AT+CMUX
- * agreed (31 is the default of basic option; 64 to 1509 are usual). kinds: the set of kinds that are kept
+ * agreed (27.007, 5.7: 31 where it names none). kinds: the set of kinds that are kept
  * for cimbaloty_poll_line; lines of other kinds are dropped. first: the number of the first request. For
  * numbers to go on after a loss of the line, give the last used number plus 1.
  * Refused, by the first of: HAS_DRIVER, BAD_KINDS, BAD_N1, NO_MEMORY; then there is no new one. */
@@ -186,13 +187,14 @@ void cimbaloty_free(struct cimbaloty *c);
 
 /* ---- Time, and the line's end --------------------------------------------------------------------- */
 
-/* One T1 has passed (27.010, 5.7.1: 10 to 2550 ms; 1 s suits most lines). An opening or closing without
+/* One T1 has passed (27.010, 5.7.1: 10 to 2550 ms, 100 by default). An opening or closing without
  * an answer is sent again. At its fourth tick a request other than a command is told NO_ANSWER. No tick
- * ends a command. Ticks that come early or late change only that count.
+ * ends a command. If ticks come early or late, only the times of repeats and of NO_ANSWER change.
  * Refused: NO_DRIVER; LINE_LOST; NO_MEMORY, after which the tick hasn't passed. */
 uint8_t cimbaloty_tick(struct cimbaloty *c);
 
-/* Whether a tick may send something again or give up a request. If not, your timer may sleep. */
+/* Whether a tick may send something again or give up a request. If not, your timer may sleep, unless you go by
+ * cimbaloty_waiting_ticks. */
 bool cimbaloty_wants_tick(struct cimbaloty *c);
 
 /* The line has failed or ended. Each request without an outcome is told LOST, and nothing more is sent.
@@ -200,8 +202,9 @@ bool cimbaloty_wants_tick(struct cimbaloty *c);
  * Refused: NO_DRIVER; LINE_LOST; NO_MEMORY, after which the line isn't lost: call again. */
 uint8_t cimbaloty_line_lost(struct cimbaloty *c);
 
-/* For how many ticks the first command in hand on a connection has waited for the end of its answer. The driver gives
- * up no command by itself: where the ticks are too many, cimbaloty_close the connection.
+/* For how many ticks the first command in hand on a connection has waited for the end of its answer. It counts the
+ * ticks that you give, also where cimbaloty_wants_tick is false: commands alone want none. The driver gives up no
+ * command by itself: where the ticks are too many, cimbaloty_close the connection.
  * Refused: NO_DRIVER, BAD_DLCI, NOTHING where no command of the connection is in hand. Then *ticks is as it was. */
 uint8_t cimbaloty_waiting_ticks(struct cimbaloty *c, uint8_t dlci, uint64_t *ticks);
 
@@ -257,7 +260,7 @@ uint16_t cimbaloty_dialect_kind_at(struct cimbaloty_dialect *d, const uint8_t *n
 /* The exports above need a valid pointer for length 0 too. The inline functions below take NULL there. */
 
 /* Takes octets that came from the line, however they are cut. *taken says how many were taken, from the first
- * on: give the others again. With OK all are taken; with another answer all are where *taken == length. Never
+ * on: give the others again. With OK all were taken; with another answer *taken says, and it may be all. Never
  * give again an octet that was taken: none is lost. A frame that couldn't be handled yet is tried by the next
  * call of cimbaloty_output or cimbaloty_tick, and with each request.
  * OUTPUT_FIRST: write octets to the line first. NO_MEMORY. NO_DRIVER: *taken is 0. */

@@ -73,8 +73,9 @@ class Frames:
 class Modem:
     """A modem at the end `fd` of a pseudo-terminal."""
 
-    def __init__(self, fd, boot=b"", refuses=False, mute=False):
-        self.fd, self.refuses, self.mute = fd, refuses, mute
+    def __init__(self, fd, boot=b"", refuses=False, mute=False, deaf=()):
+        self.fd, self.refuses, self.mute, self.deaf = fd, refuses, mute, deaf
+        self.longest = self.asked = 0
         self.boot = boot
         self.multiplexed = False
         self.frames = Frames()
@@ -139,7 +140,10 @@ class Modem:
 
     def take_frames(self, octets):
         for dlci, control, info in self.frames.feed(octets):
-            if control == SABM:
+            self.longest = max(self.longest, len(info))
+            if control == SABM and dlci in self.deaf:
+                self.asked += 1
+            elif control == SABM:
                 self.write(frame(dlci, UA | PF))
                 self.lines[dlci] = bytearray()
             elif control == DISC:

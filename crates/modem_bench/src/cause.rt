@@ -14,6 +14,6 @@ pub enum Cause {
     NotStopped,
     /// A caller was told outcomes that aren't those of its requests, in their order.
     OtherOutcomes,
-    /// The simulated modem came to an end that none has.
+    /// The simulated modem ended in no known way.
     NoEnd,
 }

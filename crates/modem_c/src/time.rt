@@ -64,7 +64,7 @@ pub extern "C" fn cimbaloty_line_lost(alloc: Global, c: &mut Cimbaloty) -> u8
     answer(lost)
 }
 
-/// Whether a tick may give something up.
+/// Whether a tick may send something again or give something up.
 #[unsafe(no_mangle)]
 pub extern "C" fn cimbaloty_wants_tick(alloc: Global, c: &mut Cimbaloty) -> bool
     ensures value { (e : EndpointState) → endpoint_of c.old ≡ Some e → result ≡ list_any wants_time e.machine.core.hand }

@@ -1,28 +1,9 @@
 -- Only one list of bad lines is that of an input.
-use Rattle.std.specs.Prelude.{◌≡◌, ℕ, ◌+◌, List, [], ◌∷◌, None, refl}
-use Rattle.std.proofs.Common.{sym, inl, inr, ◌∙◌}
-use Rattle.at_text.specs.Commands.{refusal_of}
-use Rattle.modem_texts.specs.LineFaults.{CommandFault, IsCarrier, Wants, WantsNoMore, behind_word, first_word}
+use Rattle.std.specs.Prelude.{◌≡◌, ℕ, ◌+◌, List, [], ◌∷◌, refl}
+use Rattle.std.proofs.Common.{inl, inr}
 use Rattle.modem_texts.specs.declared.line_fault.LineFault.{LineFault}
+use Rattle.modem_texts.proofs.OneFault.{one_command}
 use Rattle.modem_drive.specs.Saying.{AreBad, AreBadFrom, BadLine, IsBadFor, IsGood}
-
--- what has one fault at most
-abbrev HasOne : (LineFault → Type 0) → Type 0
-HasOne Has = (a b : LineFault) → Has a → Has b → a ≡ b
-
-one_wanted : (Wanted : Type 0) (fault : LineFault) (Later : LineFault → Type 0) → HasOne Later → HasOne (Wants Wanted fault Later)
-one_wanted Wanted fault Later later a b (inl x) (inl y) = x.1 ∙ sym y.1
-one_wanted Wanted fault Later later a b (inl x) (inr y) = absurd (x.0 y.0)
-one_wanted Wanted fault Later later a b (inr x) (inl y) = absurd (y.0 x.0)
-one_wanted Wanted fault Later later a b (inr x) (inr y) = later a b x.1 y.1
-
-one_none : HasOne WantsNoMore
-one_none a b x y = absurd x
-
-one_command : (line : List ℕ) → HasOne (CommandFault line)
-one_command line =
-    one_wanted (IsCarrier (first_word line)) LineFault.Carrier _
-    (one_wanted (refusal_of (behind_word line) ≡ None) LineFault.Command WantsNoMore one_none)
 
 good_or_bad : (line : List ℕ) (why : LineFault) → IsGood line → IsBadFor line why → ⊥
 good_or_bad line why (inl none) h = h.some none

@@ -51,7 +51,7 @@ cause_words Cause.UsedUp = codes "fault: gave up: all polls of the session are m
 cause_words (Cause.NotOpened d) = codes "fault: gave up: connection "
 cause_words Cause.NotStopped = codes "fault: gave up: the multiplexer wasn't ended"
 cause_words Cause.OtherOutcomes = codes "fault: gave up: a caller was told outcomes of other requests"
-cause_words Cause.NoEnd = codes "fault: gave up: the simulated modem came to an end that none has"
+cause_words Cause.NoEnd = codes "fault: gave up: the simulated modem ended in no known way"
 
 -- the number of the connection that wasn't opened, in decimal
 abbrev pub cause_number : Cause → List ℕ

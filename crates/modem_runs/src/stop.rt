@@ -81,7 +81,7 @@ fn cause_words(cause: Cause) -> &'static str
         Cause::NotOpened(_) => "fault: gave up: connection ",
         Cause::NotStopped => "fault: gave up: the multiplexer wasn't ended",
         Cause::OtherOutcomes => "fault: gave up: a caller was told outcomes of other requests",
-        Cause::NoEnd => "fault: gave up: the simulated modem came to an end that none has",
+        Cause::NoEnd => "fault: gave up: the simulated modem ended in no known way",
     }
 }
 

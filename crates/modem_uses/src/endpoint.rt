@@ -1,7 +1,7 @@
 //! A driver in a loop of one's own: octets in, octets out, answers polled. A simulated modem stands at the other end.
 use crate::Stop;
 use at_text::CommandLine;
-use modem_driver::{Endpoint, Outcome};
+use modem_driver::{Answer, Endpoint, Outcome};
 use modem_sim::Sim;
 use mux_frame::Dlci;
 use serial_line::CutLine;
@@ -36,17 +36,24 @@ fn outcome(driver: &mut Endpoint, modem: &mut Sim<CutLine>) -> Result<Outcome, S
     Err(Stop::Unexpected)
 }
 
-/// Opens connection 0 and this one, sends a command on it, and gives its outcome.
+/// Opens a connection, unless it is open.
+fn open(driver: &mut Endpoint, modem: &mut Sim<CutLine>, dlci: Dlci) -> Result<(), Stop> {
+    driver.open(dlci)?;
+    match outcome(driver, modem)?.answer {
+        Answer::Opened | Answer::AlreadyOpen => Ok(()),
+        _ => Err(Stop::Unexpected),
+    }
+}
+
+/// Opens connection 0 and this one, unless they are open, sends a command on it, and gives its outcome.
 pub fn ask(
     driver: &mut Endpoint,
     modem: &mut Sim<CutLine>,
     dlci: Dlci,
     command: CommandLine,
 ) -> Result<Outcome, Stop> {
-    driver.open(Dlci::new(0).unwrap())?;
-    let _opened = outcome(driver, modem)?;
-    driver.open(dlci)?;
-    let _opened = outcome(driver, modem)?;
+    open(driver, modem, Dlci::CONTROL)?;
+    open(driver, modem, dlci)?;
     driver.command(dlci, command)?;
     outcome(driver, modem)
 }

@@ -53,7 +53,7 @@ pub record AreGiven (texts : Text → Option (List ℕ)) (met : Option (Text × 
   pub echo_given : IsFlag (text_in met (codes "echo")) options.echo
   pub steps_given : AreScripted texts (raw_in met (codes "script")) options.steps
 
--- the same by the matches of the subcommand
+-- the same options, as the matches of the subcommand have them
 pub record AreMatched (texts : Text → Option (List ℕ)) (n1 : ℕ) (m : ArgMatches) (options : SimOptions) : Type 0 where
   pub n1_is : options.n1 ≡ n1
   pub pin_is : options.pin ≡ first_value (found_of m) (codes "pin")
@@ -66,7 +66,7 @@ pub record ServesClient (texts : Text → Option (List ℕ)) (met : Option (Text
   pub given : AreGiven texts met options
   pub served : IsServed options input before after
 
--- the same by the matches of the subcommand
+-- a client was served so, by a modem with the options that the matches of the subcommand have
 pub record ServesWith (texts : Text → Option (List ℕ)) (n1 : ℕ) (m : ArgMatches) (input before after : Option (List ℕ)) : Type 0 where
   pub options : SimOptions
   pub matched : AreMatched texts n1 m options
@@ -78,7 +78,7 @@ pub record LeavesClient (texts : Text → Option (List ℕ)) (met : Option (Text
   pub given : AreGiven texts met options
   pub left : IsServedInPart options input rest before after
 
--- the same by the matches of the subcommand
+-- a client was left at a fault, by a modem with the options that the matches of the subcommand have
 pub record LeavesWith (texts : Text → Option (List ℕ)) (n1 : ℕ) (m : ArgMatches) (input rest before after : Option (List ℕ)) : Type 0 where
   pub options : SimOptions
   pub matched : AreMatched texts n1 m options

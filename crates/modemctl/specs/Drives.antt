@@ -21,7 +21,7 @@ pub record PrintsDrive (texts : Text → Option (List ℕ)) (met : Option (Text 
       RanDevice (is_some (raw_in met (codes "capture"))) rules (entry_for (raw_in met (codes "entry")) n1) n1 before after silent said
       was_bad
 
--- the same by the matches of the subcommand
+-- a device was driven so, with the options that the matches of the subcommand have
 pub record DrivesWith (texts : Text → Option (List ℕ)) (n1 : ℕ) (m : ArgMatches) (before after silent said : Option (List ℕ))
     (was_bad : Bool) : Type 0 where
   pub rules : Rules

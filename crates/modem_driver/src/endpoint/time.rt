@@ -27,7 +27,8 @@ impl Endpoint {
         self.machine.tick()
     }
 
-    /// Whether a tick may give something up: a request other than a command waits for its outcome.
+    /// Whether a tick may send something again or give something up: a request other than a command waits for its outcome. Where
+    /// none does, the caller needn't count time, unless it goes by `waiting_ticks`.
     pub fn wants_tick(&self) -> bool
         ensures { result ≡ list_any wants_time self.now.machine.core.hand }
     {
@@ -54,7 +55,8 @@ impl Endpoint {
     /// How many ticks in a row have found the same command first in hand on this connection, by every history that the endpoint
     /// fits: for so many ticks its answer hasn't ended. `None` where no command of the connection is in hand. Commands behind
     /// the first aren't counted. The count stops at `u64::MAX`. No command is given up by itself: a caller that finds the count
-    /// too high can close the connection.
+    /// too high can close the connection. An endpoint whose requests in hand are commands alone wants no tick (see `wants_tick`),
+    /// and counts those that it is given.
     #[tactic(auto, using(crate::proofs::sessions::steps::WaitedTicks::endpoint_shows))]
     pub fn waiting_ticks(&self, dlci: Dlci) -> Option<u64>
         ensures { (b : Beginning) (l : LineView) (d : DriverView) (past : List Act)

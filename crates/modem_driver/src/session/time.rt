@@ -14,7 +14,7 @@ use std::sync::Wait;
 
 impl<L: SerialLine, R: Wait + Drop> Session<L, R> {
     /// Whether a tick may send something again or give something up: a request other than a command waits for its outcome, by
-    /// every history that the session fits. Where none does, the caller needn't count time.
+    /// every history that the session fits. Where none does, the caller needn't count time, unless it goes by `waiting_ticks`.
     #[tactic(auto, using(crate::proofs::EntryTries::hand_wants))]
     pub fn wants_tick(&self) -> bool
         ensures { (b : Beginning) (past : List Act)

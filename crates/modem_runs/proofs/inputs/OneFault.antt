@@ -1,32 +1,10 @@
 -- Only one part of a line is the first that isn't as it must be.
-use Rattle.std.specs.Prelude.{◌≡◌, ◌≢◌, ℕ, List, Option, Some, None}
-use Rattle.std.proofs.Common.{sym, inl, inr, ◌∙◌}
-use Rattle.at_text.specs.Commands.{refusal_of}
-use Rattle.modem_texts.specs.LineFaults.{CommandFault, ConnectionFault, IsCarrier, IsConnection, Wants, WantsNoMore, behind_word, first_word}
+use Rattle.std.specs.Prelude.{◌≡◌, ℕ, List, Option, Some, None}
+use Rattle.std.proofs.Common.{sym, ◌∙◌}
+use Rattle.modem_texts.specs.LineFaults.{IsConnection, behind_word, first_word}
 use Rattle.modem_texts.specs.declared.line_fault.LineFault.{LineFault}
+use Rattle.modem_texts.proofs.OneFault.{HasOne, one_command, one_connection, one_last, one_wanted}
 use Rattle.modem_runs.specs.LineFaults.{DumpFault, EventFault, Follows, HasOctets, HasPairs, HasProbe, IsCaller, IsCount, StepFault, SubmissionFault, WordFault, deeds, events, follows}
-
--- what has one fault at most
-abbrev HasOne : (LineFault → Type 0) → Type 0
-HasOne Has = (a b : LineFault) → Has a → Has b → a ≡ b
-
-one_wanted : (Wanted : Type 0) (fault : LineFault) (Later : LineFault → Type 0) → HasOne Later → HasOne (Wants Wanted fault Later)
-one_wanted Wanted fault Later later a b (inl x) (inl y) = x.1 ∙ sym y.1
-one_wanted Wanted fault Later later a b (inl x) (inr y) = absurd (x.0 y.0)
-one_wanted Wanted fault Later later a b (inr x) (inl y) = absurd (y.0 x.0)
-one_wanted Wanted fault Later later a b (inr x) (inr y) = later a b x.1 y.1
-
-one_none : HasOne WantsNoMore
-one_none a b x y = absurd x
-
-one_last : (Wanted : Type 0) (fault : LineFault) → HasOne (Wants Wanted fault WantsNoMore)
-one_last Wanted fault = one_wanted Wanted fault WantsNoMore one_none
-
-one_connection : (words : List ℕ) → HasOne (ConnectionFault words)
-one_connection words = one_wanted (IsConnection (first_word words)) LineFault.Connection _ (one_last (first_word words ≡ words) LineFault.End)
-
-one_command : (words : List ℕ) → HasOne (CommandFault words)
-one_command words = one_wanted (IsCarrier (first_word words)) LineFault.Carrier _ (one_last _ LineFault.Command)
 
 one_behind : (f : Follows) (unknown : LineFault) (line : List ℕ) → HasOne (WordFault unknown (Some f) line)
 one_behind Follows.Connection unknown line = one_connection (behind_word line)
