@@ -47,8 +47,9 @@ struct cimbaloty {
 #define CIMBALOTY_NONE { 0 }
 #endif
 
-/* What a call returns. A refused call leaves everything as it was, unless its text says otherwise. But frames that
- * came before may have been handled by it, so that there are new outcomes and lines. */
+/* What a call returns. A refused call leaves everything as it was, unless its text says otherwise. Only this: where
+ * a request, cimbaloty_tick or cimbaloty_line_lost answers FULL, NO_MEMORY or LINE_LOST, frames that had come may have
+ * been handled. Then there may be new outcomes, lines and octets for the line. */
 enum cimbaloty_status {
 	CIMBALOTY_OK = 0,
 	CIMBALOTY_NO_MEMORY = 1,    /* an allocation was refused: call again later */
@@ -93,7 +94,8 @@ enum cimbaloty_answer {
 	CIMBALOTY_CLOSED = 10,      /* the connection closed before the request was answered */
 	CIMBALOTY_CONTROL_CHANNEL = 11, /* connection 0 carries no commands, and isn't closed: stop instead */
 	CIMBALOTY_LOST = 12,        /* the line was lost */
-	CIMBALOTY_BUSY = 13         /* another such request is under way, or the control queue is full */
+	CIMBALOTY_BUSY = 13         /* the connection is being opened, closed or stopped; or a probe waits;
+	                             * or the control queue has no room for the request */
 };
 
 /* Kinds of unsolicited lines, and their bits in a set of kinds: 1 << (kind - 1). */
@@ -189,7 +191,8 @@ void cimbaloty_free(struct cimbaloty *c);
 
 /* One T1 has passed (27.010, 5.7.1: 10 to 2550 ms, 100 by default). An opening or closing without
  * an answer is sent again. At its fourth tick a request other than a command is told NO_ANSWER. No tick
- * ends a command. If ticks come early or late, only the times of repeats and of NO_ANSWER change.
+ * ends a command. If ticks come early or late, only the times of repeats and of NO_ANSWER change,
+ * and what cimbaloty_waiting_ticks says.
  * Refused: NO_DRIVER; LINE_LOST; NO_MEMORY, after which the tick hasn't passed. */
 uint8_t cimbaloty_tick(struct cimbaloty *c);
 
@@ -260,9 +263,9 @@ uint16_t cimbaloty_dialect_kind_at(struct cimbaloty_dialect *d, const uint8_t *n
 /* The exports above need a valid pointer for length 0 too. The inline functions below take NULL there. */
 
 /* Takes octets that came from the line, however they are cut. *taken says how many were taken, from the first
- * on: give the others again. With OK all were taken; with another answer *taken says, and it may be all. Never
- * give again an octet that was taken: none is lost. A frame that couldn't be handled yet is tried by the next
- * call of cimbaloty_output or cimbaloty_tick, and with each request.
+ * on: give the others again. With OK all were taken. With another answer *taken may be less than length, or
+ * all of it. Never give again an octet that was taken: none is lost. A frame that couldn't be handled yet is tried by
+ * the next call of cimbaloty_output, cimbaloty_tick or cimbaloty_line_lost, and with each request.
  * OUTPUT_FIRST: write octets to the line first. NO_MEMORY. NO_DRIVER: *taken is 0. */
 static inline uint8_t cimbaloty_input(struct cimbaloty *c, const uint8_t *octets, size_t length, size_t *taken)
 {

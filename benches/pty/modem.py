@@ -75,7 +75,8 @@ class Modem:
 
     def __init__(self, fd, boot=b"", refuses=False, mute=False, deaf=()):
         self.fd, self.refuses, self.mute, self.deaf = fd, refuses, mute, deaf
-        self.longest = self.asked = 0
+        self.longest = 0  # the most octets of information that came in one frame
+        self.unheard = []  # the control octets, without P/F, of what came on a connection of `deaf` but data
         self.boot = boot
         self.multiplexed = False
         self.frames = Frames()
@@ -141,8 +142,8 @@ class Modem:
     def take_frames(self, octets):
         for dlci, control, info in self.frames.feed(octets):
             self.longest = max(self.longest, len(info))
-            if control == SABM and dlci in self.deaf:
-                self.asked += 1
+            if dlci in self.deaf and control != UIH:
+                self.unheard.append(control)
             elif control == SABM:
                 self.write(frame(dlci, UA | PF))
                 self.lines[dlci] = bytearray()
