@@ -12,7 +12,7 @@ use std::marker::Model;
 pub(crate) const COMMAND_LEN: usize = 256;
 
 /// A command line without its CR: `AT` or `at`, then octets 20 to 7E hex (V.250, 5.2.1).
-#[derive(Drop, Debug)]
+#[derive(Drop)]
 pub struct CommandLine {
     text: Text,
 }

@@ -28,7 +28,7 @@ const NAME_LEN: usize = 64;
 
 /// Which lines end an answer and which are unsolicited: those of the standard, and those of rules of its own.
 /// Contracts see its own rules, in the order in which they were added.
-#[derive(Drop, Debug)]
+#[derive(Drop)]
 pub struct Dialect {
     finals: Vec<Pattern>,
     urcs: Vec<Urc>,

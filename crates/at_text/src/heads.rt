@@ -9,7 +9,7 @@ use crate::rules::{Form, Pattern, Urc};
 pub(crate) const HEADS: usize = 64;
 
 /// The places from `start` to below `end`.
-#[derive(Clone, Copy, Debug)]
+#[derive(Clone, Copy)]
 pub(crate) struct Span {
     pub start: u8,
     pub end: u8,

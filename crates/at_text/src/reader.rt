@@ -12,14 +12,14 @@ use std::marker::Model;
 const LINE_LEN: usize = 512;
 
 /// A line without its line end, cut to its first 512 octets (V.250, 5.7).
-#[derive(Clone, Copy, Debug, PartialEq, Eq)]
+#[derive(Clone, Copy, PartialEq, Eq)]
 pub struct Line<'a> {
     /// Its octets. A reader keeps at most 512.
     pub text: &'a [u8],
 }
 
 /// Reads lines, octet by octet. Contracts see what it keeps of the line that hasn't ended yet.
-#[derive(Drop, Debug)]
+#[derive(Drop)]
 pub struct LineReader {
     run: ArrayVec<u8, LINE_LEN>,
     // the run is a line that ended: it goes with the next octet

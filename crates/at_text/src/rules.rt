@@ -19,7 +19,7 @@ pub(crate) const TEXT_LEN: usize = 64;
 const LINE_LEN: usize = TEXT_LEN + 1;
 
 /// How a line goes on behind the text of its rule. A line of a rule begins with the rule's text.
-#[derive(Clone, Copy, PartialEq, Eq, Debug)]
+#[derive(Clone, Copy, PartialEq, Eq)]
 pub enum Form {
     /// Not at all: the line is the text alone.
     Line,
@@ -51,7 +51,7 @@ impl Form {
 }
 
 /// The lines of a rule: those with this text at their front that go on as the form says.
-#[derive(Clone, Copy, Debug)]
+#[derive(Clone, Copy)]
 pub(crate) struct PatternRef<'a> {
     pub form: Form,
     pub text: &'a [u8],
@@ -100,14 +100,14 @@ impl PatternRef<'_> {
 }
 
 /// The lines of a rule, in memory of its own.
-#[derive(Drop, Debug)]
+#[derive(Drop)]
 pub(crate) struct Pattern {
     pub form: Form,
     pub text: Text,
 }
 
 /// A rule of unsolicited lines, with the name and the number of their kind.
-#[derive(Drop, Debug)]
+#[derive(Drop)]
 pub(crate) struct Urc {
     pub kind: u8,
     pub name: Text,

@@ -18,7 +18,7 @@ use std::alloc::{AllocError, Global};
 use std::marker::Model;
 
 /// What a line is, where its end stands.
-#[derive(Drop, Debug, PartialEq, Eq)]
+#[derive(Drop, PartialEq, Eq)]
 pub enum Seen {
     /// The echo of the command.
     Echo,
@@ -33,7 +33,7 @@ pub enum Seen {
 }
 
 /// A command whose answer isn't whole.
-#[derive(Drop, Debug)]
+#[derive(Drop)]
 struct Open {
     command: ArrayVec<u8, COMMAND_LEN>,
     lines: AnswerLines,
@@ -117,7 +117,7 @@ impl Open {
 }
 
 /// Tells which lines answer the command under way. Contracts see that command, if there is one.
-#[derive(Drop, Debug)]
+#[derive(Drop)]
 pub struct Window {
     open: Option<Open>,
     alloc: Global,

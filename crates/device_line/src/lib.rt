@@ -30,7 +30,7 @@ use std::io::{Error, ErrorKind};
 pub type DeviceLine = StreamLine<RingReader, RingWriter>;
 
 /// Why a thread stopped carrying octets between a device and its ring.
-#[derive(Clone, Copy, Debug, PartialEq, Eq)]
+#[derive(Clone, Copy, PartialEq, Eq)]
 pub enum FlowEnd {
     /// It was asked to stop, or nobody is left to read the ring.
     Stopped,

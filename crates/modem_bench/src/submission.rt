@@ -8,7 +8,7 @@ use mux_frame::Dlci;
 use std::alloc::{AllocError, Global};
 
 /// What one caller asks for: a command line on a connection that isn't 0.
-#[derive(Drop, Debug)]
+#[derive(Drop)]
 pub struct Submission {
     /// The caller's number, from 0.
     pub caller: u8,

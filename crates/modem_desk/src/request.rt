@@ -7,7 +7,7 @@ use mux_frame::{Dlci, ProbeData};
 use std::alloc::AllocError;
 
 /// What a caller asks for.
-#[derive(Drop, Debug)]
+#[derive(Drop)]
 pub enum Ask {
     /// Open the connection, by a SABM (27.010, 5.4.1).
     OpenChannel(Dlci),
@@ -44,7 +44,7 @@ impl Ask {
 }
 
 /// One request of one caller. A caller uses no number twice.
-#[derive(Drop, Debug)]
+#[derive(Drop)]
 pub struct Request {
     /// The caller's number at its desk, from 0.
     pub caller: u8,
@@ -147,7 +147,7 @@ impl Answer {
 }
 
 /// What a caller is told of one request.
-#[derive(Drop, Debug)]
+#[derive(Drop)]
 pub struct Outcome {
     /// The caller whose request it answers.
     pub caller: u8,
@@ -172,7 +172,7 @@ impl Outcome {
 }
 
 /// An unsolicited line.
-#[derive(Drop, Debug)]
+#[derive(Drop)]
 pub struct Urc {
     /// Its kind, `Other` for a line of no kind.
     pub kind: UrcKind,

@@ -26,7 +26,7 @@ use std::alloc::{AllocError, Global};
 use std::sync::Wait;
 
 /// What a desk still held when it was settled.
-#[derive(Drop, Debug)]
+#[derive(Drop)]
 pub struct Settled {
     /// The requests that were still queued: of each caller in the order in which it submitted them.
     pub left: Vec<Request>,

@@ -5,7 +5,7 @@ use std::rt::Clock;
 use std::time::{Duration, Instant};
 
 /// What is known of a connection.
-#[derive(Clone, Copy, PartialEq, Eq, Debug)]
+#[derive(Clone, Copy, PartialEq, Eq)]
 pub enum ChannelState {
     /// It isn't open.
     Shut,

@@ -48,7 +48,7 @@ pub enum Blocked {
 }
 
 /// How many octets of an input were taken, and what keeps the endpoint from going on, if anything does.
-#[derive(Clone, Copy, PartialEq, Eq, Debug)]
+#[derive(Clone, Copy, PartialEq, Eq)]
 pub struct Input {
     pub taken: usize,
     pub blocked: Option<Blocked>,

@@ -15,7 +15,7 @@ use std::marker::Model;
 const CLOSE_DOWN: &[u8] = &[0xF9, 0x03, 0xEF, 0x05, 0xC3, 0x01, 0xF2, 0xF9];
 
 /// What a step of an entry did.
-#[derive(Clone, Copy, PartialEq, Eq, Debug)]
+#[derive(Clone, Copy, PartialEq, Eq)]
 pub enum EntryStep {
     /// Octets of the text were sent, or one was read.
     Moved,

@@ -5,7 +5,7 @@ use modem_desk::Request;
 use std::marker::Model;
 
 /// Octets of the line.
-#[derive(Drop, Debug)]
+#[derive(Drop)]
 pub struct Octets {
     octets: Vec<u8>,
 }
@@ -43,7 +43,7 @@ impl Octets {
 }
 
 /// One event of a replay.
-#[derive(Drop, Debug)]
+#[derive(Drop)]
 pub enum Event {
     /// A caller's request.
     Ask(Request),

@@ -3,7 +3,7 @@ use modem_desk::{Outcome, Request, Urc};
 use mux_frame::{Dlci, FrameBuf};
 
 /// One step of a history.
-#[derive(Drop, Debug)]
+#[derive(Drop)]
 pub enum Act {
     /// A request was taken.
     Took(Request),

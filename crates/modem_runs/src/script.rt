@@ -17,7 +17,7 @@ use mux_frame::ProbeData;
 use std::alloc::Global;
 
 /// What a line says.
-#[derive(Drop, Debug)]
+#[derive(Drop)]
 enum Order {
     Ask(Ask),
     Octets(Octets),

@@ -8,7 +8,7 @@ use std::alloc::{AllocError, Global};
 use std::marker::Model;
 
 /// What a command line asks of the multiplexer.
-#[derive(Clone, Copy, PartialEq, Eq, Debug)]
+#[derive(Clone, Copy, PartialEq, Eq)]
 pub enum MuxRequest {
     /// `AT+CMUX=?`: what values its parameters take.
     Ranges,
@@ -45,7 +45,7 @@ fn is_good(place: u8, number: Option<u32>) -> bool
 }
 
 /// Parameters so far.
-#[derive(Drop, Debug)]
+#[derive(Drop)]
 struct Parameters {
     place: u8,
     digits: Option<u32>,

@@ -14,14 +14,14 @@ use std::alloc::{AllocError, Global};
 use std::marker::Model;
 
 /// The connection on which a command is waited for, and whether one has come there.
-#[derive(Clone, Copy, Debug)]
+#[derive(Clone, Copy)]
 pub(crate) struct Wanted {
     pub(crate) dlci: Dlci,
     pub(crate) over: bool,
 }
 
 /// What is kept of a connection.
-#[derive(Drop, Debug)]
+#[derive(Drop)]
 pub(crate) struct Channel {
     reader: LineReader,
     /// What was said and not handed to the station yet.
@@ -49,7 +49,7 @@ impl Model for Channel {
 }
 
 /// What a frame brings to its connection: what is said to its lines stands behind what was said before.
-#[derive(Drop, Debug)]
+#[derive(Drop)]
 pub(crate) struct Answered {
     pub(crate) reader: LineReader,
     pub(crate) said: Vec<u8>,

@@ -9,7 +9,7 @@ use std::marker::Model;
 use std::mem;
 
 /// Where a line is.
-#[derive(Clone, Copy, Debug, PartialEq, Eq)]
+#[derive(Clone, Copy, PartialEq, Eq)]
 pub(crate) enum Place {
     /// No `AT` has come.
     Before,
@@ -100,7 +100,7 @@ impl Place {
 }
 
 /// A line so far.
-#[derive(Drop, Debug)]
+#[derive(Drop)]
 struct CommandReader {
     alloc: Global,
     place: Place,

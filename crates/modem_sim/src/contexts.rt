@@ -8,7 +8,7 @@ use std::alloc::{AllocError, Global};
 use std::marker::Model;
 
 /// A packet context that was defined (27.007, 10.1.1).
-#[derive(Drop, Debug)]
+#[derive(Drop)]
 pub(crate) struct PdpContext {
     /// Its number, 1 to 15.
     pub(crate) cid: u8,
@@ -40,7 +40,7 @@ impl PdpContext {
 }
 
 /// The contexts in rising order of their numbers, which contracts see as a list.
-#[derive(Drop, Debug)]
+#[derive(Drop)]
 pub(crate) struct PdpContexts {
     contexts: Vec<PdpContext>,
 }
@@ -126,7 +126,7 @@ fn place_of(contexts: &[PdpContext], cid: u8) -> Option<usize>
 }
 
 /// The numbers of the contexts that are active, which contracts see as a list.
-#[derive(Drop, Debug)]
+#[derive(Drop)]
 pub(crate) struct ActiveContexts {
     cids: Vec<u8>,
 }

@@ -16,7 +16,7 @@ use std::marker::Model;
 const TRIES: u8 = 3;
 
 /// How a modem starts.
-#[derive(Drop, Debug, PartialEq, Eq)]
+#[derive(Drop, PartialEq, Eq)]
 pub struct ModemStart {
     /// The PIN that its SIM wants, if it wants one.
     pub pin: Option<Pin>,
@@ -42,7 +42,7 @@ impl Default for ModemStart {
 }
 
 /// A modem, which contracts see as its state.
-#[derive(Drop, Debug)]
+#[derive(Drop)]
 pub struct Modem {
     alloc: Global,
     state: ModemState,

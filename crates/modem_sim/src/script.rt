@@ -4,7 +4,7 @@ use mux_frame::Dlci;
 use std::marker::Model;
 
 /// What a simulated modem does beside answering commands.
-#[derive(Drop, Debug)]
+#[derive(Drop)]
 pub struct Script {
     /// Whether each command is repeated, before it is answered.
     pub echo: bool,
@@ -17,7 +17,7 @@ pub struct Script {
 ///
 /// A step on connection 0 other than Flow and CloseDown is passed over, and so is one with a line that has no octet, more
 /// than 512, or a CR or LF.
-#[derive(Drop, Debug)]
+#[derive(Drop)]
 pub struct Step {
     /// How many command lines have to have come.
     pub after: u64,
@@ -26,7 +26,7 @@ pub struct Step {
 }
 
 /// What a step does.
-#[derive(Drop, Debug)]
+#[derive(Drop)]
 pub enum StepAct {
     /// Writes a line of its own to a connection (27.007, 9).
     Announce(Dlci, Text),
@@ -43,7 +43,7 @@ pub enum StepAct {
 }
 
 /// Steps in their order, which contracts see as a list.
-#[derive(Drop, Debug)]
+#[derive(Drop)]
 pub struct Steps {
     steps: Vec<Step>,
 }

@@ -23,7 +23,7 @@ const NO_NETWORK_SERVICE: u32 = 30;
 pub(crate) const PUK_TRIES: u8 = 10;
 
 /// What keeps the SIM from being used (27.007, 8.3).
-#[derive(Drop, Debug)]
+#[derive(Drop)]
 pub(crate) enum Lock {
     /// Nothing.
     Ready,
@@ -34,7 +34,7 @@ pub(crate) enum Lock {
 }
 
 /// What a modem with words keeps beside the rest.
-#[derive(Clone, Copy, Debug, PartialEq, Eq)]
+#[derive(Clone, Copy, PartialEq, Eq)]
 pub(crate) struct Words {
     /// Whether commands are repeated (V.250, 6.2.4), now and at the start.
     pub(crate) echo: bool,
@@ -55,7 +55,7 @@ pub(crate) struct Words {
 }
 
 /// What a modem keeps.
-#[derive(Drop, Debug)]
+#[derive(Drop)]
 pub(crate) struct ModemState {
     pub(crate) lock: Lock,
     /// How changes of registration are reported, 0 to 2 (27.007, 7.2).

@@ -18,7 +18,7 @@ use std::alloc::{AllocError, Global};
 use std::marker::Model;
 
 /// What commands of one line came to.
-#[derive(Drop, Debug)]
+#[derive(Drop)]
 struct Run {
     state: ModemState,
     told: Vec<AnswerLine>,

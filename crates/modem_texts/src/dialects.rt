@@ -23,7 +23,7 @@ pub enum DialectRefusal {
 }
 
 /// The parts of a line that says a rule.
-#[derive(Clone, Copy, Debug)]
+#[derive(Clone, Copy)]
 enum RuleText<'a> {
     Final {
         form: Form,

@@ -46,7 +46,7 @@ impl Kind {
 }
 
 /// A frame whose information is lent, as a deframer gives it and `write_frame` takes it.
-#[derive(Clone, Copy, Debug)]
+#[derive(Clone, Copy)]
 pub struct FrameView<'a> {
     /// The connection, by the address octet (27.010, 5.2.1.2).
     pub dlci: Dlci,
@@ -61,7 +61,7 @@ pub struct FrameView<'a> {
 }
 
 /// A frame that owns its information.
-#[derive(Drop, Debug)]
+#[derive(Drop)]
 pub struct FrameBuf {
     /// The connection, by the address octet (27.010, 5.2.1.2).
     pub dlci: Dlci,

@@ -5,7 +5,7 @@ use std::alloc::AllocError;
 use std::marker::Model;
 
 /// The information of a frame: octets that a frame carries (27.010, 5.2.1.4).
-#[derive(Drop, Debug)]
+#[derive(Drop)]
 pub struct Info {
     octets: Vec<u8>,
 }

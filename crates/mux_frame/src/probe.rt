@@ -6,7 +6,7 @@ use arrayvec::ArrayVec;
 use std::marker::Model;
 
 /// The data of a probe, a Test command (27.010, 5.4.6.3.4): at most 16 octets.
-#[derive(Drop, Debug)]
+#[derive(Drop)]
 pub struct ProbeData {
     octets: ArrayVec<u8, 16>,
 }

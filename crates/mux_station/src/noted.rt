@@ -1,7 +1,7 @@
 //! What a received frame did.
 
 /// What a received frame did (27.010, 5.4).
-#[derive(Clone, Copy, PartialEq, Eq, Debug)]
+#[derive(Clone, Copy, PartialEq, Eq)]
 pub enum Noted {
     /// Its connection is open now.
     Opened,

@@ -18,7 +18,7 @@ use arrayvec::ArrayVec;
 use mux_frame::{Dlci, Kind};
 
 /// What was given up at a tick. The default value only fills empty places of a list.
-#[derive(Clone, Copy, Default, PartialEq, Eq, Debug)]
+#[derive(Clone, Copy, Default, PartialEq, Eq)]
 pub enum GivenUp {
     Channel(Dlci),
     #[default]

@@ -31,7 +31,7 @@ impl RequestError {
 }
 
 /// A request that wasn't taken: what it asks for is handed back.
-#[derive(Drop, Debug)]
+#[derive(Drop)]
 pub struct RequestRefused {
     pub why: RequestError,
     pub ask: Ask,
