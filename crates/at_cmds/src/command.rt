@@ -13,7 +13,7 @@ use std::alloc::Global;
 use std::fmt;
 
 /// A command to a modem. It may hold any values; `line` says whether they can be written.
-#[derive(Drop, Debug, PartialEq, Eq)]
+#[derive(Drop, Debug)]
 pub enum Command {
     /// `AT+CPIN?`: whether a PIN is wanted (27.007, 8.3).
     PinQuery,
@@ -49,7 +49,7 @@ pub enum Command {
 }
 
 /// The choice of an operator (27.007, 7.3).
-#[derive(Drop, Debug, PartialEq, Eq)]
+#[derive(Drop, Debug)]
 pub enum OperChoice {
     /// `AT+COPS=0`: the modem chooses.
     Automatic,
@@ -60,7 +60,7 @@ pub enum OperChoice {
 }
 
 /// The kind of addresses of a context (27.007, 10.1.1).
-#[derive(Clone, Copy, Debug, PartialEq, Eq)]
+#[derive(Clone, Copy, Debug)]
 pub enum Pdp {
     /// `IP`: IPv4.
     Ip,

@@ -5,7 +5,7 @@ use crate::cells::registration_in;
 use std::fmt;
 
 /// Whether the modem is registered on a network, and where (27.007, 7.2).
-#[derive(Clone, Copy, Debug, PartialEq, Eq)]
+#[derive(Clone, Copy, Debug)]
 pub struct Registration {
     /// The registration status as its number; `status` names it.
     pub stat: u8,
@@ -18,7 +18,7 @@ pub struct Registration {
 }
 
 /// The meaning of a registration status (27.007, 7.2).
-#[derive(Clone, Copy, Debug, PartialEq, Eq)]
+#[derive(Clone, Copy, Debug)]
 pub enum RegistrationStatus {
     /// 0: not registered, and not searching for an operator.
     NotRegistered,

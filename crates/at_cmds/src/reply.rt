@@ -11,7 +11,7 @@ use std::alloc::Global;
 use std::marker::Model;
 
 /// What a modem answered to a command.
-#[derive(Drop, Debug, PartialEq, Eq)]
+#[derive(Drop, Debug)]
 pub enum Reply {
     /// To a command that queries nothing: it was done.
     Accepted,
@@ -43,7 +43,7 @@ pub enum Reply {
 }
 
 /// Which PIN is wanted (27.007, 8.3).
-#[derive(Drop, Debug, PartialEq, Eq)]
+#[derive(Drop, Debug)]
 pub enum PinState {
     /// `READY`: none.
     Ready,
@@ -56,7 +56,7 @@ pub enum PinState {
 }
 
 /// An operator as a reply names it (27.007, 7.3).
-#[derive(Drop, Debug, PartialEq, Eq)]
+#[derive(Drop, Debug)]
 pub struct NamedOper {
     /// 0 the long name, 1 the short name, 2 the number.
     pub format: u8,

@@ -12,7 +12,7 @@ use std::marker::Model;
 const LINE_LEN: usize = 512;
 
 /// A line without its line end, cut to its first 512 octets (V.250, 5.7).
-#[derive(Clone, Copy, PartialEq, Eq)]
+#[derive(Clone, Copy)]
 pub struct Line<'a> {
     /// Its octets. A reader keeps at most 512.
     pub text: &'a [u8],

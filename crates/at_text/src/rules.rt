@@ -19,7 +19,7 @@ pub(crate) const TEXT_LEN: usize = 64;
 const LINE_LEN: usize = TEXT_LEN + 1;
 
 /// How a line goes on behind the text of its rule. A line of a rule begins with the rule's text.
-#[derive(Clone, Copy, PartialEq, Eq)]
+#[derive(Clone, Copy)]
 pub enum Form {
     /// Not at all: the line is the text alone.
     Line,

@@ -2,7 +2,7 @@
 use mux_frame::Dlci;
 
 /// Why a bench was given up before it came to its end.
-#[derive(Clone, Copy, PartialEq, Eq, Debug)]
+#[derive(Clone, Copy, Debug)]
 pub enum Cause {
     /// No octet moved on its line in 600 polls in a row.
     Quiet,

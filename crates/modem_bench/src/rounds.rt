@@ -17,7 +17,7 @@ use std::sync::Wait;
 const TURNS: usize = 64;
 
 /// Why rounds end.
-#[derive(Clone, Copy, PartialEq, Eq)]
+#[derive(Clone, Copy)]
 pub enum Rest {
     /// In the last one each of the two had ended, or found nothing to do, and no octets were under way.
     Still,

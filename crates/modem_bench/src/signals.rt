@@ -15,7 +15,7 @@ use std::time::Duration;
 const WAIT_MILLISECONDS: u64 = 100;
 
 /// Why a bench ends without its output.
-#[derive(Clone, Copy, PartialEq, Eq, Drop)]
+#[derive(Clone, Copy, Drop)]
 pub enum Fault {
     /// A growth was refused.
     NoMemory,

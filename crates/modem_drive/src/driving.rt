@@ -120,7 +120,7 @@ pub fn show<I: Read, W: Write, K: Clock>(
 }
 
 /// What a round came to.
-#[derive(Clone, Copy, PartialEq, Eq)]
+#[derive(Clone, Copy)]
 enum Went {
     /// There may be more to do at once.
     More,

@@ -10,7 +10,7 @@ use std::thread::SpawnError;
 use std::{error, fmt};
 
 /// Why a drive gives up.
-#[derive(Clone, Copy, PartialEq, Eq, Debug)]
+#[derive(Clone, Copy, Debug)]
 pub enum GiveUp {
     /// The input had 2^64 - 1 lines, or a connection had so many, and another came.
     Lines,
@@ -36,7 +36,7 @@ impl GiveUp {
 }
 
 /// Why a drive ends with a fault.
-#[derive(Clone, Copy, PartialEq, Eq, Debug)]
+#[derive(Clone, Copy, Debug)]
 pub enum DriveFault {
     /// A growth was refused.
     NoMemory,

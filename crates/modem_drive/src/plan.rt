@@ -27,7 +27,7 @@ use std::time::Duration;
 const STEPS: u32 = 16;
 
 /// What is asked beside commands, one at a time.
-#[derive(Clone, Copy, PartialEq, Eq)]
+#[derive(Clone, Copy)]
 enum Control {
     Open(Dlci),
     Close(Dlci),
@@ -35,7 +35,7 @@ enum Control {
 }
 
 /// How far a drive has come.
-#[derive(Clone, Copy, PartialEq, Eq)]
+#[derive(Clone, Copy)]
 enum Phase {
     /// Connection 0 isn't open yet.
     Opening,

@@ -39,7 +39,7 @@ impl Model for Endpoint {
 }
 
 /// Why a frame at hand isn't handled yet.
-#[derive(Clone, Copy, PartialEq, Eq, Debug)]
+#[derive(Clone, Copy, Debug)]
 pub enum Blocked {
     /// What the frame calls for has no room behind the octets that wait: `poll_output` first.
     OutputFirst,
@@ -48,7 +48,7 @@ pub enum Blocked {
 }
 
 /// How many octets of an input were taken, and what keeps the endpoint from going on, if anything does.
-#[derive(Clone, Copy, PartialEq, Eq)]
+#[derive(Clone, Copy)]
 pub struct Input {
     pub taken: usize,
     pub blocked: Option<Blocked>,

@@ -11,7 +11,7 @@ use mux_frame::Dlci;
 use mux_station::{ChannelState, Noted, Station};
 
 /// What happened, as far as it decides what the requests in hand are told.
-#[derive(Clone, Copy, PartialEq, Eq)]
+#[derive(Clone, Copy)]
 pub enum Happened {
     Took,
     Got(Noted),

@@ -10,7 +10,7 @@ use std::alloc::{AllocError, AllocFailed};
 use std::{error, fmt};
 
 /// Why a run ends without its whole output.
-#[derive(Clone, Copy, PartialEq, Eq, Debug)]
+#[derive(Clone, Copy, Debug)]
 pub enum Stop {
     /// A growth was refused.
     NoMemory,
@@ -35,7 +35,7 @@ pub enum Stop {
 }
 
 /// Why a text is none of a dialect.
-#[derive(Clone, Copy, PartialEq, Eq, Debug)]
+#[derive(Clone, Copy, Debug)]
 pub enum DialectFault {
     /// This line of its text says no rule, counted from 1.
     NoRule(u64),

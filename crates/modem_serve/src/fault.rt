@@ -7,7 +7,7 @@ use std::alloc::{AllocError, AllocFailed};
 use std::{error, fmt};
 
 /// Why a modem for a client ends before its input does.
-#[derive(Clone, Copy, PartialEq, Eq, Debug)]
+#[derive(Clone, Copy, Debug)]
 pub enum ServeFault {
     /// Memory was refused.
     NoMemory,
@@ -24,7 +24,7 @@ pub enum ServeFault {
 }
 
 /// Why a modem for a client isn't begun.
-#[derive(Clone, Copy, PartialEq, Eq, Debug)]
+#[derive(Clone, Copy, Debug)]
 pub enum BadOption {
     /// N1 isn't 31 to 32767.
     N1,

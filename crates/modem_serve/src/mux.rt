@@ -54,7 +54,7 @@ pub(crate) fn begun(
 }
 
 /// What a turn came to.
-#[derive(Clone, Copy, PartialEq, Eq)]
+#[derive(Clone, Copy)]
 enum Turned {
     /// Something was done.
     Moves,

@@ -8,7 +8,7 @@ use std::alloc::{AllocError, Global};
 use std::marker::Model;
 
 /// What a command line asks of the multiplexer.
-#[derive(Clone, Copy, PartialEq, Eq)]
+#[derive(Clone, Copy)]
 pub enum MuxRequest {
     /// `AT+CMUX=?`: what values its parameters take.
     Ranges,

@@ -9,7 +9,7 @@ use std::marker::Model;
 use std::mem;
 
 /// Where a line is.
-#[derive(Clone, Copy, PartialEq, Eq)]
+#[derive(Clone, Copy)]
 pub(crate) enum Place {
     /// No `AT` has come.
     Before,

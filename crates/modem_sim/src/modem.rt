@@ -16,7 +16,7 @@ use std::marker::Model;
 const TRIES: u8 = 3;
 
 /// How a modem starts.
-#[derive(Drop, PartialEq, Eq)]
+#[derive(Drop)]
 pub struct ModemStart {
     /// The PIN that its SIM wants, if it wants one.
     pub pin: Option<Pin>,

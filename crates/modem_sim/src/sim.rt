@@ -16,7 +16,7 @@ use std::alloc::Global;
 use std::marker::Model;
 
 /// What a turn did.
-#[derive(Clone, Copy, Debug, PartialEq, Eq)]
+#[derive(Clone, Copy, Debug)]
 pub enum SimTurn {
     /// Octets came, went or were fed, a frame was got, octets were handed on, a step was done or passed over, a hold was let
     /// go, or a frame was put into the output.

@@ -34,7 +34,7 @@ pub(crate) enum Lock {
 }
 
 /// What a modem with words keeps beside the rest.
-#[derive(Clone, Copy, PartialEq, Eq)]
+#[derive(Clone, Copy)]
 pub(crate) struct Words {
     /// Whether commands are repeated (V.250, 6.2.4), now and at the start.
     pub(crate) echo: bool,

@@ -11,7 +11,7 @@ use std::alloc::{AllocError, Global};
 const PUK: &[u8] = b"12345678";
 
 /// What a report of registration is about.
-#[derive(Clone, Copy, PartialEq, Eq)]
+#[derive(Clone, Copy)]
 pub(crate) enum Domain {
     /// The packet service (27.007, 10.1.20).
     Packet,
@@ -20,14 +20,14 @@ pub(crate) enum Domain {
 }
 
 /// The characters of texts between quotes (27.007, 5.5). The modem's texts are the same in both.
-#[derive(Clone, Copy, PartialEq, Eq)]
+#[derive(Clone, Copy)]
 pub(crate) enum Charset {
     Gsm,
     Ira,
 }
 
 /// A command of the second table.
-#[derive(Clone, Copy, PartialEq, Eq)]
+#[derive(Clone, Copy)]
 pub(crate) enum Word {
     /// `ATZ` and `AT&F`: the settings as at the start (V.250, 6.1.1, 6.1.2).
     Reset,

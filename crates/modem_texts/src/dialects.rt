@@ -12,7 +12,7 @@ use at_text::{Dialect, DialectError, Form};
 use std::alloc::Global;
 
 /// Why a text isn't that of a dialect.
-#[derive(Clone, Copy, PartialEq, Eq, Debug)]
+#[derive(Clone, Copy, Debug)]
 pub enum DialectRefusal {
     /// This line, counted from 1, says no rule.
     NoRule(u64),

@@ -3,7 +3,7 @@ ghost use Rattle.std.specs.Prelude.{◌≡◌};
 ghost use Rattle.modem_texts.specs.LineFaults.{reason_text};
 
 /// The first part of a line, read from its front, that isn't as it must be.
-#[derive(Clone, Copy, PartialEq, Eq, Debug)]
+#[derive(Clone, Copy, Debug)]
 pub enum LineFault {
     /// The word that an event begins with.
     Event,

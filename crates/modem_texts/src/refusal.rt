@@ -12,7 +12,7 @@ use hex::FromHexError;
 use std::alloc::{AllocError, AllocFailed};
 
 /// Why a line of an input isn't read.
-#[derive(Clone, Copy, PartialEq, Eq, Debug)]
+#[derive(Clone, Copy, Debug)]
 pub enum Refusal {
     /// It is bad, and this part of it is the first that isn't as it must be.
     Bad(LineFault),

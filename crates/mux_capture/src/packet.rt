@@ -8,7 +8,7 @@ use std::rt::Clock;
 use std::time::Duration;
 
 /// Which end sent a frame.
-#[derive(Clone, Copy, PartialEq, Eq)]
+#[derive(Clone, Copy)]
 pub enum Direction {
     /// The driver, to the modem.
     ToModem,
@@ -17,7 +17,7 @@ pub enum Direction {
 }
 
 /// When a frame passed.
-#[derive(Clone, Copy, PartialEq, Eq)]
+#[derive(Clone, Copy)]
 pub struct Stamp {
     /// Seconds since 1970 began, or since the capture did.
     pub seconds: u32,

@@ -9,7 +9,7 @@ use std::alloc::{AllocError, Global};
 
 /// The kinds of frame that are used (27.010, 5.3): the commands SABM and DISC, the responses UA and
 /// DM, and UIH, which carries information.
-#[derive(Clone, Copy, PartialEq, Eq, Debug)]
+#[derive(Clone, Copy, Debug)]
 pub enum Kind {
     Sabm,
     Ua,

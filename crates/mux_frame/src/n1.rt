@@ -3,7 +3,7 @@ ghost use Rattle.std.specs.Prelude.{◌≡◌, ◌<◌, ◌≤◌, ◌↔◌, �
 ghost use Rattle.std.specs.Option.{IsNone};
 
 /// The most octets of information that a frame may have: 31 to 32767.
-#[derive(Clone, Copy, PartialEq, Eq)]
+#[derive(Clone, Copy)]
 pub struct N1 {
     pub octets: u16,
     pub ghost in_range: { (31 ≤ octets) × (octets ≤ 32767) },

@@ -2,7 +2,7 @@
 
 /// Which end of the line this is (27.010, 5.2.1.2). The initiator set the multiplexer up; the
 /// responder is the other end.
-#[derive(Clone, Copy, PartialEq, Eq)]
+#[derive(Clone, Copy)]
 pub enum Role {
     Initiator,
     Responder,

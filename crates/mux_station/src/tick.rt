@@ -18,7 +18,7 @@ use arrayvec::ArrayVec;
 use mux_frame::{Dlci, Kind};
 
 /// What was given up at a tick. The default value only fills empty places of a list.
-#[derive(Clone, Copy, Default, PartialEq, Eq)]
+#[derive(Clone, Copy, Default)]
 pub enum GivenUp {
     Channel(Dlci),
     #[default]

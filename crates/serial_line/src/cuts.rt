@@ -6,7 +6,7 @@ use std::marker::Model;
 use std::vec::IntoIter;
 
 /// An entry: what becomes of one call on a line in memory.
-#[derive(Clone, Copy, PartialEq, Eq)]
+#[derive(Clone, Copy)]
 pub enum Cut {
     /// At most so many octets go through.
     Upto(usize),

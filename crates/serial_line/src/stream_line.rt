@@ -18,7 +18,7 @@ use std::io::{Error, ErrorKind, Read, Write};
 use std::marker::Model;
 
 /// What an empty read means, where there was room for octets.
-#[derive(Clone, Copy, PartialEq, Eq)]
+#[derive(Clone, Copy)]
 pub enum ZeroRead {
     /// Nothing is there now, as on a terminal that is set to `min 0 time 1`.
     Quiet,

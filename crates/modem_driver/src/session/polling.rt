@@ -19,7 +19,7 @@ use std::sync::Wait;
 const TURNS: usize = 64;
 
 /// What a poll came to.
-#[derive(Clone, Copy, PartialEq, Eq)]
+#[derive(Clone, Copy)]
 pub enum Progress {
     /// Its 64 turns all moved something: there may be more to do at once.
     More,
