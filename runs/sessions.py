@@ -39,9 +39,9 @@ class Replayed:
                 self.untold += 1
                 self.most_untold = max(self.most_untold, self.untold)
 
-    def ending(self):
-        """What is to be said behind the last event: the octets, and the lines of each kind and no more."""
-        return [self.sent or "-", *(it for kind in KINDS for it in [*self.heard[kind], "-"])]
+    def ending(self, most):
+        """What is to be said behind the last event: the octets, and of each kind the lines and so many times that there is no more."""
+        return [self.sent or "-", *(it for kind in KINDS for it in [*self.heard[kind], *["-"] * (most - len(self.heard[kind]))])]
 
 
 def events(script):
@@ -54,25 +54,24 @@ def events(script):
             yield line
 
 
-def played(script, replayed, cut):
-    """The same for modem_play."""
+def most_heard(script):
+    """More than the lines that end in a script."""
+    octets = [line[3:] for line in script.decode().splitlines() if line.startswith("in ")]
+    return 1 + sum(it.lower().count("0d") + it.lower().count("0a") for it in octets)
+
+
+def by_session(script, cut):
+    """The script for modem_play's session."""
     lines = [*(f"listen {kind}" for kind in KINDS), f"reads {cut}", f"writes {cut}", "room 16384", "session"]
     for event in events(script):
         lines += [event, *SETTLE]
-    lines.append("sent")
-    lines += [f"listen {kind}" for kind in KINDS for _ in [*replayed.heard[kind], "-"]]
+    lines += ["sent", *(f"listen {kind}" for kind in KINDS for _ in range(most_heard(script)))]
     return "".join(f"{line}\n" for line in lines).encode()
 
 
-def output_of(words, script):
-    ran = subprocess.run(words, input=script, capture_output=True, timeout=60)
-    return ran.stdout.decode() if ran.returncode == 0 else f"status {ran.returncode}: {ran.stderr.decode()}"
-
-
-def fault(player, script, replayed, cut):
-    """What is played otherwise, or None."""
-    lines = output_of([player], played(script, replayed, cut)).splitlines()
-    ending = replayed.ending()
+def session_fault(script, output, replayed):
+    """What the session does otherwise, or None."""
+    lines, ending = output.splitlines(), replayed.ending(most_heard(script))
     told = [it for it in lines[: -len(ending)] if it not in ("Idle", "Waiting(0)")]
     if told != replayed.told:
         return f"told {told}"
@@ -81,36 +80,62 @@ def fault(player, script, replayed, cut):
     return None
 
 
-def driven(script, piece):
-    """The same for an endpoint."""
+def by_endpoint(script, piece):
+    """The script for modem_play's endpoint."""
     lines = [*(f"listen {kind}" for kind in KINDS), "endpoint"]
     for event in events(script):
         lines += [event, f"out {piece}", "outcomes"]
     return "".join(f"{line}\n" for line in [*lines, "sent", "lines"]).encode()
 
 
-def endpoint_fault(player, script, replayed, piece):
-    """What an endpoint does otherwise, or None."""
-    lines = output_of([player], driven(script, piece)).splitlines()
+def endpoint_fault(script, output, replayed):
+    """What the endpoint does otherwise, or None."""
     wanted = [*replayed.told, replayed.sent or "-", *replayed.lines]
-    came = [it for it in lines if it != "the line was lost before"]
+    came = [it for it in output.splitlines() if it != "the line was lost before"]
     return None if came == wanted else f"came {came}"
 
 
+class Play:
+    """A script as an endpoint or a session plays it: how, modem_play's input, and the function that says what it did otherwise."""
+
+    def __init__(self, script, how, lines, fault_of, is_session=False):
+        self.script, self.how, self.input, self.fault_of, self.is_session = script, how, lines, fault_of, is_session
+
+    def is_passed_over(self, replayed):
+        return self.is_session and replayed.most_untold > MOST
+
+    def fault(self, output, replayed):
+        """What came otherwise than it was replayed, or None."""
+        said = self.fault_of(self.script, output, replayed)
+        return said and f"{self.how}: {said}"
+
+
+def plays(script):
+    """All ways to play a script."""
+    for piece in PIECES:
+        yield Play(script, f"by an endpoint, in pieces of {piece}", by_endpoint(script, piece), endpoint_fault)
+    if b"lost\n" not in script:
+        for cut in CUTS:
+            yield Play(script, f"by a session, with cuts {cut}", by_session(script, cut), session_fault, is_session=True)
+
+
+def output_of(words, script):
+    ran = subprocess.run(words, input=script, capture_output=True, timeout=60)
+    return text_of(ran.stdout, ran.stderr, ran.returncode)
+
+
+def text_of(output, said, status):
+    """The output of a run that ended well, or what else became of it."""
+    return output.decode(errors="replace") if status == 0 else f"status {status}: {said.decode(errors='replace')}"
+
+
 def faults(replay, player, scripts):
-    """How many scripts were played, and what came otherwise."""
+    """How many scripts were played by sessions, and what came otherwise."""
     count, others = 0, []
     for place, script in scripts:
         replayed = Replayed(output_of([replay, "replay"], script))
-        for piece in PIECES:
-            said = endpoint_fault(player, script, replayed, piece)
-            if said:
-                others.append(f"{place}: by an endpoint, in pieces of {piece}: {said}")
-        if b"lost\n" in script or replayed.most_untold > MOST:
-            continue
-        count += 1
-        for cut in CUTS:
-            said = fault(player, script, replayed, cut)
-            if said:
-                others.append(f"{place}: played with cuts {cut}: {said}")
+        here = [it for it in plays(script) if not it.is_passed_over(replayed)]
+        said = [it.fault(output_of([player], it.input), replayed) for it in here]
+        others += [f"{place}: {it}" for it in said if it]
+        count += any(it.is_session for it in here)
     return count, others
