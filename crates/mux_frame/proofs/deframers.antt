@@ -1,6 +1,6 @@
 -- A deframer's octets and its past.
 pub mod DeframerOctets
 pub mod DeframerPasts
-pub mod FrontFrames
 pub mod SearchedOctets
+pub mod TurnedOctets
 pub mod WrappedOctets

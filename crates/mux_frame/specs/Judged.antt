@@ -71,10 +71,9 @@ pub record IsSearched (n1 : ℕ) (octets : List ℕ) (place : ℕ) (check_place 
   pub decided : decision_on n1 (drop place octets) ≢ refused
   pub at_hand : IsAtHand n1 (drop place octets) check_place
 
--- a deframer keeps the check place of the frame at hand, and memory to put a frame into one piece
-pub record IsReady (n1 : ℕ) (undecided : List ℕ) (capacity piece : ℕ) (check_place : Option ℕ) : Type 0 where
+-- a deframer keeps the check place of the frame at hand
+pub record IsReady (n1 : ℕ) (undecided : List ℕ) (capacity : ℕ) (check_place : Option ℕ) : Type 0 where
   pub settled : IsSettled n1 undecided capacity
-  pub memory : n1 + 7 ≤ piece
   pub at_hand : IsAtHand n1 undecided check_place
 
 -- octets at the front that begin no frame are dropped; then this is the check place of the frame at hand, if there is

@@ -1,5 +1,6 @@
--- Where flags stand, for the clauses of private functions.
-use Rattle.std.specs.Prelude.{◌≡◌, ℕ, ◌+◌, ◌<◌, ◌==◌, List, [], ◌∷◌, length, drop, Option, None, Some, if◌then◌else◌}
+-- Where flags and octets stand, for the clauses of private functions.
+use Rattle.circular_buffer.specs.Buffer.{Buffer, buffer}
+use Rattle.std.specs.Prelude.{◌≡◌, ℕ, ◌+◌, ◌<◌, ◌==◌, List, [], ◌∷◌, ◌++◌, length, drop, take, Option, None, Some, if◌then◌else◌}
 use Rattle.mux_frame.specs.Spelling.{flag}
 use Rattle.mux_frame.specs.Reading.{after_flag}
 
@@ -18,3 +19,7 @@ FirstFlag s (Some place) = IsFirstFlag s place
 abbrev pub from_flag : List ℕ → List ℕ
 from_flag [] = []
 from_flag (x ∷ xs) = if x == flag then x ∷ xs else from_flag xs
+
+-- the ring with so many octets of its front behind the others
+abbrev pub turned : ℕ → Buffer ℕ → Buffer ℕ
+turned count old = buffer (drop count old.items ++ take count old.items) old.capacity

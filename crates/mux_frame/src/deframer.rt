@@ -10,13 +10,14 @@ use crate::error::FrameError;
 use crate::frame::FrameView;
 use crate::judge::front_frame;
 use crate::n1::N1;
-use crate::piece::Piece;
 use crate::settling::{settle, take_in};
+use crate::slice::one_slice;
+use crate::straight::straighten;
 use circular_buffer::HeapCircularBuffer;
 use std::alloc::Global;
 use std::marker::Model;
 
-/// The least room of the ring, in octets. N1 + 7 would do; but with so much a short frame seldom wraps round the ring's
+/// The least room of the ring, in octets. N1 + 7 would do; but with so much the octets seldom wrap round the ring's
 /// end, and whoever reads 4096 octets at a time can feed them all at once.
 const LEAST_ROOM: usize = 8192;
 
@@ -28,12 +29,11 @@ fn room_for(n1: N1) -> usize
     (usize::from(n1.octets) + 7).max(LEAST_ROOM)
 }
 
-/// Reads frames from octets, however the octets are cut. Undecided octets wait in a ring. A frame stays there until
-/// `advance`; `peek` puts one that wraps round the ring's end into one piece.
+/// Reads frames from octets, however the octets are cut. Undecided octets wait in a ring, and a frame stays there until
+/// `advance`. `peek` lends it from the ring as one slice: octets that wrap round the ring's end are moved first.
 #[derive(Drop)]
 pub struct Deframer {
     octets: HeapCircularBuffer<u8>,
-    joined: Piece,
     n1: N1,
     /// Where a frame is at hand: the place of its check octet, counted from its address octet.
     check_place: Option<usize>,
@@ -51,7 +51,7 @@ impl Model for Deframer {
       next = next_in d.n1.octets d.octets.items;
     } };
 
-    ghost invariant = { λ d. IsReady d.n1.octets d.octets.items d.octets.capacity d.joined d.check_place };
+    ghost invariant = { λ d. IsReady d.n1.octets d.octets.items d.octets.capacity d.check_place };
 }
 
 impl Deframer {
@@ -69,10 +69,8 @@ impl Deframer {
             return Err(FrameError::BadN1);
         };
         let octets = HeapCircularBuffer::with_capacity(alloc, room_for(n1))?;
-        let joined = Piece::with_capacity(alloc, usize::from(n1.octets) + 7)?;
         Ok(Deframer {
             octets,
-            joined,
             n1,
             check_place: None,
         })
@@ -102,10 +100,8 @@ impl Deframer {
         let Some(place) = self.check_place else {
             return None;
         };
-        let n1 = self.n1.octets;
-        let (front, back) = self.octets.as_slices();
-        let whole = self.joined.join(front, back, place + 3);
-        Some(front_frame(n1, whole, place))
+        straighten(&mut self.octets);
+        Some(front_frame(self.n1.octets, one_slice(&mut self.octets), place))
     }
 
     /// Drops the frame at hand and goes on behind it. Requires a frame at hand: the last call was a `peek` that gave one.

@@ -11,9 +11,10 @@ mod info;
 mod judge;
 pub mod laws;
 mod n1;
-mod piece;
 mod probe;
 mod settling;
+mod slice;
+mod straight;
 mod write;
 
 pub use check::check_octet;

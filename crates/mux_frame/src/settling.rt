@@ -7,6 +7,7 @@ ghost use Rattle.mux_frame.specs.Laws.{AreOctets};
 ghost use Rattle.mux_frame.specs.Places.{from_flag};
 
 use crate::judge::Verdict;
+use crate::straight::append;
 use crate::write::FLAG;
 use circular_buffer::HeapCircularBuffer;
 use memchr::memchr;
@@ -269,9 +270,9 @@ pub(crate) fn take_in(octets: &mut HeapCircularBuffer<u8>, more: &[u8], n1: u16)
 {
     if octets.is_empty() {
         let (start, check_place) = searched(more, n1);
-        octets.fill_from_slice(&more[start..]);
+        append(octets, &more[start..]);
         return check_place;
     }
-    octets.fill_from_slice(more);
+    append(octets, more);
     settle(octets, 0, n1)
 }

@@ -15,6 +15,5 @@ pub invariant_of-result : goal.invariant_of-result
 unfolding next_in
 invariant_of-result c = rw c.in_ok-octets.ensures record {
   settled = search rules;
-  memory = search rules;
   at_hand = refl;
 }
