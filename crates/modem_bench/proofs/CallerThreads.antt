@@ -9,7 +9,7 @@ use Rattle.modem_desk.specs.Ends.{CallerView, Place, place_of}
 use Rattle.modem_sim.specs.declared.script.Script.{Script}
 use Rattle.modem_bench.specs.Asks.{asks_for}
 use Rattle.modem_bench.specs.Calling.{OpensAll, Stops, Works}
-use Rattle.modem_bench.specs.Running.{AllWork, AreBack, AreCalled, AreOut, ComesBack, IsBack, IsOut, OpensFirst, Ran, StopsFirst, Work}
+use Rattle.modem_bench.specs.Running.{AllWork, AreBack, AreCalled, AreOut, ComesBack, GoesOut, IsBack, IsOut, OpensFirst, Ran, StopsFirst, Work}
 use Rattle.modem_bench.specs.declared.calling.Worked.{Worked}
 use Rattle.modem_bench.specs.declared.signals.Fault.{Fault}
 use Rattle.modem_bench.specs.declared.submission.Submission.{Submission}
@@ -26,6 +26,12 @@ out_more all n (d ∷ cs) [] c h out is = absurd out
 out_more all n (d ∷ cs) (k ∷ hs) c h out is =
     let e : n + length (d ∷ cs) ≡ n + 1 + length cs = omega arith in
     (out.0, out_more all (n + 1) cs hs c h out.1 (subst (λ m. IsOut all m c h) e is))
+
+-- one more goes out, with what the submissions ask of it
+pub out_next : (all : List Submission) (n : ℕ) (cs : List CallerView) (hs ks : List Work) (c : CallerView) (asks : List Ask) → AreOut all n cs hs → asks ≡ asks_for (n + length cs) all → GoesOut c asks hs ks → AreOut all n (cs ++ c ∷ []) ks
+out_next all n cs hs ks c asks out same goes =
+    subst (AreOut all n (cs ++ c ∷ [])) (sym goes.items)
+    (out_more all n cs hs c goes.handle out (record { was = goes.was; asks = goes.asks_are ∙ same }))
 
 pub back_none : AreBack [] []
 unfolding AreBack
@@ -139,6 +145,11 @@ ok_on P R (Err e) f p = tt
 pub ok_both : {A E : Type 0} (P Q R : A → Type 0) (r : Result A E) → ((x : A) → P x → Q x → R x) → IfOk r P → IfOk r Q → IfOk r R
 ok_both P Q R (Ok x) f p q = f x p q
 ok_both P Q R (Err e) f p q = tt
+
+-- what was kept is handed back where nothing failed
+pub kept_ok : {A E : Type 0} (P : A → Type 0) (ended : Result (Unit {0}) E) (r : Result A E) (x : A) → OnOk ended (P x) → IfOk r (λ _. ended ≡ Ok tt) → IfOk r (λ y. y ≡ x) → IfOk r P
+kept_ok {A} {E} P ended (Ok y) x h done same = subst P (sym same) (subst (λ (s : Result (Unit {0}) E). OnOk s (P x)) done h)
+kept_ok P ended (Err e) x h done same = tt
 
 pub ran_many : (all : List Submission) (count cut : ℕ) (script : Script) (os : List (List Outcome)) → Ran all count cut script os → length os ≡ count
 ran_many all count cut script os h = h.ran.one_each ∙ h.fresh.many

@@ -4,3 +4,4 @@ pub mod JointLists
 pub mod OneLine
 pub mod Settlements
 pub mod Simulations
+pub mod StandStills

@@ -1,5 +1,5 @@
 -- The run of a bench: its session begins, goes on and is finished, and then its desk is settled.
-use Rattle.std.specs.Prelude.{◌≡◌, ℕ, zero, suc, replicate, true, List, [], ◌++◌, drop, length, map, nat_lt, refl, vec_items, slice_index_or, None, Result, Ok}
+use Rattle.std.specs.Prelude.{◌≡◌, ℕ, zero, suc, replicate, true, List, [], ◌++◌, drop, length, map, nat_lt, refl, vec_items, slice_index_or}
 use Rattle.std.specs.List.{list_all}
 use Rattle.std.proofs.Common.{ap, ◌∙◌, sym, subst}
 use Rattle.std.proofs.lemmas.List.{length-map}
@@ -13,21 +13,14 @@ use Rattle.modem_desk.specs.Ends.{AreSubscribed, CallerView, DeskId, DriverView,
 use Rattle.modem_history.specs.Acts.{after}
 use Rattle.modem_history.specs.Sessions.{EndView, LineView, at_place, taken_since}
 use Rattle.modem_driver.specs.Headline.{IsHeadline, IsSettled, Run}
-use Rattle.modem_driver.specs.Polls.{Polls, SessionGoesOn, end_in, waits_none, waits_once}
+use Rattle.modem_driver.specs.Polls.{SessionGoesOn}
 use Rattle.modem_driver.specs.SessionStates.{FitsAll, SessionState, beginning_of, end_of, session_view}
-use Rattle.modem_driver.specs.declared.session.polling.Progress.{Progress}
-use Rattle.modem_driver.specs.declared.session.polling.Progress.TheVariants as progress
 use Rattle.modem_driver.proofs.law_proofs.Headlines.{headline}
-use Rattle.modem_driver.proofs.sessions.polls.Polls.{goes_then}
-use Rattle.modem_driver.proofs.sessions.steps.TakenRequests.{takes_then}
 use Rattle.modem_sim.specs.Sims.{Sight, SimState}
-use Rattle.modem_bench.specs.Driving.{Advances, Continues, IsBegun, IsOver}
+use Rattle.modem_bench.specs.Driving.{Continues, IsBegun, IsOver}
 use Rattle.modem_bench.specs.Running.{AreCalled, RanFor}
 use Rattle.modem_bench.specs.Simulating.{IsSimulated}
 use Rattle.modem_bench.specs.declared.calling.Worked.{Worked}
-use Rattle.modem_bench.specs.declared.driving.Polled.{Polled}
-use Rattle.modem_bench.specs.declared.driving.Polled.TheVariants as polled
-use Rattle.modem_bench.specs.declared.signals.Fault.{Fault}
 use Rattle.modem_bench.specs.declared.submission.Submission.{Submission}
 use Rattle.modem_bench.proofs.CallerThreads.{called_long, lists_through}
 
@@ -51,36 +44,6 @@ module _ {X : Type 0} (look : X → LineView) where
     desk = ap end_of same;
     kinds = ap (λ (v : DriverView). v.desk.kinds) same;
   }
-
-  -- what a poll came to
-  pub said : (old new : SessionState X) (says : Result Polled Fault) (p q : Polled) → Advances look old new says → says ≡ Ok p → p ≡ q → Advances look old new (Ok q)
-  said old new says p q a first second = subst (λ (r : Result Polled Fault). Advances look old new r) (first ∙ ap (λ (x : Polled). Ok x) second) a
-
-  -- a poll of it gave Stopped
-  pub continues_at : (old new : SessionState X) → Advances look old new (Ok polled.Stopped) → Continues look old new
-  continues_at old new a = record {
-    mid = old;
-    waits = waits_none old;
-    stops = a.polled;
-    takes = a.takes;
-    goes = a.goes;
-  }
-
-  -- it stopped after a poll that gave no end
-  continues_behind : (s0 s1 s2 : SessionState X) (says : Result Polled Fault) (given : Progress) → Advances look s0 s1 says → Polls look s0 s1 given → end_in given ≡ None → Continues look s1 s2 → Continues look s0 s2
-  continues_behind s0 s1 s2 says given a polls none b = record {
-    mid = b.mid;
-    waits = waits_once s0 s1 b.mid given polls none b.waits;
-    stops = b.stops;
-    takes = takes_then s0.driver s1.driver s2.driver a.takes b.takes;
-    goes = goes_then look s0 s1 s2 a.goes b.goes;
-  }
-
-  pub continues_after_more : (s0 s1 s2 : SessionState X) → Advances look s0 s1 (Ok polled.More) → Continues look s1 s2 → Continues look s0 s2
-  continues_after_more s0 s1 s2 a b = continues_behind s0 s1 s2 (Ok polled.More) progress.More a a.polled refl b
-
-  pub continues_after_idle : (s0 s1 s2 : SessionState X) → Advances look s0 s1 (Ok polled.Idle) → Continues look s1 s2 → Continues look s0 s2
-  continues_after_idle s0 s1 s2 a b = continues_behind s0 s1 s2 (Ok polled.Idle) progress.Idle a a.polled refl b
 
   -- ## It is over
 

@@ -8,6 +8,7 @@ use Rattle.modem_sim.specs.declared.error.SimError.{SimError}
 use Rattle.modem_sim.specs.declared.sim.SimTurn.{SimTurn}
 use Rattle.modem_sim.specs.declared.sim.SimTurn.TheVariants as turn
 use Rattle.modem_bench.specs.declared.cause.Cause.{Cause}
+use Rattle.modem_bench.specs.declared.driving.Halt.{Halt}
 use Rattle.modem_bench.specs.declared.signals.Fault.{Fault}
 
 -- the fault for a session that fails: once its line has failed it only says so again
@@ -15,6 +16,12 @@ abbrev pub session_fault : SessionFault → Fault
 session_fault SessionFault.NoMemory = Fault.NoMemory
 session_fault SessionFault.Line = Fault.Line
 session_fault SessionFault.Failed = Fault.Line
+
+-- the fault for which a session's thread ends its bench
+abbrev pub halt_fault : Halt → Fault
+halt_fault (Halt.Told reason) = reason.fault
+halt_fault (Halt.Failed fault) = fault
+halt_fault (Halt.Limited cause) = Fault.GaveUp cause
 
 -- the fault for a simulated modem that fails; no turn of one refuses its N1
 abbrev pub sim_fault : SimError → Fault

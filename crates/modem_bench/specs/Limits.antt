@@ -2,14 +2,15 @@
 use Rattle.std.specs.Prelude.{ℕ, ◌==◌, nat_le, Option, None, Some, if◌then◌else◌}
 use Rattle.modem_bench.specs.declared.cause.Cause.{Cause}
 use Rattle.modem_bench.specs.declared.limit.Limit.{Limit}
+use Rattle.modem_bench.specs.declared.limit.Limits.{Limits}
 
--- how many of the last polls moved no octet, where the line has moved so many in all: none where the last one moved some
-abbrev pub quiet_at : Limit → (moved : ℕ) → ℕ
-quiet_at limit moved = if moved == limit.moved then limit.quiet else 0
+-- where no poll was made yet
+abbrev pub fresh_limit : Limits → Limit
+fresh_limit limits = record { left = limits.polls; quiet = 0; most = limits.still }
 
--- why no poll may be made then: none is left, or the last 600 moved no octet
-abbrev pub cause_at : Limit → (moved : ℕ) → Option Cause
-cause_at limit moved =
+-- why no poll may be made then: none is left, or as many in a row moved nothing as may
+abbrev pub cause_at : Limit → Option Cause
+cause_at limit =
     if limit.left == 0 then Some Cause.UsedUp
-    else if nat_le 600 (quiet_at limit moved) then Some Cause.Quiet
+    else if nat_le limit.most limit.quiet then Some Cause.Quiet
     else None

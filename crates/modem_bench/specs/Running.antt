@@ -2,6 +2,7 @@
 use Rattle.std.specs.Prelude.{◌≡◌, ℕ, ◌+◌, List, [], ◌∷◌, ◌++◌, length, map, Result}
 use Rattle.std.specs.declared.thread.PromisedHandle.{PromisedHandle}
 use Rattle.serial_line.specs.ThreadLine.{AreEnds, EndState, IsNew}
+use Rattle.modem_desk.specs.declared.request.Ask.{Ask}
 use Rattle.modem_desk.specs.declared.request.Outcome.{Outcome}
 use Rattle.modem_desk.specs.Ends.{CallerView, Each, IsFresh}
 use Rattle.modem_driver.specs.Headline.{Headline, IsSettled, Run}
@@ -26,6 +27,13 @@ Work = PromisedHandle (Result Worked Fault) HasWorked
 pub record IsOut (all : List Submission) (n : ℕ) (c : CallerView) (h : Work) : Type 0 where
   pub was : h.promise.was.value ≡ c
   pub asks : h.promise.asks.value.items ≡ asks_for n all
+
+-- a caller goes out in a thread, with these asks, behind those that are out
+pub record GoesOut (c : CallerView) (asks : List Ask) (old new : List Work) : Type 0 where
+  pub handle : Work
+  pub was : handle.promise.was.value ≡ c
+  pub asks_are : handle.promise.asks.value.items ≡ asks
+  pub items : new ≡ old ++ handle ∷ []
 
 -- the callers from this number on are out, each in the thread at its place
 unfoldable pub AreOut : List Submission → ℕ → List CallerView → List Work → Type 0

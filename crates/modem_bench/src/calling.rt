@@ -7,6 +7,7 @@ ghost use Rattle.modem_bench.specs.Faults.{opening_end, stop_end};
 ghost use Rattle.modem_bench.specs.declared.cause.Cause.TheVariants.{OtherOutcomes};
 
 use crate::cause::Cause;
+use crate::results::beside;
 use crate::signals::{Fault, Signals};
 use crate::submission::{Submission, names};
 use modem_desk::{Answer, Ask, Caller, Outcome};
@@ -126,24 +127,56 @@ fn answer_all(numbers: &[u64], outcomes: &[Outcome]) -> Result<(), Cause>
     Ok(())
 }
 
-/// Submits requests in order, taking outcomes where it is refused, and then takes outcomes until it has as many. Given up where
-/// these aren't theirs.
+/// Submits requests in order, taking outcomes where it is refused, and then takes outcomes until there are as many. Gives the
+/// requests' numbers.
+fn ask_all<R: Wait>(
+    rt: &R,
+    alloc: Global,
+    caller: &mut Caller,
+    asks: Vec<Ask>,
+    outcomes: &mut Vec<Outcome>,
+    signals: &Signals,
+) -> Result<Vec<u64>, Fault>
+    ensures { IfOk result (λ ns. Asks caller.old caller.new asks.items ns.items
+        outcomes.old.items outcomes.new.items) }
+{
+    let numbers = submit_all(rt, alloc, caller, asks, outcomes, signals)?;
+    take_all(rt, caller, numbers.len(), outcomes, signals)?;
+    Ok(numbers)
+}
+
+/// Submits requests in order, and takes as many outcomes, which it gives in the order of their numbers. Given up where these aren't
+/// those of the requests.
 fn work_on<R: Wait>(
     rt: &R,
     alloc: Global,
-    caller: Caller,
+    caller: &mut Caller,
     asks: Vec<Ask>,
     signals: &Signals,
-) -> Result<Worked, Fault>
-    ensures { IfOk result (λ w. Works caller w.caller asks.items w.outcomes.items) }
+) -> Result<Vec<Outcome>, Fault>
+    ensures { IfOk result (λ outcomes. Works caller.old caller.new asks.items outcomes.items) }
 {
-    let mut caller = caller;
     let mut outcomes = Vec::new(alloc);
-    let numbers = submit_all(rt, alloc, &mut caller, asks, &mut outcomes, signals)?;
-    take_all(rt, &mut caller, numbers.len(), &mut outcomes, signals)?;
+    let numbers = ask_all(rt, alloc, caller, asks, &mut outcomes, signals)?;
     let outcomes = in_order(outcomes);
     answer_all(numbers.as_slice(), outcomes.as_slice())?;
-    Ok(Worked { caller, outcomes })
+    Ok(outcomes)
+}
+
+/// As `work_on`. Where that fails, the bench is given up for all threads.
+fn work_or_give_up<R: Wait>(
+    rt: &R,
+    alloc: Global,
+    caller: &mut Caller,
+    asks: Vec<Ask>,
+    signals: &Signals,
+) -> Result<Vec<Outcome>, Fault>
+    ensures { IfOk result (λ outcomes. Works caller.old caller.new asks.items outcomes.items) }
+{
+    match work_on(rt, alloc, caller, asks, signals) {
+        Ok(outcomes) => Ok(outcomes),
+        Err(fault) => Err(signals.give_up(rt, fault).fault),
+    }
 }
 
 /// What a caller does in its thread.
@@ -156,10 +189,10 @@ pub fn work<R: Wait>(
 ) -> Result<Worked, Fault>
     ensures { IfOk result (λ w. Works caller w.caller asks.items w.outcomes.items) }
 {
-    match work_on(rt, alloc, caller, asks, &signals) {
-        Ok(worked) => Ok(worked),
-        Err(fault) => Err(signals.give_up(rt, fault).fault),
-    }
+    let mut caller = caller;
+    let told = work_or_give_up(rt, alloc, &mut caller, asks, &signals);
+    let (outcomes, caller) = beside(told, caller)?;
+    Ok(Worked { caller, outcomes })
 }
 
 /// Submits a request once it can be.

@@ -4,7 +4,8 @@ use mux_frame::Dlci;
 /// Why a bench was given up before it came to its end.
 #[derive(Clone, Copy, Debug)]
 pub enum Cause {
-    /// No octet moved on its line in 600 polls in a row.
+    /// Nothing moved in as many polls in a row as may move nothing: no octet on the line, no request, no outcome and no line at the
+    /// desk.
     Quiet,
     /// All polls that its session may make were made.
     UsedUp,

@@ -1,9 +1,11 @@
 //! The callers of a bench: each goes out into a thread of its own, works and comes back.
 ghost use Rattle.std.specs.Prelude.{◌≡◌, ◌≤◌, ◌<◌, ◌++◌, ◌∷◌, [], IfOk, OnOk, length};
+ghost use Rattle.modem_bench.specs.Asks.{asks_for};
 ghost use Rattle.modem_bench.specs.Calling.{Works};
-ghost use Rattle.modem_bench.specs.Running.{AllWork, AreBack, AreCalled, AreOut, ComesBack, OpensFirst, StopsFirst};
+ghost use Rattle.modem_bench.specs.Running.{AllWork, AreBack, AreCalled, AreOut, ComesBack, GoesOut, OpensFirst, StopsFirst};
 
 use crate::calling::{Worked, open_all, stop, work};
+use crate::results::beside;
 use crate::signals::{Fault, Signals};
 use crate::submission::{Submission, asks_for};
 use modem_desk::{Ask, Caller};
@@ -25,6 +27,19 @@ impl Promise<Result<Worked, Fault>> for HasWorked {
 }
 
 type Work = PromisedHandle<Result<Worked, Fault>, HasWorked>;
+
+/// What the caller of this number is to ask for, and its share of the signals.
+fn share_of(
+    alloc: Global,
+    submissions: &[Submission],
+    number: u8,
+    signals: &Signals,
+) -> Result<(Vec<Ask>, Signals), Fault>
+    ensures { IfOk result (λ r. r.0.items ≡ asks_for number submissions.now) }
+{
+    let theirs = signals.of_caller(number)?;
+    Ok(beside(asks_for(alloc, submissions, number), theirs)?)
+}
 
 /// Sends a caller out.
 fn send_one<R>(
@@ -51,33 +66,6 @@ where
     Ok(handle)
 }
 
-/// Sends all callers out, as far as there is memory.
-#[tactic(auto, using(crate::proofs::CallerThreads::out_none, crate::proofs::CallerThreads::out_more))]
-fn send_out<R>(
-    rt: &R,
-    alloc: Global,
-    callers: Vec<Caller>,
-    submissions: &[Submission],
-    signals: &Signals,
-    out: &mut Vec<Work>,
-) -> Result<(), Fault>
-where
-    R: Threads + Wait + Copy + Send + 'static,
-    requires few { length callers.items ≤ 8 }
-    requires none { out.old.items ≡ [] }
-    ensures { OnOk result (AreOut submissions.now 0 callers.items out.new.items) }
-{
-    let mut number = 0;
-    for caller in callers {
-        let asks = asks_for(alloc, submissions, number)?;
-        let theirs = signals.of_caller(number)?;
-        let handle = send_one(rt, alloc, caller, asks, theirs)?;
-        keep(rt, out, handle, signals)?;
-        number += 1;
-    }
-    Ok(())
-}
-
 /// Keeps the handle of a thread. Where there is no memory for it, the thread is waited for.
 fn keep<R: Threads + Wait>(
     rt: &R,
@@ -95,6 +83,50 @@ fn keep<R: Threads + Wait>(
             Err(fault)
         }
     }
+}
+
+/// Sends a caller out, and keeps the handle of its thread.
+fn send_next<R>(
+    rt: &R,
+    alloc: Global,
+    caller: Caller,
+    asks: Vec<Ask>,
+    theirs: Signals,
+    signals: &Signals,
+    out: &mut Vec<Work>,
+) -> Result<(), Fault>
+where
+    R: Threads + Wait + Copy + Send + 'static,
+    ensures { OnOk result (GoesOut caller asks.items out.old.items out.new.items) }
+{
+    let handle = send_one(rt, alloc, caller, asks, theirs)?;
+    keep(rt, out, handle, signals)
+}
+
+/// Sends all callers out, as far as there is memory.
+#[tactic(auto, using(crate::proofs::CallerThreads::out_none, crate::proofs::CallerThreads::out_next))]
+fn send_out<R>(
+    rt: &R,
+    alloc: Global,
+    callers: Vec<Caller>,
+    submissions: &[Submission],
+    signals: &Signals,
+    out: &mut Vec<Work>,
+) -> Result<(), Fault>
+where
+    R: Threads + Wait + Copy + Send + 'static,
+    requires few { length callers.items ≤ 8 }
+    requires none { out.old.items ≡ [] }
+    ensures { OnOk result (AreOut submissions.now 0 callers.items out.new.items) }
+{
+    let mut number = 0;
+    for caller in callers {
+        let share = share_of(alloc, submissions, number, signals);
+        let ((asks, theirs), caller) = beside(share, caller)?;
+        send_next(rt, alloc, caller, asks, theirs, signals, out)?;
+        number += 1;
+    }
+    Ok(())
 }
 
 /// Waits for a caller.

@@ -7,7 +7,7 @@ ghost use Rattle.modem_bench.specs.Driving.{IsBegun};
 ghost use Rattle.modem_bench.specs.Running.{AreFresh, IsLine};
 ghost use Rattle.modem_bench.specs.Simulating.{IsStarted};
 
-use crate::results::beside;
+use crate::results::{beside, both};
 use crate::ringing_line::RingingLine;
 use crate::signals::{Fault, Signals};
 use bell::Bell;
@@ -110,8 +110,9 @@ pub fn begin<L: SerialLine + Drop, R: Wait + Drop + Copy>(
 {
     let (driver, callers, listeners) = open_desk(alloc, callers, &signals.bells().driver)?;
     let (near, far) = line;
-    let session = make_session(*rt, alloc, near, driver)?;
-    let (sim, session) = beside(make_sim(alloc, far, script), session)?;
+    let session = make_session(*rt, alloc, near, driver);
+    let sim = make_sim(alloc, far, script);
+    let ((session, sim), (callers, listeners)) = beside(both(session, sim), (callers, listeners))?;
     Ok(Ends {
         session,
         sim,

@@ -22,8 +22,9 @@ mod submission;
 mod threads;
 
 pub use cause::Cause;
+pub use limit::Limits;
 pub use meeting::{Meeting, meet};
 pub use rounds::{Rest, run_in_rounds};
-pub use running::{run_bench, run_bench_within};
+pub use running::{run_bench, run_bench_limited, run_bench_within};
 pub use signals::Fault;
 pub use submission::Submission;

@@ -1,51 +1,76 @@
 //! How long a bench goes on.
 ghost use Rattle.std.specs.Prelude.{◌≡◌, ◌+◌, None, Some, IfErr, OnErr, OnOk};
-ghost use Rattle.modem_bench.specs.Limits.{cause_at, quiet_at};
+ghost use Rattle.modem_bench.specs.Limits.{cause_at, fresh_limit};
 
 use crate::cause::Cause;
 
-/// In how many polls in a row no octet may move. Behind each of them the driver waits a tenth of a second where nobody rings: so a
-/// bench that stands still is given up after a minute.
-const QUIET_POLLS: u32 = 600;
+/// How long a bench may go on.
+#[derive(Clone, Copy)]
+pub struct Limits {
+    /// How many polls its session may make.
+    pub polls: u32,
+    /// How many polls in a row may move nothing.
+    pub still: u32,
+}
 
-/// How many polls a session has left, and how many in a row moved no octet, the next one counted as one that moves none.
+impl Limits {
+    /// So many polls, of which 600 in a row may move nothing. Behind a poll that moved nothing the driver waits until it is rung, or
+    /// for a tenth of a second. So a bench in which nothing moves any more is given up after a minute. A bench that works never gets
+    /// there: between two polls that move something callers and modem ring a few hundred times at most, since the room for what
+    /// they ring for is used up then.
+    pub fn of_polls(polls: u32) -> Limits
+        ensures { result ≡ record { polls = polls; still = 600 } }
+    {
+        Limits { polls, still: 600 }
+    }
+}
+
+/// How many polls a session has left, how many in a row moved nothing, the one under way counted as one that moves nothing, and how
+/// many in a row may.
 #[derive(Drop)]
 pub struct Limit {
     left: u32,
     quiet: u32,
-    moved: u64,
+    most: u32,
 }
 
 impl Limit {
-    /// So many polls, of a session whose line has moved nothing yet.
-    pub fn new(polls: u32) -> Limit {
+    /// That of a session which has made no poll yet.
+    pub fn new(limits: Limits) -> Limit
+        ensures { result ≡ fresh_limit limits }
+    {
         Limit {
-            left: polls,
+            left: limits.polls,
             quiet: 0,
-            moved: 0,
+            most: limits.still,
         }
     }
 
-    /// Counts a poll that is to be made, before which the line had moved so many octets. Refused with UsedUp where no poll is
-    /// left, checked first, and with Quiet where the last 600 moved no octet.
-    pub fn count(&mut self, moved: u64) -> Result<(), Cause>
-        ensures may { OnOk result (cause_at self.old moved ≡ None) }
+    /// Counts a poll that is to be made. Refused with UsedUp where no poll is left, checked first, and with Quiet where as many in a
+    /// row moved nothing as may.
+    pub fn count(&mut self) -> Result<(), Cause>
+        ensures may { OnOk result (cause_at self.old ≡ None) }
         ensures left { OnOk result (self.new.left + 1 ≡ self.old.left) }
-        ensures quiet { OnOk result (self.new.quiet ≡ quiet_at self.old moved + 1) }
-        ensures moved { OnOk result (self.new.moved ≡ moved) }
-        ensures refused { IfErr result (λ cause. cause_at self.old moved ≡ Some cause) }
-        ensures still { OnErr result (self.new ≡ self.old) }
+        ensures quiet { OnOk result (self.new.quiet ≡ self.old.quiet + 1) }
+        ensures most { OnOk result (self.new.most ≡ self.old.most) }
+        ensures refused { IfErr result (λ cause. cause_at self.old ≡ Some cause) }
+        ensures same { OnErr result (self.new ≡ self.old) }
     {
-        let quiet = if moved == self.moved { self.quiet } else { 0 };
         if self.left == 0 {
             return Err(Cause::UsedUp);
         }
-        if quiet >= QUIET_POLLS {
+        if self.quiet >= self.most {
             return Err(Cause::Quiet);
         }
         self.left -= 1;
-        self.quiet = quiet + 1;
-        self.moved = moved;
+        self.quiet += 1;
         Ok(())
+    }
+
+    /// The poll under way moved something.
+    pub fn moved(&mut self)
+        ensures { self.new ≡ record self.old { quiet = 0 } }
+    {
+        self.quiet = 0;
     }
 }

@@ -16,6 +16,18 @@ pub fn beside<A: Drop, K: Drop, E: Drop>(made: Result<A, E>, kept: K) -> Result<
     }
 }
 
+/// What was kept meanwhile, unless something failed. Generic for the same reason.
+pub fn unless_failed<K: Drop, E: Drop>(ended: Result<(), E>, kept: K) -> Result<K, E>
+    ensures ended { IfOk result (λ _. ended ≡ Ok tt) }
+    ensures kept { IfOk result (λ r. r ≡ kept) }
+    ensures refused { IfErr result (λ e. ended ≡ Err e) }
+{
+    match ended {
+        Ok(()) => Ok(kept),
+        Err(error) => Err(error),
+    }
+}
+
 /// The results of two threads, unless one failed.
 pub fn both<A: Drop, B: Drop>(
     first: Result<A, Fault>,

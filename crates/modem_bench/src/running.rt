@@ -7,6 +7,8 @@ ghost use Rattle.modem_bench.specs.Driving.{IsBegun};
 ghost use Rattle.modem_bench.specs.Running.{Ran, RanFor};
 
 use crate::ends::{Ends, begin, make_line};
+use crate::limit::Limits;
+use crate::results::beside;
 use crate::ringing_line::CountedLine;
 use crate::settling::settle_run;
 use crate::signals::{Fault, Signals};
@@ -29,7 +31,7 @@ fn run_threads<L, R>(
     ends: Ends<L, R>,
     submissions: &[Submission],
     signals: &Signals,
-    polls: u32,
+    limits: Limits,
 ) -> Result<Vec<Vec<Outcome>>, Fault>
 where
     L: SerialLine + CountedLine + Drop + Send + 'static,
@@ -57,9 +59,30 @@ where
         callers,
         submissions,
         signals,
-        polls,
+        limits,
     )?;
     settle_run(rt, alloc, session, back, listeners)
+}
+
+/// Makes the line, begins at its two ends, and runs all.
+fn run_signalled<R>(
+    rt: &R,
+    alloc: Global,
+    submissions: &[Submission],
+    callers: u8,
+    cut: usize,
+    script: Script,
+    signals: &Signals,
+    limits: Limits,
+) -> Result<Vec<Vec<Outcome>>, Fault>
+where
+    R: Threads + Wait + Copy + Send + Drop + 'static,
+    requires { (1 ≤ callers) × (callers ≤ 8) }
+    ensures { IfOk result (λ outcomes. Ran submissions.now callers cut script (map vec_items outcomes.items)) }
+{
+    let (line, script) = beside(make_line(alloc, cut, signals), script)?;
+    let ends = begin(rt, alloc, callers, line, script, signals)?;
+    run_threads(rt, alloc, ends, submissions, signals, limits)
 }
 
 /// Runs a bench, and gives what each caller was told for each thing that the submissions ask of it, in their order.
@@ -81,9 +104,7 @@ where
     run_bench_within(rt, alloc, submissions, callers, cut, script, POLLS)
 }
 
-/// As `run_bench`, but gives the bench up after this many polls of its session. The limit counts every poll. Few are made where
-/// nothing happens: behind a poll after which there is nothing to do, the driver waits until it is rung, or for a tenth of a second.
-/// The bench is also given up after 600 polls in a row in which no octet moved on the line, whatever the limit.
+/// As `run_bench`, but gives the bench up after this many polls of its session, or after 600 polls in a row that moved nothing.
 pub fn run_bench_within<R>(
     rt: &R,
     alloc: Global,
@@ -98,8 +119,26 @@ where
     requires { (1 ≤ callers) × (callers ≤ 8) }
     ensures { IfOk result (λ outcomes. Ran submissions.now callers cut script (map vec_items outcomes.items)) }
 {
-    let signals = Signals::new(alloc, callers)?;
-    let line = make_line(alloc, cut, &signals)?;
-    let ends = begin(rt, alloc, callers, line, script, &signals)?;
-    run_threads(rt, alloc, ends, submissions, &signals, polls)
+    run_bench_limited(rt, alloc, submissions, callers, cut, script, Limits::of_polls(polls))
+}
+
+/// As `run_bench`, within these limits. Every poll of its session counts. One that moves an octet on the line, takes a request, tells
+/// an outcome or announces a line begins the count of those that move nothing anew. Few are made where nothing happens: behind a poll
+/// that leaves nothing to do the driver waits until it is rung, or for a tenth of a second.
+pub fn run_bench_limited<R>(
+    rt: &R,
+    alloc: Global,
+    submissions: &[Submission],
+    callers: u8,
+    cut: usize,
+    script: Script,
+    limits: Limits,
+) -> Result<Vec<Vec<Outcome>>, Fault>
+where
+    R: Threads + Wait + Copy + Send + Drop + 'static,
+    requires { (1 ≤ callers) × (callers ≤ 8) }
+    ensures { IfOk result (λ outcomes. Ran submissions.now callers cut script (map vec_items outcomes.items)) }
+{
+    let (signals, script) = beside(Signals::new(alloc, callers), script)?;
+    run_signalled(rt, alloc, submissions, callers, cut, script, &signals, limits)
 }

@@ -63,6 +63,21 @@ fn simulate_on<L: SerialLine + CountedLine, R: Wait>(
     unreachable!()
 }
 
+/// As `simulate_on`. Where that fails, the bench is given up for all threads.
+fn simulate_or_give_up<L: SerialLine + CountedLine, R: Wait>(
+    rt: &R,
+    sim: &mut Sim<L>,
+    signals: &Signals,
+) -> Result<(), Fault>
+    ensures { OnOk result
+        (IsSimulated (sight L.received L.sent L.calls L.failures L.empty_reads L.stalled_writes) sim.old) }
+{
+    match simulate_on(rt, sim, signals) {
+        Ok(()) => Ok(()),
+        Err(fault) => Err(signals.give_up(rt, fault).fault),
+    }
+}
+
 /// What the simulated modem does in its thread.
 pub fn simulate<L: SerialLine + CountedLine + Drop, R: Wait>(
     rt: &R,
@@ -73,10 +88,7 @@ pub fn simulate<L: SerialLine + CountedLine + Drop, R: Wait>(
         (IsSimulated (sight L.received L.sent L.calls L.failures L.empty_reads L.stalled_writes) sim) }
 {
     let mut sim = sim;
-    match simulate_on(rt, &mut sim, &signals) {
-        Ok(()) => Ok(()),
-        Err(fault) => Err(signals.give_up(rt, fault).fault),
-    }
+    simulate_or_give_up(rt, &mut sim, &signals)
 }
 
 /// The end of this simulated modem.

@@ -9,6 +9,7 @@ ghost use Rattle.modem_bench.specs.Simulating.{IsSimulated};
 use crate::calling::Worked;
 use crate::crew::call;
 use crate::driving::{Later, drive};
+use crate::limit::Limits;
 use crate::results::{beside, both, spawned};
 use crate::ringing_line::CountedLine;
 use crate::signals::{Fault, Signals};
@@ -72,7 +73,7 @@ fn send_driver<L, R>(
     rt: &R,
     session: Session<L, R>,
     signals: &Signals,
-    polls: u32,
+    limits: Limits,
 ) -> Result<PromisedHandle<Result<Session<L, R>, Fault>, Later<L, R>>, Fault>
 where
     L: SerialLine + CountedLine + Drop + Send + 'static,
@@ -82,7 +83,7 @@ where
     let (theirs, session) = beside(signals.of_driver(), session)?;
     let own = *rt;
     let promise = Later(Snapshot::of(&session));
-    spawned(thread::spawn_with(rt, promise, move || drive(&own, session, theirs, polls)))
+    spawned(thread::spawn_with(rt, promise, move || drive(&own, session, theirs, limits)))
 }
 
 /// Runs callers, driver and simulated modem in their threads.
@@ -94,7 +95,7 @@ pub fn run_beside<L, R>(
     callers: Vec<Caller>,
     submissions: &[Submission],
     signals: &Signals,
-    polls: u32,
+    limits: Limits,
 ) -> Result<(Session<L, R>, Vec<Worked>), Fault>
 where
     L: SerialLine + CountedLine + Drop + Send + 'static,
@@ -106,7 +107,7 @@ where
     ensures simulated { OnOk result
         (IsSimulated (sight L.received L.sent L.calls L.failures L.empty_reads L.stalled_writes) sim) }
 {
-    let (driving, sim) = beside(send_driver(rt, session, signals, polls), sim)?;
+    let (driving, sim) = beside(send_driver(rt, session, signals, limits), sim)?;
     let called = call_modem(rt, alloc, sim, callers, submissions, signals);
     if let Err(fault) = &called {
         signals.give_up(rt, *fault);

@@ -1,12 +1,15 @@
 -- The line, and what stands at its two ends.
-use Rattle.std.proofs.Common.{map}
+use Rattle.std.proofs.Common.{map, subst}
 use Rattle.std.specs.Prelude.{vec_items}
 use Rattle.std.specs.declared.alloc.Global.{Global}
 use Rattle.std.specs.declared.vec.Vec.{Vec}
+use Rattle.serial_line.specs.ThreadLine.{EndState}
 use Rattle.modem_desk.specs.declared.request.Outcome.{Outcome}
-use Rattle.modem_bench.specs.Running.{Ran, RanFor, look_at, sight_of}
-use Rattle.modem_bench.proofs.CallerThreads.{ok_on}
-use Rattle.modem_bench.proofs.running.run_bench_within.Goals as goal
+use Rattle.modem_sim.specs.declared.script.Script.{Script}
+use Rattle.modem_bench.specs.Running.{IsLine, Ran, RanFor, look_at, sight_of}
+use Rattle.modem_bench.specs.Simulating.{IsStarted}
+use Rattle.modem_bench.proofs.CallerThreads.{known_ok, ok_on}
+use Rattle.modem_bench.proofs.running.run_signalled.Goals as goal
 
 pub returns : goal.returns
 returns g c =
@@ -17,11 +20,11 @@ returns g c =
     (λ os ran. record {
       near = c.in_ok-line.line.0;
       far = c.in_ok-line.line.1;
-      line = c.in_ok-line.ensures;
+      line = known_ok (λ (r : EndState × EndState). IsLine c.args.cut r.0 r.1) c.make_line.result c.in_ok-line.line c.in_ok-line.ensures.made c.make_line.ensures;
       session = ends.session;
       at_line = c.in_ok-ends.ensures.at_line;
       sim = ends.sim;
-      started = c.in_ok-ends.ensures.started;
+      started = subst (λ (s : Script). IsStarted sight_of c.in_ok-line.line.1 s ends.sim) c.in_ok-line.ensures.kept c.in_ok-ends.ensures.started;
       callers = ends.callers.items;
       fresh = c.in_ok-ends.ensures.many;
       ran = ran;

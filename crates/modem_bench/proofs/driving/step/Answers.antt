@@ -1,0 +1,26 @@
+-- A poll that was counted: what it moved, or that it failed.
+use Rattle.std.proofs.Common.{◌∙◌, ap, subst, sym}
+use Rattle.modem_driver.specs.SessionStates.{line_by}
+use Rattle.modem_bench.specs.Driving.{Advances, Steps}
+use Rattle.modem_bench.specs.declared.driving.Halt.TheVariants as halt
+use Rattle.std.specs.Prelude.{Err, Ok, Option}
+use Rattle.modem_driver.specs.declared.session.polling.Progress.{Progress}
+use Rattle.modem_bench.specs.declared.signals.Fault.{Fault}
+use Rattle.modem_bench.proofs.StandStills.{steps_fails, steps_moved}
+use Rattle.modem_bench.proofs.driving.step.Goals as goal
+
+pub returns-in-Ok-Some : goal.returns-in-Ok-Some
+returns-in-Ok-Some g c =
+    let look = line_by g.L.SerialLine.received g.L.SerialLine.sent g.L.SerialLine.calls g.L.SerialLine.failures g.L.SerialLine.empty_reads g.L.SerialLine.stalled_writes in
+    let old = c.args.session.now in
+    let new = c.poll.new.session in
+    steps_moved look old new c.args.limit.now c.may_poll.new.limit c.moved.new.self c.in-Ok-Some.progress c.went_on.result
+    (subst (Advances look old new) (c.in-Ok-Some.is ∙ ap (λ (o : Option Progress). Ok o) c.in-Ok-Some.field-0-is) c.poll.ensures) c.in_ok-may_poll.ensures.counted c.moved.ensures c.went_on.ensures
+
+pub returns-in-Err : goal.returns-in-Err
+returns-in-Err g c =
+    let look = line_by g.L.SerialLine.received g.L.SerialLine.sent g.L.SerialLine.calls g.L.SerialLine.failures g.L.SerialLine.empty_reads g.L.SerialLine.stalled_writes in
+    let old = c.args.session.now in
+    let new = c.poll.new.session in
+    let fails = steps_fails look old new c.args.limit.now c.may_poll.new.limit c.in-Err.fault (subst (Advances look old new) c.in-Err.is c.poll.ensures) in
+    subst (λ (f : Fault). Steps look old new c.args.limit.now c.may_poll.new.limit (Err (halt.Failed f))) (sym c.fault_of.ensures) fails
