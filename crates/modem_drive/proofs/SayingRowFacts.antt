@@ -65,7 +65,7 @@ cr_is_bad = record {
   fault = inr (record { number = 1; carries = omega arith; known = omega arith; word_is = refl }, inl (refused_cr (codes "AT\r") refl, refl));
 }
 
-text_is : bad_text 2 Carrier ≡ codes "bad line 2: a connection is 1 to 61, without leading zeros\n"
+text_is : bad_text 2 Carrier ≡ codes "bad line 2\na connection is 1 to 61, without leading zeros\n"
 unfolding digits
 text_is = refl
 

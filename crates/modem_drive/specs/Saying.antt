@@ -1,7 +1,7 @@
 -- What a drive says beside its output: which lines of the input are bad, what is left undone, and why it ended.
 use Rattle.std.specs.Prelude.{◌≡◌, ◌≢◌, ◌⊎◌, ℕ, ◌+◌, ◌==◌, Bool, true, false, List, [], ◌∷◌, ◌++◌, Option, Some, IfSome, codes, map, if◌then◌else◌}
 use Rattle.std.specs.Fmt.{debug_str, decimal}
-use Rattle.modem_texts.specs.LineFaults.{CommandFault, reason_text}
+use Rattle.modem_texts.specs.LineFaults.{CommandFault, bad_line, reason_line}
 use Rattle.modem_texts.specs.Words.{IsCommand, IsNoCommand}
 use Rattle.modem_texts.specs.Writing.{IsBegun}
 use Rattle.modem_texts.specs.declared.line_fault.LineFault.{LineFault}
@@ -49,9 +49,9 @@ abbrev pub is_any : List BadLine → Bool
 is_any [] = false
 is_any (line ∷ more) = true
 
--- `bad line N: REASON`
+-- `bad line N`, and on a second line what has to stand there
 abbrev pub bad_text : (place : ℕ) → LineFault → List ℕ
-bad_text place why = codes "bad line " ++ decimal place ++ reason_text why ++ 10 ∷ []
+bad_text place why = bad_line (decimal place) ++ reason_line [] why
 
 abbrev pub bad_texts : List BadLine → List (List ℕ)
 bad_texts bad = map (λ (line : BadLine). bad_text line.place line.why) bad

@@ -19,7 +19,7 @@ pub record AreWorked : Type 0 where
   pub empty_line : AreBad (input_lines (codes "\nx")) (bad_at 2 Carrier [])
   pub cr_before_lf : AreBad (input_lines (codes "1 AT\r\n")) []
   pub cr_alone : AreBad (input_lines (codes "1 AT\r")) (bad_at 1 Command [])
-  pub text : bad_text 2 Carrier ≡ codes "bad line 2: a connection is 1 to 61, without leading zeros\n"
+  pub text : bad_text 2 Carrier ≡ codes "bad line 2\na connection is 1 to 61, without leading zeros\n"
 
 -- and these aren't
 pub record AreRefused : Type 0 where

@@ -9,7 +9,7 @@ ghost use Rattle.modem_drive.specs.Saying.{AreSaid, SaysFault, bad_text, left_te
 use crate::fault::DriveFault;
 use crate::running::Driven;
 use itoa::Buffer;
-use modem_texts::{LineFault, say_line};
+use modem_texts::{LineFault, say_bad_line, say_line};
 use std::alloc::Global;
 use std::fmt;
 use std::fmt::Write as _;
@@ -25,12 +25,12 @@ pub struct Paths<'a> {
     pub capture: &'a str,
 }
 
-/// Names a bad line by its place, counted from 1, and its first part that isn't as it must be.
+/// Names a bad line by its place, counted from 1, and on a second line its first part that isn't as it must be.
 pub fn name_bad<E: Write>(faults: &mut E, place: u64, why: LineFault)
     ensures { IsBegun (E.contents faults.old) (E.contents faults.new) (bad_text place why) }
 {
     let mut digits = Buffer::new();
-    say_line(faults, "bad line ", digits.format(place), why.reason());
+    say_bad_line(faults, digits.format(place), "", why);
 }
 
 /// Says how many requests were left, if any were.

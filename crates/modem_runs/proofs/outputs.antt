@@ -1,4 +1,5 @@
 -- What the program shows.
 pub mod RunEnds
+pub mod SaidLines
 pub mod ShownOutcomes
 pub mod StoppedRuns

@@ -1,25 +1,25 @@
 -- How a run ends without its whole output: for which cause, what stands on the output then, and what is said beside it.
-use Rattle.std.specs.Prelude.{◌≡◌, ◌≢◌, ◌⊎◌, ◌<◌, ℕ, List, ◌++◌, Option, IfSome}
+use Rattle.std.specs.Prelude.{◌≡◌, ◌≢◌, ◌⊎◌, ◌<◌, ℕ, Bool, List, Option, IfSome}
 use Rattle.modem_runs.specs.Bench.{IsNoSubmission}
 use Rattle.modem_texts.specs.Input.{input_lines}
 use Rattle.modem_texts.specs.Writing.{IsBegun}
 use Rattle.modem_texts.specs.declared.line_fault.LineFault.{LineFault}
 use Rattle.modem_runs.specs.Input.{IsFirstBad}
 use Rattle.modem_runs.specs.LineFaults.{SubmissionFault}
-use Rattle.modem_runs.specs.Statuses.{status_of, stop_line}
+use Rattle.modem_runs.specs.Statuses.{status_of, stop_lines}
 use Rattle.modem_runs.specs.declared.stop.Stop.{Stop}
 
 -- The run gave up for this cause, with the cause's status. Nothing was written to the output, unless that failed. What is said
--- of the cause, or a beginning of it, stands beside the output.
-pub record GivesUp {O : Type 0} (old new : O) (before after : Option (List ℕ)) (status : ℕ) (stop : Stop) : Type 0 where
+-- of the cause, with the reason where it is to be explained, or a beginning of that, stands beside the output.
+pub record GivesUp {O : Type 0} (explained : Bool) (old new : O) (before after : Option (List ℕ)) (status : ℕ) (stop : Stop) : Type 0 where
   pub has_status : status ≡ status_of stop
   pub nothing : stop ≢ Stop.Output → new ≡ old
-  pub said : IsBegun before after (stop_line stop)
+  pub said : IsBegun before after (stop_lines explained stop)
 
 -- the run gave up for one of the causes that there are
-pub record HasGivenUp {O : Type 0} (old new : O) (before after : Option (List ℕ)) (status : ℕ) : Type 0 where
+pub record HasGivenUp {O : Type 0} (explained : Bool) (old new : O) (before after : Option (List ℕ)) (status : ℕ) : Type 0 where
   pub stop : Stop
-  pub gives_up : GivesUp old new before after status stop
+  pub gives_up : GivesUp explained old new before after status stop
 
 -- this was made of the input, where that is known, and a beginning of it stands on the output
 pub record IsBegunOf (Makes : List ℕ → List ℕ → Type 0) (input before after : Option (List ℕ)) : Type 0 where
@@ -29,10 +29,10 @@ pub record IsBegunOf (Makes : List ℕ → List ℕ → Type 0) (input before af
 
 -- for a cause that is one of the input, the settings or the writers; where the output failed, a beginning of what was to be written
 -- stands on it, and nothing else
-pub record HasStopped {O : Type 0} (Makes : List ℕ → List ℕ → Type 0) (IsCause : Stop → Type 0) (input : Option (List ℕ)) (contents : O → Option (List ℕ)) (old new : O) (before after : Option (List ℕ)) (status : ℕ) :
+pub record HasStopped {O : Type 0} (explained : Bool) (Makes : List ℕ → List ℕ → Type 0) (IsCause : Stop → Type 0) (input : Option (List ℕ)) (contents : O → Option (List ℕ)) (old new : O) (before after : Option (List ℕ)) (status : ℕ) :
     Type 0 where
   pub stop : Stop
-  pub gives_up : GivesUp old new before after status stop
+  pub gives_up : GivesUp explained old new before after status stop
   pub cause : IsCause stop
   pub begun : stop ≡ Stop.Output → IsBegunOf Makes input (contents old) (contents new)
 

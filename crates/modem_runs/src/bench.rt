@@ -1,7 +1,7 @@
 //! `bench`: callers, the driver and a simulated modem, in threads of their own.
 ghost use Rattle.std.specs.Prelude.{◌≡◌, ◌≢◌, ℕ, ◌≤◌, ◌<◌, ◌⊎◌, Err, IfOk, IfSome, IsErrOf, false, true};
 ghost use Rattle.std.specs.String.{string_bytes};
-ghost use Rattle.modem_runs.specs.Bench.{IsNoSubmission};
+ghost use Rattle.modem_runs.specs.Bench.{AreSubmitted, IsNoSubmission};
 ghost use Rattle.modem_texts.specs.Input.{input_lines};
 ghost use Rattle.modem_runs.specs.Input.{HasBad, IsFirstBad};
 ghost use Rattle.modem_runs.specs.LineFaults.{SubmissionFault};
@@ -16,8 +16,8 @@ mod submissions;
 
 use crate::input::read_whole;
 use crate::stop::Stop;
-use crate::writing::{finish, give_up};
-use modem_bench::{Fault, run_bench};
+use crate::writing::{finish, give_up_explained};
+use modem_bench::{Fault, Submission, run_bench};
 use modem_sim::Script;
 use showing::outcomes_text;
 use std::alloc::{AllocGlobal, Global};
@@ -42,6 +42,23 @@ impl From<Fault> for Stop {
     }
 }
 
+/// What the lines of an input submit.
+fn submitted<I: Read>(alloc: Global, input: &mut I, callers: u8) -> Result<Vec<Submission>, Stop>
+    requires { callers ≤ 8 }
+    ensures ok { IfOk result
+        (λ all. IfSome (I.remaining input.old) (λ text. AreSubmitted callers (input_lines text) all.items)) }
+    ensures bad_line { (place : ℕ) (why : LineFault) → IsErrOf result (Stop.BadLine place why)
+        → IfSome (I.remaining input.old)
+        (λ text. IsFirstBad (IsNoSubmission callers) (SubmissionFault callers) (input_lines text) place why) }
+    ensures others { (result ≢ Err Stop.BadN1) × (result ≢ Err Stop.BadCallers) × (result ≢ Err Stop.BadCut)
+        × ((fault : DialectFault) → result ≢ Err (Stop.Dialect fault)) }
+    ensures no_output { result ≢ Err Stop.Output }
+{
+    let text = read_whole(alloc, input)?;
+    let submissions = read_submissions(alloc, callers, text.as_slice())?;
+    Ok(submissions)
+}
+
 /// What the callers of a bench were told, as text.
 fn benched<R, I: Read>(
     rt: &R,
@@ -63,8 +80,7 @@ where
         × ((fault : DialectFault) → result ≢ Err (Stop.Dialect fault)) }
     ensures no_output { result ≢ Err Stop.Output }
 {
-    let text = read_whole(alloc, input)?;
-    let submissions = read_submissions(alloc, callers, text.as_slice())?;
+    let submissions = submitted(alloc, input, callers)?;
     let outcomes = run_bench(rt, alloc, submissions.as_slice(), callers, cut, script)?;
     let text = outcomes_text(alloc, outcomes.as_slice())?;
     Ok(text)
@@ -84,6 +100,47 @@ fn takes_cut(cut: usize) -> bool
     ensures bad { result ≡ false → (cut < 1) ⊎ (4096 < cut) }
 {
     (1..=4096).contains(&cut)
+}
+
+/// As `bench_run`. Where the run is to be explained, a second line on `faults` has the reason, if there is more to say.
+pub fn bench_run_explained<R, I: Read, W: Write, E: Write>(
+    rt: &R,
+    alloc: Global,
+    input: &mut I,
+    output: &mut W,
+    faults: &mut E,
+    callers: u8,
+    cut: usize,
+    script: Script,
+    explained: bool,
+) -> u8
+where
+    R: Threads + Wait + RandomSource + AllocGlobal + Copy + Send + Drop + 'static,
+    ensures status { result ≤ 2 }
+    ensures done { result ≡ 0
+        → IsPrinted (IsBenched callers cut script) (I.remaining input.old) (W.contents output.old)
+        (W.contents output.new) }
+    ensures stopped { result ≢ 0
+        → HasStopped explained (IsBenched callers cut script) (IsBenchStop callers cut (I.remaining input.old))
+        (I.remaining input.old) W.contents output.old output.new (E.contents faults.old) (E.contents faults.new)
+        result }
+    ensures nothing { result ≡ 1 → HasGivenUp explained output.old output.new (E.contents faults.old)
+        (E.contents faults.new) result }
+    ensures refused { result ≡ 2
+        → IsNoBench callers cut
+        ⊎ IfSome (I.remaining input.old) (λ text. HasBad (IsNoSubmission callers) (SubmissionFault callers) (input_lines text)) }
+    ensures bad { result ≡ 2 → output.new ≡ output.old }
+    ensures no_bench { IsNoBench callers cut → (result ≡ 2) × (input.new ≡ input.old) }
+    ensures silent { result ≡ 0 → faults.new ≡ faults.old }
+{
+    if !takes_callers(callers) {
+        return give_up_explained(faults, Stop::BadCallers, explained);
+    }
+    if !takes_cut(cut) {
+        return give_up_explained(faults, Stop::BadCut, explained);
+    }
+    let built = benched(rt, alloc, input, callers, cut, script);
+    finish(output, faults, built, explained)
 }
 
 /// Runs a bench: submits the lines of `input`, each caller in a thread of its own, to a driver whose line has room for
@@ -107,10 +164,10 @@ where
         → IsPrinted (IsBenched callers cut script) (I.remaining input.old) (W.contents output.old)
         (W.contents output.new) }
     ensures stopped { result ≢ 0
-        → HasStopped (IsBenched callers cut script) (IsBenchStop callers cut (I.remaining input.old))
+        → HasStopped false (IsBenched callers cut script) (IsBenchStop callers cut (I.remaining input.old))
         (I.remaining input.old) W.contents output.old output.new (E.contents faults.old) (E.contents faults.new)
         result }
-    ensures nothing { result ≡ 1 → HasGivenUp output.old output.new (E.contents faults.old)
+    ensures nothing { result ≡ 1 → HasGivenUp false output.old output.new (E.contents faults.old)
         (E.contents faults.new) result }
     ensures refused { result ≡ 2
         → IsNoBench callers cut
@@ -119,12 +176,7 @@ where
     ensures no_bench { IsNoBench callers cut → (result ≡ 2) × (input.new ≡ input.old) }
     ensures silent { result ≡ 0 → faults.new ≡ faults.old }
 {
-    if !takes_callers(callers) {
-        return give_up(faults, Stop::BadCallers);
-    }
-    if !takes_cut(cut) {
-        return give_up(faults, Stop::BadCut);
-    }
-    let built = benched(rt, alloc, input, callers, cut, script);
-    finish(output, faults, built)
+    bench_run_explained(
+        rt, alloc, input, output, faults, callers, cut, script, false,
+    )
 }

@@ -1,5 +1,5 @@
 //! A replay at a modem with codes of its own.
-ghost use Rattle.std.specs.Prelude.{◌≡◌, ◌≢◌, ℕ, ◌≤◌, ◌<◌, ◌⊎◌, map, Err, IfErr, IfOk, IfSome, IsErrOf};
+ghost use Rattle.std.specs.Prelude.{◌≡◌, ◌≢◌, ℕ, ◌≤◌, ◌<◌, ◌⊎◌, map, Err, IfErr, IfOk, IfSome, IsErrOf, false};
 ghost use Rattle.std.specs.String.{string_bytes};
 ghost use Rattle.modem_history.specs.Acts.{act_of};
 ghost use Rattle.modem_history.specs.Wholes.{UsesOnce};
@@ -22,7 +22,7 @@ use crate::input::read_whole;
 use crate::script::read_script;
 use crate::stop::{DialectFault, Stop};
 use crate::texts::acts_text_by;
-use crate::writing::{finish, give_up};
+use crate::writing::{finish, give_up_explained};
 use at_text::Dialect;
 use modem_driver::{Act, CoreError, Event, replay_with_dialect};
 use modem_texts::read_dialect;
@@ -83,6 +83,39 @@ fn replayed_by<R: Read>(
     Ok(text)
 }
 
+/// As `replay_with_dialect_run`. Where the run is to be explained, a second line on `faults` has the reason, if there is more to say.
+pub fn replay_with_dialect_run_explained<R: Read, W: Write, E: Write>(
+    alloc: Global,
+    input: &mut R,
+    output: &mut W,
+    faults: &mut E,
+    n1: u16,
+    dialect: &Dialect,
+    explained: bool,
+) -> u8
+    ensures status { result ≤ 2 }
+    ensures done { result ≡ 0 → IsPrinted (IsReplayedBy dialect.now n1) (R.remaining input.old)
+        (W.contents output.old) (W.contents output.new) }
+    ensures stopped { result ≢ 0
+        → HasStopped explained (IsReplayedBy dialect.now n1) (IsRunStop n1 IsNoOrder EventFault (R.remaining input.old))
+        (R.remaining input.old) W.contents output.old output.new (E.contents faults.old) (E.contents faults.new)
+        result }
+    ensures nothing { result ≡ 1 → HasGivenUp explained output.old output.new (E.contents faults.old)
+        (E.contents faults.new) result }
+    ensures refused { result ≡ 2
+        → ((n1 < 31) ⊎ (32767 < n1))
+        ⊎ IfSome (R.remaining input.old) (λ text. HasBad IsNoOrder EventFault (input_lines text)) }
+    ensures bad { result ≡ 2 → output.new ≡ output.old }
+    ensures bad_n1 { (n1 < 31) ⊎ (32767 < n1) → (result ≡ 2) × (input.new ≡ input.old) }
+    ensures silent { result ≡ 0 → faults.new ≡ faults.old }
+{
+    let Some(n1) = N1::new(n1) else {
+        return give_up_explained(faults, Stop::BadN1, explained);
+    };
+    let built = replayed_by(alloc, input, n1, dialect);
+    finish(output, faults, built, explained)
+}
+
 /// As `replay_run`, at a modem whose codes are those of this dialect: lines of a kind of its own are heard under its name.
 pub fn replay_with_dialect_run<R: Read, W: Write, E: Write>(
     alloc: Global,
@@ -96,10 +129,10 @@ pub fn replay_with_dialect_run<R: Read, W: Write, E: Write>(
     ensures done { result ≡ 0 → IsPrinted (IsReplayedBy dialect.now n1) (R.remaining input.old)
         (W.contents output.old) (W.contents output.new) }
     ensures stopped { result ≢ 0
-        → HasStopped (IsReplayedBy dialect.now n1) (IsRunStop n1 IsNoOrder EventFault (R.remaining input.old))
+        → HasStopped false (IsReplayedBy dialect.now n1) (IsRunStop n1 IsNoOrder EventFault (R.remaining input.old))
         (R.remaining input.old) W.contents output.old output.new (E.contents faults.old) (E.contents faults.new)
         result }
-    ensures nothing { result ≡ 1 → HasGivenUp output.old output.new (E.contents faults.old)
+    ensures nothing { result ≡ 1 → HasGivenUp false output.old output.new (E.contents faults.old)
         (E.contents faults.new) result }
     ensures refused { result ≡ 2
         → ((n1 < 31) ⊎ (32767 < n1))
@@ -108,9 +141,5 @@ pub fn replay_with_dialect_run<R: Read, W: Write, E: Write>(
     ensures bad_n1 { (n1 < 31) ⊎ (32767 < n1) → (result ≡ 2) × (input.new ≡ input.old) }
     ensures silent { result ≡ 0 → faults.new ≡ faults.old }
 {
-    let Some(n1) = N1::new(n1) else {
-        return give_up(faults, Stop::BadN1);
-    };
-    let built = replayed_by(alloc, input, n1, dialect);
-    finish(output, faults, built)
+    replay_with_dialect_run_explained(alloc, input, output, faults, n1, dialect, false)
 }

@@ -24,7 +24,7 @@ use crate::input::read_whole;
 use crate::script::read_script;
 use crate::stop::Stop;
 use crate::texts::{acts_text, frames_text};
-use crate::writing::{finish, give_up};
+use crate::writing::{finish, give_up_explained};
 use modem_driver::{Act, CoreError, Event, replay};
 use mux_frame::{FrameBuf, FrameError, N1};
 use std::alloc::{AllocError, Global};
@@ -89,8 +89,39 @@ fn framed<R: Read>(alloc: Global, input: &mut R, n1: N1) -> Result<String, Stop>
     Ok(text)
 }
 
+/// As `replay_run`. Where the run is to be explained, a second line on `faults` has the reason, if there is more to say.
+pub fn replay_run_explained<R: Read, W: Write, E: Write>(
+    alloc: Global,
+    input: &mut R,
+    output: &mut W,
+    faults: &mut E,
+    n1: u16,
+    explained: bool,
+) -> u8
+    ensures status { result ≤ 2 }
+    ensures done { result ≡ 0
+        → IsPrinted (IsReplayed n1) (R.remaining input.old) (W.contents output.old) (W.contents output.new) }
+    ensures stopped { result ≢ 0 → HasStopped explained (IsReplayed n1) (IsRunStop n1 IsNoOrder EventFault (R.remaining input.old))
+        (R.remaining input.old) W.contents output.old output.new (E.contents faults.old) (E.contents faults.new)
+        result }
+    ensures nothing { result ≡ 1 → HasGivenUp explained output.old output.new (E.contents faults.old)
+        (E.contents faults.new) result }
+    ensures refused { result ≡ 2
+        → ((n1 < 31) ⊎ (32767 < n1))
+        ⊎ IfSome (R.remaining input.old) (λ text. HasBad IsNoOrder EventFault (input_lines text)) }
+    ensures bad { result ≡ 2 → output.new ≡ output.old }
+    ensures bad_n1 { (n1 < 31) ⊎ (32767 < n1) → (result ≡ 2) × (input.new ≡ input.old) }
+    ensures silent { result ≡ 0 → faults.new ≡ faults.old }
+{
+    let Some(n1) = N1::new(n1) else {
+        return give_up_explained(faults, Stop::BadN1, explained);
+    };
+    let built = replayed(alloc, input, n1);
+    finish(output, faults, built, explained)
+}
+
 /// Replays the script of `input`, and writes the acts to `output`. The status is 0 where all of them are
-/// written, 1 at a fault, 2 at a bad line; at 1 and 2 it says on `faults` why. It is also 2 where N1 isn't 31 to 32767,
+/// written, 1 at a fault, 2 at a bad line; at 1 and 2 it says on `faults` why, in one line. It is also 2 where N1 isn't 31 to 32767,
 /// and then nothing is read.
 pub fn replay_run<R: Read, W: Write, E: Write>(
     alloc: Global,
@@ -102,10 +133,10 @@ pub fn replay_run<R: Read, W: Write, E: Write>(
     ensures status { result ≤ 2 }
     ensures done { result ≡ 0
         → IsPrinted (IsReplayed n1) (R.remaining input.old) (W.contents output.old) (W.contents output.new) }
-    ensures stopped { result ≢ 0 → HasStopped (IsReplayed n1) (IsRunStop n1 IsNoOrder EventFault (R.remaining input.old))
+    ensures stopped { result ≢ 0 → HasStopped false (IsReplayed n1) (IsRunStop n1 IsNoOrder EventFault (R.remaining input.old))
         (R.remaining input.old) W.contents output.old output.new (E.contents faults.old) (E.contents faults.new)
         result }
-    ensures nothing { result ≡ 1 → HasGivenUp output.old output.new (E.contents faults.old)
+    ensures nothing { result ≡ 1 → HasGivenUp false output.old output.new (E.contents faults.old)
         (E.contents faults.new) result }
     ensures refused { result ≡ 2
         → ((n1 < 31) ⊎ (32767 < n1))
@@ -114,11 +145,38 @@ pub fn replay_run<R: Read, W: Write, E: Write>(
     ensures bad_n1 { (n1 < 31) ⊎ (32767 < n1) → (result ≡ 2) × (input.new ≡ input.old) }
     ensures silent { result ≡ 0 → faults.new ≡ faults.old }
 {
+    replay_run_explained(alloc, input, output, faults, n1, false)
+}
+
+/// As `frames_run`. Where the run is to be explained, a second line on `faults` has the reason, if there is more to say.
+pub fn frames_run_explained<R: Read, W: Write, E: Write>(
+    alloc: Global,
+    input: &mut R,
+    output: &mut W,
+    faults: &mut E,
+    n1: u16,
+    explained: bool,
+) -> u8
+    ensures status { result ≤ 2 }
+    ensures done { result ≡ 0
+        → IsPrinted (IsFramed n1) (R.remaining input.old) (W.contents output.old) (W.contents output.new) }
+    ensures stopped { result ≢ 0 → HasStopped explained (IsFramed n1) (IsRunStop n1 IsNoDump DumpFault (R.remaining input.old))
+        (R.remaining input.old) W.contents output.old output.new (E.contents faults.old) (E.contents faults.new)
+        result }
+    ensures nothing { result ≡ 1 → HasGivenUp explained output.old output.new (E.contents faults.old)
+        (E.contents faults.new) result }
+    ensures refused { result ≡ 2
+        → ((n1 < 31) ⊎ (32767 < n1))
+        ⊎ IfSome (R.remaining input.old) (λ text. HasBad IsNoDump DumpFault (input_lines text)) }
+    ensures bad { result ≡ 2 → output.new ≡ output.old }
+    ensures bad_n1 { (n1 < 31) ⊎ (32767 < n1) → (result ≡ 2) × (input.new ≡ input.old) }
+    ensures silent { result ≡ 0 → faults.new ≡ faults.old }
+{
     let Some(n1) = N1::new(n1) else {
-        return give_up(faults, Stop::BadN1);
+        return give_up_explained(faults, Stop::BadN1, explained);
     };
-    let built = replayed(alloc, input, n1);
-    finish(output, faults, built)
+    let built = framed(alloc, input, n1);
+    finish(output, faults, built, explained)
 }
 
 /// Reads the octets of `input` as frames, and writes these and the rest to `output`. The status is as that of
@@ -133,10 +191,10 @@ pub fn frames_run<R: Read, W: Write, E: Write>(
     ensures status { result ≤ 2 }
     ensures done { result ≡ 0
         → IsPrinted (IsFramed n1) (R.remaining input.old) (W.contents output.old) (W.contents output.new) }
-    ensures stopped { result ≢ 0 → HasStopped (IsFramed n1) (IsRunStop n1 IsNoDump DumpFault (R.remaining input.old))
+    ensures stopped { result ≢ 0 → HasStopped false (IsFramed n1) (IsRunStop n1 IsNoDump DumpFault (R.remaining input.old))
         (R.remaining input.old) W.contents output.old output.new (E.contents faults.old) (E.contents faults.new)
         result }
-    ensures nothing { result ≡ 1 → HasGivenUp output.old output.new (E.contents faults.old)
+    ensures nothing { result ≡ 1 → HasGivenUp false output.old output.new (E.contents faults.old)
         (E.contents faults.new) result }
     ensures refused { result ≡ 2
         → ((n1 < 31) ⊎ (32767 < n1))
@@ -145,9 +203,5 @@ pub fn frames_run<R: Read, W: Write, E: Write>(
     ensures bad_n1 { (n1 < 31) ⊎ (32767 < n1) → (result ≡ 2) × (input.new ≡ input.old) }
     ensures silent { result ≡ 0 → faults.new ≡ faults.old }
 {
-    let Some(n1) = N1::new(n1) else {
-        return give_up(faults, Stop::BadN1);
-    };
-    let built = framed(alloc, input, n1);
-    finish(output, faults, built)
+    frames_run_explained(alloc, input, output, faults, n1, false)
 }

@@ -1,6 +1,6 @@
 //! Why a run ends without its output.
 ghost use Rattle.std.specs.Prelude.{◌≡◌};
-ghost use Rattle.modem_runs.specs.Statuses.{cause_reason, cause_words, dialect_reason, rule_words, status_of, stop_at, stop_at_rule, stop_reason, stop_words};
+ghost use Rattle.modem_runs.specs.Statuses.{status_of, stop_at, stop_at_rule, stop_words};
 ghost use Rattle.modem_runs.specs.declared.stop.Stop.TheVariants.{NoMemory};
 
 use at_text::DialectError;
@@ -43,58 +43,6 @@ pub enum DialectFault {
     Refused(u64, DialectError),
 }
 
-impl DialectFault {
-    /// Why a line is bad.
-    fn reason(self) -> &'static str
-        ensures { result.now ≡ dialect_reason self }
-    {
-        match self {
-            DialectFault::NoRule(_) => ": no rule",
-            DialectFault::Refused(_, why) => rule_words(why),
-        }
-    }
-}
-
-/// Why a rule is refused.
-fn rule_words(why: DialectError) -> &'static str
-    ensures { result.now ≡ rule_words why }
-{
-    match why {
-        DialectError::TooManyRules => ": a dialect has at most 64 rules",
-        DialectError::NoText => ": a rule has a text",
-        DialectError::TextTooLong => ": the text of a rule has at most 64 octets",
-        DialectError::LineEnd => ": the text of a rule has neither CR nor LF",
-        DialectError::BadName => ": the name of a kind has 1 to 64 of the octets 21 to 7E",
-        DialectError::Command => ": a line of the rule could be the echo of a command",
-        DialectError::Ambiguous => ": some line would both end an answer and be unsolicited",
-        DialectError::NoMemory => ": no memory",
-    }
-}
-
-/// Why a bench was given up, but for the number of a connection and what stands behind that.
-fn cause_words(cause: Cause) -> &'static str
-    ensures { result.now ≡ cause_words cause }
-{
-    match cause {
-        Cause::Quiet => "fault: gave up: no octet moved in 600 polls in a row",
-        Cause::UsedUp => "fault: gave up: all polls of the session are made",
-        Cause::NotOpened(_) => "fault: gave up: connection ",
-        Cause::NotStopped => "fault: gave up: the multiplexer wasn't ended",
-        Cause::OtherOutcomes => "fault: gave up: a caller was told outcomes of other requests",
-        Cause::NoEnd => "fault: gave up: the simulated modem ended in no known way",
-    }
-}
-
-/// What stands behind the number of a connection.
-fn cause_reason(cause: Cause) -> &'static str
-    ensures { result.now ≡ cause_reason cause }
-{
-    match cause {
-        Cause::NotOpened(_) => " wasn't opened",
-        _ => "",
-    }
-}
-
 impl Stop {
     /// The exit status: 1 for a fault, 2 for words or a line that are bad.
     pub fn status(self) -> u8
@@ -107,7 +55,7 @@ impl Stop {
         }
     }
 
-    /// What is said of it, but for the number of a line or a connection and what stands behind that.
+    /// What is said of it on a line, but for the number of a line of the input or of a dialect, which stands behind that.
     pub fn words(self) -> &'static str
         ensures { result.now ≡ stop_words self }
     {
@@ -116,24 +64,11 @@ impl Stop {
             Stop::Input => "fault: input",
             Stop::Output => "fault: output",
             Stop::Line => "fault: line",
-            Stop::GaveUp(cause) => cause_words(cause),
+            Stop::GaveUp(_) => "fault: gave up",
             Stop::BadN1 => "error: N1 is 31 to 32767",
             Stop::BadCallers => "error: callers are 1 to 8",
             Stop::BadCut => "error: the cut is 1 to 4096",
-            Stop::BadLine(..) => "bad line ",
-            Stop::Dialect(_) => "dialect: bad line ",
-        }
-    }
-
-    /// What stands behind that number, else nothing: why a line is bad, or what a connection wasn't.
-    pub fn reason(self) -> &'static str
-        ensures { result.now ≡ stop_reason self }
-    {
-        match self {
-            Stop::BadLine(_, fault) => fault.reason(),
-            Stop::Dialect(fault) => fault.reason(),
-            Stop::GaveUp(cause) => cause_reason(cause),
-            _ => "",
+            Stop::BadLine(..) | Stop::Dialect(_) => "bad line ",
         }
     }
 
@@ -156,15 +91,10 @@ impl fmt::Display for Stop {
 
     fn fmt<W: fmt::Write>(&self, f: &mut fmt::Formatter<W>) -> fmt::Result {
         let words = self.words();
-        let reason = self.reason();
         match self {
             Stop::BadLine(place, _)
             | Stop::Dialect(DialectFault::NoRule(place) | DialectFault::Refused(place, _)) => {
-                write!(f, "{words}{place}{reason}")
-            }
-            Stop::GaveUp(Cause::NotOpened(dlci)) => {
-                let number = dlci.number;
-                write!(f, "{words}{number}{reason}")
+                write!(f, "{words}{place}")
             }
             _ => f.write_str(words),
         }

@@ -1,18 +1,18 @@
 //! What a run writes to its output, and what it says beside it.
-ghost use Rattle.std.specs.Prelude.{◌≡◌, ◌≤◌, IfOk, MatchResult, OnErr};
+ghost use Rattle.std.specs.Prelude.{◌≡◌, ◌≤◌, IfOk, MatchResult, OnErr, true};
 ghost use Rattle.std.specs.Io.KnownBytes.{Appends};
 ghost use Rattle.std.specs.String.{string_bytes};
-ghost use Rattle.modem_runs.specs.Statuses.{status_of, stop_line, stop_number};
+ghost use Rattle.modem_runs.specs.Statuses.{status_of, stop_line, stop_lines, stop_number};
 ghost use Rattle.modem_runs.specs.declared.stop.Stop.TheVariants as Stop;
 ghost use Rattle.modem_texts.specs.Writing.{IsBegun};
 
+use crate::reasons::say_reason;
 use crate::stop::{DialectFault, Stop};
 use itoa::Buffer;
-use modem_bench::Cause;
-use modem_texts::{put_octets, say_line};
+use modem_texts::{put_line, put_octets};
 use std::io::Write;
 
-/// The number of a bad line, or of a connection that wasn't opened, in decimal; else nothing.
+/// The number of a bad line, in decimal; else nothing.
 fn number_of(stop: Stop, digits: &mut Buffer) -> &str
     ensures { result.now ≡ stop_number stop }
 {
@@ -21,24 +21,58 @@ fn number_of(stop: Stop, digits: &mut Buffer) -> &str
         | Stop::Dialect(DialectFault::NoRule(place) | DialectFault::Refused(place, _)) => {
             digits.format(place)
         }
-        Stop::GaveUp(Cause::NotOpened(dlci)) => digits.format(dlci.number),
         _ => "",
     }
 }
 
-/// Says why a run ended, and gives the status. A writer that fails doesn't change the status.
+/// Says in one line why a run ended, and whether the writer took the whole of it.
+fn put_stop<E: Write>(faults: &mut E, stop: Stop) -> bool
+    ensures whole { result ≡ true → Appends (E.contents faults.old) (E.contents faults.new) (stop_line stop) }
+    ensures part { IsBegun (E.contents faults.old) (E.contents faults.new) (stop_line stop) }
+{
+    let mut digits = Buffer::new();
+    let number = number_of(stop, &mut digits);
+    put_line(faults, "", stop.words(), number)
+}
+
+/// Says why a run ended, with the reason on a second line where it is to be explained.
+#[tactic(auto, using(crate::proofs::outputs::SaidLines::begun_line))]
+fn say_stop<E: Write>(faults: &mut E, stop: Stop, explained: bool)
+    ensures { IsBegun (E.contents faults.old) (E.contents faults.new) (stop_lines explained stop) }
+{
+    if !put_stop(faults, stop) {
+        return;
+    }
+    if explained {
+        say_reason(faults, stop);
+    }
+}
+
+/// Says why a run ended, with the reason on a second line where it is to be explained, and gives the status. A writer that fails
+/// doesn't change the status.
+pub fn give_up_explained<E: Write>(faults: &mut E, stop: Stop, explained: bool) -> u8
+    ensures status { result ≡ status_of stop }
+    ensures said { IsBegun (E.contents faults.old) (E.contents faults.new) (stop_lines explained stop) }
+{
+    say_stop(faults, stop, explained);
+    stop.status()
+}
+
+/// Says in one line why a run ended, and gives the status. A writer that fails doesn't change the status.
 pub fn give_up<E: Write>(faults: &mut E, stop: Stop) -> u8
     ensures status { result ≡ status_of stop }
     ensures said { IsBegun (E.contents faults.old) (E.contents faults.new) (stop_line stop) }
 {
-    let mut digits = Buffer::new();
-    let number = number_of(stop, &mut digits);
-    say_line(faults, stop.words(), number, stop.reason());
-    stop.status()
+    give_up_explained(faults, stop, false)
 }
 
-/// Writes what a run gave, or says why it gave nothing; and gives the status.
-pub fn finish<W: Write, E: Write>(output: &mut W, faults: &mut E, built: Result<String, Stop>) -> u8
+/// Writes what a run gave, or says why it gave nothing, with the reason where it is to be explained; and gives the status.
+pub fn finish<W: Write, E: Write>(
+    output: &mut W,
+    faults: &mut E,
+    built: Result<String, Stop>,
+    explained: bool,
+) -> u8
     ensures ended { MatchResult built (λ _. result ≤ 1) (λ stop. result ≡ status_of stop) }
     ensures written { IfOk built
         (λ text. result ≡ 0 → Appends (W.contents output.old) (W.contents output.new) (string_bytes text)) }
@@ -47,16 +81,16 @@ pub fn finish<W: Write, E: Write>(output: &mut W, faults: &mut E, built: Result<
     ensures nothing { OnErr built (output.new ≡ output.old) }
     ensures silent { result ≡ 0 → faults.new ≡ faults.old }
     ensures said { MatchResult built
-        (λ _. result ≡ 1 → IsBegun (E.contents faults.old) (E.contents faults.new) (stop_line Stop.Output))
-        (λ stop. IsBegun (E.contents faults.old) (E.contents faults.new) (stop_line stop)) }
+        (λ _. result ≡ 1 → IsBegun (E.contents faults.old) (E.contents faults.new) (stop_lines explained Stop.Output))
+        (λ stop. IsBegun (E.contents faults.old) (E.contents faults.new) (stop_lines explained stop)) }
 {
     let text = match built {
         Ok(text) => text,
-        Err(stop) => return give_up(faults, stop),
+        Err(stop) => return give_up_explained(faults, stop, explained),
     };
     if put_octets(output, text.as_bytes()) {
         0
     } else {
-        give_up(faults, Stop::Output)
+        give_up_explained(faults, Stop::Output, explained)
     }
 }

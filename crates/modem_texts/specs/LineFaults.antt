@@ -1,5 +1,5 @@
 -- The first part of a line, read from its front, that isn't as it must be.
-use Rattle.std.specs.Prelude.{◌≡◌, ◌≢◌, ◌⊎◌, ℕ, ◌==◌, ◌<◌, ◌≤◌, List, [], ◌∷◌, None, codes, if◌then◌else◌}
+use Rattle.std.specs.Prelude.{◌≡◌, ◌≢◌, ◌⊎◌, ℕ, ◌==◌, ◌<◌, ◌≤◌, List, [], ◌∷◌, ◌++◌, None, codes, if◌then◌else◌}
 use Rattle.at_text.specs.Commands.{refusal_of}
 use Rattle.modem_texts.specs.Words.{number_text}
 use Rattle.modem_texts.specs.declared.line_fault.LineFault.{LineFault}
@@ -64,17 +64,25 @@ IsToldAs out error fault refusal =
 
 -- ## What is said
 
+-- that the line of this number is bad
+abbrev pub bad_line : (number : List ℕ) → List ℕ
+bad_line number = codes "bad line " ++ number ++ 10 ∷ []
+
 -- what has to stand there
 abbrev pub reason_text : LineFault → List ℕ
-reason_text LineFault.Event = codes ": a line begins with open, close, cmd, probe, in, stop, tick or lost"
-reason_text LineFault.Count = codes ": a step begins with a decimal number below 2^64, without leading zeros"
-reason_text LineFault.Deed = codes ": behind the number stands announce, stop, go, hold, disconnect or closedown"
-reason_text LineFault.Caller = codes ": a caller is below the number of --callers, without leading zeros"
-reason_text LineFault.Connection = codes ": a connection is 0 to 61, without leading zeros"
-reason_text LineFault.Carrier = codes ": a connection is 1 to 61, without leading zeros"
-reason_text LineFault.Command = codes ": a command line is AT or at and octets 20 to 7E, at most 256 in all"
-reason_text LineFault.Text = codes ": behind the connection stand one blank and a text"
-reason_text LineFault.Octets = codes ": octets are pairs of hexadecimal digits, at least one, without blanks"
-reason_text LineFault.Probe = codes ": a probe has 1 to 16 octets"
-reason_text LineFault.Pairs = codes ": a line is pairs of hexadecimal digits, without blanks inside a pair"
-reason_text LineFault.End = codes ": the line has a word or a blank too many"
+reason_text LineFault.Event = codes "a line begins with open, close, cmd, probe, in, stop, tick or lost"
+reason_text LineFault.Count = codes "a step begins with a decimal number below 2^64, without leading zeros"
+reason_text LineFault.Deed = codes "behind the number stands announce, stop, go, hold, disconnect or closedown"
+reason_text LineFault.Caller = codes "a caller is below the number of --callers, without leading zeros"
+reason_text LineFault.Connection = codes "a connection is 0 to 61, without leading zeros"
+reason_text LineFault.Carrier = codes "a connection is 1 to 61, without leading zeros"
+reason_text LineFault.Command = codes "a command line is AT or at and octets 20 to 7E, at most 256 in all"
+reason_text LineFault.Text = codes "behind the connection stand one blank and a text"
+reason_text LineFault.Octets = codes "octets are pairs of hexadecimal digits, at least one, without blanks"
+reason_text LineFault.Probe = codes "a probe has 1 to 16 octets"
+reason_text LineFault.Pairs = codes "a line is pairs of hexadecimal digits, without blanks inside a pair"
+reason_text LineFault.End = codes "the line has a word or a blank too many"
+
+-- the line behind it: which file it is of, if that is named, and what has to stand there
+abbrev pub reason_line : (file : List ℕ) → LineFault → List ℕ
+reason_line file why = file ++ reason_text why ++ 10 ∷ []

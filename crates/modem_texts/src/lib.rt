@@ -10,9 +10,9 @@ mod words;
 mod writing;
 
 pub use dialects::{DialectRefusal, dialect_named, read_dialect};
-pub use line_fault::LineFault;
+pub use line_fault::{LineFault, say_bad_line};
 pub use lines::{ended_line, first_word, next_line, split_last, split_once};
 pub use refusal::Refusal;
 pub use told::{answer_word, push_heard, push_heard_by, push_line, push_lines, push_told};
 pub use words::{command_of, connection_of, last_connection};
-pub use writing::{put_octets, say_line, write_octets};
+pub use writing::{put_line, put_octets, say_line, write_octets};

@@ -52,19 +52,29 @@ fn write_text<W: Write>(output: &mut W, text: &str) -> bool
     write_octets(output, text.as_bytes())
 }
 
+/// Writes a line of three parts as far as the writer takes it, and says whether it took the whole.
+pub fn put_line<W: Write>(faults: &mut W, first: &str, second: &str, third: &str) -> bool
+    ensures whole { result ≡ true → Appends (W.contents faults.old) (W.contents faults.new)
+        (first.now ++ second.now ++ third.now ++ 10 ∷ []) }
+    ensures part { IsBegun (W.contents faults.old) (W.contents faults.new)
+        (first.now ++ second.now ++ third.now ++ 10 ∷ []) }
+{
+    if !write_text(faults, first) {
+        return false;
+    }
+    if !write_text(faults, second) {
+        return false;
+    }
+    if !write_text(faults, third) {
+        return false;
+    }
+    write_text(faults, "\n")
+}
+
 /// Writes a line of three parts, as far as the writer takes it.
 pub fn say_line<W: Write>(faults: &mut W, first: &str, second: &str, third: &str)
     ensures { IsBegun (W.contents faults.old) (W.contents faults.new)
         (first.now ++ second.now ++ third.now ++ 10 ∷ []) }
 {
-    if !write_text(faults, first) {
-        return;
-    }
-    if !write_text(faults, second) {
-        return;
-    }
-    if !write_text(faults, third) {
-        return;
-    }
-    let _ = write_text(faults, "\n");
+    let _ = put_line(faults, first, second, third);
 }

@@ -1,8 +1,8 @@
 -- Files that the words name, and what is said where one can't be used.
-use Rattle.std.specs.Prelude.{◌≡◌, ◌⊎◌, ℕ, ◌==◌, ◌||◌, List, [], ◌∷◌, ◌++◌, Option, Some, codes, if◌then◌else◌}
+use Rattle.std.specs.Prelude.{◌≡◌, ◌⊎◌, ℕ, ◌==◌, ◌||◌, Bool, true, false, List, ◌∷◌, ◌++◌, Option, Some, codes, if◌then◌else◌}
 use Rattle.std.specs.List.{flat_map}
 use Rattle.clap.specs.Words.{Text}
-use Rattle.modem_runs.specs.Statuses.{status_of, stop_line}
+use Rattle.modem_runs.specs.Statuses.{status_of, stop_line, stop_lines}
 use Rattle.modem_runs.specs.Stopping.{HasGivenUp}
 use Rattle.modem_runs.specs.declared.stop.Stop.{Stop}
 use Rattle.modem_texts.specs.Texts.{octet_text}
@@ -26,24 +26,24 @@ cant_words (FileFault.Closed kind) = codes " can't be opened: "
 cant_words (FileFault.Unmade kind) = codes " can't be made: "
 cant_words FileFault.Unread = codes " can't be read"
 
--- a line about a file: what it is for, its path, what can't be done with it, and these words for why
-abbrev pub file_line : (what path : List ℕ) → FileFault → (cause : List ℕ) → List ℕ
-file_line what path fault cause = codes "fault: the " ++ what ++ codes " " ++ quoted path ++ cant_words fault ++ cause ++ codes "\n"
+-- a line about a file, behind this text: what it is for, its path, what can't be done with it, and these words for why
+abbrev pub file_line : (first what path : List ℕ) → FileFault → (cause : List ℕ) → List ℕ
+file_line first what path fault cause = first ++ codes "the " ++ what ++ codes " " ++ quoted path ++ cant_words fault ++ cause ++ codes "\n"
 
 -- it is such a line, with some words for why
-pub record IsFileLine (what path : List ℕ) (fault : FileFault) (line : List ℕ) : Type 0 where
+pub record IsFileLine (first what path : List ℕ) (fault : FileFault) (line : List ℕ) : Type 0 where
   pub cause : List ℕ
-  pub line_is : line ≡ file_line what path fault cause
+  pub line_is : line ≡ file_line first what path fault cause
 
 -- such a line is said, or a beginning of it
-pub record SaysFile (what path : List ℕ) (fault : FileFault) (before after : Option (List ℕ)) : Type 0 where
+pub record SaysFile (first what path : List ℕ) (fault : FileFault) (before after : Option (List ℕ)) : Type 0 where
   pub line : List ℕ
-  pub is_line : IsFileLine what path fault line
+  pub is_line : IsFileLine first what path fault line
   pub said : IsBegun before after line
 
 -- that is said, or that memory was refused
-abbrev pub SaysWhy : (what path : List ℕ) → FileFault → (before after : Option (List ℕ)) → Type 0
-SaysWhy what path fault before after = SaysFile what path fault before after ⊎ IsBegun before after (stop_line Stop.NoMemory)
+abbrev pub SaysWhy : (first what path : List ℕ) → FileFault → (before after : Option (List ℕ)) → Type 0
+SaysWhy first what path fault before after = SaysFile first what path fault before after ⊎ IsBegun before after (stop_line Stop.NoMemory)
 
 -- ## A file that is to be read
 
@@ -53,19 +53,24 @@ IsToBeRead (FileFault.Closed kind) = Unit {0}
 IsToBeRead (FileFault.Unmade kind) = ⊥
 IsToBeRead FileFault.Unread = Unit {0}
 
--- the words name this file, and it is said of it that it can't be opened or read
-pub record IsUnread (what : List ℕ) (path : Option Text) (before after : Option (List ℕ)) : Type 0 where
+-- it is said that an input failed, and on a second line, where that is to be explained, of which file that is so, and why
+abbrev pub SaysUnread : (explained : Bool) (what path : List ℕ) → FileFault → (before after : Option (List ℕ)) → Type 0
+SaysUnread true what path fault before after = SaysFile (stop_line Stop.Input) what path fault before after
+SaysUnread false what path fault before after = IsBegun before after (stop_line Stop.Input)
+
+-- the words name this file, and it is said that it can't be opened or read
+pub record IsUnread (explained : Bool) (what : List ℕ) (path : Option Text) (before after : Option (List ℕ)) : Type 0 where
   pub named : Text
   pub path_is : path ≡ Some named
   pub fault : FileFault
   pub to_be_read : IsToBeRead fault
-  pub says : SaysFile what named fault before after
+  pub says : SaysUnread explained what named fault before after
 
 -- the cause of a stop is said, or a beginning of that, and this is its status
-pub record SaysStop (before after : Option (List ℕ)) (status : ℕ) : Type 0 where
+pub record SaysStop (explained : Bool) (before after : Option (List ℕ)) (status : ℕ) : Type 0 where
   pub stop : Stop
   pub has_status : status ≡ status_of stop
-  pub said : IsBegun before after (stop_line stop)
+  pub said : IsBegun before after (stop_lines explained stop)
 
 -- the status where the file gives nothing: 1 where it can't be opened, else that of the stop
 abbrev pub text_status : TextFault → ℕ
@@ -73,16 +78,16 @@ text_status (TextFault.Closed kind) = 1
 text_status (TextFault.Stopped stop) = status_of stop
 
 -- the file that the words name gives nothing: it can't be opened or read, at status 1, or there is a cause to stop
-abbrev pub IsNoText : (what : List ℕ) (path : Option Text) (before after : Option (List ℕ)) (status : ℕ) → Type 0
-IsNoText what path before after status = ((status ≡ 1) × IsUnread what path before after) ⊎ SaysStop before after status
+abbrev pub IsNoText : (explained : Bool) (what : List ℕ) (path : Option Text) (before after : Option (List ℕ)) (status : ℕ) → Type 0
+IsNoText explained what path before after status = ((status ≡ 1) × IsUnread explained what path before after) ⊎ SaysStop explained before after status
 
 -- nothing was written to the output, since the file that the words name can't be opened or read, which is said beside it
-pub record HasNoFile {O : Type 0} (what : List ℕ) (path : Option Text) (old new : O) (before after : Option (List ℕ)) : Type 0 where
+pub record HasNoFile {O : Type 0} (explained : Bool) (what : List ℕ) (path : Option Text) (old new : O) (before after : Option (List ℕ)) : Type 0 where
   pub nothing : new ≡ old
-  pub unread : IsUnread what path before after
+  pub unread : IsUnread explained what path before after
 
 -- what is said beside the output names the cause: that of a stop, or that the file of the dialect can't be opened or read; and nothing
 -- was written to the output, unless that is what failed
-abbrev pub NamesCause : {O : Type 0} → (dialect : Option Text) → (old new : O) → (before after : Option (List ℕ)) → (status : ℕ) → Type 0
-NamesCause dialect old new before after status =
-    HasGivenUp old new before after status ⊎ HasNoFile (codes "dialect") dialect old new before after
+abbrev pub NamesCause : {O : Type 0} → (explained : Bool) → (dialect : Option Text) → (old new : O) → (before after : Option (List ℕ)) → (status : ℕ) → Type 0
+NamesCause explained dialect old new before after status =
+    HasGivenUp explained old new before after status ⊎ HasNoFile explained (codes "dialect") dialect old new before after

@@ -1,6 +1,7 @@
 -- The words of the program.
-use Rattle.std.specs.Prelude.{◌≡◌, ◌⊎◌, ℕ, pos, true, List, [], ◌∷◌, Option, None, Some, option_and_then, option_map, codes}
+use Rattle.std.specs.Prelude.{◌≡◌, ◌⊎◌, ◌||◌, ℕ, pos, Bool, true, false, List, [], ◌∷◌, Option, None, Some, option_and_then, option_map, codes}
 use Rattle.std.specs.Fmt.{decimal}
+use Rattle.std.specs.Str.{bytes_eq}
 use Rattle.clap.specs.Words.{App, IsAmong, Kinds, Row, Rule, Text, first_of, one_of, fault_of, new_app, new_rule, subcommand_of, with_rule, with_subcommand}
 use Rattle.clap.specs.declared.builder.ArgAction.TheVariants.{Set, SetTrue}
 use Rattle.clap.specs.declared.error.ErrorKind.TheVariants.{DisplayHelp, DisplayVersion}
@@ -24,9 +25,17 @@ subcommand_app name = with_rule (new_app name) n1_rule
 abbrev pub dialect_rule : Rule
 dialect_rule = record (new_rule (codes "dialect")) { long = Some (codes "dialect"); action = Some Set; value_names = 1 }
 
--- the subcommand with these two options
+-- the option `--explain`, which has no value
+abbrev pub explain_rule : Rule
+explain_rule = record (new_rule (codes "explain")) { long = Some (codes "explain"); action = Some SetTrue }
+
+-- the subcommand with `--n1` and that
+abbrev pub frames_app : App
+frames_app = with_rule (subcommand_app (codes "frames")) explain_rule
+
+-- the subcommand with all three options
 abbrev pub replay_app : App
-replay_app = with_rule (subcommand_app (codes "replay")) dialect_rule
+replay_app = with_rule (with_rule (subcommand_app (codes "replay")) dialect_rule) explain_rule
 
 -- the option `--callers`: a number from 1 to 8, and 2 where it isn't there
 abbrev pub callers_rule : Rule
@@ -48,9 +57,9 @@ cut_rule = record (new_rule (codes "cut")) {
   parser = Some (Signed (pos 1) (pos 4096));
 }
 
--- the subcommand with these two options
+-- the subcommand with these two options and `--explain`
 abbrev pub bench_app : App
-bench_app = with_rule (with_rule (new_app (codes "bench")) callers_rule) cut_rule
+bench_app = with_rule (with_rule (with_rule (new_app (codes "bench")) callers_rule) cut_rule) explain_rule
 
 -- the program's own name, which wants a subcommand behind it
 abbrev pub wanting_one : App
@@ -60,7 +69,7 @@ wanting_one =
 
 -- the same with two subcommands
 abbrev pub with_one : App
-with_one = with_subcommand wanting_one (subcommand_app (codes "frames")).top
+with_one = with_subcommand wanting_one frames_app.top
 
 -- the same with a replay
 abbrev pub with_two : App
@@ -182,3 +191,14 @@ IsGiven met option default n = IsNumberOf default (text_in met option) n
 abbrev pub HasNoNumber : Option (Text × List Row) → Type 0
 HasNoNumber met =
     IsNoNumber (text_in met (codes "n1")) ⊎ (IsNoNumber (text_in met (codes "callers")) ⊎ IsNoNumber (text_in met (codes "cut")))
+
+-- ## Reasons
+
+-- whether an option without a value is there, by its text
+abbrev pub is_set : Option Text → Bool
+is_set None = false
+is_set (Some t) = bytes_eq t (codes "true")
+
+-- whether a second line with the reason is wanted: standard error is a terminal, or the words ask for it
+abbrev pub is_explained : (terminal : Bool) → Option (Text × List Row) → Bool
+is_explained terminal met = terminal || is_set (raw_in met (codes "explain"))

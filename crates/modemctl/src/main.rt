@@ -6,15 +6,19 @@ pub mod laws;
 mod words;
 
 pub use modem_drive::drive_run;
-pub use modem_runs::{bench_run, frames_run, replay_run, replay_with_dialect_run};
+pub use modem_runs::{
+    bench_run, bench_run_explained, frames_run, frames_run_explained, replay_run,
+    replay_run_explained, replay_with_dialect_run, replay_with_dialect_run_explained,
+};
 use modem_runs::{Stop, give_up};
 pub use modem_serve::sim_run;
 use std::env;
-use std::io::ErrorKind;
+use std::io::{ErrorKind, IsTerminal};
 use std::process::ExitCode;
 
 fn main(rt: HostRuntime) -> ExitCode {
     let mut faults = rt.stderr();
+    let terminal = faults.is_terminal();
     let arguments = match env::args(&rt) {
         Ok(arguments) => arguments.collect::<Vec<String>>(rt.alloc()),
         Err(error) if error.kind() == ErrorKind::InvalidData => {
@@ -32,6 +36,7 @@ fn main(rt: HostRuntime) -> ExitCode {
             rt.stdin(),
             &mut rt.stdout(),
             &mut faults,
+            terminal,
         ),
         Err(_) => give_up(&mut faults, Stop::NoMemory),
     };

@@ -1,5 +1,5 @@
 //! The words of the program.
-ghost use Rattle.std.specs.Prelude.{◌≡◌, ◌≢◌, ◌<◌, ◌≤◌, ◌⊎◌, [], map, Some, IfOk, false, codes, true};
+ghost use Rattle.std.specs.Prelude.{◌≡◌, ◌≢◌, ◌<◌, ◌≤◌, ◌⊎◌, Bool, [], map, Some, IfOk, false, codes, true};
 ghost use Rattle.std.specs.String.{string_bytes};
 ghost use Rattle.clap.specs.Words.{app_of, rule_of, kind_of, subcommand_name_of, subcommand_rows_of};
 ghost use Rattle.modem_runs.specs.Printed.{IsBenched, IsPrinted};
@@ -10,7 +10,7 @@ ghost use Rattle.modemctl.specs.Benches.{LeavesClient, LeavesWith, PrintsBench, 
 ghost use Rattle.modemctl.specs.Dialects.{IsShut};
 ghost use Rattle.modemctl.specs.Drives.{PrintsDrive};
 ghost use Rattle.modemctl.specs.Files.{NamesCause};
-ghost use Rattle.modemctl.specs.Words.{callers_rule, cut_rule, n1_rule, program_app, fault_in, met_in, raw_in, with_four, with_one, with_three, with_two, AreFor, AsksNoHelp, HasNoNumber};
+ghost use Rattle.modemctl.specs.Words.{callers_rule, cut_rule, n1_rule, program_app, fault_in, met_in, raw_in, with_four, with_one, with_three, with_two, AreFor, AsksNoHelp, HasNoNumber, is_explained};
 
 mod dialects;
 mod driving;
@@ -18,6 +18,7 @@ mod file_faults;
 mod files;
 mod help;
 mod numbers;
+mod reasons;
 mod sims;
 mod text_files;
 
@@ -26,10 +27,11 @@ use clap::{Arg, ArgAction, ArgMatches, Command, Error, value_parser};
 use dialects::{dialect_option, replay_words};
 use driving::{drive_words, with_drive};
 use files::{capture_at, capture_option, refuse_capture, refuse_script, script_option, steps_of};
-use modem_runs::{Stop, bench_run, frames_run, give_up};
+use modem_runs::{Stop, bench_run_explained, frames_run_explained, give_up};
 use modem_serve::{SimOptions, sim_captured, sim_run};
 use modem_sim::{Script, Steps};
 use numbers::{Numbers, numbers_of};
+use reasons::{explain_option, wants_reason};
 use sims::{echo_of, echo_option, pin_of, pin_option};
 use std::alloc::{AllocError, AllocGlobal, Global};
 use std::fs::File;
@@ -89,7 +91,8 @@ fn one_command<'a>(alloc: Global) -> Result<Command<'a>, AllocError>
     let frames = Command::new(alloc, "frames")
         .about("Reads octets, written in hexadecimal, as frames")
         .after_help(help::FRAMES)
-        .arg(n1_option(alloc))?;
+        .arg(n1_option(alloc))?
+        .arg(explain_option(alloc))?;
     Command::new(alloc, "modemctl")
         .about("The driver of a cellular modem, on the basic option of 3GPP TS 27.010")
         .after_help(help::PROGRAM)
@@ -106,7 +109,8 @@ fn two_commands<'a>(alloc: Global) -> Result<Command<'a>, AllocError>
         .about("Says what the driver of a modem does with the events of a script")
         .after_help(help::REPLAY)
         .arg(n1_option(alloc))?
-        .arg(dialect_option(alloc))?;
+        .arg(dialect_option(alloc))?
+        .arg(explain_option(alloc))?;
     command.subcommand(replay)
 }
 
@@ -119,7 +123,8 @@ fn three_commands<'a>(alloc: Global) -> Result<Command<'a>, AllocError>
         .about("Has callers in threads share a simulated modem, and prints what they are told")
         .after_help(help::BENCH)
         .arg(callers_option(alloc))?
-        .arg(cut_option(alloc))?;
+        .arg(cut_option(alloc))?
+        .arg(explain_option(alloc))?;
     command.subcommand(bench)
 }
 
@@ -181,8 +186,8 @@ fn explain<W: Write, E: Write>(
     ensures wrong { kind_of error.now ≢ ErrorKind.DisplayHelp
         → kind_of error.now ≢ ErrorKind.DisplayVersion → 0 < result }
     ensures bad { result ≡ 2 → output.new ≡ output.old }
-    ensures nothing { result ≡ 1 → HasGivenUp output.old output.new (E.contents faults.old)
-        (E.contents faults.new) result }
+    ensures nothing { result ≡ 1 → (explained : Bool)
+        → HasGivenUp explained output.old output.new (E.contents faults.old) (E.contents faults.new) result }
 {
     if matches!(error.kind(), ErrorKind::OutOfMemory) {
         return give_up(faults, Stop::NoMemory);
@@ -216,6 +221,7 @@ fn bench_plain<R, I: Read, W: Write, E: Write>(
     input: &mut I,
     output: &mut W,
     faults: &mut E,
+    explained: bool,
 ) -> u8
 where
     R: Threads + Wait + RandomSource + AllocGlobal + Copy + Send + Drop + 'static,
@@ -223,7 +229,7 @@ where
     ensures bad { result ≡ 2 → output.new ≡ output.old }
     ensures done { result ≡ 0 → IsPrinted (IsBenched numbers.callers numbers.cut plain_script)
         (I.remaining input.old) (W.contents output.old) (W.contents output.new) }
-    ensures nothing { result ≡ 1 → HasGivenUp output.old output.new (E.contents faults.old)
+    ensures nothing { result ≡ 1 → HasGivenUp explained output.old output.new (E.contents faults.old)
         (E.contents faults.new) result }
 {
     let script = Script {
@@ -231,7 +237,7 @@ where
         steps: Steps::from(Vec::new(alloc)),
     };
     let cut = usize::from(numbers.cut);
-    bench_run(
+    bench_run_explained(
         rt,
         alloc,
         input,
@@ -240,6 +246,7 @@ where
         numbers.callers,
         cut,
         script,
+        explained,
     )
 }
 
@@ -326,6 +333,7 @@ fn run_named<R, I: Read, J, W: Write, E: Write>(
     lines: J,
     output: &mut W,
     faults: &mut E,
+    terminal: bool,
 ) -> u8
 where
     R: Files<File = File>
@@ -345,14 +353,16 @@ where
     ensures unread { HasNoNumber (subcommand_rows_of matches.now) → input.new ≡ input.old }
     ensures nothing { result ≡ 1 → subcommand_name_of matches.now ≢ Some (codes "sim")
         → subcommand_name_of matches.now ≢ Some (codes "drive") → subcommand_name_of matches.now ≢ Some (codes "replay")
-        → HasGivenUp output.old output.new (E.contents faults.old) (E.contents faults.new) result }
+        → HasGivenUp (is_explained terminal (subcommand_rows_of matches.now)) output.old output.new (E.contents faults.old)
+        (E.contents faults.new) result }
     ensures unreplayed { result ≡ 1 → subcommand_name_of matches.now ≡ Some (codes "replay")
-        → NamesCause (raw_in (subcommand_rows_of matches.now) (codes "dialect")) output.old output.new (E.contents faults.old)
+        → NamesCause (is_explained terminal (subcommand_rows_of matches.now))
+        (raw_in (subcommand_rows_of matches.now) (codes "dialect")) output.old output.new (E.contents faults.old)
         (E.contents faults.new) result }
     ensures undriven { result ≡ 1 → subcommand_name_of matches.now ≡ Some (codes "drive")
         → IsShut (R.is_shut rt.now) (raw_in (subcommand_rows_of matches.now) (codes "dialect"))
-        → NamesCause (raw_in (subcommand_rows_of matches.now) (codes "dialect")) output.old output.new (E.contents faults.old)
-        (E.contents faults.new) result }
+        → NamesCause true (raw_in (subcommand_rows_of matches.now) (codes "dialect")) output.old output.new
+        (E.contents faults.old) (E.contents faults.new) result }
     ensures replay_shut { subcommand_name_of matches.now ≡ Some (codes "replay")
         → IsShut (R.is_shut rt.now) (raw_in (subcommand_rows_of matches.now) (codes "dialect")) → 0 < result }
     ensures drive_shut { subcommand_name_of matches.now ≡ Some (codes "drive")
@@ -388,10 +398,13 @@ where
         Ok(numbers) => numbers,
         Err(option) => return refuse(faults, option),
     };
+    let explained = wants_reason(given, terminal);
     match name {
-        "frames" => frames_run(alloc, input, output, faults, numbers.n1),
-        "replay" => replay_words(rt, alloc, given, numbers.n1, input, output, faults),
-        "bench" => bench_plain(rt, alloc, numbers, input, output, faults),
+        "frames" => frames_run_explained(alloc, input, output, faults, numbers.n1, explained),
+        "replay" => replay_words(
+            rt, alloc, given, numbers.n1, input, output, faults, explained,
+        ),
+        "bench" => bench_plain(rt, alloc, numbers, input, output, faults, explained),
         "sim" => sim_words(rt, alloc, given, numbers.n1, input, output, faults),
         "drive" => drive_words(rt, given, numbers.n1, lines, output, faults),
         _ => 2,
@@ -400,6 +413,7 @@ where
 
 /// Runs the subcommand that the words name, the program's own name before them, and gives the exit
 /// status: 0 where it is done, 1 at a fault, 2 at bad words or a bad line. `lines` is the same input, for a thread of a drive's own.
+/// `terminal` says whether what `faults` writes to is a terminal: then the reason is said of what goes wrong.
 pub fn run<R, I: Read, J, W: Write, E: Write>(
     rt: &R,
     alloc: Global,
@@ -408,6 +422,7 @@ pub fn run<R, I: Read, J, W: Write, E: Write>(
     lines: J,
     output: &mut W,
     faults: &mut E,
+    terminal: bool,
 ) -> u8
 where
     R: Files<File = File>
@@ -432,13 +447,15 @@ where
     ensures nothing { result ≡ 1 → (AreFor (codes "sim") (map string_bytes words.now) → ⊥)
         → (AreFor (codes "drive") (map string_bytes words.now) → ⊥)
         → (AreFor (codes "replay") (map string_bytes words.now) → ⊥)
-        → HasGivenUp output.old output.new (E.contents faults.old) (E.contents faults.new) result }
+        → HasGivenUp (is_explained terminal (met_in (map string_bytes words.now))) output.old output.new (E.contents faults.old)
+        (E.contents faults.new) result }
     ensures unreplayed { result ≡ 1 → AreFor (codes "replay") (map string_bytes words.now)
-        → NamesCause (raw_in (met_in (map string_bytes words.now)) (codes "dialect")) output.old output.new
-        (E.contents faults.old) (E.contents faults.new) result }
+        → NamesCause (is_explained terminal (met_in (map string_bytes words.now)))
+        (raw_in (met_in (map string_bytes words.now)) (codes "dialect")) output.old output.new (E.contents faults.old)
+        (E.contents faults.new) result }
     ensures undriven { result ≡ 1 → AreFor (codes "drive") (map string_bytes words.now)
         → IsShut (R.is_shut rt.now) (raw_in (met_in (map string_bytes words.now)) (codes "dialect"))
-        → NamesCause (raw_in (met_in (map string_bytes words.now)) (codes "dialect")) output.old output.new
+        → NamesCause true (raw_in (met_in (map string_bytes words.now)) (codes "dialect")) output.old output.new
         (E.contents faults.old) (E.contents faults.new) result }
     ensures replay_shut { AreFor (codes "replay") (map string_bytes words.now)
         → IsShut (R.is_shut rt.now) (raw_in (met_in (map string_bytes words.now)) (codes "dialect")) → 0 < result }
@@ -473,7 +490,7 @@ where
         Err(_) => return give_up(faults, Stop::NoMemory),
     };
     match command.try_get_matches_from(words) {
-        Ok(matches) => run_named(rt, alloc, &matches, input, lines, output, faults),
+        Ok(matches) => run_named(rt, alloc, &matches, input, lines, output, faults, terminal),
         Err(error) => explain(output, faults, &error, words),
     }
 }

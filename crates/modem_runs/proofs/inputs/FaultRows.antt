@@ -8,9 +8,8 @@ use Rattle.hex.specs.declared.error.FromHexError.{FromHexError}
 use Rattle.hex.specs.declared.error.FromHexError.TheVariants.{OddLength}
 use Rattle.modem_texts.specs.LineFaults.{IsCarrier, IsConnection}
 use Rattle.modem_texts.specs.Words.{number_text}
-use Rattle.modem_runs.specs.Dump.{line_octets}
 use Rattle.modem_runs.specs.LineFaultRows.{AreDumpFaults, AreEventFaults, AreStepFaults, AreSubmissionFaults}
-use Rattle.modem_runs.specs.LineFaults.{HasOctets, HasPairs, HasProbe, IsCaller, IsCount}
+use Rattle.modem_runs.specs.LineFaults.{HasOctets, HasProbe, IsCaller, IsCount}
 use Rattle.modem_runs.proofs.inputs.WordFaults.{no_octets}
 
 -- ## Numbers

@@ -1,5 +1,5 @@
 -- The lines of a modem's script, read line by line.
-use Rattle.std.specs.Prelude.{◌≡◌, ◌≢◌, ℕ, suc, ◌+◌, ◌<◌, ◌%◌, ◌^◌, nat_lt, Bool, true, false, List, [], ◌∷◌, ◌++◌, length, drop, codes, refl, Option, Some, None, IfSome, Result, Ok, Err, MatchResult, if◌then◌else◌}
+use Rattle.std.specs.Prelude.{◌≡◌, ◌≢◌, ℕ, suc, ◌+◌, ◌<◌, ◌%◌, ◌^◌, nat_lt, Bool, true, false, List, [], ◌∷◌, ◌++◌, length, drop, codes, refl, Option, IfSome, Result, Ok, Err, MatchResult, if◌then◌else◌}
 use Rattle.std.specs.Fmt.{decimal}
 use Rattle.std.specs.Str.Iter.{LacksByte}
 use Rattle.std.proofs.Common.{sym, ap, arith, eqb, subst, inl, inr, ◌⊎◌, ◌∙◌}
@@ -17,7 +17,6 @@ use Rattle.modem_texts.specs.Words.{number_text}
 use Rattle.modem_texts.specs.Input.{input_lines}
 use Rattle.modem_runs.specs.Input.{IsReason}
 use Rattle.modem_runs.specs.declared.stop.Stop.{Stop}
-use Rattle.modem_runs.specs.declared.stop.Stop.TheVariants as Stop
 use Rattle.modem_runs.specs.Steps.{AreSteps, GivesSteps, IsNoStep, StepsStop, SaysAct, SaysNoAct, SaysNoStep, SaysStep}
 use Rattle.modem_runs.specs.LineFaults.{AnnouncementFault, DeedFault, StepFault}
 use Rattle.modem_runs.proofs.inputs.ReadLines.{IsRead, read_more}

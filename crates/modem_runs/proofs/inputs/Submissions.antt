@@ -1,6 +1,6 @@
 -- What the lines of a bench's input submit, read line by line.
-use Rattle.std.specs.Prelude.{◌≡◌, ◌≢◌, ℕ, ◌+◌, ◌<◌, ◌≤◌, nat_lt, List, [], ◌∷◌, ◌++◌, length, refl, None}
-use Rattle.std.proofs.Common.{sym, ap, inl, inr, subst, ◌∙◌}
+use Rattle.std.specs.Prelude.{◌≡◌, ◌≢◌, ℕ, ◌+◌, ◌<◌, nat_lt, List, [], ◌∷◌, ◌++◌, length, refl}
+use Rattle.std.proofs.Common.{sym, inl, inr, subst, ◌∙◌}
 use Rattle.std.proofs.lemmas.List.{append_assoc, append-nil}
 use Rattle.modem_bench.specs.declared.submission.Submission.{Submission}
 use Rattle.modem_texts.specs.Words.{IsCommand, IsNoCommand, number_text}

@@ -1,16 +1,15 @@
 -- The first word of a line, and what it wants behind it.
-use Rattle.std.specs.Prelude.{◌≡◌, ◌≢◌, ℕ, ◌<◌, ◌≤◌, Bool, true, false, List, [], ◌∷◌, ◌++◌, length, drop, codes, Option, Some, None, Result, Ok, refl, if◌then◌else◌}
-use Rattle.std.proofs.Common.{sym, ap, inl, inr, subst, ◌∙◌}
+use Rattle.std.specs.Prelude.{◌≡◌, ◌≢◌, ℕ, Bool, true, false, List, [], ◌∷◌, ◌++◌, drop, codes, Option, Some, Result, Ok, refl, if◌then◌else◌}
+use Rattle.std.proofs.Common.{sym, ap, inl, subst, ◌∙◌}
 use Rattle.std.proofs.lemmas.Bool.{false≢true}
 use Rattle.std.specs.Cmp.Lexicographic.{bytes_decides}
 use Rattle.std.specs.Str.{bytes_eq}
 use Rattle.hex.specs.Hex.{decode_of, decode_pairs}
 use Rattle.hex.specs.declared.error.FromHexError.{FromHexError}
-use Rattle.modem_texts.specs.LineFaults.{IsConnection, Wants, WantsNoMore, behind_word, first_word}
-use Rattle.modem_texts.specs.Words.{number_text}
+use Rattle.modem_texts.specs.LineFaults.{IsConnection, behind_word, first_word}
 use Rattle.modem_texts.specs.declared.line_fault.LineFault.{LineFault}
 use Rattle.modem_texts.proofs.FirstWords.{nothing_behind, whole}
-use Rattle.modem_runs.specs.LineFaults.{BehindFault, DeedFault, EndFault, EventFault, Follows, HasOctets, WordFault, deeds, events, follows, lone_fault}
+use Rattle.modem_runs.specs.LineFaults.{DeedFault, EventFault, Follows, HasOctets, WordFault, deeds, events, follows, lone_fault}
 use Rattle.modem_runs.specs.Script.{BeginsNone, IsNoWord}
 use Rattle.modem_runs.specs.Steps.{ActsNone}
 

@@ -15,6 +15,11 @@ pub at_known : (P : List ℕ → Type 0) (known : Option (List ℕ)) (octets rea
 at_known P None octets read h e p = tt
 at_known P (Some all) octets read h e p = subst P (e ∙ h) p
 
+-- what follows of it, whatever they are
+pub known_too : (P Q : List ℕ → Type 0) (known : Option (List ℕ)) → IfSome known P → ((all : List ℕ) → P all → Q all) → IfSome known Q
+known_too P Q None h more = tt
+known_too P Q (Some all) h more = more all h
+
 has_bad : (IsBad : List ℕ → Type 0) (Has : List ℕ → LineFault → Type 0) (known : Option (List ℕ)) (place : ℕ) (why : LineFault) → IfSome known (λ text. IsFirstBad IsBad Has (input_lines text) place why) → IfSome known (λ text. HasBad IsBad Has (input_lines text))
 has_bad IsBad Has None place why h = tt
 has_bad IsBad Has (Some text) place why h = record { place = place; why = why; first = h }

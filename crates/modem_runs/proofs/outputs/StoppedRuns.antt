@@ -1,11 +1,11 @@
 -- How a run that wasn't written whole ended.
-use Rattle.std.specs.Prelude.{◌≡◌, ◌≢◌, ◌≤◌, ℕ, List, Option, Result, Ok, Err, IfErr, IfOk, IfSome, IsErrOf, MatchResult, OnErr, refl}
+use Rattle.std.specs.Prelude.{◌≡◌, ◌≢◌, ◌≤◌, ℕ, Bool, List, Option, Result, Ok, Err, IfErr, IfOk, IfSome, IsErrOf, MatchResult, OnErr, refl}
 use Rattle.std.proofs.Common.{arith, ap}
 use Rattle.modem_bench.specs.declared.cause.Cause.{Cause}
 use Rattle.modem_runs.specs.Bench.{IsNoSubmission}
 use Rattle.modem_texts.specs.Input.{input_lines}
 use Rattle.modem_runs.specs.Input.{IsFirstBad}
-use Rattle.modem_runs.specs.Statuses.{status_of, stop_line}
+use Rattle.modem_runs.specs.Statuses.{status_of, stop_lines}
 use Rattle.modem_runs.specs.Stopping.{HasGivenUp, HasStopped, IsBenchStop, IsRunStop}
 use Rattle.modem_texts.specs.Writing.{IsBegun}
 use Rattle.modem_runs.specs.LineFaults.{SubmissionFault}
@@ -48,19 +48,19 @@ bench_cause (Err (Stop.Dialect fault)) callers cut known line others = others.3 
 bench_cause (Err (Stop.BadLine place why)) callers cut known line others = line place why refl
 
 -- a run that gave nothing, or whose output wasn't taken whole
-pub stopped_for : {T O : Type 0} (bytes : T → List ℕ) (built : Result T Stop) (Makes : List ℕ → List ℕ → Type 0) (IsCause : Stop → Type 0) (known : Option (List ℕ))
+pub stopped_for : {T O : Type 0} (explained : Bool) (bytes : T → List ℕ) (built : Result T Stop) (Makes : List ℕ → List ℕ → Type 0) (IsCause : Stop → Type 0) (known : Option (List ℕ))
     (contents : O → Option (List ℕ)) (old new : O) (before after : Option (List ℕ)) (status : ℕ)
     → MatchResult built (λ _. status ≤ 1) (λ stop. status ≡ status_of stop)
     → OnErr built (new ≡ old)
     → IfOk built (λ text. status ≡ 1 → IsBegun (contents old) (contents new) (bytes text))
-    → MatchResult built (λ _. status ≡ 1 → IsBegun before after (stop_line Stop.Output)) (λ stop. IsBegun before after (stop_line stop))
+    → MatchResult built (λ _. status ≡ 1 → IsBegun before after (stop_lines explained Stop.Output)) (λ stop. IsBegun before after (stop_lines explained stop))
     → IfOk built (λ text. IfSome known (λ all. Makes all (bytes text)))
     → IfErr built IsCause
     → built ≢ Err Stop.Output
     → IsCause Stop.Output
     → status ≢ 0
-    → HasStopped Makes IsCause known contents old new before after status
-stopped_for bytes (Ok text) Makes IsCause known contents old new before after status ended same part said made cause no_output can_fail some =
+    → HasStopped explained Makes IsCause known contents old new before after status
+stopped_for explained bytes (Ok text) Makes IsCause known contents old new before after status ended same part said made cause no_output can_fail some =
     let one : status ≡ 1 = omega (arith, ended, some) in
     record {
       stop = Stop.Output;
@@ -68,7 +68,7 @@ stopped_for bytes (Ok text) Makes IsCause known contents old new before after st
       cause = can_fail;
       begun = λ _. record { shown = bytes text; made = made; begun = part one };
     }
-stopped_for bytes (Err stop) Makes IsCause known contents old new before after status ended same part said made cause no_output can_fail some = record {
+stopped_for explained bytes (Err stop) Makes IsCause known contents old new before after status ended same part said made cause no_output can_fail some = record {
   stop = stop;
   gives_up = record { has_status = ended; nothing = λ _. same; said = said };
   cause = cause;
@@ -76,30 +76,30 @@ stopped_for bytes (Err stop) Makes IsCause known contents old new before after s
 }
 
 -- a run that was refused before anything was read
-pub stopped_at_once : {O : Type 0} (stop : Stop) (Makes : List ℕ → List ℕ → Type 0) (IsCause : Stop → Type 0) (known : Option (List ℕ))
+pub stopped_at_once : {O : Type 0} (explained : Bool) (stop : Stop) (Makes : List ℕ → List ℕ → Type 0) (IsCause : Stop → Type 0) (known : Option (List ℕ))
     (contents : O → Option (List ℕ)) (old : O) (before after : Option (List ℕ)) (status : ℕ)
     → status ≡ status_of stop
-    → IsBegun before after (stop_line stop)
+    → IsBegun before after (stop_lines explained stop)
     → IsCause stop
     → (stop ≢ Stop.Output)
-    → HasStopped Makes IsCause known contents old old before after status
-stopped_at_once stop Makes IsCause known contents old before after status same said cause other = record {
+    → HasStopped explained Makes IsCause known contents old old before after status
+stopped_at_once explained stop Makes IsCause known contents old before after status same said cause other = record {
   stop = stop;
   gives_up = record { has_status = same; nothing = λ _. refl; said = said };
   cause = cause;
   begun = λ e. absurd (other e);
 }
 
-pub given_up : {O : Type 0} (Makes : List ℕ → List ℕ → Type 0) (IsCause : Stop → Type 0) (known : Option (List ℕ))
+pub given_up : {O : Type 0} (explained : Bool) (Makes : List ℕ → List ℕ → Type 0) (IsCause : Stop → Type 0) (known : Option (List ℕ))
     (contents : O → Option (List ℕ)) (old new : O) (before after : Option (List ℕ)) (status : ℕ)
-    → HasStopped Makes IsCause known contents old new before after status
-    → HasGivenUp old new before after status
-given_up Makes IsCause known contents old new before after status h = record { stop = h.stop; gives_up = h.gives_up }
+    → HasStopped explained Makes IsCause known contents old new before after status
+    → HasGivenUp explained old new before after status
+given_up explained Makes IsCause known contents old new before after status h = record { stop = h.stop; gives_up = h.gives_up }
 
 -- who gave up said so, and wrote nothing to the output, or it is the output that failed
-pub gave_up : {O : Type 0} (stop : Stop) (old new : O) (before after : Option (List ℕ)) (status : ℕ)
+pub gave_up : {O : Type 0} (explained : Bool) (stop : Stop) (old new : O) (before after : Option (List ℕ)) (status : ℕ)
     → status ≡ status_of stop
-    → IsBegun before after (stop_line stop)
+    → IsBegun before after (stop_lines explained stop)
     → (stop ≢ Stop.Output → new ≡ old)
-    → HasGivenUp old new before after status
-gave_up stop old new before after status same said nothing = record { stop = stop; gives_up = record { has_status = same; nothing = nothing; said = said } }
+    → HasGivenUp explained old new before after status
+gave_up explained stop old new before after status same said nothing = record { stop = stop; gives_up = record { has_status = same; nothing = nothing; said = said } }

@@ -25,7 +25,7 @@ type End = (u8, &'static str, &'static str);
 const ALL_TOLD: End = (0, TWO_TOLD, "");
 
 // The modem ends the multiplexer once connection 0 is open, so that connection 1 isn't opened.
-const GAVE_UP: End = (1, "", "fault: gave up: connection 1 wasn't opened\n");
+const GAVE_UP: End = (1, "", "fault: gave up\n");
 
 // Two callers on such a line come to this.
 fn expect_two<R>(rt: &R, alloc: Global, cut: usize, script: Script, want: End)

@@ -10,7 +10,7 @@ use crate::words::file_faults::refuse_text;
 use crate::words::text_files::{TextFault, TextFiles};
 use at_text::Dialect;
 use clap::{Arg, ArgAction, ArgMatches};
-use modem_runs::{Stop, dialect_from, replay_run, replay_with_dialect_run};
+use modem_runs::{Stop, dialect_from, replay_run_explained, replay_with_dialect_run_explained};
 use modem_texts::dialect_named;
 use std::alloc::Global;
 use std::io::{Read, Write};
@@ -55,49 +55,52 @@ fn find_dialect<R: TextFiles>(rt: &R, alloc: Global, name: &str) -> Result<Diale
     }
 }
 
-/// The dialect that comes ready under this name, else that of the file of this name. Where there is none it says why, and gives the
-/// status.
+/// The dialect that comes ready under this name, else that of the file of this name. Where there is none it says why, with the
+/// reason where that is to be explained, and gives the status.
 pub fn dialect_by<R: TextFiles, E: Write>(
     rt: &R,
     alloc: Global,
     name: &str,
     faults: &mut E,
+    explained: bool,
 ) -> Result<Dialect, u8>
     ensures named { IfOk result (IsReadyOrRead (dialect_with_name name.now) (R.text_of rt.now name.now)) }
     ensures silent { OnOk result (faults.new ≡ faults.old) }
     ensures shut { IsShut (R.is_shut rt.now) (Some name.now) → IsErrOf result 1 }
     ensures bad { IfErr result (λ status. (0 < status) × (status ≤ 2)) }
     ensures refused { IfErr result
-        (IsNoText (codes "dialect") (Some name.now) (E.contents faults.old) (E.contents faults.new)) }
+        (IsNoText explained (codes "dialect") (Some name.now) (E.contents faults.old) (E.contents faults.new)) }
 {
     match find_dialect(rt, alloc, name) {
         Ok(dialect) => Ok(dialect),
-        Err(fault) => Err(refuse_text(alloc, faults, "dialect", name, fault)),
+        Err(fault) => Err(refuse_text(alloc, faults, "dialect", name, fault, explained)),
     }
 }
 
-/// The dialect that the words give; the standard's codes alone where they give none. Where there is none it says why, and gives the
-/// status.
+/// The dialect that the words give; the standard's codes alone where they give none. Where there is none it says why, with
+/// the reason where that is to be explained, and gives the status.
 pub fn given_dialect<R: TextFiles, E: Write>(
     rt: &R,
     alloc: Global,
     matches: &ArgMatches<'_>,
     faults: &mut E,
+    explained: bool,
 ) -> Result<Dialect, u8>
     ensures given { IfOk result (IsGivenDialect (R.text_of rt.now) (first_value (found_of matches.now) (codes "dialect"))) }
     ensures silent { OnOk result (faults.new ≡ faults.old) }
     ensures shut { IsShut (R.is_shut rt.now) (first_value (found_of matches.now) (codes "dialect")) → IsErrOf result 1 }
     ensures bad { IfErr result (λ status. (0 < status) × (status ≤ 2)) }
-    ensures refused { IfErr result (IsNoText (codes "dialect") (first_value (found_of matches.now) (codes "dialect"))
+    ensures refused { IfErr result (IsNoText explained (codes "dialect") (first_value (found_of matches.now) (codes "dialect"))
         (E.contents faults.old) (E.contents faults.new)) }
 {
     match matches.get_str("dialect") {
-        Some(name) => dialect_by(rt, alloc, name, faults),
+        Some(name) => dialect_by(rt, alloc, name, faults, explained),
         None => Ok(Dialect::standard(alloc)),
     }
 }
 
-/// Replays the script of `input` at a modem with the codes that the words give.
+/// Replays the script of `input` at a modem with the codes that the words give. What goes wrong is said, with the reason where that is to
+/// be explained.
 pub fn replay_words<R, I, W, E>(
     rt: &R,
     alloc: Global,
@@ -106,6 +109,7 @@ pub fn replay_words<R, I, W, E>(
     input: &mut I,
     output: &mut W,
     faults: &mut E,
+    explained: bool,
 ) -> u8
 where
     R: TextFiles,
@@ -118,14 +122,16 @@ where
         (I.remaining input.old) (W.contents output.old) (W.contents output.new) }
     ensures shut { IsShut (R.is_shut rt.now) (first_value (found_of matches.now) (codes "dialect")) → result ≡ 1 }
     ensures nothing { result ≡ 1
-        → NamesCause (first_value (found_of matches.now) (codes "dialect")) output.old output.new (E.contents faults.old)
+        → NamesCause explained (first_value (found_of matches.now) (codes "dialect")) output.old output.new (E.contents faults.old)
         (E.contents faults.new) result }
 {
     let Some(name) = matches.get_str("dialect") else {
-        return replay_run(alloc, input, output, faults, n1);
+        return replay_run_explained(alloc, input, output, faults, n1, explained);
     };
-    match dialect_by(rt, alloc, name, faults) {
-        Ok(dialect) => replay_with_dialect_run(alloc, input, output, faults, n1, &dialect),
+    match dialect_by(rt, alloc, name, faults, explained) {
+        Ok(dialect) => replay_with_dialect_run_explained(
+            alloc, input, output, faults, n1, &dialect, explained,
+        ),
         Err(status) => status,
     }
 }

@@ -146,7 +146,7 @@ where
     ensures shut { IsShut (R.is_shut rt.now) (first_value (found_of matches.now) (codes "dialect"))
         → (0 < result) × (output.new ≡ output.old) }
     ensures unread { IsShut (R.is_shut rt.now) (first_value (found_of matches.now) (codes "dialect")) → result ≡ 1
-        → NamesCause (first_value (found_of matches.now) (codes "dialect")) output.old output.new (E.contents faults.old)
+        → NamesCause true (first_value (found_of matches.now) (codes "dialect")) output.old output.new (E.contents faults.old)
         (E.contents faults.new) result }
 {
     let Some(path) = matches.get_str("device") else {
@@ -156,7 +156,7 @@ where
         Ok(times) => times,
         Err(option) => return refuse(faults, option),
     };
-    match given_dialect(rt, rt.alloc(), matches, faults) {
+    match given_dialect(rt, rt.alloc(), matches, faults, true) {
         Ok(dialect) => {
             let settings = Settings {
                 n1,

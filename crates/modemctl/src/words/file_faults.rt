@@ -1,11 +1,14 @@
 //! What is said of a file that can't be used.
-ghost use Rattle.std.specs.Prelude.{◌≡◌, ◌<◌, ◌≤◌, ◌++◌, IfOk, OnOk, Some};
+ghost use Rattle.std.specs.Prelude.{◌≡◌, ◌<◌, ◌≤◌, ◌⊎◌, ◌++◌, IfOk, OnOk, Some};
 ghost use Rattle.std.specs.List.{flat_map};
 ghost use Rattle.std.specs.String.{string_bytes};
-ghost use Rattle.modemctl.specs.Files.{IsFileLine, IsNoText, SaysWhy, cant_words, file_line, quoted, quoted_octet, text_status};
+ghost use Rattle.modem_runs.specs.Statuses.{stop_line};
+ghost use Rattle.modem_runs.specs.declared.stop.Stop.TheVariants as Stop;
+ghost use Rattle.modem_texts.specs.Writing.{IsBegun};
+ghost use Rattle.modemctl.specs.Files.{IsFileLine, IsNoText, SaysUnread, SaysWhy, cant_words, file_line, quoted, quoted_octet, text_status};
 
 use crate::words::text_files::TextFault;
-use modem_runs::{Stop, give_up};
+use modem_runs::{Stop, give_up, give_up_explained};
 use modem_texts::{push_line, write_octets};
 use std::alloc::{AllocError, Global};
 use std::io::{ErrorKind, Write};
@@ -71,18 +74,20 @@ fn cant(fault: FileFault) -> &'static str
     }
 }
 
-/// The line that says why the file of this path, which is there for this, can't be used, with these words for why.
+/// The line that says, behind this text, why the file of this path, which is there for this, can't be used, with these words for why.
 fn line_with(
     alloc: Global,
+    first: &str,
     what: &str,
     path: &str,
     fault: FileFault,
     cause: &str,
 ) -> Result<String, AllocError>
-    ensures { IfOk result (λ line. string_bytes line ≡ file_line what.now path.now fault cause.now) }
+    ensures { IfOk result (λ line. string_bytes line ≡ file_line first.now what.now path.now fault cause.now) }
 {
     let mut line = String::new(alloc);
-    line.push_str("fault: the ")?;
+    line.push_str(first)?;
+    line.push_str("the ")?;
     line.push_str(what)?;
     line.push_str(" ")?;
     push_quoted(alloc, path, &mut line)?;
@@ -94,26 +99,33 @@ fn line_with(
 
 /// The same, with the system's words.
 #[tactic(auto, using(crate::proofs::FileFaults::is_file_line))]
-fn line_about(alloc: Global, what: &str, path: &str, fault: FileFault) -> Result<String, AllocError>
-    ensures { IfOk result (λ line. IsFileLine what.now path.now fault (string_bytes line)) }
+fn line_about(
+    alloc: Global,
+    first: &str,
+    what: &str,
+    path: &str,
+    fault: FileFault,
+) -> Result<String, AllocError>
+    ensures { IfOk result (λ line. IsFileLine first.now what.now path.now fault (string_bytes line)) }
 {
     let cause = cause_of(alloc, fault)?;
-    let line = line_with(alloc, what, path, fault, cause.as_str())?;
+    let line = line_with(alloc, first, what, path, fault, cause.as_str())?;
     Ok(line)
 }
 
-/// Says why the file of this path, which is there for this, can't be used, and gives the status.
+/// Says behind this text why the file of this path, which is there for this, can't be used, and gives the status.
 pub fn refuse_file<E: Write>(
     alloc: Global,
     faults: &mut E,
+    first: &str,
     what: &str,
     path: &str,
     fault: FileFault,
 ) -> u8
     ensures status { result ≡ 1 }
-    ensures said { SaysWhy what.now path.now fault (E.contents faults.old) (E.contents faults.new) }
+    ensures said { SaysWhy first.now what.now path.now fault (E.contents faults.old) (E.contents faults.new) }
 {
-    match line_about(alloc, what, path, fault) {
+    match line_about(alloc, first, what, path, fault) {
         Ok(line) => {
             let _ = write_octets(faults, line.as_bytes());
             1
@@ -122,7 +134,29 @@ pub fn refuse_file<E: Write>(
     }
 }
 
-/// Says why the file of this path, which is there for this, gives nothing, and gives the status.
+/// Says that a file can't be read, on a second line where that is to be explained which and why, and gives the status.
+#[tactic(auto, using(crate::proofs::FileFaults::unread_plainly, crate::proofs::FileFaults::unread_explained))]
+fn refuse_unread<E: Write>(
+    alloc: Global,
+    faults: &mut E,
+    what: &str,
+    path: &str,
+    fault: FileFault,
+    explained: bool,
+) -> u8
+    ensures status { result ≡ 1 }
+    ensures said { SaysUnread explained what.now path.now fault (E.contents faults.old) (E.contents faults.new)
+        ⊎ IsBegun (E.contents faults.old) (E.contents faults.new) (stop_line Stop.NoMemory) }
+{
+    if explained {
+        refuse_file(alloc, faults, "fault: input\n", what, path, fault)
+    } else {
+        give_up(faults, Stop::Input)
+    }
+}
+
+/// Says why the file of this path, which is there for this, gives nothing, with the reason where that is to be explained, and gives the
+/// status.
 #[tactic(auto, using(crate::proofs::FileFaults::no_text, crate::proofs::FileFaults::stop_said, crate::proofs::Stops::stops_badly))]
 pub fn refuse_text<E: Write>(
     alloc: Global,
@@ -130,20 +164,20 @@ pub fn refuse_text<E: Write>(
     what: &str,
     path: &str,
     fault: TextFault,
+    explained: bool,
 ) -> u8
     ensures status { result ≡ text_status fault }
     ensures bad { (0 < result) × (result ≤ 2) }
-    ensures said { IsNoText what.now (Some path.now) (E.contents faults.old) (E.contents faults.new) result }
+    ensures said { IsNoText explained what.now (Some path.now) (E.contents faults.old) (E.contents faults.new) result }
 {
     match fault {
-        TextFault::Closed(kind) => refuse_file(alloc, faults, what, path, FileFault::Closed(kind)),
-        TextFault::Stopped(Stop::Input) => refuse_file(
-            alloc,
-            faults,
-            what,
-            path,
-            FileFault::Unread,
-        ),
-        TextFault::Stopped(stop) => give_up(faults, stop),
+        TextFault::Closed(kind) => {
+            let fault = FileFault::Closed(kind);
+            refuse_unread(alloc, faults, what, path, fault, explained)
+        }
+        TextFault::Stopped(Stop::Input) => {
+            refuse_unread(alloc, faults, what, path, FileFault::Unread, explained)
+        }
+        TextFault::Stopped(stop) => give_up_explained(faults, stop, explained),
     }
 }

@@ -1,6 +1,9 @@
 //! The files of `sim`: the script of its modem, and the capture.
-ghost use Rattle.std.specs.Prelude.{◌≡◌, ◌<◌, ◌≤◌, IfOk, Some, codes, false};
+ghost use Rattle.std.specs.Prelude.{◌≡◌, ◌<◌, ◌≤◌, ◌++◌, IfOk, Some, codes, false, true};
+ghost use Rattle.std.specs.Fmt.{decimal};
 ghost use Rattle.clap.specs.Words.{first_value, found_of, rule_of};
+ghost use Rattle.modem_texts.specs.LineFaults.{bad_line, reason_line};
+ghost use Rattle.modem_texts.specs.Writing.{IsBegun};
 ghost use Rattle.modemctl.specs.Benches.{AreScripted};
 ghost use Rattle.modemctl.specs.Captures.{SaysNoCapture};
 ghost use Rattle.modemctl.specs.Files.{IsNoText};
@@ -9,8 +12,10 @@ ghost use Rattle.modemctl.specs.Words.{capture_rule, script_rule};
 use crate::words::file_faults::{FileFault, refuse_file, refuse_text};
 use crate::words::text_files::{TextFault, TextFiles};
 use clap::{Arg, ArgAction, ArgMatches};
-use modem_runs::{Stop, steps_from};
+use itoa::Buffer;
+use modem_runs::{LineFault, Stop, steps_from};
 use modem_sim::Steps;
+use modem_texts::say_bad_line;
 use mux_capture::{Capture, CaptureFault};
 use std::alloc::Global;
 use std::fs::File;
@@ -62,19 +67,27 @@ pub fn steps_of<R: TextFiles>(
     }
 }
 
-/// Says why the script of this path gives no steps, and gives the status.
+/// Names a bad line of a script, and on a second line says what has to stand there.
+fn say_bad_step<E: Write>(faults: &mut E, place: u64, why: LineFault)
+    ensures { IsBegun (E.contents faults.old) (E.contents faults.new)
+        (bad_line (decimal place) ++ reason_line (codes "the script: ") why) }
+{
+    let mut digits = Buffer::new();
+    say_bad_line(faults, digits.format(place), "the script: ", why);
+}
+
+/// Says why the script of this path gives no steps, with the reason on a second line, and gives the status.
 pub fn refuse_script<E: Write>(alloc: Global, faults: &mut E, path: &str, fault: TextFault) -> u8
     ensures some { 0 < result }
     ensures status { result ≤ 2 }
-    ensures said { result ≡ 1 → IsNoText (codes "script") (Some path.now) (E.contents faults.old) (E.contents faults.new) result }
+    ensures said { result ≡ 1 → IsNoText true (codes "script") (Some path.now) (E.contents faults.old) (E.contents faults.new) result }
 {
     match fault {
-        TextFault::Stopped(Stop::BadLine(place, fault)) => {
-            let reason = fault.reason();
-            let _ = writeln!(faults, "bad line {place} of the script{reason}");
+        TextFault::Stopped(Stop::BadLine(place, why)) => {
+            say_bad_step(faults, place, why);
             2
         }
-        other => refuse_text(alloc, faults, "script", path, other),
+        other => refuse_text(alloc, faults, "script", path, other, true),
     }
 }
 
@@ -106,7 +119,8 @@ pub fn refuse_capture<E: Write>(alloc: Global, faults: &mut E, path: &str, fault
 {
     match fault {
         NoCapture::Closed(kind) => {
-            refuse_file(alloc, faults, "capture", path, FileFault::Unmade(kind))
+            let fault = FileFault::Unmade(kind);
+            refuse_file(alloc, faults, "fault: ", "capture", path, fault)
         }
         NoCapture::Begun(fault) => {
             let _ = writeln!(faults, "{fault}");

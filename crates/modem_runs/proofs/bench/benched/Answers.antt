@@ -1,5 +1,5 @@
--- The text is known, where the octets of the reader are, and what ran was asked for by it.
-use Rattle.std.proofs.Common.{◌∙◌, List, ap, map, subst}
+-- What ran was asked for by the text, where that is known.
+use Rattle.std.proofs.Common.{◌∙◌, List, ℕ, ap, map, subst}
 use Rattle.std.specs.Prelude.{vec_items}
 use Rattle.std.specs.String.{string_bytes}
 use Rattle.std.specs.declared.alloc.Global.{Global}
@@ -7,20 +7,22 @@ use Rattle.std.specs.declared.vec.Vec.{Vec}
 use Rattle.modem_bench.specs.Running.{Ran}
 use Rattle.modem_bench.specs.declared.submission.Submission.{Submission}
 use Rattle.modem_desk.specs.declared.request.Outcome.{Outcome}
+use Rattle.modem_texts.specs.Input.{input_lines}
+use Rattle.modem_runs.specs.Bench.{AreSubmitted}
 use Rattle.modem_runs.specs.Printed.{IsBenched}
 use Rattle.modem_runs.specs.Shown.{outcomes_text}
-use Rattle.modem_runs.proofs.outputs.RunEnds.{at_known}
+use Rattle.modem_runs.proofs.outputs.RunEnds.{known_too}
 use Rattle.modem_runs.proofs.bench.benched.Goals as goal
 
 pub returns-clause-ok : goal.returns-clause-ok
 returns-clause-ok g c =
     let outcomes : List (List Outcome) = map vec_items c.in_ok-outcomes.outcomes.items in
-    at_known (λ all. IsBenched c.args.callers c.args.cut c.args.script all (string_bytes c.in_ok-text-2.text))
-    (g.I.Read.remaining c.args.input.now) c.in_ok-text.text.items c.as_slice.result.now c.in_ok-text.ensures.whole c.as_slice.ensures.value
-    (record {
+    known_too (λ (all : List ℕ). AreSubmitted c.args.callers (input_lines all) c.in_ok-submissions.submissions.items)
+    (λ (all : List ℕ). IsBenched c.args.callers c.args.cut c.args.script all (string_bytes c.in_ok-text.text))
+    (g.I.Read.remaining c.args.input.now) c.in_ok-submissions.ensures.ok (λ all input. record {
       submissions = c.in_ok-submissions.submissions.items;
       outcomes = outcomes;
-      input = c.in_ok-submissions.ensures;
-      ran = subst (λ (ss : List Submission). Ran ss c.args.callers c.args.cut c.args.script outcomes) c.as_slice-2.ensures.value c.in_ok-outcomes.ensures;
-      printed = c.in_ok-text-2.ensures ∙ ap (λ (os : List (Vec Outcome Global)). outcomes_text (map vec_items os)) c.as_slice-3.ensures.value;
+      input = input;
+      ran = subst (λ (ss : List Submission). Ran ss c.args.callers c.args.cut c.args.script outcomes) c.as_slice.ensures.value c.in_ok-outcomes.ensures;
+      printed = c.in_ok-text.ensures ∙ ap (λ (os : List (Vec Outcome Global)). outcomes_text (map vec_items os)) c.as_slice-2.ensures.value;
     })

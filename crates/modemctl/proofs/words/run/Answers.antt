@@ -4,9 +4,11 @@ use Rattle.clap.specs.declared.ArgMatches.{ArgMatches}
 use Rattle.clap.specs.declared.error.ErrorKind.{ErrorKind}
 use Rattle.clap.specs.declared.error.ErrorKind.TheVariants.{DisplayHelp, DisplayVersion, OutOfMemory}
 use Rattle.clap.proofs.OnLiterals.{clap_on_literals}
-use Rattle.modemctl.specs.Words.{AsksNoHelp, HasNoNumber, program_app, fault_in, met_in, named_in, text_in, raw_in}
+use Rattle.modemctl.specs.Words.{AsksNoHelp, HasNoNumber, is_explained, program_app, fault_in, met_in, named_in, text_in, raw_in}
 use Rattle.modem_runs.specs.declared.stop.Stop.TheVariants as Stop
+use Rattle.modem_runs.proofs.outputs.SaidLines.{begun_line}
 use Rattle.modem_runs.proofs.outputs.StoppedRuns.{gave_up}
+use Rattle.modem_runs.specs.Stopping.{HasGivenUp}
 use Rattle.modemctl.specs.Benches.{LeavesClient, PrintsBench, PrintsFrames, PrintsReplay, ServesClient}
 use Rattle.modemctl.specs.Dialects.{IsShut}
 use Rattle.modemctl.specs.Drives.{PrintsDrive}
@@ -172,17 +174,23 @@ pub returns-in-Ok-try_get_matches_from-clause-nothing :
 returns-in-Ok-try_get_matches_from-clause-nothing g c one no_sim no_drive no_replay =
     let right = at_program (λ kinds. kinds ≡ []) _ _ c.in-Ok.ensures c.in-Ok-try_get_matches_from.ensures.kinds in
     let name = sym (named c.in-Ok-try_get_matches_from.matches _ _ c.in-Ok.ensures (λ e. (c.in-Ok-try_get_matches_from.ensures.matches e).1)) in
-    c.run_named.ensures.nothing one (λ is. no_sim (right, name ∙ is)) (λ is. no_drive (right, name ∙ is)) (λ is. no_replay (right, name ∙ is))
+    subst (λ (m : Option (Text × List Row)). HasGivenUp (is_explained c.args.terminal m) c.args.output.now c.run_named.new.output (g.E.Write.contents c.args.faults.now) (g.E.Write.contents c.run_named.new.faults) c.run_named.result) (met c.in-Ok-try_get_matches_from.matches _ _ c.in-Ok.ensures (λ e. (c.in-Ok-try_get_matches_from.ensures.matches e).1))
+    (c.run_named.ensures.nothing one (λ is. no_sim (right, name ∙ is)) (λ is. no_drive (right, name ∙ is)) (λ is. no_replay (right, name ∙ is)))
 
 pub returns-in-Err-clause-nothing : goal.returns-in-Err-clause-nothing
-returns-in-Err-clause-nothing g c one no_sim no_drive no_replay = gave_up Stop.NoMemory c.args.output.now _ _ _ _ c.give_up.ensures.status c.give_up.ensures.said (λ other. refl)
+returns-in-Err-clause-nothing g c one no_sim no_drive no_replay =
+    gave_up _ Stop.NoMemory c.args.output.now _ _ _ _ c.give_up.ensures.status (begun_line _ Stop.NoMemory _ _ c.give_up.ensures.said) (λ other. refl)
+
+pub returns-in-Err-try_get_matches_from-clause-nothing :
+    goal.returns-in-Err-try_get_matches_from-clause-nothing
+returns-in-Err-try_get_matches_from-clause-nothing g c one no_sim no_drive no_replay = c.explain.ensures.nothing one _
 
 -- ## A dialect whose file can't be used
 
 pub returns-in-Ok-try_get_matches_from-clause-unreplayed :
     goal.returns-in-Ok-try_get_matches_from-clause-unreplayed
 returns-in-Ok-try_get_matches_from-clause-unreplayed g c one for =
-    subst (λ (m : Option (Text × List Row)). NamesCause (raw_in m (codes "dialect")) c.args.output.now c.run_named.new.output (g.E.Write.contents c.args.faults.now) (g.E.Write.contents c.run_named.new.faults) c.run_named.result) (met c.in-Ok-try_get_matches_from.matches _ _ c.in-Ok.ensures (λ e. (c.in-Ok-try_get_matches_from.ensures.matches e).1))
+    subst (λ (m : Option (Text × List Row)). NamesCause (is_explained c.args.terminal m) (raw_in m (codes "dialect")) c.args.output.now c.run_named.new.output (g.E.Write.contents c.args.faults.now) (g.E.Write.contents c.run_named.new.faults) c.run_named.result) (met c.in-Ok-try_get_matches_from.matches _ _ c.in-Ok.ensures (λ e. (c.in-Ok-try_get_matches_from.ensures.matches e).1))
     (c.run_named.ensures.unreplayed one (named c.in-Ok-try_get_matches_from.matches _ _ c.in-Ok.ensures (λ e. (c.in-Ok-try_get_matches_from.ensures.matches e).1) ∙ for.1))
 
 shut : (is : Text → Bool) (a b : Option (Text × List Row)) → a ≡ b → IsShut is (raw_in b (codes "dialect")) → IsShut is (raw_in a (codes "dialect"))
@@ -192,7 +200,7 @@ pub returns-in-Ok-try_get_matches_from-clause-undriven :
     goal.returns-in-Ok-try_get_matches_from-clause-undriven
 returns-in-Ok-try_get_matches_from-clause-undriven g c one for is =
     let same = met c.in-Ok-try_get_matches_from.matches _ _ c.in-Ok.ensures (λ e. (c.in-Ok-try_get_matches_from.ensures.matches e).1) in
-    subst (λ (m : Option (Text × List Row)). NamesCause (raw_in m (codes "dialect")) c.args.output.now c.run_named.new.output (g.E.Write.contents c.args.faults.now) (g.E.Write.contents c.run_named.new.faults) c.run_named.result) same
+    subst (λ (m : Option (Text × List Row)). NamesCause true (raw_in m (codes "dialect")) c.args.output.now c.run_named.new.output (g.E.Write.contents c.args.faults.now) (g.E.Write.contents c.run_named.new.faults) c.run_named.result) same
     (c.run_named.ensures.undriven one (named c.in-Ok-try_get_matches_from.matches _ _ c.in-Ok.ensures (λ e. (c.in-Ok-try_get_matches_from.ensures.matches e).1) ∙ for.1)
     (shut (g.R.TextFiles.is_shut c.args.rt.now) _ _ same is))
 
@@ -210,11 +218,11 @@ returns-in-Ok-try_get_matches_from-clause-drive_shut g c for is =
 
 pub returns-in-Err-try_get_matches_from-clause-unreplayed :
     goal.returns-in-Err-try_get_matches_from-clause-unreplayed
-returns-in-Err-try_get_matches_from-clause-unreplayed g c one for = inl (c.explain.ensures.nothing one)
+returns-in-Err-try_get_matches_from-clause-unreplayed g c one for = inl (c.explain.ensures.nothing one _)
 
 pub returns-in-Err-try_get_matches_from-clause-undriven :
     goal.returns-in-Err-try_get_matches_from-clause-undriven
-returns-in-Err-try_get_matches_from-clause-undriven g c one for is = inl (c.explain.ensures.nothing one)
+returns-in-Err-try_get_matches_from-clause-undriven g c one for is = inl (c.explain.ensures.nothing one _)
 
 pub returns-in-Err-try_get_matches_from-clause-replay_shut :
     goal.returns-in-Err-try_get_matches_from-clause-replay_shut
@@ -230,10 +238,10 @@ returns-in-Err-try_get_matches_from-clause-drive_shut g c for is =
     (omega (arith, one), c.explain.ensures.silent memory)
 
 pub returns-in-Err-clause-unreplayed : goal.returns-in-Err-clause-unreplayed
-returns-in-Err-clause-unreplayed g c one for = inl (gave_up Stop.NoMemory c.args.output.now _ _ _ _ c.give_up.ensures.status c.give_up.ensures.said (λ other. refl))
+returns-in-Err-clause-unreplayed g c one for = inl (gave_up _ Stop.NoMemory c.args.output.now _ _ _ _ c.give_up.ensures.status (begun_line _ Stop.NoMemory _ _ c.give_up.ensures.said) (λ other. refl))
 
 pub returns-in-Err-clause-undriven : goal.returns-in-Err-clause-undriven
-returns-in-Err-clause-undriven g c one for is = inl (gave_up Stop.NoMemory c.args.output.now _ _ _ _ c.give_up.ensures.status c.give_up.ensures.said (λ other. refl))
+returns-in-Err-clause-undriven g c one for is = inl (gave_up true Stop.NoMemory c.args.output.now _ _ _ _ c.give_up.ensures.status (begun_line true Stop.NoMemory _ _ c.give_up.ensures.said) (λ other. refl))
 
 -- ## Rows
 
@@ -296,3 +304,11 @@ drive_alone e = cc
 entry_of_words : raw_in (met_in (codes "modemctl" ∷ codes "drive" ∷ codes "--entry" ∷ codes "AT+CMUX=0,0,5" ∷ codes "/dev/ttyUSB2" ∷ [])) (codes "entry") ≡ Some (codes "AT+CMUX=0,0,5")
 unfolding clap_on_literals
 entry_of_words = refl
+
+explained_by_words : is_explained false (met_in (codes "modemctl" ∷ codes "bench" ∷ codes "--explain" ∷ [])) ≡ true
+unfolding clap_on_literals
+explained_by_words = refl
+
+explained_nowhere : is_explained false (met_in (codes "modemctl" ∷ codes "bench" ∷ [])) ≡ false
+unfolding clap_on_literals
+explained_nowhere = refl

@@ -1,9 +1,10 @@
 -- What was printed, by the numbers that the matches of the subcommand give.
-use Rattle.std.proofs.Common.{◌≡◌, ◌∙◌, ◌⊎◌, ⊎_elim, ℕ, Bool, ap, arith, is_some, sym, subst, inl, inr, List, Option, None, Some, option_map, codes}
+use Rattle.std.proofs.Common.{◌≡◌, ◌∙◌, ◌⊎◌, ◌||◌, ⊎_elim, ℕ, Bool, ap, arith, is_some, sym, subst, inl, inr, List, Option, None, Some, option_map, codes, true}
 use Rattle.clap.specs.Words.{Row, Text, first_of, first_value, found_of, one_of, one_text, rows_of, subcommand_rows_of}
 use Rattle.clap.specs.declared.ArgMatches.{ArgMatches}
 use Rattle.clap.proofs.WalkLemmas.{first_value-rows, one_text-rows}
-use Rattle.modemctl.specs.Words.{HasNoNumber, IsGiven, IsNoNumber, IsNumberOf, raw_in, text_in}
+use Rattle.modemctl.specs.Words.{HasNoNumber, IsGiven, IsNoNumber, IsNumberOf, is_explained, is_set, raw_in, text_in}
+use Rattle.modem_runs.specs.Stopping.{HasGivenUp}
 use Rattle.modem_serve.specs.declared.serving.SimOptions.{SimOptions}
 use Rattle.modemctl.specs.Benches.{AreGiven, AreMatched, AreScripted, IsFlag, LeavesClient, LeavesWith}
 use Rattle.modem_drive.specs.Entry.{entry_for}
@@ -71,7 +72,7 @@ pub returns-in-frames-clause-frames : goal.returns-in-frames-clause-frames
 returns-in-frames-clause-frames g c zero named = record {
   n1 = c.in-Ok.numbers.n1;
   given = number_in c.args.matches.now c.in-Some.given.now (codes "n1") 31 c.in-Ok.numbers.n1 c.in-Some.ensures.rows c.in-Ok.ensures.n1;
-  printed = c.frames_run.ensures.done zero;
+  printed = c.frames_run_explained.ensures.done zero;
 }
 
 pub returns-in-replay-clause-replay : goal.returns-in-replay-clause-replay
@@ -143,16 +144,35 @@ pub returns-in-drive-clause-drive_bad : goal.returns-in-drive-clause-drive_bad
 returns-in-drive-clause-drive_bad g c two named =
     ⊎_elim (λ same. inl same) (λ drove. inr (prints_drive (g.R.TextFiles.text_of c.args.rt.now) c.args.matches.now c.in-Some.given.now c.in-Ok.numbers.n1 _ _ _ _ _ c.in-Some.ensures.rows c.in-Ok.ensures.n1 drove)) (c.drive_words.ensures.bad two)
 
-names : {O : Type 0} (top m : ArgMatches) (old new : O) (before after : Option (List ℕ)) (status : ℕ) → Some (rows_of (found_of m)) ≡ option_map (λ p. p.1) (subcommand_rows_of top)
-    → NamesCause (first_value (found_of m) (codes "dialect")) old new before after status → NamesCause (raw_in (subcommand_rows_of top) (codes "dialect")) old new before after status
-names top m old new before after status rows said = subst (λ (t : Option Text). NamesCause t old new before after status) (word_given top m (codes "dialect") rows) said
+-- whether the reason is wanted, by the words
+same_wish : (top m : ArgMatches) (terminal : Bool) → Some (rows_of (found_of m)) ≡ option_map (λ p. p.1) (subcommand_rows_of top)
+    → (terminal || is_set (first_value (found_of m) (codes "explain"))) ≡ is_explained terminal (subcommand_rows_of top)
+same_wish top m terminal rows = ap (λ (t : Option Text). terminal || is_set t) (word_given top m (codes "explain") rows)
+
+pub returns-in-frames-clause-nothing : goal.returns-in-frames-clause-nothing
+returns-in-frames-clause-nothing g c one no_sim no_drive no_replay =
+    subst (λ (e : Bool). HasGivenUp e c.args.output.now c.frames_run_explained.new.output (g.E.Write.contents c.args.faults.now) (g.E.Write.contents c.frames_run_explained.new.faults) c.frames_run_explained.result)
+    (c.wants_reason-explained.ensures ∙ same_wish c.args.matches.now c.in-Some.given.now c.args.terminal c.in-Some.ensures.rows)
+    (c.frames_run_explained.ensures.nothing one)
+
+pub returns-in-bench-clause-nothing : goal.returns-in-bench-clause-nothing
+returns-in-bench-clause-nothing g c one no_sim no_drive no_replay =
+    subst (λ (e : Bool). HasGivenUp e c.args.output.now c.bench_plain.new.output (g.E.Write.contents c.args.faults.now) (g.E.Write.contents c.bench_plain.new.faults) c.bench_plain.result)
+    (c.wants_reason-explained.ensures ∙ same_wish c.args.matches.now c.in-Some.given.now c.args.terminal c.in-Some.ensures.rows)
+    (c.bench_plain.ensures.nothing one)
+
+names : {O : Type 0} (explained : Bool) (top m : ArgMatches) (old new : O) (before after : Option (List ℕ)) (status : ℕ) → Some (rows_of (found_of m)) ≡ option_map (λ p. p.1) (subcommand_rows_of top)
+    → NamesCause explained (first_value (found_of m) (codes "dialect")) old new before after status → NamesCause explained (raw_in (subcommand_rows_of top) (codes "dialect")) old new before after status
+names explained top m old new before after status rows said = subst (λ (t : Option Text). NamesCause explained t old new before after status) (word_given top m (codes "dialect") rows) said
 
 shut : (top m : ArgMatches) (is : Text → Bool) → Some (rows_of (found_of m)) ≡ option_map (λ p. p.1) (subcommand_rows_of top) → IsShut is (raw_in (subcommand_rows_of top) (codes "dialect")) → IsShut is (first_value (found_of m) (codes "dialect"))
 shut top m is rows h = subst (IsShut is) (sym (word_given top m (codes "dialect") rows)) h
 
 pub returns-in-replay-clause-unreplayed : goal.returns-in-replay-clause-unreplayed
 returns-in-replay-clause-unreplayed g c one named =
-    names c.args.matches.now c.in-Some.given.now _ _ _ _ _ c.in-Some.ensures.rows (c.replay_words.ensures.nothing one)
+    subst (λ (e : Bool). NamesCause e (raw_in (subcommand_rows_of c.args.matches.now) (codes "dialect")) c.args.output.now c.replay_words.new.output (g.E.Write.contents c.args.faults.now) (g.E.Write.contents c.replay_words.new.faults) c.replay_words.result)
+    (c.wants_reason-explained.ensures ∙ same_wish c.args.matches.now c.in-Some.given.now c.args.terminal c.in-Some.ensures.rows)
+    (names c.wants_reason-explained.result c.args.matches.now c.in-Some.given.now _ _ _ _ _ c.in-Some.ensures.rows (c.replay_words.ensures.nothing one))
 
 pub returns-in-replay-clause-replay_shut : goal.returns-in-replay-clause-replay_shut
 returns-in-replay-clause-replay_shut g c named is =
@@ -161,7 +181,7 @@ returns-in-replay-clause-replay_shut g c named is =
 
 pub returns-in-drive-clause-undriven : goal.returns-in-drive-clause-undriven
 returns-in-drive-clause-undriven g c one named is =
-    names c.args.matches.now c.in-Some.given.now _ _ _ _ _ c.in-Some.ensures.rows
+    names true c.args.matches.now c.in-Some.given.now _ _ _ _ _ c.in-Some.ensures.rows
     (c.drive_words.ensures.unread (shut c.args.matches.now c.in-Some.given.now (g.R.TextFiles.is_shut c.args.rt.now) c.in-Some.ensures.rows is) one)
 
 pub returns-in-drive-clause-drive_shut : goal.returns-in-drive-clause-drive_shut

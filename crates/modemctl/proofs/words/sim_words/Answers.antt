@@ -1,4 +1,4 @@
-use Rattle.std.proofs.Common.{◌≡◌, ◌⊎◌, List, Option, ℕ, inl, inr, refl}
+use Rattle.std.proofs.Common.{◌⊎◌, List, Option, ℕ, inl, inr, refl}
 use Rattle.clap.specs.Words.{Text}
 use Rattle.clap.specs.declared.ArgMatches.{ArgMatches}
 use Rattle.modem_serve.specs.Leaving.{IsServedInPart}

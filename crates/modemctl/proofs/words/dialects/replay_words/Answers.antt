@@ -1,5 +1,5 @@
 -- A replay by the dialect of the words.
-use Rattle.std.proofs.Common.{◌≡◌, ℕ, List, Option, arith, inl, subst}
+use Rattle.std.proofs.Common.{◌≡◌, ℕ, Bool, List, Option, arith, inl, subst}
 use Rattle.clap.specs.Words.{Text}
 use Rattle.modem_runs.specs.Stopping.{HasGivenUp}
 use Rattle.modemctl.specs.Dialects.{PrintsActs}
@@ -9,28 +9,28 @@ use Rattle.modemctl.proofs.words.dialects.replay_words.Goals as goal
 
 pub returns-in_default-clause-done : goal.returns-in_default-clause-done
 returns-in_default-clause-done g c zero =
-    subst (λ (t : Option Text). PrintsActs (g.R.TextFiles.text_of c.args.rt.now) t c.args.n1 (g.I.Read.remaining c.args.input.now) (g.W.Write.contents c.args.output.now) (g.W.Write.contents c.replay_run.new.output)) c.in_default.ensures (c.replay_run.ensures.done zero)
+    subst (λ (t : Option Text). PrintsActs (g.R.TextFiles.text_of c.args.rt.now) t c.args.n1 (g.I.Read.remaining c.args.input.now) (g.W.Write.contents c.args.output.now) (g.W.Write.contents c.replay_run_explained.new.output)) c.in_default.ensures (c.replay_run_explained.ensures.done zero)
 
 pub returns-in-Ok-clause-done : goal.returns-in-Ok-clause-done
 returns-in-Ok-clause-done g c zero =
-    subst (λ (t : Option Text). PrintsActs (g.R.TextFiles.text_of c.args.rt.now) t c.args.n1 (g.I.Read.remaining c.args.input.now) (g.W.Write.contents c.args.output.now) (g.W.Write.contents c.replay_with_dialect_run.new.output)) c.in-Some.ensures
-    (record { rules = c.in-Ok.dialect; named = c.in-Ok.ensures.named; printed = c.replay_with_dialect_run.ensures.done zero })
+    subst (λ (t : Option Text). PrintsActs (g.R.TextFiles.text_of c.args.rt.now) t c.args.n1 (g.I.Read.remaining c.args.input.now) (g.W.Write.contents c.args.output.now) (g.W.Write.contents c.replay_with_dialect_run_explained.new.output)) c.in-Some.ensures
+    (record { rules = c.in-Ok.dialect; named = c.in-Ok.ensures.named; printed = c.replay_with_dialect_run_explained.ensures.done zero })
 
 pub returns-in-Err-clause-done : goal.returns-in-Err-clause-done
 returns-in-Err-clause-done g c zero = let some = c.in-Err.ensures.bad.0 in absurd (omega (arith, some, zero))
 
-names : {E O : Type 0} (contents : E → Option (List ℕ)) (path : Option Text) (old new : O) (start before after : E) (status : ℕ) → before ≡ start
-    → HasGivenUp old new (contents before) (contents after) status → NamesCause path old new (contents start) (contents after) status
-names contents path old new start before after status same gave = inl (subst (λ (e : _). HasGivenUp old new (contents e) (contents after) status) same gave)
+names : {E O : Type 0} (explained : Bool) (contents : E → Option (List ℕ)) (path : Option Text) (old new : O) (start before after : E) (status : ℕ) → before ≡ start
+    → HasGivenUp explained old new (contents before) (contents after) status → NamesCause explained path old new (contents start) (contents after) status
+names explained contents path old new start before after status same gave = inl (subst (λ (e : _). HasGivenUp explained old new (contents e) (contents after) status) same gave)
 
 pub returns-in_default-clause-nothing : goal.returns-in_default-clause-nothing
-returns-in_default-clause-nothing g c one = inl (c.replay_run.ensures.nothing one)
+returns-in_default-clause-nothing g c one = inl (c.replay_run_explained.ensures.nothing one)
 
 pub returns-in-Ok-clause-nothing : goal.returns-in-Ok-clause-nothing
 returns-in-Ok-clause-nothing g c one =
-    names g.E.Write.contents _ c.args.output.now c.replay_with_dialect_run.new.output c.args.faults.now c.dialect_by.new.faults c.replay_with_dialect_run.new.faults _ c.in-Ok.ensures.silent (c.replay_with_dialect_run.ensures.nothing one)
+    names c.args.explained g.E.Write.contents _ c.args.output.now c.replay_with_dialect_run_explained.new.output c.args.faults.now c.dialect_by.new.faults c.replay_with_dialect_run_explained.new.faults _ c.in-Ok.ensures.silent (c.replay_with_dialect_run_explained.ensures.nothing one)
 
 pub returns-in-Err-clause-nothing : goal.returns-in-Err-clause-nothing
 returns-in-Err-clause-nothing g c one =
-    subst (λ (t : Option Text). NamesCause t c.args.output.now c.args.output.now (g.E.Write.contents c.args.faults.now) (g.E.Write.contents c.dialect_by.new.faults) c.in-Err.status) c.in-Some.ensures
-    (names_cause _ c.args.output.now _ _ _ c.in-Err.ensures.refused)
+    subst (λ (t : Option Text). NamesCause c.args.explained t c.args.output.now c.args.output.now (g.E.Write.contents c.args.faults.now) (g.E.Write.contents c.dialect_by.new.faults) c.in-Err.status) c.in-Some.ensures
+    (names_cause c.args.explained _ c.args.output.now _ _ _ c.in-Err.ensures.refused)

@@ -1,5 +1,5 @@
 -- A drive by the words.
-use Rattle.std.proofs.Common.{ap, ◌≡◌, ◌≢◌, ◌∙◌, ℕ, Bool, List, Option, arith, codes, inl, inr, is_some, refl, subst, sym, ◌==◌}
+use Rattle.std.proofs.Common.{ap, ◌≡◌, ℕ, Bool, List, Option, arith, codes, inr, is_some, refl, subst, true, ◌==◌}
 use Rattle.clap.specs.Words.{Text, first_value, found_of}
 use Rattle.clap.specs.declared.ArgMatches.{ArgMatches}
 use Rattle.at_text.specs.Rules.{Rules}
@@ -66,4 +66,4 @@ pub returns-in-Err-given_dialect-clause-done : goal.returns-in-Err-given_dialect
 returns-in-Err-given_dialect-clause-done g c zero = let some = c.in-Err-given_dialect.ensures.bad.0 in absurd (omega (arith, some, zero))
 
 pub returns-in-Err-given_dialect-clause-unread : goal.returns-in-Err-given_dialect-clause-unread
-returns-in-Err-given_dialect-clause-unread g c shut one = names_cause _ c.args.output.now _ _ _ c.in-Err-given_dialect.ensures.refused
+returns-in-Err-given_dialect-clause-unread g c shut one = names_cause true _ c.args.output.now _ _ _ c.in-Err-given_dialect.ensures.refused

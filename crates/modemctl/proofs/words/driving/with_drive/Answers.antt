@@ -1,7 +1,7 @@
 use Rattle.std.proofs.Common.{rules, ap, ap₂, codes, ◌≡◌, ◌∙◌}
 use Rattle.std.proofs.lemmas.Result.{IfOk-weaker}
 use Rattle.clap.specs.Words.{App, app_of, new_app, with_rule, with_subcommand}
-use Rattle.modemctl.specs.Words.{capture_rule, dialect_rule, drive_app, entry_rule, n1_rule, quiet_rule, subcommand_app, tick_rule}
+use Rattle.modemctl.specs.Words.{capture_rule, dialect_rule, drive_app, entry_rule, quiet_rule, subcommand_app, tick_rule}
 use Rattle.modemctl.proofs.words.driving.with_drive.Goals as goal
 
 pub returns : goal.returns

@@ -7,7 +7,7 @@ use Rattle.modem_runs.specs.Stopping.{IsRunStop}
 use Rattle.modem_runs.specs.declared.stop.Stop.TheVariants as Stop
 use Rattle.modem_runs.proofs.outputs.RunEnds.{printed_for, refused_for}
 use Rattle.modem_runs.proofs.outputs.StoppedRuns.{given_up, run_cause, stopped_at_once, stopped_for}
-use Rattle.modem_runs.proofs.runs.frames_run.Goals as goal
+use Rattle.modem_runs.proofs.runs.frames_run_explained.Goals as goal
 
 pub returns-clause-done : goal.returns-clause-done
 returns-clause-done g c =
@@ -20,16 +20,16 @@ returns-clause-refused g c e =
 
 pub returns-in_default-clause-stopped : goal.returns-in_default-clause-stopped
 returns-in_default-clause-stopped g c some =
-    stopped_at_once Stop.BadN1 (IsFramed c.args.n1) (IsRunStop c.args.n1 IsNoDump DumpFault (g.R.Read.remaining c.args.input.now)) _ g.W.Write.contents c.args.output.now _ _ _
-    c.give_up.ensures.status c.give_up.ensures.said (c.in_default.ensures.none.0 refl) (λ e. cc)
+    stopped_at_once c.args.explained Stop.BadN1 (IsFramed c.args.n1) (IsRunStop c.args.n1 IsNoDump DumpFault (g.R.Read.remaining c.args.input.now)) _ g.W.Write.contents c.args.output.now _ _ _
+    c.give_up_explained.ensures.status c.give_up_explained.ensures.said (c.in_default.ensures.none.0 refl) (λ e. cc)
 
 pub returns-clause-stopped : goal.returns-clause-stopped
 returns-clause-stopped g c some =
-    stopped_for string_bytes c.framed-built.result (IsFramed c.args.n1) (IsRunStop c.args.n1 IsNoDump DumpFault (g.R.Read.remaining c.args.input.now)) _ g.W.Write.contents c.args.output.now _ _ _ c.finish.result
+    stopped_for c.args.explained string_bytes c.framed-built.result (IsFramed c.args.n1) (IsRunStop c.args.n1 IsNoDump DumpFault (g.R.Read.remaining c.args.input.now)) _ g.W.Write.contents c.args.output.now _ _ _ c.finish.result
     c.finish.ensures.ended c.finish.ensures.nothing c.finish.ensures.part c.finish.ensures.said (rw c.in-Some.ensures.octets at c.framed-built.ensures.ok)
     (run_cause c.framed-built.result c.args.n1 IsNoDump DumpFault (g.R.Read.remaining c.args.input.now) c.framed-built.ensures.bad_line c.framed-built.ensures.others c.framed-built.ensures.no_line)
     c.framed-built.ensures.no_output tt some
 
 pub returns-clause-nothing : goal.returns-clause-nothing
 returns-clause-nothing g c one =
-    given_up _ _ _ g.W.Write.contents c.args.output.now _ _ _ c.finish.result (returns-clause-stopped g c (λ zero. cc))
+    given_up c.args.explained _ _ _ g.W.Write.contents c.args.output.now _ _ _ c.finish.result (returns-clause-stopped g c (λ zero. cc))
