@@ -1,6 +1,5 @@
 //! Writes a ring out to its device.
-ghost use Rattle.std.specs.Prelude.{◌≡◌, ◌≢◌, ◌⊎◌, ◌++◌, [], None, Some, MatchOption};
-ghost use Rattle.std.specs.Io.KnownBytes.{Appends};
+ghost use Rattle.std.specs.Prelude.{◌≡◌, ◌≢◌, ◌⊎◌, [], None, Some, length, MatchOption};
 ghost use Rattle.rtrb.specs.Ring.{received, known_items, SameConsumer};
 ghost use Rattle.device_line.specs.Flows.{FlowsOut};
 ghost use Rattle.device_line.specs.declared.FlowEnd.TheVariants.{Ended};
@@ -21,9 +20,12 @@ const AGAIN: u64 = 1;
 // Seconds after which the ring is looked at without any ring of the bell.
 const LOOK: u64 = 1;
 
-// Writes all of it, by as many calls as it takes. `None` if it did.
+// Writes all of it, by as many calls as it takes. `None` if it did; else it wrote only the first of it.
+#[tactic(auto, using(crate::proofs::Written::some_out, crate::proofs::Written::all_out))]
 fn write_on<W: Write, R: Wait>(rt: &R, writer: &mut W, octets: &[u8], own: &Bell) -> Option<FlowEnd>
-    ensures written { result ≡ None → Appends (W.contents writer.old) (W.contents writer.new) octets.now }
+    ensures written { result ≡ None
+        → FlowsOut 0 [] octets.now (W.contents writer.old) (W.contents writer.new) }
+    ensures first { FlowsOut (length octets.now) [] octets.now (W.contents writer.old) (W.contents writer.new) }
     ensures ended { result ≢ Some Ended }
 {
     let mut rest = octets;
@@ -46,6 +48,7 @@ fn write_on<W: Write, R: Wait>(rt: &R, writer: &mut W, octets: &[u8], own: &Bell
 
 // What is in the ring, at most 512 octets of it. With none there it waits, unless the ring's writer is gone: that is the end.
 // `None` where it goes on.
+#[tactic(auto, using(crate::proofs::Written::none_out, crate::proofs::Written::piece_out))]
 fn turn<W: Write, R: Wait>(
     rt: &R,
     writer: &mut W,
@@ -55,7 +58,8 @@ fn turn<W: Write, R: Wait>(
 ) -> Option<FlowEnd>
     ensures ring { SameConsumer ring.old ring.new }
     ensures flows { (result ≡ None) ⊎ (result ≡ Some Ended)
-        → FlowsOut (received ring.old) (received ring.new) (W.contents writer.old) (W.contents writer.new) }
+        → FlowsOut 0 (received ring.old) (received ring.new) (W.contents writer.old) (W.contents writer.new) }
+    ensures first { FlowsOut 512 (received ring.old) (received ring.new) (W.contents writer.old) (W.contents writer.new) }
     ensures ended { result ≡ Some Ended → known_items ring.new ≡ [] }
 {
     let mut buffer = [0; ROOM];
@@ -75,7 +79,7 @@ fn turn<W: Write, R: Wait>(
 
 /// Writes what comes out of a ring to a device, until the ring's writer is gone and all is written. It rings `bell` whenever there
 /// is room again. It waits on `own`, which a `RingWriter` rings, and stops once `own` is over. A write that takes nothing is a
-/// failure.
+/// failure. Where it stops or the device fails, all that it took out of the ring is written, but the last 512 octets at most.
 #[tactic(auto, using(crate::proofs::Written::none_out, crate::proofs::Written::both_out))]
 pub fn drain<W: Write, R: Wait>(
     rt: &R,
@@ -86,7 +90,8 @@ pub fn drain<W: Write, R: Wait>(
 ) -> FlowEnd
     ensures ring { SameConsumer ring.old ring.new }
     ensures flows { result ≡ Ended
-        → FlowsOut (received ring.old) (received ring.new) (W.contents writer.old) (W.contents writer.new) }
+        → FlowsOut 0 (received ring.old) (received ring.new) (W.contents writer.old) (W.contents writer.new) }
+    ensures first { FlowsOut 512 (received ring.old) (received ring.new) (W.contents writer.old) (W.contents writer.new) }
     ensures ended { result ≡ Ended → known_items ring.new ≡ [] }
 {
     for _ in rt.forever() {

@@ -1,5 +1,5 @@
 //! Reads a device into its ring.
-ghost use Rattle.std.specs.Prelude.{◌≡◌, ◌≢◌, ◌++◌, None, Some, IsTrue, MatchOption};
+ghost use Rattle.std.specs.Prelude.{◌≡◌, ◌≢◌, [], None, Some, length, IsTrue, MatchOption};
 ghost use Rattle.std.specs.Io.KnownBytes.{IsAtEnd};
 ghost use Rattle.rtrb.specs.Ring.{sent, SameProducer};
 ghost use Rattle.device_line.specs.Flows.{FlowsIn};
@@ -30,10 +30,13 @@ struct Bells<'a> {
     own: &'a Bell,
 }
 
-// Puts all these octets into the ring, waiting for room. It doesn't where nobody reads the ring, or where it is to stop.
+// Puts all these octets into the ring, waiting for room. Where nobody reads the ring, or where it is to stop, it puts only the first
+// of them.
+#[tactic(auto, using(crate::proofs::Written::begins_in, crate::proofs::Written::goes_in, crate::proofs::Written::some_in, crate::proofs::Written::all_in))]
 fn put<K: Clock>(clock: &K, octets: &[u8], ring: &mut Producer<u8>, bells: Bells) -> bool
     ensures ring { SameProducer ring.old ring.new }
-    ensures put { IsTrue result → sent ring.new ≡ sent ring.old ++ octets.now }
+    ensures put { IsTrue result → FlowsIn 0 (sent ring.old) (sent ring.new) (Some octets.now) (Some []) }
+    ensures first { FlowsIn (length octets.now) (sent ring.old) (sent ring.new) (Some octets.now) (Some []) }
 {
     let mut rest = octets;
     for _ in 0..u64::MAX {
@@ -73,6 +76,7 @@ fn empty_read<K: Clock>(
 }
 
 // One read, and what it gave into the ring. `None` where it goes on.
+#[tactic(auto, using(crate::proofs::Written::empty_in, crate::proofs::Written::piece_in))]
 fn turn<R: Read, K: Clock>(
     clock: &K,
     reader: &mut R,
@@ -83,7 +87,9 @@ fn turn<R: Read, K: Clock>(
 ) -> Option<FlowEnd>
     ensures ring { SameProducer ring.old ring.new }
     ensures flows { result ≢ Some Stopped
-        → FlowsIn (sent ring.old) (sent ring.new) (R.remaining reader.old) (R.remaining reader.new) }
+        → FlowsIn 0 (sent ring.old) (sent ring.new) (R.remaining reader.old) (R.remaining reader.new) }
+    ensures stopped { result ≡ Some Stopped
+        → FlowsIn 512 (sent ring.old) (sent ring.new) (R.remaining reader.old) (R.remaining reader.new) }
     ensures ended { result ≡ Some Ended → IsAtEnd (R.remaining reader.new) }
 {
     let mut buffer = [0; ROOM];
@@ -104,8 +110,9 @@ fn turn<R: Read, K: Clock>(
 }
 
 /// Reads a device into a ring until the device ends, and rings `bell` whenever octets came. It stops once `own` is over or nobody
-/// is left to read the ring; some octets of the last read may then be lost. `zero` says what an empty read means: the end, or
-/// nothing yet. Eight empty reads in a row that come back at once are the end in any case.
+/// is left to read the ring. Then the end of the last read may be lost, at most 512 octets; all that came before it is in the ring.
+/// `zero` says what an empty read means: the end, or nothing yet. Eight empty reads in a row that come back at once are the end in
+/// any case.
 #[tactic(auto, using(crate::proofs::Written::none_in, crate::proofs::Written::both_in))]
 pub fn pump<R: Read, K: Clock>(
     clock: &K,
@@ -117,7 +124,9 @@ pub fn pump<R: Read, K: Clock>(
 ) -> FlowEnd
     ensures ring { SameProducer ring.old ring.new }
     ensures flows { result ≢ Stopped
-        → FlowsIn (sent ring.old) (sent ring.new) (R.remaining reader.old) (R.remaining reader.new) }
+        → FlowsIn 0 (sent ring.old) (sent ring.new) (R.remaining reader.old) (R.remaining reader.new) }
+    ensures stopped { result ≡ Stopped
+        → FlowsIn 512 (sent ring.old) (sent ring.new) (R.remaining reader.old) (R.remaining reader.new) }
     ensures ended { result ≡ Ended → IsAtEnd (R.remaining reader.new) }
 {
     let bells = Bells { bell, own };

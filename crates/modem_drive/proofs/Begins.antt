@@ -1,5 +1,5 @@
 -- How a drive begins.
-use Rattle.std.specs.Prelude.{◌≡◌, ◌+◌, ◌<◌, ℕ, All, Bool, zero, suc, List, [], ◌∷◌, ◌++◌, Option, None, Some, drop, get_or, length, map, refl, replicate, slice_index_or, take}
+use Rattle.std.specs.Prelude.{◌≡◌, ◌+◌, ◌<◌, ℕ, All, Bool, zero, suc, List, [], ◌∷◌, ◌++◌, Option, None, Some, drop, get_or, length, map, refl, replicate, slice_index_or, take, Result, Ok, Err, IfOk, OnErr}
 use mathlib.Core.Option.{some}
 use lib.ListN.{get_elem?}
 use Rattle.std.specs.Io.KnownBytes.{Appends}
@@ -14,11 +14,12 @@ use Rattle.modem_history.specs.Sessions.{LineView}
 use Rattle.modem_driver.specs.SessionStates.{FitsAll, SessionState, beginning_by}
 use Rattle.modem_drive.specs.declared.users.UnderWay.{UnderWay}
 use Rattle.modem_drive.specs.declared.users.Users.{Users}
-use Rattle.modem_drive.specs.Asking.{AsksOn, HasAsked, NamesRead, PlanView}
-use Rattle.modem_drive.specs.Running.{Begins, Drove, HasEntered, IsNewDesk, kinds_by, plan_begun}
+use Rattle.modem_drive.specs.Asking.{AsksOn, HasAsked, NamesRead, PlanView, StopsOn}
+use Rattle.modem_drive.specs.Running.{Begins, DrivesInput, Drove, HasEntered, IsNewDesk, kinds_by, plan_begun}
 use Rattle.modem_drive.specs.Ending.{HasDriven, HasEndedBy}
 use Rattle.modem_drive.specs.declared.fault.DriveFault.{DriveFault}
-use Rattle.modem_drive.proofs.Asks.{all_asked, asks_same, asks_then, has_asked, names_read}
+use Rattle.modem_drive.specs.declared.running.Driven.{Driven}
+use Rattle.modem_drive.proofs.Asks.{all_asked, asks_same, asks_then, has_asked, names_read, names_stopped}
 use Rattle.modem_desk.specs.declared.settling.Settled.{Settled}
 use Rattle.modem_drive.specs.Showing.{HasShown, IsLine, IsRightPiece, count_on}
 
@@ -73,6 +74,22 @@ pub named_by : {X : Type 0} (look : X → LineView) (rules : Rules) (text : List
     → Drove look rules text n1 line last input before after silent said end was_bad left → NamesRead input silent said
 named_by look rules text n1 line last input before after silent said end was_bad left h =
     names_read input h.through h.driven.ends.ended.lines.submitted silent said h.read
+
+-- the same of what a drive that has begun came to
+pub drove_if : {X : Type 0} (look : X → LineView) (rules : Rules) (text : List ℕ) (n1 : ℕ) (first line : X) (s : SessionState X) (users : Users) (input before after silent said : Option (List ℕ)) (r : Result (X × Driven) DriveFault)
+    → HasEntered text (look first) (look line) → Begins look rules n1 line s users → IfOk r (λ r. DrivesInput look s users input before after silent said r.1.fault r.1.was_bad r.1.left r.0)
+    → IfOk r (λ r. Drove look rules text n1 first r.0 input before after silent said r.1.fault r.1.was_bad r.1.left)
+drove_if look rules text n1 first line s users input before after silent said (Ok x) entered b h =
+    drove look rules text n1 first line x.0 s users input before after silent said h.through x.1.fault x.1.was_bad x.1.left entered b h.driven h.bad_is
+drove_if look rules text n1 first line s users input before after silent said (Err why) entered b h = tt
+
+pub named_if : {X : Type 0} (look : X → LineView) (rules : Rules) (text : List ℕ) (n1 : ℕ) (first : X) (users : Users) (input before after silent said : Option (List ℕ)) (r : Result (X × Driven) DriveFault)
+    → IfOk r (λ r. Drove look rules text n1 first r.0 input before after silent said r.1.fault r.1.was_bad r.1.left) → users.lines.submitted ≡ [] → OnErr r (StopsOn (plan_begun input) users.lines.submitted silent said)
+    → NamesRead input silent said
+named_if look rules text n1 first users input before after silent said (Ok x) h none stops =
+    named_by look rules text n1 first x.0 input before after silent said x.1.fault x.1.was_bad x.1.left h
+named_if look rules text n1 first users input before after silent said (Err why) h none stops =
+    names_stopped input (plan_begun input) users.lines.submitted silent said refl none stops
 
 -- ## The desk that is opened
 

@@ -1,6 +1,6 @@
 -- How a drive ends.
-use Rattle.std.specs.Prelude.{◌≡◌, ℕ, List, [], ◌∷◌, ◌++◌, map, refl, slice_index_or, vec_items, Option, Result, Ok, IfOk, OnOk}
-use Rattle.std.proofs.Common.{ap, sym, subst, ◌∙◌, append-nil}
+use Rattle.std.specs.Prelude.{◌≡◌, ℕ, List, [], ◌∷◌, ◌++◌, map, refl, slice_index_or, vec_items, Option, Result, Ok, Err, IfOk, IsOk, OnErr, OnOk}
+use Rattle.std.proofs.Common.{ap, sym, subst, ◌∙◌, append-nil, true≢false}
 use Rattle.modem_desk.specs.declared.request.Outcome.{Outcome}
 use Rattle.modem_desk.specs.Ends.{AreSubscribed, DeskId, DriverView, IsWhole, Place, Subscription, place_of, subscription_of}
 use Rattle.modem_history.specs.EveryTurn.{GivesSome}
@@ -12,12 +12,12 @@ use Rattle.modem_driver.specs.SessionStates.{SessionEnds, SessionState, end_of}
 use Rattle.modem_drive.specs.Driving.{DrivesOn}
 use Rattle.modem_drive.specs.declared.fault.DriveFault.{DriveFault}
 use Rattle.modem_driver.specs.declared.session.turn.Turn.{Turn}
-use Rattle.modem_driver.specs.TurningAway.{Offline, PassesAway, TurnsOn, offline_from}
+use Rattle.modem_driver.specs.TurningAway.{Offline, PassSays, PassesAway, TurnsOn, moves, offline_from}
 use Rattle.modem_driver.proofs.sessions.polls.OfflinePasses.{turns_on}
 use Rattle.modem_drive.specs.declared.users.Users.{Users}
 use Rattle.modem_drive.specs.Showing.{GoOn, KeepPlaces}
 use Rattle.modem_drive.specs.Asking.{AsksOn, PlanView}
-use Rattle.modem_drive.specs.Ending.{EndsDrive, HasDriven, HasEndedBy, TurnsSome}
+use Rattle.modem_drive.specs.Ending.{AllHeard, EndsDrive, HasDriven, HasEndedBy, NoneWaits, TurnsLeft, TurnsSome}
 
 gives_none : {A : Type 0} (before waited : List A) → GivesSome before before waited waited
 gives_none before waited = record { given = []; given_are = sym (append-nil before); rest_are = refl }
@@ -41,6 +41,12 @@ pub turns_more : (o p q : Offline) (d e f : DriverView) (says : Turn) → TurnsS
 unfolding TurnsOn
 turns_more o p q d e f says h pass = record { taken = h.taken ++ pass.taken; turns = turns_on o p q d e f h.taken pass.taken h.turns pass.turns }
 
+-- a pass that finds nothing leaves nothing that waits
+pub rests_idle : (o p : Offline) (d e : DriverView) (says : Turn) → PassesAway o p d e says → says ≡ Turn.Idle → NoneWaits p
+rests_idle o p d e says pass idle =
+    let said = subst (λ (t : Turn). PassSays p (moves d e pass.taken) t) idle pass.answers in
+    record { outcomes = said.1.0; lines = said.1.1 }
+
 -- ## The same desk
 
 pub still_whole : (d e : DeskId) (old new : Users) → e ≡ d → KeepPlaces old new → IsWhole d (map place_of (old.lines ∷ old.control ∷ [])) → IsWhole e (map place_of (new.lines ∷ new.control ∷ []))
@@ -57,44 +63,55 @@ known_ok {A} {E} P r x is h = subst (λ (s : Result A E). IfOk s P) is h
 pub known_done : {A E : Type 0} (P : Type 0) (r : Result A E) (x : A) → r ≡ Ok x → OnOk r P → P
 known_done {A} {E} P r x is h = subst (λ (s : Result A E). OnOk s P) is h
 
--- what stands beside a result stays
-pub record Stays (s : DriverView) (users kept ended used : Users) (o p : Offline) (given driver away end : DriverView)
-    (before after : Option (List ℕ)) : Type 0 where
-  pub given_is : given ≡ s
-  pub driver_is : driver ≡ given
-  pub kept_is : kept ≡ users
-  pub turns : TurnsSome o p driver away
-  pub goes : GoOn before after kept ended
-  pub end_is : end ≡ away
-  pub used_is : used ≡ ended
+pub known_err : {A E : Type 0} (P : Type 0) (r : Result A E) (e : E) → r ≡ Err e → OnErr r P → P
+known_err {A} {E} P r e is h = subst (λ (s : Result A E). OnErr s P) is h
 
-pub same_desk : (s : DriverView) (users kept ended used : Users) (o p : Offline) (given driver away end : DriverView) (before after : Option (List ℕ)) → Stays s users kept ended used o p given driver away end before after
-    → (end.desk ≡ s.desk) × KeepPlaces users used
-same_desk s users kept ended used o p given driver away end before after h = (
-  ap (λ (d : DriverView). d.desk) h.end_is ∙ h.turns.turns.desk ∙ ap (λ (d : DriverView). d.desk) (h.driver_is ∙ h.given_is),
-  subst (λ (x : Users × Users). KeepPlaces x.0 x.1) (λ i. (h.kept_is i, sym h.used_is i)) h.goes.places,
-)
+-- of what is done
+pub done_ok : {A E : Type 0} (P : Type 0) (r : Result A E) → IsOk r → OnOk r P → P
+done_ok P (Ok x) is h = h
+done_ok P (Err e) is h = absurd (true≢false (sym is))
 
-pub ends_drive : {X : Type 0} (look : X → LineView) (s : SessionState X) (users kept ended used : Users) (given driver away end : DriverView) (f : Leftovers) (o p : Offline) (before after : Option (List ℕ)) (t : Settled)
-    → Stays s.driver users kept ended used o p given driver away end before after → SessionEnds look s f → f.desk ≡ end_of given → o ≡ offline_from f.in_hand f.unplaced f.unannounced
+pub on_both : {A E : Type 0} (P Q S : Type 0) (r : Result A E) → OnOk r P → OnOk r Q → (P → Q → S) → OnOk r S
+on_both P Q S (Ok x) p q f = f p q
+on_both P Q S (Err e) p q f = tt
+
+pub turns_left : {A E : Type 0} (r : Result A E) (first o p : Offline) (d e : DriverView) → o ≡ first → OnOk r (TurnsSome o p d e) → OnOk r (NoneWaits p) → OnOk r (TurnsLeft first d e)
+turns_left r first o p d e made h k =
+    on_both (TurnsSome o p d e) (NoneWaits p) (TurnsLeft first d e) r h k (λ t n. record { last = p; turned = subst (λ (x : Offline). TurnsSome x p d e) made t; placed = n })
+
+pub on_ok : {A E : Type 0} (P : Type 0) (r : Result A E) → P → OnOk r P
+on_ok P (Ok x) p = p
+on_ok P (Err e) p = tt
+
+-- what is known of what a desk held, where it is passed on
+pub same_settled : (P : Settled → Type 0) (t : Settled) (r : Result Settled DriveFault) → P t → IfOk r (λ s. (s ≡ t) × AllHeard s) → IfOk r P
+same_settled P t (Ok s) h k = subst P (sym k.0) h
+same_settled P t (Err why) h k = tt
+
+pub heard_then : (t : Settled) (r : Result Settled DriveFault) → IfOk r (λ s. (s ≡ t) × AllHeard s) → IfOk r AllHeard
+heard_then t (Ok s) k = k.1
+heard_then t (Err why) k = tt
+
+pub ends_drive : {X : Type 0} (look : X → LineView) (s : SessionState X) (users ended : Users) (given away : DriverView) (f : Leftovers) (before after : Option (List ℕ)) (t : Settled)
+    → given ≡ s.driver → SessionEnds look s f → f.desk ≡ end_of given → TurnsLeft (offline_from f.in_hand f.unplaced f.unannounced) given away → GoOn before after users ended
     → ended.under_way.items ≡ []
-    → ended.lines.submitted ≡ kept.lines.submitted
-    → DeskBooks end (used.lines ∷ used.control ∷ []) used.listeners.items t.left.items (map vec_items t.untaken.items) (map vec_items t.unheard.items)
+    → ended.lines.submitted ≡ users.lines.submitted → AllHeard t
+    → DeskBooks away (ended.lines ∷ ended.control ∷ []) ended.listeners.items t.left.items (map vec_items t.untaken.items) (map vec_items t.unheard.items)
     → EndsDrive look s users before after t
-ends_drive look s users kept ended used given driver away end f o p before after t h left desk made none asked books = record {
+ends_drive look s users ended given away f before after t same left desk turns goes none asked heard books = record {
   leftovers = f;
   ends = left;
-  desk = desk ∙ ap end_of h.given_is;
-  offline = p;
+  desk = desk ∙ ap end_of same;
+  offline = turns.last;
   driver = away;
-  turned = subst (λ (x : Offline × DriverView). TurnsSome x.0 p x.1 away) (λ i. (made i, (h.driver_is ∙ h.given_is) i)) h.turns;
+  turned = subst (λ (d : DriverView). TurnsSome (offline_from f.in_hand f.unplaced f.unannounced) turns.last d away) same turns.turned;
   ended = ended;
-  goes = subst (λ (u : Users). GoOn before after u ended) h.kept_is h.goes;
-  submits_none = asked ∙ ap (λ (u : Users). u.lines.submitted) h.kept_is;
+  goes = goes;
+  submits_none = asked;
   none = none;
-  books =
-      subst (λ (x : DriverView × Users). DeskBooks x.0 (x.1.lines ∷ x.1.control ∷ []) x.1.listeners.items t.left.items (map vec_items t.untaken.items) (map vec_items t.unheard.items))
-      (λ i. (h.end_is i, h.used_is i)) books;
+  placed = turns.placed;
+  none_unheard = heard;
+  books = books;
 }
 
 pub has_driven : {X : Type 0} (look : X → LineView) (s t u : SessionState X) (users mid kept : Users) (p q : PlanView) (before between after said more : Option (List ℕ)) (end : Option DriveFault) (left : Settled) (last : X)

@@ -1,5 +1,5 @@
 -- What a poll gives, and how a drive ends by it.
-use Rattle.std.specs.Prelude.{◌≡◌, ◌≢◌, Option, None, Some, Result, Ok, Err, refl}
+use Rattle.std.specs.Prelude.{◌≡◌, ◌≢◌, Option, None, Some, Result, Ok, Err, IfOk, refl}
 use Rattle.std.proofs.Common.{ap, sym, subst, ◌∙◌}
 use Rattle.modem_history.specs.Sessions.{LineView}
 use Rattle.modem_driver.specs.Polls.{Polls, PollsFrom, end_in, with_given}
@@ -14,6 +14,7 @@ use Rattle.modem_driver.specs.declared.session.polling.Progress.{Progress}
 use Rattle.modem_driver.specs.declared.session.polling.Progress.TheVariants as progress
 use Rattle.modem_drive.specs.Asking.{PlanView}
 use Rattle.modem_drive.specs.Ending.{FailedFor, HasEndedBy, KeepsGiven, SaysBy}
+use Rattle.modem_drive.specs.declared.driving.Went.{Went}
 use Rattle.modem_drive.specs.declared.driving.Went.TheVariants as went
 use Rattle.modem_drive.specs.declared.fault.DriveFault.{DriveFault}
 use Rattle.modem_drive.specs.declared.fault.DriveFault.TheVariants as fault
@@ -75,21 +76,27 @@ ended_by said c p (Some (fault.NoCapture kind)) k s = tt
 ended_by said c p (Some fault.Capture) k s = tt
 
 -- a fault other than a line that hung up
-other_fault : (c : Course) (p : PlanView) (f : DriveFault) → Some f ≢ Some fault.HungUp → HasEndedBy c p (Some f)
-other_fault c p fault.HungUp n = absurd (n refl)
-other_fault c p fault.NoMemory n = tt
-other_fault c p fault.Input n = tt
-other_fault c p fault.Output n = tt
-other_fault c p fault.NoThread n = tt
-other_fault c p (fault.NoDevice kind) n = tt
-other_fault c p fault.NotSetUp n = tt
-other_fault c p fault.Refused n = tt
-other_fault c p fault.NoAnswer n = tt
-other_fault c p fault.NotOpened n = tt
-other_fault c p fault.Closed n = tt
-other_fault c p (fault.GaveUp cause) n = tt
-other_fault c p (fault.NoCapture kind) n = tt
-other_fault c p fault.Capture n = tt
+other_fault : (said : Progress) (p : PlanView) (f : DriveFault) → Some f ≢ Some fault.HungUp → SaysBy said p (Some f)
+other_fault said p fault.HungUp n = absurd (n refl)
+other_fault said p fault.NoMemory n = tt
+other_fault said p fault.Input n = tt
+other_fault said p fault.Output n = tt
+other_fault said p fault.NoThread n = tt
+other_fault said p (fault.NoDevice kind) n = tt
+other_fault said p fault.NotSetUp n = tt
+other_fault said p fault.Refused n = tt
+other_fault said p fault.NoAnswer n = tt
+other_fault said p fault.NotOpened n = tt
+other_fault said p fault.Closed n = tt
+other_fault said p (fault.GaveUp cause) n = tt
+other_fault said p (fault.NoCapture kind) n = tt
+other_fault said p fault.Capture n = tt
 
-pub ended_otherwise : (c : Course) (p : PlanView) (f : DriveFault) (end : Option DriveFault) → went.Ends (Some f) ≡ went.Ends end → Some f ≢ Some fault.HungUp → HasEndedBy c p end
-ended_otherwise c p f end e n = let same : Some f ≡ end = cc in subst (HasEndedBy c p) same (other_fault c p f n)
+pub said_otherwise : (said : Progress) (p : PlanView) (f : DriveFault) (end : Option DriveFault) → went.Ends (Some f) ≡ went.Ends end → Some f ≢ Some fault.HungUp → SaysBy said p end
+said_otherwise said p f end e n = let same : Some f ≡ end = cc in subst (SaysBy said p) same (other_fault said p f n)
+
+-- what a round says of how it ends, by what its poll says
+pub ended_if : (said : Progress) (c : Course) (p : PlanView) (r : Result Went DriveFault) → KeepsGiven said c
+    → IfOk r (λ w. (end : Option DriveFault) → w ≡ went.Ends end → SaysBy said p end) → IfOk r (λ w. (end : Option DriveFault) → w ≡ went.Ends end → HasEndedBy c p end)
+ended_if said c p (Ok w) keeps h = λ end e. ended_by said c p end keeps (h end e)
+ended_if said c p (Err why) keeps h = tt

@@ -1,5 +1,9 @@
 -- How a drive ends.
-use Rattle.std.specs.Prelude.{◌≡◌, ℕ, true, false, List, [], ◌∷◌, Option, None, Some, Ok, Err, map, vec_items}
+use Rattle.std.specs.Prelude.{◌≡◌, ◌==◌, ℕ, Bool, true, false, List, [], ◌∷◌, Option, None, Some, Ok, Err, length, map, vec_items}
+use Rattle.std.specs.List.{list_all}
+use Rattle.std.specs.declared.alloc.Global.{Global}
+use Rattle.std.specs.declared.vec.Vec.{Vec}
+use Rattle.modem_desk.specs.declared.request.Urc.{Urc}
 use Rattle.modem_desk.specs.declared.settling.Settled.{Settled}
 use Rattle.modem_desk.specs.declared.request.Request.{Request}
 use Rattle.modem_desk.specs.Books.{DeskBooks}
@@ -26,9 +30,30 @@ pub record TurnsSome (old new : Offline) (before after : DriverView) : Type 0 wh
   pub taken : List Request
   pub turns : TurnsAway old new before after taken
 
+-- no outcome waits for its caller, and no line for its listener
+pub record NoneWaits (o : Offline) : Type 0 where
+  pub outcomes : o.unplaced ≡ []
+  pub lines : o.unannounced ≡ []
+
+-- the same, until nothing waits
+pub record TurnsLeft (first : Offline) (before after : DriverView) : Type 0 where
+  pub last : Offline
+  pub turned : TurnsSome first last before after
+  pub placed : NoneWaits last
+
+-- every listener has taken all that was announced to it
+abbrev pub is_empty_list : Vec Urc Global → Bool
+is_empty_list lines = length lines.items == 0
+
+abbrev pub all_heard : Settled → Bool
+all_heard settled = list_all is_empty_list settled.unheard.items
+
+abbrev pub AllHeard : Settled → Type 0
+AllHeard settled = all_heard settled ≡ true
+
 -- The session was finished, which left what each of its histories says. Its desk turned away the requests that weren't
--- told yet, and all that came was printed, until no line was under way. Then the desk was settled with all callers and
--- listeners.
+-- told yet, and all that came was printed, until no line was under way and nothing waited for a place. Then the desk was
+-- settled with all callers and listeners, and every listener had taken all its lines.
 pub record EndsDrive {X : Type 0} (look : X → LineView) (s : SessionState X) (users : Users)
     (before after : Option (List ℕ)) (settled : Settled) : Type 0 where
   pub leftovers : Leftovers
@@ -41,6 +66,8 @@ pub record EndsDrive {X : Type 0} (look : X → LineView) (s : SessionState X) (
   pub goes : GoOn before after users ended
   pub submits_none : ended.lines.submitted ≡ users.lines.submitted
   pub none : ended.under_way.items ≡ []
+  pub placed : NoneWaits offline
+  pub none_unheard : AllHeard settled
   pub books : DeskBooks driver (ended.lines ∷ ended.control ∷ []) ended.listeners.items settled.left.items
       (map vec_items settled.untaken.items) (map vec_items settled.unheard.items)
 

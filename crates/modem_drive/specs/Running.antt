@@ -54,6 +54,13 @@ plan_begun input = record {
   stopping = false;
 }
 
+-- a session went on to its end with the lines of this input
+pub record DrivesInput {X : Type 0} (look : X → LineView) (s : SessionState X) (users : Users)
+    (input before after silent said : Option (List ℕ)) (end : Option DriveFault) (was_bad : Bool) (left : Settled) (last : X) : Type 0 where
+  pub through : PlanView
+  pub driven : HasDriven look s users (plan_begun input) through before after silent said end left last
+  pub bad_is : was_bad ≡ through.was_bad
+
 -- The multiplexer was entered by this text, a session with this N1 and the codes of these rules began on the line, went on, and
 -- ended, and all that came for its users was printed. The commands that were submitted, and told before the end, are those that the
 -- lines are which were read, but for one that was next, and the bad ones of those lines were named: was_bad says whether there was

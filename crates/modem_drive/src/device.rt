@@ -4,9 +4,10 @@ ghost use Rattle.serial_line.specs.StreamLine.{new_stream};
 ghost use Rattle.serial_line.specs.declared.stream_line.ZeroRead.TheVariants.{Ended};
 
 use crate::fault::DriveFault;
+use crate::results::beside;
 use bell::Bell;
 use device_line::{DeviceLine, RingReader, RingWriter, drain, leave, line_over, pump};
-use rtrb::RingBuffer;
+use rtrb::{Consumer, Producer, RingBuffer};
 use serial_line::ZeroRead;
 use std::alloc::{AllocError, AllocGlobal, Global};
 use std::io::{Read, Write};
@@ -59,6 +60,89 @@ fn spawned<H: Drop, F: Drop>(thread: Result<H, SpawnError<F>>) -> Result<(), Dri
     }
 }
 
+/// A thread's shares: of the bell that it rings, and of the one by which it is told to end.
+#[derive(Drop)]
+struct Shares {
+    bell: Bell,
+    own: Bell,
+}
+
+/// Shares for a thread that is told to end by this bell.
+fn shares_of(bell: &Bell, stop: &StopBell) -> Result<Shares, AllocError> {
+    let bell = bell.share()?;
+    let own = stop.share()?;
+    Ok(Shares { bell, own })
+}
+
+/// What ends a thread, and the thread's shares.
+fn shares_for(alloc: Global, bell: &Bell) -> Result<(StopBell, Shares), AllocError> {
+    let stop = StopBell::new(alloc)?;
+    let (shares, stop) = beside(shares_of(bell, &stop), stop)?;
+    Ok((stop, shares))
+}
+
+/// Starts a thread that reads a device into a ring.
+fn start_reading<R, I>(
+    rt: &R,
+    input: I,
+    ring: Producer<u8>,
+    shares: Shares,
+    zero: ZeroRead,
+) -> Result<(), DriveFault>
+where
+    R: Threads + Wait + Clock + AllocGlobal + Copy + Send + Drop + 'static,
+    I: Read + Send + Drop + 'static,
+{
+    let rt_there = *rt;
+    let mut input = input;
+    let mut ring = ring;
+    spawned(thread::spawn(rt, move || {
+        let _ = pump(
+            &rt_there,
+            &mut input,
+            &mut ring,
+            &shares.bell,
+            &shares.own,
+            zero,
+        );
+        leave(ring, &shares.bell);
+    }))
+}
+
+/// The ends of a ring to a thread that waits on this bell: the writer rings it.
+fn ring_to(alloc: Global, stop: &StopBell) -> Result<(RingWriter, Consumer<u8>), DriveFault> {
+    let rung = stop.share()?;
+    let (ends, rung) = beside(RingBuffer::new(alloc, ROOM), rung)?;
+    let (octets, ring) = ends;
+    Ok((RingWriter::new(octets, rung), ring))
+}
+
+/// Starts a thread that writes a ring out to a device.
+fn start_writing<R, O>(
+    rt: &R,
+    output: O,
+    ring: Consumer<u8>,
+    shares: Shares,
+) -> Result<(), DriveFault>
+where
+    R: Threads + Wait + Clock + AllocGlobal + Copy + Send + Drop + 'static,
+    O: Write + Send + Drop + 'static,
+{
+    let rt_there = *rt;
+    let mut output = output;
+    let mut ring = ring;
+    spawned(thread::spawn(rt, move || {
+        let _ = drain(
+            &rt_there,
+            &mut output,
+            &mut ring,
+            &shares.bell,
+            &shares.own,
+        );
+        leave(ring, &shares.bell);
+    }))
+}
+
 /// Has a thread read a device into a ring, until what ends the thread or the ring's reader is dropped. Refused where the ring or the
 /// thread can't be had: then there is no thread.
 pub fn read_beside<R, I>(
@@ -71,17 +155,11 @@ where
     R: Threads + Wait + Clock + AllocGlobal + Copy + Send + Drop + 'static,
     I: Read + Send + Drop + 'static,
 {
-    let stop = StopBell::new(rt.alloc())?;
-    let (ring, octets) = RingBuffer::new(rt.alloc(), ROOM)?;
-    let bell = bell.share()?;
-    let own = stop.share()?;
-    let rt_there = *rt;
-    let mut input = input;
-    let mut ring = ring;
-    spawned(thread::spawn(rt, move || {
-        let _ = pump(&rt_there, &mut input, &mut ring, &bell, &own, zero);
-        leave(ring, &bell);
-    }))?;
+    let (stop, shares) = shares_for(rt.alloc(), bell)?;
+    let made = RingBuffer::new(rt.alloc(), ROOM);
+    let ((ring, octets), (stop, shares, input)) = beside(made, (stop, shares, input))?;
+    let started = start_reading(rt, input, ring, shares, zero);
+    let (_, (octets, stop)) = beside(started, (octets, stop))?;
     Ok((RingReader::new(octets), stop))
 }
 
@@ -96,18 +174,11 @@ where
     R: Threads + Wait + Clock + AllocGlobal + Copy + Send + Drop + 'static,
     O: Write + Send + Drop + 'static,
 {
-    let stop = StopBell::new(rt.alloc())?;
-    let (octets, ring) = RingBuffer::new(rt.alloc(), ROOM)?;
-    let bell = bell.share()?;
-    let writer = RingWriter::new(octets, stop.share()?);
-    let own = stop.share()?;
-    let rt_there = *rt;
-    let mut output = output;
-    let mut ring = ring;
-    spawned(thread::spawn(rt, move || {
-        let _ = drain(&rt_there, &mut output, &mut ring, &bell, &own);
-        leave(ring, &bell);
-    }))?;
+    let (stop, shares) = shares_for(rt.alloc(), bell)?;
+    let made = ring_to(rt.alloc(), &stop);
+    let ((writer, ring), (stop, shares, output)) = beside(made, (stop, shares, output))?;
+    let started = start_writing(rt, output, ring, shares);
+    let (_, (writer, stop)) = beside(started, (writer, stop))?;
     Ok((writer, stop))
 }
 
@@ -126,7 +197,9 @@ where
     O: Write + Send + Drop + 'static,
     ensures { IfOk result (λ r. r.0 ≡ new_stream None None Ended) }
 {
-    let (octets, reading) = read_beside(rt, reader, bell, zero)?;
-    let (sink, writing) = write_beside(rt, writer, bell)?;
+    let read = read_beside(rt, reader, bell, zero);
+    let ((octets, reading), writer) = beside(read, writer)?;
+    let written = write_beside(rt, writer, bell);
+    let ((sink, writing), (octets, reading)) = beside(written, (octets, reading))?;
     Ok((line_over(octets, sink), DeviceThreads { reading, writing }))
 }

@@ -150,8 +150,35 @@ fn judge<I: Read>(said: Progress, plan: &Plan<I>, moved: bool) -> Went
     }
 }
 
+/// Prints what came, and asks what can be asked then, behind a poll that said this.
+#[tactic(auto, using(crate::proofs::Lines::goes_then))]
+fn answer<R: Wait + Clock, I: Read, W: Write, E: Write>(
+    rt: &R,
+    alloc: Global,
+    said: Progress,
+    users: &mut Users,
+    plan: &mut Plan<I>,
+    output: &mut W,
+    faults: &mut E,
+) -> Result<Went, DriveFault>
+    ensures goes { OnOk result (GoOn (W.contents output.old) (W.contents output.new) users.old users.new) }
+    ensures asks { OnOk result (AsksOn plan.old plan.new users.old.lines.submitted users.new.lines.submitted
+        (E.contents faults.old) (E.contents faults.new)) }
+    ensures stops { OnErr result (StopsOn plan.old users.old.lines.submitted (E.contents faults.old) (E.contents faults.new)) }
+    ensures ends { IfOk result (λ w. (end : Option DriveFault) → w ≡ went.Ends end → SaysBy said plan.new end) }
+{
+    let shown = show(rt, alloc, users, plan, output)?;
+    if let Some(fault) = plan.take_told(users) {
+        return Ok(Went::Ends(Some(fault)));
+    }
+    if matches!(said, Progress::Ended(_)) {
+        return Ok(judge(said, plan, shown));
+    }
+    let asked = plan.go_on(rt, alloc, users, faults)?;
+    Ok(judge(said, plan, asked || shown))
+}
+
 /// One round: it polls the session, prints what came, and asks what can be asked then.
-#[tactic(auto, using(crate::proofs::Lines::goes_then, crate::proofs::Drives::drives_none))]
 fn round<L: SerialLine, R: Wait + Clock + Drop, I: Read, W: Write, E: Write>(
     rt: &R,
     alloc: Global,
@@ -170,15 +197,19 @@ fn round<L: SerialLine, R: Wait + Clock + Drop, I: Read, W: Write, E: Write>(
     ensures ends { IfOk result (λ w. (end : Option DriveFault) → w ≡ went.Ends end → HasEndedBy session.new.machine.course plan.new end) }
 {
     let said = poll(rt, session, ticks);
-    let shown = show(rt, alloc, users, plan, output)?;
-    if let Some(fault) = plan.take_told(users) {
-        return Ok(Went::Ends(Some(fault)));
-    }
-    if matches!(said, Progress::Ended(_)) {
-        return Ok(judge(said, plan, shown));
-    }
-    let asked = plan.go_on(rt, alloc, users, faults)?;
-    Ok(judge(said, plan, asked || shown))
+    answer(rt, alloc, said, users, plan, output, faults)
+}
+
+/// Waits until the bell is rung, or there may be something to do.
+fn rest<L: SerialLine, R: Wait + Clock + Drop, I: Read>(
+    rt: &R,
+    bell: &Bell,
+    session: &Session<L, R>,
+    ticks: &Ticks,
+    plan: &Plan<I>,
+) {
+    let most = plan.time_left(rt, Duration::from_secs(LOOK_SECONDS));
+    bell.wait(rt, ticks.time_left(rt, session.wants_tick(), most));
 }
 
 /// Goes on until the multiplexer has ended, or the drive ends by a fault. It prints all that came by then, and gives the fault, if
@@ -202,15 +233,11 @@ pub fn drive_on<L: SerialLine, R: Wait + Clock + Drop, I: Read, W: Write, E: Wri
     ensures stops { OnErr result (StopsOn plan.old users.old.lines.submitted (E.contents faults.old) (E.contents faults.new)) }
     ensures ends { IfOk result (HasEndedBy session.new.machine.course plan.new) }
 {
-    let most = Duration::from_secs(LOOK_SECONDS);
     for _ in rt.forever() {
         match round(rt, alloc, session, ticks, users, plan, output, faults)? {
             Went::More => {}
             Went::Ends(end) => return Ok(end),
-            Went::Rests => {
-                let time = ticks.time_left(rt, session.wants_tick(), plan.time_left(rt, most));
-                bell.wait(rt, time);
-            }
+            Went::Rests => rest(rt, bell, session, ticks, plan),
         }
     }
     unreachable!()

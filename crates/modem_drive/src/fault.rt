@@ -16,7 +16,7 @@ pub enum GiveUp {
     Lines,
     /// An outcome came of a line that isn't under way.
     Outcome,
-    /// The desk wasn't empty after 100,000 passes.
+    /// The desk wasn't empty after 100,000 passes, or a line was left in it that was announced.
     Desk,
     /// The session stopped, though nobody asked it to.
     Unasked,

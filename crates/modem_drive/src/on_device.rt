@@ -2,18 +2,21 @@
 ghost use Rattle.std.specs.Prelude.{◌≡◌, ◌≢◌, ◌≤◌, ◌==◌, [], false, IfOk, IfSome, None, is_some};
 ghost use Rattle.modem_driver.specs.SessionStates.{line_by};
 ghost use Rattle.modem_drive.specs.Asking.{NamesRead};
-ghost use Rattle.modem_drive.specs.CapturedLine.{HasBegun};
+ghost use Rattle.serial_line.specs.StreamLine.{new_stream};
+ghost use Rattle.serial_line.specs.declared.stream_line.ZeroRead.TheVariants.{Ended};
+ghost use Rattle.modem_drive.specs.CapturedLine.{CapturesUnlessFailed, HasBegun};
 ghost use Rattle.modem_drive.specs.Entry.{entry_for, given_text};
 ghost use Rattle.modem_drive.specs.OnDevice.{DroveCaptured, DroveDevice, DroveLine, DroveWell, EndsByFault, RanDevice, capture_path};
 
 use crate::captured_line::CapturedLine;
-use crate::device::{line_beside, read_beside};
+use crate::device::{DeviceThreads, StopBell, line_beside, read_beside};
 use crate::fault::DriveFault;
 use crate::results::beside;
 use crate::running::{Driven, drive_over};
-use crate::saying::{Paths, say_end, say_fault};
+use crate::saying::{Paths, say_end};
 use crate::settings::Settings;
 use bell::Bell;
+use device_line::{DeviceLine, RingReader};
 use mux_capture::Capture;
 use serial_line::{SerialLine, ZeroRead};
 use std::alloc::{AllocGlobal, Global};
@@ -122,6 +125,28 @@ fn fault_with(fault: Option<DriveFault>, has_failed: bool) -> Option<DriveFault>
     }
 }
 
+/// What a drive on a line with a capture came to.
+fn judge_capture<L: SerialLine + Drop, K: Clock + Drop, C: Write + Drop>(
+    ended: (CapturedLine<L, K, C>, Driven),
+) -> Driven
+    ensures fault { result.fault ≡ None → (ended.1.fault ≡ None) × (ended.0.capture.failed ≡ false) }
+    ensures captures { CapturesUnlessFailed (L.received ended.0.line) (L.sent ended.0.line) ended.0.capture }
+    ensures same { (result.was_bad ≡ ended.1.was_bad) × (result.left ≡ ended.1.left) }
+{
+    let (last, driven) = ended;
+    let Driven {
+        fault,
+        was_bad,
+        left,
+    } = driven;
+    let fault = fault_with(fault, last.has_failed());
+    Driven {
+        fault,
+        was_bad,
+        left,
+    }
+}
+
 /// The same on a line on which nothing has passed, with a capture that has begun: the frames that pass go there. One that fails is the
 /// fault where there is no other.
 fn drive_captured<L, R, C, I, W, E>(
@@ -151,18 +176,8 @@ where
     ensures named { NamesRead (I.remaining input) (E.contents faults.old) (E.contents faults.new) }
 {
     let line = CapturedLine::new(line, *rt, capture);
-    let (last, driven) = drive_over(rt, alloc, bell, line, input, output, faults, settings)?;
-    let Driven {
-        fault,
-        was_bad,
-        left,
-    } = driven;
-    let fault = fault_with(fault, last.has_failed());
-    Ok(Driven {
-        fault,
-        was_bad,
-        left,
-    })
+    let ended = drive_over(rt, alloc, bell, line, input, output, faults, settings)?;
+    Ok(judge_capture(ended))
 }
 
 /// Drives a modem on a line on which nothing has passed, with a capture if it is given.
@@ -200,6 +215,43 @@ where
     }
 }
 
+/// The line of a device and the input, by threads that are told to end once this is dropped.
+#[derive(Drop)]
+struct Threaded {
+    line: DeviceLine,
+    input: RingReader,
+    threads: DeviceThreads,
+    input_stop: StopBell,
+}
+
+/// Has threads read the input, read the device and write it. Refused where one of them can't be started: the others are told to end, and
+/// nothing is written to the device.
+fn start_threads<R, D, O, I>(
+    rt: &R,
+    device: (D, O),
+    input: I,
+    bell: &Bell,
+) -> Result<Threaded, DriveFault>
+where
+    R: Threads + Wait + Clock + AllocGlobal + Copy + Send + Drop + 'static,
+    D: Read + Send + Drop + 'static,
+    O: Write + Send + Drop + 'static,
+    I: Read + Send + Drop + 'static,
+    ensures { IfOk result (λ t. t.line ≡ new_stream None None Ended) }
+{
+    let (reader, writer) = device;
+    let read = read_beside(rt, input, bell, ZeroRead::Ended);
+    let ((input, input_stop), (reader, writer)) = beside(read, (reader, writer))?;
+    let made = line_beside(rt, reader, writer, ZeroRead::Quiet, bell);
+    let ((line, threads), (input, input_stop)) = beside(made, (input, input_stop))?;
+    Ok(Threaded {
+        line,
+        input,
+        threads,
+        input_stop,
+    })
+}
+
 /// Drives a modem on a device and an input whose calls wait, as `drive_over` does. One thread reads the device, one writes it, and one
 /// reads the input. The frames that pass go into the capture, if there is one. Refused as `drive_over` is, and with NoThread where a
 /// thread can't be started: then nothing is written to the device. However it ends, each thread that was started is told to end, and
@@ -229,16 +281,45 @@ where
 {
     let alloc = rt.alloc();
     let bell = Bell::new(alloc)?;
-    let (reader, writer) = device;
-    let (input, _input_stop) = read_beside(rt, input, &bell, ZeroRead::Ended)?;
-    let (made, input) = beside(
-        line_beside(rt, reader, writer, ZeroRead::Quiet, &bell),
+    let (threaded, capture) = beside(start_threads(rt, device, input, &bell), capture)?;
+    let Threaded {
+        line,
         input,
-    )?;
-    let (line, _threads) = made;
+        threads: _threads,
+        input_stop: _input_stop,
+    } = threaded;
     drive_by(
         rt, alloc, &bell, line, capture, input, output, faults, settings,
     )
+}
+
+/// Drives a modem on the device of this path, as `drive_threaded` does, with a capture where the settings name a file. Refused too
+/// where the device can't be opened or the capture made.
+fn drive_path<R, I, W, E>(
+    rt: &R,
+    path: &str,
+    input: I,
+    output: &mut W,
+    faults: &mut E,
+    settings: Settings<'_>,
+) -> Result<Driven, DriveFault>
+where
+    R: Files<File = File> + Threads + Wait + Clock + AllocGlobal + Copy + Send + Drop + 'static,
+    I: Read + Send + Drop + 'static,
+    W: Write,
+    E: Write,
+    ensures drove { IfOk result (λ d. d.fault ≡ None → DroveDevice (is_some (given_text settings.entry.capture))
+        settings.entry.dialect.now (entry_for (given_text settings.entry.entry) settings.entry.n1) settings.entry.n1
+        (W.contents output.old) (W.contents output.new) (E.contents faults.old) (E.contents faults.new) d.was_bad d.left) }
+    ensures named { NamesRead None (E.contents faults.old) (E.contents faults.new) }
+{
+    let Opened {
+        reader,
+        writer,
+        capture,
+    } = open_all(rt, rt.alloc(), path, &settings)?;
+    let device = (reader, writer);
+    drive_threaded(rt, device, capture, input, output, faults, settings)
 }
 
 /// Drives a modem on the device of this path, as `drive_over` does, with the lines of `input`, which a thread of its own reads. The
@@ -266,23 +347,10 @@ where
     ensures fault { result ≡ 1 → EndsByFault path.now (capture_path settings.entry.capture)
         (E.contents faults.old) (E.contents faults.new) }
 {
-    let alloc = rt.alloc();
     let paths = Paths {
         device: path,
         capture: settings.capture.unwrap_or(""),
     };
-    match open_all(rt, alloc, path, &settings) {
-        Ok(
-            Opened {
-                reader,
-                writer,
-                capture,
-            },
-        ) => {
-            let device = (reader, writer);
-            let ended = drive_threaded(rt, device, capture, input, output, faults, settings);
-            say_end(alloc, faults, paths, ended)
-        }
-        Err(fault) => say_fault(alloc, faults, paths, fault),
-    }
+    let ended = drive_path(rt, path, input, output, faults, settings);
+    say_end(rt.alloc(), faults, paths, ended)
 }

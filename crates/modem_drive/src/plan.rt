@@ -183,7 +183,8 @@ impl<I: Read> Plan<I> {
 
     /// What is to be asked beside commands now, if anything is.
     fn control<K: Clock>(&self, clock: &K, users: &Users) -> Option<Control>
-        ensures { IfSome result (λ c. c ≡ control.Stop → IsThrough self.now) }
+        ensures through { IfSome result (λ c. c ≡ control.Stop → IsThrough self.now) }
+        ensures idle { IfSome result (λ c. c ≡ control.Stop → users.now.under_way.items ≡ []) }
     {
         match self.phase {
             Phase::Opening => return Dlci::new(0).map(Control::Open),

@@ -6,7 +6,7 @@ ghost use Rattle.modem_driver.specs.SessionStates.{FitsAll, beginning_by, line_b
 ghost use Rattle.modem_drive.specs.Asking.{NamesRead, StopsOn};
 ghost use Rattle.modem_drive.specs.Ending.{HasDriven};
 ghost use Rattle.modem_drive.specs.Entry.{entry_for, given_text};
-ghost use Rattle.modem_drive.specs.Running.{Begins, Drove, HasEntered, IsNewDesk, kinds_by};
+ghost use Rattle.modem_drive.specs.Running.{Begins, DrivesInput, Drove, HasEntered, IsNewDesk, kinds_by, plan_begun};
 ghost use Rattle.modem_drive.specs.Showing.{HasShown};
 
 use crate::driving::{Ticks, drive_on};
@@ -189,6 +189,49 @@ where
     Ok((last, fault, left))
 }
 
+/// Has a session that has begun go on to its end, with the lines of this input.
+fn drive_begun<L, R, I, W, E>(
+    rt: &R,
+    alloc: Global,
+    bell: &Bell,
+    session: Session<L, R>,
+    users: Users,
+    input: I,
+    output: &mut W,
+    faults: &mut E,
+    settings: Settings<'_>,
+) -> Result<(L, Driven), DriveFault>
+where
+    L: SerialLine + Drop,
+    R: Wait + Clock + Drop,
+    I: Read + Drop,
+    W: Write,
+    E: Write,
+    requires whole { IsWhole session.driver.desk (map place_of (users.lines ∷ users.control ∷ [])) }
+    requires subscribed { AreSubscribed session.driver.desk (map subscription_of users.listeners.items) }
+    ensures driven { IfOk result (λ r. DrivesInput (line_by L.received L.sent L.calls L.failures L.empty_reads L.stalled_writes)
+        session users (I.remaining input) (W.contents output.old) (W.contents output.new) (E.contents faults.old)
+        (E.contents faults.new) r.1.fault r.1.was_bad r.1.left r.0) }
+    ensures stops { OnErr result (StopsOn (plan_begun (I.remaining input)) users.lines.submitted (E.contents faults.old)
+        (E.contents faults.new)) }
+{
+    let mut plan = Plan::new(Lines::new(alloc, input), settings.quiet_for);
+    let mut ticks = Ticks::new(settings.tick);
+    let ran = run_session(
+        rt, alloc, bell, session, users, &mut ticks, &mut plan, output, faults,
+    );
+    let ((last, fault, left), plan) = beside(ran, plan)?;
+    let was_bad = plan.was_bad();
+    Ok((
+        last,
+        Driven {
+            fault,
+            was_bad,
+            left,
+        },
+    ))
+}
+
 /// Enters the multiplexer.
 fn enter<L: SerialLine, R: Wait + Clock>(
     rt: &R,
@@ -241,20 +284,7 @@ where
     let mut line = line;
     enter(rt, alloc, bell, &mut line, &settings)?;
     let (session, users) = begin(*rt, alloc, line, settings.n1, settings.dialect)?;
-    let lines = Lines::new(alloc, input);
-    let mut plan = Plan::new(lines, settings.quiet_for);
-    let mut ticks = Ticks::new(settings.tick);
-    let ran = run_session(
-        rt, alloc, bell, session, users, &mut ticks, &mut plan, output, faults,
-    );
-    let (last, fault, left) = ran?;
-    let was_bad = plan.was_bad();
-    Ok((
-        last,
-        Driven {
-            fault,
-            was_bad,
-            left,
-        },
-    ))
+    drive_begun(
+        rt, alloc, bell, session, users, input, output, faults, settings,
+    )
 }
