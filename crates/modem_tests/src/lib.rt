@@ -12,8 +12,6 @@ mod driver;
 #[cfg(test)]
 mod drives;
 #[cfg(test)]
-mod frames;
-#[cfg(test)]
 mod lines;
 #[cfg(test)]
 mod no_memory;

@@ -1,7 +1,5 @@
-//! Tests of frames.
+//! Frames are read however their octets are cut.
 ghost use Rattle.std.specs.Prelude.{◌≡◌, ◌<◌, None, OnOk};
-
-mod ring;
 
 use mux_frame::laws::read_plain;
 use mux_frame::*;
@@ -9,7 +7,7 @@ use std::alloc::Global;
 use std::test::*;
 
 /// Frames, and the octets of the rest.
-type Reading = (Vec<FrameBuf>, Vec<u8>);
+pub type Reading = (Vec<FrameBuf>, Vec<u8>);
 
 fn same(a: FrameView<'_>, b: FrameView<'_>) -> bool {
     a.dlci.number() == b.dlci.number()
@@ -35,7 +33,7 @@ fn take_frames(
 }
 
 /// Feeds the whole piece, taking out frames where there is no room.
-fn feed_piece(
+pub fn feed_piece(
     alloc: Global,
     input: &mut Deframer,
     piece: &[u8],
@@ -53,7 +51,7 @@ fn feed_piece(
     Ok(())
 }
 
-fn reads_same(a: &Reading, b: &Reading) -> bool {
+pub fn reads_same(a: &Reading, b: &Reading) -> bool {
     let mut pairs = a.0.iter().zip(b.0.iter());
     pairs.all(|(x, y)| same(x.view(), y.view()))
         && a.0.len() == b.0.len()
@@ -75,7 +73,7 @@ fn read_in_pieces(alloc: Global, n1: u16, octets: &[u8], size: usize) -> Result<
 }
 
 /// Whether a deframer, however its octets are cut, reads what is read plainly, which is so many frames.
-fn reads_alike(alloc: Global, n1: u16, octets: &[u8], count: usize) -> Result<bool, FrameError> {
+pub fn reads_alike(alloc: Global, n1: u16, octets: &[u8], count: usize) -> Result<bool, FrameError> {
     let plain = read_plain(alloc, n1, octets)?;
     for size in [1, 2, 3, 7] {
         if !reads_same(&read_in_pieces(alloc, n1, octets, size)?, &plain) {

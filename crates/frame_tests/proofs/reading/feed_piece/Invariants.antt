@@ -1,5 +1,5 @@
 use Rattle.std.proofs.Common.{◌≡◌, None, length}
-use Rattle.modem_tests.proofs.frames.feed_piece.Given as goal
+use Rattle.frame_tests.proofs.reading.feed_piece.Given as goal
 
 abbrev pub invariant-loop-left : goal.invariant-loop-left
 invariant-loop-left l = l.input.next ≡ None

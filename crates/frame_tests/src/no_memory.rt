@@ -1,5 +1,5 @@
-//! Of frames.
-use crate::no_memory::{begin, end};
+//! The calls that take no memory.
+use marks_tests::{begin, end};
 use mux_frame::*;
 use std::process::Abort;
 use std::test::Fail;

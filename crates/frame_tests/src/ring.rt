@@ -1,5 +1,5 @@
-//! Tests of the deframer's ring: frames that are cut anywhere, and frames that wrap round its end.
-use crate::frames::{Reading, feed_piece, reads_alike, reads_same};
+//! The deframer's ring: frames that are cut anywhere, and frames that wrap round its end.
+use crate::reading::{Reading, feed_piece, reads_alike, reads_same};
 use mux_frame::laws::read_plain;
 use mux_frame::*;
 use std::alloc::Global;
