@@ -6,8 +6,6 @@
 #[cfg(test)]
 mod desk;
 #[cfg(test)]
-mod dialects;
-#[cfg(test)]
 mod driver;
 #[cfg(test)]
 mod drives;

@@ -6,8 +6,6 @@ mod driver;
 mod lines;
 mod sims;
 mod station;
-mod texts;
-mod typed;
 
 // The calls of this name begin.
 fn begin(rt: &impl Print, call: &str) {

@@ -1,6 +1,6 @@
 //! Of texts.
-use crate::no_memory::{begin, end};
 use at_text::*;
+use marks_tests::{begin, end};
 use std::alloc::Global;
 use std::io::Print;
 use std::process::Abort;

@@ -1,6 +1,6 @@
 //! Of typed commands.
-use crate::no_memory::{begin, end};
 use at_cmds::*;
+use marks_tests::{begin, end};
 use std::test::Fail;
 
 #[test]
