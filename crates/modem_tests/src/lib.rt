@@ -10,7 +10,7 @@ mod driver;
 #[cfg(test)]
 mod drives;
 #[cfg(test)]
-mod lines;
+mod entries;
 #[cfg(test)]
 mod no_memory;
 #[cfg(test)]

@@ -3,7 +3,6 @@ use std::io::Print;
 
 mod desk;
 mod driver;
-mod lines;
 mod sims;
 mod station;
 

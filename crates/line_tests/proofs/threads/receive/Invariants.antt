@@ -1,6 +1,6 @@
 -- What came so far was received, and there is room for the rest.
 use Rattle.std.proofs.Common.{◌≡◌, ◌≤◌, ◌++◌, length, vec_capacity}
-use Rattle.modem_tests.proofs.lines.receive.Given as goal
+use Rattle.line_tests.proofs.threads.receive.Given as goal
 
 abbrev pub invariant-loop : goal.invariant-loop
 invariant-loop g l =

@@ -1,7 +1,7 @@
 //! The line of a device whose calls wait.
 ghost use Rattle.std.specs.Prelude.{◌≤◌, IfOk};
 
-use crate::lines::long_text;
+use crate::threads::long_text;
 use bell::Bell;
 use device_line::{DeviceLine, FlowEnd, RingReader, RingWriter, drain, leave, line_over, pump};
 use rtrb::{Consumer, Producer, RingBuffer};

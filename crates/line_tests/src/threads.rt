@@ -1,3 +1,4 @@
+//! A line between threads.
 ghost use Rattle.std.specs.Prelude.{◌≡◌, ◌≤◌, ◌++◌, [], length, vec_capacity, IfOk};
 
 use serial_line::*;
@@ -7,12 +8,8 @@ use std::test::Fail;
 use std::thread;
 use std::thread::Threads;
 
-mod devices;
-mod entries;
-mod streams;
-
 // The octets 0 to 250, over and over.
-fn long_text(alloc: Global, count: u32) -> Result<Vec<u8>, AllocError> {
+pub fn long_text(alloc: Global, count: u32) -> Result<Vec<u8>, AllocError> {
     (0..count).map(|place| (place % 251) as u8).collect(alloc)
 }
 

@@ -1,7 +1,7 @@
-//! Of lines of octets.
-use crate::no_memory::{begin, end};
+//! The calls that take no memory.
 use bell::Bell;
 use device_line::{RingReader, RingWriter, drain, leave, line_over, pump};
+use marks_tests::{begin, end};
 use rtrb::RingBuffer;
 use serial_line::*;
 use std::alloc::Global;

@@ -1,6 +1,6 @@
 -- What was sent so far and the rest are the whole text.
 use Rattle.std.proofs.Common.{◌≡◌, ◌++◌}
-use Rattle.modem_tests.proofs.lines.send.Given as goal
+use Rattle.line_tests.proofs.threads.send.Given as goal
 
 abbrev pub invariant-loop : goal.invariant-loop
 invariant-loop g l =
