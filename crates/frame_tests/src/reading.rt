@@ -73,7 +73,12 @@ fn read_in_pieces(alloc: Global, n1: u16, octets: &[u8], size: usize) -> Result<
 }
 
 /// Whether a deframer, however its octets are cut, reads what is read plainly, which is so many frames.
-pub fn reads_alike(alloc: Global, n1: u16, octets: &[u8], count: usize) -> Result<bool, FrameError> {
+pub fn reads_alike(
+    alloc: Global,
+    n1: u16,
+    octets: &[u8],
+    count: usize,
+) -> Result<bool, FrameError> {
     let plain = read_plain(alloc, n1, octets)?;
     for size in [1, 2, 3, 7] {
         if !reads_same(&read_in_pieces(alloc, n1, octets, size)?, &plain) {
