@@ -6,15 +6,11 @@
 #[cfg(test)]
 mod desk;
 #[cfg(test)]
-mod dialects;
-#[cfg(test)]
 mod driver;
 #[cfg(test)]
 mod drives;
 #[cfg(test)]
-mod frames;
-#[cfg(test)]
-mod lines;
+mod entries;
 #[cfg(test)]
 mod no_memory;
 #[cfg(test)]

@@ -3,12 +3,8 @@ use std::io::Print;
 
 mod desk;
 mod driver;
-mod frames;
-mod lines;
 mod sims;
 mod station;
-mod texts;
-mod typed;
 
 // The calls of this name begin.
 fn begin(rt: &impl Print, call: &str) {

@@ -1,4 +1,4 @@
-//! Bells, and a desk whose callers and listeners ring one.
+//! A desk whose callers and listeners ring a bell.
 use crate::desk::{submit_stops, take_requests, taken_by, tell_stopped};
 use at_text::{Text, UrcKind};
 use bell::Bell;
@@ -7,43 +7,11 @@ use mux_frame::Dlci;
 use std::alloc::Global;
 use std::process::Abort;
 use std::test::Fail;
-use std::thread;
 use std::time::Duration;
 
 // Longer than a test may last: a wait that isn't rung for fails it.
 fn long() -> Duration {
     Duration::from_secs(3600)
-}
-
-#[test]
-fn a_ring_ends_the_next_wait_and_an_end_is_seen_by_all_shares(rt: HostRuntime) -> Result<(), Fail> {
-    let bell = Bell::new(rt.alloc())?;
-    let other = bell.share()?;
-    other.ring();
-    bell.wait(&rt, long());
-    bell.wait(&rt, Duration::from_millis(1));
-    assert!(rt; !bell.is_over() && !other.is_over());
-    other.end();
-    bell.wait(&rt, long());
-    assert!(rt; bell.is_over() && other.is_over());
-    Ok(())
-}
-
-#[test]
-fn a_ring_wakes_the_thread_that_waits(rt: HostRuntime) -> Result<(), Fail> {
-    let bell = Bell::new(rt.alloc())?;
-    let other = bell.share()?;
-    let there = &other;
-    let here = &bell;
-    thread::join(
-        &rt,
-        || here.wait(&rt, long()),
-        || {
-            thread::sleep(&rt, Duration::from_millis(20));
-            there.ring()
-        },
-    );
-    Ok(())
 }
 
 fn ring(alloc: Global) -> Result<Urc, Fail> {

@@ -1,0 +1,3 @@
+//! The calls that take no memory.
+mod texts;
+mod typed;

@@ -1,0 +1,72 @@
+//! Of texts.
+use at_text::*;
+use marks_tests::{begin, end};
+use std::alloc::Global;
+use std::io::Print;
+use std::process::Abort;
+use std::test::Fail;
+
+// How many lines these octets end.
+fn push_all(reader: &mut LineReader, octets: &[u8]) -> usize {
+    let mut lines = 0usize;
+    for octet in octets {
+        if reader.push(*octet).is_some() {
+            lines = lines.saturating_add(1);
+        }
+    }
+    lines
+}
+
+// The calls of a reader.
+fn readers<R: Abort + Print>(rt: &R, long: &[u8]) {
+    begin(
+        rt,
+        "LineReader::new, LineReader::push, LineReader::reset, LineReader::copy, LineReader::copy_from",
+    );
+    let mut reader = LineReader::new();
+    assert!(rt; push_all(&mut reader, long) == 0);
+    let mut copy = reader.copy();
+    copy.copy_from(&reader);
+    reader.reset();
+    assert!(rt; push_all(&mut reader, b"\rOK\r\nRING\r\n") == 2);
+    assert!(rt; push_all(&mut copy, b"\n") == 1);
+    end(rt);
+}
+
+// What lines are read as.
+fn lines<R: Abort + Print>(rt: &R, long: &[u8]) {
+    begin(rt, "final_of, unsolicited_of");
+    assert!(rt; final_of(b"+CME ERROR: 11") == Some(Final::Cme(Some(11))));
+    assert!(rt; final_of(long) == None);
+    assert!(rt; unsolicited_of(b"+CREG: 1,\"00A1\",\"1\"") == Some(UrcKind::Creg));
+    assert!(rt; unsolicited_of(long) == None);
+    end(rt);
+}
+
+// The calls of a window.
+fn windows<R: Abort + Print>(rt: &R, alloc: Global, line: &CommandLine) {
+    begin(
+        rt,
+        "Window::new, Window::begin, Window::fork_into, Window::drop_command, Window::idle, CommandLine::text",
+    );
+    let mut window = Window::new(alloc);
+    let mut fork = Window::new(alloc);
+    window.begin(line);
+    window.fork_into(&mut fork);
+    assert!(rt; !fork.idle());
+    window.drop_command();
+    assert!(rt; window.idle());
+    assert!(rt; line.text() == b"AT+CSQ".as_slice());
+    end(rt);
+}
+
+#[test]
+fn calls_that_take_no_memory(rt: HostRuntime) -> Result<(), Fail> {
+    let alloc = rt.alloc();
+    let long = vec![in alloc; b'x'; 1000]?;
+    let line = CommandLine::new(alloc, b"AT+CSQ")?;
+    readers(&rt, long.as_slice());
+    lines(&rt, long.as_slice());
+    windows(&rt, alloc, &line);
+    Ok(())
+}
