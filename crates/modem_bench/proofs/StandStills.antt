@@ -148,6 +148,7 @@ module _ {X : Type 0} (look : X → LineView) where
         left = ap (λ (l : Limit). l.left + 1) reset ∙ is.left;
         most = ap (λ (l : Limit). l.most) reset ∙ is.most;
       }
+
       by : (p : Progress) → Advances look old new (Ok (Some p)) → Steps look old new limit later (led_to p)
       by (Ended (Ok Stopped)) h = record { takes = h.takes; goes = h.goes; stops = h.polled }
       by (Ended (Err why)) h = behind why h.polled
