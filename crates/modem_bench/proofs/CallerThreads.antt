@@ -151,5 +151,10 @@ pub kept_ok : {A E : Type 0} (P : A → Type 0) (ended : Result (Unit {0}) E) (r
 kept_ok {A} {E} P ended (Ok y) x h done same = subst P (sym same) (subst (λ (s : Result (Unit {0}) E). OnOk s (P x)) done h)
 kept_ok P ended (Err e) x h done same = tt
 
+-- what ended well was handed on
+pub on_given : {A E : Type 0} (P : Type 0) (ended r s : Result A E) → OnOk ended P → IfOk r (λ v. ended ≡ Ok v) → s ≡ r → OnOk s P
+on_given {A} {E} P ended (Ok v) s h is same = subst (λ (t : Result A E). OnOk t P) (sym same) (subst (λ (t : Result A E). OnOk t P) is h)
+on_given {A} {E} P ended (Err e) s h is same = subst (λ (t : Result A E). OnOk t P) (sym same) tt
+
 pub ran_many : (all : List Submission) (count cut : ℕ) (script : Script) (os : List (List Outcome)) → Ran all count cut script os → length os ≡ count
 ran_many all count cut script os h = h.ran.one_each ∙ h.fresh.many

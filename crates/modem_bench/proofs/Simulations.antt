@@ -1,6 +1,6 @@
 -- A simulated modem that is polled to its end.
 use Rattle.std.specs.Prelude.{◌≡◌, Some, Result, Ok, Err, OnOk}
-use Rattle.std.proofs.Common.{ap, subst}
+use Rattle.std.proofs.Common.{subst}
 use Rattle.modem_sim.specs.Polls.{Gives, Polls}
 use Rattle.modem_sim.specs.Sims.{Sight, SimState}
 use Rattle.modem_sim.specs.declared.error.SimError.{SimError}

@@ -5,10 +5,9 @@ use Rattle.std.proofs.Common.{ap, sym, ◌∙◌, subst, arith, eqb-true}
 use Rattle.std.proofs.lemmas.Bool.{or_parts}
 use Rattle.std.proofs.lemmas.Bool.Decides.{nat_tests}
 use Rattle.std.proofs.lemmas.List.{append-nil, length-append}
-use Rattle.modem_desk.specs.Ends.{DriverView}
 use Rattle.modem_desk.specs.declared.request.Request.{Request}
 use Rattle.modem_history.specs.Acts.{Act, Took, Got, Sent, Told, Heard, Tick, Lost, Held, Freed, Given, after}
-use Rattle.modem_history.specs.Sessions.{Beginning, LineView, SessionView}
+use Rattle.modem_history.specs.Sessions.{Beginning, LineView}
 use Rattle.modem_history.specs.Turns.{TurnAnswer, amount, is_mark, request_given, says_moved}
 use Rattle.modem_history.specs.Wholes.{taken_requests}
 use Rattle.modem_driver.specs.declared.session.ending.Ended.TheVariants.{Stopped}
@@ -20,7 +19,7 @@ use Rattle.modem_driver.specs.SessionStates.{FitsAll, SessionState, TakesMore, s
 use Rattle.modem_driver.specs.SessionTurns.{Faults, HasTurned, TakesTurn, fault_of, standing_of}
 use Rattle.modem_driver.proofs.sessions.polls.Polls.{fault_goes, goes_none, goes_then, moved_is, turn_goes}
 use Rattle.modem_driver.proofs.sessions.steps.TakenRequests.{takes_none, takes_then}
-use Rattle.modem_bench.specs.Driving.{Advances, Continues, FailsLater, FailsOnce, Goes, GoesOnce, Halts, IsCounted, IsRefused, MakesPolls, MovesAndPolls, MovesNothing, StandsStill, StaysStill, Steps, StopsOnce, UsesUp, at_once, behind, led_to, moves, no_poll, one_more, stays}
+use Rattle.modem_bench.specs.Driving.{Advances, Continues, Goes, GoesOnce, Halts, IsCounted, IsRefused, MakesPolls, MovesAndPolls, MovesNothing, Steps, at_once, behind, led_to, moves, no_poll, one_more, stays}
 use Rattle.modem_bench.specs.Faults.{session_fault}
 use Rattle.modem_bench.specs.Limits.{cause_at, fresh_limit}
 use Rattle.modem_bench.specs.declared.cause.Cause.{Cause}
@@ -148,6 +147,7 @@ module _ {X : Type 0} (look : X → LineView) where
         left = ap (λ (l : Limit). l.left + 1) reset ∙ is.left;
         most = ap (λ (l : Limit). l.most) reset ∙ is.most;
       }
+
       by : (p : Progress) → Advances look old new (Ok (Some p)) → Steps look old new limit later (led_to p)
       by (Ended (Ok Stopped)) h = record { takes = h.takes; goes = h.goes; stops = h.polled }
       by (Ended (Err why)) h = behind why h.polled

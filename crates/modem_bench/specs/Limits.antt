@@ -1,5 +1,5 @@
 -- How long a bench goes on.
-use Rattle.std.specs.Prelude.{ℕ, ◌==◌, nat_le, Option, None, Some, if◌then◌else◌}
+use Rattle.std.specs.Prelude.{◌==◌, nat_le, Option, None, Some, if◌then◌else◌}
 use Rattle.modem_bench.specs.declared.cause.Cause.{Cause}
 use Rattle.modem_bench.specs.declared.limit.Limit.{Limit}
 use Rattle.modem_bench.specs.declared.limit.Limits.{Limits}

@@ -34,6 +34,22 @@ fn take_one(caller: &mut Caller, outcomes: &mut Vec<Outcome>) -> Result<bool, Fa
     Ok(true)
 }
 
+/// Takes the outcome that waits; where none does, it waits for a ring. Refused where the bench was given up then.
+fn take_or_wait<R: Wait>(
+    rt: &R,
+    caller: &mut Caller,
+    outcomes: &mut Vec<Outcome>,
+    signals: &Signals,
+) -> Result<(), Fault>
+    ensures stays { (caller.new.place ≡ caller.old.place) × (caller.new.submitted ≡ caller.old.submitted) }
+    ensures puts { OnOk result (PutsBehind caller.old caller.new outcomes.old.items outcomes.new.items) }
+{
+    if take_one(caller, outcomes)? {
+        return Ok(());
+    }
+    signals.wait_on(rt)
+}
+
 /// Submits a request, taking outcomes where it is refused, and gives its number.
 fn submit<R: Wait>(
     rt: &R,
@@ -51,10 +67,8 @@ fn submit<R: Wait>(
             Ok(number) => return Ok(number),
             Err((_, back)) => left = back,
         }
-        signals.check()?;
-        if !take_one(caller, outcomes)? {
-            signals.wait(rt);
-        }
+        let ((), back) = beside(take_or_wait(rt, caller, outcomes, signals), left)?;
+        left = back;
     }
     unreachable!()
 }
@@ -73,10 +87,7 @@ fn take_all<R: Wait>(
         if outcomes.len() >= count {
             return Ok(());
         }
-        signals.check()?;
-        if !take_one(caller, outcomes)? {
-            signals.wait(rt);
-        }
+        take_or_wait(rt, caller, outcomes, signals)?;
     }
     unreachable!()
 }
@@ -163,22 +174,6 @@ fn work_on<R: Wait>(
     Ok(outcomes)
 }
 
-/// As `work_on`. Where that fails, the bench is given up for all threads.
-fn work_or_give_up<R: Wait>(
-    rt: &R,
-    alloc: Global,
-    caller: &mut Caller,
-    asks: Vec<Ask>,
-    signals: &Signals,
-) -> Result<Vec<Outcome>, Fault>
-    ensures { IfOk result (λ outcomes. Works caller.old caller.new asks.items outcomes.items) }
-{
-    match work_on(rt, alloc, caller, asks, signals) {
-        Ok(outcomes) => Ok(outcomes),
-        Err(fault) => Err(signals.give_up(rt, fault).fault),
-    }
-}
-
 /// What a caller does in its thread.
 pub fn work<R: Wait>(
     rt: &R,
@@ -190,8 +185,8 @@ pub fn work<R: Wait>(
     ensures { IfOk result (λ w. Works caller w.caller asks.items w.outcomes.items) }
 {
     let mut caller = caller;
-    let told = work_or_give_up(rt, alloc, &mut caller, asks, &signals);
-    let (outcomes, caller) = beside(told, caller)?;
+    let told = work_on(rt, alloc, &mut caller, asks, &signals);
+    let (outcomes, caller) = beside(signals.or_give_up(rt, told), caller)?;
     Ok(Worked { caller, outcomes })
 }
 
@@ -211,8 +206,8 @@ fn submit_alone<R: Wait>(
             Ok(_) => return Ok(()),
             Err((_, back)) => left = back,
         }
-        signals.check()?;
-        signals.wait(rt);
+        let ((), back) = beside(signals.wait_on(rt), left)?;
+        left = back;
     }
     unreachable!()
 }
@@ -226,8 +221,7 @@ fn next_outcome<R: Wait>(rt: &R, caller: &mut Caller, signals: &Signals) -> Resu
         if let Some(outcome) = caller.take() {
             return Ok(outcome);
         }
-        signals.check()?;
-        signals.wait(rt);
+        signals.wait_on(rt)?;
     }
     unreachable!()
 }

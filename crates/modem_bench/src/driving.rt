@@ -93,11 +93,7 @@ fn may_poll<'a>(signals: &'a Signals, limit: &mut Limit) -> Result<(), Halt<'a>>
 }
 
 /// What a poll that moved something leads to: whether the multiplexer has ended. Where there is nothing more to do it waits.
-fn went_on<'a, R: Wait>(
-    rt: &R,
-    signals: &'a Signals,
-    progress: Progress,
-) -> Result<bool, Halt<'a>>
+fn went_on<'a, R: Wait>(rt: &R, signals: &'a Signals, progress: Progress) -> Result<bool, Halt<'a>>
     ensures { result ≡ led_to progress }
 {
     match progress {

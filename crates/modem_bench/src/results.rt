@@ -28,6 +28,13 @@ pub fn unless_failed<K: Drop, E: Drop>(ended: Result<(), E>, kept: K) -> Result<
     }
 }
 
+/// How something ended, with what it was done to dropped. Generic for the same reason.
+pub fn spent<K: Drop, E: Drop>(ended: Result<(), E>, _used_up: K) -> Result<(), E>
+    ensures { result ≡ ended }
+{
+    ended
+}
+
 /// The results of two threads, unless one failed.
 pub fn both<A: Drop, B: Drop>(
     first: Result<A, Fault>,

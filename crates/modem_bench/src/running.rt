@@ -119,7 +119,15 @@ where
     requires { (1 ≤ callers) × (callers ≤ 8) }
     ensures { IfOk result (λ outcomes. Ran submissions.now callers cut script (map vec_items outcomes.items)) }
 {
-    run_bench_limited(rt, alloc, submissions, callers, cut, script, Limits::of_polls(polls))
+    run_bench_limited(
+        rt,
+        alloc,
+        submissions,
+        callers,
+        cut,
+        script,
+        Limits::of_polls(polls),
+    )
 }
 
 /// As `run_bench`, within these limits. Every poll of its session counts. One that moves an octet on the line, takes a request, tells
@@ -140,5 +148,14 @@ where
     ensures { IfOk result (λ outcomes. Ran submissions.now callers cut script (map vec_items outcomes.items)) }
 {
     let (signals, script) = beside(Signals::new(alloc, callers), script)?;
-    run_signalled(rt, alloc, submissions, callers, cut, script, &signals, limits)
+    run_signalled(
+        rt,
+        alloc,
+        submissions,
+        callers,
+        cut,
+        script,
+        &signals,
+        limits,
+    )
 }

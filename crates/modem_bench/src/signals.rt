@@ -1,5 +1,5 @@
 //! What the threads of a bench tell one another beside the desk and the line.
-ghost use Rattle.std.specs.Prelude.{◌≡◌, IfOk, IfErr};
+ghost use Rattle.std.specs.Prelude.{◌≡◌, IfOk, IfErr, Ok};
 ghost use Rattle.std.specs.Arc.{arc_value};
 ghost use Rattle.modem_bench.specs.declared.signals.Fault.TheVariants.{GaveUp, NoMemory};
 
@@ -172,6 +172,16 @@ impl Signals {
         reason
     }
 
+    /// Gives the bench up where this is a fault.
+    pub fn or_give_up<T: Drop, R: Wait>(&self, rt: &R, ended: Result<T, Fault>) -> Result<T, Fault>
+        ensures { IfOk result (λ value. ended ≡ Ok value) }
+    {
+        match ended {
+            Ok(value) => Ok(value),
+            Err(fault) => Err(self.give_up(rt, fault).fault),
+        }
+    }
+
     /// `Ok` while the bench goes on, else why it was given up.
     pub fn check(&self) -> Result<(), Reason<'_>>
         ensures { IfErr result (λ r. r.shown.of ≡ (arc_value self.now.shared).fault.id) }
@@ -180,5 +190,12 @@ impl Signals {
             Some(shown) => Err(self.reason(shown)),
             None => Ok(()),
         }
+    }
+
+    /// Waits as `wait` does, unless the bench was given up.
+    pub fn wait_on<R: Wait>(&self, rt: &R) -> Result<(), Fault> {
+        self.check()?;
+        self.wait(rt);
+        Ok(())
     }
 }

@@ -6,6 +6,7 @@ ghost use Rattle.modem_bench.specs.Faults.{sim_end, sim_fault};
 ghost use Rattle.modem_bench.specs.Simulating.{IsSimulated};
 
 use crate::cause::Cause;
+use crate::results::spent;
 use crate::ringing_line::CountedLine;
 use crate::signals::{Fault, Signals};
 use modem_sim::{Sim, SimError, SimTurn};
@@ -63,21 +64,6 @@ fn simulate_on<L: SerialLine + CountedLine, R: Wait>(
     unreachable!()
 }
 
-/// As `simulate_on`. Where that fails, the bench is given up for all threads.
-fn simulate_or_give_up<L: SerialLine + CountedLine, R: Wait>(
-    rt: &R,
-    sim: &mut Sim<L>,
-    signals: &Signals,
-) -> Result<(), Fault>
-    ensures { OnOk result
-        (IsSimulated (sight L.received L.sent L.calls L.failures L.empty_reads L.stalled_writes) sim.old) }
-{
-    match simulate_on(rt, sim, signals) {
-        Ok(()) => Ok(()),
-        Err(fault) => Err(signals.give_up(rt, fault).fault),
-    }
-}
-
 /// What the simulated modem does in its thread.
 pub fn simulate<L: SerialLine + CountedLine + Drop, R: Wait>(
     rt: &R,
@@ -88,7 +74,8 @@ pub fn simulate<L: SerialLine + CountedLine + Drop, R: Wait>(
         (IsSimulated (sight L.received L.sent L.calls L.failures L.empty_reads L.stalled_writes) sim) }
 {
     let mut sim = sim;
-    simulate_or_give_up(rt, &mut sim, &signals)
+    let ended = simulate_on(rt, &mut sim, &signals);
+    spent(signals.or_give_up(rt, ended), sim)
 }
 
 /// The end of this simulated modem.

@@ -68,7 +68,9 @@ where
 }
 
 #[test]
-fn a_bench_goes_on_while_its_callers_are_told_without_an_octet(rt: HostRuntime) -> Result<(), Fail> {
+fn a_bench_goes_on_while_its_callers_are_told_without_an_octet(
+    rt: HostRuntime,
+) -> Result<(), Fail> {
     let alloc = rt.alloc();
     for count in [6_000, 12_000] {
         expect_all_told(&rt, alloc, count)?;
