@@ -1,4 +1,5 @@
 //! Tests of the runs of the program, over readers and writers of their own.
+mod endless;
 mod gate;
 mod hostile;
 
