@@ -1,5 +1,6 @@
 //! Tests of the runs of the program, over readers and writers of their own.
 mod bench_limit;
+mod endless;
 mod gate;
 mod hostile;
 

@@ -1,0 +1,37 @@
+//! A reader without an end.
+use modem_runs::frames_run;
+use std::io;
+use std::io::Read;
+use std::process::Abort;
+
+// In how many reads a reader has to give its end.
+const READS: u64 = 16_777_216;
+
+// Gives an empty line at each read, and counts the reads.
+#[derive(Drop)]
+struct Endless {
+    reads: u64,
+}
+
+impl Read for Endless {
+    fn read(&mut self, buf: &mut [u8]) -> io::Result<usize> {
+        self.reads = self.reads.saturating_add(1);
+        let Some(first) = buf.first_mut() else {
+            return Ok(0);
+        };
+        *first = b'\n';
+        Ok(1)
+    }
+}
+
+#[test]
+fn a_reader_without_an_end_is_left(rt: HostRuntime) {
+    let alloc = rt.alloc();
+    let mut input = Endless { reads: 0 };
+    let mut output = Vec::new(alloc);
+    let mut faults = Vec::new(alloc);
+    assert!(rt; frames_run(alloc, &mut input, &mut output, &mut faults, 31) == 1);
+    assert!(rt; faults.as_slice() == b"fault: input\n".as_slice());
+    assert!(rt; output.is_empty());
+    assert!(rt; input.reads == READS);
+}
