@@ -189,9 +189,19 @@ static size_t newcomer(const struct terminal *t)
 	return t->wrote_before ? last_command(t) : t->in_length - t->fresh;
 }
 
+/* The settings are as they were at first; false where it was hung up, so that nothing can be set. */
+static bool reset(const struct terminal *t)
+{
+	tcflush(t->theirs, TCIFLUSH);
+	tcflow(t->theirs, TCOON);
+	if (t->opens == 0)
+		ioctl(t->theirs, TIOCNXCL);
+	return tcsetattr(t->theirs, TCSANOW, &t->raw) == 0;
+}
+
 /* What the last program left behind is dropped, but for a whole line that may be asked at once: a command that is written
  * and not waited for is still asked. Where it can't be told what a newcomer wrote, that is dropped too. */
-static void clean(struct terminal *t)
+static void clean(struct terminals *ts, struct terminal *t)
 {
 	bool is_full = t->in_length == PENDING;
 	size_t from = newcomer(t);
@@ -207,11 +217,8 @@ static void clean(struct terminal *t)
 	t->is_orphan = t->is_waiting;
 	if (is_full)
 		tcflush(t->ours, TCIFLUSH);
-	tcflush(t->theirs, TCIFLUSH);
-	tcflow(t->theirs, TCOON);
-	tcsetattr(t->theirs, TCSANOW, &t->raw);
-	if (t->opens == 0)
-		ioctl(t->theirs, TIOCNXCL);
+	if (!reset(t) && t->opens == 0)
+		make_anew(ts, t);
 	if (is_mixed) {
 		say(LOG_NOTICE, "%s: a program wrote as another one left: what it wrote is answered by ERROR", t->path);
 		terminal_put(t, "ERROR", 5);
@@ -261,7 +268,7 @@ void terminals_look(struct terminals *ts)
 		struct terminal *t = &ts->all[i];
 
 		if (t->has_left)
-			clean(t);
+			clean(ts, t);
 		t->has_left = t->wrote_before = t->wrote_behind = false;
 	}
 }

@@ -18,6 +18,9 @@ def slow_reader(build):
             reporter = threading.Thread(target=line.modem.report, args=(0, count))
             reporter.start()
             time.sleep(3)
+            used = daemon.processor()
+            time.sleep(2)
+            used = daemon.processor() - used
             stopped = 1 in line.modem.stopped
             beside = terminal.ask("AT+BESIDE")
             heard, begun = [], time.monotonic()
@@ -27,8 +30,9 @@ def slow_reader(build):
                     time.sleep(0.02)
             reporter.join(timeout=10)
         right = numbers(heard) == list(range(count))
-        check(f"{build.name}: {count} reports and a slow reader", right and stopped and is_own(beside, "AT+BESIDE"),
-              f"{len(heard)} came{' in order' if right else ''}, the modem was stopped: {stopped}, {time.monotonic() - begun:.1f} s")
+        check(f"{build.name}: {count} reports and a slow reader", right and stopped and is_own(beside, "AT+BESIDE") and used < 0.1 * build.slow,
+              f"{len(heard)} came{' in order' if right else ''}, the modem was stopped: {stopped}, {time.monotonic() - begun:.1f} s; "
+              f"{used:.2f} s of processor in 2 s of standing still")
     line.end()
 
 

@@ -13,7 +13,7 @@ from asks import KINDS
 from daemons import Daemon, Line, Terminal, TOP, check, is_own
 from peers import Place
 
-TIOCEXCL, TIOCGEXCL = 0x540C, 0x80045440
+TIOCEXCL, TIOCGEXCL, TIOCVHANGUP = 0x540C, 0x80045440, 0x5437
 
 
 def killed(build):
@@ -134,6 +134,36 @@ def exclusive(build):
     line.end()
 
 
+def hung_up(build):
+    """Somebody hangs a terminal up: another takes its place."""
+    line = Line()
+    with Daemon(build, line.path) as daemon:
+        with daemon.terminal("at1") as terminal:
+            before = os.readlink(daemon.folder / "at1")
+            try:
+                fcntl.ioctl(terminal.line, TIOCVHANGUP)
+            except PermissionError:
+                print(f"left out {build.name}: hung_up: it wants root", flush=True)
+                return
+        told = daemon.await_text("at1 was hung up: it is made anew")
+        with daemon.terminal("at1") as terminal:
+            said = terminal.ask("AT+ANEW")
+        check(f"{build.name}: a terminal that was hung up", told and is_own(said, "AT+ANEW"), f"{before}, {said}")
+    line.end()
+
+
+def idle(build):
+    line = Line()
+    with Daemon(build, line.path) as daemon:
+        with daemon.terminal("at1") as terminal:
+            terminal.ask("AT+ONE")
+            used = daemon.processor()
+            time.sleep(4)
+            used = daemon.processor() - used
+        check(f"{build.name}: 4 s idle", used < 0.04 * build.slow, f"{used:.2f} s of processor")
+    line.end()
+
+
 def bad_lines(build):
     line = Line()
     with Daemon(build, line.path) as daemon:
@@ -222,4 +252,4 @@ def share_one(terminal, kind, count, right):
         right.append(command)
 
 
-CASES = [killed, half_a_line, unread, told_and_left, glued, set_sane, exclusive, bad_lines, side_by_side, in_a_row, share]
+CASES = [killed, half_a_line, unread, told_and_left, glued, set_sane, exclusive, hung_up, idle, bad_lines, side_by_side, in_a_row, share]

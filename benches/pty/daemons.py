@@ -19,7 +19,7 @@ BUILDS = {
     "plain": ("", "-O2", "", []),
     "sanitizers": ("", SANITIZERS, "", []),
     "valgrind": ("", "-g -O1", "", VALGRIND),
-    "aarch64": ("aarch64-linux-gnu", "-O2", "-static", ["qemu-aarch64"]),
+    "aarch64": ("aarch64-linux-gnu", "-O2", "", ["qemu-aarch64", "-L", "/usr/aarch64-linux-gnu"]),
 }
 
 
@@ -173,6 +173,11 @@ class Daemon:
                 return self.said().count(text) >= times
             time.sleep(0.01)
         return True
+
+    def processor(self):
+        """The seconds of processor that it has used."""
+        fields = pathlib.Path(f"/proc/{self.process.pid}/stat").read_text().rsplit(")", 1)[1].split()
+        return (int(fields[11]) + int(fields[12])) / os.sysconf("SC_CLK_TCK")
 
     def terminal(self, name):
         return Terminal(self.folder / name, self.build.slow)
