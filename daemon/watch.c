@@ -26,10 +26,13 @@ static int64_t earlier(int64_t a, int64_t b)
 
 /* ---- Connections ---- */
 
-static void request_open(struct modem *m, unsigned dlci)
+/* False where there is no memory. */
+static bool request_open(struct modem *m, unsigned dlci)
 {
-	if (cimbaloty_open(&m->c, (uint8_t)dlci, &m->connections[dlci].request) == CIMBALOTY_OK)
-		m->last = m->connections[dlci].request;
+	if (cimbaloty_open(&m->c, (uint8_t)dlci, &m->connections[dlci].request) != CIMBALOTY_OK)
+		return false;
+	m->last = m->connections[dlci].request;
+	return true;
 }
 
 void watch_begin(struct modem *m, int64_t now)
@@ -65,8 +68,8 @@ static void open_again(struct modem *m, unsigned dlci, int64_t now)
 			put_off(k, now);
 		k->opened_at = 0;
 	}
-	if (now >= k->retry_at)
-		request_open(m, dlci);
+	if (now >= k->retry_at && !request_open(m, dlci))
+		put_off(k, now);
 }
 
 static void open_all_shut(struct modem *m, int64_t now)
@@ -81,10 +84,13 @@ static void request_probe(struct modem *m, int64_t now)
 {
 	static const uint8_t text[] = "alive";
 
-	if (m->probe || cimbaloty_probe(&m->c, text, sizeof text - 1, &m->probe) != CIMBALOTY_OK)
+	if (m->probe)
 		return;
-	m->last = m->probe;
 	m->probe_at = now;
+	if (cimbaloty_probe(&m->c, text, sizeof text - 1, &m->probe) == CIMBALOTY_OK)
+		m->last = m->probe;
+	else
+		m->heard_at = now;      /* no memory: later */
 }
 
 /* When the next probe is due: never where they are off, or where the modem doesn't know them. */
@@ -199,8 +205,10 @@ static void keep_time(struct modem *m, int64_t now)
 		m->tick_at = 0;
 	else if (m->tick_at == 0)
 		m->tick_at = now + m->options->t1;
-	else if (now >= m->tick_at && cimbaloty_tick(&m->c) == CIMBALOTY_OK)
+	else if (now >= m->tick_at) {
+		cimbaloty_tick(&m->c);
 		m->tick_at = now + m->options->t1;
+	}
 }
 
 /* A command that waits for too long goes with its connection, which is closed and opened again. */
@@ -237,10 +245,13 @@ void watch_turn(struct modem *m, int64_t now)
 
 int64_t watch_deadline(struct modem *m, int64_t now)
 {
-	int64_t due = probe_due(m);
+	int64_t due = INT64_MAX;
 
 	if (wants_ticks(m))
-		due = earlier(due, m->tick_at ? m->tick_at : now + m->options->t1);
+		due = m->tick_at ? m->tick_at : now + m->options->t1;
+	if (m->stop || m->connections[0].request)
+		return due;
+	due = earlier(due, probe_due(m));
 	for (unsigned i = 1; i <= m->options->connections; i++)
 		if (!m->connections[i].request && cimbaloty_state(&m->c, (uint8_t)i) == CIMBALOTY_IS_SHUT)
 			due = earlier(due, m->connections[i].retry_at);

@@ -93,17 +93,15 @@ def two_daemons(build):
     line, other = Line(), Line()
     with Daemon(build, line.path) as daemon:
         with Daemon(build, line.path, wait=False) as second:
-            status = second.process.wait(timeout=10 * build.slow)
+            status = second.wait()
             said = second.said()
             same_line = status == 1 and "another program drives it" in said
             check(f"{build.name}: a second daemon on the line", same_line, f"status {status}, {said.strip()}")
-            second.process.returncode = 0
         with Daemon(build, other.path, folder=daemon.folder, wait=False) as third:
-            status = third.process.wait(timeout=10 * build.slow)
+            status = third.wait()
             said = third.said()
             check(f"{build.name}: a second daemon in the folder", status == 1 and "another cimbalotyd serves it" in said and not other.modem.entered,
                   f"status {status}, {said.strip()}")
-            third.process.returncode = 0
         with daemon.terminal("at1") as terminal:
             said = terminal.ask("AT+STILL")
         check(f"{build.name}: the first goes on", is_own(said, "AT+STILL") and len(line.modem.entered) == 1, str(said))
@@ -260,23 +258,22 @@ def not_a_terminal(build):
         file.write(b"as it was")
         file.flush()
         with Daemon(build, file.name, wait=False) as daemon:
-            status = daemon.process.wait(timeout=10 * build.slow)
+            status = daemon.wait()
             said = daemon.said()
             check(f"{build.name}: a device that is a file", status == 1 and "it is no terminal" in said and open(file.name, "rb").read() == b"as it was",
                   f"status {status}, {said.strip()}")
-            daemon.process.returncode = 0
 
 
 def slow_line(build):
     """At 9,600 bit/s all connections open at the first try, and commands are answered."""
     line = Line()
     slow = Throttle(line, 9600)
-    with Daemon(build, slow.path, "--speed", "9600", "--connections", "8") as daemon:
-        with daemon.terminal("at8") as terminal, daemon.terminal("at1") as other:
+    with Daemon(build, slow.path, "--speed", "9600", "--connections", "61") as daemon:
+        with daemon.terminal("at61") as terminal, daemon.terminal("at1") as other:
             said = terminal.ask("AT+SLOW")
             answers = [other.ask(f"AT+S{n}") for n in range(10)]
         check(f"{build.name}: 9,600 bit/s", is_own(said, "AT+SLOW") and all(is_own(it, f"AT+S{n}") for n, it in enumerate(answers))
-              and sorted(line.modem.opened) == list(range(9)) and len(line.modem.entered) == 1 and "doesn't open" not in daemon.said(),
+              and sorted(line.modem.opened) == list(range(62)) and len(line.modem.entered) == 1 and "doesn't open" not in daemon.said(),
               f"opened {line.modem.opened}, entered {len(line.modem.entered)} times, {said}")
         begun = time.monotonic()
     line.end()

@@ -19,15 +19,16 @@ TIOCEXCL, TIOCGEXCL, TIOCVHANGUP = 0x540C, 0x80045440, 0x5437
 def killed(build):
     """A program is killed while its command is under way: the next one gets its own answers alone."""
     line = Line()
+    line.modem.late *= build.slow
     with Daemon(build, line.path) as daemon:
         script = "import os,sys,time; fd=os.open(sys.argv[1],os.O_RDWR|os.O_NOCTTY); os.write(fd,b'AT+LATE\\rAT+NEXT\\r'); print('x',flush=True); time.sleep(60)"
         program = subprocess.Popen([sys.executable, "-c", script, daemon.folder / "at1"], stdout=subprocess.PIPE)
         program.stdout.readline()
-        time.sleep(0.2)
+        time.sleep(0.2 * build.slow)
         program.send_signal(signal.SIGKILL)
         program.wait()
         program.stdout.close()
-        time.sleep(0.1)
+        time.sleep(0.1 * build.slow)
         with daemon.terminal("at1") as terminal:
             said = [terminal.ask(f"AT+N{n}") for n in range(3)]
             rest = terminal.rest()
@@ -42,8 +43,8 @@ def half_a_line(build):
     with Daemon(build, line.path) as daemon:
         with daemon.terminal("at1") as terminal:
             terminal.write(b"AT+HALF")
-            time.sleep(0.1)
-        time.sleep(0.1)
+            time.sleep(0.1 * build.slow)
+        time.sleep(0.1 * build.slow)
         with daemon.terminal("at1") as terminal:
             said = terminal.ask("AT+WHOLE")
         check(f"{build.name}: half a line left behind", is_own(said, "AT+WHOLE") and [it for _, it in line.modem.asked] == [b"AT+WHOLE"],
@@ -58,7 +59,7 @@ def unread(build):
         with daemon.terminal("at1") as terminal:
             terminal.write(b"AT+BIG=2000\r")
             time.sleep(1 * build.slow)
-        time.sleep(0.2)
+        time.sleep(0.2 * build.slow)
         with daemon.terminal("at1") as terminal:
             early = terminal.rest()
             said = terminal.ask("AT+MINE")
@@ -108,16 +109,15 @@ def set_sane(build):
         with daemon.terminal("at1") as terminal:
             subprocess.run(["stty", "-F", daemon.folder / "at1", "sane"], check=True)
             said = terminal.ask("AT+SANE")
-            time.sleep(0.5)
-            terminal.rest()
+            rest = terminal.rest(0.5)
         asked = [text for _, text in line.modem.asked]
-        time.sleep(0.1)
+        time.sleep(0.1 * build.slow)
         with daemon.terminal("at1") as terminal:
             how = termios.tcgetattr(terminal.line)
             again = terminal.ask("AT+RAW")
         is_raw = not how[3] & (termios.ECHO | termios.ICANON | termios.ISIG) and not how[0] & termios.ICRNL and not how[1] & termios.OPOST
-        check(f"{build.name}: stty sane", asked == [b"AT+SANE"] and "OK" in said and is_raw and is_own(again, "AT+RAW"),
-              f"asked {asked}, told {said}, raw again: {is_raw}, {again}")
+        check(f"{build.name}: stty sane", asked == [b"AT+SANE"] and is_own(said, "AT+SANE") and not rest and is_raw and is_own(again, "AT+RAW"),
+              f"asked {asked}, told {said} and {len(rest)} lines more, raw again: {is_raw}, {again}")
     line.end()
 
 
@@ -127,7 +127,7 @@ def exclusive(build):
     with Daemon(build, line.path) as daemon:
         with daemon.terminal("at1") as terminal:
             fcntl.ioctl(terminal.line, TIOCEXCL)
-        time.sleep(0.1)
+        time.sleep(0.1 * build.slow)
         with daemon.terminal("at1") as terminal:
             is_held = struct.unpack("i", fcntl.ioctl(terminal.line, TIOCGEXCL, b"\0\0\0\0"))[0]
         check(f"{build.name}: a terminal left exclusive", not is_held, f"exclusive: {is_held}")

@@ -41,7 +41,7 @@ class Modem(modem.Modem):
 
     def __init__(self, fd, probes=True, piece=31, **how):
         super().__init__(fd, **how)
-        self.probes, self.piece = probes, piece
+        self.probes, self.piece, self.late = probes, piece, 0.7
         self.stopped, self.asked, self.opened, self.shut, self.stops, self.tested = set(), [], [], [], 0, 0
         self.writing = threading.Lock()
         self.inits = []
@@ -58,7 +58,7 @@ class Modem(modem.Modem):
         self.asked.append((dlci, line))
         if line == b"AT+LATE":
             answer = super().answer(dlci, line)
-            threading.Timer(0.7, self.say, (dlci, answer)).start()
+            threading.Timer(self.late, self.say, (dlci, answer)).start()
             return None
         if line == b"AT+PROMPT":
             self.say(dlci, b"\r\n> ")
@@ -133,7 +133,7 @@ class Daemon:
     to be 0."""
 
     def __init__(self, build, path, *words, folder=None, wait=True, **more):
-        self.build, self.place = build, tempfile.TemporaryDirectory()
+        self.build, self.place, self.ends_itself = build, tempfile.TemporaryDirectory(), False
         self.folder = pathlib.Path(folder or self.place.name)
         self.log = pathlib.Path(self.place.name) / "log"
         operands = [path, self.folder] if path else []
@@ -145,9 +145,17 @@ class Daemon:
     def __enter__(self):
         return self
 
+    def wait(self):
+        """The status of a daemon that ends by itself; none where it doesn't in ten seconds."""
+        self.ends_itself = True
+        try:
+            return self.process.wait(timeout=10 * self.build.slow)
+        except subprocess.TimeoutExpired:
+            return None
+
     def __exit__(self, kind, *_):
         status = self.end()
-        if kind is None and status != 0:
+        if kind is None and status != 0 and not self.ends_itself:
             check(f"{self.build.name}: the daemon ends", False, f"status {status}\n{self.said()}")
         self.place.cleanup()
 
@@ -230,9 +238,9 @@ class Terminal:
         return lines
 
     def rest(self, seconds=0.3):
-        """All lines that still come."""
-        lines = []
-        while (line := self.next(seconds / self.slow if self.slow > 1 else seconds)) is not None:
+        """All lines that still come, each at most so long behind the one before; of endless ones those of five seconds."""
+        lines, end = [], time.monotonic() + 5
+        while time.monotonic() < end and (line := self.next(seconds / self.slow)) is not None:
             lines.append(line)
         return lines
 
