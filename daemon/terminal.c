@@ -181,10 +181,11 @@ static size_t last_command(const struct terminal *t)
 	return from == 0 && t->length ? t->in_length : from;
 }
 
-/* Where the octets begin that a program wrote which came in the round in which the last one left. */
+/* Where the octets begin that a program wrote which came in the round in which the last one left; the end where there are
+ * none, or nobody can tell. */
 static size_t newcomer(const struct terminal *t)
 {
-	if (!t->wrote_behind)
+	if (!t->wrote_behind || t->in_length == PENDING)
 		return t->in_length;
 	return t->wrote_before ? last_command(t) : t->in_length - t->fresh;
 }

@@ -102,6 +102,26 @@ def glued(build):
     line.end()
 
 
+def flooded(build):
+    """A program leaves more behind than the daemon reads ahead."""
+    line, said = Line(), []
+    with Daemon(build, line.path) as daemon:
+        for n in range(20):
+            with daemon.terminal("at1") as terminal:
+                os.set_blocking(terminal.line, False)
+                try:
+                    for k in range(2000):
+                        os.write(terminal.line, b"AT+FLOOD%d.%d\r" % (n, k))
+                except BlockingIOError:
+                    pass
+            with daemon.terminal("at1") as terminal:
+                said.append(terminal.ask(f"AT+HERE{n}", 2))
+        own = sum(is_own(it, f"AT+HERE{n}") for n, it in enumerate(said))
+        check(f"{build.name}: a flood left behind", own + said.count(["ERROR"]) == 20, f"{own} later commands have their own answers, "
+              f"{said.count(['ERROR'])} ERROR, others {[it for n, it in enumerate(said) if it != ['ERROR'] and not is_own(it, f'AT+HERE{n}')]}")
+    line.end()
+
+
 def set_sane(build):
     """With the settings of a login terminal, echo too, no answer comes back as a command; they go with the program."""
     line = Line()
@@ -252,4 +272,4 @@ def share_one(terminal, kind, count, right):
         right.append(command)
 
 
-CASES = [killed, half_a_line, unread, told_and_left, glued, set_sane, exclusive, hung_up, idle, bad_lines, side_by_side, in_a_row, share]
+CASES = [killed, half_a_line, unread, told_and_left, glued, flooded, set_sane, exclusive, hung_up, idle, bad_lines, side_by_side, in_a_row, share]
