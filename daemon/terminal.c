@@ -47,7 +47,7 @@ static bool open_one(struct terminals *ts, struct terminal *t)
 	cfsetspeed(&t->raw, B115200);
 	if (tcsetattr(t->theirs, TCSANOW, &t->raw))
 		return false;
-	t->watch = inotify_add_watch(ts->watcher, t->device, IN_OPEN | IN_CLOSE | IN_MODIFY);
+	t->watch = inotify_add_watch(ts->watcher, t->device, IN_OPEN | IN_CLOSE | IN_MODIFY | IN_ACCESS);
 	return t->watch >= 0 && link_to(t);
 }
 
@@ -62,10 +62,10 @@ static void close_one(struct terminals *ts, struct terminal *t)
 	t->ours = t->theirs = t->watch = -1;
 }
 
-/* Something hung the terminal up for all who had it, so that it is of no use any more: another takes its place. */
-static void make_anew(struct terminals *ts, struct terminal *t)
+/* The terminal is hung up for all who have it: another takes its place. */
+static void make_anew(struct terminals *ts, struct terminal *t, const char *why)
 {
-	say(LOG_NOTICE, "%s was hung up: it is made anew", t->path);
+	say(LOG_NOTICE, "%s %s: it is made anew", t->path, why);
 	close_one(ts, t);
 	t->in_length = t->fresh = t->length = t->out_at = t->out_length = 0;
 	t->opens = 0;
@@ -127,7 +127,7 @@ static void drain(struct terminals *ts, struct terminal *t)
 		ssize_t n = read(t->ours, t->in + t->in_length, PENDING - t->in_length);
 
 		if (n < 0 && errno == EIO)
-			make_anew(ts, t);
+			make_anew(ts, t, "was hung up");
 		if (n <= 0 || t == ts->all)
 			return;
 		t->in_length += (size_t)n;
@@ -139,6 +139,8 @@ static void see(struct terminal *t, uint32_t what)
 {
 	if (what & IN_OPEN)
 		t->opens++;
+	if (what & IN_ACCESS && t->has_left)
+		t->read_behind = true;
 	if (what & IN_MODIFY)
 		*(t->has_left ? &t->wrote_behind : &t->wrote_before) = true;
 	if (!(what & IN_CLOSE) || t->opens == 0 || --t->opens > 0)
@@ -219,8 +221,10 @@ static void clean(struct terminals *ts, struct terminal *t)
 	if (is_full)
 		tcflush(t->ours, TCIFLUSH);
 	if (!reset(t) && t->opens == 0)
-		make_anew(ts, t);
-	if (is_mixed) {
+		make_anew(ts, t, "was hung up");
+	if (t->read_behind)
+		make_anew(ts, t, "is hung up: a program read what another one had left there");
+	else if (is_mixed) {
 		say(LOG_NOTICE, "%s: a program wrote as another one left: what it wrote is answered by ERROR", t->path);
 		terminal_put(t, "ERROR", 5);
 	}
@@ -230,7 +234,7 @@ static void see_one(struct terminals *ts, const struct inotify_event *e)
 {
 	for (unsigned i = 0; i <= ts->count; i++)
 		if (e->mask & IN_Q_OVERFLOW)
-			make_anew(ts, &ts->all[i]);
+			make_anew(ts, &ts->all[i], "is hung up, since too much happened at once");
 		else if (ts->all[i].watch == e->wd)
 			see(&ts->all[i], e->mask);
 }
@@ -261,8 +265,11 @@ void terminals_look(struct terminals *ts)
 	for (unsigned i = 0; i <= ts->count; i++)
 		ts->all[i].fresh = 0;
 	for (unsigned pass = 0; is_any && pass < PASSES; pass++) {      /* what was seen to be written is read too */
-		for (unsigned i = 0; i <= ts->count; i++)
+		for (unsigned i = 0; i <= ts->count; i++) {
 			drain(ts, &ts->all[i]);
+			if (ts->all[i].has_left)
+				tcflush(ts->all[i].theirs, TCIFLUSH);
+		}
 		is_any = see_all(ts);
 	}
 	for (unsigned i = 0; i <= ts->count; i++) {
@@ -270,7 +277,7 @@ void terminals_look(struct terminals *ts)
 
 		if (t->has_left)
 			clean(ts, t);
-		t->has_left = t->wrote_before = t->wrote_behind = false;
+		t->has_left = t->wrote_before = t->wrote_behind = t->read_behind = false;
 	}
 }
 

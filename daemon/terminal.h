@@ -30,6 +30,7 @@ struct terminal {
 	unsigned opens;
 	bool has_left;          /* in this round the last program left, and whether the others wrote before and behind that */
 	bool wrote_before, wrote_behind;
+	bool read_behind;       /* one that came then read what the last one hadn't */
 	bool is_last_line;      /* `in` has a line of a program that has left */
 	/* the request under way */
 	uint64_t asked;

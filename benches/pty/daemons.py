@@ -237,6 +237,17 @@ class Terminal:
             lines.append(self.next(seconds))
         return lines
 
+    def is_hung_up(self, seconds):
+        """Whether it is hung up in time; what comes before is passed over."""
+        end = time.monotonic() + seconds * self.slow
+        while select.select([self.line], [], [], max(0, end - time.monotonic()))[0]:
+            try:
+                if not os.read(self.line, 4096):
+                    return True
+            except OSError:
+                return True
+        return False
+
     def rest(self, seconds=0.3):
         """All lines that still come, each at most so long behind the one before; of endless ones those of five seconds."""
         lines, end = [], time.monotonic() + 5
