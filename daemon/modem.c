@@ -143,7 +143,7 @@ static void count(struct modem *m, const uint8_t *octets, size_t length, int64_t
 	if (m->came.whole != before)
 		m->heard_at = now;
 	if (m->came.longer > m->said_longer && m->said_longer != ULONG_MAX) {
-		say(LOG_WARNING, "a frame of %u octets came, and N1 is %u: such frames are dropped, and answers in them never come; see --n1 and --entry",
+		say(LOG_WARNING, "a frame of %u octets came, and N1 is %u: such frames are dropped, and answers come without them or not at all; see --n1 and --entry",
 		    m->came.longest, m->options->n1);
 		m->said_longer = ULONG_MAX;     /* once for each entry */
 	}

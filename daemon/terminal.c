@@ -62,16 +62,21 @@ static void close_one(struct terminals *ts, struct terminal *t)
 	t->ours = t->theirs = t->watch = -1;
 }
 
-/* The terminal is hung up for all who have it: another takes its place. */
+/* The terminal is hung up for all who have it: another takes its place. The link is never without one. */
 static void make_anew(struct terminals *ts, struct terminal *t, const char *why)
 {
+	struct terminal old = *t;
+
 	say(LOG_NOTICE, "%s %s: it is made anew", t->path, why);
-	close_one(ts, t);
 	t->in_length = t->fresh = t->length = t->out_at = t->out_length = 0;
 	t->opens = 0;
 	t->is_orphan = t->is_waiting;
-	if (!open_one(ts, t))
+	t->ours = t->theirs = t->watch = -1;
+	if (!open_one(ts, t)) {
 		say(LOG_ERR, "%s: %s: it is gone; start cimbalotyd again", t->path, strerror(errno));
+		close_one(ts, t);
+	}
+	close_one(ts, &old);
 }
 
 bool terminals_open(struct terminals *ts, const struct options *o)

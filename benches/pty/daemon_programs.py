@@ -102,35 +102,43 @@ def glued(build):
     line.end()
 
 
+def flood(daemon, n):
+    with daemon.terminal("at1") as terminal:
+        os.set_blocking(terminal.line, False)
+        try:
+            for k in range(2000):
+                os.write(terminal.line, b"AT+FLOOD%d.%d\r" % (n, k))
+        except BlockingIOError:
+            pass
+
+
+def told_behind_flood(daemon, n):
+    """What the next program is told: its own answer, ERROR, nothing since it was hung up, or what is wrong."""
+    try:
+        with daemon.terminal("at1") as terminal:
+            said = terminal.ask(f"AT+HERE{n}", 2)
+            if is_own(said, f"AT+HERE{n}"):
+                return "own"
+            if said == ["ERROR"]:
+                return "ERROR"
+            return "hung up" if terminal.is_hung_up(2) else str(said)
+    except OSError:
+        return "hung up"
+
+
 def flooded(build):
     """A program leaves more behind than the daemon reads ahead, and answers. The next one, which comes at once, gets its own answer or
     ERROR. If it is so quick that it reads what was left there, it is hung up."""
-    line, own, errors, hung, wrong = Line(), 0, 0, 0, []
+    line, told = Line(), []
     with Daemon(build, line.path) as daemon:
         for n in range(30):
-            with daemon.terminal("at1") as terminal:
-                os.set_blocking(terminal.line, False)
-                try:
-                    for k in range(2000):
-                        os.write(terminal.line, b"AT+FLOOD%d.%d\r" % (n, k))
-                except BlockingIOError:
-                    pass
-            with daemon.terminal("at1") as terminal:
-                try:
-                    said = terminal.ask(f"AT+HERE{n}", 2)
-                except OSError:
-                    hung += 1
-                    continue
-                if is_own(said, f"AT+HERE{n}"):
-                    own += 1
-                elif said == ["ERROR"]:
-                    errors += 1
-                elif terminal.is_hung_up(2):
-                    hung += 1
-                else:
-                    wrong.append(said)
-        check(f"{build.name}: a flood left behind", not wrong and own + errors >= 15,
-              f"{own} later commands have their own answers, {errors} ERROR, {hung} programs were hung up; wrong: {wrong}")
+            try:
+                flood(daemon, n)
+            except OSError:
+                pass  # the last one was hung up, and this one came before the terminal was made anew
+            told.append(told_behind_flood(daemon, n))
+        counts = {it: told.count(it) for it in dict.fromkeys(told)}
+        check(f"{build.name}: a flood left behind", not set(counts) - {"own", "ERROR", "hung up"} and counts.get("hung up", 0) <= 15, str(counts))
     line.end()
 
 
