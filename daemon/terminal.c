@@ -67,7 +67,6 @@ static void make_anew(struct terminals *ts, struct terminal *t, const char *why)
 {
 	struct terminal old = *t;
 
-	say(LOG_NOTICE, "%s %s: it is made anew", t->path, why);
 	t->in_length = t->fresh = t->length = t->out_at = t->out_length = 0;
 	t->opens = 0;
 	t->is_orphan = t->is_waiting;
@@ -77,6 +76,7 @@ static void make_anew(struct terminals *ts, struct terminal *t, const char *why)
 		close_one(ts, t);
 	}
 	close_one(ts, &old);
+	say(LOG_NOTICE, "%s %s: it is made anew", t->path, why);
 }
 
 bool terminals_open(struct terminals *ts, const struct options *o)
@@ -229,6 +229,8 @@ static void clean(struct terminals *ts, struct terminal *t)
 		make_anew(ts, t, "was hung up");
 	if (t->read_behind)
 		make_anew(ts, t, "is hung up: a program read what another one had left there");
+	else if (is_full && t->opens > 0 && !is_mixed)
+		make_anew(ts, t, "is hung up: a program came before all was dropped that another one had left there");
 	else if (is_mixed) {
 		say(LOG_NOTICE, "%s: a program wrote as another one left: what it wrote is answered by ERROR", t->path);
 		terminal_put(t, "ERROR", 5);

@@ -177,7 +177,7 @@ def report(build):
 def installed(build):
     """make install puts all in place; the unit is what systemd takes, and the page what man takes."""
     with tempfile.TemporaryDirectory() as place:
-        subprocess.run(["make", "-s", "-C", TOP / "daemon", "install", f"DESTDIR={place}", "PREFIX=/usr", f"OUT={build.folder.name}"], check=True)
+        subprocess.run(["make", "-s", "-C", TOP / "daemon", "install", f"DESTDIR={place}", "PREFIX=/usr", f"OUT={build.folder.name}", f"TARGET={build.target}"], check=True)
         files = sorted(str(it.relative_to(place)) for it in pathlib.Path(place).rglob("*") if it.is_file())
         unit = (pathlib.Path(place) / "usr/lib/systemd/system/cimbalotyd@.service").read_text()
         page = subprocess.run(["man", "--warnings", "-l", f"{place}/usr/share/man/man8/cimbalotyd.8"], capture_output=True, text=True, env={**os.environ, "MANPAGER": "cat"})

@@ -29,9 +29,9 @@ class Build:
     def __init__(self, name):
         self.name = name
         self.folder = tempfile.TemporaryDirectory()
-        target, flags, last, before = BUILDS[name]
+        self.target, flags, last, before = BUILDS[name]
         self.slow = 8 if name in ("valgrind", "aarch64") else 1
-        words = [f"TARGET={target}", f"OUT={self.folder.name}", f"CFLAGS={flags}", f"LDFLAGS={last}"]
+        words = [f"TARGET={self.target}", f"OUT={self.folder.name}", f"CFLAGS={flags}", f"LDFLAGS={last}"]
         subprocess.run(["make", "-s", "-C", TOP / "daemon", *words], check=True)
         self.words = [*before, f"{self.folder.name}/cimbalotyd"]
 
