@@ -10,41 +10,12 @@
 #include <string.h>
 #include <unistd.h>
 
-/* Writes all octets that wait for the line; false if the line failed. */
-static bool send_all(struct cimbaloty *c, int fd)
-{
-	uint8_t room[256];
-	size_t count;
-
-	while ((count = cimbaloty_output(c, room, sizeof room)) > 0)
-		for (size_t at = 0; at < count;) {
-			struct pollfd p = { fd, POLLOUT, 0 };
-			ssize_t n = write(fd, room + at, count - at);
-
-			if (n > 0)
-				at += (size_t)n;
-			else if (errno != EAGAIN || poll(&p, 1, 5000) != 1)
-				return false;
-		}
-	return true;
-}
-
 /* Waits for octets, at most a second, and takes them in; false if the line failed or there is no memory. */
 static bool receive(struct cimbaloty *c, int fd)
 {
 	struct pollfd p = { fd, POLLIN, 0 };
-	uint8_t octets[512];
-	size_t taken;
 
-	if (poll(&p, 1, 1000) == 0)
-		return cimbaloty_tick(c) == CIMBALOTY_OK;
-	ssize_t count = read(fd, octets, sizeof octets);
-	if (count <= 0)
-		return count < 0 && (errno == EAGAIN || errno == EINTR);
-	for (size_t at = 0; at < (size_t)count; at += taken)
-		if (cimbaloty_input(c, octets + at, (size_t)count - at, &taken) == CIMBALOTY_NO_MEMORY || !send_all(c, fd))
-			return false;
-	return true;
+	return poll(&p, 1, 1000) == 0 ? cimbaloty_tick(c) == CIMBALOTY_OK : line_receive(c, fd);
 }
 
 /* Waits for the outcome of a request, and prints its text. Gives the answer, or 0 if the line failed or there is
@@ -54,7 +25,7 @@ static unsigned wait_for(struct cimbaloty *c, int fd, uint64_t number, bool *ok)
 	struct cimbaloty_outcome o;
 
 	for (;;) {
-		if (!send_all(c, fd) || !receive(c, fd))
+		if (!line_send(c, fd) || !receive(c, fd))
 			return 0;
 		while (cimbaloty_peek_outcome(c, &o) == CIMBALOTY_OK) {
 			char *text = malloc(o.length + 1);

@@ -1,4 +1,4 @@
-/* line.c - a modem's tty: opened raw, and brought into the multiplexer. */
+/* line.c - a modem's tty: opened raw, brought into the multiplexer, and what passes on it. */
 #define _DEFAULT_SOURCE
 #include "line.h"
 #include <errno.h>
@@ -90,4 +90,36 @@ int line_enter(int fd)
 			return said;
 	}
 	return -1;
+}
+
+bool line_send(struct cimbaloty *c, int fd)
+{
+	uint8_t room[256];
+	size_t count;
+
+	while ((count = cimbaloty_output(c, room, sizeof room)) > 0)
+		for (size_t at = 0; at < count;) {
+			struct pollfd p = { fd, POLLOUT, 0 };
+			ssize_t n = write(fd, room + at, count - at);
+
+			if (n > 0)
+				at += (size_t)n;
+			else if (errno != EAGAIN || poll(&p, 1, 5000) != 1)
+				return false;
+		}
+	return true;
+}
+
+bool line_receive(struct cimbaloty *c, int fd)
+{
+	uint8_t octets[512];
+	size_t taken;
+	ssize_t count = read(fd, octets, sizeof octets);
+
+	if (count <= 0)
+		return count < 0 && (errno == EAGAIN || errno == EINTR);
+	for (size_t at = 0; at < (size_t)count; at += taken)
+		if (cimbaloty_input(c, octets + at, (size_t)count - at, &taken) == CIMBALOTY_NO_MEMORY || !line_send(c, fd))
+			return false;
+	return true;
 }
