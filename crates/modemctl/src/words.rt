@@ -1,7 +1,7 @@
 //! The words of the program.
 ghost use Rattle.std.specs.Prelude.{◌≡◌, ◌≢◌, ◌<◌, ◌≤◌, ◌⊎◌, Bool, [], map, Some, IfOk, false, codes, true};
 ghost use Rattle.std.specs.String.{string_bytes};
-ghost use Rattle.clap.specs.Words.{app_of, rule_of, kind_of, subcommand_name_of, subcommand_rows_of};
+ghost use Rattle.clap.specs.Words.{kind_of, subcommand_name_of, subcommand_rows_of};
 ghost use Rattle.modem_runs.specs.Printed.{IsBenched, IsPrinted};
 ghost use Rattle.modem_runs.specs.Stopping.{HasGivenUp};
 ghost use Rattle.modem_serve.specs.Leaving.{IsServedInPart};
@@ -10,30 +10,33 @@ ghost use Rattle.modemctl.specs.Benches.{LeavesClient, LeavesWith, PrintsBench, 
 ghost use Rattle.modemctl.specs.Dialects.{IsShut};
 ghost use Rattle.modemctl.specs.Drives.{PrintsDrive};
 ghost use Rattle.modemctl.specs.Files.{NamesCause};
-ghost use Rattle.modemctl.specs.Words.{callers_rule, cut_rule, n1_rule, program_app, fault_in, met_in, raw_in, with_four, with_one, with_three, with_two, AreFor, AsksNoHelp, HasNoNumber, is_explained};
+ghost use Rattle.modemctl.specs.Words.{fault_in, met_in, raw_in, AreFor, AsksNoHelp, HasNoNumber, is_explained};
 
+mod commands;
 mod dialects;
 mod driving;
 mod file_faults;
 mod files;
 mod help;
 mod numbers;
+mod options;
 mod reasons;
 mod sims;
 mod text_files;
 
 use clap::error::ErrorKind;
-use clap::{Arg, ArgAction, ArgMatches, Command, Error, value_parser};
-use dialects::{dialect_option, replay_words};
-use driving::{drive_words, with_drive};
-use files::{capture_at, capture_option, refuse_capture, refuse_script, script_option, steps_of};
+use clap::{ArgMatches, Error};
+use commands::program;
+use dialects::replay_words;
+use driving::drive_words;
+use files::{capture_at, refuse_capture, refuse_script, steps_of};
 use modem_runs::{Stop, bench_run_explained, frames_run_explained, give_up};
 use modem_serve::{SimOptions, sim_captured, sim_run};
 use modem_sim::{Script, Steps};
 use numbers::{Numbers, numbers_of};
-use reasons::{explain_option, wants_reason};
-use sims::{echo_of, echo_option, pin_of, pin_option};
-use std::alloc::{AllocError, AllocGlobal, Global};
+use reasons::wants_reason;
+use sims::{echo_of, pin_of};
+use std::alloc::{AllocGlobal, Global};
 use std::fs::File;
 use std::io::{Read, Write};
 use std::random::RandomSource;
@@ -41,116 +44,6 @@ use std::rt::{Clock, Files};
 use std::sync::Wait;
 use std::thread::Threads;
 use text_files::TextFiles;
-
-/// The option `--n1`.
-fn n1_option<'a>(alloc: Global) -> Arg<'a>
-    ensures rule { rule_of result ≡ n1_rule }
-    ensures own { result.global ≡ false }
-{
-    Arg::new(alloc, "n1")
-        .long("n1")
-        .value_name("N")
-        .help("Octets of information that a frame may have, 31 to 32767")
-        .action(ArgAction::Set)
-        .default_value("31")
-        .value_parser(value_parser!(u16).range(31..=32767))
-}
-
-/// The option `--callers`.
-fn callers_option<'a>(alloc: Global) -> Arg<'a>
-    ensures rule { rule_of result ≡ callers_rule }
-    ensures own { result.global ≡ false }
-{
-    Arg::new(alloc, "callers")
-        .long("callers")
-        .value_name("N")
-        .help("Callers, each in a thread of its own, 1 to 8")
-        .action(ArgAction::Set)
-        .default_value("2")
-        .value_parser(value_parser!(u8).range(1..=8))
-}
-
-/// The option `--cut`.
-fn cut_option<'a>(alloc: Global) -> Arg<'a>
-    ensures rule { rule_of result ≡ cut_rule }
-    ensures own { result.global ≡ false }
-{
-    Arg::new(alloc, "cut")
-        .long("cut")
-        .value_name("K")
-        .help("Octets that the line has room for each way, 1 to 4096")
-        .action(ArgAction::Set)
-        .default_value("64")
-        .value_parser(value_parser!(u16).range(1..=4096))
-}
-
-/// The program with the subcommand that reads octets.
-fn one_command<'a>(alloc: Global) -> Result<Command<'a>, AllocError>
-    ensures { IfOk result (λ c. app_of c ≡ with_one) }
-{
-    let frames = Command::new(alloc, "frames")
-        .about("Reads octets, written in hexadecimal, as frames")
-        .after_help(help::FRAMES)
-        .arg(n1_option(alloc))?
-        .arg(explain_option(alloc))?;
-    Command::new(alloc, "modemctl")
-        .about("The driver of a cellular modem, on the basic option of 3GPP TS 27.010")
-        .after_help(help::PROGRAM)
-        .subcommand_required(true)
-        .subcommand(frames)
-}
-
-/// The same with a replay.
-fn two_commands<'a>(alloc: Global) -> Result<Command<'a>, AllocError>
-    ensures { IfOk result (λ c. app_of c ≡ with_two) }
-{
-    let command = one_command(alloc)?;
-    let replay = Command::new(alloc, "replay")
-        .about("Says what the driver of a modem does with the events of a script")
-        .after_help(help::REPLAY)
-        .arg(n1_option(alloc))?
-        .arg(dialect_option(alloc))?
-        .arg(explain_option(alloc))?;
-    command.subcommand(replay)
-}
-
-/// The same with a bench.
-fn three_commands<'a>(alloc: Global) -> Result<Command<'a>, AllocError>
-    ensures { IfOk result (λ c. app_of c ≡ with_three) }
-{
-    let command = two_commands(alloc)?;
-    let bench = Command::new(alloc, "bench")
-        .about("Has callers in threads share a simulated modem, and prints what they are told")
-        .after_help(help::BENCH)
-        .arg(callers_option(alloc))?
-        .arg(cut_option(alloc))?
-        .arg(explain_option(alloc))?;
-    command.subcommand(bench)
-}
-
-/// The same with a modem.
-fn four_commands<'a>(alloc: Global) -> Result<Command<'a>, AllocError>
-    ensures { IfOk result (λ c. app_of c ≡ with_four) }
-{
-    let command = three_commands(alloc)?;
-    let sim = Command::new(alloc, "sim")
-        .about("Is a modem on standard input and output, for any client")
-        .after_help(help::SIM)
-        .arg(n1_option(alloc))?
-        .arg(pin_option(alloc))?
-        .arg(echo_option(alloc))?
-        .arg(script_option(alloc))?
-        .arg(capture_option(alloc))?;
-    command.subcommand(sim)
-}
-
-/// The program with all of them.
-fn program<'a>(alloc: Global) -> Result<Command<'a>, AllocError>
-    ensures { IfOk result (λ c. app_of c ≡ program_app) }
-{
-    let command = four_commands(alloc)?;
-    with_drive(alloc, command)
-}
 
 /// Whether some character is one that moves the cursor or rings a bell, as a line feed.
 fn has_controls(text: &str) -> bool {

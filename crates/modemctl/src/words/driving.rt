@@ -1,6 +1,6 @@
 //! The words of a drive.
 ghost use Rattle.std.specs.Prelude.{◌≡◌, ◌<◌, ◌≤◌, ◌⊎◌, IfOk, codes, false, true};
-ghost use Rattle.clap.specs.Words.{app_of, first_value, found_of, rule_of, with_subcommand};
+ghost use Rattle.clap.specs.Words.{app_of, first_value, found_of, rule_of, with_subcommand, AddsSubcommand};
 ghost use Rattle.modemctl.specs.Dialects.{IsShut};
 ghost use Rattle.modemctl.specs.Drives.{DrivesWith};
 ghost use Rattle.modemctl.specs.Files.{NamesCause};
@@ -9,8 +9,9 @@ ghost use Rattle.modemctl.specs.Words.{device_rule, drive_app, entry_rule, quiet
 use crate::words::dialects::{dialect_option, given_dialect};
 use crate::words::files::capture_option;
 use crate::words::numbers::{number_of, seconds_of};
+use crate::words::options::n1_option;
 use crate::words::text_files::TextFiles;
-use crate::words::{help, n1_option, refuse};
+use crate::words::{help, refuse};
 use clap::{Arg, ArgAction, ArgMatches, Command, value_parser};
 use modem_drive::{Settings, drive_run};
 use std::alloc::{AllocError, AllocGlobal, Global};
@@ -75,11 +76,12 @@ fn device_word<'a>(alloc: Global) -> Arg<'a>
         .action(ArgAction::Set)
 }
 
-/// A program with the subcommand `drive` beside those that it has.
-pub fn with_drive<'a>(alloc: Global, command: Command<'a>) -> Result<Command<'a>, AllocError>
-    ensures { IfOk result (λ c. app_of c ≡ with_subcommand (app_of command.entry) drive_app.top) }
+/// The subcommand that drives a modem.
+pub fn drive_command<'a>(alloc: Global) -> Result<Command<'a>, AllocError>
+    ensures { IfOk result (λ c. (old new : Command) → AddsSubcommand old c new
+        → app_of new ≡ with_subcommand (app_of old) drive_app.top) }
 {
-    let drive = Command::new(alloc, "drive")
+    Command::new(alloc, "drive")
         .about("Drives a modem on a terminal")
         .after_help(help::DRIVE)
         .arg(n1_option(alloc))?
@@ -88,8 +90,7 @@ pub fn with_drive<'a>(alloc: Global, command: Command<'a>) -> Result<Command<'a>
         .arg(entry_option(alloc))?
         .arg(dialect_option(alloc))?
         .arg(capture_option(alloc))?
-        .arg(device_word(alloc))?;
-    command.subcommand(drive)
+        .arg(device_word(alloc))
 }
 
 /// The time from tick to tick, and how long a connection may be without an answer.
