@@ -5,6 +5,9 @@
 //! The first lines say what the line and its ends are (see `Setup`), and end with one that says what is played: `session`,
 //! `endpoint`, `sim`, `pair`, `rounds`, `modem`, `typed`, `texts`, `frames`, `desk` or `enter CALLS`. A line that isn't read as one of
 //! these ends it with `bad line N` and status 2.
+//!
+//! Behind a line that is ASCII's file separator alone (FS, 0x1C) another script begins. Once it begins, FS and the status of the
+//! script before it stand on a line of standard output, and on one of standard error.
 #![tactic(auto)]
 
 mod desks;
@@ -76,11 +79,29 @@ fn refuse<E: Write>(faults: &mut E, place: u64) -> u8 {
     2
 }
 
-fn main(rt: HostRuntime) -> ExitCode {
-    let mut lines = Lines::new(rt);
-    match run(&mut lines) {
-        Ok(()) => ExitCode::SUCCESS,
-        Err(Stop::BadLine(..)) => ExitCode::from(refuse(&mut rt.stderr(), lines.place())),
-        Err(stop) => ExitCode::from(give_up(&mut rt.stderr(), stop)),
+/// Plays a script, and gives its status.
+fn play_script<R: Host, E: Write>(lines: &mut Lines<R>, faults: &mut E) -> u8 {
+    match run(lines) {
+        Ok(()) => 0,
+        Err(Stop::BadLine(..)) => refuse(faults, lines.place()),
+        Err(stop) => give_up(faults, stop),
     }
+}
+
+/// Plays each script, and gives the status of the last one.
+fn play_each<R: Host, E: Write>(lines: &mut Lines<R>, faults: &mut E) -> u8 {
+    let rt = lines.rt;
+    for _ in rt.forever() {
+        let status = play_script(lines, faults);
+        if !lines.next_script() {
+            return status;
+        }
+        let _ = rt.println(format_args!("\u{1c}{status}"));
+        let _ = writeln!(faults, "\u{1c}{status}");
+    }
+    unreachable!()
+}
+
+fn main(rt: HostRuntime) -> ExitCode {
+    ExitCode::from(play_each(&mut Lines::new(rt), &mut rt.stderr()))
 }

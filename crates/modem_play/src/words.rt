@@ -20,20 +20,39 @@ impl<R: Wait + Input + Print + AllocGlobal + RandomSource + Copy + Drop> Host fo
 /// says which it is.
 pub const BAD: Stop = Stop::BadLine(1, LineFault::Event);
 
-/// The lines on standard input, and how many were read.
+/// The line between two scripts, ASCII's file separator. No script has such a line.
+const SEPARATOR: &str = "\u{1c}";
+
+/// How far the input is read.
+#[derive(Drop)]
+enum Reached {
+    /// The script may have more lines.
+    Script,
+    /// The script ended at a separator.
+    Separator,
+    /// The input ended.
+    End,
+}
+
+/// The scripts on standard input.
 #[derive(Drop)]
 pub struct Lines<R: Host> {
     pub rt: R,
+    reached: Reached,
     place: u64,
 }
 
 impl<R: Host> Lines<R> {
     pub fn new(rt: R) -> Lines<R> {
-        Lines { rt, place: 0 }
+        Lines {
+            rt,
+            reached: Reached::Script,
+            place: 0,
+        }
     }
 
-    /// The next line without its end; nothing where the input ends.
-    pub fn next_line(&mut self) -> Result<Option<String>, Stop> {
+    /// The next line of the input without its end; nothing where it ends.
+    fn read_line(&mut self) -> Result<Option<String>, Stop> {
         let mut line = String::new(self.rt.alloc());
         match self.rt.read_line(&mut line) {
             Ok(0) => return Ok(None),
@@ -43,13 +62,45 @@ impl<R: Host> Lines<R> {
         if line.ends_with('\n') {
             line.pop();
         }
+        Ok(Some(line))
+    }
+
+    /// The next line of the script without its end; nothing where the script ends.
+    pub fn next_line(&mut self) -> Result<Option<String>, Stop> {
+        let Reached::Script = self.reached else {
+            return Ok(None);
+        };
+        let Some(line) = self.read_line()? else {
+            self.reached = Reached::End;
+            return Ok(None);
+        };
+        if line.as_str() == SEPARATOR {
+            self.reached = Reached::Separator;
+            return Ok(None);
+        }
         self.place = self.place.saturating_add(1);
         Ok(Some(line))
     }
 
-    /// The place of the line that was read last, counted from 1.
+    /// The place in the script of the line that was read last, counted from 1.
     pub fn place(&self) -> u64 {
         self.place
+    }
+
+    /// Passes over the lines that are left of the script, and says whether another script begins.
+    pub fn next_script(&mut self) -> bool {
+        let rt = self.rt;
+        for _ in rt.forever() {
+            let Ok(Some(_)) = self.next_line() else {
+                break;
+            };
+        }
+        let Reached::Separator = self.reached else {
+            return false;
+        };
+        self.reached = Reached::Script;
+        self.place = 0;
+        true
     }
 }
 
