@@ -1,7 +1,7 @@
 -- The desk is the same one, with the same users.
-use Rattle.std.specs.Prelude.{◌≡◌, [], refl, IsOk}
+use Rattle.std.specs.Prelude.{refl, IsOk}
 use Rattle.std.proofs.Common.{ap, ◌∙◌}
-use Rattle.modem_desk.specs.Ends.{AreSubscribed, DriverView, IsWhole, place_of, subscription_of}
+use Rattle.modem_desk.specs.Ends.{DriverView}
 use Rattle.modem_driver.specs.SessionStates.{end_of, line_by}
 use Rattle.modem_drive.specs.Ending.{AllHeard}
 use Rattle.modem_drive.proofs.Ends.{done_ok, ends_drive, known_done, known_ok, on_both, still_subscribed, still_whole}
