@@ -132,13 +132,7 @@ where
     let mut output = output;
     let mut ring = ring;
     spawned(thread::spawn(rt, move || {
-        let _ = drain(
-            &rt_there,
-            &mut output,
-            &mut ring,
-            &shares.bell,
-            &shares.own,
-        );
+        let _ = drain(&rt_there, &mut output, &mut ring, &shares.bell, &shares.own);
         leave(ring, &shares.bell);
     }))
 }
@@ -155,9 +149,10 @@ where
     R: Threads + Wait + Clock + AllocGlobal + Copy + Send + Drop + 'static,
     I: Read + Send + Drop + 'static,
 {
-    let (stop, shares) = shares_for(rt.alloc(), bell)?;
+    let told = shares_for(rt.alloc(), bell)?;
     let made = RingBuffer::new(rt.alloc(), ROOM);
-    let ((ring, octets), (stop, shares, input)) = beside(made, (stop, shares, input))?;
+    let ((ring, octets), (told, input)) = beside(made, (told, input))?;
+    let (stop, shares) = told;
     let started = start_reading(rt, input, ring, shares, zero);
     let (_, (octets, stop)) = beside(started, (octets, stop))?;
     Ok((RingReader::new(octets), stop))
@@ -176,7 +171,7 @@ where
 {
     let (stop, shares) = shares_for(rt.alloc(), bell)?;
     let made = ring_to(rt.alloc(), &stop);
-    let ((writer, ring), (stop, shares, output)) = beside(made, (stop, shares, output))?;
+    let ((writer, ring), ((stop, shares), output)) = beside(made, ((stop, shares), output))?;
     let started = start_writing(rt, output, ring, shares);
     let (_, (writer, stop)) = beside(started, (writer, stop))?;
     Ok((writer, stop))

@@ -215,8 +215,7 @@ where
     }
 }
 
-/// The line of a device and the input, by threads that are told to end once this is dropped.
-#[derive(Drop)]
+/// The line of a device and the input, by threads that are told to end once `threads` and `input_stop` are dropped.
 struct Threaded {
     line: DeviceLine,
     input: RingReader,
@@ -281,13 +280,12 @@ where
 {
     let alloc = rt.alloc();
     let bell = Bell::new(alloc)?;
-    let (threaded, capture) = beside(start_threads(rt, device, input, &bell), capture)?;
     let Threaded {
         line,
         input,
         threads: _threads,
         input_stop: _input_stop,
-    } = threaded;
+    } = start_threads(rt, device, input, &bell)?;
     drive_by(
         rt, alloc, &bell, line, capture, input, output, faults, settings,
     )

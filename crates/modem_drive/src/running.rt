@@ -141,12 +141,13 @@ fn begin<L: SerialLine + Drop, R: Wait + Drop>(
         Begins (line_by L.received L.sent L.calls L.failures L.empty_reads L.stalled_writes) dialect.now n1 line r.0 r.1) }
 {
     let (driver, users) = open_desk(alloc, dialect)?;
-    let session = make_session(rt, alloc, line, driver, n1, dialect);
-    let (session, users) = beside(session, users)?;
-    Ok((session, users))
+    match make_session(rt, alloc, line, driver, n1, dialect) {
+        Ok(session) => Ok((session, users)),
+        Err(fault) => Err(fault),
+    }
 }
 
-/// Has a session go on to its end. It gives the line too.
+/// Has a session go on to its end. It gives the line and what the desk still held, and the fault by which it ended, if it did by one.
 fn run_session<L, R, I, W, E>(
     rt: &R,
     alloc: Global,
@@ -157,7 +158,7 @@ fn run_session<L, R, I, W, E>(
     plan: &mut Plan<I>,
     output: &mut W,
     faults: &mut E,
-) -> Result<(L, Option<DriveFault>, Settled), DriveFault>
+) -> Result<((L, Settled), Option<DriveFault>), DriveFault>
 where
     L: SerialLine + Drop,
     R: Wait + Clock + Drop,
@@ -168,7 +169,7 @@ where
     requires subscribed { AreSubscribed session.driver.desk (map subscription_of users.listeners.items) }
     ensures driven { IfOk result (λ r. HasDriven (line_by L.received L.sent L.calls L.failures L.empty_reads L.stalled_writes)
         session users plan.old plan.new (W.contents output.old) (W.contents output.new) (E.contents faults.old)
-        (E.contents faults.new) r.1 r.2 r.0) }
+        (E.contents faults.new) r.1 r.0.1 r.0.0) }
     ensures stops { OnErr result (StopsOn plan.old users.lines.submitted (E.contents faults.old) (E.contents faults.new)) }
 {
     let mut session = session;
@@ -184,9 +185,17 @@ where
         output,
         faults,
     );
-    let (fault, (session, users)) = beside(went, (session, users))?;
-    let (last, left) = end_drive(rt, alloc, session, users, plan, output)?;
-    Ok((last, fault, left))
+    match went {
+        Ok(fault) => {
+            let ended = end_drive(rt, alloc, session, users, plan, output)?;
+            Ok((ended, fault))
+        }
+        Err(fault) => {
+            // Whole, a session is dear to drop.
+            let _ = session.finish();
+            Err(fault)
+        }
+    }
 }
 
 /// Has a session that has begun go on to its end, with the lines of this input.
@@ -220,7 +229,7 @@ where
     let ran = run_session(
         rt, alloc, bell, session, users, &mut ticks, &mut plan, output, faults,
     );
-    let ((last, fault, left), plan) = beside(ran, plan)?;
+    let (((last, left), fault), plan) = beside(ran, plan)?;
     let was_bad = plan.was_bad();
     Ok((
         last,

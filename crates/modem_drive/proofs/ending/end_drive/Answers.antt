@@ -1,7 +1,7 @@
 -- The desk is the same one, with the same users.
-use Rattle.std.specs.Prelude.{◌≡◌, [], refl, IsOk}
+use Rattle.std.specs.Prelude.{refl, IsOk}
 use Rattle.std.proofs.Common.{ap, ◌∙◌}
-use Rattle.modem_desk.specs.Ends.{AreSubscribed, DriverView, IsWhole, place_of, subscription_of}
+use Rattle.modem_desk.specs.Ends.{DriverView}
 use Rattle.modem_driver.specs.SessionStates.{end_of, line_by}
 use Rattle.modem_drive.specs.Ending.{AllHeard}
 use Rattle.modem_drive.proofs.Ends.{done_ok, ends_drive, known_done, known_ok, on_both, still_subscribed, still_whole}
@@ -10,14 +10,14 @@ use Rattle.modem_drive.proofs.ending.end_drive.Goals as goal
 pub settle_turned-settled-requires-clause-whole : goal.settle_turned-settled-requires-clause-whole
 settle_turned-settled-requires-clause-whole g c =
     on_both _ _ _ c.turn_left_away-turned.result c.turn_left_away-turned.ensures.turns c.turn_left_away-turned.ensures.goes (λ t goes.
-        still_whole c.args.session.driver.desk c.turn_left_away-turned.new.driver.desk c.args.users c.turn_left_away-turned.new.users
-        (t.turned.turns.desk ∙ ap (λ (d : DriverView). d.desk) c.finish-line.ensures.same.1) goes.places c.requires.whole)
+    still_whole c.args.session.driver.desk c.turn_left_away-turned.new.driver.desk c.args.users c.turn_left_away-turned.new.users
+    (t.turned.turns.desk ∙ ap (λ (d : DriverView). d.desk) c.finish-line.ensures.same.1) goes.places c.requires.whole)
 
 pub settle_turned-settled-requires-clause-subscribed : goal.settle_turned-settled-requires-clause-subscribed
 settle_turned-settled-requires-clause-subscribed g c =
     on_both _ _ _ c.turn_left_away-turned.result c.turn_left_away-turned.ensures.turns c.turn_left_away-turned.ensures.goes (λ t goes.
-        still_subscribed c.args.session.driver.desk c.turn_left_away-turned.new.driver.desk c.args.users c.turn_left_away-turned.new.users
-        (t.turned.turns.desk ∙ ap (λ (d : DriverView). d.desk) c.finish-line.ensures.same.1) goes.places c.requires.subscribed)
+    still_subscribed c.args.session.driver.desk c.turn_left_away-turned.new.driver.desk c.args.users c.turn_left_away-turned.new.users
+    (t.turned.turns.desk ∙ ap (λ (d : DriverView). d.desk) c.finish-line.ensures.same.1) goes.places c.requires.subscribed)
 
 pub returns-clause-ends : goal.returns-clause-ends
 returns-clause-ends g c =

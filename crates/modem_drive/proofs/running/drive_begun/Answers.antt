@@ -1,5 +1,5 @@
 -- The input was driven to its end.
-use Rattle.std.proofs.Common.{◌≡◌, ◌∙◌, [], false, ap, sym, subst}
+use Rattle.std.proofs.Common.{◌≡◌, ◌∙◌, [], false, ap, subst}
 use Rattle.modem_driver.specs.SessionStates.{line_by}
 use Rattle.modem_drive.specs.Asking.{PlanView, StopsOn}
 use Rattle.modem_drive.specs.Ending.{HasDriven}
