@@ -1,0 +1,6 @@
+mod Splitting
+mod Watching
+mod Pipes
+mod PipeCalls
+mod SwitchRowFacts
+pub mod FrameRoom

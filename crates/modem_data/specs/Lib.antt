@@ -1,0 +1,12 @@
+pub mod Switching
+pub mod Stages
+pub mod DataLanes
+pub mod Queues
+pub mod DataErrors
+pub mod Splits
+pub mod SwitchRows
+pub mod Messages
+pub mod Standings
+pub mod Watching
+pub mod Passing
+pub mod Pipes

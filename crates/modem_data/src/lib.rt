@@ -1,0 +1,17 @@
+//! Data on connections of the multiplexer, beside the AT commands on the others.
+#![tactic(auto)]
+
+mod error;
+mod lane;
+pub mod laws;
+mod message;
+mod octets;
+mod pipe;
+mod switch;
+mod watch;
+
+pub use error::DataError;
+pub use lane::{DataLane, MOST_TO_GO};
+pub use pipe::{Pipe, Reading};
+pub use switch::Switch;
+pub use watch::Watch;
