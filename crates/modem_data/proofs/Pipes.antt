@@ -67,7 +67,7 @@ over_sent false false l m e is = is
 held_behind : (b c held was : Bool) → b ≡ c → held ≡ was → (if b then false else held) ≡ (if c then false else was)
 held_behind b c held was e is = rw (e, is) refl
 
-saw_fits : (n1 d : ℕ) (v : Pipe) (past : List Pass) (f : Frame) → is_on Uih v.watch.dlci f ≡ false → PipeFits n1 d v past → PipeFits n1 d (saw_pipe f v) (Came f ∷ past)
+pub saw_fits : (n1 d : ℕ) (v : Pipe) (past : List Pass) (f : Frame) → is_on Uih v.watch.dlci f ≡ false → PipeFits n1 d v past → PipeFits n1 d (saw_pipe f v) (Came f ∷ past)
 unfolding LawfulPasses
 saw_fits n1 d v past f off h =
     let here = not_here d v.watch.dlci past f h.dlci_is off in
@@ -92,7 +92,7 @@ leads_saw v w f off e n1 d past h = subst (λ (x : Pipe). PipeFits n1 d x (Came 
 said_on : (n1 d : ℕ) (v : Pipe) (past : List Pass) (f : Frame) (held was : Bool) → PipeFits n1 d v past → held ≡ was → unwrap_or (got_says (msc_says v.watch.dlci) (station.Got f)) held ≡ unwrap_or (got_says (msc_says d) (station.Got f)) was
 said_on n1 d v past f held was h is = rw is (ap (λ e. unwrap_or (got_says (msc_says e) (station.Got f)) was) h.dlci_is)
 
-went_fits : (n1 d : ℕ) (v : Pipe) (past : List Pass) (f : Frame) → PipeFits n1 d v past → PipeFits n1 d (sent_pipe f v) (Went f ∷ past)
+pub went_fits : (n1 d : ℕ) (v : Pipe) (past : List Pass) (f : Frame) → PipeFits n1 d v past → PipeFits n1 d (sent_pipe f v) (Went f ∷ past)
 unfolding LawfulPasses
 went_fits n1 d v past f h =
     let b = watch_ends v.watch (station.Sent f) in
@@ -148,7 +148,7 @@ leads_lost v w e n1 d past h = subst (λ (x : Pipe). PipeFits n1 d x (Lost ∷ p
 
 -- ## Information
 
-kind_of : (k : Kind) (b : Bool) → is_kind k Uih && b ≡ true → k ≡ Uih
+pub kind_of : (k : Kind) (b : Bool) → is_kind k Uih && b ≡ true → k ≡ Uih
 kind_of Sabm b e = cc
 kind_of Ua b e = cc
 kind_of Dm b e = cc
@@ -249,6 +249,17 @@ leads_info v l f count on up t n1 d past h =
       held_is = rw opens h.held_is;
       by_driver_is = rw opens h.by_driver_is;
     }
+
+-- ## A connection that carries no lane
+
+pub idle_behind : (info_here ending : Bool) (c : Carries) (info : List ℕ) → c ≡ Idle → carries_behind info_here ending c info ≡ Idle
+idle_behind true ending c info e = rw e refl
+idle_behind false true c info e = refl
+idle_behind false false c info e = e
+
+pub idle_sent : (ending : Bool) (c : Carries) → c ≡ Idle → (if ending then Idle else c) ≡ Idle
+idle_sent true c e = refl
+idle_sent false c e = e
 
 -- ## What goes on to the driver
 

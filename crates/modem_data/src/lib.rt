@@ -6,12 +6,15 @@ mod lane;
 pub mod laws;
 mod message;
 mod octets;
+mod passing;
 mod pipe;
+mod relay;
 mod switch;
 mod watch;
 
 pub use error::DataError;
 pub use lane::{DataLane, MOST_TO_GO};
 pub use pipe::{Pipe, Reading};
+pub use relay::{Input, Relay};
 pub use switch::Switch;
 pub use watch::Watch;

@@ -140,11 +140,13 @@ impl Octets {
     }
 
     /// Puts a frame behind the others. Requires that there is room.
+    #[tactic(auto, using(crate::proofs::FrameRoom::some_wait))]
     pub(crate) fn put_frame(&mut self, frame: FrameView<'_>, n1: u16)
         requires short { length frame.info.now ≤ most_info n1 frame.kind }
         requires bound { n1 ≤ 32767 }
         requires room { self.old.len + (length frame.info.now + 7) ≤ self.old.capacity }
         ensures written { self.new.items ≡ self.old.items ++ spelled (frame_of frame.entry) }
+        ensures some { 0 < length self.new.items }
         ensures capacity { self.old.capacity ≤ self.new.capacity }
     {
         write(frame, n1, &mut self.octets);

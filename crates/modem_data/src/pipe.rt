@@ -88,10 +88,24 @@ impl Pipe {
         Ok(())
     }
 
+    /// A frame came from the line. Of information of a lane says how many of the first octets are lines, for the driver; any other
+    /// frame is the driver's. Refusal: no memory, which changes nothing. None is asked for where the data has room.
+    pub fn came(&mut self, frame: FrameView<'_>) -> Result<Option<usize>, AllocError>
+        ensures leads { OnOk result (Leads self.old self.new (Came (frame_of frame.entry))) }
+        ensures hands { IfOk result (λ count. HandsOn self.old (frame_of frame.entry) count) }
+        ensures err { OnErr result (self.new ≡ self.old) }
+    {
+        if self.watch.is_own_info(frame) {
+            return self.info(frame);
+        }
+        self.saw(frame);
+        Ok(None)
+    }
+
     /// Information on the connection came. Of a lane says how many of the first octets are lines, for the driver; any other is
     /// the driver's. Refusal: no memory, which changes nothing. None is asked for where the data has room.
     #[tactic(auto, using(crate::proofs::Pipes::leads_info, crate::proofs::Pipes::leads_shut, crate::proofs::Pipes::leads_idle, crate::proofs::Pipes::hands_lines, crate::proofs::Pipes::hands_shut, crate::proofs::Pipes::hands_idle))]
-    pub fn came(&mut self, frame: FrameView<'_>) -> Result<Option<usize>, AllocError>
+    pub(crate) fn info(&mut self, frame: FrameView<'_>) -> Result<Option<usize>, AllocError>
         requires { is_on Uih self.old.watch.dlci (frame_of frame) ≡ true }
         ensures leads { OnOk result (Leads self.old self.new (Came (frame_of frame.entry))) }
         ensures hands { IfOk result (λ count. HandsOn self.old (frame_of frame.entry) count) }
@@ -110,11 +124,12 @@ impl Pipe {
 
     /// Another frame came.
     #[tactic(auto, using(crate::proofs::Pipes::leads_saw, crate::proofs::Pipes::hands_other))]
-    pub fn saw(&mut self, frame: FrameView<'_>)
-        requires { is_on Uih self.old.watch.dlci (frame_of frame) ≡ false }
+    pub(crate) fn saw(&mut self, frame: FrameView<'_>)
         ensures after { self.new ≡ saw_pipe (frame_of frame.entry) self.old }
-        ensures leads { Leads self.old self.new (Came (frame_of frame.entry)) }
-        ensures hands { HandsOn self.old (frame_of frame.entry) None }
+        ensures leads { is_on Uih self.old.watch.dlci (frame_of frame.entry) ≡ false
+            → Leads self.old self.new (Came (frame_of frame.entry)) }
+        ensures hands { is_on Uih self.old.watch.dlci (frame_of frame.entry) ≡ false
+            → HandsOn self.old (frame_of frame.entry) None }
     {
         if self.watch.ends_by_got(frame) {
             self.lane.end();
@@ -217,7 +232,8 @@ impl Pipe {
         ensures none { result ≡ false → HasNoneToSend self.now }
         ensures some { result ≡ true → MayLeave self.now }
     {
-        if !self.lane.carries_data() {
+        let carries_data = self.lane.carries_data();
+        if !carries_data {
             return false;
         }
         if !self.watch.may_leave() {
@@ -235,6 +251,7 @@ impl Pipe {
         requires room { output.old.len + (n1 + 7) ≤ output.old.capacity }
         ensures left { LeadsLeft n1 self.old self.new (next_data n1 self.old) }
         ensures written { output.new.items ≡ output.old.items ++ spelled (next_data n1 self.old) }
+        ensures some { 0 < length output.new.items }
         ensures capacity { output.old.capacity ≤ output.new.capacity }
         ensures same { self.new.watch ≡ self.old.watch }
     {

@@ -207,6 +207,13 @@ impl Watch {
         self.dlci
     }
 
+    /// Whether a frame is information on the connection.
+    pub fn is_own_info(&self, frame: FrameView<'_>) -> bool
+        ensures { result ≡ is_on Uih self.now.dlci (frame_of frame.entry) }
+    {
+        is_on(Kind::Uih, self.dlci.number(), frame)
+    }
+
     /// Whether a frame is information on the connection, which is open.
     pub fn is_info(&self, frame: FrameView<'_>) -> bool
         ensures { result ≡ (is_on Uih self.now.dlci (frame_of frame.entry) && self.now.own.is_open) }

@@ -7,7 +7,7 @@ use Rattle.mux_station.specs.Written.{is_on}
 use Rattle.modem_data.specs.Passing.{Came}
 use Rattle.modem_data.specs.Pipes.{Leads, Pipe}
 use Rattle.modem_data.proofs.Pipes.{leads_info}
-use Rattle.modem_data.proofs.pipe.Pipe.came.Goals as goal
+use Rattle.modem_data.proofs.pipe.Pipe.info.Goals as goal
 
 pub returns-clause-leads : goal.returns-clause-leads
 returns-clause-leads c =
