@@ -1,20 +1,15 @@
 -- What a caller of a pipe does leads on, and what it is answered holds of every past.
-use Rattle.std.specs.Prelude.{◌≡◌, ◌≢◌, ◌↔◌, ℕ, ◌+◌, ◌-◌, ◌≤◌, ◌<◌, ◌==◌, ◌&&◌, ◌||◌, not, Bool, true, false, List, [], ◌∷◌, ◌++◌, take, drop, length, nat_le, IsTrue, Option, Some, None, refl, if◌then◌else◌, unwrap_or}
+use Rattle.std.specs.Prelude.{◌≡◌, ℕ, ◌+◌, ◌-◌, ◌≤◌, ◌==◌, ◌&&◌, Bool, true, false, List, [], ◌∷◌, ◌++◌, take, drop, length, nat_le, IsTrue, Option, Some, None, refl}
 use Rattle.std.proofs.Common.{ap, sym, ◌∙◌, subst, arith}
 use Rattle.std.proofs.lemmas.Bool.{eqb-true, eq-eqb}
 use Rattle.std.proofs.lemmas.List.{append_assoc, append-nil, nil_from_length, take-append-drop, length-append, length-take}
-use Rattle.mux_frame.specs.Frames.{Frame}
-use Rattle.mux_frame.specs.declared.frame.Kind.TheVariants.{Uih}
-use Rattle.mux_station.specs.declared.role.Role.TheVariants.{Initiator}
-use Rattle.mux_station.specs.Written.{is_kind, is_on, written}
-use Rattle.mux_station.specs.Opening.{is_open}
 use Rattle.modem_data.specs.Switching.{Carries, Idle, Lines, Ended, Data, is_idle, is_data_mode}
 use Rattle.modem_data.specs.DataLanes.{DataLane, begun_lane, most_to_go}
-use Rattle.modem_data.specs.Watching.{Watch, HasWatched, SaysMayLeave, may_leave}
-use Rattle.modem_data.specs.Passing.{Pass, Came, Left, Began, Gave, Read, wire, begin_of, is_data, carries, data_came, data_read, given, left, holds, driver_holds, flow_by, unread, IsDue, IsOver, AllowsPass, LawfulPasses}
+use Rattle.modem_data.specs.Watching.{SaysMayLeave, may_leave}
+use Rattle.modem_data.specs.Passing.{Pass, Began, Gave, Read, wire, begin_of, carries, data_came, data_read, given, left, holds, driver_holds, flow_by, unread, IsOver, AllowsPass, LawfulPasses}
 use Rattle.modem_data.specs.Pipes.{Pipe, PipeFits, Leads, LeadsLeft, HasNoneToSend, MayLeave, next_data, SaysOver, SaysLane, HasUnread, IsShut, HasNoData, SaysFlow}
 use Rattle.modem_data.proofs.Watching.{watched_sent_info}
-use Rattle.modem_data.proofs.Pipes.{open_there, idle_is, other_came}
+use Rattle.modem_data.proofs.Pipes.{open_there, idle_is}
 
 same : (n1 d : ℕ) (v : Pipe) (past : List Pass) → PipeFits n1 d v past → (v.watch.dlci == d) ≡ true
 same n1 d v past h = eq-eqb v.watch.dlci d h.dlci_is

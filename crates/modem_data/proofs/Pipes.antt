@@ -1,22 +1,22 @@
 -- Each call of a pipe leads on.
-use Rattle.std.specs.Prelude.{◌≡◌, ◌≢◌, ◌↔◌, ℕ, ◌+◌, ◌-◌, ◌≤◌, ◌<◌, ◌==◌, ◌&&◌, ◌||◌, not, Bool, true, false, List, [], ◌∷◌, ◌++◌, take, drop, length, nat_le, IsTrue, Option, Some, None, refl, if◌then◌else◌, unwrap_or}
-use Rattle.std.proofs.Common.{ap, sym, ◌∙◌, subst, arith}
+use Rattle.std.specs.Prelude.{◌≡◌, ℕ, ◌==◌, ◌&&◌, not, Bool, true, false, List, [], ◌∷◌, ◌++◌, take, Some, None, refl, if◌then◌else◌, unwrap_or}
+use Rattle.std.proofs.Common.{ap, sym, ◌∙◌, subst}
 use Rattle.std.proofs.lemmas.Bool.{eqb-true}
-use Rattle.std.proofs.lemmas.List.{append_assoc, append-nil, nil_from_length, take-append-drop, length-append}
+use Rattle.std.proofs.lemmas.List.{append_assoc, append-nil}
 use Rattle.mux_frame.specs.Frames.{Frame}
 use Rattle.mux_frame.specs.declared.frame.Kind.{Kind}
 use Rattle.mux_frame.specs.declared.frame.Kind.TheVariants.{Sabm, Ua, Dm, Disc, Uih}
 use Rattle.mux_station.specs.declared.role.Role.TheVariants.{Initiator}
 use Rattle.mux_station.specs.Acts as station
-use Rattle.mux_station.specs.Written.{is_kind, is_on, written}
-use Rattle.mux_station.specs.Opening.{standings, is_open}
+use Rattle.mux_station.specs.Written.{is_kind, is_on}
+use Rattle.mux_station.specs.Opening.{is_open}
 use Rattle.mux_station.specs.Stopping.{got_says, msc_says}
-use Rattle.modem_data.specs.Switching.{Carries, Idle, Lines, Ended, Data, is_idle, is_data_mode, lines_of, data_of, carries_after}
-use Rattle.modem_data.specs.DataLanes.{DataLane, TakesInfo, ended_lane, begun_lane, most_to_go}
-use Rattle.modem_data.specs.Watching.{Watch, HasWatched, Watches, watched, watch_ends, watch_opens, SaysMayLeave, may_leave}
-use Rattle.modem_data.specs.Passing.{Pass, Came, Went, Flowed, Left, Lost, Began, Gave, Read, wire, is_info, is_data, opens_here, ends_here, begin_of, carries, carries_behind, data_came, data_read, given, left, holds, driver_holds, flow_by, unread, IsDue, IsOver, Leaves, Gives, AllowsPass, LawfulPasses}
-use Rattle.modem_data.specs.Pipes.{Pipe, PipeFits, BeginsPipe, Leads, LeadsLeft, HasNoneToSend, MayLeave, next_data, HandsOn, SaysOver, SaysLane, HasUnread, IsShut, HasNoData, SaysFlow, lane_over, saw_pipe, sent_pipe, flowed_pipe, lost_pipe}
-use Rattle.modem_data.proofs.Watching.{goes, info_said, open_said, opens_said, ends_said, watched_info, watched_sent_info, info_ends_none, info_opens_none}
+use Rattle.modem_data.specs.Switching.{Carries, Idle, Lines, Ended, Data, is_idle, lines_of, data_of, carries_after}
+use Rattle.modem_data.specs.DataLanes.{DataLane, TakesInfo}
+use Rattle.modem_data.specs.Watching.{HasWatched, watched, watch_ends, watch_opens}
+use Rattle.modem_data.specs.Passing.{Pass, Came, Went, Flowed, Lost, wire, is_info, is_data, opens_here, ends_here, carries, carries_behind, data_came, data_read, left, holds, driver_holds, AllowsPass, LawfulPasses}
+use Rattle.modem_data.specs.Pipes.{Pipe, PipeFits, BeginsPipe, Leads, HandsOn, lane_over, saw_pipe, sent_pipe, flowed_pipe, lost_pipe}
+use Rattle.modem_data.proofs.Watching.{goes, info_said, open_said, opens_said, ends_said, watched_info, info_ends_none, info_opens_none}
 
 pub new_fits : (d : ℕ) (v : Pipe) → (d == 0) ≡ false → v.watch.dlci ≡ d → HasWatched v.watch [] → v.lane.carries ≡ Idle → v.lane.came ≡ [] → v.lane.to_go ≡ [] → v.held ≡ false → v.by_driver ≡ false → BeginsPipe d v
 unfolding BeginsPipe LawfulPasses

@@ -1,7 +1,7 @@
 -- Each call of a relay leads on.
-use Rattle.std.specs.Prelude.{◌≡◌, ℕ, ◌+◌, ◌-◌, ◌==◌, ◌&&◌, ◌<◌, not, if◌then◌else◌, Bool, true, false, List, [], ◌∷◌, ◌++◌, take, drop, length, Option, Some, None, Result, Ok, Err, IfOk, OnOk, refl}
-use Rattle.std.proofs.Common.{ap, sym, ◌∙◌, subst, take-add, arith}
-use Rattle.std.proofs.lemmas.List.{append_assoc, append-nil, take-append-drop, nil_from_length, length-append}
+use Rattle.std.specs.Prelude.{◌≡◌, ℕ, ◌+◌, ◌==◌, ◌&&◌, not, if◌then◌else◌, Bool, true, false, List, [], ◌∷◌, ◌++◌, take, drop, length, Option, Some, None, Result, Ok, Err, IfOk, OnOk, refl}
+use Rattle.std.proofs.Common.{ap, sym, ◌∙◌, subst, take-add}
+use Rattle.std.proofs.lemmas.List.{append_assoc, append-nil, take-append-drop, nil_from_length}
 use Rattle.std.proofs.lemmas.Bool.{eqb-true, eqb-false, ne_eqb}
 use Rattle.std.proofs.lemmas.Grind.{flat_map-append}
 use Rattle.mux_station.specs.Acts as station
@@ -13,9 +13,9 @@ use Rattle.mux_frame.specs.declared.frame.Kind.TheVariants.{Uih}
 use Rattle.mux_station.specs.declared.role.Role.TheVariants.{Initiator}
 use Rattle.mux_station.specs.Opening.{is_open}
 use Rattle.mux_station.specs.Written.{is_on}
-use Rattle.modem_data.specs.Switching.{Carries, Idle, is_idle, lines_of}
-use Rattle.modem_data.specs.Passing.{Pass, wire, Came, Went, Flowed, Left, Lost, Began, Gave, Read, is_info, is_data, ends_here, carries, carries_behind, flow_frame, IsDue, AllowsPass}
-use Rattle.modem_data.specs.Pipes.{BeginsPipe, Pipe, PipeFits, Leads, LeadsLeft, HandsOn, HasNoneToSend, SaysFlow, next_data, flowed_pipe}
+use Rattle.modem_data.specs.Switching.{is_idle, lines_of}
+use Rattle.modem_data.specs.Passing.{wire, Came, Went, Flowed, Left, Lost, Began, Gave, Read, is_info, is_data, ends_here, carries, flow_frame, AllowsPass}
+use Rattle.modem_data.specs.Pipes.{BeginsPipe, Pipe, PipeFits, Leads, LeadsLeft, HandsOn, HasNoneToSend, SaysFlow, flowed_pipe}
 use Rattle.modem_data.specs.Handing.{PassesIn, PassesOut, PassesOver, handed}
 use Rattle.modem_data.specs.Hops.{Relay, RelayFits, Hop, Fed, Handed, Took, Wrote, Passed, Hops, HopsBy, BeginsRelay, LawfulHops, DriverFirst, AllCame, HoldsNothing, LineIn, PassesOn, OneOut, flow_out, still_out, went_out, left_out, spell, due, with_lines, for_driver, for_line, fed, taken, wrote, handed_over, came, went, passes}
 use Rattle.modem_data.proofs.Pipes.{flowed_fits, is_info_dlci, idle_behind, idle_sent}

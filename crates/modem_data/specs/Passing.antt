@@ -1,5 +1,5 @@
 -- What passes the connections that carry data, between the line and a driver: a past is written newest first.
-use Rattle.std.specs.Prelude.{◌≡◌, ℕ, ◌+◌, ◌-◌, ◌≤◌, ◌==◌, ◌&&◌, ◌||◌, not, nat_le, nat_lt, Bool, true, false, IsTrue, List, [], ◌∷◌, ◌++◌, length, take, Option, Some, None, filter_map, if◌then◌else◌, unwrap_or}
+use Rattle.std.specs.Prelude.{◌≡◌, ℕ, ◌+◌, ◌-◌, ◌≤◌, ◌==◌, ◌&&◌, not, nat_le, nat_lt, Bool, true, false, IsTrue, List, [], ◌∷◌, ◌++◌, length, Option, Some, None, filter_map, if◌then◌else◌, unwrap_or}
 use Rattle.mux_frame.specs.Frames.{Frame}
 use Rattle.mux_frame.specs.declared.frame.Kind.TheVariants.{Uih}
 use Rattle.mux_station.specs.declared.role.Role.TheVariants.{Initiator}
@@ -8,7 +8,7 @@ use Rattle.mux_station.specs.Opening.{is_open, opens_now}
 use Rattle.mux_station.specs.Stopping.{got_says, msc_says}
 use Rattle.mux_station.specs.Tables.{msc_frame, ready, held_up}
 use Rattle.mux_station.specs.Written.{is_on, written}
-use Rattle.modem_data.specs.Switching.{Carries, Idle, Lines, Data, is_idle, lines_of, data_of, carries_after}
+use Rattle.modem_data.specs.Switching.{Carries, Idle, Lines, Data, is_idle, data_of, carries_after}
 use Rattle.modem_data.specs.DataLanes.{most_to_go}
 use Rattle.modem_data.specs.Watching.{may_leave, ends_now}
 

@@ -1,11 +1,8 @@
 -- Whether a connection may send, as told by the frames that pass an end of the line (27.010, 5.4).
 use Rattle.std.specs.Prelude.{◌≡◌, ℕ, ◌==◌, ◌&&◌, ◌||◌, not, Bool, true, false, List, ◌∷◌, Option, unwrap_or}
-use Rattle.mux_frame.specs.Frames.{Frame}
 use Rattle.mux_station.specs.declared.role.Role.TheVariants.{Initiator}
-use Rattle.mux_station.specs.Acts.{Act, Got}
+use Rattle.mux_station.specs.Acts.{Act}
 use Rattle.mux_station.specs.Opening.{Standing, standing_after, opens, ends, standings, since, is_open, not_open, opens_now, belongs}
-use Rattle.mux_station.specs.Written.{is_on}
-use Rattle.mux_frame.specs.declared.frame.Kind.TheVariants.{Uih}
 use Rattle.mux_station.specs.Stopping.{last_said, got_says, msc_says, flow_says, is_stopped}
 
 -- how 0 and the connection stand, and whether the last message stopped it, or all

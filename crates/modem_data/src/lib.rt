@@ -13,8 +13,6 @@ mod switch;
 mod watch;
 
 pub use error::DataError;
-pub use lane::{DataLane, MOST_TO_GO};
+pub use lane::MOST_TO_GO;
 pub use pipe::{Pipe, Reading};
 pub use relay::{Input, Relay};
-pub use switch::Switch;
-pub use watch::Watch;

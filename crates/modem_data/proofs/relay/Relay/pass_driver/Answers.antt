@@ -1,5 +1,5 @@
 -- A frame of the driver passes.
-use Rattle.std.specs.Prelude.{refl, ◌≡◌, true}
+use Rattle.std.specs.Prelude.{refl}
 use Rattle.std.proofs.Common.{subst}
 use Rattle.modem_data.specs.Passing.{Went}
 use Rattle.modem_data.specs.Hops.{Relay, HopsBy, Passed}

@@ -1,6 +1,6 @@
 -- Data leaves behind the driver's frames.
-use Rattle.std.specs.Prelude.{◌≡◌, ◌++◌, true, None, refl, List, ℕ}
-use Rattle.std.proofs.Common.{rules, subst, sym, ap, ◌∙◌}
+use Rattle.std.specs.Prelude.{◌≡◌, ◌++◌, None, refl, List, ℕ}
+use Rattle.std.proofs.Common.{subst, sym, ap, ◌∙◌}
 use Rattle.mux_frame.specs.Spelling.{spelled}
 use Rattle.modem_data.specs.Passing.{Left}
 use Rattle.modem_data.specs.Pipes.{LeadsLeft, next_data}
