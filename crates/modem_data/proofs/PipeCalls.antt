@@ -1,0 +1,220 @@
+-- What a caller of a pipe does leads on, and what it is answered holds of every past.
+use Rattle.std.specs.Prelude.{◌≡◌, ℕ, ◌+◌, ◌-◌, ◌≤◌, ◌==◌, ◌&&◌, Bool, true, false, List, [], ◌∷◌, ◌++◌, take, drop, length, nat_le, IsTrue, Option, Some, None, refl}
+use Rattle.std.proofs.Common.{ap, sym, ◌∙◌, subst, arith}
+use Rattle.std.proofs.lemmas.Bool.{eqb-true, eq-eqb}
+use Rattle.std.proofs.lemmas.List.{append_assoc, append-nil, nil_from_length, take-append-drop, length-append, length-take}
+use Rattle.modem_data.specs.Switching.{Carries, Idle, Lines, Ended, Data, is_idle, is_data_mode}
+use Rattle.modem_data.specs.DataLanes.{DataLane, begun_lane, most_to_go}
+use Rattle.modem_data.specs.Watching.{SaysMayLeave, may_leave}
+use Rattle.modem_data.specs.Passing.{Pass, Began, Gave, Read, wire, begin_of, carries, data_came, data_read, given, left, holds, driver_holds, flow_by, unread, IsOver, AllowsPass, LawfulPasses}
+use Rattle.modem_data.specs.Pipes.{Pipe, PipeFits, Leads, LeadsLeft, HasNoneToSend, MayLeave, next_data, SaysOver, SaysLane, HasUnread, IsShut, HasNoData, SaysFlow}
+use Rattle.modem_data.proofs.Watching.{watched_sent_info}
+use Rattle.modem_data.proofs.Pipes.{open_there, idle_is}
+
+same : (n1 d : ℕ) (v : Pipe) (past : List Pass) → PipeFits n1 d v past → (v.watch.dlci == d) ≡ true
+same n1 d v past h = eq-eqb v.watch.dlci d h.dlci_is
+
+is_none : (o : List ℕ) → (length o == 0) ≡ true → o ≡ []
+is_none o e = nil_from_length o (eqb-true (length o) 0 e)
+
+-- ## A lane begins
+
+all_read : (n1 d : ℕ) (v : Pipe) (past : List Pass) → v.lane.came ≡ [] → PipeFits n1 d v past → data_read d past ≡ data_came d past
+all_read n1 d v past none h = sym (append-nil (data_read d past)) ∙ (ap (λ x. data_read d past ++ x) (sym none) ∙ h.came_is)
+
+pub leads_began : (v : Pipe) (l : DataLane) (by_connect : Bool) → is_idle v.lane.carries ≡ true → (length v.lane.came == 0) ≡ true → l ≡ begun_lane v.lane (begin_of by_connect) → Leads v (record v { lane = l }) (Began v.watch.dlci by_connect)
+unfolding Leads LawfulPasses
+leads_began v l by_connect idle none e n1 d past h =
+    let here = same n1 d v past h in
+    let empty = is_none v.lane.came none in
+    rw e (record {
+      dlci_is = h.dlci_is;
+      not_control = h.not_control;
+      lawful = (subst (λ e. IsOver e past) (sym h.dlci_is) (record { idle = sym h.carries_is ∙ idle_is v.lane.carries idle; all_read = all_read n1 d v past empty h }), h.lawful);
+      watched = h.watched;
+      carries_is = rw here refl;
+      came_is = rw here empty;
+      to_go_is = rw here refl;
+      held_is = h.held_is;
+      by_driver_is = h.by_driver_is;
+    })
+
+pub a_lane_is : (v : Pipe) → is_idle v.lane.carries ≡ false → SaysLane v true
+unfolding SaysLane
+a_lane_is v lane n1 d past h = rw (sym h.carries_is) (rw lane refl)
+
+none_later : (xs ys : List ℕ) → xs ≡ xs ++ ys → (length ys == 0) ≡ true
+none_later xs [] e = refl
+none_later xs (y ∷ ys) e =
+    let n = ap (λ (zs : List ℕ). length zs) e in
+    let m = length-append xs (y ∷ ys) in
+    let x : ⊥ = omega (arith, n, m) in absurd x
+
+pub has_unread : (v : Pipe) → is_idle v.lane.carries ≡ true → (length v.lane.came == 0) ≡ false → HasUnread v
+unfolding HasUnread
+has_unread v idle some n1 d past h = (
+  sym h.carries_is ∙ idle_is v.lane.carries idle,
+  λ e.
+      let x : true ≡ false = sym (none_later (data_read d past) v.lane.came (e ∙ sym h.came_is)) ∙ some in
+      cc,
+)
+
+-- ## Octets are read and given
+
+pub leads_read : (v : Pipe) (l : DataLane) (n : ℕ) (octets : List ℕ) → l ≡ record v.lane { came = drop n v.lane.came } → octets ≡ take n v.lane.came → Leads v (record v { lane = l }) (Read v.watch.dlci octets)
+unfolding Leads LawfulPasses
+leads_read v l n octets e o n1 d past h =
+    let here = same n1 d v past h in
+    let split : data_came d past ≡ data_read d past ++ (take n v.lane.came ++ drop n v.lane.came) = sym (ap (λ x. data_read d past ++ x) (take-append-drop n v.lane.came) ∙ h.came_is) in
+    rw (e, o) (record {
+      dlci_is = h.dlci_is;
+      not_control = h.not_control;
+      lawful = (record { later = drop n v.lane.came; is_next = subst (λ e. data_came e past ≡ data_read e past ++ (take n v.lane.came ++ drop n v.lane.came)) (sym h.dlci_is) split }, h.lawful);
+      watched = h.watched;
+      carries_is = h.carries_is;
+      came_is = rw here (append_assoc (data_read d past) (take n v.lane.came) (drop n v.lane.came) ∙ sym split);
+      to_go_is = h.to_go_is;
+      held_is = h.held_is;
+      by_driver_is = h.by_driver_is;
+    })
+
+both : (a b : Bool) → a && b ≡ true → (a ≡ true) × (b ≡ true)
+both true b e = (refl, e)
+both false b e = cc
+
+pub says_over : (v : Pipe) (b : Bool) → b ≡ (is_idle v.lane.carries && (length v.lane.came == 0)) → SaysOver v b
+unfolding SaysOver
+says_over v b e n1 d past h = (
+  λ t. let x = both (is_idle v.lane.carries) (length v.lane.came == 0) (sym e ∙ t) in
+      record { idle = sym h.carries_is ∙ idle_is v.lane.carries x.0; all_read = all_read n1 d v past (is_none v.lane.came x.1) h },
+  λ over. e ∙ (ap (λ c. is_idle c && (length v.lane.came == 0)) (h.carries_is ∙ over.idle) ∙ none_later (data_read d past) v.lane.came (over.all_read ∙ sym h.came_is)),
+)
+
+data_mode : (c : Carries) → is_data_mode c ≡ true → c ≡ Data
+data_mode Idle e = cc
+data_mode (Lines kept) e = cc
+data_mode (Ended by) e = cc
+data_mode Data e = refl
+
+few_wait : (xs ys zs os : List ℕ) (n : ℕ) → xs ++ ys ≡ zs → length ys + n ≤ most_to_go → length zs + length (take n os) ≤ length xs + most_to_go
+few_wait xs ys zs os n e few =
+    let m = ap (λ (s : List ℕ). length s) e in
+    let l = length-append xs ys in
+    let t = length-take n os in
+    omega (arith, m, l, few, t)
+
+pub leads_gave : (v : Pipe) (l : DataLane) (octets : List ℕ) (n : ℕ) → v.watch.own.is_open ≡ true → is_data_mode v.lane.carries ≡ true → length v.lane.to_go + n ≤ most_to_go → l ≡ record v.lane { to_go = v.lane.to_go ++ take n octets } → Leads v (record v { lane = l }) (Gave v.watch.dlci (take n octets))
+unfolding Leads LawfulPasses
+leads_gave v l octets n up c few e n1 d past h =
+    let here = same n1 d v past h in
+    rw e (record {
+      dlci_is = h.dlci_is;
+      not_control = h.not_control;
+      lawful = (
+        subst (λ e. AllowsPass n1 past (Gave e (take n octets))) (sym h.dlci_is) (record {
+          open_there = sym (open_there n1 d v past h) ∙ up;
+          carries_data = sym h.carries_is ∙ data_mode v.lane.carries c;
+          few = few_wait (left d past) v.lane.to_go (given d past) octets n h.to_go_is few;
+        }),
+        h.lawful,
+      );
+      watched = h.watched;
+      carries_is = h.carries_is;
+      came_is = h.came_is;
+      to_go_is = rw here (sym (append_assoc (left d past) v.lane.to_go (take n octets)) ∙ ap (λ o. o ++ take n octets) h.to_go_is);
+      held_is = h.held_is;
+      by_driver_is = h.by_driver_is;
+    })
+
+pub is_shut : (v : Pipe) → v.watch.own.is_open ≡ false → IsShut v
+unfolding IsShut
+is_shut v shut n1 d past h = sym (open_there n1 d v past h) ∙ shut
+
+pub has_no_data : (v : Pipe) → is_data_mode v.lane.carries ≡ false → HasNoData v
+unfolding HasNoData
+has_no_data v none n1 d past h c =
+    let x : true ≡ false = sym (ap is_data_mode (h.carries_is ∙ c)) ∙ none in
+    cc
+
+-- ## The flow
+
+unread_is : (x y z : List ℕ) → x ++ y ≡ z → length y ≡ length z - length x
+unread_is x y z e =
+    let n = length-append x y in
+    let m = ap (λ (xs : List ℕ). length xs) e in
+    omega (arith, n, m)
+
+due_is : (n1 d : ℕ) (v : Pipe) (past : List Pass) → PipeFits n1 d v past → flow_by v.held v.by_driver (length v.lane.came) ≡ flow_by (holds d past) (driver_holds d past) (unread d past)
+due_is n1 d v past h = rw (h.held_is, h.by_driver_is) (ap (λ n. flow_by (holds d past) (driver_holds d past) n) (unread_is (data_read d past) v.lane.came (data_came d past) h.came_is))
+
+pub says_flow : (v : Pipe) (o : Option Bool) → is_idle v.lane.carries ≡ false → v.watch.own.is_open ≡ true → o ≡ flow_by v.held v.by_driver (length v.lane.came) → SaysFlow v o
+unfolding SaysFlow
+says_flow v (Some go) lane up e = λ n1 d past h. record {
+  open_there = sym (open_there n1 d v past h) ∙ up;
+  lane = ap is_idle (sym h.carries_is) ∙ lane;
+  due = sym (due_is n1 d v past h) ∙ sym e;
+}
+says_flow v None lane up e = λ n1 d past go h due.
+    let x : None ≡ Some go = e ∙ (due_is n1 d v past h ∙ due.due) in
+    cc
+
+pub idle_flow : (v : Pipe) → is_idle v.lane.carries ≡ true → SaysFlow v None
+unfolding SaysFlow
+idle_flow v idle n1 d past go h due =
+    let x : true ≡ false = sym idle ∙ (ap is_idle h.carries_is ∙ due.lane) in
+    cc
+
+pub shut_flow : (v : Pipe) → v.watch.own.is_open ≡ false → SaysFlow v None
+unfolding SaysFlow
+shut_flow v shut n1 d past go h due =
+    let x : false ≡ true = sym shut ∙ (open_there n1 d v past h ∙ due.open_there) in
+    cc
+
+-- ## Data leaves
+
+pub leads_left : (n1 : ℕ) (v w : Pipe) (n : ℕ) → MayLeave v → IsTrue (nat_le 1 (length (take n1 v.lane.to_go))) → IsTrue (nat_le (length (take n1 v.lane.to_go)) n1) → w ≡ record v { lane = record v.lane { to_go = drop n v.lane.to_go } } → drop n v.lane.to_go ≡ drop n1 v.lane.to_go → LeadsLeft n1 v w (next_data n1 v)
+unfolding LeadsLeft LawfulPasses SaysMayLeave
+leads_left n1 v w n may some fits e dropped d past h =
+    let here = same n1 d v past h in
+    let go : given d past ≡ left d past ++ (take n1 v.lane.to_go ++ drop n1 v.lane.to_go) = sym (ap (λ x. left d past ++ x) (take-append-drop n1 v.lane.to_go) ∙ h.to_go_is) in
+    rw e (record {
+      dlci_is = h.dlci_is;
+      not_control = h.not_control;
+      lawful = (
+        record {
+          carries_data = ap (λ e. carries e past) h.dlci_is ∙ (sym h.carries_is ∙ data_mode v.lane.carries may.carries_data);
+          may = sym (may.may (wire past) h.watched);
+          as_written = refl;
+          some = some;
+          fits = fits;
+          later = drop n1 v.lane.to_go;
+          is_next = subst (λ e. given e past ≡ left e past ++ (take n1 v.lane.to_go ++ drop n1 v.lane.to_go)) (sym h.dlci_is) go;
+        },
+        h.lawful,
+      );
+      watched = watched_sent_info v.watch (wire past) (next_data n1 v) refl (ap (λ e. e == 0) h.dlci_is ∙ h.not_control) h.watched;
+      carries_is = h.carries_is;
+      came_is = h.came_is;
+      to_go_is = rw here (ap (λ r. left d past ++ take n1 v.lane.to_go ++ r) dropped ∙ (append_assoc (left d past) (take n1 v.lane.to_go) (drop n1 v.lane.to_go) ∙ sym go));
+      held_is = h.held_is;
+      by_driver_is = h.by_driver_is;
+    })
+
+pub may_go : (v : Pipe) → is_data_mode v.lane.carries ≡ true → SaysMayLeave v.watch true → (length v.lane.to_go == 0) ≡ false → MayLeave v
+may_go v c may some = record { carries_data = c; may = may; some = some }
+
+pub none_by_lines : (v : Pipe) → is_data_mode v.lane.carries ≡ false → HasNoneToSend v
+unfolding HasNoneToSend
+none_by_lines v none n1 d past h c may =
+    let x : true ≡ false = sym (ap is_data_mode (h.carries_is ∙ c)) ∙ none in
+    cc
+
+pub none_by_watch : (v : Pipe) → SaysMayLeave v.watch false → HasNoneToSend v
+unfolding HasNoneToSend SaysMayLeave
+none_by_watch v says n1 d past h c may =
+    let x : false ≡ true = says (wire past) h.watched ∙ (ap (λ e. may_leave e (wire past)) h.dlci_is ∙ may) in
+    cc
+
+pub none_wait : (v : Pipe) → (length v.lane.to_go == 0) ≡ true → HasNoneToSend v
+unfolding HasNoneToSend
+none_wait v none n1 d past h c may = sym (append-nil (left d past)) ∙ (ap (λ o. left d past ++ o) (sym (is_none v.lane.to_go none)) ∙ h.to_go_is)

@@ -1,0 +1,283 @@
+-- Each call of a pipe leads on.
+use Rattle.std.specs.Prelude.{◌≡◌, ℕ, ◌==◌, ◌&&◌, not, Bool, true, false, List, [], ◌∷◌, ◌++◌, take, Some, None, refl, if◌then◌else◌, unwrap_or}
+use Rattle.std.proofs.Common.{ap, sym, ◌∙◌, subst}
+use Rattle.std.proofs.lemmas.Bool.{eqb-true}
+use Rattle.std.proofs.lemmas.List.{append_assoc, append-nil}
+use Rattle.mux_frame.specs.Frames.{Frame}
+use Rattle.mux_frame.specs.declared.frame.Kind.{Kind}
+use Rattle.mux_frame.specs.declared.frame.Kind.TheVariants.{Sabm, Ua, Dm, Disc, Uih}
+use Rattle.mux_station.specs.declared.role.Role.TheVariants.{Initiator}
+use Rattle.mux_station.specs.Acts as station
+use Rattle.mux_station.specs.Written.{is_kind, is_on}
+use Rattle.mux_station.specs.Opening.{is_open}
+use Rattle.mux_station.specs.Stopping.{got_says, msc_says}
+use Rattle.modem_data.specs.Switching.{Carries, Idle, Lines, Ended, Data, is_idle, lines_of, data_of, carries_after}
+use Rattle.modem_data.specs.DataLanes.{DataLane, TakesInfo}
+use Rattle.modem_data.specs.Watching.{HasWatched, watched, watch_ends, watch_opens}
+use Rattle.modem_data.specs.Passing.{Pass, Came, Went, Flowed, Lost, wire, is_info, is_data, opens_here, ends_here, carries, carries_behind, data_came, data_read, left, holds, driver_holds, AllowsPass, LawfulPasses}
+use Rattle.modem_data.specs.Pipes.{Pipe, PipeFits, BeginsPipe, Leads, HandsOn, lane_over, saw_pipe, sent_pipe, flowed_pipe, lost_pipe}
+use Rattle.modem_data.proofs.Watching.{goes, info_said, open_said, opens_said, ends_said, watched_info, info_ends_none, info_opens_none}
+
+pub new_fits : (d : ℕ) (v : Pipe) → (d == 0) ≡ false → v.watch.dlci ≡ d → HasWatched v.watch [] → v.lane.carries ≡ Idle → v.lane.came ≡ [] → v.lane.to_go ≡ [] → v.held ≡ false → v.by_driver ≡ false → BeginsPipe d v
+unfolding BeginsPipe LawfulPasses
+new_fits d v z e w c came go held by n1 = record { dlci_is = e; not_control = z; lawful = tt; watched = w; carries_is = c; came_is = came; to_go_is = go; held_is = held; by_driver_is = by }
+
+-- ## What a watch says of a past that a pipe fits
+
+info_here : (n1 d : ℕ) (v : Pipe) (past : List Pass) (f : Frame) → PipeFits n1 d v past → (is_on Uih v.watch.dlci f && v.watch.own.is_open) ≡ is_info d past f
+info_here n1 d v past f h = info_said v.watch (wire past) f h.watched ∙ ap (λ e. is_info e past f) h.dlci_is
+
+pub open_there : (n1 d : ℕ) (v : Pipe) (past : List Pass) → PipeFits n1 d v past → v.watch.own.is_open ≡ is_open Initiator d (wire past)
+open_there n1 d v past h = open_said v.watch (wire past) h.watched ∙ ap (λ e. is_open Initiator e (wire past)) h.dlci_is
+
+opening : (n1 d : ℕ) (v : Pipe) (past : List Pass) (a : station.Act) → PipeFits n1 d v past → watch_opens v.watch a ≡ opens_here d past a
+opening n1 d v past a h = opens_said v.watch (wire past) a h.watched ∙ ap (λ e. opens_here e past a) h.dlci_is
+
+ending : (n1 d : ℕ) (v : Pipe) (past : List Pass) (a : station.Act) → PipeFits n1 d v past → watch_ends v.watch a ≡ ends_here d past a
+ending n1 d v past a h = ends_said v.watch (wire past) a h.watched ∙ ap (λ e. ends_here e past a) h.dlci_is
+
+watched_on : (n1 d : ℕ) (v : Pipe) (past : List Pass) (a : station.Act) → PipeFits n1 d v past → HasWatched (watched v.watch a) (a ∷ wire past)
+watched_on n1 d v past a h = goes v.watch (wire past) a h.watched
+
+not_here : (d e : ℕ) (past : List Pass) (f : Frame) → e ≡ d → is_on Uih e f ≡ false → is_info d past f ≡ false
+not_here d e past f is off = rw (sym is) (rw off refl)
+
+-- ## Frames that are no information on the connection
+
+over_came : (b : Bool) (l : DataLane) → (lane_over b l).came ≡ l.came
+over_came true l = refl
+over_came false l = refl
+
+over_to_go : (b : Bool) (l : DataLane) → (lane_over b l).to_go ≡ l.to_go
+over_to_go true l = refl
+over_to_go false l = refl
+
+over_behind : (b c : Bool) (l : DataLane) (m : Carries) (info : List ℕ) → b ≡ c → l.carries ≡ m → (lane_over b l).carries ≡ carries_behind false c m info
+over_behind true true l m info e is = refl
+over_behind true false l m info e is = cc
+over_behind false true l m info e is = cc
+over_behind false false l m info e is = is
+
+over_sent : (b c : Bool) (l : DataLane) (m : Carries) → b ≡ c → l.carries ≡ m → (lane_over b l).carries ≡ (if c then Idle else m)
+over_sent true true l m e is = refl
+over_sent true false l m e is = cc
+over_sent false true l m e is = cc
+over_sent false false l m e is = is
+
+held_behind : (b c held was : Bool) → b ≡ c → held ≡ was → (if b then false else held) ≡ (if c then false else was)
+held_behind b c held was e is = rw (e, is) refl
+
+pub saw_fits : (n1 d : ℕ) (v : Pipe) (past : List Pass) (f : Frame) → is_on Uih v.watch.dlci f ≡ false → PipeFits n1 d v past → PipeFits n1 d (saw_pipe f v) (Came f ∷ past)
+unfolding LawfulPasses
+saw_fits n1 d v past f off h =
+    let here = not_here d v.watch.dlci past f h.dlci_is off in
+    let b = watch_ends v.watch (station.Got f) in
+    record {
+      dlci_is = h.dlci_is;
+      not_control = h.not_control;
+      lawful = (tt, h.lawful);
+      watched = watched_on n1 d v past (station.Got f) h;
+      carries_is = rw here (over_behind b (ends_here d past (station.Got f)) v.lane (carries d past) f.info (ending n1 d v past (station.Got f) h) h.carries_is);
+      came_is = rw here (ap (λ x. data_read d past ++ x) (over_came b v.lane) ∙ h.came_is);
+      to_go_is = ap (λ x. left d past ++ x) (over_to_go b v.lane) ∙ h.to_go_is;
+      held_is = held_behind (watch_opens v.watch (station.Got f)) (opens_here d past (station.Got f)) v.held (holds d past) (opening n1 d v past (station.Got f) h) h.held_is;
+      by_driver_is = held_behind (watch_opens v.watch (station.Got f)) (opens_here d past (station.Got f)) v.by_driver (driver_holds d past) (opening n1 d v past (station.Got f) h) h.by_driver_is;
+    }
+
+pub leads_saw : (v w : Pipe) (f : Frame) → is_on Uih v.watch.dlci f ≡ false → w ≡ saw_pipe f v → Leads v w (Came f)
+unfolding Leads
+leads_saw v w f off e n1 d past h = subst (λ (x : Pipe). PipeFits n1 d x (Came f ∷ past)) (sym e) (saw_fits n1 d v past f off h)
+
+-- what a frame that goes says of the flow
+said_on : (n1 d : ℕ) (v : Pipe) (past : List Pass) (f : Frame) (held was : Bool) → PipeFits n1 d v past → held ≡ was → unwrap_or (got_says (msc_says v.watch.dlci) (station.Got f)) held ≡ unwrap_or (got_says (msc_says d) (station.Got f)) was
+said_on n1 d v past f held was h is = rw is (ap (λ e. unwrap_or (got_says (msc_says e) (station.Got f)) was) h.dlci_is)
+
+pub went_fits : (n1 d : ℕ) (v : Pipe) (past : List Pass) (f : Frame) → PipeFits n1 d v past → PipeFits n1 d (sent_pipe f v) (Went f ∷ past)
+unfolding LawfulPasses
+went_fits n1 d v past f h =
+    let b = watch_ends v.watch (station.Sent f) in
+    record {
+      dlci_is = h.dlci_is;
+      not_control = h.not_control;
+      lawful = (tt, h.lawful);
+      watched = watched_on n1 d v past (station.Sent f) h;
+      carries_is = over_sent b (ends_here d past (station.Sent f)) v.lane (carries d past) (ending n1 d v past (station.Sent f) h) h.carries_is;
+      came_is = ap (λ x. data_read d past ++ x) (over_came b v.lane) ∙ h.came_is;
+      to_go_is = ap (λ x. left d past ++ x) (over_to_go b v.lane) ∙ h.to_go_is;
+      held_is = said_on n1 d v past f v.held (holds d past) h h.held_is;
+      by_driver_is = said_on n1 d v past f v.by_driver (driver_holds d past) h h.by_driver_is;
+    }
+
+pub leads_went : (v w : Pipe) (f : Frame) → w ≡ sent_pipe f v → Leads v w (Went f)
+unfolding Leads
+leads_went v w f e n1 d past h = subst (λ (x : Pipe). PipeFits n1 d x (Went f ∷ past)) (sym e) (went_fits n1 d v past f h)
+
+pub flowed_fits : (n1 d : ℕ) (v : Pipe) (past : List Pass) (f : Frame) → AllowsPass n1 past (Flowed f) → PipeFits n1 d v past → PipeFits n1 d (flowed_pipe f v) (Flowed f ∷ past)
+unfolding LawfulPasses
+flowed_fits n1 d v past f allowed h =
+    let b = watch_ends v.watch (station.Sent f) in
+    record {
+      dlci_is = h.dlci_is;
+      not_control = h.not_control;
+      lawful = (allowed, h.lawful);
+      watched = watched_on n1 d v past (station.Sent f) h;
+      carries_is = over_sent b (ends_here d past (station.Sent f)) v.lane (carries d past) (ending n1 d v past (station.Sent f) h) h.carries_is;
+      came_is = ap (λ x. data_read d past ++ x) (over_came b v.lane) ∙ h.came_is;
+      to_go_is = ap (λ x. left d past ++ x) (over_to_go b v.lane) ∙ h.to_go_is;
+      held_is = said_on n1 d v past f v.held (holds d past) h h.held_is;
+      by_driver_is = h.by_driver_is;
+    }
+
+pub lost_fits : (n1 d : ℕ) (v : Pipe) (past : List Pass) → PipeFits n1 d v past → PipeFits n1 d (lost_pipe v) (Lost ∷ past)
+unfolding LawfulPasses
+lost_fits n1 d v past h = record {
+  dlci_is = h.dlci_is;
+  not_control = h.not_control;
+  lawful = (tt, h.lawful);
+  watched = watched_on n1 d v past station.Lost h;
+  carries_is = refl;
+  came_is = h.came_is;
+  to_go_is = h.to_go_is;
+  held_is = h.held_is;
+  by_driver_is = h.by_driver_is;
+}
+
+pub leads_lost : (v w : Pipe) → w ≡ lost_pipe v → Leads v w Lost
+unfolding Leads
+leads_lost v w e n1 d past h = subst (λ (x : Pipe). PipeFits n1 d x (Lost ∷ past)) (sym e) (lost_fits n1 d v past h)
+
+-- ## Information
+
+pub kind_of : (k : Kind) (b : Bool) → is_kind k Uih && b ≡ true → k ≡ Uih
+kind_of Sabm b e = cc
+kind_of Ua b e = cc
+kind_of Dm b e = cc
+kind_of Disc b e = cc
+kind_of Uih b e = refl
+
+dlci_of : (k : Kind) (b : Bool) → is_kind k Uih && b ≡ true → b ≡ true
+dlci_of Sabm b e = cc
+dlci_of Ua b e = cc
+dlci_of Dm b e = cc
+dlci_of Disc b e = cc
+dlci_of Uih b e = e
+
+pub is_info_kind : (d : ℕ) (f : Frame) → is_on Uih d f ≡ true → f.kind ≡ Uih
+is_info_kind d f on = kind_of f.kind (f.dlci == d) on
+
+pub is_info_dlci : (d : ℕ) (f : Frame) → is_on Uih d f ≡ true → f.dlci ≡ d
+is_info_dlci d f on = eqb-true f.dlci d (dlci_of f.kind (f.dlci == d) on)
+
+pub idle_is : (c : Carries) → is_idle c ≡ true → c ≡ Idle
+idle_is Idle e = refl
+idle_is (Lines kept) e = cc
+idle_is (Ended by) e = cc
+idle_is Data e = cc
+
+-- information that is no data of d changes nothing there
+stays_carried : (here : Bool) (c : Carries) (info : List ℕ) → here && not (is_idle c) ≡ false → c ≡ carries_behind here false c info
+stays_carried true Idle info e = refl
+stays_carried true (Lines kept) info e = cc
+stays_carried true (Ended by) info e = cc
+stays_carried true Data info e = cc
+stays_carried false c info e = refl
+
+stays_came : (here : Bool) (c : Carries) (came info : List ℕ) → here && not (is_idle c) ≡ false → came ≡ (if here then came ++ data_of c info else came)
+stays_came true Idle came info e = sym (append-nil came)
+stays_came true (Lines kept) came info e = cc
+stays_came true (Ended by) came info e = cc
+stays_came true Data came info e = cc
+stays_came false c came info e = refl
+
+pub other_came : (n1 d : ℕ) (v : Pipe) (past : List Pass) (f : Frame) → f.kind ≡ Uih → (f.dlci == 0) ≡ false → is_data d past f ≡ false → PipeFits n1 d v past → PipeFits n1 d v (Came f ∷ past)
+unfolding LawfulPasses
+other_came n1 d v past f k z none h =
+    let ends = info_ends_none d (wire past) f k z in
+    let opens = info_opens_none d (wire past) f k in
+    record {
+      dlci_is = h.dlci_is;
+      not_control = h.not_control;
+      lawful = (tt, h.lawful);
+      watched = watched_info v.watch (wire past) f k z h.watched;
+      carries_is = rw ends (h.carries_is ∙ stays_carried (is_info d past f) (carries d past) f.info none);
+      came_is = h.came_is ∙ stays_came (is_info d past f) (carries d past) (data_came d past) f.info none;
+      to_go_is = h.to_go_is;
+      held_is = rw opens h.held_is;
+      by_driver_is = rw opens h.by_driver_is;
+    }
+
+not_zero : (n1 d : ℕ) (v : Pipe) (past : List Pass) (f : Frame) → is_on Uih v.watch.dlci f ≡ true → PipeFits n1 d v past → (f.dlci == 0) ≡ false
+not_zero n1 d v past f on h = ap (λ e. e == 0) (is_info_dlci v.watch.dlci f on ∙ h.dlci_is) ∙ h.not_control
+
+no_data : (a b : Bool) → a ≡ false → a && b ≡ false
+no_data true b e = cc
+no_data false b e = refl
+
+no_lane : (a : Bool) (c : Carries) → is_idle c ≡ true → a && not (is_idle c) ≡ false
+no_lane true c e = rw e refl
+no_lane false c e = refl
+
+shut_data : (n1 d : ℕ) (v : Pipe) (past : List Pass) (f : Frame) → (is_on Uih v.watch.dlci f && v.watch.own.is_open) ≡ false → PipeFits n1 d v past → is_data d past f ≡ false
+shut_data n1 d v past f shut h = no_data (is_info d past f) (not (is_idle (carries d past))) (sym (info_here n1 d v past f h) ∙ shut)
+
+idle_data : (n1 d : ℕ) (v : Pipe) (past : List Pass) (f : Frame) → is_idle v.lane.carries ≡ true → PipeFits n1 d v past → is_data d past f ≡ false
+idle_data n1 d v past f idle h = no_lane (is_info d past f) (carries d past) (ap is_idle (sym h.carries_is) ∙ idle)
+
+pub leads_shut : (v : Pipe) (f : Frame) → is_on Uih v.watch.dlci f ≡ true → (is_on Uih v.watch.dlci f && v.watch.own.is_open) ≡ false → Leads v v (Came f)
+unfolding Leads
+leads_shut v f on shut n1 d past h = other_came n1 d v past f (is_info_kind v.watch.dlci f on) (not_zero n1 d v past f on h) (shut_data n1 d v past f shut h) h
+
+pub leads_idle : (v : Pipe) (f : Frame) → is_on Uih v.watch.dlci f ≡ true → is_idle v.lane.carries ≡ true → Leads v v (Came f)
+unfolding Leads
+leads_idle v f on idle n1 d past h = other_came n1 d v past f (is_info_kind v.watch.dlci f on) (not_zero n1 d v past f on h) (idle_data n1 d v past f idle h) h
+
+pub leads_info : (v : Pipe) (l : DataLane) (f : Frame) (count : ℕ) → is_on Uih v.watch.dlci f ≡ true → (is_on Uih v.watch.dlci f && v.watch.own.is_open) ≡ true → TakesInfo v.lane l f.info count → Leads v (record v { lane = l }) (Came f)
+unfolding Leads LawfulPasses
+leads_info v l f count on up t n1 d past h =
+    let here : is_info d past f ≡ true = sym (info_here n1 d v past f h) ∙ up in
+    let k = is_info_kind v.watch.dlci f on in
+    let z = not_zero n1 d v past f on h in
+    let opens = info_opens_none d (wire past) f k in
+    record {
+      dlci_is = h.dlci_is;
+      not_control = h.not_control;
+      lawful = (tt, h.lawful);
+      watched = watched_info v.watch (wire past) f k z h.watched;
+      carries_is = rw here (t.stands ∙ ap (λ c. carries_after c f.info) h.carries_is);
+      came_is = rw here (ap (λ o. data_read d past ++ o) t.waits ∙ (sym (append_assoc (data_read d past) v.lane.came (data_of v.lane.carries f.info)) ∙ (ap (λ o. o ++ data_of v.lane.carries f.info) h.came_is ∙ ap (λ c. data_came d past ++ data_of c f.info) h.carries_is)));
+      to_go_is = ap (λ o. left d past ++ o) t.stays ∙ h.to_go_is;
+      held_is = rw opens h.held_is;
+      by_driver_is = rw opens h.by_driver_is;
+    }
+
+-- ## A connection that carries no lane
+
+pub idle_behind : (info_here ending : Bool) (c : Carries) (info : List ℕ) → c ≡ Idle → carries_behind info_here ending c info ≡ Idle
+idle_behind true ending c info e = rw e refl
+idle_behind false true c info e = refl
+idle_behind false false c info e = e
+
+pub idle_sent : (ending : Bool) (c : Carries) → c ≡ Idle → (if ending then Idle else c) ≡ Idle
+idle_sent true c e = refl
+idle_sent false c e = e
+
+-- ## What goes on to the driver
+
+pub hands_lines : (v : Pipe) (f : Frame) (count : ℕ) → (is_on Uih v.watch.dlci f && v.watch.own.is_open) ≡ true → is_idle v.lane.carries ≡ false → take count f.info ≡ lines_of v.lane.carries f.info → HandsOn v f (Some count)
+unfolding HandsOn
+hands_lines v f count up lane t n1 d past h =
+    let here : is_info d past f ≡ true = sym (info_here n1 d v past f h) ∙ up in
+    let some : is_idle (carries d past) ≡ false = ap is_idle (sym h.carries_is) ∙ lane in
+    (rw (here, some) refl, t ∙ ap (λ c. lines_of c f.info) h.carries_is)
+
+pub hands_shut : (v : Pipe) (f : Frame) → (is_on Uih v.watch.dlci f && v.watch.own.is_open) ≡ false → HandsOn v f None
+unfolding HandsOn
+hands_shut v f shut n1 d past h = shut_data n1 d v past f shut h
+
+pub hands_idle : (v : Pipe) (f : Frame) → is_idle v.lane.carries ≡ true → HandsOn v f None
+unfolding HandsOn
+hands_idle v f idle n1 d past h = idle_data n1 d v past f idle h
+
+pub hands_other : (v : Pipe) (f : Frame) → is_on Uih v.watch.dlci f ≡ false → HandsOn v f None
+unfolding HandsOn
+hands_other v f off n1 d past h = shut_data n1 d v past f (no_data (is_on Uih v.watch.dlci f) v.watch.own.is_open off) h

@@ -1,0 +1,157 @@
+-- A watch that has seen a past sees each act behind it.
+use Rattle.std.specs.Prelude.{◌≡◌, ℕ, ◌==◌, ◌&&◌, ◌||◌, not, Bool, true, false, List, [], ◌∷◌, Option, None, refl}
+use Rattle.std.proofs.Common.{ap, sym, subst, ◌∙◌}
+use Rattle.mux_station.specs.declared.role.Role.TheVariants.{Initiator}
+use Rattle.mux_station.specs.Acts.{Act, Got, Sent}
+use Rattle.mux_frame.specs.Frames.{Frame}
+use Rattle.mux_frame.specs.declared.frame.Kind.{Kind}
+use Rattle.mux_frame.specs.declared.frame.Kind.TheVariants.{Ua, Uih}
+use Rattle.mux_station.specs.Written.{is_on, is_kind}
+use Rattle.mux_station.specs.Opening.{Standing, standings, standing_after, since, since_after, opens, ends, opens_now, belongs, is_open}
+use Rattle.mux_station.specs.Stopping.{last_said, got_says, msc_says, flow_says}
+use Rattle.modem_data.specs.Watching.{Watch, HasWatched, Watches, watched, watch_opens, watch_ends, ends_now, stop_after, SaysMayLeave}
+
+-- 0 stands alike whatever connection is looked at
+zero_same : (d : ℕ) (past : List Act) → (standings Initiator 0 past).own ≡ (standings Initiator d past).zero
+zero_same d [] = refl
+zero_same d (a ∷ past) = at (standings Initiator 0 past).own (standings Initiator d past).zero (zero_same d past) (zero_alone past)
+  where
+    at : (x y : Standing) → x ≡ y → (standings Initiator 0 past).zero ≡ x → standing_after Initiator (standings Initiator 0 past).zero.is_open 0 x a ≡ standing_after Initiator y.is_open 0 y a
+    at x y e z = rw z (ap (λ s. standing_after Initiator s.is_open 0 s a) e)
+
+    zero_alone : (past : List Act) → (standings Initiator 0 past).zero ≡ (standings Initiator 0 past).own
+    zero_alone [] = refl
+    zero_alone (b ∷ past) = rw (zero_alone past) refl
+
+-- what the last of the acts says, one act further
+said_after : (say : Act → Option Bool) (opening belonging : Bool) (a : Act) (rest : List Act) → last_said say (since_after opening belonging a rest) ≡ stop_after opening belonging (say a) (last_said say rest)
+said_after say true belonging a rest = refl
+said_after say false true a rest = refl
+said_after say false false a rest = refl
+
+own_stopped : (w : Watch) (past : List Act) (a : Act) → HasWatched w past → (watched w a).own_stop ≡ last_said (got_says (msc_says w.dlci)) (since Initiator w.dlci (a ∷ past))
+own_stopped w past a h =
+    let z : w.zero ≡ (standings Initiator w.dlci past).zero = h.zero_is ∙ zero_same w.dlci past in
+    ap (λ s. stop_after (opens Initiator s.is_open w.own.is_asked w.dlci a) (w.own.is_open && not (ends s.is_open w.dlci a)) (got_says (msc_says w.dlci) a) w.own_stop) z
+    ∙ (ap (λ s. stop_after (opens Initiator (standings Initiator w.dlci past).zero.is_open s.is_asked w.dlci a) (s.is_open && not (ends (standings Initiator w.dlci past).zero.is_open w.dlci a)) (got_says (msc_says w.dlci) a) w.own_stop) h.own_is
+    ∙ (ap (λ b. stop_after (opens_now Initiator w.dlci past a) (belongs Initiator w.dlci past a) (got_says (msc_says w.dlci) a) b) h.own_stop_is
+    ∙ sym (said_after (got_says (msc_says w.dlci)) (opens_now Initiator w.dlci past a) (belongs Initiator w.dlci past a) a (since Initiator w.dlci past))))
+
+all_stopped : (w : Watch) (past : List Act) (a : Act) → HasWatched w past → (watched w a).all_stop ≡ last_said (got_says flow_says) (since Initiator 0 (a ∷ past))
+all_stopped w past a h =
+    let z : w.zero ≡ (standings Initiator 0 past).zero = h.zero_is ∙ zero_same 0 past in
+    ap (λ s. stop_after (opens Initiator s.is_open w.zero.is_asked 0 a) (w.zero.is_open && not (ends s.is_open 0 a)) (got_says flow_says a) w.all_stop) z
+    ∙ (ap (λ s. stop_after (opens Initiator (standings Initiator 0 past).zero.is_open s.is_asked 0 a) (s.is_open && not (ends (standings Initiator 0 past).zero.is_open 0 a)) (got_says flow_says a) w.all_stop) h.zero_is
+    ∙ (ap (λ b. stop_after (opens_now Initiator 0 past a) (belongs Initiator 0 past a) (got_says flow_says a) b) h.all_stop_is
+    ∙ sym (said_after (got_says flow_says) (opens_now Initiator 0 past a) (belongs Initiator 0 past a) a (since Initiator 0 past))))
+
+pub goes : (w : Watch) (past : List Act) (a : Act) → HasWatched w past → HasWatched (watched w a) (a ∷ past)
+goes w past a h = record {
+  zero_is = ap (λ s. standing_after Initiator s.is_open 0 s a) h.zero_is ∙ ap (λ s. standing_after Initiator s.is_open 0 (standings Initiator 0 past).own a) (zero_same 0 past);
+  own_is = ap (λ s. standing_after Initiator s.is_open w.dlci w.own a) (h.zero_is ∙ zero_same w.dlci past) ∙ ap (λ s. standing_after Initiator (standings Initiator w.dlci past).zero.is_open w.dlci s a) h.own_is;
+  own_stop_is = own_stopped w past a h;
+  all_stop_is = all_stopped w past a h;
+}
+
+pub watches : (w v : Watch) (a : Act) → v ≡ watched w a → Watches w v a
+unfolding Watches
+watches w v a e past h = rw e (goes w past a h)
+
+may_at : (x o s z t : Bool) → (x && (o && (not s && not (z && t)))) ≡ (x && (o && not (x && ((o && s) || (z && t)))))
+may_at true true true z t = refl
+may_at true true false z t = refl
+may_at true false s z t = refl
+may_at false o s z t = refl
+
+pub says_may_leave : (w : Watch) (b : Bool) → b ≡ (not (w.dlci == 0) && (w.own.is_open && (not w.own_stop && not (w.zero.is_open && w.all_stop)))) → SaysMayLeave w b
+unfolding SaysMayLeave
+says_may_leave w b e past h =
+    e ∙ (may_at (not (w.dlci == 0)) w.own.is_open w.own_stop w.zero.is_open w.all_stop
+    ∙ (ap (λ s. not (w.dlci == 0) && (w.own.is_open && not (not (w.dlci == 0) && ((w.own.is_open && w.own_stop) || (s.is_open && w.all_stop))))) h.zero_is
+    ∙ (ap (λ s. not (w.dlci == 0) && (s.is_open && not (not (w.dlci == 0) && ((s.is_open && w.own_stop) || (is_open Initiator 0 past && w.all_stop))))) h.own_is
+    ∙ (ap (λ c. not (w.dlci == 0) && (is_open Initiator w.dlci past && not (not (w.dlci == 0) && ((is_open Initiator w.dlci past && c) || (is_open Initiator 0 past && w.all_stop))))) h.own_stop_is
+    ∙ ap (λ c. not (w.dlci == 0) && (is_open Initiator w.dlci past && not (not (w.dlci == 0) && ((is_open Initiator w.dlci past && last_said (got_says (msc_says w.dlci)) (since Initiator w.dlci past)) || (is_open Initiator 0 past && c))))) h.all_stop_is))))
+
+pub info_said : (w : Watch) (past : List Act) (f : Frame) → HasWatched w past → (is_on Uih w.dlci f && w.own.is_open) ≡ (is_on Uih w.dlci f && is_open Initiator w.dlci past)
+info_said w past f h = ap (λ (s : Standing). is_on Uih w.dlci f && s.is_open) h.own_is
+
+pub open_said : (w : Watch) (past : List Act) → HasWatched w past → w.own.is_open ≡ is_open Initiator w.dlci past
+open_said w past h = ap (λ (s : Standing). s.is_open) h.own_is
+
+pub opens_said : (w : Watch) (past : List Act) (a : Act) → HasWatched w past → watch_opens w a ≡ opens_now Initiator w.dlci past a
+opens_said w past a h =
+    ap (λ s. opens Initiator s.is_open w.own.is_asked w.dlci a) (h.zero_is ∙ zero_same w.dlci past)
+    ∙ ap (λ s. opens Initiator (standings Initiator w.dlci past).zero.is_open s.is_asked w.dlci a) h.own_is
+
+pub ends_said : (w : Watch) (past : List Act) (a : Act) → HasWatched w past → watch_ends w a ≡ ends_now w.dlci past a
+ends_said w past a h =
+    ap (λ o. w.own.is_open && (o || not (w.own.is_open && not (ends w.zero.is_open w.dlci a)))) (opens_said w past a h)
+    ∙ (ap (λ (s : Standing). w.own.is_open && (opens_now Initiator w.dlci past a || not (w.own.is_open && not (ends s.is_open w.dlci a)))) (h.zero_is ∙ zero_same w.dlci past)
+    ∙ ap (λ (s : Standing). s.is_open && (opens_now Initiator w.dlci past a || not (s.is_open && not (ends (standings Initiator w.dlci past).zero.is_open w.dlci a)))) h.own_is)
+
+-- ## Data changes nothing
+
+no_command : (z : Bool) → (z && false) ≡ false
+no_command true = refl
+no_command false = refl
+
+stays_on : (b : Bool) → (b && true) ≡ b
+stays_on true = refl
+stays_on false = refl
+
+none_stops : (b was : Bool) → stop_after false b None was ≡ was
+none_stops true was = refl
+none_stops false was = refl
+
+same_standing : (s : Standing) → record { is_open = s.is_open && true; is_asked = s.is_asked && true } ≡ s
+same_standing s = rw (stays_on s.is_open, stays_on s.is_asked) refl
+
+-- information on a connection other than 0 ends none
+ends_none : (z : Bool) (d e : ℕ) (cr pf : Bool) (info : List ℕ) → (e == 0) ≡ false → ends z d (Got (record { dlci = e; kind = Uih; cr = cr; pf = pf; info = info })) ≡ false
+ends_none z d e cr pf info n = rw n (rw (no_command z) (no_command (not (d == 0))))
+
+same_watched : (w : Watch) (e : ℕ) (cr pf : Bool) (info : List ℕ) → (e == 0) ≡ false → watched w (Got (record { dlci = e; kind = Uih; cr = cr; pf = pf; info = info })) ≡ w
+same_watched w e cr pf info n =
+    rw (ends_none w.zero.is_open 0 e cr pf info n, ends_none w.zero.is_open w.dlci e cr pf info n, n)
+    (rw (same_standing w.zero, same_standing w.own, none_stops (w.own.is_open && true) w.own_stop, none_stops (w.zero.is_open && true) w.all_stop) refl)
+
+of_kind : (w : Watch) (f : Frame) → f.kind ≡ Uih → (f.dlci == 0) ≡ false → watched w (Got f) ≡ w
+of_kind w f k n = subst (λ (k : Kind). watched w (Got (record f { kind = k })) ≡ w) (sym k) (same_watched w f.dlci f.cr f.pf f.info n)
+
+pub watched_info : (w : Watch) (past : List Act) (f : Frame) → f.kind ≡ Uih → (f.dlci == 0) ≡ false → HasWatched w past → HasWatched w (Got f ∷ past)
+watched_info w past f k n h = subst (λ (v : Watch). HasWatched v (Got f ∷ past)) (of_kind w f k n) (goes w past (Got f) h)
+
+-- nor where it goes
+sent_ends_none : (z : Bool) (d e : ℕ) (cr pf : Bool) (info : List ℕ) → (e == 0) ≡ false → ends z d (Sent (record { dlci = e; kind = Uih; cr = cr; pf = pf; info = info })) ≡ false
+sent_ends_none z d e cr pf info n = rw n (no_command (not (d == 0)))
+
+same_sent : (w : Watch) (e : ℕ) (cr pf : Bool) (info : List ℕ) → (e == 0) ≡ false → watched w (Sent (record { dlci = e; kind = Uih; cr = cr; pf = pf; info = info })) ≡ w
+same_sent w e cr pf info n =
+    rw (sent_ends_none w.zero.is_open 0 e cr pf info n, sent_ends_none w.zero.is_open w.dlci e cr pf info n)
+    (rw (same_standing w.zero, same_standing w.own, none_stops (w.own.is_open && true) w.own_stop, none_stops (w.zero.is_open && true) w.all_stop) refl)
+
+sent_of_kind : (w : Watch) (f : Frame) → f.kind ≡ Uih → (f.dlci == 0) ≡ false → watched w (Sent f) ≡ w
+sent_of_kind w f k n = subst (λ (k : Kind). watched w (Sent (record f { kind = k })) ≡ w) (sym k) (same_sent w f.dlci f.cr f.pf f.info n)
+
+pub watched_sent_info : (w : Watch) (past : List Act) (f : Frame) → f.kind ≡ Uih → (f.dlci == 0) ≡ false → HasWatched w past → HasWatched w (Sent f ∷ past)
+watched_sent_info w past f k n h = subst (λ (v : Watch). HasWatched v (Sent f ∷ past)) (sent_of_kind w f k n) (goes w past (Sent f) h)
+
+-- information on a connection other than 0 opens and ends no connection
+no_answer : (k : Kind) (x z : Bool) → k ≡ Uih → (is_kind k Ua && x) && z ≡ false
+no_answer k x z e = rw e refl
+
+pub info_opens_none : (d : ℕ) (past : List Act) (f : Frame) → f.kind ≡ Uih → opens_now Initiator d past (Got f) ≡ false
+info_opens_none d past f k = no_answer f.kind (f.dlci == d) (standings Initiator d past).own.is_asked k
+
+none_end : (o : Bool) → o && (false || not (o && not false)) ≡ false
+none_end true = refl
+none_end false = refl
+
+ends_of_kind : (z : Bool) (d : ℕ) (f : Frame) → f.kind ≡ Uih → (f.dlci == 0) ≡ false → ends z d (Got f) ≡ false
+ends_of_kind z d f k n = subst (λ (k : Kind). ends z d (Got (record f { kind = k })) ≡ false) (sym k) (ends_none z d f.dlci f.cr f.pf f.info n)
+
+pub info_ends_none : (d : ℕ) (past : List Act) (f : Frame) → f.kind ≡ Uih → (f.dlci == 0) ≡ false → ends_now d past (Got f) ≡ false
+info_ends_none d past f k n =
+    ap (λ b. is_open Initiator d past && (b || not (is_open Initiator d past && not (ends (standings Initiator d past).zero.is_open d (Got f))))) (info_opens_none d past f k)
+    ∙ (ap (λ b. is_open Initiator d past && (false || not (is_open Initiator d past && not b))) (ends_of_kind (standings Initiator d past).zero.is_open d f k n)
+    ∙ none_end (is_open Initiator d past))

@@ -1,0 +1,37 @@
+-- What is kept of the data of a connection, from the beginning of a lane to the end of its opening.
+use Rattle.std.specs.Prelude.{◌≡◌, ◌≤◌, ℕ, List, [], ◌++◌, take}
+use Rattle.modem_data.specs.Switching.{Carries, Idle, lines_of, data_of, carries_after}
+
+-- what it carries, the data that came and was not read yet, and the octets that were given and have not left yet
+pub record DataLane : Type 0 where
+  pub carries : Carries
+  pub came : List ℕ
+  pub to_go : List ℕ
+
+-- how many octets may wait to leave
+abbrev pub most_to_go : ℕ
+most_to_go = 4096
+
+-- a frame's information came: its line octets are these, and its data waits behind what waited
+pub record TakesInfo (old new : DataLane) (info : List ℕ) (count : ℕ) : Type 0 where
+  pub lines_are : take count info ≡ lines_of old.carries info
+  pub stands : new.carries ≡ carries_after old.carries info
+  pub waits : new.came ≡ old.came ++ data_of old.carries info
+  pub stays : new.to_go ≡ old.to_go
+
+-- nothing is data, nothing came, and nothing was given
+abbrev pub new_lane : DataLane
+new_lane = record { carries = Idle; came = []; to_go = [] }
+
+-- a lane begins so: what was given before isn't sent
+abbrev pub begun_lane : DataLane → Carries → DataLane
+begun_lane l begin = record l { carries = begin; to_go = [] }
+
+-- a lane is over: what came and wasn't read stays
+abbrev pub ended_lane : DataLane → DataLane
+ended_lane l = record l { carries = Idle }
+
+-- so many octets wait to leave, in room for so many
+pub record HasRoom (count capacity : ℕ) : Type 0 where
+  pub few : count ≤ most_to_go
+  pub room : 8192 ≤ capacity

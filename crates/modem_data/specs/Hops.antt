@@ -1,0 +1,197 @@
+-- What passes a relay between the line and a driver, as octets and as frames. A past is written newest first.
+use Rattle.std.specs.Prelude.{◌≡◌, ℕ, ◌==◌, Bool, true, false, List, [], ◌∷◌, ◌++◌, Option, Some, None, filter_map, flat_map, if◌then◌else◌}
+use Rattle.std.specs.List.{list_all}
+use Rattle.mux_frame.specs.Frames.{Frame}
+use Rattle.mux_frame.specs.Spelling.{spelled}
+use Rattle.mux_frame.specs.Reading.{Reads}
+use Rattle.mux_frame.specs.Deframing.{Deframing, Deframes}
+use Rattle.modem_data.specs.Switching.{Data, Idle, lines_of}
+use Rattle.modem_data.specs.Passing.{Pass, Came, Went, Flowed, Left, wire, is_data, carries, given, left, IsDue}
+use Rattle.modem_data.specs.Pipes.{Pipe, PipeFits}
+use Rattle.modem_data.specs.Watching.{may_leave}
+
+-- octets come from the line, or are given to the driver; octets come from the driver, or are given to the line; a frame or
+-- octets of data pass
+pub data Hop : Type 0 where
+  Fed : List ℕ → Hop
+  Handed : List ℕ → Hop
+  Took : List ℕ → Hop
+  Wrote : List ℕ → Hop
+  Passed : Pass → Hop
+
+abbrev pub pass_of : Hop → Option Pass
+pass_of (Passed a) = Some a
+pass_of _ = None
+
+abbrev pub passes : List Hop → List Pass
+passes past = filter_map pass_of past
+
+-- ## Octets, in the order in which they came or were given
+
+abbrev pub fed : List Hop → List ℕ
+fed [] = []
+fed (Fed octets ∷ past) = fed past ++ octets
+fed (_ ∷ past) = fed past
+
+abbrev pub handed_over : List Hop → List ℕ
+handed_over [] = []
+handed_over (Handed octets ∷ past) = handed_over past ++ octets
+handed_over (_ ∷ past) = handed_over past
+
+abbrev pub taken : List Hop → List ℕ
+taken [] = []
+taken (Took octets ∷ past) = taken past ++ octets
+taken (_ ∷ past) = taken past
+
+abbrev pub wrote : List Hop → List ℕ
+wrote [] = []
+wrote (Wrote octets ∷ past) = wrote past ++ octets
+wrote (_ ∷ past) = wrote past
+
+-- ## Frames
+
+-- those that came from the line, and those of the driver that went to it
+abbrev pub came_of : Hop → List Frame
+came_of (Passed (Came f)) = f ∷ []
+came_of _ = []
+
+abbrev pub came : List Hop → List Frame
+came [] = []
+came (a ∷ past) = came past ++ came_of a
+
+abbrev pub went_of : Hop → List Frame
+went_of (Passed (Went f)) = f ∷ []
+went_of _ = []
+
+abbrev pub went : List Hop → List Frame
+went [] = []
+went (a ∷ past) = went past ++ went_of a
+
+-- of a frame of data the lines, where there are any, in a frame of their own
+abbrev pub with_lines : Frame → List ℕ → List Frame
+with_lines f [] = []
+with_lines f (c ∷ text) = record f { info = c ∷ text } ∷ []
+
+-- what the driver is due of a frame that comes: its lines where it is data of a lane, else all of it
+abbrev pub due : List Pass → Frame → List Frame
+due p f = if is_data f.dlci p f then with_lines f (lines_of (carries f.dlci p) f.info) else f ∷ []
+
+abbrev pub for_driver : List Hop → List Frame
+for_driver [] = []
+for_driver (Passed (Came f) ∷ past) = for_driver past ++ due (passes past) f
+for_driver (_ ∷ past) = for_driver past
+
+-- the frames for the line: the driver's, those of data and the relay's own, as they passed
+abbrev pub for_line_of : Hop → List Frame
+for_line_of (Passed (Went f)) = f ∷ []
+for_line_of (Passed (Left f)) = f ∷ []
+for_line_of (Passed (Flowed f)) = f ∷ []
+for_line_of _ = []
+
+abbrev pub for_line : List Hop → List Frame
+for_line [] = []
+for_line (a ∷ past) = for_line past ++ for_line_of a
+
+-- ## The laws
+
+-- every frame that the driver's octets hold has gone, a DISC or CLD among them
+pub record DriverFirst (n1 : ℕ) (past : List Hop) : Type 0 where
+  pub rest : List ℕ
+  pub all_went : Reads n1 (taken past) (went past) rest
+
+-- frames of data and of the relay's own leave behind the driver's
+abbrev pub AllowsHop : ℕ → List Hop → Hop → Type 0
+AllowsHop n1 past (Passed (Left f)) = DriverFirst n1 past
+AllowsHop n1 past (Passed (Flowed f)) = DriverFirst n1 past
+AllowsHop n1 past _ = Unit {0}
+
+unfoldable pub LawfulHops : ℕ → List Hop → Type 0
+LawfulHops n1 [] = Unit {0}
+LawfulHops n1 (a ∷ past) = AllowsHop n1 past a × LawfulHops n1 past
+
+-- ## What a relay keeps
+
+pub record Relay : Type 0 where
+  pub outer : Deframing
+  pub inner : Deframing
+  pub pipe : Pipe
+  pub to_driver : List ℕ
+  pub to_line : List ℕ
+
+abbrev pub spell : List Frame → List ℕ
+spell fs = flat_map spelled fs
+
+-- A relay fits a past: the octets of the line are deframed to the frames that came, those of the driver to the frames that
+-- went; what the driver was given, and then what waits for it, are the frames due to it, spelled whole and in order; what
+-- the line was given, and then what waits for it, are the frames for it; and its pipe fits what passed.
+pub record RelayFits (n1 d : ℕ) (v : Relay) (past : List Hop) : Type 0 where
+  pub outer_n1 : v.outer.n1 ≡ n1
+  pub inner_n1 : v.inner.n1 ≡ n1
+  pub lawful : LawfulHops n1 past
+  pub line_in : Deframes (fed past) (came past) v.outer
+  pub driver_out : Deframes (taken past) (went past) v.inner
+  pub to_driver_is : handed_over past ++ v.to_driver ≡ spell (for_driver past)
+  pub to_line_is : wrote past ++ v.to_line ≡ spell (for_line past)
+  pub others : (e : ℕ) → (e == d) ≡ false → carries e (passes past) ≡ Idle
+  pub pipe_fits : PipeFits n1 d v.pipe (passes past)
+
+-- ## Calls
+
+-- a hop leads on, whatever passed before
+unfoldable pub Hops : Relay → Relay → Hop → Type 0
+Hops old new a =
+    (n1 d : ℕ) (past : List Hop) → RelayFits n1 d old past → RelayFits n1 d new (a ∷ past)
+
+-- some frame hops so
+pub record HopsBy (old new : Relay) (hop : Frame → Hop) : Type 0 where
+  pub frame : Frame
+  pub leads : Hops old new (hop frame)
+
+-- nothing has passed
+unfoldable pub BeginsRelay : ℕ → ℕ → Relay → Type 0
+BeginsRelay n1 d v = RelayFits n1 d v []
+
+-- ## What forces progress
+
+-- every frame that the line's octets hold has come; what of it is the driver's is given or waits
+unfoldable pub AllCame : Relay → Type 0
+AllCame v = (n1 d : ℕ) (past : List Hop) → RelayFits n1 d v past
+    → Reads n1 (fed past) (came past) v.outer.undecided
+
+-- nothing may go to the line: no octets wait, every frame of the driver has gone, nothing is to be said of the flow, and no
+-- data may leave
+pub record IsStill (n1 d : ℕ) (past : List Hop) : Type 0 where
+  pub all_given : wrote past ≡ spell (for_line past)
+  pub first : DriverFirst n1 past
+  pub none_due : (go : Bool) → ¬ IsDue d (passes past) go
+  pub no_data : carries d (passes past) ≡ Data → may_leave d (wire (passes past)) ≡ true
+      → left d (passes past) ≡ given d (passes past)
+
+unfoldable pub HoldsNothing : Relay → Type 0
+HoldsNothing v = (n1 d : ℕ) (past : List Hop) → RelayFits n1 d v past → IsStill n1 d past
+
+-- ## Whole calls
+
+-- by some hops these octets came from the line, and frames of it passed; nothing else happened
+abbrev pub is_line_in : Hop → Bool
+is_line_in (Fed octets) = true
+is_line_in (Passed (Came f)) = true
+is_line_in _ = false
+
+pub record LineIn (old new : Relay) (octets : List ℕ) : Type 0 where
+  pub hops : List Hop
+  pub only : list_all is_line_in hops ≡ true
+  pub fed_are : fed hops ≡ octets
+  pub leads : (n1 d : ℕ) (past : List Hop) → RelayFits n1 d old past
+      → RelayFits n1 d new (hops ++ past)
+
+-- frames at hand passed: what came before them came
+unfoldable pub PassesOn : Relay → Relay → Type 0
+PassesOn old new = (first : Relay) (octets : List ℕ) → LineIn first old octets → LineIn first new octets
+
+-- the next frame for the line: the driver's, or one of data; or octets wait already, or there is none
+pub data OneOut (old new : Relay) : Type 0 where
+  still_out : new ≡ old → OneOut old new
+  went_out : HopsBy old new (λ f. Passed (Went f)) → OneOut old new
+  flow_out : HopsBy old new (λ f. Passed (Flowed f)) → OneOut old new
+  left_out : HopsBy old new (λ f. Passed (Left f)) → OneOut old new

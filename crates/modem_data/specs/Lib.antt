@@ -1,0 +1,16 @@
+pub mod Switching
+pub mod Stages
+pub mod DataLanes
+pub mod Queues
+pub mod DataErrors
+pub mod Splits
+pub mod SwitchRows
+pub mod Messages
+pub mod Standings
+pub mod Watching
+pub mod Passing
+pub mod Pipes
+pub mod Hops
+pub mod Handing
+pub mod Relays
+pub mod RelayRows

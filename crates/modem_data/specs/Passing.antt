@@ -1,0 +1,193 @@
+-- What passes the connections that carry data, between the line and a driver: a past is written newest first.
+use Rattle.std.specs.Prelude.{◌≡◌, ℕ, ◌+◌, ◌-◌, ◌≤◌, ◌==◌, ◌&&◌, not, nat_le, nat_lt, Bool, true, false, IsTrue, List, [], ◌∷◌, ◌++◌, length, Option, Some, None, filter_map, if◌then◌else◌, unwrap_or}
+use Rattle.mux_frame.specs.Frames.{Frame}
+use Rattle.mux_frame.specs.declared.frame.Kind.TheVariants.{Uih}
+use Rattle.mux_station.specs.declared.role.Role.TheVariants.{Initiator}
+use Rattle.mux_station.specs.Acts as station
+use Rattle.mux_station.specs.Opening.{is_open, opens_now}
+use Rattle.mux_station.specs.Stopping.{got_says, msc_says}
+use Rattle.mux_station.specs.Tables.{msc_frame, ready, held_up}
+use Rattle.mux_station.specs.Written.{is_on, written}
+use Rattle.modem_data.specs.Switching.{Carries, Idle, Lines, Data, is_idle, data_of, carries_after}
+use Rattle.modem_data.specs.DataLanes.{most_to_go}
+use Rattle.modem_data.specs.Watching.{may_leave, ends_now}
+
+-- what happens: a frame comes from the line; one goes from the driver to the line, one of the relay's own, or one of data;
+-- the line is lost; a lane of a connection begins, with data behind its next CONNECT line or at once; octets are given to
+-- be sent there; octets of its data are read
+pub data Pass : Type 0 where
+  Came : Frame → Pass
+  Went : Frame → Pass
+  Flowed : Frame → Pass
+  Left : Frame → Pass
+  Lost : Pass
+  Began : ℕ → (by_connect : Bool) → Pass
+  Gave : ℕ → List ℕ → Pass
+  Read : ℕ → List ℕ → Pass
+
+-- what happens on the line
+abbrev pub wire_act : Pass → Option station.Act
+wire_act (Came f) = Some (station.Got f)
+wire_act (Went f) = Some (station.Sent f)
+wire_act (Flowed f) = Some (station.Sent f)
+wire_act (Left f) = Some (station.Sent f)
+wire_act Lost = Some station.Lost
+wire_act _ = None
+
+abbrev pub wire : List Pass → List station.Act
+wire past = filter_map wire_act past
+
+-- ## Lanes
+
+-- the frame is information on d, which is open
+abbrev pub is_info : ℕ → List Pass → Frame → Bool
+is_info d past f = is_on Uih d f && is_open Initiator d (wire past)
+
+-- the act opens d; the act ends an opening of d
+abbrev pub opens_here : ℕ → List Pass → station.Act → Bool
+opens_here d past a = opens_now Initiator d (wire past) a
+
+abbrev pub ends_here : ℕ → List Pass → station.Act → Bool
+ends_here d past a = ends_now d (wire past) a
+
+-- what a lane carries at its beginning
+abbrev pub begin_of : Bool → Carries
+begin_of true = Lines []
+begin_of false = Data
+
+-- what d carries behind a frame that came
+abbrev pub carries_behind : (info_here ending : Bool) → Carries → List ℕ → Carries
+carries_behind true ending c info = carries_after c info
+carries_behind false true c info = Idle
+carries_behind false false c info = c
+
+-- What d carries: nothing but the driver's, until a lane begins. It turns to data behind its first CONNECT line, and is over
+-- where an opening of d ends, or the line is lost.
+abbrev pub carries : ℕ → List Pass → Carries
+carries d [] = Idle
+carries d (Came f ∷ past) = carries_behind (is_info d past f) (ends_here d past (station.Got f)) (carries d past) f.info
+carries d (Went f ∷ past) = if ends_here d past (station.Sent f) then Idle else carries d past
+carries d (Flowed f ∷ past) = if ends_here d past (station.Sent f) then Idle else carries d past
+carries d (Lost ∷ past) = Idle
+carries d (Began e by_connect ∷ past) = if e == d then begin_of by_connect else carries d past
+carries d (_ ∷ past) = carries d past
+
+-- the frame is information of a lane
+abbrev pub is_data : ℕ → List Pass → Frame → Bool
+is_data d past f = is_info d past f && not (is_idle (carries d past))
+
+-- ## In
+
+-- the data that came on d since the lane began, and what was read of it
+abbrev pub data_came : ℕ → List Pass → List ℕ
+data_came d [] = []
+data_came d (Came f ∷ past) =
+    if is_info d past f then data_came d past ++ data_of (carries d past) f.info else data_came d past
+data_came d (Began e by_connect ∷ past) = if e == d then [] else data_came d past
+data_came d (_ ∷ past) = data_came d past
+
+abbrev pub data_read : ℕ → List Pass → List ℕ
+data_read d [] = []
+data_read d (Read e octets ∷ past) = if e == d then data_read d past ++ octets else data_read d past
+data_read d (Began e by_connect ∷ past) = if e == d then [] else data_read d past
+data_read d (_ ∷ past) = data_read d past
+
+-- the lane of d is over, and all of its data was read
+pub record IsOver (d : ℕ) (past : List Pass) : Type 0 where
+  pub idle : carries d past ≡ Idle
+  pub all_read : data_read d past ≡ data_came d past
+
+-- ## Out
+
+-- what was given since the lane began, and what left since then
+abbrev pub given : ℕ → List Pass → List ℕ
+given d [] = []
+given d (Gave e octets ∷ past) = if e == d then given d past ++ octets else given d past
+given d (Began e by_connect ∷ past) = if e == d then [] else given d past
+given d (_ ∷ past) = given d past
+
+abbrev pub left : ℕ → List Pass → List ℕ
+left d [] = []
+left d (Left f ∷ past) = if f.dlci == d then left d past ++ f.info else left d past
+left d (Began e by_connect ∷ past) = if e == d then [] else left d past
+left d (_ ∷ past) = left d past
+
+-- ## Flow of data that comes (27.010, 5.4.6.3.7)
+
+-- the last MSC for d that went since d opened, whoever's, said that the other end may not go on; the driver's last one did
+abbrev pub holds : ℕ → List Pass → Bool
+holds d [] = false
+holds d (Came f ∷ past) = if opens_here d past (station.Got f) then false else holds d past
+holds d (Went f ∷ past) = unwrap_or (got_says (msc_says d) (station.Got f)) (holds d past)
+holds d (Flowed f ∷ past) = unwrap_or (got_says (msc_says d) (station.Got f)) (holds d past)
+holds d (_ ∷ past) = holds d past
+
+abbrev pub driver_holds : ℕ → List Pass → Bool
+driver_holds d [] = false
+driver_holds d (Came f ∷ past) = if opens_here d past (station.Got f) then false else driver_holds d past
+driver_holds d (Went f ∷ past) = unwrap_or (got_says (msc_says d) (station.Got f)) (driver_holds d past)
+driver_holds d (_ ∷ past) = driver_holds d past
+
+-- how many octets of data wait to be read
+abbrev pub unread : ℕ → List Pass → ℕ
+unread d past = length (data_came d past) - length (data_read d past)
+
+-- What is to be said: stop, where 8192 octets wait; go on, where fewer than 4096 do, unless the driver holds d by its lines.
+abbrev pub flow_by : (held by_driver : Bool) → (waiting : ℕ) → Option Bool
+flow_by false by_driver waiting = if nat_le 8192 waiting then Some false else None
+flow_by true true waiting = None
+flow_by true false waiting = if nat_lt waiting 4096 then Some true else None
+
+-- the MSC that says so
+abbrev pub flow_frame : ℕ → (go : Bool) → Frame
+flow_frame d go = msc_frame Initiator d (if go then ready else held_up)
+
+-- d is open and carries a lane, and this is to be said of it
+pub record IsDue (d : ℕ) (past : List Pass) (go : Bool) : Type 0 where
+  pub open_there : is_open Initiator d (wire past) ≡ true
+  pub lane : is_idle (carries d past) ≡ false
+  pub due : flow_by (holds d past) (driver_holds d past) (unread d past) ≡ Some go
+
+-- ## The laws
+
+-- data leaves a connection that carries data, is open and isn't stopped, as this end writes it, with 1 to N1 octets: the next
+-- of those given since its lane began
+pub record Leaves (n1 : ℕ) (past : List Pass) (f : Frame) : Type 0 where
+  pub carries_data : carries f.dlci past ≡ Data
+  pub may : may_leave f.dlci (wire past) ≡ true
+  pub as_written : f ≡ written Initiator Uih f.dlci f.info
+  pub some : IsTrue (nat_le 1 (length f.info))
+  pub fits : IsTrue (nat_le (length f.info) n1)
+  pub later : List ℕ
+  pub is_next : given f.dlci past ≡ left f.dlci past ++ (f.info ++ later)
+
+-- the relay says what is due of the flow
+pub record Flows (past : List Pass) (f : Frame) : Type 0 where
+  pub dlci : ℕ
+  pub go : Bool
+  pub is_due : IsDue dlci past go
+  pub as_written : f ≡ flow_frame dlci go
+
+-- octets are given where d is open and carries data, and no more wait than may
+pub record Gives (d : ℕ) (past : List Pass) (octets : List ℕ) : Type 0 where
+  pub open_there : is_open Initiator d (wire past) ≡ true
+  pub carries_data : carries d past ≡ Data
+  pub few : length (given d past) + length octets ≤ length (left d past) + most_to_go
+
+-- data is read in its order
+pub record Reads (d : ℕ) (past : List Pass) (octets : List ℕ) : Type 0 where
+  pub later : List ℕ
+  pub is_next : data_came d past ≡ data_read d past ++ (octets ++ later)
+
+-- each act was allowed after those before it: a lane begins where the last one is over
+abbrev pub AllowsPass : ℕ → List Pass → Pass → Type 0
+AllowsPass n1 past (Left f) = Leaves n1 past f
+AllowsPass n1 past (Flowed f) = Flows past f
+AllowsPass n1 past (Began d by_connect) = IsOver d past
+AllowsPass n1 past (Gave d octets) = Gives d past octets
+AllowsPass n1 past (Read d octets) = Reads d past octets
+AllowsPass n1 past _ = Unit {0}
+
+unfoldable pub LawfulPasses : ℕ → List Pass → Type 0
+LawfulPasses n1 [] = Unit {0}
+LawfulPasses n1 (a ∷ past) = AllowsPass n1 past a × LawfulPasses n1 past

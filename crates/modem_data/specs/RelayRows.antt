@@ -1,0 +1,86 @@
+-- Worked pasts of a relay: connections 0, 1 and 2 are open, and 2 carries a lane, with data behind its CONNECT line.
+use Rattle.std.specs.Prelude.{◌≡◌, ℕ, true, false, List, [], ◌∷◌, ◌++◌, Some, None, codes}
+use Rattle.mux_frame.specs.Frames.{Frame}
+use Rattle.mux_frame.specs.declared.frame.Kind.TheVariants.{Sabm, Ua, Disc, Uih}
+use Rattle.mux_station.specs.declared.role.Role.TheVariants.{Initiator, Responder}
+use Rattle.mux_frame.specs.Spelling.{spelled}
+use Rattle.mux_station.specs.Written.{written}
+use Rattle.modem_data.specs.Switching.{Data, Idle}
+use Rattle.modem_data.specs.Watching.{may_leave}
+use Rattle.modem_data.specs.Passing.{Came, Went, Flowed, Left, Lost, Began, wire, carries, data_came, holds, driver_holds, flow_by, flow_frame}
+use Rattle.modem_data.specs.Hops.{DriverFirst, Hop, Passed, Took, for_driver, for_line, passes}
+
+abbrev pub sabm : ℕ → Frame
+sabm d = written Initiator Sabm d []
+
+abbrev pub ua : ℕ → Frame
+ua d = written Responder Ua d []
+
+abbrev pub disc : ℕ → Frame
+disc d = written Initiator Disc d []
+
+-- information that comes from the modem, or goes to it
+abbrev pub says : ℕ → List ℕ → Frame
+says d info = written Responder Uih d info
+
+abbrev pub told : ℕ → List ℕ → Frame
+told d info = written Initiator Uih d info
+
+-- 0, 1 and 2 are open, and a lane of 2 begins; newest first
+abbrev pub opened : List Hop
+opened = Passed (Came (ua 2)) ∷ Passed (Went (sabm 2)) ∷ Passed (Came (ua 1)) ∷ Passed (Went (sabm 1)) ∷ Passed (Came (ua 0)) ∷ Passed (Went (sabm 0)) ∷ []
+
+abbrev pub armed : List Hop
+armed = Passed (Began 2 true) ∷ opened
+
+abbrev pub connect : List ℕ
+connect = codes "CONNECT" ++ (13 ∷ 10 ∷ [])
+
+-- CONNECT and two octets of data in one frame, between two frames of 1
+abbrev pub between : List Hop → List Hop
+between past = Passed (Came (says 1 (codes "OK" ++ 13 ∷ []))) ∷ Passed (Came (says 2 (connect ++ (126 ∷ 255 ∷ [])))) ∷ Passed (Came (says 1 (65 ∷ 84 ∷ 13 ∷ []))) ∷ past
+
+abbrev pub all_frames : List Frame
+all_frames = ua 0 ∷ ua 1 ∷ ua 2 ∷ says 1 (65 ∷ 84 ∷ 13 ∷ []) ∷ says 2 (connect ++ (126 ∷ 255 ∷ [])) ∷ says 1 (codes "OK" ++ 13 ∷ []) ∷ []
+
+pub record RelaysSo : Type 0 where
+  -- no lane began: all that came goes on, as it came
+  pub as_they_came : for_driver (between opened) ≡ all_frames
+  -- the CONNECT line goes on in a frame of its own, in its place; the octets behind it don't
+  pub in_one_frame : for_driver (between armed) ≡ ua 0 ∷ ua 1 ∷ ua 2 ∷ says 1 (65 ∷ 84 ∷ 13 ∷ []) ∷ says 2 (codes "CONNECT" ++ 13 ∷ []) ∷ says 1 (codes "OK" ++ 13 ∷ []) ∷ []
+  pub data_is : data_came 2 (passes (between armed)) ≡ 126 ∷ 255 ∷ []
+  -- then a frame of data on 2 is nothing to the driver
+  pub no_lines : for_driver (Passed (Came (says 2 (13 ∷ 10 ∷ []))) ∷ between armed) ≡ for_driver (between armed)
+  -- with data at once, the first octets that come are data
+  pub at_once : data_came 2 (passes (Passed (Came (says 2 (65 ∷ 13 ∷ []))) ∷ Passed (Began 2 false) ∷ opened)) ≡ 65 ∷ 13 ∷ []
+  -- data goes to the line between two frames of the driver's
+  pub between_two : for_line (Passed (Went (told 1 (65 ∷ []))) ∷ Passed (Left (told 2 (1 ∷ 2 ∷ []))) ∷ Passed (Went (told 1 (66 ∷ []))) ∷ []) ≡ told 1 (66 ∷ []) ∷ told 2 (1 ∷ 2 ∷ []) ∷ told 1 (65 ∷ []) ∷ []
+  -- behind a DISC of 2 that went, one of 0, or a loss, no data may leave, and the lane is over
+  pub before_disc : may_leave 2 (wire (passes (between armed))) ≡ true
+  pub behind_disc : may_leave 2 (wire (passes (Passed (Went (disc 2)) ∷ between armed))) ≡ false
+  pub behind_all : may_leave 2 (wire (passes (Passed (Went (disc 0)) ∷ between armed))) ≡ false
+  pub behind_loss : may_leave 2 (wire (passes (Passed Lost ∷ between armed))) ≡ false
+  pub lane_there : carries 2 (passes (between armed)) ≡ Data
+  pub over_by_disc : carries 2 (passes (Passed (Went (disc 2)) ∷ between armed)) ≡ Idle
+  pub over_by_all : carries 2 (passes (Passed (Went (disc 0)) ∷ between armed)) ≡ Idle
+  pub over_by_loss : carries 2 (passes (Passed Lost ∷ between armed)) ≡ Idle
+  -- what came and wasn't read stays
+  pub stays_readable : data_came 2 (passes (Passed (Went (disc 2)) ∷ between armed)) ≡ 126 ∷ 255 ∷ []
+  -- at the next opening all that comes is the driver's, until a lane begins
+  pub anew : for_driver (Passed (Came (says 2 (7 ∷ []))) ∷ Passed (Came (ua 2)) ∷ Passed (Went (sabm 2)) ∷ Passed (Went (disc 2)) ∷ between armed) ≡ for_driver (between armed) ++ (ua 2 ∷ says 2 (7 ∷ []) ∷ [])
+  -- the relay's own word of flow holds until the other, or the next opening
+  pub held : holds 2 (passes (Passed (Flowed (flow_frame 2 false)) ∷ between armed)) ≡ true
+  pub freed : holds 2 (passes (Passed (Flowed (flow_frame 2 true)) ∷ Passed (Flowed (flow_frame 2 false)) ∷ between armed)) ≡ false
+  pub opened_again : holds 2 (passes (Passed (Came (ua 2)) ∷ Passed (Went (sabm 2)) ∷ Passed (Went (disc 2)) ∷ Passed (Flowed (flow_frame 2 false)) ∷ between armed)) ≡ false
+  -- the driver's own MSC, that 2 may go on, undoes it; one that holds 2 isn't undone by the relay
+  pub undone : holds 2 (passes (Passed (Went (flow_frame 2 true)) ∷ Passed (Flowed (flow_frame 2 false)) ∷ between armed)) ≡ false
+  pub driver_holds_it : flow_by (holds 2 (passes (Passed (Went (flow_frame 2 false)) ∷ between armed))) (driver_holds 2 (passes (Passed (Went (flow_frame 2 false)) ∷ between armed))) 0 ≡ None
+  -- 8191 octets may wait, and 8192 not; then 4096 are still too many, and 4095 not
+  pub full : flow_by false false 8192 ≡ Some false
+  pub not_full : flow_by false false 8191 ≡ None
+  pub still_full : flow_by true false 4096 ≡ None
+  pub free : flow_by true false 4095 ≡ Some true
+
+-- a DISC of the driver's that was taken and hasn't gone: no data may leave
+abbrev pub DiscWaits : Type 0
+DiscWaits = ¬ DriverFirst 31 (Took (spelled (disc 2)) ∷ [])

@@ -1,0 +1,136 @@
+//! What a connection carries, and its data on both ways.
+ghost use Rattle.std.specs.Prelude.{◌≡◌, ◌≤◌, ◌+◌, ◌-◌, ◌++◌, [], length, take, drop, min, not, IfOk, OnErr};
+ghost use Rattle.modem_data.specs.Switching.{is_data_mode, is_idle};
+ghost use Rattle.modem_data.specs.DataLanes.{begun_lane, ended_lane, new_lane, most_to_go, TakesInfo};
+ghost use Rattle.modem_data.specs.Passing.{begin_of};
+
+use crate::octets::Octets;
+use crate::switch::Switch;
+use std::alloc::{AllocError, Global};
+use std::marker::Model;
+
+/// How many octets may wait to leave a connection.
+pub const MOST_TO_GO: usize = 4096;
+
+/// What a connection carries by now, the data that came and was not read yet, and the octets that were given and have not
+/// left yet: at most 4096, in room for twice as many, so that they seldom have to be moved.
+#[derive(Drop)]
+pub struct DataLane {
+    switch: Switch,
+    came: Octets,
+    to_go: Octets,
+}
+
+impl Model for DataLane {
+    ghost use Rattle.std.specs.Prelude.{length};
+    ghost use Rattle.modem_data.specs.DataLanes.{DataLane, HasRoom};
+
+    ghost Value = { DataLane };
+
+    ghost view = { λ l. record { carries = l.switch; came = l.came.items; to_go = l.to_go.items } };
+
+    ghost invariant = { λ l. HasRoom (length l.to_go.items) l.to_go.capacity };
+}
+
+impl DataLane {
+    /// Nothing is data. Refusal: no memory.
+    pub fn new(alloc: Global) -> Result<DataLane, AllocError>
+        ensures { IfOk result (λ l. l ≡ new_lane) }
+    {
+        Ok(DataLane {
+            switch: Switch::idle(),
+            came: Octets::new(alloc),
+            to_go: Octets::with_capacity(alloc, 2 * MOST_TO_GO)?,
+        })
+    }
+
+    /// A lane begins: data comes behind the next CONNECT line, or at once. What was given before isn't sent.
+    pub fn begin(&mut self, by_connect: bool)
+        ensures { self.new ≡ begun_lane self.old (begin_of by_connect) }
+    {
+        if by_connect {
+            self.switch.to_lines();
+        } else {
+            self.switch.to_data();
+        }
+        self.to_go.clear();
+    }
+
+    /// The lane is over. What came and wasn't read stays.
+    pub fn end(&mut self)
+        ensures { self.new ≡ ended_lane self.old }
+    {
+        self.switch.to_idle();
+    }
+
+    /// Whether data may leave.
+    pub fn carries_data(&self) -> bool
+        ensures { result ≡ is_data_mode self.now.carries }
+    {
+        self.switch.is_data()
+    }
+
+    /// Whether no lane is under way.
+    pub fn is_idle(&self) -> bool
+        ensures { result ≡ is_idle self.now.carries }
+    {
+        self.switch.is_idle()
+    }
+
+    /// Takes a frame's information: says how many of the first octets are lines, and keeps the data behind them. Refusal:
+    /// no memory, which changes nothing. None is asked for where the data has room.
+    pub fn take(&mut self, info: &[u8]) -> Result<usize, AllocError>
+        ensures takes { IfOk result (λ count. TakesInfo self.old self.new info.now count) }
+        ensures few { IfOk result (λ count. count ≤ length info.now) }
+        ensures err { OnErr result (self.new ≡ self.old) }
+    {
+        self.came.reserve(info.len())?;
+        let cut = self.switch.cut(info);
+        self.came.put(&info[cut.from..]);
+        Ok(cut.lines)
+    }
+
+    /// Gives the first octets of data that wait, as many as there is room for, and says how many.
+    pub fn read(&mut self, room: &mut [u8]) -> usize
+        ensures count { result ≡ min (length self.old.came) (length room.old) }
+        ensures given { take result room.new ≡ take result self.old.came }
+        ensures behind { drop result room.new ≡ drop result room.old }
+        ensures rest { self.new ≡ record self.old { came = drop result self.old.came } }
+    {
+        self.came.take(room)
+    }
+
+    /// Takes the first octets to be sent, behind those that were given before, as far as 4096 wait then, and says how many.
+    pub fn give(&mut self, octets: &[u8]) -> usize
+        ensures count { result ≡ min (length octets.now) (most_to_go - length self.old.to_go) }
+        ensures few { length self.old.to_go + result ≤ most_to_go }
+        ensures gave { self.new ≡ record self.old { to_go = self.old.to_go ++ take result octets.now } }
+    {
+        let count = octets.len().min(MOST_TO_GO - self.to_go.len());
+        self.to_go.fit(count);
+        self.to_go.put(&octets[..count]);
+        count
+    }
+
+    /// How many octets of data wait to be read.
+    pub fn waiting(&self) -> usize
+        ensures { result ≡ length self.now.came }
+    {
+        self.came.len()
+    }
+
+    /// The octets that wait to leave, lent.
+    pub fn to_go(&self) -> &[u8]
+        ensures { result.now ≡ self.now.to_go }
+    {
+        self.to_go.as_slice()
+    }
+
+    /// The first octets have left. Requires that there are as many.
+    pub fn pass(&mut self, count: usize)
+        requires { count ≤ length self.old.to_go }
+        ensures { self.new ≡ record self.old { to_go = drop count self.old.to_go } }
+    {
+        self.to_go.pass(count);
+    }
+}

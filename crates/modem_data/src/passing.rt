@@ -1,0 +1,111 @@
+//! Frames that pass between the line and a driver.
+ghost use Rattle.std.specs.Prelude.{◌≡◌, ◌≢◌, ◌==◌, ◌++◌, ◌≤◌, ◌<◌, ◌+◌, [], length, take, true, false, None, Some, IfOk, OnErr};
+ghost use Rattle.mux_frame.specs.Frames.{frame_of};
+ghost use Rattle.mux_frame.specs.Spelling.{most_info};
+ghost use Rattle.modem_data.specs.Handing.{PassesIn, PassesOut, PassesOver, handed};
+
+use crate::octets::Octets;
+use crate::pipe::Pipe;
+use mux_frame::{Deframer, FrameView};
+use std::alloc::AllocError;
+
+/// The first octets, or all where there are fewer.
+fn first(octets: &[u8], count: usize) -> &[u8]
+    ensures those { result.now ≡ take count octets.now }
+    ensures few { length result.now ≤ length octets.now }
+{
+    if count < octets.len() {
+        &octets[..count]
+    } else {
+        octets
+    }
+}
+
+/// Writes what of a frame goes on to the driver. Requires that there is room.
+#[tactic(auto, using(crate::proofs::Handed::put_lines))]
+fn hand_on(frame: FrameView<'_>, count: Option<usize>, n1: u16, to_driver: &mut Octets)
+    requires short { length frame.info.now ≤ most_info n1 frame.kind }
+    requires bound { n1 ≤ 32767 }
+    requires room { to_driver.old.len + (length frame.info.now + 7) ≤ to_driver.old.capacity }
+    ensures { to_driver.new.items ≡ to_driver.old.items ++ handed (frame_of frame.entry) count }
+{
+    let Some(count) = count else {
+        to_driver.put_frame(frame, n1);
+        return;
+    };
+    let lines = first(frame.info, count);
+    if lines.is_empty() {
+        return;
+    }
+    let view = FrameView {
+        info: lines,
+        ..frame
+    };
+    to_driver.put_frame(view, n1);
+}
+
+/// Passes the frame at hand, if there is one: to the driver, but for data of the pipe. Says whether there was one. Refusal: no
+/// memory, which changes nothing; the frame stays at hand.
+pub(crate) fn pass_in(
+    deframer: &mut Deframer,
+    pipe: &mut Pipe,
+    n1: u16,
+    to_driver: &mut Octets,
+) -> Result<bool, AllocError>
+    requires same { n1 ≡ deframer.old.n1 }
+    requires bound { n1 ≤ 32767 }
+    ensures passes { IfOk result (λ one. one ≡ true
+        → PassesIn deframer.old.next pipe.old pipe.new to_driver.old.items to_driver.new.items) }
+    ensures over { IfOk result (λ one. one ≡ true → PassesOver deframer.old deframer.new) }
+    ensures n1 { deframer.new.n1 ≡ deframer.old.n1 }
+    ensures shorter { IfOk result (λ one. one ≡ true
+        → length deframer.new.undecided < length deframer.old.undecided) }
+    ensures none { IfOk result (λ one. one ≡ false → deframer.old.next ≡ None) }
+    ensures still { IfOk result (λ one. one ≡ false → (deframer.new ≡ deframer.old) × (pipe.new ≡ pipe.old)
+        × (to_driver.new.items ≡ to_driver.old.items)) }
+    ensures at_hand { OnErr result (deframer.old.next ≢ None) }
+    ensures err { OnErr result ((deframer.new ≡ deframer.old) × (pipe.new ≡ pipe.old)
+        × (to_driver.new.items ≡ to_driver.old.items)) }
+{
+    let Some(frame) = deframer.peek() else {
+        return Ok(false);
+    };
+    to_driver.reserve(frame.info.len() + 7)?;
+    let count = pipe.came(frame)?;
+    hand_on(frame, count, n1, to_driver);
+    deframer.advance();
+    Ok(true)
+}
+
+/// Passes the driver's frame at hand, if there is one, to the line. Says whether there was one. Requires that no octets wait for
+/// the line.
+#[tactic(auto, using(crate::proofs::FrameRoom::has_room))]
+pub(crate) fn pass_out(
+    deframer: &mut Deframer,
+    pipe: &mut Pipe,
+    n1: u16,
+    to_line: &mut Octets,
+) -> bool
+    requires same { n1 ≡ deframer.old.n1 }
+    requires bound { n1 ≤ 32767 }
+    requires none_wait { (length to_line.old.items == 0) ≡ true }
+    requires room { n1 + 7 ≤ to_line.old.capacity }
+    ensures passes { result ≡ true
+        → PassesOut deframer.old.next pipe.old pipe.new to_line.old.items to_line.new.items }
+    ensures over { result ≡ true → PassesOver deframer.old deframer.new }
+    ensures n1 { deframer.new.n1 ≡ deframer.old.n1 }
+    ensures some { result ≡ true → 0 < length to_line.new.items }
+    ensures none { result ≡ false → deframer.old.next ≡ None }
+    ensures still { result ≡ false → (deframer.new ≡ deframer.old) × (pipe.new ≡ pipe.old)
+        × (to_line.new.items ≡ to_line.old.items) }
+    ensures capacity { to_line.old.capacity ≤ to_line.new.capacity }
+{
+    let Some(frame) = deframer.peek() else {
+        return false;
+    };
+    to_line.fit(frame.info.len() + 7);
+    pipe.went(frame);
+    to_line.put_frame(frame, n1);
+    deframer.advance();
+    true
+}

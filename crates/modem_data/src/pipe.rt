@@ -1,0 +1,303 @@
+//! A connection that carries data between the line and a caller, beside a driver.
+ghost use Rattle.std.specs.Prelude.{◌≡◌, ◌≢◌, ◌⊎◌, IsTrue, nat_le, ◌==◌, ◌&&◌, ◌≤◌, ◌<◌, ◌+◌, ◌-◌, ◌++◌, [], length, take, drop, min, Some, None, true, false, Ok, Err, IfOk, OnOk, OnErr};
+ghost use Rattle.mux_frame.specs.Frames.{frame_of};
+ghost use Rattle.mux_frame.specs.declared.frame.Kind.TheVariants.{Uih};
+ghost use Rattle.mux_frame.specs.Spelling.{spelled};
+ghost use Rattle.mux_station.specs.Written.{is_on};
+ghost use Rattle.modem_data.specs.declared.error.DataError.{DataError};
+ghost use Rattle.modem_data.specs.declared.error.DataError.TheVariants as error;
+ghost use Rattle.modem_data.specs.DataLanes.{most_to_go};
+ghost use Rattle.modem_data.specs.Passing.{Came, Went, Flowed, Left, Lost, Began, Gave, Read, flow_by};
+ghost use Rattle.modem_data.specs.Pipes.{BeginsPipe, HandsOn, HasNoneToSend, HasNoData, IsShut, Leads, LeadsLeft, SaysFlow, SaysLane, SaysOver, HasUnread, MayLeave, next_data, saw_pipe, sent_pipe, flowed_pipe, lost_pipe};
+
+use crate::error::DataError;
+use crate::lane::DataLane;
+use crate::octets::Octets;
+use crate::watch::Watch;
+use mux_frame::{Dlci, FrameView, Kind};
+use std::alloc::{AllocError, Global};
+use std::marker::Model;
+
+/// A connection that carries data. A lane begins by a call, and is over where the connection's opening ends.
+#[derive(Drop)]
+pub struct Pipe {
+    watch: Watch,
+    lane: DataLane,
+    held: bool,
+    by_driver: bool,
+}
+
+impl Model for Pipe {
+    ghost use Rattle.modem_data.specs.Pipes.{Pipe};
+
+    ghost Value = { Pipe };
+
+    ghost view = { λ p. record { watch = p.watch; lane = p.lane; held = p.held; by_driver = p.by_driver } };
+}
+
+/// What came of reading.
+#[derive(Clone, Copy)]
+pub struct Reading {
+    /// So many octets were read.
+    pub count: usize,
+    /// The lane is over, and all of its data was read. So it is before the first lane begins.
+    pub is_over: bool,
+}
+
+impl Pipe {
+    /// Nothing has passed, and no lane is under way. Requires another connection than 0. Refusal: no memory.
+    #[tactic(auto, using(crate::proofs::Pipes::new_fits))]
+    pub fn new(alloc: Global, dlci: Dlci) -> Result<Pipe, AllocError>
+        requires { (dlci.number == 0) ≡ false }
+        ensures past { IfOk result (λ v. BeginsPipe dlci.number v) }
+        ensures dlci { IfOk result (λ v. v.watch.dlci ≡ dlci.number) }
+    {
+        Ok(Pipe {
+            watch: Watch::new(dlci),
+            lane: DataLane::new(alloc)?,
+            held: false,
+            by_driver: false,
+        })
+    }
+
+    /// Its connection.
+    pub fn dlci(&self) -> Dlci
+        ensures { result.number ≡ self.now.watch.dlci }
+    {
+        self.watch.dlci()
+    }
+
+    /// A lane begins, of the opening that there is or else of the next: with data behind its next CONNECT line, or at once.
+    /// Refused with 7 UnderWay where one is under way, and else with 8 Unread where data of the last one wasn't read.
+    #[tactic(auto, using(crate::proofs::PipeCalls::leads_began, crate::proofs::PipeCalls::a_lane_is, crate::proofs::PipeCalls::has_unread))]
+    pub fn begin(&mut self, by_connect: bool) -> Result<(), DataError>
+        ensures leads { OnOk result (Leads self.old self.new (Began self.old.watch.dlci by_connect)) }
+        ensures under_way { result ≡ Err error.UnderWay → SaysLane self.old true }
+        ensures unread { result ≡ Err error.Unread → HasUnread self.old }
+        ensures others { OnErr result ((result ≡ Err error.UnderWay) ⊎ (result ≡ Err error.Unread)) }
+        ensures err { OnErr result (self.new ≡ self.old) }
+        ensures same { self.new.watch ≡ self.old.watch }
+    {
+        if !self.lane.is_idle() {
+            return Err(DataError::UnderWay);
+        }
+        if self.lane.waiting() != 0 {
+            return Err(DataError::Unread);
+        }
+        self.lane.begin(by_connect);
+        Ok(())
+    }
+
+    /// A frame came from the line. Of information of a lane says how many of the first octets are lines, for the driver; any other
+    /// frame is the driver's. Refusal: no memory, which changes nothing. None is asked for where the data has room.
+    pub fn came(&mut self, frame: FrameView<'_>) -> Result<Option<usize>, AllocError>
+        ensures leads { OnOk result (Leads self.old self.new (Came (frame_of frame.entry))) }
+        ensures hands { IfOk result (λ count. HandsOn self.old (frame_of frame.entry) count) }
+        ensures err { OnErr result (self.new ≡ self.old) }
+    {
+        if self.watch.is_own_info(frame) {
+            return self.info(frame);
+        }
+        self.saw(frame);
+        Ok(None)
+    }
+
+    /// Information on the connection came. Of a lane says how many of the first octets are lines, for the driver; any other is
+    /// the driver's. Refusal: no memory, which changes nothing. None is asked for where the data has room.
+    #[tactic(auto, using(crate::proofs::Pipes::leads_info, crate::proofs::Pipes::leads_shut, crate::proofs::Pipes::leads_idle, crate::proofs::Pipes::hands_lines, crate::proofs::Pipes::hands_shut, crate::proofs::Pipes::hands_idle))]
+    pub(crate) fn info(&mut self, frame: FrameView<'_>) -> Result<Option<usize>, AllocError>
+        requires { is_on Uih self.old.watch.dlci (frame_of frame) ≡ true }
+        ensures leads { OnOk result (Leads self.old self.new (Came (frame_of frame.entry))) }
+        ensures hands { IfOk result (λ count. HandsOn self.old (frame_of frame.entry) count) }
+        ensures err { OnErr result (self.new ≡ self.old) }
+        ensures same { self.new.watch ≡ self.old.watch }
+    {
+        if !self.watch.is_info(frame) {
+            return Ok(None);
+        }
+        if self.lane.is_idle() {
+            return Ok(None);
+        }
+        let count = self.lane.take(frame.info)?;
+        Ok(Some(count))
+    }
+
+    /// Another frame came.
+    #[tactic(auto, using(crate::proofs::Pipes::leads_saw, crate::proofs::Pipes::hands_other))]
+    pub(crate) fn saw(&mut self, frame: FrameView<'_>)
+        ensures after { self.new ≡ saw_pipe (frame_of frame.entry) self.old }
+        ensures leads { is_on Uih self.old.watch.dlci (frame_of frame.entry) ≡ false
+            → Leads self.old self.new (Came (frame_of frame.entry)) }
+        ensures hands { is_on Uih self.old.watch.dlci (frame_of frame.entry) ≡ false
+            → HandsOn self.old (frame_of frame.entry) None }
+    {
+        if self.watch.ends_by_got(frame) {
+            self.lane.end();
+        }
+        if self.watch.opens(frame) {
+            self.held = false;
+            self.by_driver = false;
+        }
+        self.watch.came(frame);
+    }
+
+    /// A frame of the driver goes to the line.
+    #[tactic(auto, using(crate::proofs::Pipes::leads_went))]
+    pub fn went(&mut self, frame: FrameView<'_>)
+        ensures after { self.new ≡ sent_pipe (frame_of frame.entry) self.old }
+        ensures leads { Leads self.old self.new (Went (frame_of frame.entry)) }
+    {
+        if self.watch.ends_by_sent(frame) {
+            self.lane.end();
+        }
+        self.by_driver = self.watch.said(frame).unwrap_or(self.by_driver);
+        self.held = self.watch.said(frame).unwrap_or(self.held);
+        self.watch.went(frame);
+    }
+
+    /// A frame that says something of the flow goes to the line.
+    pub fn flowed(&mut self, frame: FrameView<'_>)
+        ensures { self.new ≡ flowed_pipe (frame_of frame.entry) self.old }
+    {
+        if self.watch.ends_by_sent(frame) {
+            self.lane.end();
+        }
+        self.held = self.watch.said(frame).unwrap_or(self.held);
+        self.watch.went(frame);
+    }
+
+    /// The line was lost: a lane is over.
+    #[tactic(auto, using(crate::proofs::Pipes::leads_lost))]
+    pub fn lost(&mut self)
+        ensures after { self.new ≡ lost_pipe self.old }
+        ensures leads { Leads self.old self.new Lost }
+    {
+        self.lane.end();
+        self.watch.lost();
+    }
+
+    /// Gives the first octets of data that wait, as many as there is room for, and says how many, and whether that was the end.
+    #[tactic(auto, using(crate::proofs::PipeCalls::leads_read, crate::proofs::PipeCalls::says_over))]
+    pub fn read(&mut self, room: &mut [u8]) -> Reading
+        ensures count { result.count ≡ min (length self.old.lane.came) (length room.old) }
+        ensures leads { Leads self.old self.new (Read self.old.watch.dlci (take result.count room.new)) }
+        ensures over { SaysOver self.new result.is_over }
+        ensures behind { drop result.count room.new ≡ drop result.count room.old }
+        ensures same { self.new.watch ≡ self.old.watch }
+    {
+        let count = self.lane.read(room);
+        let is_over = self.lane.is_idle() & (self.lane.waiting() == 0);
+        Reading { count, is_over }
+    }
+
+    /// Takes the first octets to be sent, behind those that were given before, as far as 4096 wait then, and says how many.
+    /// Refused with 9 NotOpen where the connection isn't open, and else with 10 Lines where it doesn't carry data.
+    #[tactic(auto, using(crate::proofs::PipeCalls::leads_gave, crate::proofs::PipeCalls::is_shut, crate::proofs::PipeCalls::has_no_data))]
+    pub fn give(&mut self, octets: &[u8]) -> Result<usize, DataError>
+        ensures count { IfOk result (λ count. count ≡ min (length octets.now) (most_to_go - length self.old.lane.to_go)) }
+        ensures leads { IfOk result (λ count. Leads self.old self.new (Gave self.old.watch.dlci (take count octets.now))) }
+        ensures not_open { result ≡ Err error.NotOpen → IsShut self.old }
+        ensures no_data { result ≡ Err error.Lines → HasNoData self.old }
+        ensures others { OnErr result ((result ≡ Err error.NotOpen) ⊎ (result ≡ Err error.Lines)) }
+        ensures err { OnErr result (self.new ≡ self.old) }
+        ensures same { self.new.watch ≡ self.old.watch }
+    {
+        if !self.watch.is_open() {
+            return Err(DataError::NotOpen);
+        }
+        if !self.lane.carries_data() {
+            return Err(DataError::Lines);
+        }
+        Ok(self.lane.give(octets))
+    }
+
+    /// What is due to be said of the flow: stop, where 8192 octets wait to be read, or go on, where fewer than 4096 do; but not
+    /// where the driver holds the connection.
+    #[tactic(auto, using(crate::proofs::PipeCalls::says_flow, crate::proofs::PipeCalls::idle_flow, crate::proofs::PipeCalls::shut_flow))]
+    pub fn flow(&self) -> Option<bool>
+        ensures { SaysFlow self.now result }
+    {
+        if self.lane.is_idle() {
+            return None;
+        }
+        if !self.watch.is_open() {
+            return None;
+        }
+        flow_by(self.held, self.by_driver, self.lane.waiting())
+    }
+
+    /// Whether a frame of data may leave.
+    #[tactic(auto, using(crate::proofs::PipeCalls::none_by_lines, crate::proofs::PipeCalls::none_by_watch, crate::proofs::PipeCalls::none_wait, crate::proofs::PipeCalls::may_go))]
+    pub(crate) fn is_ready(&self) -> bool
+        ensures none { result ≡ false → HasNoneToSend self.now }
+        ensures some { result ≡ true → MayLeave self.now }
+    {
+        let carries_data = self.lane.carries_data();
+        if !carries_data {
+            return false;
+        }
+        if !self.watch.may_leave() {
+            return false;
+        }
+        !self.lane.to_go().is_empty()
+    }
+
+    /// Puts the next frame of data behind the output. Requires that one may leave, and that there is room.
+    #[tactic(auto, using(crate::proofs::PipeCalls::leads_left))]
+    pub(crate) fn put_next(&mut self, n1: u16, output: &mut Octets)
+        requires ready { MayLeave self.old }
+        requires some { 1 ≤ n1 }
+        requires bound { n1 ≤ 32767 }
+        requires room { output.old.len + (n1 + 7) ≤ output.old.capacity }
+        ensures left { LeadsLeft n1 self.old self.new (next_data n1 self.old) }
+        ensures written { output.new.items ≡ output.old.items ++ spelled (next_data n1 self.old) }
+        ensures some { 0 < length output.new.items }
+        ensures capacity { output.old.capacity ≤ output.new.capacity }
+        ensures same { self.new.watch ≡ self.old.watch }
+    {
+        let octets = self.lane.to_go();
+        let count = front(octets, n1);
+        let frame = FrameView {
+            dlci: self.watch.dlci(),
+            kind: Kind::Uih,
+            cr: true,
+            pf: false,
+            info: &octets[..count],
+        };
+        output.put_frame(frame, n1);
+        self.lane.pass(count);
+    }
+}
+
+/// How many of some octets go into a frame. Requires that there are some.
+fn front(octets: &[u8], n1: u16) -> usize
+    requires some { length octets.now ≢ 0 }
+    requires n1 { 1 ≤ n1 }
+    ensures few { result ≤ length octets.now }
+    ensures short { result ≤ n1 }
+    ensures taken { take result octets.now ≡ take n1 octets.now }
+    ensures dropped { drop result octets.now ≡ drop n1 octets.now }
+    ensures fits { IsTrue (nat_le (length (take n1 octets.now)) n1) }
+    ensures goes { IsTrue (nat_le 1 (length (take n1 octets.now))) }
+{
+    let most = usize::from(n1);
+    if octets.len() < most {
+        octets.len()
+    } else {
+        most
+    }
+}
+
+/// What is to be said of the flow where so many octets wait.
+fn flow_by(held: bool, by_driver: bool, waiting: usize) -> Option<bool>
+    ensures { result ≡ flow_by held by_driver waiting }
+{
+    if !held {
+        return if waiting >= 8192 { Some(false) } else { None };
+    }
+    if !by_driver && waiting < 4096 {
+        Some(true)
+    } else {
+        None
+    }
+}

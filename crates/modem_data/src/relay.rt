@@ -1,0 +1,336 @@
+//! A relay between the line and a driver, with one connection that carries data.
+ghost use Rattle.std.specs.Prelude.{◌≡◌, ◌≢◌, ◌⊎◌, ◌==◌, ◌≤◌, ◌<◌, ◌-◌, ◌++◌, [], ℕ, List, length, take, drop, min, None, true, false, Err, IfOk, OnOk, OnErr};
+ghost use Rattle.modem_data.specs.declared.error.DataError.TheVariants as error;
+ghost use Rattle.modem_data.specs.DataLanes.{most_to_go};
+ghost use Rattle.modem_data.specs.Passing.{Came, Went, Flowed, Left, Lost, Began, Gave, Read, flow_frame};
+ghost use Rattle.modem_data.specs.Pipes.{HasNoData, HasNoneToSend, HasUnread, IsShut, SaysFlow, SaysLane, SaysOver};
+ghost use Rattle.modem_data.specs.Hops.{Fed, Handed, Took, Wrote, Passed, Hops, HopsBy, BeginsRelay, AllCame, HoldsNothing, LineIn, PassesOn, OneOut};
+
+use crate::error::DataError;
+use crate::octets::Octets;
+use crate::passing::{pass_in, pass_out};
+use crate::pipe::{Pipe, Reading};
+use mux_frame::laws::deframed;
+use mux_frame::{Deframer, Dlci, FrameView, Kind};
+use std::alloc::{AllocError, Global};
+use std::marker::Model;
+
+/// A relay: the frames of the line go on to the driver, and those of the driver to the line, but for data.
+#[derive(Drop)]
+pub struct Relay {
+    outer: Deframer,
+    inner: Deframer,
+    pipe: Pipe,
+    to_driver: Octets,
+    to_line: Octets,
+    n1: u16,
+}
+
+impl Model for Relay {
+    ghost use Rattle.modem_data.specs.Hops.{Relay};
+    ghost use Rattle.modem_data.specs.Relays.{KeepsN1};
+
+    ghost Value = { Relay };
+
+    ghost view = { λ r. record {
+      outer = r.outer;
+      inner = r.inner;
+      pipe = r.pipe;
+      to_driver = r.to_driver.items;
+      to_line = r.to_line.items;
+    } };
+
+    ghost invariant = { λ r. KeepsN1 r.n1 r.to_line.capacity r.outer r.inner };
+}
+
+/// What came of octets that were given.
+#[derive(Clone, Copy)]
+pub struct Input {
+    /// So many were taken.
+    pub taken: usize,
+    /// Memory was wanted: a frame is at hand that hasn't passed.
+    pub is_blocked: bool,
+}
+
+impl Relay {
+    /// Nothing has passed. The connection may carry data; no lane is under way. N1 is the most octets of information that a frame
+    /// may have. Refused with 3 ControlChannel, with 2 BadN1 where N1 isn't 31 to 32767, and with 1 NoMemory.
+    #[tactic(auto, using(crate::proofs::Relays::begins))]
+    pub fn new(alloc: Global, n1: u16, dlci: Dlci) -> Result<Relay, DataError>
+        ensures past { IfOk result (λ v. BeginsRelay n1 dlci.number v) }
+        ensures control { result ≡ Err error.ControlChannel → (dlci.number == 0) ≡ true }
+        ensures bad_n1 { result ≡ Err error.BadN1 → (n1 < 31) ⊎ (32767 < n1) }
+        ensures others { OnErr result ((result ≡ Err error.ControlChannel) ⊎ ((result ≡ Err error.BadN1) ⊎ (result ≡ Err error.NoMemory))) }
+    {
+        if dlci.number() == 0 {
+            return Err(DataError::ControlChannel);
+        }
+        if n1 < 31 || n1 > 32767 {
+            return Err(DataError::BadN1);
+        }
+        let Ok(outer) = Deframer::new(alloc, n1) else {
+            return Err(DataError::NoMemory);
+        };
+        let Ok(inner) = Deframer::new(alloc, n1) else {
+            return Err(DataError::NoMemory);
+        };
+        let to_line = Octets::with_capacity(alloc, usize::from(n1) + 7)?;
+        Ok(Relay {
+            outer,
+            inner,
+            pipe: Pipe::new(alloc, dlci)?,
+            to_driver: Octets::new(alloc),
+            to_line,
+            n1,
+        })
+    }
+
+    /// The connection that may carry data.
+    pub fn dlci(&self) -> Dlci
+        ensures { result.number ≡ self.now.pipe.watch.dlci }
+    {
+        self.pipe.dlci()
+    }
+
+    /// A lane of the connection begins, of the opening that there is or else of the next: with data behind its next CONNECT line, or
+    /// at once. Refused with 7 UnderWay where one is under way, and else with 8 Unread where data of the last one wasn't read.
+    pub fn begin(&mut self, by_connect: bool) -> Result<(), DataError>
+        ensures began { OnOk result (Hops self.old self.new (Passed (Began self.old.pipe.watch.dlci by_connect))) }
+        ensures under_way { result ≡ Err error.UnderWay → SaysLane self.old.pipe true }
+        ensures unread { result ≡ Err error.Unread → HasUnread self.old.pipe }
+        ensures others { OnErr result ((result ≡ Err error.UnderWay) ⊎ (result ≡ Err error.Unread)) }
+        ensures err { OnErr result (self.new ≡ self.old) }
+    {
+        self.pipe.begin(by_connect)
+    }
+
+    /// Gives the first octets of data that wait, as many as there is room for, and says how many, and whether that was the end of
+    /// the lane.
+    pub fn read(&mut self, room: &mut [u8]) -> Reading
+        ensures count { result.count ≡ min (length self.old.pipe.lane.came) (length room.old) }
+        ensures read { Hops self.old self.new (Passed (Read self.old.pipe.watch.dlci (take result.count room.new))) }
+        ensures over { SaysOver self.new.pipe result.is_over }
+        ensures behind { drop result.count room.new ≡ drop result.count room.old }
+    {
+        self.pipe.read(room)
+    }
+
+    /// Takes the first octets to be sent as data, behind those that were given before, as far as 4096 wait then, and says how many.
+    /// Refused with 9 NotOpen where the connection isn't open, and else with 10 Lines where it doesn't carry data.
+    pub fn give(&mut self, octets: &[u8]) -> Result<usize, DataError>
+        ensures count { IfOk result (λ count. count ≡ min (length octets.now) (most_to_go - length self.old.pipe.lane.to_go)) }
+        ensures gave { IfOk result (λ count. Hops self.old self.new (Passed (Gave self.old.pipe.watch.dlci (take count octets.now)))) }
+        ensures not_open { result ≡ Err error.NotOpen → IsShut self.old.pipe }
+        ensures no_data { result ≡ Err error.Lines → HasNoData self.old.pipe }
+        ensures others { OnErr result ((result ≡ Err error.NotOpen) ⊎ (result ≡ Err error.Lines)) }
+        ensures err { OnErr result (self.new ≡ self.old) }
+    {
+        self.pipe.give(octets)
+    }
+
+    /// The line was lost: a lane is over, and no data leaves.
+    pub fn lost(&mut self)
+        ensures { Hops self.old self.new (Passed Lost) }
+    {
+        self.pipe.lost();
+    }
+
+    /// Takes octets of the line, as many as there is room for, and says how many.
+    fn feed_line(&mut self, octets: &[u8]) -> usize
+        ensures fed { Hops self.old self.new (Fed (take result octets.now)) }
+        ensures few { result ≤ length octets.now }
+        ensures some { self.old.outer.next ≡ None → 0 < length octets.now → 0 < result }
+    {
+        self.outer.feed(octets)
+    }
+
+    /// Takes octets of the driver, as many as there is room for, and says how many. There is room for some where no frame of the
+    /// driver's is at hand, as when `ready` says no.
+    pub fn feed_driver(&mut self, octets: &[u8]) -> usize
+        ensures took { Hops self.old self.new (Took (take result octets.now)) }
+        ensures few { result ≤ length octets.now }
+        ensures some { self.old.inner.next ≡ None → 0 < length octets.now → 0 < result }
+    {
+        self.inner.feed(octets)
+    }
+
+    /// The octets that wait for the driver, lent.
+    pub fn for_driver(&self) -> &[u8]
+        ensures { result.now ≡ self.now.to_driver }
+    {
+        self.to_driver.as_slice()
+    }
+
+    /// So many of the octets for the driver were given to it. Requires that there are as many.
+    pub fn handed(&mut self, count: usize)
+        requires { count ≤ length self.old.to_driver }
+        ensures { Hops self.old self.new (Handed (take count self.old.to_driver)) }
+    {
+        self.to_driver.pass(count);
+    }
+
+    /// The octets that wait for the line, lent.
+    pub fn for_line(&self) -> &[u8]
+        ensures { result.now ≡ self.now.to_line }
+    {
+        self.to_line.as_slice()
+    }
+
+    /// So many of the octets for the line were given to it. Requires that there are as many.
+    pub fn wrote(&mut self, count: usize)
+        requires { count ≤ length self.old.to_line }
+        ensures { Hops self.old self.new (Wrote (take count self.old.to_line)) }
+    {
+        self.to_line.pass(count);
+    }
+
+    /// Passes the line's frame at hand, if there is one, and says whether there was one. Refusal: no memory, which changes nothing.
+    fn pass_line(&mut self) -> Result<bool, AllocError>
+        ensures came { IfOk result (λ one. one ≡ true → HopsBy self.old self.new (λ f. Passed (Came f))) }
+        ensures none { IfOk result (λ one. one ≡ false → AllCame self.old) }
+        ensures at_hand { IfOk result (λ one. one ≡ false → self.old.outer.next ≡ None) }
+        ensures shorter { IfOk result (λ one. one ≡ true
+            → length self.new.outer.undecided < length self.old.outer.undecided) }
+        ensures still { IfOk result (λ one. one ≡ false → self.new ≡ self.old) }
+        ensures blocks { OnErr result (self.old.outer.next ≢ None) }
+        ensures err { OnErr result (self.new ≡ self.old) }
+    {
+        deframed();
+        pass_in(
+            &mut self.outer,
+            &mut self.pipe,
+            self.n1,
+            &mut self.to_driver,
+        )
+    }
+
+    /// Passes all frames of the line that are at hand. Refusal: no memory, where the frame that needed it stays at hand.
+    #[tactic(auto, using(crate::proofs::Relays::passes_none, crate::proofs::Relays::passes_one))]
+    fn pass_all(&mut self) -> Result<(), AllocError>
+        ensures passes { PassesOn self.old self.new }
+        ensures all { OnOk result (AllCame self.new) }
+        ensures blocks { OnErr result (self.new.outer.next ≢ None) }
+        ensures none { OnOk result (self.new.outer.next ≡ None) }
+    {
+        while self.pass_line()? {}
+        Ok(())
+    }
+
+    /// Takes octets of the line and passes the frames that they make. Where it isn't blocked, it took all, and every frame passed.
+    /// Where it is, for want of memory, it keeps what it took: call it again with the octets behind those, or with none.
+    #[tactic(auto, using(crate::proofs::Relays::line_none, crate::proofs::Relays::line_on))]
+    pub fn from_line(&mut self, octets: &[u8]) -> Input
+        ensures takes { LineIn self.old self.new (take result.taken octets.now) }
+        ensures few { result.taken ≤ length octets.now }
+        ensures taken { result.is_blocked ≡ false → result.taken ≡ length octets.now }
+        ensures blocks { result.is_blocked ≡ true → self.new.outer.next ≢ None }
+        ensures all { result.is_blocked ≡ false → AllCame self.new }
+    {
+        let mut taken = 0;
+        loop {
+            if self.pass_all().is_err() {
+                return Input {
+                    taken,
+                    is_blocked: true,
+                };
+            }
+            if taken == octets.len() {
+                return Input {
+                    taken,
+                    is_blocked: false,
+                };
+            }
+            taken += self.feed_line(&octets[taken..]);
+        }
+    }
+
+    /// Passes the driver's frame at hand, if there is one, and says whether there was one. Requires that no octets wait for the line.
+    fn pass_driver(&mut self) -> bool
+        requires { (length self.old.to_line == 0) ≡ true }
+        ensures went { result ≡ true → HopsBy self.old self.new (λ f. Passed (Went f)) }
+        ensures none { result ≡ false → self.old.inner.next ≡ None }
+        ensures some { result ≡ true → 0 < length self.new.to_line }
+        ensures still { result ≡ false → self.new ≡ self.old }
+    {
+        pass_out(&mut self.inner, &mut self.pipe, self.n1, &mut self.to_line)
+    }
+
+    /// Puts the next frame of data for the line, where one may leave, and says whether there was one. Requires that every frame of
+    /// the driver's has gone, and that no octets wait for the line.
+    #[tactic(auto, using(crate::proofs::FrameRoom::room_for))]
+    fn put_data(&mut self) -> bool
+        requires first { self.old.inner.next ≡ None }
+        requires none_wait { (length self.old.to_line == 0) ≡ true }
+        ensures left { result ≡ true → HopsBy self.old self.new (λ f. Passed (Left f)) }
+        ensures none { result ≡ false → HasNoneToSend self.old.pipe }
+        ensures some { result ≡ true → 0 < length self.new.to_line }
+        ensures still { result ≡ false → self.new ≡ self.old }
+    {
+        deframed();
+        if !self.pipe.is_ready() {
+            return false;
+        }
+        self.to_line.fit(usize::from(self.n1) + 7);
+        self.pipe.put_next(self.n1, &mut self.to_line);
+        true
+    }
+
+    /// Says to the other end that it may not go on with its data, where 8192 octets wait, or that it may, where fewer than 4096 do, by
+    /// an MSC, and answers whether it said anything. Requires that every frame of the driver's has gone, and that no octets wait.
+    #[tactic(auto, using(crate::proofs::FrameRoom::room_for))]
+    fn put_flow(&mut self) -> bool
+        requires first { self.old.inner.next ≡ None }
+        requires none_wait { (length self.old.to_line == 0) ≡ true }
+        ensures flowed { result ≡ true → HopsBy self.old self.new (λ f. Passed (Flowed f)) }
+        ensures none { result ≡ false → SaysFlow self.old.pipe None }
+        ensures some { result ≡ true → 0 < length self.new.to_line }
+        ensures still { result ≡ false → self.new ≡ self.old }
+    {
+        deframed();
+        let Some(go) = self.pipe.flow() else {
+            return false;
+        };
+        self.to_line.fit(11);
+        let info = flow_info(self.pipe.dlci(), go);
+        let frame = FrameView {
+            dlci: Dlci::CONTROL,
+            kind: Kind::Uih,
+            cr: true,
+            pf: false,
+            info: &info,
+        };
+        self.to_line.put_frame(frame, self.n1);
+        self.pipe.flowed(frame);
+        true
+    }
+
+    /// Makes the next frame for the line where no octets wait for it: the driver's, or else one that says something of the flow, or
+    /// one of data. Says whether octets wait. Where none do, nothing may go to the line.
+    #[tactic(auto, using(crate::proofs::Relays::out_waits, crate::proofs::Relays::out_goes, crate::proofs::Relays::out_flows, crate::proofs::Relays::out_leaves))]
+    pub fn ready(&mut self) -> bool
+        ensures one { OneOut self.old self.new }
+        ensures some { result ≡ true → 0 < length self.new.to_line }
+        ensures none { result ≡ false → HoldsNothing self.new }
+        ensures still { 0 < length self.old.to_line → self.new ≡ self.old }
+    {
+        deframed();
+        if !self.to_line.is_empty() {
+            return true;
+        }
+        if self.pass_driver() {
+            return true;
+        }
+        if self.put_flow() {
+            return true;
+        }
+        self.put_data()
+    }
+}
+
+/// The information of an MSC that says whether the other end may go on (27.010, 5.4.6.3.7).
+fn flow_info(dlci: Dlci, go: bool) -> [u8; 4]
+    ensures { result ≡ (flow_frame dlci.number go).info }
+{
+    let signals = if go { 0x8D } else { 0x8F };
+    [0xE3, 5, 4 * dlci.number() + 3, signals]
+}
