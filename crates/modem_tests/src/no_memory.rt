@@ -1,7 +1,6 @@
 //! The calls that take no memory, each between two marks on standard output, by which a counter of allocations knows them.
 use std::io::Print;
 
-mod desk;
 mod driver;
 mod sims;
 mod station;
