@@ -18,8 +18,6 @@ mod program;
 #[cfg(test)]
 mod reset;
 #[cfg(test)]
-mod sizes;
-#[cfg(test)]
 mod station;
 #[cfg(test)]
 mod ticking;

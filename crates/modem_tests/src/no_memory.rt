@@ -3,7 +3,6 @@ use std::io::Print;
 
 mod driver;
 mod sims;
-mod station;
 
 // The calls of this name begin.
 fn begin(rt: &impl Print, call: &str) {
