@@ -1,6 +1,5 @@
-//! The tests of what stored runs can't show: of frames, a station, lines of octets and the desk, of the core, a session
-//! that ticks and one that follows another, of a drive with its threads, of sizes, of the program's runs, and of which calls take no
-//! memory.
+//! The tests of what stored runs can't show, and that stand above the driver: of the core, a session that ticks and one that follows
+//! another, of a drive with its threads, of the program's runs, and of which calls take no memory.
 #![tactic(auto)]
 
 #[cfg(test)]
@@ -17,8 +16,6 @@ mod no_memory;
 mod program;
 #[cfg(test)]
 mod reset;
-#[cfg(test)]
-mod sizes;
 #[cfg(test)]
 mod station;
 #[cfg(test)]

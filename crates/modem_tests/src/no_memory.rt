@@ -1,10 +1,8 @@
 //! The calls that take no memory, each between two marks on standard output, by which a counter of allocations knows them.
 use std::io::Print;
 
-mod desk;
 mod driver;
 mod sims;
-mod station;
 
 // The calls of this name begin.
 fn begin(rt: &impl Print, call: &str) {
