@@ -4,6 +4,8 @@
 #[cfg(test)]
 mod dialects;
 #[cfg(test)]
+mod made;
+#[cfg(test)]
 mod no_memory;
 #[cfg(test)]
 mod sizes;

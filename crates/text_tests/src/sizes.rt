@@ -1,55 +1,56 @@
 //! Large sizes, at which giving up would cost a user: where there is memory, the calls succeed.
+use crate::made::{made, window_of};
 use at_cmds::{Command, PinState, Reply};
 use at_text::*;
-use std::test::Fail;
+use std::alloc::Global;
+use std::process::Abort;
+use std::test::*;
 
-// The lines of an answer, the final code among them.
-fn answered(window: &mut Window, lines: usize) -> Result<usize, Fail> {
-    for _ in 0..lines {
-        let Seen::Kept = window.see(b"+CMGL: 1")? else {
-            return Err("a line isn't kept".into());
-        };
-    }
-    match window.see(b"OK")? {
-        Seen::Done(answer) => Ok(answer.as_slice().len()),
-        _ => Err("no answer".into()),
+fn keeps(rt: &impl Abort, window: &mut Window, line: &[u8]) {
+    let seen = made(rt, window.see(line));
+    assert!(rt; seen == Seen::Kept);
+}
+
+// The lines of the answer that OK ends.
+fn answered(rt: &impl Abort, window: &mut Window) -> AnswerLines {
+    match made(rt, window.see(b"OK")) {
+        Seen::Done(answer) => answer,
+        _ => panic!(rt; "no answer"),
     }
 }
 
 // An answer of 300 lines and its final code.
 #[test]
-fn a_window_of_300_lines(rt: HostRuntime) -> Result<(), Fail> {
-    let alloc = rt.alloc();
-    let line = CommandLine::new(alloc, b"AT+CMGL=4")?;
-    let mut window = Window::new(alloc);
-    window.begin(&line);
-    assert!(rt; answered(&mut window, 300)? == 301);
-    Ok(())
+fn a_window_of_300_lines(rt: HostRuntime) {
+    let mut window = window_of(&rt, rt.alloc(), b"AT+CMGL=4");
+    for _ in 0..300 {
+        keeps(&rt, &mut window, b"+CMGL: 1");
+    }
+    let answer = answered(&rt, &mut window);
+    assert!(rt; answer.as_slice().len() == 301);
 }
 
-// What is wanted of a SIM, in a text of 200 octets.
-#[test]
-fn a_pin_text_of_200_octets(rt: HostRuntime) -> Result<(), Fail> {
-    let alloc = rt.alloc();
-    let mut line = Vec::from_slice(alloc, b"+CPIN: ")?;
-    for _ in 0..200 {
-        line.push(b'P')?;
+// A text of 200 octets for what is wanted of a SIM.
+fn long_line(rt: &impl Abort, alloc: Global) -> Vec<u8> {
+    let mut line = made(rt, Vec::from_slice(alloc, b"+CPIN: "));
+    let text = [b'P'; 200];
+    assert!(rt; line.extend_from_slice(&text).is_ok());
+    line
+}
+
+// How long it is as it is read.
+fn length_read(rt: &impl Abort, alloc: Global, answer: &AnswerLines) -> usize {
+    match Reply::read(alloc, &Command::PinQuery, answer.as_slice()) {
+        Ok(Reply::Pin(PinState::Other(text))) => text.as_slice().len(),
+        _ => panic!(rt; "no text of its own"),
     }
-    let mut window = Window::new(alloc);
-    window.begin(&CommandLine::new(alloc, b"AT+CPIN?")?);
-    let Seen::Kept = window.see(line.as_slice())? else {
-        return Err("the line isn't kept".into());
-    };
-    let Seen::Done(answer) = window.see(b"OK")? else {
-        return Err("no answer".into());
-    };
-    let Ok(Reply::Pin(PinState::Other(text))) = Reply::read(
-        alloc,
-        &Command::PinQuery,
-        answer.as_slice(),
-    ) else {
-        return Err("no text of its own".into());
-    };
-    assert!(rt; text.as_slice().len() == 200);
-    Ok(())
+}
+
+#[test]
+fn a_pin_text_of_200_octets(rt: HostRuntime) {
+    let line = long_line(&rt, rt.alloc());
+    let mut window = window_of(&rt, rt.alloc(), b"AT+CPIN?");
+    keeps(&rt, &mut window, line.as_slice());
+    let answer = answered(&rt, &mut window);
+    assert!(rt; length_read(&rt, rt.alloc(), &answer) == 200);
 }
