@@ -1,6 +1,7 @@
 //! Bells.
+use crate::made::made;
 use bell::Bell;
-use std::test::Fail;
+use std::test::*;
 use std::thread;
 use std::time::Duration;
 
@@ -10,9 +11,9 @@ fn long() -> Duration {
 }
 
 #[test]
-fn a_ring_ends_the_next_wait_and_an_end_is_seen_by_all_shares(rt: HostRuntime) -> Result<(), Fail> {
-    let bell = Bell::new(rt.alloc())?;
-    let other = bell.share()?;
+fn a_ring_ends_the_next_wait_and_an_end_is_seen_by_all_shares(rt: HostRuntime) {
+    let bell = made(&rt, Bell::new(rt.alloc()));
+    let other = made(&rt, bell.share());
     other.ring();
     bell.wait(&rt, long());
     bell.wait(&rt, Duration::from_millis(1));
@@ -20,13 +21,12 @@ fn a_ring_ends_the_next_wait_and_an_end_is_seen_by_all_shares(rt: HostRuntime) -
     other.end();
     bell.wait(&rt, long());
     assert!(rt; bell.is_over() && other.is_over());
-    Ok(())
 }
 
 #[test]
-fn a_ring_wakes_the_thread_that_waits(rt: HostRuntime) -> Result<(), Fail> {
-    let bell = Bell::new(rt.alloc())?;
-    let other = bell.share()?;
+fn a_ring_wakes_the_thread_that_waits(rt: HostRuntime) {
+    let bell = made(&rt, Bell::new(rt.alloc()));
+    let other = made(&rt, bell.share());
     let there = &other;
     let here = &bell;
     thread::join(
@@ -37,5 +37,4 @@ fn a_ring_wakes_the_thread_that_waits(rt: HostRuntime) -> Result<(), Fail> {
             there.ring()
         },
     );
-    Ok(())
 }

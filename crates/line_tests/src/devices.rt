@@ -1,6 +1,7 @@
 //! The line of a device whose calls wait.
 ghost use Rattle.std.specs.Prelude.{◌≤◌, IfOk};
 
+use crate::made::made;
 use crate::threads::long_text;
 use bell::Bell;
 use device_line::{DeviceLine, FlowEnd, RingReader, RingWriter, drain, leave, line_over, pump};
@@ -12,7 +13,7 @@ use std::process::Abort;
 use std::rt::Clock;
 use std::sync::Wait;
 use std::sync::atomic::{AtomicU64, Ordering};
-use std::test::Fail;
+use std::test::*;
 use std::thread::Threads;
 use std::time::Duration;
 use std::{io, thread};
@@ -85,44 +86,45 @@ fn clock_by(step: u64) -> Steps {
     }
 }
 
+// A new bell.
+fn bell(rt: &impl Abort, alloc: Global) -> Bell {
+    made(rt, Bell::new(alloc))
+}
+
 // How a device with these answers is read to its end, by how many reads, and how many octets came.
 fn read_by(
+    rt: &impl Abort,
     alloc: Global,
     step: u64,
     zero: ZeroRead,
     answers: &[Result<usize, ErrorKind>],
-) -> Result<(FlowEnd, usize, usize), Fail> {
-    let bell = Bell::new(alloc)?;
-    let own = Bell::new(alloc)?;
-    let (mut ring, mut octets) = RingBuffer::new(alloc, 1024)?;
+) -> (FlowEnd, usize, usize) {
+    let (bell, own) = (bell(rt, alloc), bell(rt, alloc));
+    let (mut ring, mut octets) = made(rt, RingBuffer::new(alloc, 1024));
     let mut device = Answers::of(answers);
     let end = pump(&clock_by(step), &mut device, &mut ring, &bell, &own, zero);
-    let came = octets.slots();
-    Ok((end, device.calls, came))
+    (end, device.calls, octets.slots())
 }
 
 #[test]
-fn eight_empty_reads_in_a_row_that_come_back_at_once_are_a_hang_up(
-    rt: HostRuntime,
-) -> Result<(), Fail> {
-    let alloc = rt.alloc();
-    let mut answers = [Ok(0); 20];
-    let got = read_by(alloc, 1, ZeroRead::Quiet, &answers)?;
-    assert!(rt; got == (FlowEnd::Ended, 8, 0));
-    // Reads that take a while are just quiet: behind the last answer the device fails.
-    let got = read_by(alloc, 100, ZeroRead::Quiet, &answers)?;
-    assert!(rt; got == (FlowEnd::Failed, 21, 0));
-    let got = read_by(alloc, 100, ZeroRead::Ended, &answers)?;
-    assert!(rt; got == (FlowEnd::Ended, 1, 0));
+fn eight_empty_reads_in_a_row_that_come_back_at_once_are_a_hang_up(rt: HostRuntime) {
+    let empty = [Ok(0); 20];
     // Octets between them begin the row anew.
+    let mut answers = empty;
     answers[7] = Ok(3);
-    let got = read_by(alloc, 1, ZeroRead::Quiet, &answers)?;
-    assert!(rt; got == (FlowEnd::Ended, 16, 3));
-    Ok(())
+    // Reads that take a while are just quiet: behind the last answer the device fails.
+    for (step, zero, answers, want) in [
+        (1, ZeroRead::Quiet, &empty, (FlowEnd::Ended, 8, 0)),
+        (100, ZeroRead::Quiet, &empty, (FlowEnd::Failed, 21, 0)),
+        (100, ZeroRead::Ended, &empty, (FlowEnd::Ended, 1, 0)),
+        (1, ZeroRead::Quiet, &answers, (FlowEnd::Ended, 16, 3)),
+    ] {
+        assert!(rt; read_by(&rt, rt.alloc(), step, zero, answers) == want);
+    }
 }
 
 #[test]
-fn a_read_that_may_be_made_again_is(rt: HostRuntime) -> Result<(), Fail> {
+fn a_read_that_may_be_made_again_is(rt: HostRuntime) {
     let answers = [
         Ok(5),
         Err(ErrorKind::Interrupted),
@@ -132,9 +134,8 @@ fn a_read_that_may_be_made_again_is(rt: HostRuntime) -> Result<(), Fail> {
         Err(ErrorKind::BrokenPipe),
         Ok(9),
     ];
-    let got = read_by(rt.alloc(), 1, ZeroRead::Quiet, &answers)?;
+    let got = read_by(&rt, rt.alloc(), 1, ZeroRead::Quiet, &answers);
     assert!(rt; got == (FlowEnd::Failed, 6, 12));
-    Ok(())
 }
 
 // Longer than a test may last: a wait that isn't rung for fails it.
@@ -246,14 +247,18 @@ fn to_device<R: Threads + Wait + Sync>(
     Ok(written)
 }
 
+// It went whole, and the end was seen.
+fn is_whole(rt: &impl Abort, went: &(FlowEnd, Vec<u8>), text: &[u8]) {
+    assert!(rt; went.0 == FlowEnd::Ended && went.1.as_slice() == text);
+}
+
 #[test]
-fn a_text_goes_through_the_line_of_a_device_each_way(rt: HostRuntime) -> Result<(), Fail> {
-    let text = long_text(rt.alloc(), 10_000)?;
-    let (end, came) = from_device(&rt, rt.alloc(), &text)?;
-    assert!(rt; end == FlowEnd::Ended && came.as_slice() == text.as_slice());
-    let (end, went) = to_device(&rt, rt.alloc(), &text)?;
-    assert!(rt; end == FlowEnd::Ended && went.as_slice() == text.as_slice());
-    Ok(())
+fn a_text_goes_through_the_line_of_a_device_each_way(rt: HostRuntime) {
+    let text = made(&rt, long_text(rt.alloc(), 10_000));
+    let came = made(&rt, from_device(&rt, rt.alloc(), &text));
+    is_whole(&rt, &came, &text);
+    let went = made(&rt, to_device(&rt, rt.alloc(), &text));
+    is_whole(&rt, &went, &text);
 }
 
 // Memory and threads may be refused between its two marks.
@@ -264,11 +269,11 @@ fn a_text_goes_whole_through_the_line_of_a_device_or_memory_is_refused(rt: HostR
     let read = from_device(&rt, rt.alloc(), text);
     let written = to_device(&rt, rt.alloc(), text);
     let _ = rt.println("<");
-    if let Ok((end, came)) = read {
-        assert!(rt; end == FlowEnd::Ended && came.as_slice() == text.as_slice());
+    if let Ok(came) = &read {
+        is_whole(&rt, came, text);
     }
-    if let Ok((end, went)) = written {
-        assert!(rt; end == FlowEnd::Ended && went.as_slice() == text.as_slice());
+    if let Ok(went) = &written {
+        is_whole(&rt, went, text);
     }
 }
 
@@ -277,63 +282,80 @@ fn written_by(
     rt: &(impl Wait + Abort),
     alloc: Global,
     answers: &[Result<usize, ErrorKind>],
-) -> Result<(FlowEnd, usize), Fail> {
-    let bell = Bell::new(alloc)?;
-    let own = Bell::new(alloc)?;
-    let (mut line, _, mut ring) = line(alloc, &own)?;
+) -> (FlowEnd, usize) {
+    let (bell, own) = (bell(rt, alloc), bell(rt, alloc));
+    let (mut line, _, mut ring) = made(rt, line(alloc, &own));
     assert!(rt; line.try_write(b"abcde") == Ok(5));
     leave(line, &own);
     let mut device = Answers::of(answers);
     let end = drain(rt, &mut device, &mut ring, &bell, &own);
-    Ok((end, device.calls))
+    (end, device.calls)
 }
 
 #[test]
-fn a_write_that_fails_or_takes_nothing_ends_the_writing(rt: HostRuntime) -> Result<(), Fail> {
-    let alloc = rt.alloc();
-    let got = written_by(&rt, alloc, &[Ok(2), Err(ErrorKind::WouldBlock), Ok(3)])?;
-    assert!(rt; got == (FlowEnd::Ended, 3));
-    let got = written_by(&rt, alloc, &[Ok(2), Err(ErrorKind::BrokenPipe), Ok(3)])?;
-    assert!(rt; got == (FlowEnd::Failed, 2));
-    let got = written_by(&rt, alloc, &[Ok(2), Ok(0), Ok(3)])?;
-    assert!(rt; got == (FlowEnd::Failed, 2));
-    Ok(())
+fn a_write_that_fails_or_takes_nothing_ends_the_writing(rt: HostRuntime) {
+    for (second, want) in [
+        (Err(ErrorKind::WouldBlock), (FlowEnd::Ended, 3)),
+        (Err(ErrorKind::BrokenPipe), (FlowEnd::Failed, 2)),
+        (Ok(0), (FlowEnd::Failed, 2)),
+    ] {
+        let answers = [Ok(2), second, Ok(3)];
+        assert!(rt; written_by(&rt, rt.alloc(), &answers) == want);
+    }
 }
 
-#[test]
-fn a_line_fails_once_the_threads_are_gone_and_all_is_read(rt: HostRuntime) -> Result<(), Fail> {
-    let own = Bell::new(rt.alloc())?;
-    let (mut line, mut filled, emptied) = line(rt.alloc(), &own)?;
+// The line is read to its end, and then it fails.
+fn reads_all(rt: &impl Abort, line: &mut DeviceLine, mut filled: Producer<u8>) {
     let mut buffer = [0; 4];
     assert!(rt; line.try_read(&mut buffer) == Ok(0));
     assert!(rt; filled.push_entire_slice(b"abc").is_ok());
     drop(filled);
     assert!(rt; line.try_read(&mut buffer) == Ok(3) && &buffer[..3] == b"abc".as_slice());
     assert!(rt; line.try_read(&mut buffer) == Err(LineFault));
+}
+
+// It is written until nobody reads.
+fn writes_all(rt: &impl Abort, line: &mut DeviceLine, emptied: Consumer<u8>) {
     assert!(rt; line.try_write(b"de") == Ok(2));
     drop(emptied);
     assert!(rt; line.try_write(b"f") == Err(LineFault));
-    Ok(())
 }
 
 #[test]
-fn nothing_is_read_or_written_once_it_is_over(rt: HostRuntime) -> Result<(), Fail> {
-    let bell = Bell::new(rt.alloc())?;
-    let own = Bell::new(rt.alloc())?;
-    let (mut line, mut filled, mut emptied) = line(rt.alloc(), &own)?;
-    assert!(rt; line.try_write(b"abc") == Ok(3));
-    own.end();
+fn a_line_fails_once_the_threads_are_gone_and_all_is_read(rt: HostRuntime) {
+    let own = bell(&rt, rt.alloc());
+    let (mut line, filled, emptied) = made(&rt, line(rt.alloc(), &own));
+    reads_all(&rt, &mut line, filled);
+    writes_all(&rt, &mut line, emptied);
+}
+
+// It is over: a device with an answer is neither read nor written, though octets wait.
+fn is_over(
+    rt: &(impl Wait + Abort),
+    bell: &Bell,
+    own: &Bell,
+    filled: &mut Producer<u8>,
+    emptied: &mut Consumer<u8>,
+) {
     let mut device = Answers::of(&[Ok(2)]);
     let end = pump(
         &clock_by(1),
         &mut device,
-        &mut filled,
-        &bell,
-        &own,
+        filled,
+        bell,
+        own,
         ZeroRead::Quiet,
     );
     assert!(rt; end == FlowEnd::Stopped);
-    let end = drain(&rt, &mut device, &mut emptied, &bell, &own);
+    let end = drain(rt, &mut device, emptied, bell, own);
     assert!(rt; end == FlowEnd::Stopped && device.calls == 0);
-    Ok(())
+}
+
+#[test]
+fn nothing_is_read_or_written_once_it_is_over(rt: HostRuntime) {
+    let (bell, own) = (bell(&rt, rt.alloc()), bell(&rt, rt.alloc()));
+    let (mut line, mut filled, mut emptied) = made(&rt, line(rt.alloc(), &own));
+    assert!(rt; line.try_write(b"abc") == Ok(3));
+    own.end();
+    is_over(&rt, &bell, &own, &mut filled, &mut emptied);
 }

@@ -6,6 +6,8 @@ mod bells;
 #[cfg(test)]
 mod devices;
 #[cfg(test)]
+mod made;
+#[cfg(test)]
 mod no_memory;
 #[cfg(test)]
 mod streams;

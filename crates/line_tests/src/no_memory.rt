@@ -1,4 +1,5 @@
 //! The calls that take no memory.
+use crate::made::made;
 use bell::Bell;
 use device_line::{RingReader, RingWriter, drain, leave, line_over, pump};
 use marks_tests::{begin, end};
@@ -10,7 +11,7 @@ use std::io::Print;
 use std::process::Abort;
 use std::rt::Clock;
 use std::sync::Wait;
-use std::test::Fail;
+use std::test::*;
 use std::time::Duration;
 
 // Reads and writes in turn.
@@ -62,25 +63,26 @@ fn buffer_reads<R: Abort + Print>(rt: &R, line: &mut CutLine, buffer: &mut ReadB
 
 const CUTS: [Cut; 3] = [Cut::Upto(3), Cut::Fault, Cut::Upto(1)];
 
-fn in_memory<R: Abort + Print>(rt: &R, alloc: Global) -> Result<(), Fail> {
-    let Ok(mut near) = CutLine::new(alloc, b"abcdef", &CUTS, &CUTS, 4096) else {
-        panic!(rt; "no memory");
-    };
-    let mut far = CutLine::new(alloc, b"", &[], &[], 4096)?;
+fn between_two<R: Abort + Print>(rt: &R, alloc: Global) {
+    let mut near = made(rt, CutLine::new(alloc, b"abcdef", &CUTS, &CUTS, 4096));
+    let mut far = made(rt, CutLine::new(alloc, b"", &[], &[], 4096));
     cut_lines(rt, &mut near, &mut far);
-    let mut line = CutLine::new(alloc, b"abcdef", &[], &[], 64)?;
-    let mut buffer = ReadBuffer::new(alloc)?;
-    buffer_reads(rt, &mut line, &mut buffer);
-    Ok(())
 }
 
-fn between_threads<R: Abort + Print>(rt: &R, alloc: Global) -> Result<(), Fail> {
-    let (mut near, mut far) = ThreadLine::pair(alloc, 64)?;
+fn into_a_buffer<R: Abort + Print>(rt: &R, alloc: Global) {
+    let mut line = made(rt, CutLine::new(alloc, b"abcdef", &[], &[], 64));
+    let mut buffer = made(rt, ReadBuffer::new(alloc));
+    buffer_reads(rt, &mut line, &mut buffer);
+}
+
+fn between_threads<R: Abort + Print>(rt: &R, alloc: Global) {
+    let Ok((mut near, mut far)) = ThreadLine::pair(alloc, 64) else {
+        panic!(rt; "no memory");
+    };
     begin(rt, "ThreadLine::under_way");
     assert!(rt; near.under_way(&mut far) == 0);
     end(rt);
     thread_lines(rt, &mut near, &mut far);
-    Ok(())
 }
 
 // Of a line over a reader and a writer.
@@ -97,30 +99,28 @@ fn over_a_slice<R: Print>(rt: &R) {
 }
 
 // Of the line of a device, and of its bell.
-fn of_a_device<R: Print>(rt: &R, alloc: Global) -> Result<(), Fail> {
-    let mut buffer = [0x41; 4];
-    let bell = Bell::new(alloc)?;
-    let (mut filled, octets) = RingBuffer::new(alloc, 64)?;
-    let (out, _emptied) = RingBuffer::new(alloc, 64)?;
+fn of_a_device<R: Abort + Print>(rt: &R, alloc: Global) {
+    let bell = made(rt, Bell::new(alloc));
+    let (mut filled, octets) = made(rt, RingBuffer::new(alloc, 64));
+    let (out, _emptied) = made(rt, RingBuffer::new(alloc, 64));
     let _ = filled.push_entire_slice(b"abcdef");
     begin(
         rt,
         "RingReader::read, RingWriter::write, Bell::share, Bell::ring",
     );
-    let writer = RingWriter::new(out, bell.share()?);
+    let writer = RingWriter::new(out, made(rt, bell.share()));
     let mut line = line_over(RingReader::new(octets), writer);
-    turn(&mut line, &mut buffer);
+    turn(&mut line, &mut [0x41; 4]);
     end(rt);
-    Ok(())
 }
 
 // Of the threads of a device's line: what is read into a ring is written out of it.
-fn of_its_threads<R: Wait + Clock + Print>(rt: &R, alloc: Global) -> Result<(), Fail> {
-    let bell = Bell::new(alloc)?;
-    let own = Bell::new(alloc)?;
-    let (mut filled, mut octets) = RingBuffer::new(alloc, 64)?;
-    let mut device = b"abcdef".as_slice();
+fn of_its_threads<R: Abort + Wait + Clock + Print>(rt: &R, alloc: Global) {
+    let bell = made(rt, Bell::new(alloc));
+    let own = made(rt, Bell::new(alloc));
+    let (mut filled, mut octets) = made(rt, RingBuffer::new(alloc, 64));
     begin(rt, "pump, drain, Bell::wait, Bell::end, Bell::is_over");
+    let mut device = b"abcdef".as_slice();
     let _ = pump(rt, &mut device, &mut filled, &bell, &own, ZeroRead::Ended);
     leave(filled, &own);
     let _ = drain(rt, &mut io::sink(), &mut octets, &bell, &own);
@@ -128,15 +128,15 @@ fn of_its_threads<R: Wait + Clock + Print>(rt: &R, alloc: Global) -> Result<(), 
     own.end();
     let _ = own.is_over();
     end(rt);
-    Ok(())
 }
 
 #[test]
-fn calls_that_take_no_memory(rt: HostRuntime) -> Result<(), Fail> {
+fn calls_that_take_no_memory(rt: HostRuntime) {
     let alloc = rt.alloc();
-    in_memory(&rt, alloc)?;
+    between_two(&rt, alloc);
+    into_a_buffer(&rt, alloc);
     over_a_slice(&rt);
-    of_a_device(&rt, alloc)?;
-    of_its_threads(&rt, alloc)?;
-    between_threads(&rt, alloc)
+    of_a_device(&rt, alloc);
+    of_its_threads(&rt, alloc);
+    between_threads(&rt, alloc);
 }

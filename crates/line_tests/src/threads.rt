@@ -1,10 +1,12 @@
 //! A line between threads.
 ghost use Rattle.std.specs.Prelude.{◌≡◌, ◌≤◌, ◌++◌, [], length, vec_capacity, IfOk};
 
+use crate::made::made;
 use serial_line::*;
 use std::alloc::{AllocError, Global};
+use std::process::Abort;
 use std::sync::Wait;
-use std::test::Fail;
+use std::test::*;
 use std::thread;
 use std::thread::Threads;
 
@@ -13,19 +15,25 @@ pub fn long_text(alloc: Global, count: u32) -> Result<Vec<u8>, AllocError> {
     (0..count).map(|place| (place % 251) as u8).collect(alloc)
 }
 
+// So many octets may be under way.
+fn has_room(rt: &impl Abort, alloc: Global, text: &[u8], room: usize) {
+    let Ok((mut near, mut far)) = ThreadLine::pair(alloc, room) else {
+        panic!(rt; "no memory");
+    };
+    assert!(rt; near.try_write(text) == Ok(room));
+    assert!(rt; near.under_way(&mut far) == room);
+    assert!(rt; far.under_way(&mut near) == 0);
+}
+
 #[test]
-fn a_line_between_threads_has_room_for_1_to_65536(rt: HostRuntime) -> Result<(), Fail> {
+fn a_line_between_threads_has_room_for_1_to_65536(rt: HostRuntime) {
     for room in [0, 65537] {
         assert!(rt; matches!(ThreadLine::pair(rt.alloc(), room), Err(LineError::BadRoom)));
     }
-    let text = long_text(rt.alloc(), 65537)?;
+    let text = made(&rt, long_text(rt.alloc(), 65537));
     for room in [1, 65536] {
-        let (mut near, mut far) = ThreadLine::pair(rt.alloc(), room)?;
-        assert!(rt; near.try_write(&text) == Ok(room));
-        assert!(rt; near.under_way(&mut far) == room);
-        assert!(rt; far.under_way(&mut near) == 0);
+        has_room(&rt, rt.alloc(), &text, room);
     }
-    Ok(())
 }
 
 // Sends the whole text, waiting for room.
@@ -91,9 +99,8 @@ fn across<R: Threads + Wait + Sync>(
 }
 
 #[test]
-fn octets_between_threads_come_in_order(rt: HostRuntime) -> Result<(), Fail> {
-    let text = long_text(rt.alloc(), 100_000)?;
-    let came = across(&rt, rt.alloc(), &text, 64)?;
+fn octets_between_threads_come_in_order(rt: HostRuntime) {
+    let text = made(&rt, long_text(rt.alloc(), 100_000));
+    let came = made(&rt, across(&rt, rt.alloc(), &text, 64));
     assert!(rt; came.as_slice() == text.as_slice());
-    Ok(())
 }
