@@ -30,10 +30,10 @@ fn commands(alloc: Global, count: usize) -> Result<Vec<u8>, Fail> {
 
 // How many outcomes of caller 0 stand in a text: each begins a line with the caller's number.
 fn outcomes(text: &[u8]) -> usize {
-    let mut count = 0;
+    let mut count = 0_usize;
     for line in text.split(|octet| *octet == b'\n') {
         if line.starts_with(b"0 ") {
-            count += 1;
+            count = count.saturating_add(1);
         }
     }
     count
