@@ -1,9 +1,9 @@
-use crate::station::dlci;
 use at_cmds::{Command, Reply};
 use at_text::{AnswerLine, CommandLine};
 use modem_desk::{Answer, Ask, Request};
 use modem_driver::{Act, Event, Octets, replay};
 use modem_runs::push_frame;
+use mux_frame::Dlci;
 use mux_frame::laws::read_plain;
 use std::alloc::{AllocError, Global};
 use std::ops::Range;
@@ -44,9 +44,9 @@ impl Damage {
 
 // What the request of this number asks.
 fn ask(alloc: Global, number: u64) -> Result<Ask, Fail> {
-    let one = dlci(1)?;
+    let one = Dlci::new(1).ok_or("no such DLCI")?;
     match number {
-        1 => Ok(Ask::OpenChannel(dlci(0)?)),
+        1 => Ok(Ask::OpenChannel(Dlci::CONTROL)),
         2 => Ok(Ask::OpenChannel(one)),
         _ => Ok(Ask::Command(one, CommandLine::new(alloc, b"AT+CSQ")?)),
     }

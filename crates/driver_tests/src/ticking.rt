@@ -1,10 +1,10 @@
 //! A session that ticks, and whose desk is settled.
 ghost use Rattle.std.specs.Prelude.{◌≡◌};
 
-use crate::desk::{settle_by_two, submit_to, taken_by};
-use crate::station::dlci;
+use crate::callers::{submit_to, taken_by};
 use modem_desk::*;
 use modem_driver::*;
+use mux_frame::Dlci;
 use serial_line::CutLine;
 use std::alloc::Global;
 use std::process::Abort;
@@ -53,21 +53,24 @@ pub fn given_up<R: Wait + Abort + Drop + Copy>(rt: R, alloc: Global, driver: Dri
     driver
 }
 
+// One caller has taken all, and nobody listened.
+fn is_empty(rt: &impl Abort, settled: &Settled) {
+    assert!(rt; settled.left.is_empty() && settled.unheard.is_empty());
+    assert!(rt; settled.untaken.len() == 1 && settled.untaken[0].is_empty());
+}
+
 // An opening that isn't answered is given up at the fourth tick, and its caller takes NoAnswer; then the desk is settled.
 #[test]
 fn a_session_that_ticked_is_settled(rt: HostRuntime) -> Result<(), Fail> {
     let alloc = rt.alloc();
     let (driver, mut callers, listeners) = Desk::open(alloc, 1, &[])?;
-    submit_to(&rt, &mut callers, 0, Ask::OpenChannel(dlci(0)?));
+    submit_to(&rt, &mut callers, 0, Ask::OpenChannel(Dlci::CONTROL));
     let driver = given_up(rt, alloc, driver);
     let told = taken_by(&rt, &mut callers, 0).expect(&rt, "an outcome");
     assert!(rt; told.number == 1 && matches!(told.answer, Answer::NoAnswer));
-    let Settled {
-        left,
-        untaken,
-        unheard,
-    } = settle_by_two(&rt, alloc, driver, callers, listeners);
-    assert!(rt; left.is_empty() && untaken.len() == 1 && unheard.is_empty());
-    assert!(rt; untaken[0].is_empty());
+    let Ok(settled) = settle(&rt, alloc, driver, callers, listeners) else {
+        panic!(rt; "no memory");
+    };
+    is_empty(&rt, &settled);
     Ok(())
 }

@@ -2,11 +2,11 @@
 ghost use Rattle.std.specs.Prelude.{◌≡◌, map};
 ghost use Rattle.modem_desk.specs.Ends.{place_of};
 
-use crate::desk::{submit_to, taken_by};
-use crate::station::dlci;
+use crate::callers::{submit_to, taken_by};
 use crate::ticking::given_up;
 use modem_desk::*;
 use modem_driver::*;
+use mux_frame::Dlci;
 use serial_line::{Cut, CutLine};
 use std::alloc::Global;
 use std::process::Abort;
@@ -88,8 +88,14 @@ fn lost_twice<R: Wait + Abort + Drop + Copy>(
 fn a_session_follows_one_whose_line_failed(rt: HostRuntime) -> Result<(), Fail> {
     let alloc = rt.alloc();
     let (driver, mut callers, _) = Desk::open(alloc, 1, &[])?;
-    let driver = lost_twice(rt, alloc, driver, &mut callers, Ask::OpenChannel(dlci(0)?));
-    submit_to(&rt, &mut callers, 0, Ask::OpenChannel(dlci(0)?));
+    let driver = lost_twice(
+        rt,
+        alloc,
+        driver,
+        &mut callers,
+        Ask::OpenChannel(Dlci::CONTROL),
+    );
+    submit_to(&rt, &mut callers, 0, Ask::OpenChannel(Dlci::CONTROL));
     let _ = given_up(rt, alloc, driver);
     let told = taken_by(&rt, &mut callers, 0).expect(&rt, "an outcome");
     assert!(rt; told.number == 3 && matches!(told.answer, Answer::NoAnswer));

@@ -1,12 +1,13 @@
 //! Of a simulated modem.
-use crate::no_memory::{begin, end};
+use crate::made::made;
 use at_cmds::Pin;
+use marks_tests::{begin, end};
 use modem_sim::*;
 use serial_line::CutLine;
 use std::alloc::Global;
 use std::io::Print;
 use std::process::Abort;
-use std::test::Fail;
+use std::test::*;
 
 // A modem that wants a PIN, between marks.
 fn started(rt: &impl Print, alloc: Global, pin: Vec<u8>) -> Modem {
@@ -20,15 +21,13 @@ fn started(rt: &impl Print, alloc: Global, pin: Vec<u8>) -> Modem {
     modem
 }
 
-fn simulated(alloc: Global, line: CutLine, modem: Modem) -> Result<Sim<CutLine>, Fail> {
+// A modem on a line.
+fn simulated(rt: &impl Abort, alloc: Global, line: CutLine, modem: Modem) -> Sim<CutLine> {
     let script = Script {
         echo: false,
         steps: Steps::from(Vec::new(alloc)),
     };
-    match Sim::new(alloc, line, modem, script, 31) {
-        Ok(sim) => Ok(sim),
-        Err(refused) => Err(refused.why.into()),
-    }
+    made(rt, Sim::new(alloc, line, modem, script, 31))
 }
 
 // Its line is lent, and it is given back with the modem, between marks.
@@ -44,11 +43,11 @@ fn ends_a_sim<R: Abort + Print>(rt: &R, mut sim: Sim<CutLine>) {
 }
 
 #[test]
-fn calls_that_take_no_memory(rt: HostRuntime) -> Result<(), Fail> {
+fn calls_that_take_no_memory(rt: HostRuntime) {
     let alloc = rt.alloc();
-    let line = CutLine::new(alloc, b"", &[], &[], 64)?;
-    let modem = started(&rt, alloc, b"1234".to_vec(alloc)?);
-    let sim = simulated(alloc, line, modem)?;
+    let line = made(&rt, CutLine::new(alloc, b"", &[], &[], 64));
+    let pin = made(&rt, b"1234".to_vec(alloc));
+    let modem = started(&rt, alloc, pin);
+    let sim = simulated(&rt, alloc, line, modem);
     ends_a_sim(&rt, sim);
-    Ok(())
 }

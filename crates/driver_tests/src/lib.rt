@@ -1,0 +1,19 @@
+//! Tests of the core, of entries, of endpoints and sessions, and of which calls of the driver and of a simulated modem take no memory.
+#![tactic(auto)]
+
+#[cfg(test)]
+mod callers;
+#[cfg(test)]
+mod entries;
+#[cfg(test)]
+mod made;
+#[cfg(test)]
+mod no_memory;
+#[cfg(test)]
+mod reset;
+#[cfg(test)]
+mod stops;
+#[cfg(test)]
+mod ticking;
+#[cfg(test)]
+mod waiting;

@@ -1,0 +1,3 @@
+//! The calls that take no memory.
+mod driver;
+mod sims;
