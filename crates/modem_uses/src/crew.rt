@@ -23,7 +23,7 @@ pub fn call<R: Threads + Wait + Clock + Sync>(
 {
     let (first, second) = callers;
     let (one, two) = asks;
-    let (first, _opened) = ask(rt, first, Ask::OpenChannel(Dlci::new(0).unwrap()));
+    let (first, _opened) = ask(rt, first, Ask::OpenChannel(Dlci::CONTROL));
     let (first, _opened) = ask(rt, first, Ask::OpenChannel(Dlci::new(1).unwrap()));
     let ((caller, first), ((other, second), line)) = thread::join(
         rt,

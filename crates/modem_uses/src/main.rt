@@ -11,6 +11,7 @@ mod frames;
 mod own_codes;
 mod own_line;
 mod own_modem;
+mod polled;
 mod session;
 mod settling;
 mod simulating;
@@ -21,9 +22,10 @@ use crate::calling::Came;
 use crate::typed::print_signal;
 use at_text::{DialectError, TextError};
 use modem_driver::{RequestError, RequestRefused};
-use std::alloc::{AllocError, AllocFailed, Global};
+use std::alloc::{AllocError, AllocFailed, AllocGlobal, Global};
 use std::io::Print;
 use std::process::ExitCode;
+use std::random::RandomSource;
 use std::rt::Clock;
 use std::sync::Wait;
 use std::thread::Threads;
@@ -85,12 +87,13 @@ fn print_session<R: Print>(rt: &R, alloc: Global, came: &Came) -> Result<(), Sto
 
 fn run<R>(rt: &R, alloc: Global) -> Result<(), Stop>
 where
-    R: Threads + Wait + Clock + Print + Sync + Send + Copy + Drop,
+    R: Threads + Wait + Clock + RandomSource + AllocGlobal + Print + Sync + Send + Copy + Drop,
 {
     typed::run(rt, alloc)?;
     own_codes::run(rt, alloc)?;
     let came = session::run(rt, alloc)?;
     print_session(rt, alloc, &came)?;
+    print_signal(rt, alloc, &polled::run(rt, alloc)?)?;
     own_line::run(rt, alloc)?;
     frames::run(rt, alloc)?;
     desk::run(rt, alloc)

@@ -18,7 +18,7 @@ use std::sync::Wait;
 use std::thread::Threads;
 
 /// A session, and a modem at the other end of its line that says RING behind the first command.
-fn begin<R: Wait + Drop>(
+pub fn begin<R: Wait + Drop>(
     rt: R,
     alloc: Global,
     driver: DriverEnd,
