@@ -9,7 +9,7 @@
  * have to be those of the plain decoder. memchr runs once without a hit, which is the speed of memory,
  * and once from flag to flag. A time is the best of 8 slices of at least 4 ms of processor time; the
  * passes take turns, 9 times. The table has the middle ratio, and in brackets how far lowest and highest
- * lie apart. "Blocks" counts takings of memory: two, when the deframer is made. */
+ * lie apart. "Blocks" counts takings of memory: one, when the deframer is made. */
 #include <stdbool.h>
 #include <stdint.h>
 #include <stdio.h>
