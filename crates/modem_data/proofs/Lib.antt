@@ -2,6 +2,9 @@ mod Splitting
 mod Watching
 mod Pipes
 mod PipeCalls
+mod Named
+mod PipeSets
+mod PipeSetCalls
 mod Relays
 mod Handed
 mod SwitchRowFacts

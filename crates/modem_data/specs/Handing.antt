@@ -1,11 +1,11 @@
--- A frame at hand passes to the driver, or its data to a pipe.
+-- A frame at hand passes to the driver, or its data to the pipes.
 use Rattle.std.specs.Prelude.{◌≡◌, ℕ, List, ◌++◌, take, flat_map, Option, Some, None}
 use Rattle.mux_frame.specs.Frames.{Frame}
 use Rattle.mux_frame.specs.Spelling.{spelled}
 use Rattle.mux_frame.specs.Deframing.{Deframing, HandsOver}
 use Rattle.modem_data.specs.Hops.{with_lines}
 use Rattle.modem_data.specs.Passing.{Came, Went}
-use Rattle.modem_data.specs.Pipes.{HandsOn, Leads, Pipe}
+use Rattle.modem_data.specs.PipeSets.{AllHand, AllLead, PipeSet}
 
 -- the octets that go on to the driver: all of a frame; or of data the lines, where there are any, in a frame of their own
 abbrev pub handed : Frame → Option ℕ → List ℕ
@@ -13,19 +13,19 @@ handed f None = spelled f
 handed f (Some count) = flat_map spelled (with_lines f (take count f.info))
 
 -- the frame at hand came, and the driver is handed what is its
-pub record PassesIn (at_hand : Option Frame) (old new : Pipe) (before after : List ℕ) : Type 0 where
+pub record PassesIn (at_hand : Option Frame) (old new : PipeSet) (before after : List ℕ) : Type 0 where
   pub frame : Frame
   pub is_at_hand : at_hand ≡ Some frame
-  pub leads : Leads old new (Came frame)
+  pub leads : AllLead old new (Came frame)
   pub count : Option ℕ
-  pub hands : HandsOn old frame count
+  pub hands : AllHand old frame count
   pub written : after ≡ before ++ handed frame count
 
 -- the driver's frame at hand went to the line
-pub record PassesOut (at_hand : Option Frame) (old new : Pipe) (before after : List ℕ) : Type 0 where
+pub record PassesOut (at_hand : Option Frame) (old new : PipeSet) (before after : List ℕ) : Type 0 where
   pub frame : Frame
   pub is_at_hand : at_hand ≡ Some frame
-  pub leads : Leads old new (Went frame)
+  pub leads : AllLead old new (Went frame)
   pub written : after ≡ before ++ spelled frame
 
 -- the deframer has handed its frame out

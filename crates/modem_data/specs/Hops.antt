@@ -1,14 +1,13 @@
 -- What passes a relay between the line and a driver, as octets and as frames. A past is written newest first.
-use Rattle.std.specs.Prelude.{◌≡◌, ℕ, ◌==◌, Bool, true, false, List, [], ◌∷◌, ◌++◌, Option, Some, None, filter_map, flat_map, if◌then◌else◌}
+use Rattle.std.specs.Prelude.{◌≡◌, ℕ, Bool, true, false, List, [], ◌∷◌, ◌++◌, Option, Some, None, filter_map, flat_map, if◌then◌else◌}
 use Rattle.std.specs.List.{list_all}
 use Rattle.mux_frame.specs.Frames.{Frame}
 use Rattle.mux_frame.specs.Spelling.{spelled}
 use Rattle.mux_frame.specs.Reading.{Reads}
 use Rattle.mux_frame.specs.Deframing.{Deframing, Deframes}
-use Rattle.modem_data.specs.Switching.{Data, Idle, lines_of}
-use Rattle.modem_data.specs.Passing.{Pass, Came, Went, Flowed, Left, wire, is_data, carries, given, left, IsDue}
-use Rattle.modem_data.specs.Pipes.{Pipe, PipeFits}
-use Rattle.modem_data.specs.Watching.{may_leave}
+use Rattle.modem_data.specs.Switching.{lines_of}
+use Rattle.modem_data.specs.Passing.{Pass, Came, Went, Flowed, Left, is_data, carries, IsDue}
+use Rattle.modem_data.specs.PipeSets.{PipeSet, PipesFit, InTurn, NoneLeaves}
 
 -- octets come from the line, or are given to the driver; octets come from the driver, or are given to the line; a frame or
 -- octets of data pass
@@ -99,22 +98,22 @@ pub record DriverFirst (n1 : ℕ) (past : List Hop) : Type 0 where
   pub rest : List ℕ
   pub all_went : Reads n1 (taken past) (went past) rest
 
--- frames of data and of the relay's own leave behind the driver's
-abbrev pub AllowsHop : ℕ → List Hop → Hop → Type 0
-AllowsHop n1 past (Passed (Left f)) = DriverFirst n1 past
-AllowsHop n1 past (Passed (Flowed f)) = DriverFirst n1 past
-AllowsHop n1 past _ = Unit {0}
+-- frames of data and of the relay's own leave behind the driver's, and those of data in their connections' turns
+abbrev pub AllowsHop : ℕ → List ℕ → List Hop → Hop → Type 0
+AllowsHop n1 ds past (Passed (Left f)) = DriverFirst n1 past × InTurn ds (passes past) f
+AllowsHop n1 ds past (Passed (Flowed f)) = DriverFirst n1 past
+AllowsHop n1 ds past _ = Unit {0}
 
-unfoldable pub LawfulHops : ℕ → List Hop → Type 0
-LawfulHops n1 [] = Unit {0}
-LawfulHops n1 (a ∷ past) = AllowsHop n1 past a × LawfulHops n1 past
+unfoldable pub LawfulHops : ℕ → List ℕ → List Hop → Type 0
+LawfulHops n1 ds [] = Unit {0}
+LawfulHops n1 ds (a ∷ past) = AllowsHop n1 ds past a × LawfulHops n1 ds past
 
 -- ## What a relay keeps
 
 pub record Relay : Type 0 where
   pub outer : Deframing
   pub inner : Deframing
-  pub pipe : Pipe
+  pub pipes : PipeSet
   pub to_driver : List ℕ
   pub to_line : List ℕ
 
@@ -123,24 +122,24 @@ spell fs = flat_map spelled fs
 
 -- A relay fits a past: the octets of the line are deframed to the frames that came, those of the driver to the frames that
 -- went; what the driver was given, and then what waits for it, are the frames due to it, spelled whole and in order; what
--- the line was given, and then what waits for it, are the frames for it; and its pipe fits what passed.
-pub record RelayFits (n1 d : ℕ) (v : Relay) (past : List Hop) : Type 0 where
+-- the line was given, and then what waits for it, are the frames for it; and its pipes, which are those of these connections,
+-- fit what passed.
+pub record RelayFits (n1 : ℕ) (ds : List ℕ) (v : Relay) (past : List Hop) : Type 0 where
   pub outer_n1 : v.outer.n1 ≡ n1
   pub inner_n1 : v.inner.n1 ≡ n1
-  pub lawful : LawfulHops n1 past
+  pub lawful : LawfulHops n1 ds past
   pub line_in : Deframes (fed past) (came past) v.outer
   pub driver_out : Deframes (taken past) (went past) v.inner
   pub to_driver_is : handed_over past ++ v.to_driver ≡ spell (for_driver past)
   pub to_line_is : wrote past ++ v.to_line ≡ spell (for_line past)
-  pub others : (e : ℕ) → (e == d) ≡ false → carries e (passes past) ≡ Idle
-  pub pipe_fits : PipeFits n1 d v.pipe (passes past)
+  pub pipes_fit : PipesFit n1 ds v.pipes (passes past)
 
 -- ## Calls
 
 -- a hop leads on, whatever passed before
 unfoldable pub Hops : Relay → Relay → Hop → Type 0
 Hops old new a =
-    (n1 d : ℕ) (past : List Hop) → RelayFits n1 d old past → RelayFits n1 d new (a ∷ past)
+    (n1 : ℕ) (ds : List ℕ) (past : List Hop) → RelayFits n1 ds old past → RelayFits n1 ds new (a ∷ past)
 
 -- some frame hops so
 pub record HopsBy (old new : Relay) (hop : Frame → Hop) : Type 0 where
@@ -148,27 +147,26 @@ pub record HopsBy (old new : Relay) (hop : Frame → Hop) : Type 0 where
   pub leads : Hops old new (hop frame)
 
 -- nothing has passed
-unfoldable pub BeginsRelay : ℕ → ℕ → Relay → Type 0
-BeginsRelay n1 d v = RelayFits n1 d v []
+unfoldable pub BeginsRelay : ℕ → List ℕ → Relay → Type 0
+BeginsRelay n1 ds v = RelayFits n1 ds v []
 
 -- ## What forces progress
 
 -- every frame that the line's octets hold has come; what of it is the driver's is given or waits
 unfoldable pub AllCame : Relay → Type 0
-AllCame v = (n1 d : ℕ) (past : List Hop) → RelayFits n1 d v past
+AllCame v = (n1 : ℕ) (ds : List ℕ) (past : List Hop) → RelayFits n1 ds v past
     → Reads n1 (fed past) (came past) v.outer.undecided
 
 -- nothing may go to the line: no octets wait, every frame of the driver has gone, nothing is to be said of the flow, and no
 -- data may leave
-pub record IsStill (n1 d : ℕ) (past : List Hop) : Type 0 where
+pub record IsStill (n1 : ℕ) (past : List Hop) : Type 0 where
   pub all_given : wrote past ≡ spell (for_line past)
   pub first : DriverFirst n1 past
-  pub none_due : (go : Bool) → ¬ IsDue d (passes past) go
-  pub no_data : carries d (passes past) ≡ Data → may_leave d (wire (passes past)) ≡ true
-      → left d (passes past) ≡ given d (passes past)
+  pub none_due : (d : ℕ) (go : Bool) → ¬ IsDue d (passes past) go
+  pub no_data : (d : ℕ) → NoneLeaves (passes past) d
 
 unfoldable pub HoldsNothing : Relay → Type 0
-HoldsNothing v = (n1 d : ℕ) (past : List Hop) → RelayFits n1 d v past → IsStill n1 d past
+HoldsNothing v = (n1 : ℕ) (ds : List ℕ) (past : List Hop) → RelayFits n1 ds v past → IsStill n1 past
 
 -- ## Whole calls
 
@@ -182,8 +180,8 @@ pub record LineIn (old new : Relay) (octets : List ℕ) : Type 0 where
   pub hops : List Hop
   pub only : list_all is_line_in hops ≡ true
   pub fed_are : fed hops ≡ octets
-  pub leads : (n1 d : ℕ) (past : List Hop) → RelayFits n1 d old past
-      → RelayFits n1 d new (hops ++ past)
+  pub leads : (n1 : ℕ) (ds : List ℕ) (past : List Hop) → RelayFits n1 ds old past
+      → RelayFits n1 ds new (hops ++ past)
 
 -- frames at hand passed: what came before them came
 unfoldable pub PassesOn : Relay → Relay → Type 0

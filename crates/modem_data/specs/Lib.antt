@@ -10,6 +10,7 @@ pub mod Standings
 pub mod Watching
 pub mod Passing
 pub mod Pipes
+pub mod PipeSets
 pub mod Hops
 pub mod Handing
 pub mod Relays

@@ -8,6 +8,7 @@ mod message;
 mod octets;
 mod passing;
 mod pipe;
+mod pipe_set;
 mod relay;
 mod switch;
 mod watch;

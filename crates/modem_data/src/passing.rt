@@ -5,7 +5,7 @@ ghost use Rattle.mux_frame.specs.Spelling.{most_info};
 ghost use Rattle.modem_data.specs.Handing.{PassesIn, PassesOut, PassesOver, handed};
 
 use crate::octets::Octets;
-use crate::pipe::Pipe;
+use crate::pipe_set::Pipes;
 use mux_frame::{Deframer, FrameView};
 use std::alloc::AllocError;
 
@@ -44,34 +44,34 @@ fn hand_on(frame: FrameView<'_>, count: Option<usize>, n1: u16, to_driver: &mut 
     to_driver.put_frame(view, n1);
 }
 
-/// Passes the frame at hand, if there is one: to the driver, but for data of the pipe. Says whether there was one. Refusal: no
+/// Passes the frame at hand, if there is one: to the driver, but for data of the pipes. Says whether there was one. Refusal: no
 /// memory, which changes nothing; the frame stays at hand.
 pub(crate) fn pass_in(
     deframer: &mut Deframer,
-    pipe: &mut Pipe,
+    pipes: &mut Pipes,
     n1: u16,
     to_driver: &mut Octets,
 ) -> Result<bool, AllocError>
     requires same { n1 ≡ deframer.old.n1 }
     requires bound { n1 ≤ 32767 }
     ensures passes { IfOk result (λ one. one ≡ true
-        → PassesIn deframer.old.next pipe.old pipe.new to_driver.old.items to_driver.new.items) }
+        → PassesIn deframer.old.next pipes.old pipes.new to_driver.old.items to_driver.new.items) }
     ensures over { IfOk result (λ one. one ≡ true → PassesOver deframer.old deframer.new) }
     ensures n1 { deframer.new.n1 ≡ deframer.old.n1 }
     ensures shorter { IfOk result (λ one. one ≡ true
         → length deframer.new.undecided < length deframer.old.undecided) }
     ensures none { IfOk result (λ one. one ≡ false → deframer.old.next ≡ None) }
-    ensures still { IfOk result (λ one. one ≡ false → (deframer.new ≡ deframer.old) × (pipe.new ≡ pipe.old)
+    ensures still { IfOk result (λ one. one ≡ false → (deframer.new ≡ deframer.old) × (pipes.new ≡ pipes.old)
         × (to_driver.new.items ≡ to_driver.old.items)) }
     ensures at_hand { OnErr result (deframer.old.next ≢ None) }
-    ensures err { OnErr result ((deframer.new ≡ deframer.old) × (pipe.new ≡ pipe.old)
+    ensures err { OnErr result ((deframer.new ≡ deframer.old) × (pipes.new ≡ pipes.old)
         × (to_driver.new.items ≡ to_driver.old.items)) }
 {
     let Some(frame) = deframer.peek() else {
         return Ok(false);
     };
     to_driver.reserve(frame.info.len() + 7)?;
-    let count = pipe.came(frame)?;
+    let count = pipes.came(frame)?;
     hand_on(frame, count, n1, to_driver);
     deframer.advance();
     Ok(true)
@@ -82,7 +82,7 @@ pub(crate) fn pass_in(
 #[tactic(auto, using(crate::proofs::FrameRoom::has_room))]
 pub(crate) fn pass_out(
     deframer: &mut Deframer,
-    pipe: &mut Pipe,
+    pipes: &mut Pipes,
     n1: u16,
     to_line: &mut Octets,
 ) -> bool
@@ -91,12 +91,12 @@ pub(crate) fn pass_out(
     requires none_wait { (length to_line.old.items == 0) ≡ true }
     requires room { n1 + 7 ≤ to_line.old.capacity }
     ensures passes { result ≡ true
-        → PassesOut deframer.old.next pipe.old pipe.new to_line.old.items to_line.new.items }
+        → PassesOut deframer.old.next pipes.old pipes.new to_line.old.items to_line.new.items }
     ensures over { result ≡ true → PassesOver deframer.old deframer.new }
     ensures n1 { deframer.new.n1 ≡ deframer.old.n1 }
     ensures some { result ≡ true → 0 < length to_line.new.items }
     ensures none { result ≡ false → deframer.old.next ≡ None }
-    ensures still { result ≡ false → (deframer.new ≡ deframer.old) × (pipe.new ≡ pipe.old)
+    ensures still { result ≡ false → (deframer.new ≡ deframer.old) × (pipes.new ≡ pipes.old)
         × (to_line.new.items ≡ to_line.old.items) }
     ensures capacity { to_line.old.capacity ≤ to_line.new.capacity }
 {
@@ -104,7 +104,7 @@ pub(crate) fn pass_out(
         return false;
     };
     to_line.fit(frame.info.len() + 7);
-    pipe.went(frame);
+    pipes.went(frame);
     to_line.put_frame(frame, n1);
     deframer.advance();
     true

@@ -1,15 +1,19 @@
-//! A relay between the line and a driver, with one connection that carries data.
-ghost use Rattle.std.specs.Prelude.{◌≡◌, ◌≢◌, ◌⊎◌, ◌==◌, ◌≤◌, ◌<◌, ◌-◌, ◌++◌, [], ℕ, List, length, take, drop, min, None, true, false, Err, IfOk, OnOk, OnErr};
+//! A relay between the line and a driver, with connections that carry data.
+ghost use Rattle.std.specs.Prelude.{◌≡◌, ◌≢◌, ◌⊎◌, ◌↔◌, ◌==◌, ◌≤◌, ◌<◌, ◌-◌, ◌++◌, [], ℕ, Bool, List, length, take, drop, min, None, true, false, Err, IfOk, OnOk, OnErr};
+ghost use Rattle.mux_station.specs.Opening.{is_open};
+ghost use Rattle.mux_station.specs.declared.role.Role.TheVariants.{Initiator};
 ghost use Rattle.modem_data.specs.declared.error.DataError.TheVariants as error;
 ghost use Rattle.modem_data.specs.DataLanes.{most_to_go};
-ghost use Rattle.modem_data.specs.Passing.{Came, Went, Flowed, Left, Lost, Began, Gave, Read, flow_frame};
-ghost use Rattle.modem_data.specs.Pipes.{HasNoData, HasNoneToSend, HasUnread, IsShut, SaysFlow, SaysLane, SaysOver};
+ghost use Rattle.modem_data.specs.Switching.{Idle as idle, Data as in_data, is_idle};
+ghost use Rattle.modem_data.specs.Passing.{Came, Went, Flowed, Left, Lost, Began, Gave, Read, IsDue, IsOver, carries, data_came, data_read, given, left, unread, wire, flow_frame};
+ghost use Rattle.modem_data.specs.PipeSets.{IsAmong, IsNotData, IsTwice, NoneLeaves, OfEachPast, numbers};
 ghost use Rattle.modem_data.specs.Hops.{Fed, Handed, Took, Wrote, Passed, Hops, HopsBy, BeginsRelay, AllCame, HoldsNothing, LineIn, PassesOn, OneOut};
 
 use crate::error::DataError;
 use crate::octets::Octets;
 use crate::passing::{pass_in, pass_out};
-use crate::pipe::{Pipe, Reading};
+use crate::pipe::Reading;
+use crate::pipe_set::Pipes;
 use mux_frame::laws::deframed;
 use mux_frame::{Deframer, Dlci, FrameView, Kind};
 use std::alloc::{AllocError, Global};
@@ -20,7 +24,7 @@ use std::marker::Model;
 pub struct Relay {
     outer: Deframer,
     inner: Deframer,
-    pipe: Pipe,
+    pipes: Pipes,
     to_driver: Octets,
     to_line: Octets,
     n1: u16,
@@ -35,7 +39,7 @@ impl Model for Relay {
     ghost view = { λ r. record {
       outer = r.outer;
       inner = r.inner;
-      pipe = r.pipe;
+      pipes = r.pipes;
       to_driver = r.to_driver.items;
       to_line = r.to_line.items;
     } };
@@ -53,21 +57,23 @@ pub struct Input {
 }
 
 impl Relay {
-    /// Nothing has passed. The connection may carry data; no lane is under way. N1 is the most octets of information that a frame
-    /// may have. Refused with 3 ControlChannel, with 2 BadN1 where N1 isn't 31 to 32767, and with 1 NoMemory.
+    /// Nothing has passed. These connections may carry data; no lane is under way. N1 is the most octets of information that a frame
+    /// may have. Refused with 2 BadN1 where N1 isn't 31 to 32767, else with 5 TooMany where there are more than 8 connections, else with
+    /// 3 ControlChannel where 0 is among them, else with 4 Twice where one is named twice, and with 1 NoMemory.
     #[tactic(auto, using(crate::proofs::Relays::begins))]
-    pub fn new(alloc: Global, n1: u16, dlci: Dlci) -> Result<Relay, DataError>
-        ensures past { IfOk result (λ v. BeginsRelay n1 dlci.number v) }
-        ensures control { result ≡ Err error.ControlChannel → (dlci.number == 0) ≡ true }
+    pub fn new(alloc: Global, n1: u16, named: &[Dlci]) -> Result<Relay, DataError>
+        ensures past { IfOk result (λ v. BeginsRelay n1 (numbers named.now) v) }
         ensures bad_n1 { result ≡ Err error.BadN1 → (n1 < 31) ⊎ (32767 < n1) }
-        ensures others { OnErr result ((result ≡ Err error.ControlChannel) ⊎ ((result ≡ Err error.BadN1) ⊎ (result ≡ Err error.NoMemory))) }
+        ensures many { result ≡ Err error.TooMany → 8 < length named.now }
+        ensures control { result ≡ Err error.ControlChannel → IsAmong (numbers named.now) (length named.now) 0 }
+        ensures twice { result ≡ Err error.Twice → IsTwice (numbers named.now) }
+        ensures others { OnErr result ((result ≡ Err error.BadN1) ⊎ ((result ≡ Err error.TooMany) ⊎ ((result ≡ Err error.ControlChannel)
+            ⊎ ((result ≡ Err error.Twice) ⊎ (result ≡ Err error.NoMemory))))) }
     {
-        if dlci.number() == 0 {
-            return Err(DataError::ControlChannel);
-        }
         if n1 < 31 || n1 > 32767 {
             return Err(DataError::BadN1);
         }
+        let pipes = Pipes::new(alloc, named)?;
         let Ok(outer) = Deframer::new(alloc, n1) else {
             return Err(DataError::NoMemory);
         };
@@ -78,61 +84,62 @@ impl Relay {
         Ok(Relay {
             outer,
             inner,
-            pipe: Pipe::new(alloc, dlci)?,
+            pipes,
             to_driver: Octets::new(alloc),
             to_line,
             n1,
         })
     }
 
-    /// The connection that may carry data.
-    pub fn dlci(&self) -> Dlci
-        ensures { result.number ≡ self.now.pipe.watch.dlci }
-    {
-        self.pipe.dlci()
-    }
-
-    /// A lane of the connection begins, of the opening that there is or else of the next: with data behind its next CONNECT line, or
-    /// at once. Refused with 7 UnderWay where one is under way, and else with 8 Unread where data of the last one wasn't read.
-    pub fn begin(&mut self, by_connect: bool) -> Result<(), DataError>
-        ensures began { OnOk result (Hops self.old self.new (Passed (Began self.old.pipe.watch.dlci by_connect))) }
-        ensures under_way { result ≡ Err error.UnderWay → SaysLane self.old.pipe true }
-        ensures unread { result ≡ Err error.Unread → HasUnread self.old.pipe }
-        ensures others { OnErr result ((result ≡ Err error.UnderWay) ⊎ (result ≡ Err error.Unread)) }
+    /// A lane of a connection begins, of the opening that there is or else of the next: with data behind its next CONNECT line, or
+    /// at once. Refused with 6 NotData where the connection isn't one that may carry data, else with 7 UnderWay where a lane is under
+    /// way, and else with 8 Unread where data of the last one wasn't read.
+    pub fn begin(&mut self, dlci: Dlci, by_connect: bool) -> Result<(), DataError>
+        ensures began { OnOk result (Hops self.old self.new (Passed (Began dlci.number by_connect))) }
+        ensures not_data { result ≡ Err error.NotData → IsNotData self.old.pipes dlci.number }
+        ensures under_way { result ≡ Err error.UnderWay → OfEachPast self.old.pipes (λ past. is_idle (carries dlci.number past) ≡ false) }
+        ensures unread { result ≡ Err error.Unread → OfEachPast self.old.pipes (λ past.
+            (carries dlci.number past ≡ idle) × (data_read dlci.number past ≢ data_came dlci.number past)) }
+        ensures others { OnErr result ((result ≡ Err error.NotData) ⊎ ((result ≡ Err error.UnderWay) ⊎ (result ≡ Err error.Unread))) }
         ensures err { OnErr result (self.new ≡ self.old) }
     {
-        self.pipe.begin(by_connect)
+        self.pipes.begin(dlci, by_connect)
     }
 
     /// Gives the first octets of data that wait, as many as there is room for, and says how many, and whether that was the end of
-    /// the lane.
-    pub fn read(&mut self, room: &mut [u8]) -> Reading
-        ensures count { result.count ≡ min (length self.old.pipe.lane.came) (length room.old) }
-        ensures read { Hops self.old self.new (Passed (Read self.old.pipe.watch.dlci (take result.count room.new))) }
-        ensures over { SaysOver self.new.pipe result.is_over }
-        ensures behind { drop result.count room.new ≡ drop result.count room.old }
+    /// the lane. Refused with 6 NotData where the connection isn't one that may carry data.
+    pub fn read(&mut self, dlci: Dlci, room: &mut [u8]) -> Result<Reading, DataError>
+        ensures count { IfOk result (λ r. OfEachPast self.old.pipes (λ past. r.count ≡ min (unread dlci.number past) (length room.old))) }
+        ensures read { IfOk result (λ r. Hops self.old self.new (Passed (Read dlci.number (take r.count room.new)))) }
+        ensures over { IfOk result (λ r. OfEachPast self.new.pipes (λ past. r.is_over ≡ true ↔ IsOver dlci.number past)) }
+        ensures behind { IfOk result (λ r. drop r.count room.new ≡ drop r.count room.old) }
+        ensures not_data { OnErr result ((result ≡ Err error.NotData) × IsNotData self.old.pipes dlci.number) }
+        ensures err { OnErr result ((self.new ≡ self.old) × (room.new ≡ room.old)) }
     {
-        self.pipe.read(room)
+        self.pipes.read(dlci, room)
     }
 
     /// Takes the first octets to be sent as data, behind those that were given before, as far as 4096 wait then, and says how many.
-    /// Refused with 9 NotOpen where the connection isn't open, and else with 10 Lines where it doesn't carry data.
-    pub fn give(&mut self, octets: &[u8]) -> Result<usize, DataError>
-        ensures count { IfOk result (λ count. count ≡ min (length octets.now) (most_to_go - length self.old.pipe.lane.to_go)) }
-        ensures gave { IfOk result (λ count. Hops self.old self.new (Passed (Gave self.old.pipe.watch.dlci (take count octets.now)))) }
-        ensures not_open { result ≡ Err error.NotOpen → IsShut self.old.pipe }
-        ensures no_data { result ≡ Err error.Lines → HasNoData self.old.pipe }
-        ensures others { OnErr result ((result ≡ Err error.NotOpen) ⊎ (result ≡ Err error.Lines)) }
+    /// Refused with 6 NotData where the connection isn't one that may carry data, else with 9 NotOpen where it isn't open, and else
+    /// with 10 Lines where it doesn't carry data.
+    pub fn give(&mut self, dlci: Dlci, octets: &[u8]) -> Result<usize, DataError>
+        ensures count { IfOk result (λ count. OfEachPast self.old.pipes (λ past.
+            count ≡ min (length octets.now) (most_to_go - (length (given dlci.number past) - length (left dlci.number past))))) }
+        ensures gave { IfOk result (λ count. Hops self.old self.new (Passed (Gave dlci.number (take count octets.now)))) }
+        ensures not_data { result ≡ Err error.NotData → IsNotData self.old.pipes dlci.number }
+        ensures not_open { result ≡ Err error.NotOpen → OfEachPast self.old.pipes (λ past. is_open Initiator dlci.number (wire past) ≡ false) }
+        ensures no_data { result ≡ Err error.Lines → OfEachPast self.old.pipes (λ past. ¬ (carries dlci.number past ≡ in_data)) }
+        ensures others { OnErr result ((result ≡ Err error.NotData) ⊎ ((result ≡ Err error.NotOpen) ⊎ (result ≡ Err error.Lines))) }
         ensures err { OnErr result (self.new ≡ self.old) }
     {
-        self.pipe.give(octets)
+        self.pipes.give(dlci, octets)
     }
 
-    /// The line was lost: a lane is over, and no data leaves.
+    /// The line was lost: each lane is over, and no data leaves.
     pub fn lost(&mut self)
         ensures { Hops self.old self.new (Passed Lost) }
     {
-        self.pipe.lost();
+        self.pipes.lost();
     }
 
     /// Takes octets of the line, as many as there is room for, and says how many.
@@ -198,7 +205,7 @@ impl Relay {
         deframed();
         pass_in(
             &mut self.outer,
-            &mut self.pipe,
+            &mut self.pipes,
             self.n1,
             &mut self.to_driver,
         )
@@ -252,7 +259,7 @@ impl Relay {
         ensures some { result ≡ true → 0 < length self.new.to_line }
         ensures still { result ≡ false → self.new ≡ self.old }
     {
-        pass_out(&mut self.inner, &mut self.pipe, self.n1, &mut self.to_line)
+        pass_out(&mut self.inner, &mut self.pipes, self.n1, &mut self.to_line)
     }
 
     /// Puts the next frame of data for the line, where one may leave, and says whether there was one. Requires that every frame of
@@ -262,36 +269,33 @@ impl Relay {
         requires first { self.old.inner.next ≡ None }
         requires none_wait { (length self.old.to_line == 0) ≡ true }
         ensures left { result ≡ true → HopsBy self.old self.new (λ f. Passed (Left f)) }
-        ensures none { result ≡ false → HasNoneToSend self.old.pipe }
+        ensures none { result ≡ false → OfEachPast self.old.pipes (λ past. (d : ℕ) → NoneLeaves past d) }
         ensures some { result ≡ true → 0 < length self.new.to_line }
         ensures still { result ≡ false → self.new ≡ self.old }
     {
         deframed();
-        if !self.pipe.is_ready() {
-            return false;
-        }
         self.to_line.fit(usize::from(self.n1) + 7);
-        self.pipe.put_next(self.n1, &mut self.to_line);
-        true
+        self.pipes.put_next(self.n1, &mut self.to_line)
     }
 
-    /// Says to the other end that it may not go on with its data, where 8192 octets wait, or that it may, where fewer than 4096 do, by
-    /// an MSC, and answers whether it said anything. Requires that every frame of the driver's has gone, and that no octets wait.
+    /// Says to the other end that it may not go on with data of a connection, where 8192 octets wait, or that it may, where fewer than
+    /// 4096 do, by an MSC, and answers whether it said anything. Requires that every frame of the driver's has gone, and that no octets
+    /// wait.
     #[tactic(auto, using(crate::proofs::FrameRoom::room_for))]
     fn put_flow(&mut self) -> bool
         requires first { self.old.inner.next ≡ None }
         requires none_wait { (length self.old.to_line == 0) ≡ true }
         ensures flowed { result ≡ true → HopsBy self.old self.new (λ f. Passed (Flowed f)) }
-        ensures none { result ≡ false → SaysFlow self.old.pipe None }
+        ensures none { result ≡ false → OfEachPast self.old.pipes (λ past. (d : ℕ) (go : Bool) → ¬ IsDue d past go) }
         ensures some { result ≡ true → 0 < length self.new.to_line }
         ensures still { result ≡ false → self.new ≡ self.old }
     {
         deframed();
-        let Some(go) = self.pipe.flow() else {
+        let Some(flow) = self.pipes.due() else {
             return false;
         };
         self.to_line.fit(11);
-        let info = flow_info(self.pipe.dlci(), go);
+        let info = flow_info(flow.dlci, flow.go);
         let frame = FrameView {
             dlci: Dlci::CONTROL,
             kind: Kind::Uih,
@@ -300,12 +304,12 @@ impl Relay {
             info: &info,
         };
         self.to_line.put_frame(frame, self.n1);
-        self.pipe.flowed(frame);
+        self.pipes.flowed(flow, frame);
         true
     }
 
     /// Makes the next frame for the line where no octets wait for it: the driver's, or else one that says something of the flow, or
-    /// one of data. Says whether octets wait. Where none do, nothing may go to the line.
+    /// one of data, of the connection whose turn it is. Says whether octets wait. Where none do, nothing may go to the line.
     #[tactic(auto, using(crate::proofs::Relays::out_waits, crate::proofs::Relays::out_goes, crate::proofs::Relays::out_flows, crate::proofs::Relays::out_leaves))]
     pub fn ready(&mut self) -> bool
         ensures one { OneOut self.old self.new }

@@ -8,6 +8,6 @@ use Rattle.modem_data.proofs.relay.Relay.lost.Goals as goal
 
 pub returns : goal.returns
 returns c =
-    let old : Relay = record { outer = c.self.inside.outer; inner = c.self.inside.inner; pipe = c.self.inside.pipe; to_driver = c.self.inside.to_driver.items; to_line = c.self.inside.to_line.items } in
-    let new : Relay = record old { pipe = c.lost.new.self } in
-    subst (λ v. Hops v new (Passed Lost)) c.self.view_is (hops_lost old new c.lost.ensures.leads refl)
+    let old : Relay = record { outer = c.self.inside.outer; inner = c.self.inside.inner; pipes = c.self.inside.pipes; to_driver = c.self.inside.to_driver.items; to_line = c.self.inside.to_line.items } in
+    let new : Relay = record old { pipes = c.lost.new.self } in
+    subst (λ v. Hops v new (Passed Lost)) c.self.view_is (hops_lost old new c.lost.ensures refl)

@@ -7,6 +7,6 @@ use Rattle.modem_data.proofs.relay.Relay.wrote.Goals as goal
 
 pub returns : goal.returns
 returns c =
-    let old : Relay = record { outer = c.self.inside.outer; inner = c.self.inside.inner; pipe = c.self.inside.pipe; to_driver = c.self.inside.to_driver.items; to_line = c.self.inside.to_line.items } in
+    let old : Relay = record { outer = c.self.inside.outer; inner = c.self.inside.inner; pipes = c.self.inside.pipes; to_driver = c.self.inside.to_driver.items; to_line = c.self.inside.to_line.items } in
     let new : Relay = record old { to_line = c.pass.new.self.items } in
     subst (λ (v : Relay). Hops v new (Wrote (take c.args.count v.to_line))) c.self.view_is (hops_wrote old new (take c.args.count old.to_line) c.args.count refl c.pass.ensures.rest refl)

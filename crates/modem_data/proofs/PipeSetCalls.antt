@@ -1,0 +1,376 @@
+-- What a caller of several pipes does leads on, and what it is answered holds of every past.
+use Rattle.std.specs.Prelude.{◌≡◌, ◌≢◌, ◌⊎◌, ℕ, ◌+◌, ◌-◌, ◌<◌, ◌≤◌, ◌==◌, ◌&&◌, ◌||◌, ◌↔◌, nat_le, nat_lt, min, not, Bool, true, false, if◌then◌else◌, List, [], ◌∷◌, ◌++◌, length, take, map, All, Option, Some, None, Result, Ok, Err, IfOk, IfSome, OnOk, refl, slice_index_or, slice_set}
+use Rattle.std.proofs.Common.{ap, sym, ◌∙◌, subst, arith, suc, zero, inl, inr}
+use Rattle.std.proofs.lemmas.Bool.{eqb-true, eqb-false, ne_eqb, eq-eqb, and_parts, leb-true, leb-false, ltb-true, ltb-false, le-leb, lt-leb, or_cases}
+use Rattle.std.proofs.lemmas.List.{length-append, length-map, get_or_default}
+use Rattle.std.proofs.lemmas.List.Elements.{All-get_or, All-nil, All-cons}
+use Rattle.mux_frame.specs.Frames.{Frame}
+use Rattle.mux_station.specs.Acts as station
+use Rattle.mux_station.specs.declared.role.Role.TheVariants.{Initiator}
+use Rattle.mux_station.specs.Opening.{is_open}
+use Rattle.modem_data.specs.Switching.{Idle, Data, is_idle}
+use Rattle.modem_data.specs.DataLanes.{most_to_go}
+use Rattle.modem_data.specs.Watching.{Watch}
+use Rattle.modem_data.specs.Passing.{Pass, wire, Came, Flowed, Left, Began, Gave, Read, AllowsPass, ends_here, carries, data_came, data_read, given, left, unread, LawfulPasses, IsOver, IsDue, flow_frame}
+use Rattle.modem_data.specs.Pipes.{Pipe, PipeFits, Leads, LeadsLeft, HasNoneToSend, MayLeave, IsShut, HasNoData, HasUnread, SaysFlow, SaysLane, SaysOver, flowed_pipe}
+use Rattle.modem_data.specs.PipeSets.{PipeSet, PipesFit, AllLead, OfEachPast, IsNotData, NoneOf, NoneLeaves, AreApart, IsNext, IsFlowOf, LeavesInTurn, NonesIn, comes_before, connections, place_behind}
+use Rattle.modem_data.proofs.Watching.{watched_sent_info}
+use Rattle.modem_data.proofs.Pipes.{flowed_fits, idle_sent}
+use Rattle.modem_data.specs.declared.pipe_set.Flow.{Flow}
+use Rattle.mux_station.specs.Written.{is_data_frame}
+use Rattle.modem_data.proofs.PipeSets.{all_by, one_by, one_info, number_at}
+
+-- ## A caller's call on one connection
+
+apart_from : (d e : ℕ) → (d == e) ≡ false → (e == d) ≡ false
+apart_from d e x = ne_eqb e d (λ q. eqb-false d e x (sym q))
+
+other_began : (n1 d e : ℕ) (by_connect : Bool) (past : List Pass) (p : Pipe) → (e == d) ≡ false → AllowsPass n1 past (Began e by_connect) → PipeFits n1 d p past → PipeFits n1 d p (Began e by_connect ∷ past)
+unfolding LawfulPasses
+other_began n1 d e by_connect past p x allowed h = record {
+  dlci_is = h.dlci_is;
+  not_control = h.not_control;
+  lawful = (allowed, h.lawful);
+  watched = h.watched;
+  carries_is = rw x h.carries_is;
+  came_is = rw x h.came_is;
+  to_go_is = rw x h.to_go_is;
+  held_is = h.held_is;
+  by_driver_is = h.by_driver_is;
+}
+
+other_gave : (n1 d e : ℕ) (octets : List ℕ) (past : List Pass) (p : Pipe) → (e == d) ≡ false → AllowsPass n1 past (Gave e octets) → PipeFits n1 d p past → PipeFits n1 d p (Gave e octets ∷ past)
+unfolding LawfulPasses
+other_gave n1 d e octets past p x allowed h = record {
+  dlci_is = h.dlci_is;
+  not_control = h.not_control;
+  lawful = (allowed, h.lawful);
+  watched = h.watched;
+  carries_is = h.carries_is;
+  came_is = h.came_is;
+  to_go_is = rw x h.to_go_is;
+  held_is = h.held_is;
+  by_driver_is = h.by_driver_is;
+}
+
+other_read : (n1 d e : ℕ) (octets : List ℕ) (past : List Pass) (p : Pipe) → (e == d) ≡ false → AllowsPass n1 past (Read e octets) → PipeFits n1 d p past → PipeFits n1 d p (Read e octets ∷ past)
+unfolding LawfulPasses
+other_read n1 d e octets past p x allowed h = record {
+  dlci_is = h.dlci_is;
+  not_control = h.not_control;
+  lawful = (allowed, h.lawful);
+  watched = h.watched;
+  carries_is = h.carries_is;
+  came_is = rw x h.came_is;
+  to_go_is = h.to_go_is;
+  held_is = h.held_is;
+  by_driver_is = h.by_driver_is;
+}
+
+first_allowed : (n1 : ℕ) (past : List Pass) (a : Pass) → LawfulPasses n1 (a ∷ past) → AllowsPass n1 past a
+unfolding LawfulPasses
+first_allowed n1 past a h = h.0
+
+-- what the pipe at a place fits
+fits_at : (n1 : ℕ) (ds : List ℕ) (past : List Pass) (v : PipeSet) (i : ℕ) (p : Pipe) (e : ℕ) → i < length v.each → (slice_index_or v.each i p).watch.dlci ≡ e → PipesFit n1 ds v past → PipeFits n1 e (slice_index_or v.each i p) past
+fits_at n1 ds past v i p e there here h = subst (λ d. PipeFits n1 d (slice_index_or v.each i p) past) here (All-get_or (λ q. PipeFits n1 q.watch.dlci q past) v.each i p there h.each)
+
+each_is : (v w : PipeSet) (ps : List Pipe) → w ≡ record v { each = ps } → w.each ≡ ps
+each_is v w ps is = ap (λ (x : PipeSet). x.each) is
+
+turn_is : (v w : PipeSet) (ps : List Pipe) → w ≡ record v { each = ps } → w.turn ≡ v.turn
+turn_is v w ps is = ap (λ (x : PipeSet). x.turn) is
+
+pub one_began : (v w : PipeSet) (i : ℕ) (p : Pipe) (e : ℕ) (by_connect : Bool) → i < length v.each → (slice_index_or v.each i p).watch.dlci ≡ e → Leads (slice_index_or v.each i p) p (Began e by_connect) → p.watch ≡ (slice_index_or v.each i p).watch → w ≡ record v { each = slice_set v.each i p } → AllLead v w (Began e by_connect)
+unfolding AllLead Leads
+one_began v w i p e by_connect there here leads same is n1 ds past h =
+    let one = ap (λ (x : Watch). x.dlci) same in
+    let it = one ∙ here in
+    let fits = subst (λ d. PipeFits n1 d p (Began e by_connect ∷ past)) (sym it) (leads n1 e past (fits_at n1 ds past v i p e there here h)) in
+    let off : (c : ℕ) → (c == p.watch.dlci) ≡ false → (e == c) ≡ false = λ c x. apart_from c e (subst (λ d. (c == d) ≡ false) it x) in
+    one_by n1 ds past (Began e by_connect) v w i p there one (each_is v w (slice_set v.each i p) is) (turn_is v w (slice_set v.each i p) is ∙ h.turn_is) fits
+    (λ q x k. other_began n1 q.watch.dlci e by_connect past q (off q.watch.dlci x) (first_allowed n1 past (Began e by_connect) fits.lawful) k)
+    (λ c x idle. rw (off c x) idle) h
+
+pub one_gave : (v w : PipeSet) (i : ℕ) (p : Pipe) (e : ℕ) (octets : List ℕ) → i < length v.each → (slice_index_or v.each i p).watch.dlci ≡ e → Leads (slice_index_or v.each i p) p (Gave e octets) → p.watch ≡ (slice_index_or v.each i p).watch → w ≡ record v { each = slice_set v.each i p } → AllLead v w (Gave e octets)
+unfolding AllLead Leads
+one_gave v w i p e octets there here leads same is n1 ds past h =
+    let one = ap (λ (x : Watch). x.dlci) same in
+    let it = one ∙ here in
+    let fits = subst (λ d. PipeFits n1 d p (Gave e octets ∷ past)) (sym it) (leads n1 e past (fits_at n1 ds past v i p e there here h)) in
+    one_by n1 ds past (Gave e octets) v w i p there one (each_is v w (slice_set v.each i p) is) (turn_is v w (slice_set v.each i p) is ∙ h.turn_is) fits
+    (λ q x k. other_gave n1 q.watch.dlci e octets past q (apart_from q.watch.dlci e (subst (λ d. (q.watch.dlci == d) ≡ false) it x)) (first_allowed n1 past (Gave e octets) fits.lawful) k)
+    (λ c x idle. idle) h
+
+pub one_read : (v w : PipeSet) (i : ℕ) (p : Pipe) (e : ℕ) (octets : List ℕ) → i < length v.each → (slice_index_or v.each i p).watch.dlci ≡ e → Leads (slice_index_or v.each i p) p (Read e octets) → p.watch ≡ (slice_index_or v.each i p).watch → w ≡ record v { each = slice_set v.each i p } → AllLead v w (Read e octets)
+unfolding AllLead Leads
+one_read v w i p e octets there here leads same is n1 ds past h =
+    let one = ap (λ (x : Watch). x.dlci) same in
+    let it = one ∙ here in
+    let fits = subst (λ d. PipeFits n1 d p (Read e octets ∷ past)) (sym it) (leads n1 e past (fits_at n1 ds past v i p e there here h)) in
+    one_by n1 ds past (Read e octets) v w i p there one (each_is v w (slice_set v.each i p) is) (turn_is v w (slice_set v.each i p) is ∙ h.turn_is) fits
+    (λ q x k. other_read n1 q.watch.dlci e octets past q (apart_from q.watch.dlci e (subst (λ d. (q.watch.dlci == d) ≡ false) it x)) (first_allowed n1 past (Read e octets) fits.lawful) k)
+    (λ c x idle. idle) h
+
+-- ## What it is answered
+
+pub under_way_at : (v : PipeSet) (i : ℕ) (p : Pipe) (e : ℕ) → i < length v.each → (slice_index_or v.each i p).watch.dlci ≡ e → SaysLane (slice_index_or v.each i p) true → OfEachPast v (λ past. is_idle (carries e past) ≡ false)
+unfolding OfEachPast SaysLane
+under_way_at v i p e there here says n1 ds past h = at (is_idle (carries e past)) (says n1 e past (fits_at n1 ds past v i p e there here h))
+  where
+    at : (b : Bool) → true ≡ not b → b ≡ false
+    at true q = cc
+    at false q = refl
+
+pub unread_at : (v : PipeSet) (i : ℕ) (p : Pipe) (e : ℕ) → i < length v.each → (slice_index_or v.each i p).watch.dlci ≡ e → HasUnread (slice_index_or v.each i p) → OfEachPast v (λ past. (carries e past ≡ Idle) × (data_read e past ≢ data_came e past))
+unfolding OfEachPast HasUnread
+unread_at v i p e there here says n1 ds past h = says n1 e past (fits_at n1 ds past v i p e there here h)
+
+pub shut_at : (v : PipeSet) (i : ℕ) (p : Pipe) (e : ℕ) → i < length v.each → (slice_index_or v.each i p).watch.dlci ≡ e → IsShut (slice_index_or v.each i p) → OfEachPast v (λ past. is_open Initiator e (wire past) ≡ false)
+unfolding OfEachPast IsShut
+shut_at v i p e there here says n1 ds past h = says n1 e past (fits_at n1 ds past v i p e there here h)
+
+pub no_data_at : (v : PipeSet) (i : ℕ) (p : Pipe) (e : ℕ) → i < length v.each → (slice_index_or v.each i p).watch.dlci ≡ e → HasNoData (slice_index_or v.each i p) → OfEachPast v (λ past. ¬ (carries e past ≡ Data))
+unfolding OfEachPast HasNoData
+no_data_at v i p e there here says n1 ds past h = says n1 e past (fits_at n1 ds past v i p e there here h)
+
+unread_is : (x y z : List ℕ) → x ++ y ≡ z → length y ≡ length z - length x
+unread_is x y z e =
+    let n = length-append x y in
+    let m = ap (λ (xs : List ℕ). length xs) e in
+    omega (arith, n, m)
+
+pub reads_at : (v : PipeSet) (i : ℕ) (p : Pipe) (e : ℕ) (count room : ℕ) → i < length v.each → (slice_index_or v.each i p).watch.dlci ≡ e → count ≡ min (length (slice_index_or v.each i p).lane.came) room → OfEachPast v (λ past. count ≡ min (unread e past) room)
+unfolding OfEachPast
+reads_at v i p e count room there here is n1 ds past h =
+    let k = fits_at n1 ds past v i p e there here h in
+    is ∙ ap (λ n. min n room) (unread_is (data_read e past) (slice_index_or v.each i p).lane.came (data_came e past) k.came_is)
+
+pub gives_at : (v : PipeSet) (i : ℕ) (p : Pipe) (e : ℕ) (count many : ℕ) → i < length v.each → (slice_index_or v.each i p).watch.dlci ≡ e → count ≡ min many (most_to_go - length (slice_index_or v.each i p).lane.to_go) → OfEachPast v (λ past. count ≡ min many (most_to_go - (length (given e past) - length (left e past))))
+unfolding OfEachPast
+gives_at v i p e count many there here is n1 ds past h =
+    let k = fits_at n1 ds past v i p e there here h in
+    is ∙ ap (λ n. min many (most_to_go - n)) (unread_is (left e past) (slice_index_or v.each i p).lane.to_go (given e past) k.to_go_is)
+
+pub over_at : (v : PipeSet) (i : ℕ) (p : Pipe) (e : ℕ) (b : Bool) → i < length v.each → (slice_index_or v.each i p).watch.dlci ≡ e → SaysOver (slice_index_or v.each i p) b → OfEachPast v (λ past. b ≡ true ↔ IsOver e past)
+unfolding OfEachPast SaysOver
+over_at v i p e b there here says n1 ds past h = says n1 e past (fits_at n1 ds past v i p e there here h)
+
+pub not_data : (v : PipeSet) (e : ℕ) → NoneOf (connections v.each) e → IsNotData v e
+unfolding IsNotData
+not_data v e none n1 ds past h = subst (λ cs. NoneOf cs e) h.connections_are none
+
+-- ## Each connection is one of them, or none
+
+record IsAt (ps : List Pipe) (e : ℕ) : Type 0 where
+  place : ℕ
+  pipe : Pipe
+  there : place < length ps
+  here : (slice_index_or ps place pipe).watch.dlci ≡ e
+
+find : (ps : List Pipe) (e : ℕ) → IsAt ps e ⊎ NoneOf (connections ps) e
+unfolding NoneOf
+find [] e = inr (All-nil (λ d. (d == e) ≡ false))
+find (p ∷ ps) e = at (p.watch.dlci == e) refl (find ps e)
+  where
+    at : (b : Bool) → (p.watch.dlci == e) ≡ b → IsAt ps e ⊎ All (λ d. (d == e) ≡ false) (connections ps) → IsAt (p ∷ ps) e ⊎ All (λ d. (d == e) ≡ false) (p.watch.dlci ∷ connections ps)
+    at true q later = inl (record { place = 0; pipe = p; there = omega arith; here = eqb-true p.watch.dlci e q })
+    at false q (inl i) = inl (record { place = suc i.place; pipe = i.pipe; there = let l = i.there in omega (arith, l); here = i.here })
+    at false q (inr none) = inr (All-cons (λ d. (d == e) ≡ false) p.watch.dlci (connections ps) q none)
+
+-- what holds of the pipe of each connection, and of those that have none, holds of all
+pub each_one : (v : PipeSet) (P : List Pass → ℕ → Type 0) → ((j : ℕ) (p : Pipe) → j < length v.each → (n1 : ℕ) (past : List Pass) → PipeFits n1 (slice_index_or v.each j p).watch.dlci (slice_index_or v.each j p) past → P past (slice_index_or v.each j p).watch.dlci) → ((past : List Pass) (e : ℕ) → carries e past ≡ Idle → P past e) → OfEachPast v (λ past. (e : ℕ) → P past e)
+unfolding OfEachPast
+each_one v P own other n1 ds past h e = at (find v.each e)
+  where
+    at : IsAt v.each e ⊎ NoneOf (connections v.each) e → P past e
+    at (inr none) = other past e (h.others e (subst (λ cs. NoneOf cs e) h.connections_are none))
+    at (inl i) = subst (λ d. P past d) i.here (own i.place i.pipe i.there n1 past (All-get_or (λ q. PipeFits n1 q.watch.dlci q past) v.each i.place i.pipe i.there h.each))
+
+-- ## Flow
+
+pub flow_of : (ps : List Pipe) (i d : ℕ) (go : Bool) → i < length ps → ((p : Pipe) → (slice_index_or ps i p).watch.dlci ≡ d) → ((p : Pipe) → SaysFlow (slice_index_or ps i p) (Some go)) → IsFlowOf ps d go
+flow_of ps i d go there here says = record { place = i; there = there; here = here; says = says }
+
+some_pipe : (ps : List Pipe) (i : ℕ) → i < length ps → Pipe
+some_pipe [] i there = absurd (omega (arith, there))
+some_pipe (p ∷ ps) i there = p
+
+pub due_of : (v : PipeSet) (d : ℕ) (go : Bool) → IsFlowOf v.each d go → OfEachPast v (λ past. IsDue d past go)
+unfolding OfEachPast SaysFlow
+due_of v d go f n1 ds past h =
+    let p = some_pipe v.each f.place f.there in
+    f.says p n1 d past (fits_at n1 ds past v f.place p d f.there (f.here p) h)
+
+-- nothing is to be said of any pipe
+pub none_due : (v : PipeSet) → ((j : ℕ) (p : Pipe) → j < length v.each → SaysFlow (slice_index_or v.each j p) None) → OfEachPast v (λ past. (e : ℕ) (go : Bool) → ¬ IsDue e past go)
+unfolding SaysFlow
+none_due v say =
+    each_one v (λ past e. (go : Bool) → ¬ IsDue e past go)
+    (λ j p there n1 past k go due. say j p there n1 (slice_index_or v.each j p).watch.dlci past go k due)
+    (λ past e idle go due.
+    let x : true ≡ false = sym (ap is_idle idle) ∙ due.lane in
+    cc)
+
+-- what is due is said, and each pipe sees it
+pub all_flowed : (v w : PipeSet) (d : ℕ) (go : Bool) (f : Frame) → OfEachPast v (λ past. IsDue d past go) → f ≡ flow_frame d go → w ≡ record v { each = map (flowed_pipe f) v.each } → AllLead v w (Flowed f)
+unfolding AllLead LawfulPasses OfEachPast
+all_flowed v w d go f due written e n1 ds past h =
+    let allowed : AllowsPass n1 past (Flowed f) = record { dlci = d; go = go; is_due = due n1 ds past h; as_written = written } in
+    all_by n1 ds past (Flowed f) (flowed_pipe f) v w e (λ p. refl) (λ p k. flowed_fits n1 p.watch.dlci p past f allowed k) (allowed, h.lawful) (λ c i. idle_sent (ends_here c past (station.Sent f)) (carries c past) i) refl h
+
+-- ## Data leaves
+
+-- nothing may leave any
+pub none_leaves : (v : PipeSet) → ((j : ℕ) (p : Pipe) → j < length v.each → HasNoneToSend (slice_index_or v.each j p)) → OfEachPast v (λ past. (e : ℕ) → NoneLeaves past e)
+unfolding HasNoneToSend
+none_leaves v none =
+    each_one v (λ past e. NoneLeaves past e)
+    (λ j p there n1 past k. none j p there n1 (slice_index_or v.each j p).watch.dlci past k)
+    (λ past e idle data_there may.
+    let x : Idle ≡ Data = sym idle ∙ data_there in
+    cc)
+
+-- the first that may send, from the turn on, or else from the beginning
+pub next_later : (v : PipeSet) (i : ℕ) → v.turn ≤ i → i < length v.each → ((p : Pipe) → MayLeave (slice_index_or v.each i p)) → NonesIn v.each v.turn i → IsNext v i
+unfolding NonesIn
+next_later v i later there may none = record {
+  there = there;
+  may = may;
+  none_before = λ j p short before.
+      let is : nat_le v.turn j && nat_lt j i ≡ true = subst (λ (b : Bool). (if b then nat_le v.turn j && nat_lt j i else (nat_le v.turn j || nat_lt j i)) ≡ true) (le-leb v.turn i later) before in
+      let parts = and_parts (nat_le v.turn j) (nat_lt j i) is in
+      none j p (leb-true v.turn j parts.0) (ltb-true j i parts.1);
+}
+
+pub next_round : (v : PipeSet) (i : ℕ) → i < v.turn → v.turn ≤ length v.each → ((p : Pipe) → MayLeave (slice_index_or v.each i p)) → NonesIn v.each v.turn (length v.each) → NonesIn v.each 0 i → IsNext v i
+unfolding NonesIn
+next_round v i before all may later first = record {
+  there = omega (arith, before, all);
+  may = may;
+  none_before = λ j p short b. at j p short (or_cases (nat_le v.turn j) (nat_lt j i) (subst (λ (x : Bool). (if x then nat_le v.turn j && nat_lt j i else (nat_le v.turn j || nat_lt j i)) ≡ true) (lt-leb v.turn i before) b));
+}
+  where
+    at : (j : ℕ) (p : Pipe) → j < length v.each → (nat_le v.turn j ≡ true) ⊎ (nat_lt j i ≡ true) → HasNoneToSend (slice_index_or v.each j p)
+    at j p short (inl e) = later j p (leb-true v.turn j e) short
+    at j p short (inr f) = first j p (omega arith) (ltb-true j i f)
+
+pub none_at_all : (v : PipeSet) → NonesIn v.each v.turn (length v.each) → NonesIn v.each 0 v.turn → (j : ℕ) (p : Pipe) → j < length v.each → HasNoneToSend (slice_index_or v.each j p)
+unfolding NonesIn
+none_at_all v later first j p there = at (nat_le v.turn j) refl
+  where
+    at : (b : Bool) → nat_le v.turn j ≡ b → HasNoneToSend (slice_index_or v.each j p)
+    at true e = later j p (leb-true v.turn j e) there
+    at false e =
+        let l = leb-false v.turn j e in
+        first j p (omega arith) (omega (arith, l))
+
+-- the place behind a connection's, which is one of them alone
+behind_there : (ds : List ℕ) (i e : ℕ) → i < length ds → ((x : ℕ) → slice_index_or ds i x ≡ e) → ((j x : ℕ) → j < i → (slice_index_or ds j x == e) ≡ false) → place_behind ds e ≡ i + 1
+behind_there [] i e there here before = absurd (omega (arith, there))
+behind_there (d ∷ ds) zero e there here before = rw (eq-eqb d e (here 0)) refl
+behind_there (d ∷ ds) (suc i) e there here before =
+    let later = behind_there ds i e (omega (arith, there)) here (λ j x l. before (suc j) x (omega (arith, l))) in
+    rw (before 0 0 (omega arith)) (omega (arith, later))
+
+other_left : (n1 d : ℕ) (f : Frame) (past : List Pass) (p : Pipe) → (f.dlci == d) ≡ false → (f.dlci == 0) ≡ false → AllowsPass n1 past (Left f) → PipeFits n1 d p past → PipeFits n1 d p (Left f ∷ past)
+unfolding LawfulPasses
+other_left n1 d f past p x z allowed h = record {
+  dlci_is = h.dlci_is;
+  not_control = h.not_control;
+  lawful = (allowed, h.lawful);
+  watched = watched_sent_info p.watch (wire past) f (ap (λ (g : Frame). g.kind) allowed.as_written) z h.watched;
+  carries_is = h.carries_is;
+  came_is = h.came_is;
+  to_go_is = rw x h.to_go_is;
+  held_is = h.held_is;
+  by_driver_is = h.by_driver_is;
+}
+
+pub leaves : (n1 : ℕ) (v w : PipeSet) (i : ℕ) (p : Pipe) (f : Frame) → IsNext v i → LeadsLeft n1 (slice_index_or v.each i p) p f → f.dlci ≡ (slice_index_or v.each i p).watch.dlci → p.watch ≡ (slice_index_or v.each i p).watch → w.each ≡ slice_set v.each i p → w.turn ≡ i + 1 → LeavesInTurn n1 v w f
+unfolding LeavesInTurn LeadsLeft AreApart HasNoneToSend
+leaves n1 v w i p f next leads on same is turn ds past h = (
+  one_by n1 ds past (Left f) v w i p next.there one is (turn ∙ sym behind) fits
+      (λ q x k. other_left n1 q.watch.dlci f past q (apart_from q.watch.dlci f.dlci (subst (λ d. (q.watch.dlci == d) ≡ false) it x)) not_zero (first_allowed n1 past (Left f) fits.lawful) k)
+      (λ c x idle. idle) h,
+  record {
+    place = i;
+    there = omega (arith, long, there);
+    here = here;
+    none_before = λ j x short before.
+        let near : j < length v.each = omega (arith, long, short) in
+        let is_number : (slice_index_or v.each j p).watch.dlci ≡ slice_index_or ds j x = sym (number_at v.each j p x near) ∙ ap (λ (cs : List ℕ). slice_index_or cs j x) h.connections_are in
+        let k = All-get_or (λ q. PipeFits n1 q.watch.dlci q past) v.each j p near h.each in
+        subst (λ d. NoneLeaves past d) is_number (next.none_before j p near (subst (λ t. comes_before t j i ≡ true) (sym h.turn_is) before) n1 (slice_index_or v.each j p).watch.dlci past k);
+  },
+)
+  where
+    there : i < length v.each
+    there = next.there
+
+    one : p.watch.dlci ≡ (slice_index_or v.each i p).watch.dlci
+    one = ap (λ (x : Watch). x.dlci) same
+
+    it : p.watch.dlci ≡ f.dlci
+    it = one ∙ sym on
+
+    old : PipeFits n1 (slice_index_or v.each i p).watch.dlci (slice_index_or v.each i p) past
+    old = All-get_or (λ q. PipeFits n1 q.watch.dlci q past) v.each i p next.there h.each
+
+    fits : PipeFits n1 p.watch.dlci p (Left f ∷ past)
+    fits = subst (λ d. PipeFits n1 d p (Left f ∷ past)) (sym one) (leads (slice_index_or v.each i p).watch.dlci past old)
+
+    not_zero : (f.dlci == 0) ≡ false
+    not_zero = ap (λ d. d == 0) on ∙ old.not_control
+
+    long : length ds ≡ length v.each
+    long = ap (λ (cs : List ℕ). length cs) (sym h.connections_are) ∙ length-map v.each (λ (q : Pipe). q.watch.dlci)
+
+    here : (x : ℕ) → slice_index_or ds i x ≡ f.dlci
+    here x = ap (λ (cs : List ℕ). slice_index_or cs i x) (sym h.connections_are) ∙ (number_at v.each i p x next.there ∙ sym on)
+
+    behind : place_behind ds f.dlci ≡ i + 1
+    behind =
+        let there_ds : i < length ds = omega (arith, long, there) in
+        behind_there ds i f.dlci there_ds here (λ j x before.
+        let near : j < length ds = omega (arith, before, there_ds) in
+        subst (λ d. (slice_index_or ds j x == d) ≡ false) (here x) (h.apart i j x there_ds near (λ q. omega (arith, q, before))))
+
+-- ## A place that is looked for
+
+pub nones_none : (ps : List Pipe) (n : ℕ) → NonesIn ps n n
+unfolding NonesIn
+nones_none ps n j p late early = absurd (omega (arith, late, early))
+
+pub nones_more : (ps : List Pipe) (from i : ℕ) (p : Pipe) → i < length ps → HasNoneToSend (slice_index_or ps i p) → NonesIn ps from i → NonesIn ps from (i + 1)
+unfolding NonesIn
+nones_more ps from i p there none before j q late near = at (nat_lt j i) refl
+  where
+    at : (b : Bool) → nat_lt j i ≡ b → HasNoneToSend (slice_index_or ps j q)
+    at true e = before j q late (ltb-true j i e)
+    at false e =
+        let far = ltb-false j i e in
+        let here : i ≡ j = omega (arith, far, near) in
+        subst (λ n. HasNoneToSend (slice_index_or ps n q)) here (subst HasNoneToSend (get_or_default ps i p q there) none)
+
+-- ## What a call answers
+
+pub began_by : {A X : Type 0} (v w : PipeSet) (i : ℕ) (p : Pipe) (e : ℕ) (by_connect : Bool) (r : Result A X) → i < length v.each → (slice_index_or v.each i p).watch.dlci ≡ e → OnOk r (Leads (slice_index_or v.each i p) p (Began e by_connect)) → p.watch ≡ (slice_index_or v.each i p).watch → w ≡ record v { each = slice_set v.each i p } → OnOk r (AllLead v w (Began e by_connect))
+began_by v w i p e by_connect (Ok x) there here leads same is = one_began v w i p e by_connect there here leads same is
+began_by v w i p e by_connect (Err x) there here leads same is = tt
+
+pub gave_by : {X : Type 0} (v w : PipeSet) (i : ℕ) (p : Pipe) (e : ℕ) (octets : List ℕ) (r : Result ℕ X) → i < length v.each → (slice_index_or v.each i p).watch.dlci ≡ e → IfOk r (λ count. Leads (slice_index_or v.each i p) p (Gave e (take count octets))) → p.watch ≡ (slice_index_or v.each i p).watch → w ≡ record v { each = slice_set v.each i p } → IfOk r (λ count. AllLead v w (Gave e (take count octets)))
+gave_by v w i p e octets (Ok count) there here leads same is = one_gave v w i p e (take count octets) there here leads same is
+gave_by v w i p e octets (Err x) there here leads same is = tt
+
+pub gives_by : {X : Type 0} (v : PipeSet) (i : ℕ) (p : Pipe) (e many : ℕ) (r : Result ℕ X) → i < length v.each → (slice_index_or v.each i p).watch.dlci ≡ e → IfOk r (λ count. count ≡ min many (most_to_go - length (slice_index_or v.each i p).lane.to_go)) → IfOk r (λ count. OfEachPast v (λ past. count ≡ min many (most_to_go - (length (given e past) - length (left e past)))))
+gives_by v i p e many (Ok count) there here is = gives_at v i p e count many there here is
+gives_by v i p e many (Err x) there here is = tt
+
+pub came_by : {A X : Type 0} (v w : PipeSet) (i : ℕ) (p : Pipe) (f : Frame) (r : Result A X) → is_data_frame f ≡ true → i < length v.each → (slice_index_or v.each i p).watch.dlci ≡ f.dlci → OnOk r (Leads (slice_index_or v.each i p) p (Came f)) → p.watch ≡ (slice_index_or v.each i p).watch → w ≡ record v { each = slice_set v.each i p } → OnOk r (AllLead v w (Came f))
+came_by v w i p f (Ok x) e there here leads same is = one_info v w i p f e there here leads same is
+came_by v w i p f (Err x) e there here leads same is = tt
+
+pub due_by : (v : PipeSet) (r : Option Flow) → IfSome r (λ f. IsFlowOf v.each f.dlci.number f.go) → IfSome r (λ f. OfEachPast v (λ past. IsDue f.dlci.number past f.go))
+due_by v (Some f) is = due_of v f.dlci.number f.go is
+due_by v None is = tt

@@ -1,0 +1,59 @@
+-- Octets are given for one.
+use Rattle.std.proofs.Common.{rules, ◌≡◌, ◌<◌, length, get_or, slice_set, ap, subst, ◌∙◌, refl}
+use Rattle.std.specs.Prelude.{ℕ, ◌-◌, min, take, false, IfOk}
+use Rattle.mux_station.specs.declared.role.Role.TheVariants.{Initiator}
+use Rattle.mux_station.specs.Opening.{is_open}
+use Rattle.std.proofs.lemmas.List.{get_or_default}
+use Rattle.modem_data.specs.Switching.{Data}
+use Rattle.modem_data.specs.DataLanes.{most_to_go}
+use Rattle.modem_data.specs.Passing.{Gave, carries, given, left, wire}
+use Rattle.modem_data.specs.Pipes.{Pipe, Leads, IsShut, HasNoData}
+use Rattle.modem_data.specs.PipeSets.{PipeSet, AllLead, OfEachPast}
+use Rattle.modem_data.proofs.PipeSetCalls.{gave_by, gives_by, shut_at, no_data_at}
+use Rattle.modem_data.proofs.pipe_set.Pipes.give.Goals as goal
+
+pub returns-clause-count : goal.returns-clause-count
+returns-clause-count c =
+    let old : PipeSet = record { each = c.self.inside.each.items; turn = c.self.inside.turn } in
+    let p = c.give.new.self in
+    let place = c.in-Some.place in
+    let there : place < length old.each = search rules in
+    let here : (get_or old.each place p).watch.dlci ≡ c.args.dlci.number = search rules in
+    let it : c.index_mut.result.now ≡ get_or old.each place p = c.index_mut.ensures.value ∙ get_or_default old.each place c.index_mut.result.now p there in
+    let many = length c.args.octets.now in
+    let d = c.args.dlci.number in
+    subst (λ (v : PipeSet). IfOk c.give.result (λ count. OfEachPast v (λ past. count ≡ min many (most_to_go - (length (given d past) - length (left d past)))))) c.self.view_is (gives_by old place p d many c.give.result there here (subst (λ (q : Pipe). IfOk c.give.result (λ count. count ≡ min many (most_to_go - length q.lane.to_go))) it c.give.ensures.count))
+
+pub returns-clause-leads : goal.returns-clause-leads
+returns-clause-leads c =
+    let old : PipeSet = record { each = c.self.inside.each.items; turn = c.self.inside.turn } in
+    let p = c.give.new.self in
+    let place = c.in-Some.place in
+    let there : place < length old.each = search rules in
+    let here : (get_or old.each place p).watch.dlci ≡ c.args.dlci.number = search rules in
+    let it : c.index_mut.result.now ≡ get_or old.each place p = c.index_mut.ensures.value ∙ get_or_default old.each place c.index_mut.result.now p there in
+    let new : PipeSet = record old { each = slice_set old.each place p } in
+    let same : p.watch ≡ (get_or old.each place p).watch = c.give.ensures.same ∙ ap (λ (q : Pipe). q.watch) it in
+    let leads = subst (λ (q : Pipe). IfOk c.give.result (λ count. Leads q p (Gave q.watch.dlci (take count c.args.octets.now)))) it c.give.ensures.leads in
+    let led = subst (λ (e : ℕ). IfOk c.give.result (λ count. Leads (get_or old.each place p) p (Gave e (take count c.args.octets.now)))) here leads in
+    subst (λ (v : PipeSet). IfOk c.give.result (λ count. AllLead v new (Gave c.args.dlci.number (take count c.args.octets.now)))) c.self.view_is (gave_by old new place p c.args.dlci.number c.args.octets.now c.give.result there here led same refl)
+
+pub returns-clause-not_open : goal.returns-clause-not_open
+returns-clause-not_open c =
+    let old : PipeSet = record { each = c.self.inside.each.items; turn = c.self.inside.turn } in
+    let p = c.give.new.self in
+    let place = c.in-Some.place in
+    let there : place < length old.each = search rules in
+    let here : (get_or old.each place p).watch.dlci ≡ c.args.dlci.number = search rules in
+    let it : c.index_mut.result.now ≡ get_or old.each place p = c.index_mut.ensures.value ∙ get_or_default old.each place c.index_mut.result.now p there in
+    λ e. subst (λ (v : PipeSet). OfEachPast v (λ past. is_open Initiator c.args.dlci.number (wire past) ≡ false)) c.self.view_is (shut_at old place p c.args.dlci.number there here (subst IsShut it (c.give.ensures.not_open e)))
+
+pub returns-clause-no_data : goal.returns-clause-no_data
+returns-clause-no_data c =
+    let old : PipeSet = record { each = c.self.inside.each.items; turn = c.self.inside.turn } in
+    let p = c.give.new.self in
+    let place = c.in-Some.place in
+    let there : place < length old.each = search rules in
+    let here : (get_or old.each place p).watch.dlci ≡ c.args.dlci.number = search rules in
+    let it : c.index_mut.result.now ≡ get_or old.each place p = c.index_mut.ensures.value ∙ get_or_default old.each place c.index_mut.result.now p there in
+    λ e. subst (λ (v : PipeSet). OfEachPast v (λ past. ¬ (carries c.args.dlci.number past ≡ Data))) c.self.view_is (no_data_at old place p c.args.dlci.number there here (subst HasNoData it (c.give.ensures.no_data e)))
