@@ -74,16 +74,25 @@ static int read_final(int fd, long until)
 	}
 }
 
+static bool write_text(int fd, const char *text)
+{
+	return write(fd, text, strlen(text)) == (ssize_t)strlen(text);
+}
+
 int line_enter(int fd)
 {
-	/* a CLD command (27.010, 5.4.6.3.3), for a modem that was left in the multiplexer, and then the text */
-	static const char ask[] = "\xF9\x03\xEF\x05\xC3\x01\xF2\xF9" "AT+CMUX=0\r";
+	/* for a modem that was left in the multiplexer: flags that end a frame of up to 31 octets, a CLD command (27.010,
+	 * 5.4.6.3.3), and a CR, so that to one at plain commands this is a line of its own */
+	static const char flags[] = "\xF9\xF9\xF9\xF9\xF9\xF9\xF9\xF9\xF9\xF9\xF9\xF9\xF9\xF9\xF9\xF9\xF9"
+				    "\xF9\xF9\xF9\xF9\xF9\xF9\xF9\xF9\xF9\xF9\xF9\xF9\xF9\xF9\xF9\xF9\xF9";
+	static const char close_down[] = "\xF9\x03\xEF\x05\xC3\x01\xF2\xF9\r";
+	static const char ask[] = "AT+CMUX=0\r";
 
 	for (int tries = 0; tries < 3; tries++) {
-		const char *from = ask + (tries == 0 ? 8 : 0);
-
+		if (tries > 0 && (!write_text(fd, flags) || !write_text(fd, close_down) || poll(NULL, 0, 300) != 0))
+			return -1;
 		tcflush(fd, TCIFLUSH);
-		if (write(fd, from, strlen(from)) != (ssize_t)strlen(from))
+		if (!write_text(fd, ask))
 			return -1;
 		int said = read_final(fd, milliseconds() + 1000);
 		if (said <= 0)
