@@ -6,7 +6,7 @@
  * reads no clock and calls nothing back. You give it the octets that came, and write those that it
  * gives. You make requests, and each gets a number. Later you take one outcome for each number.
  *
- * This is one round of a program, once the modem answered AT+CMUX=0 by OK:
+ * This is one round of a program, once the modem answered AT+CMUX=0 by OK (cimbaloty_enter.h):
  *
  *     while ((count = cimbaloty_output(&c, room, sizeof room)) > 0)
  *         write all of them to the line, or cimbaloty_line_lost(&c);
@@ -68,6 +68,11 @@ enum cimbaloty_status {
 	CIMBALOTY_HAS_DIALECT = 24, /* there is a dialect already */
 	CIMBALOTY_NO_DIALECT = 25,  /* there is none */
 	CIMBALOTY_BAD_FORM = 26,    /* not one of enum cimbaloty_form */
+	CIMBALOTY_ENTERED = 27,     /* of cimbaloty_enter.h: the modem is in the multiplexer */
+	CIMBALOTY_TURNED_DOWN = 28, /* the modem answered, and not by OK */
+	CIMBALOTY_SILENT = 29,      /* it didn't answer */
+	CIMBALOTY_HAS_ENTRY = 30,   /* there is an entry already */
+	CIMBALOTY_NO_ENTRY = 31,    /* there is none */
 	CIMBALOTY_NO_AT = 33,       /* a command line begins with AT or at, */
 	CIMBALOTY_BAD_OCTET = 34,   /* has the octets 20 to 7E hex alone, */
 	CIMBALOTY_TOO_LONG = 35,    /* and is at most 256 octets long */
