@@ -4,9 +4,10 @@
 #include <stdio.h>
 #include <string.h>
 
-enum { TRIES = 3, ANSWER = 1000, INIT_ANSWER = 30000, PAUSE = 300 };    /* milliseconds */
+enum { TRIES = 3, ANSWER = 1000, INIT_ANSWER = 30000, PAUSE = 300 };    /* milliseconds, but TRIES */
+enum { FLAG = 0xF9, HEAD = 3, BITS = 10 };      /* address, control and check octet; an octet on the line */
 
-static const char close_down[] = "\xF9\x03\xEF\x05\xC3\x01\xF2\xF9";
+static const char close_down[] = "\xF9\x03\xEF\x05\xC3\x01\xF2\xF9\r";
 
 /* AT stands before the commands of --init, so that a modem that is left in the multiplexer gets none of them there. */
 static unsigned last_step(const struct options *o)
@@ -30,6 +31,7 @@ static void put(struct entry *e, const char *text, size_t length)
 {
 	memcpy(e->out, text, length);
 	e->out_length = length;
+	e->flags = 0;
 	e->length = 0;
 }
 
@@ -113,8 +115,9 @@ static void try_again(struct entry *e, int64_t now)
 		return;
 	}
 	put(e, close_down, sizeof close_down - 1);
+	e->flags = e->options->n1 + HEAD;
 	e->is_pausing = true;
-	e->until = now + PAUSE;
+	e->until = now + PAUSE + (int64_t)e->flags * BITS * 1000 / e->options->speed;
 }
 
 void entry_pass(struct entry *e, int64_t now)
@@ -133,10 +136,13 @@ void entry_pass(struct entry *e, int64_t now)
 
 size_t entry_output(struct entry *e, uint8_t *octets, size_t room)
 {
-	size_t count = e->out_length < room ? e->out_length : room;
+	size_t flags = e->flags < room ? e->flags : room;
+	size_t count = e->out_length < room - flags ? e->out_length : room - flags;
 
-	memcpy(octets, e->out, count);
+	memset(octets, FLAG, flags);
+	e->flags -= (unsigned)flags;
+	memcpy(octets + flags, e->out, count);
 	memmove(e->out, e->out + count, e->out_length - count);
 	e->out_length -= count;
-	return count;
+	return flags + count;
 }

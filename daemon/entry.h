@@ -2,7 +2,9 @@
  *
  * The texts are sent one behind the other, each once the one before it was answered: AT and the commands of --init,
  * where there are any, and then the command that enters (27.007, 5.7). Where nothing answers the first of them, a modem
- * that was left in the multiplexer is told to close down (27.010, 5.4.6.3.3), given time, and asked again. */
+ * that was left in the multiplexer is told to close down (27.010, 5.4.6.3.3), given time, and asked again. Before that go
+ * N1 + 3 flags, which end a frame that a driver left unfinished, and behind it a CR: to a modem at plain commands all of it
+ * is a line of its own. */
 #ifndef ENTRY_H
 #define ENTRY_H
 
@@ -27,6 +29,7 @@ struct entry {
 	int64_t until;          /* when the pause or the time for an answer is over */
 	char line[128];         /* what came of a line */
 	size_t length;
+	unsigned flags;         /* flags that are to be sent first */
 	char out[COMMAND + 2];  /* what is to be sent */
 	size_t out_length;
 };

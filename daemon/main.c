@@ -11,6 +11,7 @@
 #include "terminal.h"
 #include <errno.h>
 #include <fcntl.h>
+#include <inttypes.h>
 #include <limits.h>
 #include <poll.h>
 #include <signal.h>
@@ -48,9 +49,11 @@ static void answer(struct daemon *d, const struct cimbaloty_outcome *o, const ch
 		t->is_waiting = false;
 		if (t->is_orphan)
 			return;
-		if (o->answer != CIMBALOTY_DONE)
+		bool is_whole = o->answer == CIMBALOTY_DONE && !modem_is_cut(&d->modem, i);
+
+		if (!is_whole)
 			terminal_put(t, "ERROR", 5);
-		for (size_t at = 0; at < o->length;) {
+		for (size_t at = 0; is_whole && at < o->length;) {
 			const char *line_end = memchr(text + at, '\n', o->length - at);
 			size_t length = line_end ? (size_t)(line_end - (text + at)) : o->length - at;
 
@@ -156,7 +159,7 @@ static void report(struct daemon *d)
 
 	say(LOG_NOTICE, "%s %s; N1 %u, T1 %u ms; entered %lu times, lost %lu times%s%s", m->options->tty, stages[m->stage], m->options->n1,
 	    m->options->t1, m->entries, m->losses, *m->told ? "; " : "", m->told);
-	say(LOG_NOTICE, "frames: %lu came and %lu went; bad %lu, longer than N1 %lu, the longest %u octets; %lu octets outside of frames",
+	say(LOG_NOTICE, "frames: %" PRIu64 " came and %" PRIu64 " went; bad %" PRIu64 ", longer than N1 %" PRIu64 ", the longest %u octets; %" PRIu64 " octets outside of frames",
 	    m->came.whole, m->went.whole, m->came.bad, m->came.longer, m->came.longest, m->came.outside);
 	for (unsigned i = 1; i <= d->terminals.count; i++) {
 		const struct terminal *t = &d->terminals.all[i];

@@ -5,7 +5,6 @@
 #include "tty.h"
 #include "watch.h"
 #include <errno.h>
-#include <limits.h>
 #include <stdarg.h>
 #include <stdio.h>
 #include <stdlib.h>
@@ -65,8 +64,8 @@ static void begin_line(struct modem *m, int fd, int64_t now)
 	}
 	tcflush(m->fd, TCIFLUSH);
 	m->in_at = m->in_length = m->out_at = m->out_length = 0;
-	frames_begin(&m->came, o->n1);
-	frames_begin(&m->went, o->n1);
+	cimbaloty_frames_begin(&m->came, (uint16_t)o->n1);
+	cimbaloty_frames_begin(&m->went, (uint16_t)o->n1);
 	entry_begin(&m->entry, o, now);
 	m->stage = MODEM_ENTERING;
 }
@@ -107,7 +106,7 @@ static void be_up(struct modem *m, int64_t now)
 	m->stage = MODEM_UP;
 	m->stop = 0;
 	m->up_at = m->heard_at = now;
-	m->said_longer = m->came.longer;
+	m->said_longer = false;
 	m->told[0] = 0;
 	m->entries++;
 	say(LOG_NOTICE, "%s is in the multiplexer", m->options->tty);
@@ -137,16 +136,18 @@ static void enter(struct modem *m, int64_t now, bool can_read)
 /* Counts the frames in what the driver took. */
 static void count(struct modem *m, const uint8_t *octets, size_t length, int64_t now)
 {
-	unsigned long before = m->came.whole;
+	uint64_t before = m->came.whole;
 
-	frames_take(&m->came, octets, length);
+	cimbaloty_frames_take(&m->came, octets, length);
 	if (m->came.whole != before)
 		m->heard_at = now;
-	if (m->came.longer > m->said_longer && m->said_longer != ULONG_MAX) {
-		say(LOG_WARNING, "a frame of %u octets came, and N1 is %u: such frames are dropped, and answers come without them or not at all; see --n1 and --entry",
+	if (m->came.longer_on && !m->said_longer) {
+		say(LOG_WARNING, "a frame of %u octets came, and N1 is %u: such frames are dropped, and answers that have one are told as ERROR; see --n1 and --entry",
 		    m->came.longest, m->options->n1);
-		m->said_longer = ULONG_MAX;     /* once for each entry */
+		m->said_longer = true;
 	}
+	m->cut_on |= m->came.longer_on;
+	m->came.longer_on = 0;
 }
 
 /* Hands what came to the driver, and what it gives to the line; false where the line has ended. */
@@ -162,7 +163,7 @@ static bool exchange(struct modem *m, int64_t now)
 		}
 		if (m->out_length == 0) {
 			m->out_length = cimbaloty_output(&m->c, m->out, sizeof m->out);
-			frames_take(&m->went, m->out, m->out_length);
+			cimbaloty_frames_take(&m->went, m->out, m->out_length);
 		}
 		if (m->out_length == 0)
 			return true;
@@ -248,10 +249,12 @@ void modem_send(struct modem *m, int64_t now)
 		modem_lose(m, now, "the line hung up");
 	if (m->stage != MODEM_ENTERING)
 		return;
-	if (m->out_length == 0)
-		m->out_length = entry_output(&m->entry, m->out, sizeof m->out);
-	if (!write_line(m))
-		give_up(m, now, "the line hung up before the modem was entered");
+	while (m->out_length || (m->out_length = entry_output(&m->entry, m->out, sizeof m->out)) > 0) {
+		if (!write_line(m))
+			give_up(m, now, "the line hung up before the modem was entered");
+		if (m->out_length || m->stage != MODEM_ENTERING)
+			return;
+	}
 }
 
 bool modem_waits(const struct modem *m, unsigned dlci)
@@ -268,7 +271,13 @@ bool modem_ask(struct modem *m, unsigned dlci, const char *text, size_t length, 
 		return false;
 	m->last = *number;
 	m->commands++;
+	m->cut_on &= ~(UINT64_C(1) << dlci);
 	return true;
+}
+
+bool modem_is_cut(const struct modem *m, unsigned dlci)
+{
+	return m->cut_on >> dlci & 1;
 }
 
 bool modem_outcome(struct modem *m, struct cimbaloty_outcome *o, char **text, int64_t now)

@@ -4,7 +4,6 @@
 
 #include "cimbaloty.h"
 #include "entry.h"
-#include "frames.h"
 #include "options.h"
 
 enum modem_stage {
@@ -28,7 +27,7 @@ struct modem {
 	int fd;
 	enum modem_stage stage;
 	struct entry entry;
-	struct frames came, went;
+	struct cimbaloty_frames came, went;
 	uint8_t in[1024], out[1024];
 	size_t in_at, in_length, out_at, out_length;
 	uint64_t last;          /* the last number of a request */
@@ -47,7 +46,9 @@ struct modem {
 	bool is_to_end;
 	/* what was said, and what is counted */
 	char told[160];
-	unsigned long said_longer, entries, losses;
+	bool said_longer;       /* since the modem was entered */
+	uint64_t cut_on;        /* connections on which a frame longer than N1 came since a command was asked there */
+	unsigned long entries, losses;
 };
 
 /* Opens the line for the first time. False, with the reason said, where another program drives it or it is no terminal;
@@ -69,6 +70,9 @@ bool modem_waits(const struct modem *m, unsigned dlci);
 
 /* Sends a command line; false where it is none, is too long, or the modem isn't there. */
 bool modem_ask(struct modem *m, unsigned dlci, const char *text, size_t length, uint64_t *number);
+
+/* Whether a frame longer than N1 was dropped there since a command was asked: its answer isn't whole. */
+bool modem_is_cut(const struct modem *m, unsigned dlci);
 
 /* Takes the next outcome of a command; free the text. */
 bool modem_outcome(struct modem *m, struct cimbaloty_outcome *o, char **text, int64_t now);

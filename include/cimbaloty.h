@@ -6,7 +6,7 @@
  * reads no clock and calls nothing back. You give it the octets that came, and write those that it
  * gives. You make requests, and each gets a number. Later you take one outcome for each number.
  *
- * This is one round of a program, once the modem answered AT+CMUX=0 by OK:
+ * This is one round of a program, once the modem answered AT+CMUX=0 by OK (cimbaloty_enter.h):
  *
  *     while ((count = cimbaloty_output(&c, room, sizeof room)) > 0)
  *         write all of them to the line, or cimbaloty_line_lost(&c);
@@ -18,8 +18,8 @@
  *     while (cimbaloty_poll_outcome(&c, &outcome, text, sizeof text) == CIMBALOTY_OK) ..
  *     while (cimbaloty_poll_line(&c, &line, text, sizeof text) == CIMBALOTY_OK) ..
  *
- * Link with libcimbaloty.a, which takes memory by malloc (examples/c/memory.c). Or link with
- * libmodem_c.a and define the three functions of memory.c yourself. See docs/C.md. */
+ * Link with libcimbaloty, which takes memory by malloc (examples/c/memory.c). Or link with libmodem_c.a, define the three
+ * functions of memory.c yourself, and add names.c and frames.c where you want them. See docs/C.md. */
 #ifndef CIMBALOTY_H
 #define CIMBALOTY_H
 
@@ -68,6 +68,11 @@ enum cimbaloty_status {
 	CIMBALOTY_HAS_DIALECT = 24, /* there is a dialect already */
 	CIMBALOTY_NO_DIALECT = 25,  /* there is none */
 	CIMBALOTY_BAD_FORM = 26,    /* not one of enum cimbaloty_form */
+	CIMBALOTY_ENTERED = 27,     /* of cimbaloty_enter.h: the modem is in the multiplexer */
+	CIMBALOTY_TURNED_DOWN = 28, /* the modem answered, and not by OK */
+	CIMBALOTY_SILENT = 29,      /* it didn't answer */
+	CIMBALOTY_HAS_ENTRY = 30,   /* there is an entry already */
+	CIMBALOTY_NO_ENTRY = 31,    /* there is none */
 	CIMBALOTY_NO_AT = 33,       /* a command line begins with AT or at, */
 	CIMBALOTY_BAD_OCTET = 34,   /* has the octets 20 to 7E hex alone, */
 	CIMBALOTY_TOO_LONG = 35,    /* and is at most 256 octets long */
@@ -122,7 +127,8 @@ enum cimbaloty_channel_state {
 #define CIMBALOTY_REQUESTS 128
 #define CIMBALOTY_LINE_LENGTH 512
 
-/* An outcome but for its text. */
+/* An outcome but for its text. A text has no bound: an answer has as many lines as the modem sends, each of at most
+ * CIMBALOTY_LINE_LENGTH octets. cimbaloty_peek_outcome says how long the next one is. */
 struct cimbaloty_outcome {
 	uint64_t number;        /* of the request */
 	size_t length;          /* octets of the text: each line, and "\n" behind it; 0 but for CIMBALOTY_DONE */
@@ -132,7 +138,7 @@ struct cimbaloty_outcome {
 
 /* An unsolicited line but for its text. */
 struct cimbaloty_line {
-	size_t length;          /* octets of the text */
+	size_t length;          /* octets of the text, at most CIMBALOTY_LINE_LENGTH */
 	uint8_t dlci;
 	uint16_t kind;          /* enum cimbaloty_kind, or a kind of the dialect's own */
 };
@@ -235,7 +241,8 @@ void cimbaloty_dialect_free(struct cimbaloty_dialect *d);
  * (NOT_OPEN, BUSY ..). Refused, in this order: NO_DRIVER; the refusals that the call names; FULL; NO_MEMORY. A
  * refused request has no number and no outcome, and *number is as it was. */
 
-/* Opens a connection. Open 0 first: it is the control channel. BAD_DLCI. */
+/* Opens a connection. Open 0 first: it is the control channel. Ask for another one only once the outcome of that says OPENED:
+ * before, also while 0 is being opened, its outcome is NOT_OPEN. BAD_DLCI. */
 uint8_t cimbaloty_open(struct cimbaloty *c, uint8_t dlci, uint64_t *number);
 
 /* Closes a connection. BAD_DLCI. */
@@ -368,6 +375,58 @@ static inline uint16_t cimbaloty_dialect_kind(struct cimbaloty_dialect *d, const
 
 	return cimbaloty_dialect_kind_at(d, length ? (const uint8_t *)name : &none, length);
 }
+
+/* ---- Beside the driver: in C, tested, and not proved ---------------------------------------------- */
+
+/* The states of connections as they were last told; all zero at first, which stands for shut. */
+struct cimbaloty_states {
+	uint8_t of[62];
+};
+
+/* Whether the state of a connection isn't as it was last told. If so, *dlci is the least such connection, and its state
+ * counts as told. The driver opens no connection by itself: where you ask behind each cimbaloty_input, tick and request,
+ * you miss none that the modem shut. False where there is no driver. */
+static inline bool cimbaloty_poll_state(struct cimbaloty *c, struct cimbaloty_states *told, uint8_t *dlci)
+{
+	for (uint8_t d = 0; d < sizeof told->of; d++) {
+		uint8_t state = cimbaloty_state(c, d);
+
+		if (state == 0 || state == (told->of[d] ? told->of[d] : (uint8_t)CIMBALOTY_IS_SHUT))
+			continue;
+		told->of[d] = state;
+		*dlci = d;
+		return true;
+	}
+	return false;
+}
+
+/* Names for messages, those of the constants above without CIMBALOTY_ or CIMBALOTY_IS_: "NO_ANSWER". A kind of a dialect's
+ * own is "OWN", and what is none is "?". Number 2 is of two refusals: "FULL or BAD_N1". */
+const char *cimbaloty_status_name(unsigned status);
+const char *cimbaloty_answer_name(unsigned answer);
+const char *cimbaloty_kind_name(unsigned kind);
+const char *cimbaloty_state_name(unsigned state);
+
+/* Counts of frames in octets that pass. The driver counts none: give what cimbaloty_input took to one of these, and what
+ * cimbaloty_output gave to another. It reads by itself. Behind octets that are no frame it looks for the next flag only
+ * from there on, so that of damaged octets it may count fewer frames than the driver reads. */
+struct cimbaloty_frames {
+	uint64_t whole;         /* frames with the right check octet and both flags, of any length */
+	uint64_t bad;           /* what begins as a frame and isn't one */
+	uint64_t longer;        /* whole frames of more than N1 octets of information: the driver drops these, and an answer is
+	                         * told without what they had. N1 is wrong then */
+	uint64_t longer_on;     /* the connections on which such frames came, a bit for each; set it to 0 as you like */
+	uint64_t outside;       /* octets outside of frames */
+	uint32_t longest;       /* the most octets of information in a whole frame */
+	struct {
+		uint32_t n1, place, length, seen;
+		uint8_t dlci, check, control;
+	} inside;               /* where it stands */
+};
+
+/* Begins between two frames, and goes on with the counts: all zero at first. */
+void cimbaloty_frames_begin(struct cimbaloty_frames *f, uint16_t n1);
+void cimbaloty_frames_take(struct cimbaloty_frames *f, const uint8_t *octets, size_t length);
 
 /* ---- What you owe (nothing checks it) ---------------------------------------------------------------
  *

@@ -359,6 +359,7 @@ int main(void)
 	refusals();
 	rules();
 	dialects();
+	entries();
 	rooms();
 	cuts();
 	full_and_lost();

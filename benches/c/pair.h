@@ -47,4 +47,7 @@ void opened(struct pair *p, uint8_t dlci, uint64_t number);
 void rules(void);
 void dialects(void);
 
+/* entries.c: entries, and what stands beside the driver. */
+void entries(void);
+
 #endif

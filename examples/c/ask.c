@@ -56,8 +56,9 @@ int main(int argc, char **argv)
 		return 2;
 	}
 	int fd = line_open(argv[1]);
-	if (fd < 0 || line_enter(fd) != 0) {
-		fprintf(stderr, "%s: %s\n", argv[1], fd < 0 ? strerror(errno) : "the modem doesn't answer AT+CMUX=0 by OK");
+	said = fd < 0 ? CIMBALOTY_LINE_LOST : line_enter(fd);
+	if (said != CIMBALOTY_ENTERED) {
+		fprintf(stderr, "%s: %s\n", argv[1], fd < 0 ? strerror(errno) : cimbaloty_status_name(said));
 		return 2;
 	}
 	if (cimbaloty_dialect_common(&codes) != CIMBALOTY_OK || cimbaloty_new_with_dialect(&c, &codes, 31, 0, 0, 1) != CIMBALOTY_OK)
@@ -70,13 +71,13 @@ int main(int argc, char **argv)
 		}
 	said = cimbaloty_command(&c, 1, argv[2], strlen(argv[2]), &number);
 	if (said != CIMBALOTY_OK) {
-		fprintf(stderr, "refused: %u\n", said);
+		fprintf(stderr, "refused: %s\n", cimbaloty_status_name(said));
 		return 2;
 	}
 	said = wait_for(&c, fd, number, &ok);
 	bool answered = said == CIMBALOTY_DONE && ok;
 	if (said != CIMBALOTY_DONE)
-		fprintf(stderr, "no answer: %u\n", said);
+		fprintf(stderr, "no answer: %s\n", cimbaloty_answer_name(said));
 	if (cimbaloty_stop(&c, &number) == CIMBALOTY_OK)
 		wait_for(&c, fd, number, &ok);
 	cimbaloty_free(&c);

@@ -1,10 +1,10 @@
 /* line.c - a modem's tty: opened raw, brought into the multiplexer, and what passes on it. */
 #define _DEFAULT_SOURCE
 #include "line.h"
+#include "cimbaloty_enter.h"
 #include <errno.h>
 #include <fcntl.h>
 #include <poll.h>
-#include <string.h>
 #include <termios.h>
 #include <time.h>
 #include <unistd.h>
@@ -40,56 +40,63 @@ static long milliseconds(void)
 	return (long)t.tv_sec * 1000 + t.tv_nsec / 1000000;
 }
 
-/* Reads lines until one is OK (0), one is an error (-1), the line ends (-1) or the time is over (1). */
-static int read_final(int fd, long until)
+/* Writes all; false if the line failed, or took nothing for 5 s. */
+static bool write_all(int fd, const uint8_t *octets, size_t count)
 {
-	char line[80];
-	size_t length = 0;
-	char octet;
+	for (size_t at = 0; at < count;) {
+		struct pollfd p = { fd, POLLOUT, 0 };
+		ssize_t n = write(fd, octets + at, count - at);
 
-	for (;;) {
-		struct pollfd p = { fd, POLLIN, 0 };
-		long left = until - milliseconds();
-
-		if (left <= 0)
-			return 1;
-		if (poll(&p, 1, (int)left) < 0 && errno != EINTR)
-			return -1;
-		ssize_t n = read(fd, &octet, 1);
-		if (n == 0 || (n < 0 && errno != EAGAIN && errno != EINTR))
-			return -1;
-		if (n < 0)
-			continue;
-		if (octet != '\r' && octet != '\n') {
-			if (length < sizeof line - 1)
-				line[length++] = octet;
-			continue;
-		}
-		line[length] = 0;
-		length = 0;
-		if (!strcmp(line, "OK"))
-			return 0;
-		if (!strcmp(line, "ERROR") || !strncmp(line, "+CME ERROR:", 11))
-			return -1;
+		if (n > 0)
+			at += (size_t)n;
+		else if (errno != EAGAIN || poll(&p, 1, 5000) != 1)
+			return false;
 	}
+	return true;
 }
 
-int line_enter(int fd)
+/* Writes what the entry gives; false if the line failed. */
+static bool send_entry(struct cimbaloty_entry *e, int fd, long *until)
 {
-	/* a CLD command (27.010, 5.4.6.3.3), for a modem that was left in the multiplexer, and then the text */
-	static const char ask[] = "\xF9\x03\xEF\x05\xC3\x01\xF2\xF9" "AT+CMUX=0\r";
+	uint8_t room[64];
+	size_t count;
 
-	for (int tries = 0; tries < 3; tries++) {
-		const char *from = ask + (tries == 0 ? 8 : 0);
-
-		tcflush(fd, TCIFLUSH);
-		if (write(fd, from, strlen(from)) != (ssize_t)strlen(from))
-			return -1;
-		int said = read_final(fd, milliseconds() + 1000);
-		if (said <= 0)
-			return said;
+	while ((count = cimbaloty_enter_output(e, room, sizeof room)) > 0) {
+		if (!write_all(fd, room, count))
+			return false;
+		*until = milliseconds() + (long)cimbaloty_enter_wait(e);
 	}
-	return -1;
+	return true;
+}
+
+/* Waits for an octet, and takes it in. It reads one at a time, so that those behind the answer stay on the line. */
+static uint8_t go_on(struct cimbaloty_entry *e, int fd, long until)
+{
+	struct pollfd p = { fd, POLLIN, 0 };
+	long left = until - milliseconds();
+	size_t taken;
+	uint8_t octet;
+
+	if (left <= 0 || poll(&p, 1, (int)left) == 0)
+		return cimbaloty_enter_time_over(e);
+	ssize_t n = read(fd, &octet, 1);
+	if (n == 1)
+		return cimbaloty_enter_input(e, &octet, 1, &taken);
+	return n < 0 && (errno == EAGAIN || errno == EINTR) ? CIMBALOTY_OK : CIMBALOTY_LINE_LOST;
+}
+
+uint8_t line_enter(int fd)
+{
+	static const char text[] = "AT+CMUX=0";
+	struct cimbaloty_entry e = CIMBALOTY_ENTRY_NONE;
+	long until = 0;
+
+	tcflush(fd, TCIFLUSH);
+	uint8_t said = cimbaloty_enter_begin(&e, text, sizeof text - 1, 31, 2);
+	while (said == CIMBALOTY_OK)
+		said = send_entry(&e, fd, &until) ? go_on(&e, fd, until) : CIMBALOTY_LINE_LOST;
+	cimbaloty_enter_free(&e);
+	return said;
 }
 
 bool line_send(struct cimbaloty *c, int fd)
@@ -98,15 +105,8 @@ bool line_send(struct cimbaloty *c, int fd)
 	size_t count;
 
 	while ((count = cimbaloty_output(c, room, sizeof room)) > 0)
-		for (size_t at = 0; at < count;) {
-			struct pollfd p = { fd, POLLOUT, 0 };
-			ssize_t n = write(fd, room + at, count - at);
-
-			if (n > 0)
-				at += (size_t)n;
-			else if (errno != EAGAIN || poll(&p, 1, 5000) != 1)
-				return false;
-		}
+		if (!write_all(fd, room, count))
+			return false;
 	return true;
 }
 

@@ -7,10 +7,10 @@
 /* Opens a tty as a raw line of 115200 bit/s that doesn't block. Gives its descriptor, or -1 with errno. */
 int line_open(const char *path);
 
-/* Asks for the multiplexer by AT+CMUX=0 (27.007, 5.7), at most three times, and waits a second each time. Before
- * the second and third time it ends a multiplexer that was left running. Gives 0 once the modem answered OK, -1 if
- * it answered ERROR or nothing, or the line ended. */
-int line_enter(int fd);
+/* Brings the modem into the multiplexer by AT+CMUX=0 (27.007, 5.7), which it sends three times at most, a second apart, and
+ * ends one that was left running before the second and third time. Gives CIMBALOTY_ENTERED, or why the modem isn't entered:
+ * TURNED_DOWN, SILENT, LINE_LOST or NO_MEMORY. */
+uint8_t line_enter(int fd);
 
 /* Writes all octets that wait for the line; false if the line failed. */
 bool line_send(struct cimbaloty *c, int fd);

@@ -66,7 +66,7 @@ int main(int argc, char **argv)
 	int fd = argc == 2 ? line_open(argv[1]) : -1;
 
 	setvbuf(stdin, NULL, _IONBF, 0);        /* so that poll sees what wasn't read */
-	if (fd < 0 || line_enter(fd) != 0 || cimbaloty_new(&c, 31, CIMBALOTY_ALL_KINDS, 1) != CIMBALOTY_OK) {
+	if (fd < 0 || line_enter(fd) != CIMBALOTY_ENTERED || cimbaloty_new(&c, 31, CIMBALOTY_ALL_KINDS, 1) != CIMBALOTY_OK) {
 		fprintf(stderr, argc == 2 ? "%s: it isn't opened, or the modem isn't entered\n" : "usage: %s TTY\n", argv[argc == 2]);
 		return 2;
 	}

@@ -1,8 +1,11 @@
 pub mod AddedRules
 pub mod AsBox
 pub mod AsDialectBox
+pub mod AsEntryBox
 pub mod Firsts
 pub mod GivenParts
+pub mod GivenTexts
+pub mod Heard
 pub mod OwnKinds
 pub mod TakenRequests
 pub mod Rooms

@@ -1,6 +1,9 @@
 pub mod Calls
 pub mod DialectCalls
+pub mod Entries
+pub mod EntryCalls
 pub mod Held
 pub mod HeldDialects
+pub mod HeldEntries
 pub mod Numbers
 pub mod Texts

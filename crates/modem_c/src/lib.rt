@@ -5,6 +5,7 @@
 mod dialects;
 mod driver;
 mod ending;
+mod entries;
 mod handle;
 mod kinds;
 pub mod laws;
@@ -21,5 +22,6 @@ mod time;
 pub use dialects::CimbalotyDialect;
 pub use driver::Cimbaloty;
 pub use ending::LeftCounts;
+pub use entries::CimbalotyEntry;
 pub use lines::LineHead;
 pub use outcomes::OutcomeHead;

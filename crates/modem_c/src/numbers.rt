@@ -49,6 +49,21 @@ pub const NO_DIALECT: u8 = 25;
 /// There is no such form of a rule.
 pub const BAD_FORM: u8 = 26;
 
+/// The modem is in the multiplexer.
+pub const ENTERED: u8 = 27;
+
+/// The modem answered by another final code than OK.
+pub const TURNED_DOWN: u8 = 28;
+
+/// The modem didn't answer.
+pub const SILENT: u8 = 29;
+
+/// There is an entry already.
+pub const HAS_ENTRY: u8 = 30;
+
+/// There is no entry.
+pub const NO_ENTRY: u8 = 31;
+
 /// A text's refusal is this and its number.
 pub const TEXT: u8 = 32;
 
