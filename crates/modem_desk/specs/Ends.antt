@@ -17,11 +17,12 @@ pub record Place : Type 0 where
   pub ring : RingId
   pub first : ℕ
 
--- a caller: what it submitted, the outcomes that it took and those that it has seen to wait for it, and its
--- count of untaken ones
+-- a caller: what it submitted and, for each of these requests, how many outcomes it had taken before; the outcomes that it took
+-- and those that it has seen to wait for it, and its count of untaken ones
 pub record CallerView : Type 0 where
   pub place : Place
   pub submitted : List Request
+  pub got_before : List ℕ
   pub got : List Outcome
   pub seen : List Outcome
   pub untaken : ℕ
@@ -78,7 +79,7 @@ subscription_of l = l.subscription
 
 -- a caller that has done nothing yet
 abbrev pub IsFresh : CallerView → Type 0
-IsFresh c = (c.submitted ≡ []) × (c.got ≡ []) × (c.untaken ≡ 0) × (c.seen ≡ [])
+IsFresh c = (c.submitted ≡ []) × (c.got ≡ []) × (c.untaken ≡ 0) × (c.seen ≡ []) × (c.got_before ≡ [])
 
 -- no kind stands in the list twice
 abbrev pub EachOnce : List UrcKind → Type 0

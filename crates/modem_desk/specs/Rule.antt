@@ -33,6 +33,8 @@ driver given taken known = record {
   submits = false;
   number = 0;
   submitted = [];
+  got = 0;
+  got_before = [];
   given = given;
   taken = taken;
   known = known;
@@ -47,6 +49,8 @@ draining given taken known waiting = record {
   submits = false;
   number = 0;
   submitted = [];
+  got = 0;
+  got_before = [];
   given = given;
   taken = taken;
   known = known;
@@ -54,13 +58,15 @@ draining given taken known waiting = record {
   waiting = waiting;
 }
 
--- what a caller's pass knows: its number, and what it submitted
-abbrev pub caller : ℕ → List Request → View
-caller n submitted = record {
+-- what a caller's pass knows: its number, what it submitted, how many outcomes it got, and how many it had got before each request
+abbrev pub caller : (number : ℕ) → (submitted : List Request) → (got : ℕ) → (got_before : List ℕ) → View
+caller n submitted got got_before = record {
   drives = false;
   submits = true;
   number = n;
   submitted = submitted;
+  got = got;
+  got_before = got_before;
   given = 0;
   taken = [];
   known = [];
@@ -75,6 +81,8 @@ returned_view = record {
   submits = false;
   number = 0;
   submitted = [];
+  got = 0;
+  got_before = [];
   given = 0;
   taken = [];
   known = [];

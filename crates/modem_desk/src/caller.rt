@@ -4,7 +4,7 @@ ghost use mathlib.Core.List.{IsPrefix};
 
 use crate::error::SubmitError;
 use crate::request::{Ask, Outcome, Request};
-use crate::rule::{InOrder, Submits, View};
+use crate::rule::{Gets, InOrder, Submits, View};
 use bell::Bell;
 use crossbeam_queue::{Pass, RuledArrayQueue};
 use rtrb::Consumer;
@@ -26,8 +26,8 @@ const UNTAKEN: u8 = 16;
 
 /// A user of the modem: it submits requests, and takes an outcome for each.
 ///
-/// Contracts see its place at the desk, the requests that it submitted, the outcomes that it took, those that it has seen waiting,
-/// and the count of requests whose outcome it hasn't taken.
+/// Contracts see its place at the desk, the requests that it submitted, how many outcomes it had taken before each, the outcomes that
+/// it took, those that it has seen waiting, and the count of requests whose outcome it hasn't taken.
 #[derive(Drop)]
 pub struct Caller {
     queue: Arc<Queue, Global>,
@@ -58,6 +58,7 @@ impl Model for Caller {
         first = c.first;
       };
       submitted = (knows c.pass).submitted;
+      got_before = (knows c.pass).got_before;
       got = received c.outcomes;
       seen = known_items c.outcomes;
       untaken = c.untaken;
@@ -66,6 +67,7 @@ impl Model for Caller {
     ghost invariant = { λ c. IsPassOf (arc_value c.queue) c.pass × (ruled_capacity (arc_value c.queue) ≡ 64)
         × ((knows c.pass).submits ≡ true) × ((knows c.pass).number ≡ c.number)
         × (consumer_capacity c.outcomes ≡ 8) × (length (knows c.pass).submitted ≡ c.issued)
+        × ((knows c.pass).got ≡ length (received c.outcomes))
         × (1 ≤ c.first) × (c.first + c.issued ≤ 2 ^ 64)
         × IsNumbered c.first (knows c.pass).submitted };
 }
@@ -89,7 +91,7 @@ impl Caller {
         bell: Option<Bell>,
     ) -> Caller
         requires pass { IsPassOf (arc_value queue) pass × (ruled_capacity (arc_value queue) ≡ 64)
-            × (view pass ≡ caller number []) }
+            × (view pass ≡ caller number [] 0 []) }
         requires fresh { (received outcomes ≡ []) × (known_items outcomes ≡ [])
             × (consumer_capacity outcomes ≡ 8) × (1 ≤ first) }
         ensures { result ≡ record {
@@ -100,6 +102,7 @@ impl Caller {
             first = first;
           };
           submitted = [];
+          got_before = [];
           got = [];
           seen = [];
           untaken = 0;
@@ -150,6 +153,7 @@ impl Caller {
         ensures next { IfOk result (λ n. n ≡ self.old.place.first + length self.old.submitted) }
         ensures submitted { IfOk result (λ n. self.new.submitted ≡ self.old.submitted
             ++ record { caller = self.old.place.number; number = n; ask = ask } ∷ []) }
+        ensures got_before { IfOk result (λ n. self.new.got_before ≡ self.old.got_before ++ length self.old.got ∷ []) }
         ensures untaken { IfOk result
             (λ n. (self.old.untaken < 16) × (self.new.untaken ≡ self.old.untaken + 1)) }
 
@@ -187,7 +191,8 @@ impl Caller {
     /// Takes the oldest outcome that waits for this caller. `None` comes only where it has seen none waiting. Rings the caller's
     /// bell, if it has one, since there is room for one more outcome.
     pub fn take(&mut self) -> Option<Outcome>
-        ensures place { (self.new.place ≡ self.old.place) × (self.new.submitted ≡ self.old.submitted) }
+        ensures place { (self.new.place ≡ self.old.place) × (self.new.submitted ≡ self.old.submitted)
+            × (self.new.got_before ≡ self.old.got_before) }
         ensures got { MatchOption result (self.new.got ≡ self.old.got) (λ outcome. self.new.got ≡ self.old.got
             ++ outcome ∷ []) }
         ensures untaken { MatchOption result (self.new.untaken ≡ self.old.untaken) (λ _.
@@ -197,6 +202,7 @@ impl Caller {
         ensures finds { 0 < length self.old.seen → IsSome result }
     {
         let outcome = self.outcomes.pop().ok()?;
+        let _ = self.queue.another::<Gets>(&mut self.pass);
         self.untaken = self.untaken.saturating_sub(1);
         ring(&self.bell);
         Some(outcome)
@@ -207,7 +213,8 @@ impl Caller {
     ///
     /// No contract speaks of the answer, since no contract of `rtrb` does. Tests show it.
     pub fn is_alone(&mut self) -> bool
-        ensures place { (self.new.place ≡ self.old.place) × (self.new.submitted ≡ self.old.submitted) }
+        ensures place { (self.new.place ≡ self.old.place) × (self.new.submitted ≡ self.old.submitted)
+            × (self.new.got_before ≡ self.old.got_before) }
         ensures got { (self.new.got ≡ self.old.got) × (self.new.untaken ≡ self.old.untaken) }
         ensures seen { IsPrefix self.old.seen self.new.seen }
     {

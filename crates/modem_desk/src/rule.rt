@@ -11,12 +11,15 @@ pub struct Known {
     pub submitted: LinkedList<Request>,
 }
 
-// What the holder of a pass knows: the driver what it took, a caller what it submitted. Contracts alone have values of it.
+// What the holder of a pass knows: the driver what it took, a caller what it submitted, how many outcomes it got, and how many it had
+// got before each of its requests. Contracts alone have values of it.
 pub struct View {
     pub drives: bool,
     pub submits: bool,
     pub number: u8,
     pub submitted: LinkedList<Request>,
+    pub got: u64,
+    pub got_before: LinkedList<u64>,
     pub given: u8,
     pub taken: LinkedList<Request>,
     pub known: LinkedList<Known>,
@@ -45,7 +48,7 @@ impl Split<View> for AddsCaller {
 
     ghost left = { λ v. driver (v.given + 1) v.taken v.known };
 
-    ghost right = { λ v. caller v.given [] };
+    ghost right = { λ v. caller v.given [] 0 [] };
 }
 
 /// A caller's pass comes back, and the driver knows what that caller submitted.
@@ -60,14 +63,26 @@ impl Join<View> for Leaves {
     ghost spent = { returned_view };
 }
 
-/// A caller's list grows by the request.
+/// A caller got one outcome more. The other pass knows nothing.
+pub struct Gets;
+
+impl Split<View> for Gets {
+    ghost use Rattle.std.specs.Prelude.{◌+◌};
+    ghost use Rattle.modem_desk.specs.Rule.{caller, returned_view};
+
+    ghost left = { λ v. caller v.number v.submitted (v.got + 1) v.got_before };
+
+    ghost right = { λ v. returned_view };
+}
+
+/// A caller's list grows by the request, before which it had got so many outcomes.
 pub struct Submits;
 
 impl Outcome<Request, View> for Submits {
     ghost use Rattle.std.specs.Prelude.{◌≡◌, [], ◌++◌, ◌∷◌};
     ghost use Rattle.modem_desk.specs.Rule.{caller};
 
-    ghost then = { λ v x w. w ≡ caller v.number (v.submitted ++ x ∷ []) };
+    ghost then = { λ v x w. w ≡ caller v.number (v.submitted ++ x ∷ []) v.got (v.got_before ++ v.got ∷ []) };
 }
 
 impl Lesson<Request, View> for Submits {

@@ -42,11 +42,11 @@ begins =
     }
 
 pub submits : (n pass : ℕ) (v : View) (x : Request) → n ≡ 64 → v.submits ≡ true → x.caller ≡ v.number → IsCounted (v.submitted ++ x ∷ [])
-    → Pushes RuleKept n pass v x (λ w. w ≡ caller v.number (v.submitted ++ x ∷ []))
+    → Pushes RuleKept n pass v x (λ w. w ≡ caller v.number (v.submitted ++ x ∷ []) v.got (v.got_before ++ v.got ∷ []))
 submits n pass v x size may same next items views short h at =
     let d = h.desk in
     let mine = (h.each pass v at).1 may in
-    let w : View = caller v.number (v.submitted ++ x ∷ []) in
+    let w : View = caller v.number (v.submitted ++ x ∷ []) v.got (v.got_before ++ v.got ∷ []) in
     let d' : Shared = record d { all = d.all ++ x ∷ [] } in
     let e : v.number ≡ x.caller = sym same in
     let apart = λ (m : ℕ) (q : d.pass_of m ≡ None) (i : m ≡ x.caller). has_pass (d.pass_of v.number) pass mine.here (ap d.pass_of (e ∙ sym i) ∙ q) in (
@@ -154,12 +154,12 @@ ends pass v may items views h at =
       (λ c. (mine.counted c).0),
     )
 
-pub adds_caller : (pass : ℕ) (v : View) → v.drives ≡ true → v.counted ≡ false → Forks RuleKept pass v (driver (v.given + 1) v.taken v.known) (caller v.given [])
+pub adds_caller : (pass : ℕ) (v : View) → v.drives ≡ true → v.counted ≡ false → Forks RuleKept pass v (driver (v.given + 1) v.taken v.known) (caller v.given [] 0 [])
 adds_caller pass v may idle items views h at =
     let d = h.desk in
     let mine = (h.each pass v at).0 may in
     let l : View = driver (v.given + 1) v.taken v.known in
-    let r : View = caller v.given [] in
+    let r : View = caller v.given [] 0 [] in
     let vs : List View = set views pass l in
     let d' : Shared = record d { given = v.given + 1; pass_of = with_pass d.pass_of v.given (Some (length vs)) } in
     let g : v.given ≡ d.given = mine.given in
@@ -183,6 +183,27 @@ adds_caller pass v may idle items views h at =
           (λ q. subst (λ (y : ℕ × View). FitsPass d' items y.0 y.1) (λ i. (sym q.0 i, q.1 i))
           ((λ c. absurd (false≢true c)), λ _. record { here = with_pass-here d.pass_of v.given (Some (length vs)); below = omega arith; submitted = (h.later v.given (omega arith)).1 }))
           (at_end vs r u j e);
+    }
+
+pub gets : (pass : ℕ) (v : View) → v.submits ≡ true → Forks RuleKept pass v (caller v.number v.submitted (v.got + 1) v.got_before) returned_view
+gets pass v may items views h at =
+    let d = h.desk in
+    let mine = (h.each pass v at).1 may in
+    let l : View = caller v.number v.submitted (v.got + 1) v.got_before in
+    let vs : List View = set views pass l in
+    let old = all_set (FitsPass d items) views pass l
+    ((λ c. absurd (false≢true c)), λ _. record { here = mine.here; below = mine.below; submitted = mine.submitted })
+    (λ j u other q. h.each j u q) in
+    record {
+      desk = d;
+      whole = h.whole;
+      room = h.room;
+      numbered = h.numbered;
+      later = h.later;
+      left = h.left;
+      each = λ j u e. ⊎_elim (λ q. old j u q)
+          (λ q. subst (λ (y : ℕ × View). FitsPass d items y.0 y.1) (λ i. (sym q.0 i, q.1 i)) ((λ c. absurd (false≢true c)), λ c. absurd (false≢true c)))
+          (at_end vs returned_view u j e);
     }
 
 pub leaves : (pass : ℕ) (v : View) (other : ℕ) (u : View) → v.drives ≡ true → v.counted ≡ false → u.submits ≡ true
