@@ -1,0 +1,39 @@
+-- What calls from C do, said of the relay that is held.
+use Rattle.std.specs.Prelude.{◌≡◌, ◌⊎◌, ℕ, ◌<◌, List, [], length, Option, None, Some, slice_index_or}
+use Rattle.modem_data.specs.PipeSets.{IsAmong, IsTwice}
+use Rattle.modem_data.specs.Hops.{Relay, Hops, Wrote, OneOut}
+use Rattle.modem_data_c.specs.declared.held_data.CimbalotyData.{CimbalotyData}
+
+-- the relay that is held, if any
+abbrev pub relay_of : CimbalotyData → Option Relay
+relay_of c = c.handle.held
+
+abbrev pub HoldsRelay : Option Relay → (Relay → Type 0) → Type 0
+HoldsRelay None p = ⊥
+HoldsRelay (Some r) p = p r
+
+-- a relay is held, and this is true of it
+abbrev pub Keeps : CimbalotyData → (Relay → Type 0) → Type 0
+Keeps c p = HoldsRelay (relay_of c) p
+
+-- a relay was held before, one is held now, and this is true of the two
+abbrev pub Becomes : (old new : CimbalotyData) → (Relay → Relay → Type 0) → Type 0
+Becomes old new p = Keeps old (λ r. Keeps new (p r))
+
+-- one of these numbers is above 61
+pub record HasHigh (octets : List ℕ) : Type 0 where
+  pub place : ℕ
+  pub there : place < length octets
+  pub high : (x : ℕ) → 61 < slice_index_or octets place x
+
+-- Why no relay is made: 1, memory was refused; 18, a connection isn't 0 to 61; else the number of the relay's refusal: 2, N1 isn't 31
+-- to 32767; 5, there are more than 8 connections; 3, 0 is among them; 4, one is named twice.
+abbrev pub IsRefused : (n1 : ℕ) (octets : List ℕ) → (number : ℕ) → Type 0
+IsRefused n1 octets number =
+    (number ≡ 1) ⊎ (((number ≡ 18) × HasHigh octets) ⊎ (((number ≡ 2) × ((n1 < 31) ⊎ (32767 < n1)))
+    ⊎ (((number ≡ 5) × (8 < length octets)) ⊎ (((number ≡ 3) × IsAmong octets (length octets) 0) ⊎ ((number ≡ 4) × IsTwice octets)))))
+
+-- one frame more was made for the line, if none waited, and these octets went, or none did
+pub data GoesOut (old new : Relay) : (octets : List ℕ) → Type 0 where
+  wrote_some : (between : Relay) (octets : List ℕ) → OneOut old between → Hops between new (Wrote octets) → GoesOut old new octets
+  wrote_none : OneOut old new → GoesOut old new []

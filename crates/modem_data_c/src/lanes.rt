@@ -1,0 +1,192 @@
+//! Lanes, and their data.
+ghost use Rattle.std.specs.Prelude.{◌≡◌, ◌≢◌, ◌⊎◌, ◌↔◌, ◌<◌, ◌≤◌, ◌-◌, Bool, length, take, drop, min, true, false, None};
+ghost use Rattle.mux_station.specs.Opening.{is_open};
+ghost use Rattle.mux_station.specs.declared.role.Role.TheVariants.{Initiator};
+ghost use Rattle.modem_data.specs.Switching.{Idle as idle, Data as in_data, is_idle};
+ghost use Rattle.modem_data.specs.DataLanes.{most_to_go};
+ghost use Rattle.modem_data.specs.Passing.{Began, Gave, Read, Lost, IsOver, carries, data_came, data_read, given, left, unread, wire};
+ghost use Rattle.modem_data.specs.PipeSets.{IsNotData, OfEachPast};
+ghost use Rattle.modem_data.specs.Hops.{Hops, Passed};
+ghost use Rattle.modem_data_c.specs.DataCalls.{Becomes, Keeps, relay_of};
+
+use crate::held_data::CimbalotyData;
+use crate::numbers::{BAD_DLCI, LINES, NO_RELAY, NOT_DATA, NOT_OPEN, OK, UNDER_WAY, UNREAD};
+use modem_data::Relay;
+use mux_frame::Dlci;
+use std::alloc::Global;
+
+/// A lane of a connection begins.
+fn begin(relay: &mut Relay, dlci: u8, by_connect: bool) -> u8
+    ensures ok { result ≡ OK → Hops relay.old relay.new (Passed (Began dlci by_connect)) }
+    ensures bad { (result ≡ BAD_DLCI) ↔ (61 < dlci) }
+    ensures not_data { result ≡ NOT_DATA → IsNotData relay.old.pipes dlci }
+    ensures under_way { result ≡ UNDER_WAY → OfEachPast relay.old.pipes (λ past. is_idle (carries dlci past) ≡ false) }
+    ensures unread { result ≡ UNREAD → OfEachPast relay.old.pipes (λ past.
+        (carries dlci past ≡ idle) × (data_read dlci past ≢ data_came dlci past)) }
+    ensures refused { result ≢ OK → relay.new ≡ relay.old }
+    ensures others { result ≢ OK → result ≢ BAD_DLCI → result ≢ NOT_DATA → result ≢ UNDER_WAY → result ≡ UNREAD }
+{
+    let Some(dlci) = Dlci::new(dlci) else {
+        return BAD_DLCI;
+    };
+    match relay.begin(dlci, by_connect) {
+        Ok(()) => OK,
+        Err(why) => why.number(),
+    }
+}
+
+/// A lane begins, with data behind the next CONNECT line, or at once.
+#[unsafe(no_mangle)]
+pub extern "C" fn cimbaloty_data_begin(
+    alloc: Global,
+    d: &mut CimbalotyData,
+    dlci: u8,
+    by_connect: bool,
+) -> u8
+    ensures ok { result ≡ OK → Becomes d.old d.new (λ r s. Hops r s (Passed (Began dlci by_connect))) }
+    ensures bad { relay_of d.old ≢ None → ((result ≡ BAD_DLCI) ↔ (61 < dlci)) }
+    ensures not_data { result ≡ NOT_DATA → Keeps d.old (λ r. IsNotData r.pipes dlci) }
+    ensures under_way { result ≡ UNDER_WAY → Keeps d.old (λ r. OfEachPast r.pipes (λ past. is_idle (carries dlci past) ≡ false)) }
+    ensures unread { result ≡ UNREAD → Keeps d.old (λ r. OfEachPast r.pipes (λ past.
+        (carries dlci past ≡ idle) × (data_read dlci past ≢ data_came dlci past))) }
+    ensures no_relay { (result ≡ NO_RELAY) ↔ (relay_of d.old ≡ None) }
+    ensures refused { result ≢ OK → relay_of d.new ≡ relay_of d.old }
+    ensures others { result ≢ OK → result ≢ BAD_DLCI → result ≢ NOT_DATA → result ≢ UNDER_WAY → result ≢ NO_RELAY → result ≡ UNREAD }
+{
+    let Some(mut relay) = d.take(alloc) else {
+        return NO_RELAY;
+    };
+    let answer = begin(&mut relay, dlci, by_connect);
+    *d = CimbalotyData::of(relay);
+    answer
+}
+
+/// The line was lost.
+#[unsafe(no_mangle)]
+pub extern "C" fn cimbaloty_data_lost(alloc: Global, d: &mut CimbalotyData)
+    ensures lost { relay_of d.old ≢ None → Becomes d.old d.new (λ r s. Hops r s (Passed Lost)) }
+    ensures none { relay_of d.old ≡ None → relay_of d.new ≡ None }
+{
+    let Some(mut relay) = d.take(alloc) else {
+        return;
+    };
+    relay.lost();
+    *d = CimbalotyData::of(relay);
+}
+
+/// What came of reading: how many octets, and whether the lane is over and all of its data was read.
+#[repr(C)]
+#[derive(Clone, Copy)]
+pub struct DataRead {
+    pub count: usize,
+    pub is_over: bool,
+}
+
+/// Gives the first octets of data that wait.
+fn read(relay: &mut Relay, dlci: u8, room: &mut [u8], got: &mut DataRead) -> u8
+    ensures ok { result ≡ OK → Hops relay.old relay.new (Passed (Read dlci (take got.new.count room.new))) }
+    ensures count { result ≡ OK → OfEachPast relay.old.pipes (λ past. got.new.count ≡ min (unread dlci past) (length room.old)) }
+    ensures over { result ≡ OK → OfEachPast relay.new.pipes (λ past. got.new.is_over ≡ true ↔ IsOver dlci past) }
+    ensures behind { result ≡ OK → drop got.new.count room.new ≡ drop got.new.count room.old }
+    ensures bad { (result ≡ BAD_DLCI) ↔ (61 < dlci) }
+    ensures not_data { result ≡ NOT_DATA → IsNotData relay.old.pipes dlci }
+    ensures refused { result ≢ OK → relay.new ≡ relay.old }
+    ensures room { result ≢ OK → room.new ≡ room.old }
+    ensures same { result ≢ OK → got.new ≡ got.old }
+    ensures others { result ≢ OK → result ≢ BAD_DLCI → result ≡ NOT_DATA }
+{
+    let Some(dlci) = Dlci::new(dlci) else {
+        return BAD_DLCI;
+    };
+    let Ok(reading) = relay.read(dlci, room) else {
+        return NOT_DATA;
+    };
+    *got = DataRead {
+        count: reading.count,
+        is_over: reading.is_over,
+    };
+    OK
+}
+
+/// Gives the first octets of data that wait, as many as there is room for.
+#[unsafe(no_mangle)]
+pub extern "C" fn cimbaloty_data_read_at(
+    alloc: Global,
+    d: &mut CimbalotyData,
+    dlci: u8,
+    room: &mut [u8],
+    got: &mut DataRead,
+) -> u8
+    ensures ok { result ≡ OK → Becomes d.old d.new (λ r s. Hops r s (Passed (Read dlci (take got.new.count room.new)))) }
+    ensures count { result ≡ OK → Keeps d.old (λ r. OfEachPast r.pipes (λ past. got.new.count ≡ min (unread dlci past) (length room.old))) }
+    ensures over { result ≡ OK → Keeps d.new (λ s. OfEachPast s.pipes (λ past. got.new.is_over ≡ true ↔ IsOver dlci past)) }
+    ensures behind { result ≡ OK → drop got.new.count room.new ≡ drop got.new.count room.old }
+    ensures bad { relay_of d.old ≢ None → ((result ≡ BAD_DLCI) ↔ (61 < dlci)) }
+    ensures not_data { result ≡ NOT_DATA → Keeps d.old (λ r. IsNotData r.pipes dlci) }
+    ensures no_relay { (result ≡ NO_RELAY) ↔ (relay_of d.old ≡ None) }
+    ensures refused { result ≢ OK → relay_of d.new ≡ relay_of d.old }
+    ensures room { result ≢ OK → room.new ≡ room.old }
+    ensures same { result ≢ OK → got.new ≡ got.old }
+    ensures others { result ≢ OK → result ≢ BAD_DLCI → result ≢ NO_RELAY → result ≡ NOT_DATA }
+{
+    let Some(mut relay) = d.take(alloc) else {
+        return NO_RELAY;
+    };
+    let answer = read(&mut relay, dlci, room, got);
+    *d = CimbalotyData::of(relay);
+    answer
+}
+
+/// Takes the first octets to be sent as data.
+fn give(relay: &mut Relay, dlci: u8, octets: &[u8], taken: &mut usize) -> u8
+    ensures ok { result ≡ OK → Hops relay.old relay.new (Passed (Gave dlci (take taken.new octets.now))) }
+    ensures count { result ≡ OK → OfEachPast relay.old.pipes (λ past.
+        taken.new ≡ min (length octets.now) (most_to_go - (length (given dlci past) - length (left dlci past)))) }
+    ensures bad { (result ≡ BAD_DLCI) ↔ (61 < dlci) }
+    ensures not_data { result ≡ NOT_DATA → IsNotData relay.old.pipes dlci }
+    ensures not_open { result ≡ NOT_OPEN → OfEachPast relay.old.pipes (λ past. is_open Initiator dlci (wire past) ≡ false) }
+    ensures no_data { result ≡ LINES → OfEachPast relay.old.pipes (λ past. ¬ (carries dlci past ≡ in_data)) }
+    ensures refused { result ≢ OK → relay.new ≡ relay.old }
+    ensures same { result ≢ OK → taken.new ≡ taken.old }
+    ensures others { result ≢ OK → result ≢ BAD_DLCI → result ≢ NOT_DATA → result ≢ NOT_OPEN → result ≡ LINES }
+{
+    let Some(dlci) = Dlci::new(dlci) else {
+        return BAD_DLCI;
+    };
+    match relay.give(dlci, octets) {
+        Ok(count) => {
+            *taken = count;
+            OK
+        }
+        Err(why) => why.number(),
+    }
+}
+
+/// Takes the first octets to be sent as data, as far as 4096 wait then.
+#[unsafe(no_mangle)]
+pub extern "C" fn cimbaloty_data_give_at(
+    alloc: Global,
+    d: &mut CimbalotyData,
+    dlci: u8,
+    octets: &[u8],
+    taken: &mut usize,
+) -> u8
+    ensures ok { result ≡ OK → Becomes d.old d.new (λ r s. Hops r s (Passed (Gave dlci (take taken.new octets.now)))) }
+    ensures count { result ≡ OK → Keeps d.old (λ r. OfEachPast r.pipes (λ past.
+        taken.new ≡ min (length octets.now) (most_to_go - (length (given dlci past) - length (left dlci past))))) }
+    ensures bad { relay_of d.old ≢ None → ((result ≡ BAD_DLCI) ↔ (61 < dlci)) }
+    ensures not_data { result ≡ NOT_DATA → Keeps d.old (λ r. IsNotData r.pipes dlci) }
+    ensures not_open { result ≡ NOT_OPEN → Keeps d.old (λ r. OfEachPast r.pipes (λ past. is_open Initiator dlci (wire past) ≡ false)) }
+    ensures no_data { result ≡ LINES → Keeps d.old (λ r. OfEachPast r.pipes (λ past. ¬ (carries dlci past ≡ in_data))) }
+    ensures no_relay { (result ≡ NO_RELAY) ↔ (relay_of d.old ≡ None) }
+    ensures refused { result ≢ OK → relay_of d.new ≡ relay_of d.old }
+    ensures same { result ≢ OK → taken.new ≡ taken.old }
+    ensures others { result ≢ OK → result ≢ BAD_DLCI → result ≢ NOT_DATA → result ≢ NOT_OPEN → result ≢ NO_RELAY → result ≡ LINES }
+{
+    let Some(mut relay) = d.take(alloc) else {
+        return NO_RELAY;
+    };
+    let answer = give(&mut relay, dlci, octets, taken);
+    *d = CimbalotyData::of(relay);
+    answer
+}
