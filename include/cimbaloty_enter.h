@@ -1,5 +1,6 @@
 /* cimbaloty_enter.h - brings a modem from plain commands into the multiplexer (27.007, 5.7). As cimbaloty.h it does no I/O:
- * octets in, octets out, and the time is yours. Its rules are those of cimbaloty.h: what you owe, and what is proved.
+ * octets in, octets out, and the time is yours. What you owe is what cimbaloty.h says, of an entry as of a driver: it begins as
+ * CIMBALOTY_ENTRY_NONE, has one call at a time, and may be passed from one thread to another.
  *
  *     said = cimbaloty_enter_begin(&e, "AT+CMUX=0", 9, 31, 2);
  *     while (said == CIMBALOTY_OK) {
