@@ -74,7 +74,8 @@ static inline uint8_t cimbaloty_enter_input(struct cimbaloty_entry *e, const uin
 }
 
 /* For how many milliseconds to wait behind the last octet that was written: 1000 for an answer, 300 where the modem has
- * time to close down. More does no harm. 0: there is no entry. */
+ * time to close down. More does no harm, and a slow line needs more where writes don't wait until octets have left (tcdrain).
+ * 0: there is no entry. */
 uint32_t cimbaloty_enter_wait(struct cimbaloty_entry *e);
 
 /* So long nothing ended the entry. OK: it goes on with what closes down, or with the text again. SILENT: the text isn't to be
