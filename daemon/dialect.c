@@ -18,6 +18,7 @@ static const char *reason_of(uint8_t refusal)
 	case CIMBALOTY_TOO_MANY_RULES: return "a dialect has at most 64 rules";
 	case CIMBALOTY_NO_TEXT: return "the text of the rule is missing";
 	case CIMBALOTY_LONG_TEXT: return "the text of a rule has at most 64 octets";
+	case CIMBALOTY_LINE_END: return "the text of a rule has no CR in it";
 	case CIMBALOTY_BAD_NAME: return "a name has 1 to 64 octets 21 to 7E (hexadecimal)";
 	case CIMBALOTY_IS_COMMAND: return "a line that begins with AT or at is the echo of a command";
 	case CIMBALOTY_AMBIGUOUS: return "a line would both end an answer and be unsolicited";

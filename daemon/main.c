@@ -167,10 +167,10 @@ static void report(struct daemon *d)
 
 		if (t->is_waiting)
 			snprintf(waits, sizeof waits, ", one for %lld s", (long long)(modem_waited(m, i) / 1000));
-		say(LOG_NOTICE, "at%u (%s): %s; open %u times; %lu commands%s%s", i, t->device, modem_state(m, i), t->opens, t->commands, waits,
-		    t->is_waiting && t->is_orphan ? ", whose program has left" : "");
+		say(LOG_NOTICE, "at%u (%s): %s, opened %lu times; %u programs; %lu commands%s%s", i, t->device, modem_state(m, i), m->openings[i],
+		    t->opens, t->commands, waits, t->is_waiting && t->is_orphan ? ", whose program has left" : "");
 	}
-	say(LOG_NOTICE, "events (%s): open %u times; %lu lines came, %u are kept, %lu weren't", d->terminals.all[0].device,
+	say(LOG_NOTICE, "events (%s): %u programs; %lu lines came, %u are kept, %lu weren't", d->terminals.all[0].device,
 	    d->terminals.all[0].opens, d->events.lines, d->events.count, d->events.unkept);
 }
 

@@ -48,7 +48,7 @@ struct modem {
 	char told[160];
 	bool said_longer;       /* since the modem was entered */
 	uint64_t cut_on;        /* connections on which a frame longer than N1 came since a command was asked there */
-	unsigned long entries, losses;
+	unsigned long entries, losses, openings[CONNECTIONS + 1];
 };
 
 /* Opens the line for the first time. False, with the reason said, where another program drives it or it is no terminal;

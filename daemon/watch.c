@@ -4,7 +4,7 @@
 #include "log.h"
 #include <stdio.h>
 
-enum { MISSES = 3, STEADY = 10000, FIRST_WAIT = 1000, LONGEST_WAIT = 60000 };   /* milliseconds, but MISSES */
+enum { MISSES = 3, STEADY = 10000, FIRST_WAIT = 1000, LONGEST_WAIT = 60000, CUT_LIMIT = 5000 }; /* milliseconds, but MISSES */
 
 static const char *name_of(uint8_t answer)
 {
@@ -153,6 +153,7 @@ static void opened_or_shut(struct modem *m, unsigned dlci, uint8_t answer, int64
 		say(k->is_told ? LOG_NOTICE : LOG_DEBUG, "at%u: connection %u is open", dlci, dlci);
 		k->opened_at = now;
 		k->is_told = false;
+		m->openings[dlci]++;
 		return;
 	}
 	k->opened_at = 0;
@@ -211,19 +212,23 @@ static void keep_time(struct modem *m, int64_t now)
 	}
 }
 
-/* A command that waits for too long goes with its connection, which is closed and opened again. */
+/* A command that waits for too long goes with its connection, which is closed and opened again. So does one whose answer has lost
+ * a frame: its end may have been in that. */
 static void keep_limit(struct modem *m, unsigned dlci)
 {
 	struct connection *k = &m->connections[dlci];
-	uint64_t ticks;
+	bool is_cut = modem_is_cut(m, dlci) && m->options->limit * 1000u > CUT_LIMIT;
+	uint64_t limit = is_cut ? CUT_LIMIT : (uint64_t)m->options->limit * 1000, ticks;
 
-	if (k->request || cimbaloty_waiting_ticks(&m->c, (uint8_t)dlci, &ticks) != CIMBALOTY_OK
-	    || ticks * m->options->t1 < (uint64_t)m->options->limit * 1000
+	if (k->request || cimbaloty_waiting_ticks(&m->c, (uint8_t)dlci, &ticks) != CIMBALOTY_OK || ticks * m->options->t1 < limit
 	    || cimbaloty_state(&m->c, (uint8_t)dlci) != CIMBALOTY_IS_OPENED
 	    || cimbaloty_close(&m->c, (uint8_t)dlci, &k->request) != CIMBALOTY_OK)
 		return;
 	m->last = k->request;
-	say(LOG_WARNING, "at%u: a command has had no answer for %u s: connection %u is closed and opened again", dlci, m->options->limit, dlci);
+	if (is_cut)
+		say(LOG_WARNING, "at%u: an answer has lost a frame: connection %u is closed and opened again", dlci, dlci);
+	else
+		say(LOG_WARNING, "at%u: a command has had no answer for %u s: connection %u is closed and opened again", dlci, m->options->limit, dlci);
 }
 
 void watch_turn(struct modem *m, int64_t now)

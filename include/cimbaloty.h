@@ -143,6 +143,11 @@ struct cimbaloty_line {
 	uint16_t kind;          /* enum cimbaloty_kind, or a kind of the dialect's own */
 };
 
+/* The states of connections as they were last told (enum cimbaloty_channel_state). All zero at first: 0 stands for shut. */
+struct cimbaloty_states {
+	uint8_t of[62];
+};
+
 /* What is left of a driver. */
 struct cimbaloty_left {
 	size_t requests;        /* requests without an outcome */
@@ -261,6 +266,7 @@ uint8_t cimbaloty_peek_outcome(struct cimbaloty *c, struct cimbaloty_outcome *he
 uint8_t cimbaloty_poll_outcome_at(struct cimbaloty *c, struct cimbaloty_outcome *head, uint8_t *text, size_t room);
 uint8_t cimbaloty_peek_line(struct cimbaloty *c, struct cimbaloty_line *head);
 uint8_t cimbaloty_poll_line_at(struct cimbaloty *c, struct cimbaloty_line *head, uint8_t *text, size_t room);
+uint8_t cimbaloty_poll_state_at(struct cimbaloty *c, uint8_t *told, size_t length, uint8_t *dlci);
 uint8_t cimbaloty_finish_at(struct cimbaloty *c, struct cimbaloty_left *left, uint64_t *numbers, size_t room);
 uint8_t cimbaloty_dialect_add_final_at(struct cimbaloty_dialect *d, uint8_t form, const uint8_t *text, size_t length);
 uint8_t cimbaloty_dialect_add_unsolicited_at(struct cimbaloty_dialect *d, uint8_t form, const uint8_t *text, size_t length,
@@ -335,6 +341,14 @@ static inline uint8_t cimbaloty_poll_line(struct cimbaloty *c, struct cimbaloty_
 	return cimbaloty_poll_line_at(c, head, room ? (uint8_t *)text : &none, room);
 }
 
+/* Whether the state of a connection isn't as it was last told. OK: *dlci is the least such connection, and its state stands
+ * in *told. The driver opens no connection by itself: where you ask behind each cimbaloty_input, tick and request, you miss
+ * none that the modem shut. Refused: NO_DRIVER, NOTHING; then *told and *dlci are as they were. */
+static inline uint8_t cimbaloty_poll_state(struct cimbaloty *c, struct cimbaloty_states *told, uint8_t *dlci)
+{
+	return cimbaloty_poll_state_at(c, told->of, sizeof told->of, dlci);
+}
+
 /* Ends the driver as cimbaloty_free does, and says what is left: how many requests have no outcome, and their
  * numbers, as many as there is room for (at most 128 are in hand). It also counts the outcomes and lines that
  * weren't polled; these are gone. NO_DRIVER: left and numbers are as they were. */
@@ -377,28 +391,6 @@ static inline uint16_t cimbaloty_dialect_kind(struct cimbaloty_dialect *d, const
 }
 
 /* ---- Beside the driver: in C, tested, and not proved ---------------------------------------------- */
-
-/* The states of connections as they were last told; all zero at first, which stands for shut. */
-struct cimbaloty_states {
-	uint8_t of[62];
-};
-
-/* Whether the state of a connection isn't as it was last told. If so, *dlci is the least such connection, and its state
- * counts as told. The driver opens no connection by itself: where you ask behind each cimbaloty_input, tick and request,
- * you miss none that the modem shut. False where there is no driver. */
-static inline bool cimbaloty_poll_state(struct cimbaloty *c, struct cimbaloty_states *told, uint8_t *dlci)
-{
-	for (uint8_t d = 0; d < sizeof told->of; d++) {
-		uint8_t state = cimbaloty_state(c, d);
-
-		if (state == 0 || state == (told->of[d] ? told->of[d] : (uint8_t)CIMBALOTY_IS_SHUT))
-			continue;
-		told->of[d] = state;
-		*dlci = d;
-		return true;
-	}
-	return false;
-}
 
 /* Names for messages, those of the constants above without CIMBALOTY_ or CIMBALOTY_IS_: "NO_ANSWER". A kind of a dialect's
  * own is "OWN", and what is none is "?". Number 2 is of two refusals: "FULL or BAD_N1". */

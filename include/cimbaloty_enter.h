@@ -1,5 +1,6 @@
 /* cimbaloty_enter.h - brings a modem from plain commands into the multiplexer (27.007, 5.7). As cimbaloty.h it does no I/O:
- * octets in, octets out, and the time is yours. Its rules are those of cimbaloty.h: what you owe, and what is proved.
+ * octets in, octets out, and the time is yours. What you owe is what cimbaloty.h says, of an entry as of a driver: it begins as
+ * CIMBALOTY_ENTRY_NONE, has one call at a time, and may be passed from one thread to another.
  *
  *     said = cimbaloty_enter_begin(&e, "AT+CMUX=0", 9, 31, 2);
  *     while (said == CIMBALOTY_OK) {
@@ -73,7 +74,8 @@ static inline uint8_t cimbaloty_enter_input(struct cimbaloty_entry *e, const uin
 }
 
 /* For how many milliseconds to wait behind the last octet that was written: 1000 for an answer, 300 where the modem has
- * time to close down. More does no harm. 0: there is no entry. */
+ * time to close down. More does no harm, and a slow line needs more where writes don't wait until octets have left (tcdrain).
+ * 0: there is no entry. */
 uint32_t cimbaloty_enter_wait(struct cimbaloty_entry *e);
 
 /* So long nothing ended the entry. OK: it goes on with what closes down, or with the text again. SILENT: the text isn't to be

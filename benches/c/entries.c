@@ -142,18 +142,20 @@ static void states(void)
 	struct cimbaloty_states told_states = { { 0 } };
 	struct pair *p = begin(64, 64);
 	char room[8];
+	struct cimbaloty none = CIMBALOTY_NONE;
 	uint8_t d = 99;
 	size_t taken;
 
+	CHECK(cimbaloty_poll_state(&none, &told_states, &d) == CIMBALOTY_NO_DRIVER && d == 99);
 	told(p, 1, CIMBALOTY_OPENED, room, sizeof room);
 	opened(p, 1, 2);
-	CHECK(cimbaloty_poll_state(&p->c, &told_states, &d) && d == 0 && told_states.of[0] == CIMBALOTY_IS_OPENED);
-	CHECK(cimbaloty_poll_state(&p->c, &told_states, &d) && d == 1 && told_states.of[1] == CIMBALOTY_IS_OPENED);
-	CHECK(!cimbaloty_poll_state(&p->c, &told_states, &d) && d == 1);
+	CHECK(cimbaloty_poll_state(&p->c, &told_states, &d) == CIMBALOTY_OK && d == 0 && told_states.of[0] == CIMBALOTY_IS_OPENED);
+	CHECK(cimbaloty_poll_state(&p->c, &told_states, &d) == CIMBALOTY_OK && d == 1 && told_states.of[1] == CIMBALOTY_IS_OPENED);
+	CHECK(cimbaloty_poll_state(&p->c, &told_states, &d) == CIMBALOTY_NOTHING && d == 1);
 	CHECK(cimbaloty_input(&p->c, shuts, sizeof shuts, &taken) == CIMBALOTY_OK);
 	d = 99;
-	CHECK(cimbaloty_poll_state(&p->c, &told_states, &d) && d == 1 && told_states.of[1] == CIMBALOTY_IS_SHUT);
-	CHECK(!cimbaloty_poll_state(&p->c, &told_states, &d));
+	CHECK(cimbaloty_poll_state(&p->c, &told_states, &d) == CIMBALOTY_OK && d == 1 && told_states.of[1] == CIMBALOTY_IS_SHUT);
+	CHECK(cimbaloty_poll_state(&p->c, &told_states, &d) == CIMBALOTY_NOTHING);
 	end(p);
 }
 

@@ -307,5 +307,40 @@ def wrong_n1(build):
     line.end()
 
 
+def cut_answer(build):
+    """An answer that lost a frame longer than N1 isn't taken for whole, and doesn't hold its connection up for long."""
+    line = Line(piece=64)
+    with Daemon(build, line.path) as daemon:
+        with daemon.terminal("at1") as terminal:
+            part = terminal.ask("AT+" + "L" * 57)  # the frame with its end is short
+            whole = terminal.ask("AT+X")
+            begun = time.monotonic()
+            none = terminal.ask("AT+" + "L" * 80, 20)
+            took = time.monotonic() - begun
+            again = terminal.ask("AT+Y")
+        check(f"{build.name}: an answer that lost a frame", part == none == ["ERROR"] and is_own(whole, "AT+X") and is_own(again, "AT+Y")
+              and 4 < took < 7 * build.slow and "has lost a frame: connection 1 is closed" in daemon.said(),
+              f"{part}, {none} after {took:.1f} s, then {again}\n{daemon.said().strip()}")
+    line.end()
+
+
+def unfinished_frame(build):
+    """A driver died in the middle of a frame: the modem takes what comes for the rest of it. The first try behind that enters."""
+    for n1 in (31, 1500):
+        line = Line()
+        line.modem.multiplexed = True
+        length = bytes([n1 << 1 | 1]) if n1 < 128 else bytes([n1 << 1 & 0xFE, n1 >> 7])
+        os.write(line.theirs, b"\xf9\x07\xef" + length + b"A")
+        time.sleep(0.1)
+        begun = time.monotonic()
+        with Daemon(build, line.path, "--n1", str(n1)) as daemon:
+            took = time.monotonic() - begun
+            with daemon.terminal("at1") as terminal:
+                said = terminal.ask("AT+BACK")
+            check(f"{build.name}: behind half a frame, N1 {n1}", is_own(said, "AT+BACK") and len(line.modem.entered) == 1 and line.modem.stops == 1
+                  and took < 3 * build.slow, f"{said}, entered {len(line.modem.entered)} times after {took:.1f} s")
+        line.end()
+
+
 CASES = [prompt, silent_reset, no_probes, deaf_connection, shut_by_modem, two_daemons, sigpipe, stalled_log, sigterm, sigterm_of_silent, sighup,
-         killed_daemon, replugged, refused_entry, not_a_terminal, slow_line, wrong_n1]
+         killed_daemon, replugged, refused_entry, not_a_terminal, slow_line, wrong_n1, cut_answer, unfinished_frame]

@@ -63,7 +63,8 @@ def files(build):
             if status != 2 or str(path) + want not in said:
                 wrong.append((text, status, said))
         rules = [("final line OK2\nfinal maybe X\n", ":2: line, prefix"), ("final prefix AT\n", ":1: a line that begins with AT"),
-                 ("sometimes line X\n", ":1: final or unsolicited"), ("unsolicited line X\n", ":1: a name"), ("# none\n\nfinal line \n", ":3: the text of the rule")]
+                 ("sometimes line X\n", ":1: final or unsolicited"), ("unsolicited line X\n", ":1: a name"), ("# none\n\nfinal line \n", ":3: the text of the rule"),
+                 ("final line A\rB\n", ":1: the text of a rule has no CR")]
         for text, want in rules:
             path.write_text(text)
             status, out, said = run(build, "--dialect", path, "t", "d")
@@ -169,8 +170,8 @@ def report(build):
             daemon.process.send_signal(signal.SIGUSR1)
             done = daemon.await_text("events (")
         said = daemon.said()
-        check(f"{build.name}: SIGUSR1", done and "bad 1, longer than N1 0" in said and "connected; open 1 times; 1 commands\n" in said
-              and "1 commands, one for 1 s" in said and said.count(": connected;") == 4 and "entered 1 times, lost 0 times" in said, said.strip())
+        check(f"{build.name}: SIGUSR1", done and "bad 1, longer than N1 0" in said and "connected, opened 1 times; 1 programs; 1 commands\n" in said
+              and "1 commands, one for 1 s" in said and said.count(": connected, opened 1 times;") == 4 and "entered 1 times, lost 0 times" in said, said.strip())
     line.end()
 
 

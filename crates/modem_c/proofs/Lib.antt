@@ -9,3 +9,4 @@ pub mod Heard
 pub mod OwnKinds
 pub mod TakenRequests
 pub mod Rooms
+pub mod ToldStates

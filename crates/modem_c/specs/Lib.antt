@@ -6,4 +6,5 @@ pub mod Held
 pub mod HeldDialects
 pub mod HeldEntries
 pub mod Numbers
+pub mod States
 pub mod Texts

@@ -17,6 +17,7 @@ mod outcomes;
 mod parts;
 mod places;
 mod requests;
+mod states;
 mod time;
 
 pub use dialects::CimbalotyDialect;

@@ -124,7 +124,7 @@ pub extern "C" fn cimbaloty_waiting_ticks(
 }
 
 /// The number of a state.
-fn state_number(state: ChannelState) -> u8
+pub(crate) fn state_number(state: ChannelState) -> u8
     ensures { result ≡ state_number state }
 {
     match state {
