@@ -1,0 +1,4 @@
+pub mod Places
+pub mod Keeping
+pub mod Passing
+pub mod RowFacts

@@ -1,0 +1,6 @@
+pub mod Ways
+pub mod Messages
+pub mod Asking
+pub mod Ends
+pub mod Judging
+pub mod Rows
