@@ -2,3 +2,4 @@ pub mod Places
 pub mod Keeping
 pub mod Passing
 pub mod RowFacts
+pub mod Talks

@@ -4,3 +4,4 @@ pub mod Asking
 pub mod Ends
 pub mod Judging
 pub mod Rows
+pub mod Talking

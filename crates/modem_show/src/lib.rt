@@ -10,8 +10,12 @@ mod faults;
 pub mod laws;
 mod message;
 mod place;
+mod talk;
+mod told;
 mod watcher;
 
 pub use ask::Ask;
 pub use faults::Faults;
+pub use talk::Talk;
+pub use told::Told;
 pub use watcher::Watcher;
