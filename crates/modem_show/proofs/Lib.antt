@@ -2,4 +2,5 @@ pub mod Places
 pub mod Keeping
 pub mod Passing
 pub mod RowFacts
-pub mod Talks
+pub mod Hearing
+pub mod Silence

@@ -1,5 +1,13 @@
 -- What is said on a connection: the commands of the driver, and the lines of the modem (V.250, 5).
-use Rattle.std.specs.Prelude.{ℕ, List, [], ◌∷◌, ◌++◌, Option, Some, is_none, is_some, if◌then◌else◌}
+use Rattle.std.specs.Prelude.{◌≡◌, ℕ, ◌<◌, ◌==◌, ◌&&◌, ◌||◌, not, Bool, List, [], ◌∷◌, ◌++◌, Option, None, Some, is_none, is_some, if◌then◌else◌, slice_index_or}
+use Rattle.std.specs.List.{list_any}
+use Rattle.mux_frame.specs.Frames.{Frame}
+use Rattle.mux_frame.specs.declared.dlci.Dlci.{Dlci}
+use Rattle.mux_capture.specs.Passing.{Caught}
+use Rattle.mux_station.specs.Messages.{cld, brings_command}
+use Rattle.mux_station.specs.Opening.{is_mode_frame_on}
+use Rattle.mux_station.specs.Written.{is_data_frame}
+use Rattle.at_text.specs.Rules.{Rules, dialect_of}
 use Rattle.mux_capture.specs.declared.packet.Direction.{Direction}
 use Rattle.mux_capture.specs.declared.packet.Direction.TheVariants.{ToModem, FromModem}
 use Rattle.at_text.specs.Commands.{refusal_of}
@@ -70,3 +78,68 @@ told_each dialect d t (octet ∷ octets) =
 abbrev pub heard_each : Dialect → Direction → Talk → List ℕ → Talk
 heard_each dialect d t [] = t
 heard_each dialect d t (octet ∷ octets) = heard_each dialect d (heard dialect d t (octet ∷ [])) octets
+
+-- ## All connections
+
+-- nothing was said
+abbrev pub silence : Talk
+silence = record { driver = []; modem = []; window = None }
+
+-- a connection begins or ends with this frame, by itself or with 0
+abbrev pub closes_all : Frame → Bool
+closes_all f = is_mode_frame_on 0 f || brings_command cld f
+
+abbrev pub starts_afresh : ℕ → Frame → Bool
+starts_afresh d f = closes_all f || is_mode_frame_on d f
+
+-- the frame has text: it is on a connection, and not on one that is named as one of data
+abbrev pub has_text : List Dlci → Frame → Bool
+has_text data_channels f = is_data_frame f && not (list_any (λ e. e.number == f.dlci) data_channels)
+
+-- what is kept of d after a frame
+abbrev pub talk_after : Dialect → List Dlci → ℕ → Talk → Direction → Frame → Talk
+talk_after dialect data_channels d t direction f =
+    if starts_afresh d f then silence
+    else if has_text data_channels f && (f.dlci == d) then heard_each dialect direction t f.info
+    else t
+
+-- what is kept of d once these frames passed, the newest of which is the first
+abbrev pub talk_of : Dialect → List Dlci → ℕ → List Caught → Talk
+talk_of dialect data_channels d [] = silence
+talk_of dialect data_channels d (c ∷ line) =
+    talk_after dialect data_channels d (talk_of dialect data_channels d line) c.direction c.frame
+
+-- what is told of the lines that end in a frame, behind those that passed before it
+abbrev pub told_in : Dialect → List Dlci → List Caught → Caught → List Told
+told_in dialect data_channels line c =
+    if starts_afresh c.frame.dlci c.frame then []
+    else if has_text data_channels c.frame
+    then told_each dialect c.direction (talk_of dialect data_channels c.frame.dlci line) c.frame.info
+    else []
+
+-- the dialect, the connections of data, and what is kept of each connection
+pub record Talks : Type 0 where
+  pub rules : Rules
+  pub data_channels : List Dlci
+  pub talks : List Talk
+
+abbrev pub talk_at : Talks → ℕ → Talk
+talk_at v d = slice_index_or v.talks d silence
+
+pub record TalksFit (v : Talks) (line : List Caught) : Type 0 where
+  pub each : (d : ℕ) → d < 62 → talk_at v d ≡ talk_of (dialect_of v.rules) v.data_channels d line
+
+-- each connection is kept on by a frame
+pub record TalksAfter (old new : Talks) (direction : Direction) (f : Frame) : Type 0 where
+  pub rules : new.rules ≡ old.rules
+  pub data_channels : new.data_channels ≡ old.data_channels
+  pub each :
+      (d : ℕ) → d < 62
+      → talk_at new d ≡ talk_after (dialect_of old.rules) old.data_channels d (talk_at old d) direction f
+
+-- what is told of the lines that end in a frame, by what is kept
+abbrev pub told_at : Talks → Direction → Frame → List Told
+told_at v direction f =
+    if starts_afresh f.dlci f then []
+    else if has_text v.data_channels f then told_each (dialect_of v.rules) direction (talk_at v f.dlci) f.info
+    else []

@@ -11,11 +11,13 @@ pub mod laws;
 mod message;
 mod place;
 mod talk;
+mod talks;
 mod told;
 mod watcher;
 
 pub use ask::Ask;
 pub use faults::Faults;
 pub use talk::Talk;
+pub use talks::Talks;
 pub use told::Told;
 pub use watcher::Watcher;

@@ -3,7 +3,7 @@ ghost use Rattle.std.specs.Prelude.{◌≡◌, ℕ, ◌==◌, ◌&&◌, ◌≤�
 ghost use Rattle.mux_frame.specs.Frames.{frame_of};
 ghost use Rattle.mux_station.specs.Messages.{Message as Told, message_in, message_of, is_command, msc_dlci, msc_stops, is_good_msc, if_good, brings_command};
 ghost use Rattle.mux_station.specs.Stopping.{flow_says, msc_says};
-ghost use Rattle.mux_station.specs.Written.{is_kind, is_on};
+ghost use Rattle.mux_station.specs.Written.{is_data_frame, is_kind, is_on};
 ghost use Rattle.mux_station.specs.Opening.{is_mode_frame_on};
 ghost use Rattle.mux_station.specs.Tables.{is_supported};
 ghost use Rattle.modem_show.specs.Messages.{message_read};
@@ -88,6 +88,13 @@ pub(crate) fn is_kind(kind: Kind, other: Kind) -> bool
             | (Kind::Disc, Kind::Disc)
             | (Kind::Uih, Kind::Uih)
     )
+}
+
+/// Whether it is data of a connection.
+pub(crate) fn is_data_frame(frame: FrameView<'_>) -> bool
+    ensures { result ≡ is_data_frame (frame_of frame.entry) }
+{
+    is_kind(frame.kind, Kind::Uih) && frame.dlci.number() != 0
 }
 
 /// Whether a frame is a SABM, UA, DM or DISC on this connection.

@@ -1,11 +1,11 @@
 //! What is said on a connection (V.250, 5).
-ghost use Rattle.std.specs.Prelude.{◌≡◌, ◌∷◌, [], ◌++◌, None, OnOk};
+ghost use Rattle.std.specs.Prelude.{◌≡◌, ◌∷◌, [], ◌++◌, is_some, OnOk};
 ghost use Rattle.mux_capture.specs.declared.packet.Direction.TheVariants.{FromModem, ToModem};
 ghost use Rattle.at_text.specs.Lines.{lines, kept_run};
 ghost use Rattle.at_text.specs.Rules.{dialect_of};
 ghost use Rattle.at_text.specs.Dialects.{Dialect as Codes};
 ghost use Rattle.at_text.specs.OpenWindow.{after_line};
-ghost use Rattle.modem_show.specs.Talking.{told_by, told_of_driver, window_by_driver, told_of, window_after, told, heard, told_each, heard_each};
+ghost use Rattle.modem_show.specs.Talking.{told_by, told_of_driver, window_by_driver, told_of, window_after, told, heard, told_each, heard_each, silence};
 
 use crate::told::Told;
 use at_text::{CommandLine, Dialect, LineReader, Text, TextError, Window};
@@ -121,7 +121,7 @@ fn read_modem(
 impl Talk {
     /// Nothing was said.
     pub fn new(alloc: Global) -> Talk
-        ensures { result ≡ record { driver = []; modem = []; window = None } }
+        ensures { result ≡ silence }
     {
         Talk {
             alloc,
@@ -129,6 +129,22 @@ impl Talk {
             modem: LineReader::new(),
             window: Window::new(alloc),
         }
+    }
+
+    /// Forgets what was said.
+    pub fn reset(&mut self)
+        ensures { self.new ≡ silence }
+    {
+        self.driver.reset();
+        self.modem.reset();
+        self.window.drop_command();
+    }
+
+    /// Whether a command is under way.
+    pub fn is_under_way(&self) -> bool
+        ensures { result ≡ is_some self.now.window }
+    {
+        !self.window.idle()
     }
 
     /// An octet goes this way.

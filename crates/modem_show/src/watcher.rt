@@ -4,7 +4,6 @@ ghost use Rattle.mux_frame.specs.Frames.{frame_of};
 ghost use Rattle.mux_capture.specs.declared.packet.Direction.{Direction};
 ghost use Rattle.mux_capture.specs.Passing.{Caught};
 ghost use Rattle.mux_station.specs.Acts.{Act};
-ghost use Rattle.mux_station.specs.Written.{is_data_frame};
 ghost use Rattle.modem_show.specs.declared.deed.Deed.TheVariants.{Sent};
 ghost use Rattle.modem_show.specs.Ways.{caught, act_of, sender};
 ghost use Rattle.modem_show.specs.Asking.{answered_by, unanswered_by, excused_by, asked_with, is_answer, waiting};
@@ -16,9 +15,9 @@ use crate::asks::{pass_all, take_answered};
 use crate::deed::Deed;
 use crate::end::End;
 use crate::faults::Faults;
-use crate::message::{is_kind, is_message};
+use crate::message::{is_data_frame, is_message};
 use mux_capture::{Direction, Stamp};
-use mux_frame::{FrameView, Kind};
+use mux_frame::FrameView;
 use mux_station::Role;
 use std::alloc::{AllocError, Global};
 use std::marker::Model;
@@ -114,13 +113,6 @@ impl Side {
             self.end.act(frame, Deed::Got);
         }
     }
-}
-
-/// Whether it is data of a connection.
-fn is_data_frame(frame: FrameView<'_>) -> bool
-    ensures { result ≡ is_data_frame (frame_of frame.entry) }
-{
-    is_kind(frame.kind, Kind::Uih) && frame.dlci.number() != 0
 }
 
 /// Whether a frame is an answer to nothing.

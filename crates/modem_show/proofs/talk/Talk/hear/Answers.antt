@@ -2,7 +2,7 @@
 use Rattle.std.specs.Prelude.{◌≡◌, ◌∷◌, ◌+◌, ◌<◌, length, drop}
 use Rattle.std.proofs.Common.{drop-cons, add-one, get_or}
 use Rattle.at_text.specs.Rules.{dialect_of}
-use Rattle.modem_show.proofs.Talks.{kept_on, told_on}
+use Rattle.modem_show.proofs.Hearing.{kept_on, told_on}
 use Rattle.modem_show.proofs.talk.Talk.hear.Goals as goal
 
 pub loop-octet-preserved : goal.loop-octet-preserved

@@ -3,7 +3,7 @@ use Rattle.std.specs.Prelude.{◌≡◌, [], ◌∷◌}
 use Rattle.std.proofs.Common.{subst}
 use Rattle.at_text.specs.Rules.{dialect_of}
 use Rattle.modem_show.specs.Talking.{Talk, heard}
-use Rattle.modem_show.proofs.Talks.{both_ok, driver_says, modem_says}
+use Rattle.modem_show.proofs.Hearing.{both_ok, driver_says, modem_says}
 use Rattle.modem_show.proofs.talk.Talk.push.Goals as goal
 
 pub returns-in-ToModem-clause-kept : goal.returns-in-ToModem-clause-kept
