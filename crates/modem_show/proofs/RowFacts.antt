@@ -1,6 +1,7 @@
 -- The worked examples, computed.
 use Rattle.std.specs.Prelude.{refl}
 use Rattle.modem_show.specs.Rows.{AreJudged, AreAnswered}
+use Rattle.modem_show.specs.TalkRows.{AreTold}
 
 pub are_judged : AreJudged
 are_judged = record {
@@ -37,4 +38,21 @@ are_answered = record {
   sent_again = refl;
   dropped = refl;
   down = refl;
+}
+
+pub are_told : AreTold
+are_told = record {
+  answered = refl;
+  overlapping = refl;
+  in_turn = refl;
+  alone = refl;
+  report = refl;
+  report_inside = refl;
+  echo = refl;
+  cut_anywhere = refl;
+  reopened = refl;
+  as_data = refl;
+  other_text = refl;
+  unfinished = refl;
+  finished = refl;
 }

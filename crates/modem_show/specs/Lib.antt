@@ -5,3 +5,4 @@ pub mod Ends
 pub mod Judging
 pub mod Rows
 pub mod Talking
+pub mod TalkRows

@@ -1,5 +1,5 @@
 -- What is said on a connection: the commands of the driver, and the lines of the modem (V.250, 5).
-use Rattle.std.specs.Prelude.{◌≡◌, ℕ, ◌<◌, ◌==◌, ◌&&◌, ◌||◌, not, Bool, List, [], ◌∷◌, ◌++◌, Option, None, Some, is_none, is_some, if◌then◌else◌, slice_index_or}
+use Rattle.std.specs.Prelude.{◌≡◌, ℕ, ◌<◌, ◌==◌, ◌&&◌, ◌||◌, not, Bool, false, List, map, [], ◌∷◌, ◌++◌, Option, None, Some, is_none, is_some, if◌then◌else◌, slice_index_or}
 use Rattle.std.specs.List.{list_any}
 use Rattle.mux_frame.specs.Frames.{Frame}
 use Rattle.mux_frame.specs.declared.dlci.Dlci.{Dlci}
@@ -12,6 +12,7 @@ use Rattle.mux_capture.specs.declared.packet.Direction.{Direction}
 use Rattle.mux_capture.specs.declared.packet.Direction.TheVariants.{ToModem, FromModem}
 use Rattle.at_text.specs.Commands.{refusal_of}
 use Rattle.at_text.specs.Dialects.{Dialect}
+use Rattle.at_text.specs.declared.window.Seen.TheVariants.{Other}
 use Rattle.at_text.specs.Lines.{lines, kept_run}
 use Rattle.at_text.specs.OpenWindow.{OpenWindow, opened, seen_by, after_line}
 use Rattle.modem_show.specs.declared.told.Told.{Told}
@@ -143,3 +144,32 @@ told_at v direction f =
     if starts_afresh f.dlci f then []
     else if has_text v.data_channels f then told_each (dialect_of v.rules) direction (talk_at v f.dlci) f.info
     else []
+
+-- ## What is wrong with what is told
+
+-- a command while another one is under way
+abbrev pub overlaps : Told → Bool
+overlaps (Command l under_way) = under_way
+overlaps _ = false
+
+-- a final code that answers no command
+abbrev pub is_unprompted : Dialect → Told → Bool
+is_unprompted dialect (Line l Other) = dialect.is_final l
+is_unprompted dialect _ = false
+
+-- d's last command has no answer
+abbrev pub is_unfinished : Dialect → List Dlci → ℕ → List Caught → Bool
+is_unfinished dialect data_channels d line = is_some (talk_of dialect data_channels d line).window
+
+-- the line that is told of
+abbrev pub line_of : Told → List ℕ
+line_of (Command l under_way) = l
+line_of (Text l) = l
+line_of (Line l seen) = l
+
+-- What octets tell all at once is what they tell one by one, however they are cut. Each line is told once, and in order.
+pub record TellsLines (dialect : Dialect) (d : Direction) (t : Talk) (octet : ℕ) (octets : List ℕ) : Type 0 where
+  pub told_at_once : told_each dialect d t (octet ∷ octets) ≡ told dialect d t (octet ∷ octets)
+  pub heard_at_once : heard_each dialect d t (octet ∷ octets) ≡ heard dialect d t (octet ∷ octets)
+  pub each_once :
+      map line_of (told_each dialect d t (octet ∷ octets)) ≡ lines (run_of d t ++ octet ∷ octets)
