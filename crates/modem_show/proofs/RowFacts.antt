@@ -1,0 +1,58 @@
+-- The worked examples, computed.
+use Rattle.std.specs.Prelude.{refl}
+use Rattle.modem_show.specs.Rows.{AreJudged, AreAnswered}
+use Rattle.modem_show.specs.TalkRows.{AreTold}
+
+pub are_judged : AreJudged
+are_judged = record {
+  opening = refl;
+  twice = refl;
+  sent_again = refl;
+  echo = refl;
+  other_echo = refl;
+  refused = refl;
+  never_asked = refl;
+  not_open = refl;
+  refused_opening = refl;
+  closing = refl;
+  closed = refl;
+  down = refl;
+  under_way = refl;
+  stopped = refl;
+  freed = refl;
+  stop_of_all = refl;
+  response_stops_none = refl;
+  most = refl;
+  one_more = refl;
+  close_as_data = refl;
+  close_in_text = refl;
+}
+
+pub are_answered : AreAnswered
+are_answered = record {
+  unechoed = refl;
+  echoed = refl;
+  unanswered_status = refl;
+  answered_status = refl;
+  opening = refl;
+  sent_again = refl;
+  dropped = refl;
+  down = refl;
+}
+
+pub are_told : AreTold
+are_told = record {
+  answered = refl;
+  overlapping = refl;
+  in_turn = refl;
+  alone = refl;
+  report = refl;
+  report_inside = refl;
+  echo = refl;
+  cut_anywhere = refl;
+  reopened = refl;
+  as_data = refl;
+  other_text = refl;
+  unfinished = refl;
+  finished = refl;
+}

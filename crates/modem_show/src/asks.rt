@@ -1,0 +1,36 @@
+//! The frames of one end that wait for their answer.
+ghost use Rattle.std.specs.Prelude.{◌≡◌, map};
+ghost use Rattle.std.specs.List.{position};
+ghost use Rattle.mux_frame.specs.Frames.{frame_of};
+ghost use Rattle.modem_show.specs.Asking.{answers, answered_by, unanswered_by, excused_by};
+
+use crate::ask::{Ask, answers};
+use mux_frame::FrameView;
+
+/// The place of the newest that a frame answers.
+fn place_answered(asks: &[Ask], frame: FrameView<'_>) -> Option<usize>
+    ensures { result ≡ position (λ a. answers a.frame (frame_of frame.entry)) asks.now }
+{
+    asks.iter().position(|ask| answers(ask.frame(), frame))
+}
+
+/// Takes out the newest that a frame answers.
+#[tactic(auto, using(crate::proofs::Places::found_there, crate::proofs::Places::found_nowhere, crate::proofs::Places::is_first, crate::proofs::Places::stays_whole))]
+pub(crate) fn take_answered(asks: &mut Vec<Ask>, frame: FrameView<'_>) -> Option<Ask>
+    ensures taken { result ≡ answered_by (frame_of frame.entry) asks.old.items }
+    ensures rest { asks.new.items ≡ unanswered_by (frame_of frame.entry) asks.old.items }
+{
+    match place_answered(asks.as_slice(), frame) {
+        Some(place) => Some(asks.remove(place)),
+        None => None,
+    }
+}
+
+/// A frame passes, and excuses those that it can.
+pub(crate) fn pass_all(asks: &mut Vec<Ask>, frame: FrameView<'_>)
+    ensures { asks.new.items ≡ map (excused_by (frame_of frame.entry)) asks.old.items }
+{
+    for ask in asks.iter_mut() {
+        ask.pass(frame);
+    }
+}

@@ -1,0 +1,23 @@
+//! What happened on the line between a driver and its modem, told of the frames that a capture has, and what was wrong there. `Watcher`
+//! takes the frames of both ways in the order in which they passed, and judges each by the tables of 3GPP TS 27.010 (5.4).
+#![tactic(auto)]
+
+mod ask;
+mod asks;
+mod deed;
+mod end;
+mod faults;
+pub mod laws;
+mod message;
+mod place;
+mod talk;
+mod talks;
+mod told;
+mod watcher;
+
+pub use ask::Ask;
+pub use faults::Faults;
+pub use talk::Talk;
+pub use talks::Talks;
+pub use told::Told;
+pub use watcher::Watcher;

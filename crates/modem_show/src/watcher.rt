@@ -1,0 +1,227 @@
+//! Judges the frames of a line as they passed.
+ghost use Rattle.std.specs.Prelude.{◌≡◌, ◌∷◌, ◌++◌, [], ◌&&◌, List, map, is_none, IfOk, OnOk, OnErr};
+ghost use Rattle.mux_frame.specs.Frames.{frame_of};
+ghost use Rattle.mux_capture.specs.declared.packet.Direction.{Direction};
+ghost use Rattle.mux_capture.specs.Passing.{Caught};
+ghost use Rattle.mux_station.specs.Acts.{Act};
+ghost use Rattle.modem_show.specs.declared.deed.Deed.TheVariants.{Sent};
+ghost use Rattle.modem_show.specs.Ways.{caught, act_of, sender};
+ghost use Rattle.modem_show.specs.Asking.{answered_by, unanswered_by, excused_by, asked_with, is_answer, waiting};
+ghost use Rattle.modem_show.specs.Ends.{EndFits, handled, come};
+ghost use Rattle.modem_show.specs.Judging.{SideFits, WatchFits, Passes, JudgedBy, faults_at, faults_of};
+
+use crate::ask::{Ask, is_answer, is_ask};
+use crate::asks::{pass_all, take_answered};
+use crate::deed::Deed;
+use crate::end::End;
+use crate::faults::Faults;
+use crate::message::{is_data_frame, is_message};
+use mux_capture::{Direction, Stamp};
+use mux_frame::FrameView;
+use mux_station::Role;
+use std::alloc::{AllocError, Global};
+use std::marker::Model;
+
+/// One end, and the frames with which it asked and which wait for an answer, the newest first.
+#[derive(Drop)]
+struct Side {
+    end: End,
+    asks: Vec<Ask>,
+}
+
+impl Model for Side {
+    ghost use Rattle.modem_show.specs.Judging.{Side};
+
+    ghost Value = { Side };
+
+    ghost view = { λ s. record { end = s.end; asks = s.asks.items } };
+}
+
+impl Side {
+    fn new(alloc: Global, role: Role) -> Result<Side, AllocError>
+        ensures { IfOk result (λ s. SideFits role s []) }
+    {
+        let end = End::new(alloc, role)?;
+        Ok(Side {
+            end,
+            asks: Vec::new(alloc),
+        })
+    }
+
+    /// What is wrong with a frame of this end.
+    fn judge(&self, n1: u16, frame: FrameView<'_>, unasked: bool) -> Faults
+        ensures { result ≡ faults_at n1 self.now (frame_of frame.entry) unasked }
+    {
+        let is_data = is_data_frame(frame);
+        Faults {
+            unasked,
+            unopened: is_data && !self.end.is_open(frame.dlci),
+            unstopped: is_data && self.end.is_stopped(frame.dlci),
+            too_long: frame.info.len() > usize::from(n1),
+            astray: is_data && is_message(frame.info),
+        }
+    }
+
+    /// This end asks with a frame, if the frame asks. Want of memory leaves all as it was.
+    fn ask(&mut self, alloc: Global, stamp: Stamp, frame: FrameView<'_>) -> Result<(), AllocError>
+        ensures end { self.new.end ≡ self.old.end }
+        ensures ok { OnOk result (
+            self.new.asks ≡ asked_with stamp (frame_of frame.entry) ++ self.old.asks) }
+        ensures err { OnErr result (self.new.asks ≡ self.old.asks) }
+    {
+        if is_ask(frame) {
+            let ask = Ask::new(alloc, stamp, frame)?;
+            self.asks.insert(0, ask)?;
+        }
+        Ok(())
+    }
+
+    /// The other end answers with a frame, if it is an answer.
+    fn take_answer(&mut self, frame: FrameView<'_>) -> Option<Ask>
+        ensures end { self.new.end ≡ self.old.end }
+        ensures taken { result ≡ answered_by (frame_of frame.entry) self.old.asks }
+        ensures rest { self.new.asks
+            ≡ map (excused_by (frame_of frame.entry)) (unanswered_by (frame_of frame.entry) self.old.asks) }
+    {
+        let taken = take_answered(&mut self.asks, frame);
+        pass_all(&mut self.asks, frame);
+        taken
+    }
+
+    /// This end sends a frame, with which it answers what it was asked.
+    fn send(&mut self, frame: FrameView<'_>, answered: Option<Ask>)
+        ensures role { self.new.end.role ≡ self.old.end.role }
+        ensures asks { self.new.asks ≡ map (excused_by (frame_of frame.entry)) self.old.asks }
+        ensures past { (past : List Act) → EndFits self.old.end past
+            → EndFits self.new.end (act_of Sent (frame_of frame.entry) ∷ (handled answered ++ past)) }
+    {
+        if let Some(ask) = answered {
+            self.end.act(ask.frame(), Deed::Got);
+        }
+        self.end.act(frame, Deed::Sent);
+        pass_all(&mut self.asks, frame);
+    }
+
+    /// A frame comes to this end.
+    fn get(&mut self, frame: FrameView<'_>)
+        ensures role { self.new.end.role ≡ self.old.end.role }
+        ensures asks { self.new.asks ≡ self.old.asks }
+        ensures past { (past : List Act) → EndFits self.old.end past
+            → EndFits self.new.end (come (frame_of frame.entry) past) }
+    {
+        if !is_ask(frame) {
+            self.end.act(frame, Deed::Got);
+        }
+    }
+}
+
+/// Whether a frame is an answer to nothing.
+fn is_unasked(frame: FrameView<'_>, answered: &Option<Ask>) -> bool
+    ensures { result ≡ (is_answer (frame_of frame.entry) && is_none answered.now) }
+{
+    is_answer(frame) && answered.is_none()
+}
+
+/// A frame passes from an end to the other. Want of memory leaves both as they were.
+fn pass(
+    alloc: Global,
+    n1: u16,
+    stamp: Stamp,
+    frame: FrameView<'_>,
+    from: &mut Side,
+    to: &mut Side,
+) -> Result<Faults, AllocError>
+    ensures fits { OnOk result ((direction : Direction)
+        → Passes (caught stamp direction (frame_of frame.entry)) from.old to.old from.new to.new) }
+    ensures faults { IfOk result (λ faults. (direction : Direction)
+        → JudgedBy n1 (caught stamp direction (frame_of frame.entry)) from.old to.old faults) }
+    ensures from { OnErr result (from.new ≡ from.old) }
+    ensures to { OnErr result (to.new ≡ to.old) }
+{
+    from.ask(alloc, stamp, frame)?;
+    let answered = to.take_answer(frame);
+    let faults = from.judge(n1, frame, is_unasked(frame, &answered));
+    from.send(frame, answered);
+    to.get(frame);
+    Ok(faults)
+}
+
+/// Watches a line: takes each frame that passed, and says what is wrong with it. What it keeps grows with the frames that ask and
+/// wait for an answer, and not with those that passed.
+#[derive(Drop)]
+pub struct Watcher {
+    alloc: Global,
+    n1: u16,
+    initiator: Side,
+    responder: Side,
+}
+
+impl Model for Watcher {
+    ghost use Rattle.modem_show.specs.Judging.{Watch};
+
+    ghost Value = { Watch };
+
+    ghost view = { λ w. record { n1 = w.n1; initiator = w.initiator; responder = w.responder } };
+}
+
+impl Watcher {
+    /// Begins to watch a line on which frames have at most so many octets of information.
+    pub fn new(alloc: Global, n1: u16) -> Result<Watcher, AllocError>
+        ensures n1 { IfOk result (λ w. w.n1 ≡ n1) }
+        ensures past { IfOk result (λ w. WatchFits w []) }
+    {
+        let initiator = Side::new(alloc, Role::Initiator)?;
+        let responder = Side::new(alloc, Role::Responder)?;
+        Ok(Watcher {
+            alloc,
+            n1,
+            initiator,
+            responder,
+        })
+    }
+
+    /// Takes a frame that passed at this time, and says what is wrong with it. Want of memory leaves all as it was.
+    pub fn see(
+        &mut self,
+        stamp: Stamp,
+        direction: Direction,
+        frame: FrameView<'_>,
+    ) -> Result<Faults, AllocError>
+        ensures n1 { self.new.n1 ≡ self.old.n1 }
+        ensures past { OnOk result ((line : List Caught) → WatchFits self.old line
+            → WatchFits self.new (caught stamp direction (frame_of frame.entry) ∷ line)) }
+        ensures faults { IfOk result (λ faults. (line : List Caught) → WatchFits self.old line
+            → faults ≡ faults_of self.old.n1 line (caught stamp direction (frame_of frame.entry))) }
+        ensures err { OnErr result (self.new ≡ self.old) }
+    {
+        match direction {
+            Direction::ToModem => pass(
+                self.alloc,
+                self.n1,
+                stamp,
+                frame,
+                &mut self.initiator,
+                &mut self.responder,
+            ),
+            Direction::FromModem => pass(
+                self.alloc,
+                self.n1,
+                stamp,
+                frame,
+                &mut self.responder,
+                &mut self.initiator,
+            ),
+        }
+    }
+
+    /// What one end asked, by frames that go this way, and what waits for its answer, the newest first. Those that aren't excused were
+    /// never answered.
+    pub fn asks(&self, direction: Direction) -> &[Ask]
+        ensures { (line : List Caught) → WatchFits self.now line → result.now ≡ waiting (sender direction) line }
+    {
+        match direction {
+            Direction::ToModem => self.initiator.asks.as_slice(),
+            Direction::FromModem => self.responder.asks.as_slice(),
+        }
+    }
+}
