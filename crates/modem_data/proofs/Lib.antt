@@ -7,6 +7,7 @@ mod PipeSets
 mod PipeSetCalls
 mod Relays
 mod Handed
+mod WithoutData
 mod SwitchRowFacts
 mod RelayRowFacts
 pub mod FrameRoom

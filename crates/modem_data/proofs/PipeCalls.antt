@@ -3,11 +3,11 @@ use Rattle.std.specs.Prelude.{◌≡◌, ℕ, ◌+◌, ◌-◌, ◌≤◌, ◌==
 use Rattle.std.proofs.Common.{ap, sym, ◌∙◌, subst, arith}
 use Rattle.std.proofs.lemmas.Bool.{eqb-true, eq-eqb}
 use Rattle.std.proofs.lemmas.List.{append_assoc, append-nil, nil_from_length, take-append-drop, length-append, length-take}
-use Rattle.modem_data.specs.Switching.{Carries, Idle, Lines, Ended, Data, is_idle, is_data_mode}
-use Rattle.modem_data.specs.DataLanes.{DataLane, begun_lane, most_to_go}
+use Rattle.modem_data.specs.Switching.{Carries, Idle, Lines, Ended, Data, is_idle, is_data_mode, is_behind_lines}
+use Rattle.modem_data.specs.DataLanes.{DataLane, begun_lane, ended_lane, most_to_go}
 use Rattle.modem_data.specs.Watching.{SaysMayLeave, may_leave}
-use Rattle.modem_data.specs.Passing.{Pass, Began, Gave, Read, wire, begin_of, carries, data_came, data_read, given, left, holds, driver_holds, flow_by, unread, IsOver, AllowsPass, LawfulPasses}
-use Rattle.modem_data.specs.Pipes.{Pipe, PipeFits, Leads, LeadsLeft, HasNoneToSend, MayLeave, next_data, SaysOver, SaysLane, HasUnread, IsShut, HasNoData, SaysFlow}
+use Rattle.modem_data.specs.Passing.{Pass, Began, EndedLane, Gave, Read, wire, begin_of, carries, data_came, data_read, given, left, holds, driver_holds, flow_by, unread, IsOver, AllowsPass, LawfulPasses}
+use Rattle.modem_data.specs.Pipes.{Pipe, PipeFits, Leads, LeadsLeft, HasNoneToSend, MayLeave, next_data, SaysOver, SaysLane, SaysBehind, HasUnread, IsShut, HasNoData, SaysFlow}
 use Rattle.modem_data.proofs.Watching.{watched_sent_info}
 use Rattle.modem_data.proofs.Pipes.{open_there, idle_is}
 
@@ -39,6 +39,22 @@ leads_began v l by_connect idle none e n1 d past h =
       by_driver_is = h.by_driver_is;
     })
 
+pub leads_ended : (v w : Pipe) → w ≡ record v { lane = ended_lane v.lane } → Leads v w (EndedLane v.watch.dlci)
+unfolding Leads LawfulPasses
+leads_ended v w e n1 d past h =
+    let here = same n1 d v past h in
+    rw e (record {
+      dlci_is = h.dlci_is;
+      not_control = h.not_control;
+      lawful = (tt, h.lawful);
+      watched = h.watched;
+      carries_is = rw here refl;
+      came_is = h.came_is;
+      to_go_is = h.to_go_is;
+      held_is = h.held_is;
+      by_driver_is = h.by_driver_is;
+    })
+
 pub a_lane_is : (v : Pipe) → is_idle v.lane.carries ≡ false → SaysLane v true
 unfolding SaysLane
 a_lane_is v lane n1 d past h = rw (sym h.carries_is) (rw lane refl)
@@ -49,6 +65,10 @@ none_later xs (y ∷ ys) e =
     let n = ap (λ (zs : List ℕ). length zs) e in
     let m = length-append xs (y ∷ ys) in
     let x : ⊥ = omega (arith, n, m) in absurd x
+
+pub says_behind : (v : Pipe) (b : Bool) → b ≡ is_behind_lines v.lane.carries → SaysBehind v b
+unfolding SaysBehind
+says_behind v b e n1 d past h = e ∙ ap is_behind_lines h.carries_is
 
 pub has_unread : (v : Pipe) → is_idle v.lane.carries ≡ true → (length v.lane.came == 0) ≡ false → HasUnread v
 unfolding HasUnread

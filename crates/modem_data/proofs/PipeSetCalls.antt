@@ -8,12 +8,12 @@ use Rattle.mux_frame.specs.Frames.{Frame}
 use Rattle.mux_station.specs.Acts as station
 use Rattle.mux_station.specs.declared.role.Role.TheVariants.{Initiator}
 use Rattle.mux_station.specs.Opening.{is_open}
-use Rattle.modem_data.specs.Switching.{Idle, Data, is_idle}
+use Rattle.modem_data.specs.Switching.{Carries, Idle, Data, is_behind_lines, is_idle}
 use Rattle.modem_data.specs.DataLanes.{most_to_go}
 use Rattle.modem_data.specs.Watching.{Watch}
-use Rattle.modem_data.specs.Passing.{Pass, wire, Came, Flowed, Left, Began, Gave, Read, AllowsPass, ends_here, carries, data_came, data_read, given, left, unread, LawfulPasses, IsOver, IsDue, flow_frame}
-use Rattle.modem_data.specs.Pipes.{Pipe, PipeFits, Leads, LeadsLeft, HasNoneToSend, MayLeave, IsShut, HasNoData, HasUnread, SaysFlow, SaysLane, SaysOver, flowed_pipe}
-use Rattle.modem_data.specs.PipeSets.{PipeSet, PipesFit, AllLead, OfEachPast, IsNotData, NoneOf, NoneLeaves, AreApart, IsNext, IsFlowOf, LeavesInTurn, NonesIn, comes_before, connections, place_behind}
+use Rattle.modem_data.specs.Passing.{Pass, wire, Came, Flowed, Left, Began, EndedLane, Gave, Read, AllowsPass, ends_here, carries, data_came, data_read, given, left, unread, LawfulPasses, IsOver, IsDue, flow_frame}
+use Rattle.modem_data.specs.Pipes.{Pipe, PipeFits, Leads, LeadsLeft, HasNoneToSend, MayLeave, IsShut, HasNoData, HasUnread, SaysBehind, SaysFlow, SaysLane, SaysOver, flowed_pipe}
+use Rattle.modem_data.specs.PipeSets.{PipeSet, PipesFit, AllLead, OfEachPast, HasPipe, IsNotData, NoneOf, NoneLeaves, AreApart, IsNext, IsFlowOf, LeavesInTurn, NonesIn, comes_before, connections, place_behind}
 use Rattle.modem_data.proofs.Watching.{watched_sent_info}
 use Rattle.modem_data.proofs.Pipes.{flowed_fits, idle_sent}
 use Rattle.modem_data.specs.declared.pipe_set.Flow.{Flow}
@@ -35,6 +35,20 @@ other_began n1 d e by_connect past p x allowed h = record {
   carries_is = rw x h.carries_is;
   came_is = rw x h.came_is;
   to_go_is = rw x h.to_go_is;
+  held_is = h.held_is;
+  by_driver_is = h.by_driver_is;
+}
+
+other_ended : (n1 d e : ℕ) (past : List Pass) (p : Pipe) → (e == d) ≡ false → PipeFits n1 d p past → PipeFits n1 d p (EndedLane e ∷ past)
+unfolding LawfulPasses
+other_ended n1 d e past p x h = record {
+  dlci_is = h.dlci_is;
+  not_control = h.not_control;
+  lawful = (tt, h.lawful);
+  watched = h.watched;
+  carries_is = rw x h.carries_is;
+  came_is = h.came_is;
+  to_go_is = h.to_go_is;
   held_is = h.held_is;
   by_driver_is = h.by_driver_is;
 }
@@ -91,6 +105,20 @@ one_began v w i p e by_connect there here leads same is n1 ds past h =
     one_by n1 ds past (Began e by_connect) v w i p there one (each_is v w (slice_set v.each i p) is) (turn_is v w (slice_set v.each i p) is ∙ h.turn_is) fits
     (λ q x k. other_began n1 q.watch.dlci e by_connect past q (off q.watch.dlci x) (first_allowed n1 past (Began e by_connect) fits.lawful) k)
     (λ c x idle. rw (off c x) idle) h
+
+pub still_idle : (b : Bool) (c : Carries) → c ≡ Idle → (if b then Idle else c) ≡ Idle
+still_idle true c e = refl
+still_idle false c e = e
+
+pub one_ended : (v w : PipeSet) (i : ℕ) (p : Pipe) (e : ℕ) → i < length v.each → (slice_index_or v.each i p).watch.dlci ≡ e → Leads (slice_index_or v.each i p) p (EndedLane e) → p.watch ≡ (slice_index_or v.each i p).watch → w ≡ record v { each = slice_set v.each i p } → AllLead v w (EndedLane e)
+unfolding AllLead Leads
+one_ended v w i p e there here leads same is n1 ds past h =
+    let one = ap (λ (x : Watch). x.dlci) same in
+    let it = one ∙ here in
+    let fits = subst (λ d. PipeFits n1 d p (EndedLane e ∷ past)) (sym it) (leads n1 e past (fits_at n1 ds past v i p e there here h)) in
+    one_by n1 ds past (EndedLane e) v w i p there one (each_is v w (slice_set v.each i p) is) (turn_is v w (slice_set v.each i p) is ∙ h.turn_is) fits
+    (λ q x k. other_ended n1 q.watch.dlci e past q (apart_from q.watch.dlci e (subst (λ d. (q.watch.dlci == d) ≡ false) it x)) k)
+    (λ c x idle. still_idle (e == c) (carries c past) idle) h
 
 pub one_gave : (v w : PipeSet) (i : ℕ) (p : Pipe) (e : ℕ) (octets : List ℕ) → i < length v.each → (slice_index_or v.each i p).watch.dlci ≡ e → Leads (slice_index_or v.each i p) p (Gave e octets) → p.watch ≡ (slice_index_or v.each i p).watch → w ≡ record v { each = slice_set v.each i p } → AllLead v w (Gave e octets)
 unfolding AllLead Leads
@@ -155,6 +183,25 @@ gives_at v i p e count many there here is n1 ds past h =
 pub over_at : (v : PipeSet) (i : ℕ) (p : Pipe) (e : ℕ) (b : Bool) → i < length v.each → (slice_index_or v.each i p).watch.dlci ≡ e → SaysOver (slice_index_or v.each i p) b → OfEachPast v (λ past. b ≡ true ↔ IsOver e past)
 unfolding OfEachPast SaysOver
 over_at v i p e b there here says n1 ds past h = says n1 e past (fits_at n1 ds past v i p e there here h)
+
+pub behind_at : (v : PipeSet) (i : ℕ) (p : Pipe) (e : ℕ) (b : Bool) → i < length v.each → (slice_index_or v.each i p).watch.dlci ≡ e → SaysBehind (slice_index_or v.each i p) b → OfEachPast v (λ past. b ≡ is_behind_lines (carries e past))
+unfolding OfEachPast SaysBehind
+behind_at v i p e b there here says n1 ds past h = says n1 e past (fits_at n1 ds past v i p e there here h)
+
+pub not_behind : (v : PipeSet) (e : ℕ) → NoneOf (connections v.each) e → OfEachPast v (λ past. false ≡ is_behind_lines (carries e past))
+unfolding OfEachPast
+not_behind v e none n1 ds past h = ap is_behind_lines (sym (h.others e (subst (λ cs. NoneOf cs e) h.connections_are none)))
+
+pub has_pipe : {A X : Type 0} (v : PipeSet) (i : ℕ) (p : Pipe) (e : ℕ) (r : Result A X) → i < length v.each → (slice_index_or v.each i p).watch.dlci ≡ e → OnOk r (HasPipe v e)
+unfolding HasPipe
+has_pipe v i p e (Err x) there here = tt
+has_pipe v i p e (Ok x) there here = λ n1 ds past h.
+    let long : length ds ≡ length v.each = ap (λ (cs : List ℕ). length cs) (sym h.connections_are) ∙ length-map v.each (λ (q : Pipe). q.watch.dlci) in
+    record {
+      place = i;
+      there = omega (arith, long, there);
+      here = λ x. ap (λ (cs : List ℕ). slice_index_or cs i x) (sym h.connections_are) ∙ (number_at v.each i p x there ∙ here);
+    }
 
 pub not_data : (v : PipeSet) (e : ℕ) → NoneOf (connections v.each) e → IsNotData v e
 unfolding IsNotData

@@ -8,8 +8,8 @@ use Rattle.mux_frame.specs.Frames.{Frame}
 use Rattle.mux_frame.specs.Spelling.{spelled}
 use Rattle.mux_frame.specs.Reading.{Reads}
 use Rattle.mux_frame.specs.Deframing.{Deframes, TakesIn, IsDeframed}
-use Rattle.modem_data.specs.Passing.{Came, Went, Flowed, Left, Lost, Began, Gave, Read, IsDue}
-use Rattle.modem_data.specs.PipeSets.{AllHand, AllLead, BeginsAll, LeavesInTurn, NoneLeaves, OfEachPast, PipesFit}
+use Rattle.modem_data.specs.Passing.{Came, Went, Flowed, Left, Lost, Began, EndedLane, Gave, Read, IsDue}
+use Rattle.modem_data.specs.PipeSets.{AllHand, AllLead, BeginsAll, HasPipe, LeavesInTurn, NoneLeaves, OfEachPast, PipesFit}
 use Rattle.modem_data.specs.declared.pipe.Reading.{Reading}
 use Rattle.modem_data.specs.Handing.{PassesIn, PassesOut, PassesOver, handed}
 use Rattle.modem_data.specs.Hops.{Relay, RelayFits, Hop, Fed, Handed, Took, Wrote, Passed, Hops, HopsBy, BeginsRelay, LawfulHops, DriverFirst, AllCame, HoldsNothing, LineIn, PassesOn, OneOut, flow_out, still_out, went_out, left_out, spell, due, with_lines, for_driver, for_line, fed, taken, wrote, handed_over, came, went, passes}
@@ -199,9 +199,22 @@ hops_lost v w leads e n1 ds past h = rw e (record {
   pipes_fit = leads n1 ds (passes past) h.pipes_fit;
 })
 
-pub hops_began : (v w : Relay) (d : ℕ) (by_connect : Bool) → AllLead v.pipes w.pipes (Began d by_connect) → w ≡ record v { pipes = w.pipes } → Hops v w (Passed (Began d by_connect))
+pub hops_began : (v w : Relay) (d : ℕ) (by_connect : Bool) → HasPipe v.pipes d → AllLead v.pipes w.pipes (Began d by_connect) → w ≡ record v { pipes = w.pipes } → Hops v w (Passed (Began d by_connect))
+unfolding Hops LawfulHops AllLead HasPipe
+hops_began v w d by_connect has leads e n1 ds past h = rw e (record {
+  outer_n1 = h.outer_n1;
+  inner_n1 = h.inner_n1;
+  lawful = (has n1 ds (passes past) h.pipes_fit, h.lawful);
+  line_in = subst (λ fs. Deframes (fed past) fs v.outer) (sym (append-nil (came past))) h.line_in;
+  driver_out = subst (λ fs. Deframes (taken past) fs v.inner) (sym (append-nil (went past))) h.driver_out;
+  to_driver_is = h.to_driver_is;
+  to_line_is = subst (λ fs. wrote past ++ v.to_line ≡ spell fs) (sym (append-nil (for_line past))) h.to_line_is;
+  pipes_fit = leads n1 ds (passes past) h.pipes_fit;
+})
+
+pub hops_ended : (v w : Relay) (d : ℕ) → AllLead v.pipes w.pipes (EndedLane d) → w ≡ record v { pipes = w.pipes } → Hops v w (Passed (EndedLane d))
 unfolding Hops LawfulHops AllLead
-hops_began v w d by_connect leads e n1 ds past h = rw e (record {
+hops_ended v w d leads e n1 ds past h = rw e (record {
   outer_n1 = h.outer_n1;
   inner_n1 = h.inner_n1;
   lawful = (tt, h.lawful);
@@ -212,13 +225,17 @@ hops_began v w d by_connect leads e n1 ds past h = rw e (record {
   pipes_fit = leads n1 ds (passes past) h.pipes_fit;
 })
 
+pub ended_by : {A X : Type 0} (v w : Relay) (d : ℕ) (r : Result A X) → OnOk r (AllLead v.pipes w.pipes (EndedLane d)) → w ≡ record v { pipes = w.pipes } → OnOk r (Hops v w (Passed (EndedLane d)))
+ended_by v w d (Ok x) leads is = hops_ended v w d leads is
+ended_by v w d (Err x) leads is = tt
+
 pub gave_by : {X : Type 0} (v w : Relay) (e : ℕ) (octets : List ℕ) (r : Result ℕ X) → IfOk r (λ count. AllLead v.pipes w.pipes (Gave e (take count octets))) → w ≡ record v { pipes = w.pipes } → IfOk r (λ count. Hops v w (Passed (Gave e (take count octets))))
 gave_by v w e octets (Ok count) leads is = hops_gave v w e (take count octets) leads is
 gave_by v w e octets (Err x) leads is = tt
 
-pub began_by : {A X : Type 0} (v w : Relay) (d : ℕ) (by_connect : Bool) (r : Result A X) → OnOk r (AllLead v.pipes w.pipes (Began d by_connect)) → w ≡ record v { pipes = w.pipes } → OnOk r (Hops v w (Passed (Began d by_connect)))
-began_by v w d by_connect (Ok x) leads is = hops_began v w d by_connect leads is
-began_by v w d by_connect (Err x) leads is = tt
+pub began_by : {A X : Type 0} (v w : Relay) (d : ℕ) (by_connect : Bool) (r : Result A X) → OnOk r (HasPipe v.pipes d) → OnOk r (AllLead v.pipes w.pipes (Began d by_connect)) → w ≡ record v { pipes = w.pipes } → OnOk r (Hops v w (Passed (Began d by_connect)))
+began_by v w d by_connect (Ok x) has leads is = hops_began v w d by_connect has leads is
+began_by v w d by_connect (Err x) has leads is = tt
 
 pub read_by : {X : Type 0} (v w : Relay) (d : ℕ) (octets : Reading → List ℕ) (r : Result Reading X) → IfOk r (λ x. AllLead v.pipes w.pipes (Read d (octets x))) → w ≡ record v { pipes = w.pipes } → IfOk r (λ x. Hops v w (Passed (Read d (octets x))))
 read_by v w d octets (Ok x) leads is = hops_read v w d (octets x) leads is

@@ -1,13 +1,13 @@
 -- What passes a relay between the line and a driver, as octets and as frames. A past is written newest first.
-use Rattle.std.specs.Prelude.{◌≡◌, ℕ, Bool, true, false, List, [], ◌∷◌, ◌++◌, Option, Some, None, filter_map, flat_map, if◌then◌else◌}
+use Rattle.std.specs.Prelude.{◌≡◌, ℕ, Bool, true, false, List, [], ◌∷◌, ◌++◌, length, Option, Some, None, filter_map, flat_map, if◌then◌else◌}
 use Rattle.std.specs.List.{list_all}
 use Rattle.mux_frame.specs.Frames.{Frame}
 use Rattle.mux_frame.specs.Spelling.{spelled}
 use Rattle.mux_frame.specs.Reading.{Reads}
 use Rattle.mux_frame.specs.Deframing.{Deframing, Deframes}
 use Rattle.modem_data.specs.Switching.{lines_of}
-use Rattle.modem_data.specs.Passing.{Pass, Came, Went, Flowed, Left, is_data, carries, IsDue}
-use Rattle.modem_data.specs.PipeSets.{PipeSet, PipesFit, InTurn, NoneLeaves}
+use Rattle.modem_data.specs.Passing.{Pass, Came, Went, Flowed, Left, Began, is_data, carries, IsDue}
+use Rattle.modem_data.specs.PipeSets.{PipeSet, PipesFit, InTurn, IsAmong, NoneLeaves}
 
 -- octets come from the line, or are given to the driver; octets come from the driver, or are given to the line; a frame or
 -- octets of data pass
@@ -98,10 +98,12 @@ pub record DriverFirst (n1 : ℕ) (past : List Hop) : Type 0 where
   pub rest : List ℕ
   pub all_went : Reads n1 (taken past) (went past) rest
 
--- frames of data and of the relay's own leave behind the driver's, and those of data in their connections' turns
+-- frames of data and of the relay's own leave behind the driver's, and those of data in their connections' turns; lanes
+-- begin on these connections alone
 abbrev pub AllowsHop : ℕ → List ℕ → List Hop → Hop → Type 0
 AllowsHop n1 ds past (Passed (Left f)) = DriverFirst n1 past × InTurn ds (passes past) f
 AllowsHop n1 ds past (Passed (Flowed f)) = DriverFirst n1 past
+AllowsHop n1 ds past (Passed (Began d by_connect)) = IsAmong ds (length ds) d
 AllowsHop n1 ds past _ = Unit {0}
 
 unfoldable pub LawfulHops : ℕ → List ℕ → List Hop → Type 0
@@ -167,6 +169,17 @@ pub record IsStill (n1 : ℕ) (past : List Hop) : Type 0 where
 
 unfoldable pub HoldsNothing : Relay → Type 0
 HoldsNothing v = (n1 : ℕ) (ds : List ℕ) (past : List Hop) → RelayFits n1 ds v past → IsStill n1 past
+
+-- ## Without data
+
+-- frames pass as they come and go: the driver is due each that came, as it came, and the line the driver's alone
+pub record PassesAll (past : List Hop) : Type 0 where
+  pub to_driver : for_driver past ≡ came past
+  pub to_line : for_line past ≡ went past
+
+-- a relay without connections of data changes no frame, holds none back and adds none
+unfoldable pub AddsNothing : Type 0
+AddsNothing = (n1 : ℕ) (v : Relay) (past : List Hop) → RelayFits n1 [] v past → PassesAll past
 
 -- ## Whole calls
 

@@ -13,8 +13,8 @@ use Rattle.modem_data.specs.DataLanes.{most_to_go}
 use Rattle.modem_data.specs.Watching.{may_leave, ends_now}
 
 -- what happens: a frame comes from the line; one goes from the driver to the line, one of the relay's own, or one of data;
--- the line is lost; a lane of a connection begins, with data behind its next CONNECT line or at once; octets are given to
--- be sent there; octets of its data are read
+-- the line is lost; a lane of a connection begins, with data behind its next CONNECT line or at once, or is ended between
+-- two frames; octets are given to be sent there; octets of its data are read
 pub data Pass : Type 0 where
   Came : Frame → Pass
   Went : Frame → Pass
@@ -22,6 +22,7 @@ pub data Pass : Type 0 where
   Left : Frame → Pass
   Lost : Pass
   Began : ℕ → (by_connect : Bool) → Pass
+  EndedLane : ℕ → Pass
   Gave : ℕ → List ℕ → Pass
   Read : ℕ → List ℕ → Pass
 
@@ -62,7 +63,7 @@ carries_behind false true c info = Idle
 carries_behind false false c info = c
 
 -- What d carries: nothing but the driver's, until a lane begins. It turns to data behind its first CONNECT line, and is over
--- where an opening of d ends, or the line is lost.
+-- where an opening of d ends, the line is lost, or it is ended.
 abbrev pub carries : ℕ → List Pass → Carries
 carries d [] = Idle
 carries d (Came f ∷ past) = carries_behind (is_info d past f) (ends_here d past (station.Got f)) (carries d past) f.info
@@ -70,6 +71,7 @@ carries d (Went f ∷ past) = if ends_here d past (station.Sent f) then Idle els
 carries d (Flowed f ∷ past) = if ends_here d past (station.Sent f) then Idle else carries d past
 carries d (Lost ∷ past) = Idle
 carries d (Began e by_connect ∷ past) = if e == d then begin_of by_connect else carries d past
+carries d (EndedLane e ∷ past) = if e == d then Idle else carries d past
 carries d (_ ∷ past) = carries d past
 
 -- the frame is information of a lane

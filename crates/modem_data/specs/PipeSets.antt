@@ -106,6 +106,10 @@ OfEachPast v P = (n1 : ℕ) (ds : List ℕ) (past : List Pass) → PipesFit n1 d
 unfoldable pub IsNotData : PipeSet → ℕ → Type 0
 IsNotData v e = (n1 : ℕ) (ds : List ℕ) (past : List Pass) → PipesFit n1 ds v past → NoneOf ds e
 
+-- the connection is one of them
+unfoldable pub HasPipe : PipeSet → ℕ → Type 0
+HasPipe v e = (n1 : ℕ) (ds : List ℕ) (past : List Pass) → PipesFit n1 ds v past → IsAmong ds (length ds) e
+
 -- ## Data leaves
 
 -- a frame of data leaves in its turn

@@ -7,7 +7,7 @@ use Rattle.mux_station.specs.Acts as station
 use Rattle.mux_station.specs.Opening.{is_open}
 use Rattle.mux_station.specs.Stopping.{got_says, msc_says}
 use Rattle.mux_station.specs.Written.{written}
-use Rattle.modem_data.specs.Switching.{Data, Idle, lines_of, is_idle, is_data_mode}
+use Rattle.modem_data.specs.Switching.{Data, Idle, lines_of, is_idle, is_data_mode, is_behind_lines}
 use Rattle.modem_data.specs.DataLanes.{DataLane, ended_lane}
 use Rattle.modem_data.specs.Watching.{Watch, HasWatched, SaysMayLeave, may_leave, watched, watch_ends, watch_opens}
 use Rattle.modem_data.specs.Passing.{Pass, Left, wire, is_data, carries, data_came, data_read, given, left, holds, driver_holds, LawfulPasses, IsOver, IsDue}
@@ -113,6 +113,9 @@ SaysOver v b = (n1 d : ℕ) (past : List Pass) → PipeFits n1 d v past → b �
 
 unfoldable pub SaysLane : Pipe → Bool → Type 0
 SaysLane v b = (n1 d : ℕ) (past : List Pass) → PipeFits n1 d v past → b ≡ not (is_idle (carries d past))
+
+unfoldable pub SaysBehind : Pipe → Bool → Type 0
+SaysBehind v b = (n1 d : ℕ) (past : List Pass) → PipeFits n1 d v past → b ≡ is_behind_lines (carries d past)
 
 unfoldable pub HasUnread : Pipe → Type 0
 HasUnread v = (n1 d : ℕ) (past : List Pass) → PipeFits n1 d v past → (carries d past ≡ Idle) × (data_read d past ≢ data_came d past)

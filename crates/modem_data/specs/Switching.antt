@@ -27,6 +27,12 @@ abbrev pub is_idle : Carries → Bool
 is_idle Idle = true
 is_idle _ = false
 
+-- the CONNECT line has ended: what goes and comes is data
+abbrev pub is_behind_lines : Carries → Bool
+is_behind_lines (Ended by) = true
+is_behind_lines Data = true
+is_behind_lines _ = false
+
 -- an octet ends a CONNECT line
 abbrev pub connects : List ℕ → ℕ → Bool
 connects kept c = list_any is_connect (lines (kept ++ c ∷ []))

@@ -1,6 +1,6 @@
 //! What a connection carries, and its data on both ways.
 ghost use Rattle.std.specs.Prelude.{◌≡◌, ◌≤◌, ◌+◌, ◌-◌, ◌++◌, [], length, take, drop, min, not, IfOk, OnErr};
-ghost use Rattle.modem_data.specs.Switching.{is_data_mode, is_idle};
+ghost use Rattle.modem_data.specs.Switching.{is_behind_lines, is_data_mode, is_idle};
 ghost use Rattle.modem_data.specs.DataLanes.{begun_lane, ended_lane, new_lane, most_to_go, TakesInfo};
 ghost use Rattle.modem_data.specs.Passing.{begin_of};
 
@@ -75,6 +75,13 @@ impl DataLane {
         ensures { result ≡ is_idle self.now.carries }
     {
         self.switch.is_idle()
+    }
+
+    /// Whether the CONNECT line has ended, or data came from the beginning on.
+    pub fn is_behind_lines(&self) -> bool
+        ensures { result ≡ is_behind_lines self.now.carries }
+    {
+        self.switch.is_behind_lines()
     }
 
     /// Takes a frame's information: says how many of the first octets are lines, and keeps the data behind them. Refusal:

@@ -7,8 +7,8 @@ ghost use Rattle.mux_station.specs.Written.{is_on};
 ghost use Rattle.modem_data.specs.declared.error.DataError.{DataError};
 ghost use Rattle.modem_data.specs.declared.error.DataError.TheVariants as error;
 ghost use Rattle.modem_data.specs.DataLanes.{most_to_go};
-ghost use Rattle.modem_data.specs.Passing.{Came, Went, Flowed, Left, Lost, Began, Gave, Read, flow_by};
-ghost use Rattle.modem_data.specs.Pipes.{BeginsPipe, HandsOn, HasNoneToSend, HasNoData, IsShut, Leads, LeadsLeft, SaysFlow, SaysLane, SaysOver, HasUnread, MayLeave, next_data, saw_pipe, sent_pipe, flowed_pipe, lost_pipe};
+ghost use Rattle.modem_data.specs.Passing.{Came, Went, Flowed, Left, Lost, Began, EndedLane, Gave, Read, flow_by};
+ghost use Rattle.modem_data.specs.Pipes.{BeginsPipe, HandsOn, HasNoneToSend, HasNoData, IsShut, Leads, LeadsLeft, SaysBehind, SaysFlow, SaysLane, SaysOver, HasUnread, MayLeave, next_data, saw_pipe, sent_pipe, flowed_pipe, lost_pipe};
 
 use crate::error::DataError;
 use crate::lane::DataLane;
@@ -86,6 +86,23 @@ impl Pipe {
         }
         self.lane.begin(by_connect);
         Ok(())
+    }
+
+    /// The lane is over, from the next frame on: lines come and go again. What was given and hasn't left isn't sent.
+    #[tactic(auto, using(crate::proofs::PipeCalls::leads_ended))]
+    pub fn lines(&mut self)
+        ensures leads { Leads self.old self.new (EndedLane self.old.watch.dlci) }
+        ensures same { self.new.watch ≡ self.old.watch }
+    {
+        self.lane.end();
+    }
+
+    /// Whether a lane of data is under way: a CONNECT line has ended, or data comes from the beginning on.
+    #[tactic(auto, using(crate::proofs::PipeCalls::says_behind))]
+    pub fn is_behind_lines(&self) -> bool
+        ensures { SaysBehind self.now result }
+    {
+        self.lane.is_behind_lines()
     }
 
     /// A frame came from the line. Of information of a lane says how many of the first octets are lines, for the driver; any other

@@ -6,10 +6,10 @@ ghost use Rattle.mux_station.specs.Written.{is_data_frame};
 ghost use Rattle.mux_station.specs.declared.role.Role.TheVariants.{Initiator};
 ghost use Rattle.modem_data.specs.declared.error.DataError.TheVariants as error;
 ghost use Rattle.modem_data.specs.DataLanes.{most_to_go};
-ghost use Rattle.modem_data.specs.Switching.{Idle as idle, Data as in_data, is_idle};
-ghost use Rattle.modem_data.specs.Passing.{Came, Went, Flowed, Lost, Began, Gave, Read, IsDue, IsOver, carries, data_came, data_read, given, left, unread, wire, flow_frame};
+ghost use Rattle.modem_data.specs.Switching.{Idle as idle, Data as in_data, is_behind_lines, is_idle};
+ghost use Rattle.modem_data.specs.Passing.{Came, Went, Flowed, Lost, Began, EndedLane, Gave, Read, IsDue, IsOver, carries, data_came, data_read, given, left, unread, wire, flow_frame};
 ghost use Rattle.modem_data.specs.Pipes.{Pipe as Kept, PipeFits, HasNoneToSend, MayLeave, SaysFlow, saw_pipe, sent_pipe, flowed_pipe, lost_pipe};
-ghost use Rattle.modem_data.specs.PipeSets.{AllHand, AllLead, AreApart, BeginsAll, IsAmong, IsTwice, IsFlowOf, IsNext, IsNotData, NoneLeaves, NoneOf, NonesIn, OfEachPast, SomeLeaves, connections, numbers};
+ghost use Rattle.modem_data.specs.PipeSets.{AllHand, AllLead, AreApart, BeginsAll, IsAmong, IsTwice, HasPipe, IsFlowOf, IsNext, IsNotData, NoneLeaves, NoneOf, NonesIn, OfEachPast, SomeLeaves, connections, numbers};
 
 use crate::error::DataError;
 use crate::octets::Octets;
@@ -111,6 +111,7 @@ impl Pipes {
     #[tactic(auto, using(crate::proofs::PipeSetCalls::one_began, crate::proofs::PipeSetCalls::not_data, crate::proofs::PipeSetCalls::under_way_at, crate::proofs::PipeSetCalls::unread_at))]
     pub fn begin(&mut self, dlci: Dlci, by_connect: bool) -> Result<(), DataError>
         ensures began { OnOk result (AllLead self.old self.new (Began dlci.number by_connect)) }
+        ensures has { OnOk result (HasPipe self.old dlci.number) }
         ensures not_data { result ≡ Err error.NotData → IsNotData self.old dlci.number }
         ensures under_way { result ≡ Err error.UnderWay → OfEachPast self.old (λ past. is_idle (carries dlci.number past) ≡ false) }
         ensures unread { result ≡ Err error.Unread → OfEachPast self.old (λ past.
@@ -122,6 +123,31 @@ impl Pipes {
             return Err(DataError::NotData);
         };
         self.each[place].begin(by_connect)
+    }
+
+    /// The lane of a connection is over, as `Pipe::lines` says. Refused with 6 NotData where there is no pipe of it.
+    #[tactic(auto, using(crate::proofs::PipeSetCalls::one_ended, crate::proofs::PipeSetCalls::not_data))]
+    pub fn lines(&mut self, dlci: Dlci) -> Result<(), DataError>
+        ensures ended { OnOk result (AllLead self.old self.new (EndedLane dlci.number)) }
+        ensures not_data { OnErr result ((result ≡ Err error.NotData) × IsNotData self.old dlci.number) }
+        ensures err { OnErr result (self.new ≡ self.old) }
+    {
+        let Some(place) = place_of(&self.each, dlci) else {
+            return Err(DataError::NotData);
+        };
+        self.each[place].lines();
+        Ok(())
+    }
+
+    /// Whether a connection is one of these, and data is under way on it.
+    #[tactic(auto, using(crate::proofs::PipeSetCalls::behind_at, crate::proofs::PipeSetCalls::not_behind))]
+    pub fn is_behind_lines(&self, dlci: Dlci) -> bool
+        ensures { OfEachPast self.now (λ past. result ≡ is_behind_lines (carries dlci.number past)) }
+    {
+        let Some(place) = place_of(&self.each, dlci) else {
+            return false;
+        };
+        self.each[place].is_behind_lines()
     }
 
     /// Gives the first octets of data that wait, as `Pipe::read` does. Refused with 6 NotData where there is no pipe of it.

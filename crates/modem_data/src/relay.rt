@@ -4,8 +4,8 @@ ghost use Rattle.mux_station.specs.Opening.{is_open};
 ghost use Rattle.mux_station.specs.declared.role.Role.TheVariants.{Initiator};
 ghost use Rattle.modem_data.specs.declared.error.DataError.TheVariants as error;
 ghost use Rattle.modem_data.specs.DataLanes.{most_to_go};
-ghost use Rattle.modem_data.specs.Switching.{Idle as idle, Data as in_data, is_idle};
-ghost use Rattle.modem_data.specs.Passing.{Came, Went, Flowed, Left, Lost, Began, Gave, Read, IsDue, IsOver, carries, data_came, data_read, given, left, unread, wire, flow_frame};
+ghost use Rattle.modem_data.specs.Switching.{Idle as idle, Data as in_data, is_behind_lines, is_idle};
+ghost use Rattle.modem_data.specs.Passing.{Came, Went, Flowed, Left, Lost, Began, EndedLane, Gave, Read, IsDue, IsOver, carries, data_came, data_read, given, left, unread, wire, flow_frame};
 ghost use Rattle.modem_data.specs.PipeSets.{IsAmong, IsNotData, IsTwice, NoneLeaves, OfEachPast, numbers};
 ghost use Rattle.modem_data.specs.Hops.{Fed, Handed, Took, Wrote, Passed, Hops, HopsBy, BeginsRelay, AllCame, HoldsNothing, LineIn, PassesOn, OneOut};
 
@@ -104,6 +104,31 @@ impl Relay {
         ensures err { OnErr result (self.new ≡ self.old) }
     {
         self.pipes.begin(dlci, by_connect)
+    }
+
+    /// The lane of a connection is over, if there is one, from the next frame on: lines come and go again. What was given and hasn't
+    /// left isn't sent; what came stays readable. Refused with 6 NotData where the connection isn't one that may carry data.
+    pub fn lines(&mut self, dlci: Dlci) -> Result<(), DataError>
+        ensures ended { OnOk result (Hops self.old self.new (Passed (EndedLane dlci.number))) }
+        ensures not_data { OnErr result ((result ≡ Err error.NotData) × IsNotData self.old.pipes dlci.number) }
+        ensures err { OnErr result (self.new ≡ self.old) }
+    {
+        self.pipes.lines(dlci)
+    }
+
+    /// Whether data is under way on a connection: its CONNECT line has ended, or data comes from the beginning of the lane on.
+    pub fn is_behind_lines(&self, dlci: Dlci) -> bool
+        ensures { OfEachPast self.now.pipes (λ past. result ≡ is_behind_lines (carries dlci.number past)) }
+    {
+        self.pipes.is_behind_lines(dlci)
+    }
+
+    /// Whether the relay can take octets of the driver: no octets wait for the line, and no frame of the driver's is at hand.
+    pub fn wants_driver(&mut self) -> bool
+        ensures wants { result ≡ true → self.old.inner.next ≡ None }
+        ensures same { self.new ≡ self.old }
+    {
+        self.to_line.is_empty() && self.inner.peek().is_none()
     }
 
     /// Gives the first octets of data that wait, as many as there is room for, and says how many, and whether that was the end of

@@ -1,6 +1,6 @@
 //! Where a connection turns from lines to data.
 ghost use Rattle.std.specs.Prelude.{◌≡◌, ◌↔◌, ◌≤◌, ◌+◌, ◌==◌, ◌&&◌, ◌||◌, ◌++◌, [], ◌∷◌, ℕ, List, length, take, drop, true, false};
-ghost use Rattle.modem_data.specs.Switching.{Carries as Stands, is_data_mode, is_idle, Idle, Data, Lines, carries_from, carries_after, data_of, data_from, is_connect, connects, lines_of, lines_from, behind_end, StaysLines, TurnsToData};
+ghost use Rattle.modem_data.specs.Switching.{Carries as Stands, is_behind_lines, is_data_mode, is_idle, Idle, Data, Lines, carries_from, carries_after, data_of, data_from, is_connect, connects, lines_of, lines_from, behind_end, StaysLines, TurnsToData};
 ghost use Rattle.at_text.specs.Lines.{kept_run};
 
 use at_text::LineReader;
@@ -109,6 +109,13 @@ impl Switch {
         ensures { result ≡ is_data_mode self.now }
     {
         matches!(self.stage, Stage::Data)
+    }
+
+    /// Whether the CONNECT line has ended, or data came from the beginning on.
+    pub fn is_behind_lines(&self) -> bool
+        ensures { result ≡ is_behind_lines self.now }
+    {
+        matches!(self.stage, Stage::Ended(_) | Stage::Data)
     }
 
     /// Whether nothing is data.

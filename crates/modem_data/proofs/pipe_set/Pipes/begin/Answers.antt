@@ -5,8 +5,8 @@ use Rattle.std.proofs.lemmas.List.{get_or_default}
 use Rattle.modem_data.specs.Switching.{Idle, is_idle}
 use Rattle.modem_data.specs.Passing.{Began, carries, data_came, data_read}
 use Rattle.modem_data.specs.Pipes.{Pipe, Leads, HasUnread, SaysLane}
-use Rattle.modem_data.specs.PipeSets.{PipeSet, AllLead, OfEachPast}
-use Rattle.modem_data.proofs.PipeSetCalls.{began_by, under_way_at, unread_at}
+use Rattle.modem_data.specs.PipeSets.{PipeSet, AllLead, HasPipe, OfEachPast}
+use Rattle.modem_data.proofs.PipeSetCalls.{began_by, has_pipe, under_way_at, unread_at}
 use Rattle.modem_data.proofs.pipe_set.Pipes.begin.Goals as goal
 
 pub returns-clause-began : goal.returns-clause-began
@@ -22,6 +22,15 @@ returns-clause-began c =
     let leads = subst (λ (q : Pipe). OnOk c.begin.result (Leads q p (Began q.watch.dlci c.args.by_connect))) it c.begin.ensures.leads in
     let led = subst (λ (e : ℕ). OnOk c.begin.result (Leads (get_or old.each place p) p (Began e c.args.by_connect))) here leads in
     subst (λ (v : PipeSet). OnOk c.begin.result (AllLead v new (Began c.args.dlci.number c.args.by_connect))) c.self.view_is (began_by old new place p c.args.dlci.number c.args.by_connect c.begin.result there here led same refl)
+
+pub returns-clause-has : goal.returns-clause-has
+returns-clause-has c =
+    let old : PipeSet = record { each = c.self.inside.each.items; turn = c.self.inside.turn } in
+    let p = c.begin.new.self in
+    let place = c.in-Some.place in
+    let there : place < length old.each = search rules in
+    let here : (get_or old.each place p).watch.dlci ≡ c.args.dlci.number = search rules in
+    subst (λ (v : PipeSet). OnOk c.begin.result (HasPipe v c.args.dlci.number)) c.self.view_is (has_pipe old place p c.args.dlci.number c.begin.result there here)
 
 pub returns-clause-under_way : goal.returns-clause-under_way
 returns-clause-under_way c =

@@ -1,0 +1,73 @@
+-- A relay without connections of data passes frames as they come and go.
+use Rattle.std.specs.Prelude.{◌≡◌, ℕ, ◌<◌, ◌==◌, ◌&&◌, true, false, Bool, List, [], ◌∷◌, ◌++◌, refl}
+use Rattle.std.proofs.Common.{ap, sym, ◌∙◌, arith}
+use Rattle.std.proofs.lemmas.List.{append-nil}
+use Rattle.mux_frame.specs.Frames.{Frame}
+use Rattle.mux_station.specs.Acts as station
+use Rattle.modem_data.specs.Switching.{Idle, is_idle}
+use Rattle.modem_data.specs.Passing.{Pass, Came, Went, Flowed, Left, Lost, Began, EndedLane, Gave, Read, is_info, ends_here, carries, LawfulPasses}
+use Rattle.modem_data.specs.Hops.{Hop, Fed, Handed, Took, Wrote, Passed, LawfulHops, PassesAll, AddsNothing, passes, came, due, for_driver, for_line, went}
+use Rattle.modem_data.proofs.Pipes.{idle_behind, idle_sent}
+use Rattle.modem_data.proofs.PipeSetCalls.{still_idle}
+
+idle : (n1 : ℕ) (past : List Hop) → LawfulHops n1 [] past → (e : ℕ) → carries e (passes past) ≡ Idle
+unfolding LawfulHops
+idle n1 [] h e = refl
+idle n1 (Passed (Came f) ∷ past) h e = idle_behind (is_info e (passes past) f) (ends_here e (passes past) (station.Got f)) (carries e (passes past)) f.info (idle n1 past h.1 e)
+idle n1 (Passed (Went f) ∷ past) h e = idle_sent (ends_here e (passes past) (station.Sent f)) (carries e (passes past)) (idle n1 past h.1 e)
+idle n1 (Passed (Flowed f) ∷ past) h e = idle_sent (ends_here e (passes past) (station.Sent f)) (carries e (passes past)) (idle n1 past h.1 e)
+idle n1 (Passed (Left f) ∷ past) h e = idle n1 past h.1 e
+idle n1 (Passed Lost ∷ past) h e = refl
+idle n1 (Passed (Began d by_connect) ∷ past) h e = let none = h.0.there in absurd (omega (arith, none))
+idle n1 (Passed (EndedLane d) ∷ past) h e = still_idle (d == e) (carries e (passes past)) (idle n1 past h.1 e)
+idle n1 (Passed (Gave d octets) ∷ past) h e = idle n1 past h.1 e
+idle n1 (Passed (Read d octets) ∷ past) h e = idle n1 past h.1 e
+idle n1 (Fed octets ∷ past) h e = idle n1 past h.1 e
+idle n1 (Handed octets ∷ past) h e = idle n1 past h.1 e
+idle n1 (Took octets ∷ past) h e = idle n1 past h.1 e
+idle n1 (Wrote octets ∷ past) h e = idle n1 past h.1 e
+
+nothing : (x : Bool) → x && false ≡ false
+nothing true = refl
+nothing false = refl
+
+due_all : (p : List Pass) (f : Frame) → carries f.dlci p ≡ Idle → due p f ≡ f ∷ []
+due_all p f e = rw e (rw (nothing (is_info f.dlci p f)) refl)
+
+-- an act that passes no frame
+by_it : (past : List Hop) (a : Hop) → PassesAll past → for_driver (a ∷ past) ≡ for_driver past → came (a ∷ past) ≡ came past ++ [] → for_line (a ∷ past) ≡ for_line past ++ [] → went (a ∷ past) ≡ went past ++ [] → PassesAll (a ∷ past)
+by_it past a r d c l w = record {
+  to_driver = d ∙ (r.to_driver ∙ (sym (append-nil (came past)) ∙ sym c));
+  to_line = l ∙ (ap (λ fs. fs ++ []) r.to_line ∙ sym w);
+}
+
+all : (n1 : ℕ) (past : List Hop) → LawfulHops n1 [] past → LawfulPasses n1 (passes past) → PassesAll past
+unfolding LawfulHops LawfulPasses
+all n1 [] h k = record { to_driver = refl; to_line = refl }
+all n1 (Passed (Came f) ∷ past) h k =
+    let r = all n1 past h.1 k.1 in
+    record {
+      to_driver = ap (λ fs. fs ++ due (passes past) f) r.to_driver ∙ ap (λ fs. came past ++ fs) (due_all (passes past) f (idle n1 past h.1 f.dlci));
+      to_line = ap (λ fs. fs ++ []) r.to_line;
+    }
+all n1 (Passed (Went f) ∷ past) h k =
+    let r = all n1 past h.1 k.1 in
+    record { to_driver = r.to_driver ∙ sym (append-nil (came past)); to_line = ap (λ fs. fs ++ f ∷ []) r.to_line }
+all n1 (Passed (Flowed f) ∷ past) h k =
+    let due_there = k.0 in
+    let x : true ≡ false = sym (ap is_idle (idle n1 past h.1 due_there.dlci)) ∙ due_there.is_due.lane in
+    cc
+all n1 (Passed (Left f) ∷ past) h k = let none = h.0.1.there in absurd (omega (arith, none))
+all n1 (Passed Lost ∷ past) h k = by_it past (Passed Lost) (all n1 past h.1 k.1) refl refl refl refl
+all n1 (Passed (Began d c) ∷ past) h k = by_it past (Passed (Began d c)) (all n1 past h.1 k.1) refl refl refl refl
+all n1 (Passed (EndedLane d) ∷ past) h k = by_it past (Passed (EndedLane d)) (all n1 past h.1 k.1) refl refl refl refl
+all n1 (Passed (Gave d o) ∷ past) h k = by_it past (Passed (Gave d o)) (all n1 past h.1 k.1) refl refl refl refl
+all n1 (Passed (Read d o) ∷ past) h k = by_it past (Passed (Read d o)) (all n1 past h.1 k.1) refl refl refl refl
+all n1 (Fed o ∷ past) h k = by_it past (Fed o) (all n1 past h.1 k) refl refl refl refl
+all n1 (Handed o ∷ past) h k = by_it past (Handed o) (all n1 past h.1 k) refl refl refl refl
+all n1 (Took o ∷ past) h k = by_it past (Took o) (all n1 past h.1 k) refl refl refl refl
+all n1 (Wrote o ∷ past) h k = by_it past (Wrote o) (all n1 past h.1 k) refl refl refl refl
+
+pub adds_nothing : AddsNothing
+unfolding AddsNothing
+adds_nothing n1 v past h = all n1 past h.lawful h.pipes_fit.lawful

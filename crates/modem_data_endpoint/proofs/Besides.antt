@@ -1,0 +1,117 @@
+-- The frames that the endpoint got are the first of those due to the driver.
+use Rattle.std.specs.Prelude.{◌≡◌, ℕ, ◌≤◌, false, List, [], ◌∷◌, ◌++◌, length, flat_map, None, refl}
+use Rattle.std.proofs.Common.{ap, sym, ◌∙◌, subst}
+use Rattle.std.proofs.lemmas.List.{append_assoc, append-nil, append_cancel_left}
+use Rattle.mux_frame.specs.Frames.{Frame}
+use Rattle.mux_frame.specs.Laws.{AreOctets, GoesOn}
+use Rattle.mux_frame.specs.Reading.{Reads}
+use Rattle.mux_frame.specs.Spelling.{spelled}
+use Rattle.mux_frame.specs.Deframing.{Deframes, Deframing, IsDeframed}
+use Rattle.mux_frame.proofs.readings.ComputedReadings.{octets_both, total_reading}
+use Rattle.mux_frame.proofs.readings.LaterTexts.{reads_spelled}
+use Rattle.mux_frame.proofs.readings.TextReadings.{one_reading}
+use Rattle.modem_data.specs.Hops.{Hop, Fed, Handed, Took, Wrote, Passed, RelayFits, Relay, for_driver, fed, came, handed_over, taken, went, Hops, BeginsRelay}
+use Rattle.modem_driver.specs.EndpointLaws.{World, Calls, TellsAll, none_called, called_more}
+use Rattle.modem_driver.specs.SessionStates.{beginning_by}
+use Rattle.modem_history.specs.Sessions.{Beginning, gots, given_on}
+use Rattle.modem_data_endpoint.specs.Beside.{Both, Step, Steps, called, relayed, gave_in, took_out, no_step, more_steps, is_joint, IsJoined, DataLaw, AreSpelled}
+use Rattle.modem_data_endpoint.proofs.Spelled.{all_due_spelled, handed_spelled}
+
+-- ## Sequences of calls
+
+calls_on : (w : World) (x y : Both) → Calls w x.world → Step x y → Calls w y.world
+calls_on w _ _ before (called a v r hops c i o) = called_more w a v before c
+calls_on w _ _ before (relayed a r s hops h j l) = before
+calls_on w _ _ before (gave_in a v r s hops octets c i o l) = called_more w a v before c
+calls_on w _ _ before (took_out a v r s hops octets c i o l) = called_more w a v before c
+
+all_calls : (x y : Both) → Steps x y → Calls x.world y.world
+all_calls x _ (no_step _) = none_called x.world
+all_calls x z (more_steps _ y _ before one) = calls_on x.world y z (all_calls x y before) one
+
+fits_on : (n1 : ℕ) (ds : List ℕ) (x y : Both) → RelayFits n1 ds x.relay x.hops → Step x y → RelayFits n1 ds y.relay y.hops
+unfolding Hops
+fits_on n1 ds _ _ h (called a v r hops c i o) = h
+fits_on n1 ds _ _ h (relayed a r s hops hop j l) = l n1 ds hops h
+fits_on n1 ds _ _ h (gave_in a v r s hops octets c i o l) = l n1 ds hops h
+fits_on n1 ds _ _ h (took_out a v r s hops octets c i o l) = l n1 ds hops h
+
+all_fit : (n1 : ℕ) (ds : List ℕ) (x y : Both) → RelayFits n1 ds x.relay x.hops → Steps x y → RelayFits n1 ds y.relay y.hops
+all_fit n1 ds x _ h (no_step _) = h
+all_fit n1 ds x z h (more_steps _ y _ before one) = fits_on n1 ds y z (all_fit n1 ds x y h before) one
+
+apart_in : (a : Hop) (hops : List Hop) → is_joint a ≡ false → handed_over (a ∷ hops) ≡ handed_over hops
+apart_in (Fed o) hops e = refl
+apart_in (Handed o) hops e = cc
+apart_in (Took o) hops e = refl
+apart_in (Wrote o) hops e = refl
+apart_in (Passed p) hops e = refl
+
+apart_out : (a : Hop) (hops : List Hop) → is_joint a ≡ false → taken (a ∷ hops) ≡ taken hops
+apart_out (Fed o) hops e = refl
+apart_out (Handed o) hops e = refl
+apart_out (Took o) hops e = cc
+apart_out (Wrote o) hops e = refl
+apart_out (Passed p) hops e = refl
+
+-- octets more at both
+one_more : (new old first since octets : List ℕ) → new ≡ old ++ octets → old ≡ first ++ since → new ≡ first ++ (since ++ octets)
+one_more new old first since octets e h = e ∙ (ap (λ (xs : List ℕ). xs ++ octets) h ∙ append_assoc first since octets)
+
+joined_on : (b : Beginning) (x y : Both) → IsJoined b x → Step x y → IsJoined b y
+joined_on b _ _ h (called a v r hops c i o) = record { received_are = i ∙ h.received_are; sent_are = o ∙ h.sent_are }
+joined_on b _ _ h (relayed a r s hops hop j l) = record { received_are = h.received_are ∙ ap (λ (xs : List ℕ). b.line.received ++ xs) (sym (apart_in hop hops j)); sent_are = h.sent_are ∙ ap (λ (xs : List ℕ). b.line.sent ++ xs) (sym (apart_out hop hops j)) }
+joined_on b _ _ h (gave_in a v r s hops octets c i o l) = record { received_are = one_more v.line.received a.line.received b.line.received (handed_over hops) octets i h.received_are; sent_are = o ∙ h.sent_are }
+joined_on b _ _ h (took_out a v r s hops octets c i o l) = record { received_are = i ∙ h.received_are; sent_are = one_more v.line.sent a.line.sent b.line.sent (taken hops) octets o h.sent_are }
+
+all_joined : (b : Beginning) (x y : Both) → IsJoined b x → Steps x y → IsJoined b y
+all_joined b x _ h (no_step _) = h
+all_joined b x z h (more_steps _ y _ before one) = joined_on b y z (all_joined b x y h before) one
+
+-- ## Both ways
+
+-- a deframer that took the beginning of spelled frames handed out the first of them; where it took them all and has none at
+-- hand, all of them
+first_of : (n1 : ℕ) (taken_in x : List ℕ) (handed fs : List Frame) (e : Deframing) → e.n1 ≡ n1 → Deframes taken_in handed e → AreSpelled n1 fs → AreOctets x → taken_in ++ x ≡ flat_map spelled fs → GoesOn handed fs
+first_of n1 taken_in x handed fs e same k spell_all octets joined =
+    let more = total_reading e.n1 (e.undecided ++ x) (octets_both e.undecided x k.octets octets) in
+    let read : Reads e.n1 (flat_map spelled fs) (handed ++ more.frames) more.rest = subst (λ (s : List ℕ). Reads e.n1 s (handed ++ more.frames) more.rest) joined (k.reads x more.frames more.rest more.reads) in
+    record { later = more.frames; frames = sym (one_reading e.n1 (flat_map spelled fs) (handed ++ more.frames) fs more.rest _ read (reads_spelled e.n1 fs (subst (λ (n : ℕ). AreSpelled n fs) (sym same) spell_all))).0 }
+
+all_of : (n1 : ℕ) (taken_in : List ℕ) (handed fs : List Frame) (e : Deframing) → IsDeframed → e.n1 ≡ n1 → Deframes taken_in handed e → AreSpelled n1 fs → e.next ≡ None → taken_in ≡ flat_map spelled fs → handed ≡ fs
+all_of n1 taken_in handed fs e law same k spell_all none joined =
+    let read : Reads e.n1 (flat_map spelled fs) handed e.undecided = subst (λ (s : List ℕ). Reads e.n1 s handed e.undecided) joined ((law taken_in handed e k).all none) in
+    (one_reading e.n1 (flat_map spelled fs) handed fs e.undecided _ read (reads_spelled e.n1 fs (subst (λ (n : ℕ). AreSpelled n fs) (sym same) spell_all))).0
+
+no_more : (xs ys : List ℕ) → ys ≡ [] → xs ++ ys ≡ xs
+no_more xs ys e = ap (λ (zs : List ℕ). xs ++ zs) e ∙ append-nil xs
+
+-- ## The law
+
+pub data_law : IsDeframed → TellsAll → DataLaw
+unfolding DataLaw BeginsRelay TellsAll
+data_law law tells_all dialect n1 ds kinds x y same some high begins starts none steps =
+    let b = beginning_by dialect n1 x.world.line x.world.driver in
+    let told = tells_all dialect n1 kinds x.world y.world same some begins (all_calls x y steps) in
+    let first : RelayFits n1 ds x.relay x.hops = subst (λ (hops : List Hop). RelayFits n1 ds x.relay hops) (sym none) starts in
+    let fit = all_fit n1 ds x y first steps in
+    let at_first : IsJoined b x = subst (λ (hops : List Hop). IsJoined b (record x { hops = hops })) (sym none) (record { received_are = sym (append-nil x.world.line.received); sent_are = sym (append-nil x.world.line.sent) }) in
+    let joined = all_joined b x y at_first steps in
+    let octets = told.all.octets_in in
+    let k = y.world.endpoint.machine in
+    let parts : handed_over y.hops ≡ octets.fed ++ k.unfed = append_cancel_left b.line.received (handed_over y.hops) (octets.fed ++ k.unfed) (sym joined.received_are ∙ (octets.received_are ∙ append_assoc b.line.received octets.fed k.unfed)) in
+    let written = told.all.octets_out in
+    let gone : taken y.hops ≡ written.since = append_cancel_left b.line.sent (taken y.hops) written.since (sym joined.sent_are ∙ written.sent_are) in
+    let came_all = subst (λ (n : ℕ). AreSpelled n (came y.hops)) fit.outer_n1 (handed_spelled (fed y.hops) (came y.hops) y.relay.outer fit.line_in) in
+    let due_all = all_due_spelled n1 y.hops high came_all in
+    let all_in : octets.fed ++ (k.unfed ++ y.relay.to_driver) ≡ flat_map spelled (for_driver y.hops) = sym (append_assoc octets.fed k.unfed y.relay.to_driver) ∙ (ap (λ (xs : List ℕ). xs ++ y.relay.to_driver) (sym parts) ∙ fit.to_driver_is) in
+    record {
+      past = told.past;
+      all = told.all;
+      relay_fits = fit;
+      joined = joined;
+      got_are = λ wait. first_of n1 octets.fed (k.unfed ++ y.relay.to_driver) (gots told.past) (for_driver y.hops) k.deframer octets.bound octets.deframes due_all (octets_both k.unfed y.relay.to_driver wait.aside wait.on_way) all_in;
+      all_got = λ t. all_of n1 octets.fed (gots told.past) (for_driver y.hops) k.deframer law octets.bound octets.deframes due_all t.none_at_hand (sym (no_more octets.fed k.unfed t.none_aside) ∙ (sym parts ∙ (sym (no_more (handed_over y.hops) y.relay.to_driver t.none_on_way) ∙ fit.to_driver_is)));
+      went_are = λ sp o. first_of n1 (taken y.hops) k.unwritten (went y.hops) (given_on told.past) y.relay.inner fit.inner_n1 fit.driver_out sp o (ap (λ (xs : List ℕ). xs ++ k.unwritten) gone ∙ written.frames_are);
+      all_went = λ sp o. all_of n1 (taken y.hops) (went y.hops) (given_on told.past) y.relay.inner law fit.inner_n1 fit.driver_out sp o.none_at_hand (gone ∙ (sym (no_more written.since k.unwritten o.none_unwritten) ∙ written.frames_are));
+    }

@@ -1,0 +1,15 @@
+//! The law of a relay and an endpoint behind it.
+ghost use Rattle.modem_data_endpoint.specs.Beside.{DataLaw};
+
+use modem_driver::laws::endpoints;
+use mux_frame::laws::deframed;
+
+/// Of one sequence of calls of a relay and an endpoint behind it there is one history of the endpoint, as its own law says, over the
+/// line's frames but data: the frames that it got are the first of those, and all of them where none waits on the way. The frames
+/// of the driver's that went to the line are the first of those that the history gave on.
+pub fn beside()
+    ensures { DataLaw }
+{
+    deframed();
+    endpoints();
+}
