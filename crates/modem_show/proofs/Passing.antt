@@ -139,3 +139,13 @@ pub judged_from : (w : Watch) (stamp : Stamp) (d : Direction) (f : Frame) (fault
     → (line : List Caught) → WatchFits w line → faults ≡ faults_of w.n1 line (caught stamp d f)
 judged_from w stamp FromModem f faults e j line h = j.says line h.responder h.initiator
 judged_from w stamp ToModem f faults e j line h = cc
+
+-- ## What is open and stopped
+
+pub open_by : (e : End) (r : Role) (line : List Caught) (d : ℕ) → EndFits e (own r line) → e.role ≡ r → d < 62
+    → is_open_at e d ≡ is_open r d (own r line)
+open_by e r line d h k l = open_fits e (own r line) d h l ∙ ap (λ (s : Role). is_open s d (own r line)) k
+
+pub stopped_by : (e : End) (r : Role) (line : List Caught) (d : ℕ) → EndFits e (own r line) → e.role ≡ r → d < 62
+    → is_stopped_at e d ≡ is_stopped r d (own r line)
+stopped_by e r line d h k l = stopped_fits e (own r line) d h l ∙ ap (λ (s : Role). is_stopped s d (own r line)) k

@@ -6,3 +6,4 @@ pub mod Judging
 pub mod Rows
 pub mod Talking
 pub mod TalkRows
+pub mod Rules

@@ -10,6 +10,7 @@ mod faults;
 pub mod laws;
 mod message;
 mod place;
+mod rule;
 mod talk;
 mod talks;
 mod told;
@@ -17,6 +18,7 @@ mod watcher;
 
 pub use ask::Ask;
 pub use faults::Faults;
+pub use rule::Rule;
 pub use talk::Talk;
 pub use talks::Talks;
 pub use told::Told;

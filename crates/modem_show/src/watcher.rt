@@ -5,9 +5,11 @@ ghost use Rattle.mux_capture.specs.declared.packet.Direction.{Direction};
 ghost use Rattle.mux_capture.specs.Passing.{Caught};
 ghost use Rattle.mux_station.specs.Acts.{Act};
 ghost use Rattle.modem_show.specs.declared.deed.Deed.TheVariants.{Sent};
+ghost use Rattle.mux_station.specs.Opening.{is_open};
+ghost use Rattle.mux_station.specs.Stopping.{is_stopped};
 ghost use Rattle.modem_show.specs.Ways.{caught, act_of, sender};
 ghost use Rattle.modem_show.specs.Asking.{answered_by, unanswered_by, excused_by, asked_with, is_answer, waiting};
-ghost use Rattle.modem_show.specs.Ends.{EndFits, handled, come};
+ghost use Rattle.modem_show.specs.Ends.{EndFits, handled, come, own};
 ghost use Rattle.modem_show.specs.Judging.{SideFits, WatchFits, Passes, JudgedBy, faults_at, faults_of};
 
 use crate::ask::{Ask, is_answer, is_ask};
@@ -17,7 +19,7 @@ use crate::end::End;
 use crate::faults::Faults;
 use crate::message::{is_data_frame, is_message};
 use mux_capture::{Direction, Stamp};
-use mux_frame::FrameView;
+use mux_frame::{Dlci, FrameView};
 use mux_station::Role;
 use std::alloc::{AllocError, Global};
 use std::marker::Model;
@@ -222,6 +224,30 @@ impl Watcher {
         match direction {
             Direction::ToModem => self.initiator.asks.as_slice(),
             Direction::FromModem => self.responder.asks.as_slice(),
+        }
+    }
+
+    /// Whether a connection is open at an end, as far as the line shows what that end has read.
+    pub fn is_open(&self, end: Role, dlci: Dlci) -> bool
+        ensures { (line : List Caught) → WatchFits self.now line → result ≡ is_open end dlci.number (own end line) }
+    {
+        self.side(end).is_open(dlci)
+    }
+
+    /// Whether an end may not send data on a connection.
+    pub fn is_stopped(&self, end: Role, dlci: Dlci) -> bool
+        ensures { (line : List Caught) → WatchFits self.now line → result ≡ is_stopped end dlci.number (own end line) }
+    {
+        self.side(end).is_stopped(dlci)
+    }
+
+    /// What is kept of an end.
+    fn side(&self, end: Role) -> &End
+        ensures { (line : List Caught) → WatchFits self.now line → EndFits result.now (own end line) × (result.now.role ≡ end) }
+    {
+        match end {
+            Role::Initiator => &self.initiator.end,
+            Role::Responder => &self.responder.end,
         }
     }
 }
