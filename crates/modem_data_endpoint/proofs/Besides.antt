@@ -97,17 +97,17 @@ data_law law tells_all dialect n1 ds kinds x y same some high begins starts none
     let fit = all_fit n1 ds x y first steps in
     let at_first : IsJoined b x = subst (λ (hops : List Hop). IsJoined b (record x { hops = hops })) (sym none) (record { received_are = sym (append-nil x.world.line.received); sent_are = sym (append-nil x.world.line.sent) }) in
     let joined = all_joined b x y at_first steps in
-    let octets = told.all.octets_in in
+    let octets = told.fits.received in
     let k = y.world.endpoint.machine in
     let parts : handed_over y.hops ≡ octets.fed ++ k.unfed = append_cancel_left b.line.received (handed_over y.hops) (octets.fed ++ k.unfed) (sym joined.received_are ∙ (octets.received_are ∙ append_assoc b.line.received octets.fed k.unfed)) in
-    let written = told.all.octets_out in
+    let written = told.fits.sent in
     let gone : taken y.hops ≡ written.since = append_cancel_left b.line.sent (taken y.hops) written.since (sym joined.sent_are ∙ written.sent_are) in
     let came_all = subst (λ (n : ℕ). AreSpelled n (came y.hops)) fit.outer_n1 (handed_spelled (fed y.hops) (came y.hops) y.relay.outer fit.line_in) in
     let due_all = all_due_spelled n1 y.hops high came_all in
     let all_in : octets.fed ++ (k.unfed ++ y.relay.to_driver) ≡ flat_map spelled (for_driver y.hops) = sym (append_assoc octets.fed k.unfed y.relay.to_driver) ∙ (ap (λ (xs : List ℕ). xs ++ y.relay.to_driver) (sym parts) ∙ fit.to_driver_is) in
     record {
       past = told.past;
-      all = told.all;
+      fits = told.fits;
       relay_fits = fit;
       joined = joined;
       got_are = λ wait. first_of n1 octets.fed (k.unfed ++ y.relay.to_driver) (gots told.past) (for_driver y.hops) k.deframer octets.bound octets.deframes due_all (octets_both k.unfed y.relay.to_driver wait.aside wait.on_way) all_in;

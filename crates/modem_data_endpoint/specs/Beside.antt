@@ -5,10 +5,10 @@ use Rattle.mux_frame.specs.Frames.{Frame}
 use Rattle.at_text.specs.Dialects.{Dialect}
 use Rattle.at_text.specs.declared.unsolicited.UrcKind.{UrcKind}
 use Rattle.modem_history.specs.Acts.{Act}
-use Rattle.modem_history.specs.Sessions.{Beginning, gots, given_on}
-use Rattle.modem_driver.specs.EndpointLaws.{World, Call, IsAllOf}
+use Rattle.modem_history.specs.Sessions.{Beginning, SessionFits, gots, given_on}
+use Rattle.modem_driver.specs.EndpointLaws.{World, Call}
 use Rattle.modem_driver.specs.Endpoints.{BeginsBy}
-use Rattle.modem_driver.specs.SessionStates.{beginning_by}
+use Rattle.modem_driver.specs.SessionStates.{beginning_by, end_of, seen_by}
 use Rattle.modem_data.specs.Hops.{Relay, RelayFits, Hop, Handed, Took, Hops, BeginsRelay, handed_over, taken, for_driver, went}
 
 -- an endpoint with its line and its desk's end, and a relay with what passed it
@@ -72,7 +72,7 @@ AreSpelled n1 fs = All (HasSpelling n1) fs
 -- gave on.
 pub record TellsBoth (n1 : ℕ) (ds : List ℕ) (b : Beginning) (x : Both) : Type 0 where
   pub past : List Act
-  pub all : IsAllOf b x.world past
+  pub fits : SessionFits b (seen_by x.world.line (end_of x.world.driver) x.world.endpoint.machine) past
   pub relay_fits : RelayFits n1 ds x.relay x.hops
   pub joined : IsJoined b x
   pub got_are : AreOctetsWaiting x → GoesOn (gots past) (for_driver x.hops)
