@@ -1,15 +1,16 @@
 -- Octets that go out part by part.
-use Rattle.std.proofs.Common.{ap, sym, ◌∙◌, subst}
-use Rattle.std.specs.Prelude.{◌≡◌, ℕ, ◌+◌, List, [], ◌++◌, take, drop, Option}
+use Rattle.std.proofs.Common.{ap, sym, ◌∙◌, inl, inr, subst, ⊎_elim}
+use Rattle.std.specs.Prelude.{◌≡◌, ℕ, ◌+◌, ◌⊎◌, List, [], ◌++◌, take, drop, Option, None, Some}
 use Rattle.std.proofs.lemmas.List.{append-nil, append_assoc}
 use Rattle.std.proofs.Math.Seq.{take-add}
 use Rattle.modem_desk.specs.Ends.{DriverView}
 use Rattle.modem_history.specs.Sessions.{LineView}
-use Rattle.modem_driver.specs.Endpoints.{EndpointState, GivesOctets, TakesOctets}
+use Rattle.modem_driver.specs.Endpoints.{EndpointState, GivesOctets, Says, TakesOctets}
 use Rattle.modem_driver.specs.EndpointLaws.{Calls, World, called_more, gave_octets, none_called, took_octets}
 use Rattle.modem_driver.specs.EndpointSteps.{with_received, with_sent}
 use Rattle.modem_driver.specs.declared.endpoint.Blocked.{Blocked}
-use Rattle.modem_c.specs.Calls.{GivesOn, OutputsAreCalls, gave, handled, unmoved}
+use Rattle.modem_driver.specs.declared.endpoint.Blocked.TheVariants.{NoMemory, OutputFirst}
+use Rattle.modem_c.specs.Calls.{GivesAll, GivesOn, OutputsAreCalls, SaysOfFrames, gave, handled, unmoved}
 
 -- one part more, behind the frames at hand
 pub one_part : (e f g h : EndpointState) (count given : ℕ) (before later : List ℕ) (blocked : Option Blocked)
@@ -47,6 +48,41 @@ all_parts l d e g _ (handled _ _ _ f _ before blocked out takes) =
     subst (λ (m : LineView). Calls (at l d e) (at m d g)) (none_received (with_sent l before))
     (called_more _ _ _ (all_parts l d e f before out) (took_octets (with_sent l before) d f g [] blocked takes))
 
+-- the last part is of no octets
+last_part : (l : LineView) (d : DriverView) (e f : EndpointState) (octets : List ℕ) → GivesAll l d e f octets → GivesOn l d e f octets
+last_part l d e f octets out =
+    subst (GivesOn l d e f) (append-nil octets)
+    (gave l d e out.between f octets [] (handled l d e out.before out.between octets out.blocked out.gives out.handles) out.rests)
+
 pub outputs_are_calls : OutputsAreCalls
 unfolding OutputsAreCalls
-outputs_are_calls l d e f octets out = all_parts l d e f octets out
+outputs_are_calls l d e f octets out = all_parts l d e f octets (last_part l d e f octets out)
+
+-- nothing was given behind the frames at hand
+pub all_given : (e f g h : EndpointState) (count given : ℕ) (before later : List ℕ) (blocked : Option Blocked)
+    → ((l : LineView) (d : DriverView) → GivesOn l d e f (take count before))
+    → ((l : LineView) (d : DriverView) → TakesOctets l d f g [] blocked)
+    → SaysOfFrames g blocked
+    → ((l : LineView) (d : DriverView) → GivesOctets l d g h (take given (drop count later)))
+    → take count later ≡ take count before → given ≡ 0
+    → (l : LineView) (d : DriverView) → GivesAll l d e h (take count later)
+all_given e f g h count given before later blocked out takes says gives same none l d =
+    let here = with_sent l (take count later) in
+    record {
+      before = f;
+      between = g;
+      blocked = blocked;
+      gives = subst (GivesOn l d e f) (sym same) (out l d);
+      handles = takes here d;
+      says = says;
+      rests = subst (λ (n : ℕ). GivesOctets here d g h (take n (drop count later))) none (gives here d);
+    }
+
+-- all of no octets was taken
+pub says_of_frames : (e : EndpointState) (all : Type 0) (blocked : Option Blocked) → Says e all blocked → SaysOfFrames e blocked
+says_of_frames e all None h = (tt, h.1)
+says_of_frames e all (Some OutputFirst) h = h
+says_of_frames e all (Some NoMemory) h = or_all h
+  where
+    or_all : {a b c : Type 0} → a ⊎ (b × c) → a ⊎ (Unit {0} × c)
+    or_all {a} {b} {c} h = ⊎_elim (λ (x : a). inl x) (λ (y : b × c). inr (tt, y.1)) h

@@ -5,7 +5,7 @@ use Rattle.modem_desk.specs.declared.request.Ask.{Ask}
 use Rattle.modem_desk.specs.Ends.{DriverView}
 use Rattle.modem_history.specs.Acts.{Act}
 use Rattle.modem_history.specs.Sessions.{Beginning, LineView}
-use Rattle.modem_driver.specs.Endpoints.{EndpointFits, EndpointState, GivesOctets, Numbers, TakesOctets}
+use Rattle.modem_driver.specs.Endpoints.{EndpointFits, EndpointState, GivesOctets, Numbers, Says, TakesOctets}
 use Rattle.modem_driver.specs.EndpointLaws.{Calls}
 use Rattle.modem_driver.specs.WaitingTicks.{waiting_ticks}
 use Rattle.modem_driver.specs.EndpointSteps.{with_sent}
@@ -56,9 +56,25 @@ pub data GivesOn : LineView → DriverView → EndpointState → EndpointState �
   handled : (l : LineView) (d : DriverView) (e f g : EndpointState) (before : List ℕ) (blocked : Option Blocked)
       → GivesOn l d e f before → TakesOctets (with_sent l before) d f g [] blocked → GivesOn l d e g before
 
+-- What an endpoint answers to input of no octets: nothing blocks it where no frame is at hand; OutputFirst where the frame at
+-- hand lacks room; NoMemory.
+abbrev pub SaysOfFrames : EndpointState → Option Blocked → Type 0
+SaysOfFrames e blocked = Says e (Unit {0}) blocked
+
+-- The line took these octets, as `GivesOn` has it. Behind the last of them frames at hand were handled, and connections held
+-- and freed, as far as this answer says. The line took no more.
+pub record GivesAll (l : LineView) (d : DriverView) (e f : EndpointState) (octets : List ℕ) : Type 0 where
+  pub before : EndpointState
+  pub between : EndpointState
+  pub blocked : Option Blocked
+  pub gives : GivesOn l d e before octets
+  pub handles : TakesOctets (with_sent l octets) d before between [] blocked
+  pub says : SaysOfFrames between blocked
+  pub rests : GivesOctets (with_sent l octets) d between f []
+
 -- an output is a sequence of an endpoint's calls, over a line that took its octets
 unfoldable pub OutputsAreCalls : Type 0
 OutputsAreCalls =
-    (l : LineView) (d : DriverView) (e f : EndpointState) (octets : List ℕ) → GivesOn l d e f octets
+    (l : LineView) (d : DriverView) (e f : EndpointState) (octets : List ℕ) → GivesAll l d e f octets
     → Calls (record { line = l; driver = d; endpoint = e })
     (record { line = with_sent l octets; driver = d; endpoint = f })

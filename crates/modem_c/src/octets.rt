@@ -4,7 +4,7 @@ ghost use Rattle.modem_desk.specs.Ends.{DriverView};
 ghost use Rattle.modem_history.specs.Sessions.{LineView};
 ghost use Rattle.modem_driver.specs.Endpoints.{GivesOctets, HoldsNothingBack, Says, TakesOctets};
 ghost use Rattle.modem_driver.specs.declared.endpoint.Blocked.TheVariants as cause;
-ghost use Rattle.modem_c.specs.Calls.{GivesOn, Goes, Holds, endpoint_of};
+ghost use Rattle.modem_c.specs.Calls.{GivesAll, Goes, Holds, SaysOfFrames, endpoint_of};
 
 use crate::driver::Cimbaloty;
 use crate::numbers::{NO_DRIVER, NO_MEMORY, OK, OUTPUT_FIRST};
@@ -61,7 +61,8 @@ pub extern "C" fn cimbaloty_input_at(
 
 /// Handles the frames at hand, and looks at the backlogs.
 fn handle_waiting(endpoint: &mut Endpoint) -> Option<Blocked>
-    ensures { (l : LineView) (d : DriverView) → TakesOctets l d endpoint.old endpoint.new [] result }
+    ensures takes { (l : LineView) (d : DriverView) → TakesOctets l d endpoint.old endpoint.new [] result }
+    ensures says { SaysOfFrames endpoint.new result }
 {
     endpoint.handle_input(&[]).blocked
 }
@@ -84,7 +85,7 @@ fn give_part(endpoint: &mut Endpoint, room: &mut [u8], place: usize) -> usize
 /// Writes the next octets for the line to the front of the room, and says how many.
 fn give_on(endpoint: &mut Endpoint, room: &mut [u8]) -> usize
     ensures out { (l : LineView) (d : DriverView)
-        → GivesOn l d endpoint.old endpoint.new (take result room.new) }
+        → GivesAll l d endpoint.old endpoint.new (take result room.new) }
     ensures behind { drop result room.new ≡ drop result room.old }
     ensures few { result ≤ length room.old }
     ensures all { result < length room.old → HoldsNothingBack endpoint.new }
@@ -101,12 +102,12 @@ fn give_on(endpoint: &mut Endpoint, room: &mut [u8]) -> usize
     }
 }
 
-/// Writes the next octets for the line to the front of the room, and says how many. Between them it
-/// handles the frames at hand, as far as there is room and memory.
+/// Writes the next octets for the line to the front of the room, and says how many. Before the first, between them and behind the
+/// last it handles the frames at hand, and holds and frees connections, as far as there is room and memory.
 #[unsafe(no_mangle)]
 pub extern "C" fn cimbaloty_output_at(alloc: Global, c: &mut Cimbaloty, room: &mut [u8]) -> usize
     ensures out { endpoint_of c.old ≢ None → Goes c.old c.new (λ e f. (l : LineView) (d : DriverView)
-        → GivesOn l d e f (take result room.new)) }
+        → GivesAll l d e f (take result room.new)) }
     ensures all { endpoint_of c.old ≢ None → result < length room.old → Holds c.new HoldsNothingBack }
     ensures behind { drop result room.new ≡ drop result room.old }
     ensures few { result ≤ length room.old }

@@ -47,7 +47,7 @@ fn without_ask(asked: Result<u64, RequestRefused>) -> Result<u64, RequestError>
 fn open(endpoint: &mut Endpoint, dlci: Dlci) -> Result<u64, RequestError>
     ensures takes { IfOk result (λ n. NumbersAt endpoint.old endpoint.new Ask.OpenChannel dlci.number n) }
     ensures refused { OnErr result (Refuses endpoint.old endpoint.new) }
-    ensures full { IfErr result (λ e. e ≡ why.Full → IsFull endpoint.new) }
+    ensures full { IfErr result (λ e. (e ≡ why.Full) ↔ IsFull endpoint.new) }
 {
     endpoint.open(dlci)
 }
@@ -56,7 +56,7 @@ fn open(endpoint: &mut Endpoint, dlci: Dlci) -> Result<u64, RequestError>
 fn close(endpoint: &mut Endpoint, dlci: Dlci) -> Result<u64, RequestError>
     ensures takes { IfOk result (λ n. NumbersAt endpoint.old endpoint.new Ask.CloseChannel dlci.number n) }
     ensures refused { OnErr result (Refuses endpoint.old endpoint.new) }
-    ensures full { IfErr result (λ e. e ≡ why.Full → IsFull endpoint.new) }
+    ensures full { IfErr result (λ e. (e ≡ why.Full) ↔ IsFull endpoint.new) }
 {
     endpoint.close(dlci)
 }
@@ -73,7 +73,7 @@ fn command(
     ensures takes { IfOk result (λ n.
         NumbersAt endpoint.old endpoint.new (λ d. Ask.Command d text.now) dlci.number n) }
     ensures refused { OnErr result (Refuses endpoint.old endpoint.new) }
-    ensures full { IfErr result (λ e. e ≡ why.Full → IsFull endpoint.new) }
+    ensures full { IfErr result (λ e. (e ≡ why.Full) ↔ IsFull endpoint.new) }
 {
     let _text = text;
     without_ask(endpoint.command(dlci, line))
@@ -86,6 +86,7 @@ pub extern "C" fn cimbaloty_open(alloc: Global, c: &mut Cimbaloty, dlci: u8, num
         NumbersAt e f Ask.OpenChannel dlci number.new) }
     ensures refused { (result ≡ NO_MEMORY) ⊎ (result ≡ FULL) → Goes c.old c.new Refuses }
     ensures full { result ≡ FULL → Holds c.new IsFull }
+    ensures not_full { result ≡ NO_MEMORY → Holds c.new (λ f. ¬ IsFull f) }
     ensures no_driver { (result ≡ NO_DRIVER) ↔ (endpoint_of c.old ≡ None) }
     ensures bad_dlci { endpoint_of c.old ≢ None → ((result ≡ BAD_DLCI) ↔ (61 < dlci)) }
     ensures stays { (result ≡ NO_DRIVER) ⊎ (result ≡ BAD_DLCI) → endpoint_of c.new ≡ endpoint_of c.old }
@@ -118,6 +119,7 @@ pub extern "C" fn cimbaloty_close(
         NumbersAt e f Ask.CloseChannel dlci number.new) }
     ensures refused { (result ≡ NO_MEMORY) ⊎ (result ≡ FULL) → Goes c.old c.new Refuses }
     ensures full { result ≡ FULL → Holds c.new IsFull }
+    ensures not_full { result ≡ NO_MEMORY → Holds c.new (λ f. ¬ IsFull f) }
     ensures no_driver { (result ≡ NO_DRIVER) ↔ (endpoint_of c.old ≡ None) }
     ensures bad_dlci { endpoint_of c.old ≢ None → ((result ≡ BAD_DLCI) ↔ (61 < dlci)) }
     ensures stays { (result ≡ NO_DRIVER) ⊎ (result ≡ BAD_DLCI) → endpoint_of c.new ≡ endpoint_of c.old }
@@ -138,15 +140,20 @@ pub extern "C" fn cimbaloty_close(
     answer(asked, number)
 }
 
-/// The number of the refusal of a text.
-fn text_number(error: TextError) -> u8
-    ensures memory { error ≡ TextError.NoMemory → result ≡ NO_MEMORY }
-    ensures others { error ≢ TextError.NoMemory → result ≡ TEXT + text_error_number error }
+/// What is answered where there is no memory for the text of a request: Full comes first.
+fn without_text(alloc: Global, c: &mut Cimbaloty) -> u8
+    ensures full { result ≡ FULL → Holds c.new IsFull }
+    ensures not_full { result ≡ NO_MEMORY → Holds c.new (λ f. ¬ IsFull f) }
+    ensures no_driver { (result ≡ NO_DRIVER) ↔ (endpoint_of c.old ≡ None) }
+    ensures stays { endpoint_of c.new ≡ endpoint_of c.old }
+    ensures others { result ≢ NO_MEMORY → result ≢ FULL → result ≡ NO_DRIVER }
 {
-    match error {
-        TextError::NoMemory => NO_MEMORY,
-        _ => TEXT + error.number(),
-    }
+    let Some(endpoint) = c.take(alloc) else {
+        return NO_DRIVER;
+    };
+    let is_full = endpoint.is_full();
+    *c = Cimbaloty::of(endpoint);
+    if is_full { FULL } else { NO_MEMORY }
 }
 
 /// Asks for a command line to be sent on a connection and its answer read, and hands out the request's
@@ -163,6 +170,7 @@ pub extern "C" fn cimbaloty_command_at(
         NumbersAt e f (λ d. Ask.Command d text.now) dlci number.new) }
     ensures refused { (result ≡ NO_MEMORY) ⊎ (result ≡ FULL) → Goes c.old c.new Refuses }
     ensures full { result ≡ FULL → Holds c.new IsFull }
+    ensures not_full { result ≡ NO_MEMORY → Holds c.new (λ f. ¬ IsFull f) }
     ensures no_driver { (result ≡ NO_DRIVER) ↔ (endpoint_of c.old ≡ None) }
     ensures bad_dlci { endpoint_of c.old ≢ None → ((result ≡ BAD_DLCI) ↔ (61 < dlci)) }
     ensures bad_text { endpoint_of c.old ≢ None → dlci ≤ 61 → (e : TextError) → refusal_of text.now ≡ Some e
@@ -181,7 +189,8 @@ pub extern "C" fn cimbaloty_command_at(
     };
     let line = match CommandLine::new(alloc, text) {
         Ok(line) => line,
-        Err(why) => return text_number(why),
+        Err(TextError::NoMemory) => return without_text(alloc, c),
+        Err(why) => return TEXT + why.number(),
     };
     let Some(mut endpoint) = c.take(alloc) else {
         return NO_DRIVER;
@@ -202,6 +211,7 @@ pub extern "C" fn cimbaloty_probe_at(
     ensures takes { result ≡ OK → Goes c.old c.new (λ e f. Numbers e f (Ask.Probe octets.now) number.new) }
     ensures refused { (result ≡ NO_MEMORY) ⊎ (result ≡ FULL) → Goes c.old c.new Refuses }
     ensures full { result ≡ FULL → Holds c.new IsFull }
+    ensures not_full { result ≡ NO_MEMORY → Holds c.new (λ f. ¬ IsFull f) }
     ensures no_driver { (result ≡ NO_DRIVER) ↔ (endpoint_of c.old ≡ None) }
     ensures long { endpoint_of c.old ≢ None → ((result ≡ LONG_PROBE) ↔ (16 < length octets.now)) }
     ensures stays { (result ≡ NO_DRIVER) ⊎ (result ≡ LONG_PROBE) → endpoint_of c.new ≡ endpoint_of c.old }
@@ -228,6 +238,7 @@ pub extern "C" fn cimbaloty_stop(alloc: Global, c: &mut Cimbaloty, number: &mut 
     ensures takes { result ≡ OK → Goes c.old c.new (λ e f. Numbers e f Ask.Stop number.new) }
     ensures refused { (result ≡ NO_MEMORY) ⊎ (result ≡ FULL) → Goes c.old c.new Refuses }
     ensures full { result ≡ FULL → Holds c.new IsFull }
+    ensures not_full { result ≡ NO_MEMORY → Holds c.new (λ f. ¬ IsFull f) }
     ensures no_driver { (result ≡ NO_DRIVER) ↔ (endpoint_of c.old ≡ None) }
     ensures stays { result ≡ NO_DRIVER → endpoint_of c.new ≡ endpoint_of c.old }
     ensures same { result ≢ OK → number.new ≡ number.old }

@@ -32,6 +32,7 @@ fn answer(done: Result<(), SessionFault>) -> u8
 pub extern "C" fn cimbaloty_tick(alloc: Global, c: &mut Cimbaloty) -> u8
     ensures ticks { result ≡ OK → Goes c.old c.new (λ e f. (l : LineView) (d : DriverView) → Ticks l d e f) }
     ensures refused { (result ≡ NO_MEMORY) ⊎ (result ≡ LINE_LOST) → Goes c.old c.new Refuses }
+    ensures failed { (result ≡ LINE_LOST) ↔ Holds c.old (λ e. e.machine.core.lost ≡ true) }
     ensures lost { result ≡ LINE_LOST → Holds c.new (λ f. f.machine.core.lost ≡ true) }
     ensures no_driver { (result ≡ NO_DRIVER) ↔ (endpoint_of c.old ≡ None) }
     ensures none { endpoint_of c.old ≡ None → endpoint_of c.new ≡ None }
@@ -51,6 +52,7 @@ pub extern "C" fn cimbaloty_line_lost(alloc: Global, c: &mut Cimbaloty) -> u8
     ensures loses { result ≡ OK → Goes c.old c.new (λ e f. (l : LineView) (d : DriverView) → Loses l d e f) }
     ensures gone { result ≡ OK → Holds c.new (λ f. f.machine.core.lost ≡ true) }
     ensures refused { (result ≡ NO_MEMORY) ⊎ (result ≡ LINE_LOST) → Goes c.old c.new Refuses }
+    ensures failed { (result ≡ LINE_LOST) ↔ Holds c.old (λ e. e.machine.core.lost ≡ true) }
     ensures lost { result ≡ LINE_LOST → Holds c.new (λ f. f.machine.core.lost ≡ true) }
     ensures no_driver { (result ≡ NO_DRIVER) ↔ (endpoint_of c.old ≡ None) }
     ensures none { endpoint_of c.old ≡ None → endpoint_of c.new ≡ None }

@@ -1,20 +1,17 @@
 -- One part more goes out, behind the frames at hand.
-use Rattle.std.proofs.Common.{◌≡◌, ◌+◌, ℕ, take, drop, refl, subst, arith, ◌∙◌, ap, sym}
+use Rattle.std.proofs.Common.{drop, refl, arith, ◌∙◌, ap, sym}
 use Rattle.std.proofs.lemmas.List.{drop-drop}
-use Rattle.modem_c.specs.Calls.{GivesOn, unmoved}
-use Rattle.modem_c.proofs.GivenParts.{one_part}
+use Rattle.modem_c.specs.Calls.{unmoved}
+use Rattle.modem_c.proofs.GivenParts.{all_given, one_part}
 use Rattle.modem_c.proofs.octets.give_on.Goals as goal
 
 pub loop-count-init : goal.loop-count-init
 loop-count-init c = record { out = λ v d. unmoved v d c.args.endpoint.now; behind = refl; few = omega arith; same = refl }
 
 pub returns-then-given-eq0-clause-out : goal.returns-then-given-eq0-clause-out
-returns-then-given-eq0-clause-out c l d =
-    let none = c.if-given-eq0.true in
-    let count : c.loop-count.count + c.give_part-given.result ≡ c.loop-count.count = omega (arith, none) in
-    subst (λ (n : ℕ). GivesOn l d c.args.endpoint.now c.give_part-given.new.endpoint (take n c.give_part-given.new.room)) count
-    (one_part _ _ _ _ c.loop-count.count c.give_part-given.result c.loop-count.room c.give_part-given.new.room _ c.loop-count.invariant.out
-    c.handle_waiting-blocked.ensures c.give_part-given.ensures.out c.give_part-given.ensures.before l d)
+returns-then-given-eq0-clause-out c =
+    all_given _ _ _ _ c.loop-count.count c.give_part-given.result c.loop-count.room c.give_part-given.new.room _ c.loop-count.invariant.out
+    c.handle_waiting-blocked.ensures.takes c.handle_waiting-blocked.ensures.says c.give_part-given.ensures.out c.give_part-given.ensures.before c.if-given-eq0.true
 
 pub loop-count-preserved : goal.loop-count-preserved
 loop-count-preserved c =
@@ -23,7 +20,7 @@ loop-count-preserved c =
     let few = c.give_part-given.ensures.few in
     let len = c.loop-count.invariant.same in
     record {
-      out = one_part _ _ _ _ n k c.loop-count.room c.give_part-given.new.room _ c.loop-count.invariant.out c.handle_waiting-blocked.ensures c.give_part-given.ensures.out
+      out = one_part _ _ _ _ n k c.loop-count.room c.give_part-given.new.room _ c.loop-count.invariant.out c.handle_waiting-blocked.ensures.takes c.give_part-given.ensures.out
           c.give_part-given.ensures.before;
       behind = c.give_part-given.ensures.behind ∙ (sym (drop-drop k n c.loop-count.room) ∙ (ap (drop k) c.loop-count.invariant.behind ∙ drop-drop k n c.args.room.now));
       few = omega (arith, few, len);

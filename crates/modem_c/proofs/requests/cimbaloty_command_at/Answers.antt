@@ -1,11 +1,12 @@
 -- The line has the text; a text for which there is no memory changes nothing.
 use Rattle.std.proofs.Common.{rules, ℕ, ap, sym, subst, ◌∙◌}
-use Rattle.std.specs.Prelude.{Some}
+use Rattle.std.specs.Prelude.{Option, Some}
 use Rattle.at_text.specs.Commands.{refusal_of}
 use Rattle.mux_frame.specs.declared.dlci.Dlci.{Dlci}
 use Rattle.modem_desk.specs.declared.request.Ask.{Ask}
 use Rattle.modem_desk.specs.declared.request.Ask.TheVariants.{Command}
-use Rattle.modem_c.specs.Calls.{NumbersAt, endpoint_of}
+use Rattle.modem_driver.specs.Endpoints.{EndpointState, Refuses}
+use Rattle.modem_c.specs.Calls.{HoldsSome, NumbersAt, endpoint_of}
 use Rattle.modem_c.proofs.TakenRequests.{answered, goes_by, line_is, stays_refused}
 use Rattle.modem_c.proofs.requests.cimbaloty_command_at.Goals as goal
 
@@ -14,6 +15,11 @@ command-asked-requires c = line_is (refusal_of c.args.text.now) c.new-2.result c
 
 pub returns-in-Err-clause-refused : goal.returns-in-Err-clause-refused
 returns-in-Err-clause-refused c = λ _. stays_refused (endpoint_of c.args.c.now) (search rules)
+
+pub returns-in-Err-NoMemory-clause-refused : goal.returns-in-Err-NoMemory-clause-refused
+returns-in-Err-NoMemory-clause-refused c _ =
+    let was = endpoint_of c.args.c.now in
+    subst (λ (o : Option EndpointState). HoldsSome was (λ (e : EndpointState). HoldsSome o (Refuses e))) (sym c.without_text.ensures.stays) (stays_refused was (search rules))
 
 pub returns-clause-takes : goal.returns-clause-takes
 returns-clause-takes c ok =
