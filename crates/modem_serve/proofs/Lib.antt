@@ -1,9 +1,9 @@
 pub mod Answering
 pub mod Ending
+pub mod FirstFrames
 pub mod Feeding
 pub mod Leaving
 pub mod Muxes
-pub mod Pieces
 pub mod Served
 pub mod Stepping
 pub mod Watched

@@ -19,8 +19,9 @@ use Rattle.modem_sim.specs.Turns.{Exchange, GoesTurn, IsIdle, Means, TurnFrom, a
 use Rattle.modem_sim.proofs.ends.OfferedPieces.{later_then}
 use Rattle.modem_sim.proofs.sims.SimPasts as pasts
 use Rattle.modem_serve.specs.HeldLine.{HeldState, at_first, held_side, sent_by, sight_held}
-use Rattle.modem_serve.specs.InMux.{ClosesDown, Rests, is_closed, is_closed_by, is_closed_down}
-use Rattle.modem_serve.specs.Muxes.{ComesToRest, FedTo, FitsHeld, FitsMux, IsFed, RestsFrom}
+use Rattle.modem_serve.specs.InMux.{is_closed_by}
+use Rattle.modem_serve.specs.Muxes.{ComesToRest, FedTo, FitsHeld, FitsMux, IsDown, IsFed, Rests, RestsFrom, is_down}
+use Rattle.modem_serve.specs.Muxes as muxes
 
 -- ## Turns
 
@@ -163,7 +164,7 @@ rests_here e came went piece past a b fits side rest =
 record ClosesHere (e : End) (came went : List ℕ) (past : List Act) (s : SimState HeldState) : Type 0 where
   now : List Act
   later : IsLater past now
-  closes : ClosesDown e came went now
+  closes : IsDown e came went now
   modem_is : modem_of s ≡ modem_after e now
 
 closes_here : (e : End) (came went piece : List ℕ) (past : List Act) (a b : SimState HeldState) → FitsMux e came went a past → SimGoes (λ (l : HeldState). l.received) sent_by (handed_in a piece) b → held_side b.line ≡ held_side (handed_in a piece).line → has_ended b ≡ true → ClosesHere e (came ++ piece) (went ++ b.line.going) past b
@@ -213,7 +214,7 @@ fed_at e came went piece past a b was up false over fits was_is up_is goes side 
           handed = refl;
         };
       };
-      is_over = λ ends. record { ended = is_closed here.rests (closed ∙ ends); modem_is = here.modem_is };
+      is_over = λ ends. record { ended = muxes.at_rest here.rests (closed ∙ ends); modem_is = here.modem_is };
     }
   where
     same_taken : (s : SimState HeldState) (octets : List ℕ) → (handed_in s octets).line.taken ≡ s.line.taken
@@ -224,7 +225,7 @@ fed_at e came went piece past a b was up true over fits was_is up_is goes side r
       now = here.now;
       later = here.later;
       goes_on = λ on. absurd (let bad : true ≡ false = sym over_is ∙ on in cc);
-      is_over = λ ends. record { ended = is_closed_down here.closes; modem_is = here.modem_is };
+      is_over = λ ends. record { ended = is_down here.closes; modem_is = here.modem_is };
     }
 
 -- a piece is handed in, the modem turns, and what is to go is handed out

@@ -9,7 +9,9 @@ use Rattle.modem_sim.specs.declared.state.ModemState.{ModemState}
 use Rattle.modem_serve.specs.declared.server.Mode.{Mode}
 use Rattle.modem_serve.specs.declared.server.Mode.TheVariants.{Lines, Mux}
 use Rattle.modem_serve.specs.Plain.{plain_begun}
-use Rattle.modem_serve.specs.Serving.{Answers, IsAnswered, Setting, WritesAnswers, at_first, at_lines, in_mux}
+use Rattle.modem_serve.specs.InMux.{mux_end}
+use Rattle.modem_serve.specs.Serving as stage
+use Rattle.modem_serve.specs.Serving.{Answers, AnswersFrom, IsAnswered, Setting, WritesAnswers, plain_by_now}
 use Rattle.modem_serve.specs.Standing.{AtLines, IsAtLines, ServedSoFar, ServedWhole, Stands, StepsBy, setting_by, unsaid, with_said}
 use Rattle.modem_serve.specs.declared.server.Setup.{Setup}
 
@@ -98,13 +100,21 @@ served_end Holds s a b c x y now so_far read end = record {
   };
 }
 
+answered_all : (s : Setting) (came went : List ℕ) → AnswersFrom s (stage.Lines s.modem) (came ++ []) (went ++ []) → Answers s came went
+answered_all s came went answers =
+    subst (λ (l : List ℕ). AnswersFrom s (stage.Lines s.modem) l went) (append-nil came) (subst (λ (l : List ℕ). AnswersFrom s (stage.Lines s.modem) (came ++ []) l) (append-nil went) answers)
+
+-- what it came to, where all octets are taken
 pub answers_by : (s : Setting) (came went : List ℕ) (mode : Mode) → Stands s came went mode → Answers s came went
 answers_by s came went (Lines p) at =
-    subst (λ (l : List ℕ). Answers s l went) (sym at.came_is) (subst (λ (l : List ℕ). Answers s (at.came_before ++ at.lines) l) (sym at.went_is)
-    (at_lines at.came_before at.went_before at.modem at.lines at.begins at.none))
-answers_by s came went (Mux sim) at =
-    subst (λ (l : List ℕ). Answers s l went) (sym at.came_is) (subst (λ (l : List ℕ). Answers s (at.came_before ++ (at.lines ++ at.in_mux)) l) (sym at.went_is)
-    (in_mux at.came_before at.went_before at.modem at.lines at.in_mux at.from_mux at.n1 at.now at.begins at.enters at.is_in))
+    answered_all s came went
+    (at.leads [] [] (subst (λ (l : List ℕ). AnswersFrom s (stage.Lines at.modem) (at.lines ++ []) l) (sym (append-nil (plain_by_now s at.modem at.lines).said))
+    (subst (λ (l : List ℕ). AnswersFrom s (stage.Lines at.modem) l (plain_by_now s at.modem at.lines).said) (sym (append-nil at.lines))
+    (stage.at_lines at.modem at.lines at.none))))
+answers_by s came went (Mux mux) at =
+    answered_all s came went
+    (at.leads [] [] (subst (λ (l : List ℕ). AnswersFrom s (stage.Mux (mux_end mux.n1 at.modem s.steps) at.past) l []) (sym (append-nil mux.kept))
+    (stage.no_frame (mux_end mux.n1 at.modem s.steps) at.past mux.kept mux.kept at.kept)))
 
 whole_by : (s : Setting) (all : List ℕ) (rest x y : Option (List ℕ)) (mode : Mode) → ServedSoFar Stands s (Some all) rest x y mode → IsAtEnd rest → WritesAnswers s x y all
 whole_by s all None x y mode so_far end = absurd so_far.read
@@ -116,18 +126,16 @@ whole_by s all (Some rest) x y mode so_far end =
       written = so_far.written;
     }
 
-pub begun_at : (s : Setting) (p : Plain) → p ≡ plain_begun s.n1 s.modem → AtLines s [] [] p
-begun_at s p is = record {
-  came_before = [];
-  went_before = [];
-  modem = s.modem;
-  lines = [];
-  begins = at_first;
-  none = ap (λ (q : Plain). q.entered) (after_none (plain_begun s.n1 s.modem));
-  plain_is = is ∙ ap unsaid (sym (after_none (plain_begun s.n1 s.modem)));
-  came_is = refl;
-  went_is = sym (ap (λ (q : Plain). q.said) (after_none (plain_begun s.n1 s.modem)));
-}
+pub begun_at : (s : Setting) (p : Plain) → p ≡ plain_begun s.n1 s.modem → AtLines s [] [] p []
+begun_at s p is =
+    let none = after_none (plain_begun s.n1 s.modem) in
+    record {
+      modem = s.modem;
+      lines = [];
+      none = ap (λ (q : Plain). q.entered) none;
+      plain_is = is ∙ ap unsaid (sym none);
+      leads = λ later more answers. subst (λ (l : List ℕ). AnswersFrom s (stage.Lines s.modem) later l) (ap (λ (q : Plain). q.said ++ more) none) answers;
+    }
 
 answered : (s : Setting) (input x y : Option (List ℕ)) → ServedWhole Stands s input x y → IsAnswered s input x y
 answered s None x y whole = tt

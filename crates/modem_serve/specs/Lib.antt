@@ -1,6 +1,9 @@
+pub mod FirstFrame
+pub mod FrontFrames
 pub mod HeldLine
 pub mod InMux
 pub mod Leaving
+pub mod MuxStates
 pub mod Muxes
 pub mod Plain
 pub mod Requests

@@ -3,11 +3,35 @@ use Rattle.std.specs.Prelude.{◌≡◌, ℕ, Bool, true, false, List, [], ◌++
 use Rattle.modem_sim.specs.Acts.{Act, End}
 use Rattle.modem_sim.specs.Cores.{IsLater}
 use Rattle.modem_sim.specs.Heard.{modem_after}
-use Rattle.modem_sim.specs.Histories.{IsThrough, AllIsOut}
-use Rattle.modem_sim.specs.Sims.{FitsSim, SimState, modem_of}
+use Rattle.modem_sim.specs.Histories.{SimLawful, SimComplete, FitsOctets, IsThrough, AllIsOut}
+use Rattle.modem_sim.specs.Sims.{FitsSim, IsOver, SimState, modem_of}
 use Rattle.modem_sim.specs.Turns.{NoneCanBeDone}
 use Rattle.modem_serve.specs.HeldLine.{HeldState, at_first, sent_by}
-use Rattle.modem_serve.specs.InMux.{Rests, IsEndedBy, is_closed_by}
+use Rattle.modem_serve.specs.InMux.{is_closed_by}
+
+-- At rest: each frame that is called for was sent, and no other; every frame that the octets are read as has come; on each open
+-- connection that is neither stopped nor held, all that is said has gone out; and all frames sent are written.
+pub record Rests (e : End) (came went : List ℕ) (now : List Act) : Type 0 where
+  pub lawful : SimLawful e now
+  pub complete : SimComplete e now
+  pub through : IsThrough e.n1 came went now
+  pub all_out : AllIsOut e now
+  pub steps : NoneCanBeDone e now
+
+-- Closed down by a CLD: each frame that is called for was sent, and no other, and all are written. Behind the CLD nothing is read.
+pub record IsDown (e : End) (came went : List ℕ) (now : List Act) : Type 0 where
+  pub lawful : SimLawful e now
+  pub complete : SimComplete e now
+  pub taken : List ℕ
+  pub unread : List ℕ
+  pub came_is : came ≡ taken ++ unread
+  pub octets : FitsOctets e.n1 taken went now
+  pub over : IsOver went now
+
+-- octets that were handed to it end the multiplexer
+pub data IsEndedBy (e : End) (past : List Act) (came went : List ℕ) (now : List Act) : Type 0 where
+  at_rest : Rests e came went now → is_closed_by past now ≡ true → IsEndedBy e past came went now
+  is_down : IsDown e came went now → IsEndedBy e past came went now
 
 -- it fits a past since its line was new
 abbrev pub FitsHeld : End → SimState HeldState → List Act → Type 0

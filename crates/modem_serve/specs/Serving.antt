@@ -1,15 +1,19 @@
 -- What a modem for a client answers, over a reader and a writer: plain lines and multiplexers in turn.
-use Rattle.std.specs.Prelude.{◌≡◌, ℕ, ◌<◌, ◌≤◌, ◌⊎◌, not, Bool, true, false, List, [], ◌++◌, Option, Some, None, IfSome}
+use Rattle.std.specs.Prelude.{◌≡◌, ℕ, ◌<◌, ◌≤◌, ◌⊎◌, not, Bool, true, false, List, [], ◌∷◌, ◌++◌, Option, Some, None, IfSome}
 use Rattle.std.specs.Io.KnownBytes.{Appends}
 use Rattle.at_cmds.specs.Forms.{is_pin}
 use Rattle.modem_sim.specs.declared.script.Step.{Step}
 use Rattle.modem_sim.specs.declared.state.ModemState.{ModemState}
-use Rattle.modem_sim.specs.Acts.{Act}
+use Rattle.mux_frame.specs.Frames.{Frame}
+use Rattle.mux_frame.specs.Reading.{Reads}
+use Rattle.mux_frame.specs.Spelling.{flag}
+use Rattle.modem_sim.specs.Acts.{Act, End}
 use Rattle.modem_sim.specs.Heard.{modem_after}
 use Rattle.modem_sim.specs.Steps.{started_with_words}
 use Rattle.modem_serve.specs.declared.fault.BadOption.{BadOption}
 use Rattle.modem_serve.specs.declared.serving.SimOptions.{SimOptions}
-use Rattle.modem_serve.specs.InMux.{EndsMux, InMux, mux_end}
+use Rattle.modem_serve.specs.FirstFrame.{ReadsFirst}
+use Rattle.modem_serve.specs.InMux.{Closes, Handles, is_closed_by, mux_end}
 use Rattle.modem_serve.specs.Plain.{Plain, plain_after, plain_begun}
 
 -- the setting of a client: N1 where a line doesn't name it, what its modem does of its own accord in each multiplexer, and the
@@ -28,28 +32,36 @@ pub record EntersAfter (s : Setting) (m : ModemState) (octets : List ℕ) (n1 : 
   pub entered : (plain_by_now s m octets).entered ≡ Some n1
   pub none_behind : (plain_by_now s m octets).behind ≡ []
 
--- Plain lines begin with this modem, before any octet or behind the piece that ends a multiplexer. These octets came before, and these
--- went.
-pub data Begins (s : Setting) : (came went : List ℕ) → ModemState → Type 0 where
-  at_first : Begins s [] [] s.modem
-  again :
-      (came went : List ℕ) (m : ModemState) (lines in_mux from_mux : List ℕ) (n1 : ℕ) (now : List Act)
-      → Begins s came went m → EntersAfter s m lines n1
-      → EndsMux (mux_end n1 (plain_by_now s m lines).modem s.steps) in_mux from_mux now
-      → Begins s (came ++ (lines ++ in_mux)) (went ++ ((plain_by_now s m lines).said ++ from_mux))
-      (modem_after (mux_end n1 (plain_by_now s m lines).modem s.steps) now)
+-- where a modem for a client is: plain lines begin with this modem; or it is in a multiplexer, and has this past there
+pub data Stage : Type 0 where
+  Lines : ModemState → Stage
+  Mux : End → List Act → Stage
 
--- All octets that came were answered by all that went: they end at plain lines, or in a multiplexer.
-pub data Answers (s : Setting) : (came went : List ℕ) → Type 0 where
+-- What goes to octets that come from there on. Plain lines are answered, up to one that enters the multiplexer. There frame after frame
+-- is handled; the closing flag of one can be the first of the next. What follows the closing flag of a frame that ends the multiplexer
+-- are plain lines again, on the modem as it is then.
+pub data AnswersFrom (s : Setting) : (at : Stage) (came went : List ℕ) → Type 0 where
   at_lines :
-      (came went : List ℕ) (m : ModemState) (lines : List ℕ) → Begins s came went m
-      → (plain_by_now s m lines).entered ≡ None
-      → Answers s (came ++ lines) (went ++ (plain_by_now s m lines).said)
-  in_mux :
-      (came went : List ℕ) (m : ModemState) (lines in_mux from_mux : List ℕ) (n1 : ℕ) (now : List Act)
-      → Begins s came went m → EntersAfter s m lines n1
-      → InMux (mux_end n1 (plain_by_now s m lines).modem s.steps) in_mux from_mux now
-      → Answers s (came ++ (lines ++ in_mux)) (went ++ ((plain_by_now s m lines).said ++ from_mux))
+      (m : ModemState) (lines : List ℕ) → (plain_by_now s m lines).entered ≡ None
+      → AnswersFrom s (Lines m) lines (plain_by_now s m lines).said
+  enters :
+      (m : ModemState) (lines came went : List ℕ) (n1 : ℕ) → EntersAfter s m lines n1
+      → AnswersFrom s (Mux (mux_end n1 (plain_by_now s m lines).modem s.steps) []) came went
+      → AnswersFrom s (Lines m) (lines ++ came) ((plain_by_now s m lines).said ++ went)
+  no_frame :
+      (e : End) (past : List Act) (came rest : List ℕ) → Reads e.n1 came [] rest → AnswersFrom s (Mux e past) came []
+  goes_on :
+      (e : End) (past : List Act) (came behind more went : List ℕ) (f : Frame) (now : List Act)
+      → ReadsFirst e.n1 came f behind → Handles e past f more now → is_closed_by past now ≡ false
+      → AnswersFrom s (Mux e now) (flag ∷ behind) went → AnswersFrom s (Mux e past) came (more ++ went)
+  closes :
+      (e : End) (past : List Act) (came behind more went : List ℕ) (f : Frame) (now : List Act)
+      → ReadsFirst e.n1 came f behind → Closes e past f more now
+      → AnswersFrom s (Lines (modem_after e now)) behind went → AnswersFrom s (Mux e past) came (more ++ went)
+
+-- all octets that came were answered by all that went
+abbrev pub Answers : Setting → (came went : List ℕ) → Type 0
+Answers s came went = AnswersFrom s (Lines s.modem) came went
 
 -- what answers all octets that a reader had was written, and nothing else
 pub record WritesAnswers (s : Setting) (before after : Option (List ℕ)) (all : List ℕ) : Type 0 where

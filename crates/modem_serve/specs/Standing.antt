@@ -1,17 +1,24 @@
 -- How a modem for a client stands after octets that came.
-use Rattle.std.specs.Prelude.{◌≡◌, ℕ, List, [], ◌++◌, Option, Some, None}
+use Rattle.std.specs.Prelude.{◌≡◌, ℕ, ◌+◌, ◌*◌, min, true, false, List, [], ◌∷◌, ◌++◌, length, Option, Some, None}
 use Rattle.std.specs.Io.KnownBytes.{Appends, Consumes, IsAtEnd}
+use Rattle.mux_frame.specs.Frames.{Frame}
+use Rattle.mux_frame.specs.Laws.{AreOctets}
+use Rattle.mux_frame.specs.Reading.{Reads}
+use Rattle.mux_frame.specs.Spelling.{flag, Spells}
 use Rattle.modem_sim.specs.declared.state.ModemState.{ModemState}
 use Rattle.modem_sim.specs.Acts.{Act}
-use Rattle.modem_sim.specs.Sims.{SimState}
+use Rattle.modem_sim.specs.Histories.{got}
+use Rattle.modem_sim.specs.Sims.{SimState, modem_of}
 use Rattle.modem_serve.specs.declared.server.Mode.{Mode}
 use Rattle.modem_serve.specs.declared.server.Mode.TheVariants.{Lines, Mux}
 use Rattle.modem_serve.specs.declared.server.Setup.{Setup}
 use Rattle.modem_serve.specs.HeldLine.{HeldState}
-use Rattle.modem_serve.specs.InMux.{InMux, mux_end}
-use Rattle.modem_serve.specs.Muxes.{FitsMux}
+use Rattle.modem_serve.specs.InMux.{mux_end, octets_sent}
+use Rattle.modem_serve.specs.MuxStates.{MuxState}
+use Rattle.modem_serve.specs.Muxes.{FitsMux, IsFed}
 use Rattle.modem_serve.specs.Plain.{Plain, plain_begun}
-use Rattle.modem_serve.specs.Serving.{Begins, EntersAfter, Setting, plain_by_now}
+use Rattle.modem_serve.specs.Serving.{AnswersFrom, Setting, plain_by_now}
+use Rattle.modem_serve.specs.Serving as stage
 
 -- all that was said is handed out
 abbrev pub unsaid : Plain → Plain
@@ -21,38 +28,46 @@ unsaid p = record p { said = [] }
 abbrev pub with_said : List ℕ → Plain → Plain
 with_said said p = record p { said = said ++ p.said }
 
--- at plain lines
-pub record AtLines (s : Setting) (came went : List ℕ) (p : Plain) : Type 0 where
-  pub came_before : List ℕ
-  pub went_before : List ℕ
+-- At plain lines. These octets came, of which those of `left` aren't taken yet, and these went. With what goes to the octets left and to
+-- more that comes, all that comes is answered.
+pub record AtLines (s : Setting) (came went : List ℕ) (p : Plain) (left : List ℕ) : Type 0 where
   pub modem : ModemState
   pub lines : List ℕ
-  pub begins : Begins s came_before went_before modem
   pub none : (plain_by_now s modem lines).entered ≡ None
   pub plain_is : p ≡ unsaid (plain_by_now s modem lines)
-  pub came_is : came ≡ came_before ++ lines
-  pub went_is : went ≡ went_before ++ (plain_by_now s modem lines).said
+  pub leads :
+      (later more : List ℕ)
+      → AnswersFrom s (stage.Lines modem) (lines ++ (left ++ later)) ((plain_by_now s modem lines).said ++ more)
+      → AnswersFrom s (stage.Lines s.modem) (came ++ later) (went ++ more)
 
--- in a multiplexer
-pub record AtMux (s : Setting) (came went : List ℕ) (sim : SimState HeldState) : Type 0 where
-  pub came_before : List ℕ
-  pub went_before : List ℕ
+-- In a multiplexer, the same. `handed` are the texts of the frames that came.
+pub record AtMux (s : Setting) (came went : List ℕ) (mux : MuxState) (left : List ℕ) : Type 0 where
   pub modem : ModemState
-  pub lines : List ℕ
-  pub in_mux : List ℕ
-  pub from_mux : List ℕ
-  pub n1 : ℕ
-  pub now : List Act
-  pub begins : Begins s came_before went_before modem
-  pub enters : EntersAfter s modem lines n1
-  pub is_in : InMux (mux_end n1 (plain_by_now s modem lines).modem s.steps) in_mux from_mux now
-  pub fits : FitsMux (mux_end n1 (plain_by_now s modem lines).modem s.steps) in_mux from_mux sim now
-  pub came_is : came ≡ came_before ++ (lines ++ in_mux)
-  pub went_is : went ≡ went_before ++ ((plain_by_now s modem lines).said ++ from_mux)
+  pub past : List Act
+  pub handed : List ℕ
+  pub fits : FitsMux (mux_end mux.n1 modem s.steps) handed (octets_sent past) mux.sim past
+  pub octets_are : AreOctets handed
+  pub next :
+      (b : List ℕ) (f : Frame) → Spells mux.n1 b f
+      → Reads mux.n1 (handed ++ (flag ∷ b ++ flag ∷ [])) (got past ++ f ∷ []) (flag ∷ [])
+  pub kept : Reads mux.n1 mux.kept [] mux.kept
+  pub leads :
+      (later more : List ℕ) → AnswersFrom s (stage.Mux (mux_end mux.n1 modem s.steps) past) (mux.kept ++ (left ++ later)) more
+      → AnswersFrom s (stage.Lines s.modem) (came ++ later) (went ++ more)
 
+abbrev pub StandsBefore : Setting → (came went : List ℕ) → Mode → (left : List ℕ) → Type 0
+StandsBefore s came went (Lines p) left = AtLines s came went p left
+StandsBefore s came went (Mux mux) left = AtMux s came went mux left
+
+-- all octets that came are taken
 abbrev pub Stands : Setting → (came went : List ℕ) → Mode → Type 0
-Stands s came went (Lines p) = AtLines s came went p
-Stands s came went (Mux sim) = AtMux s came went sim
+Stands s came went mode = StandsBefore s came went mode []
+
+-- of octets that aren't taken yet some are, and more goes
+pub record StepsOn (s : Setting) (old new : Mode) (octets left out_before out : List ℕ) : Type 0 where
+  pub more : List ℕ
+  pub written : out ≡ out_before ++ more
+  pub stands : (came went : List ℕ) → StandsBefore s came went old octets → StandsBefore s came (went ++ more) new left
 
 -- it takes octets, and more goes
 pub record StepsBy {X : Type 0} (Holds : Setting → (came went : List ℕ) → X → Type 0) (s : Setting) (old new : X) (octets out_before out : List ℕ) : Type 0 where
@@ -60,25 +75,37 @@ pub record StepsBy {X : Type 0} (Holds : Setting → (came went : List ℕ) → 
   pub written : out ≡ out_before ++ more
   pub stands : (came went : List ℕ) → Holds s came went old → Holds s (came ++ octets) (went ++ more) new
 
-abbrev pub StepsOn : Setting → (old new : Mode) → (octets out_before out : List ℕ) → Type 0
-StepsOn s old new octets before out = StepsBy Stands s old new octets before out
-
 -- the setting of a modem that was handed in so
 abbrev pub setting_by : Setup → ModemState → Setting
 setting_by setup m = record { n1 = setup.n1.octets; steps = setup.steps; modem = m }
 
--- how often no octet is taken before the next: once where a line has entered the multiplexer, which begins then
+-- what is kept of octets, and a line that has entered the multiplexer, which begins with the next step
 abbrev pub once_entered : Option ℕ → ℕ
 once_entered None = 0
 once_entered (Some n1) = 1
 
-abbrev pub turns_due : Mode → ℕ
-turns_due (Lines p) = once_entered p.entered
-turns_due (Mux sim) = 0
+abbrev pub held : Mode → ℕ
+held (Lines p) = once_entered p.entered
+held (Mux mux) = length mux.kept
+
+-- it falls with each step: of what is left and kept, what is left counts a little more
+abbrev pub weight : Mode → ℕ → ℕ
+weight mode left = 2 * (held mode + left) + min left 1
 
 -- the multiplexer begins
 pub data IsEntered (setup : Setup) (m : ModemState) (n1 : ℕ) : Mode → Type 0 where
-  enters : (sim : SimState HeldState) → FitsMux (mux_end n1 m setup.steps) [] [] sim [] → IsEntered setup m n1 (Mux sim)
+  enters :
+      (sim : SimState HeldState) → FitsMux (mux_end n1 m setup.steps) [] [] sim []
+      → IsEntered setup m n1 (Mux (record { sim = sim; n1 = n1; kept = [] }))
+
+-- the text of a frame was handed to it, and the multiplexer goes on, or has ended
+pub data HandlesText (setup : Setup) (sim : SimState HeldState) (n1 : ℕ) (text : List ℕ) : Mode → (before out : List ℕ) → Type 0 where
+  in_mux :
+      (new : SimState HeldState) (before out : List ℕ) → IsFed sim new text before out false
+      → HandlesText setup sim n1 text (Mux (record { sim = new; n1 = n1; kept = flag ∷ [] })) before out
+  at_lines :
+      (new : SimState HeldState) (before out : List ℕ) → IsFed sim new text before out true
+      → HandlesText setup sim n1 text (Lines (plain_begun setup.n1.octets (modem_of new))) before out
 
 -- so far
 pub record ServedSoFar {X : Type 0} (Holds : Setting → (came went : List ℕ) → X → Type 0) (s : Setting) (input rest before after : Option (List ℕ)) (now : X) : Type 0 where

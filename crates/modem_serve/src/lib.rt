@@ -3,6 +3,7 @@
 #![tactic(auto)]
 
 mod fault;
+mod first_frame;
 mod held_line;
 mod history;
 mod mux;

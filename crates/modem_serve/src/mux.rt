@@ -1,10 +1,9 @@
 //! A simulated modem in the multiplexer, whose octets are handed in and out.
-ghost use Rattle.std.specs.Prelude.{◌≡◌, ◌<◌, ◌==◌, ◌&&◌, ◌||◌, [], not, true, false, length, take, IfErr, IfOk, List};
-ghost use Rattle.std.specs.List.{position};
+ghost use Rattle.std.specs.Prelude.{◌≡◌, ◌&&◌, ◌||◌, [], not, true, false, IfErr, IfOk, List};
 ghost use Rattle.modem_sim.specs.Acts.{Act, End, is_open_at_modem};
 ghost use Rattle.modem_sim.specs.Sims.{SimGoes, has_ended};
 ghost use Rattle.modem_serve.specs.HeldLine.{at_first, held_side, sent_by};
-ghost use Rattle.modem_serve.specs.InMux.{is_piece, mux_end};
+ghost use Rattle.modem_serve.specs.InMux.{mux_end};
 ghost use Rattle.modem_serve.specs.Leaving.{IsOfModem};
 ghost use Rattle.modem_serve.specs.Muxes.{ComesToRest, FitsHeld, FitsMux, IsFed};
 
@@ -14,29 +13,6 @@ use modem_sim::{Modem, Script, Sim, SimTurn};
 use mux_frame::{Dlci, N1};
 use mux_station::ChannelState;
 use std::alloc::{AllocError, Global};
-
-/// A frame begins and ends with it (27.010, 5.2.6.1).
-const FLAG: u8 = 0xF9;
-
-/// Where the first flag stands.
-fn first_flag(octets: &[u8]) -> Option<usize>
-    ensures { result ≡ position (λ x. x == 0xf9) octets.now }
-{
-    octets.iter().position(|octet| *octet == FLAG)
-}
-
-/// The octets up to the first flag, or all where there is none.
-#[tactic(auto, using(crate::proofs::Pieces::piece_at, crate::proofs::Pieces::piece_without))]
-pub(crate) fn piece_of(octets: &[u8]) -> &[u8]
-    ensures front { result.now ≡ take (length result.now) octets.now }
-    ensures piece { is_piece result.now ≡ true }
-    ensures some { 0 < length octets.now → 0 < length result.now }
-{
-    match first_flag(octets) {
-        Some(place) => &octets[..place + 1],
-        None => octets,
-    }
-}
 
 /// A simulated modem to which nothing has happened yet, at a line in memory.
 pub(crate) fn begun(
@@ -122,7 +98,7 @@ fn is_over(ended: bool, was_up: bool, up: bool) -> bool
     ended || (was_up && !up)
 }
 
-/// Takes a piece, does all that can be done, and writes what is sent behind the octets in `out`. Says whether the multiplexer was
+/// Takes octets, does all that can be done, and writes what is sent behind the octets in `out`. Says whether the multiplexer was
 /// closed down: 0 was open and isn't any more, or a CLD was answered.
 pub(crate) fn feed(
     sim: &mut Sim<HeldLine>,

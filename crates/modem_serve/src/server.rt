@@ -1,19 +1,45 @@
 //! A modem for a client whose octets are handed in and out: at plain lines or in the multiplexer.
-ghost use Rattle.std.specs.Prelude.{◌≡◌, ◌≤◌, ◌<◌, ◌+◌, ℕ, List, take, length, IfErr, IfOk};
+ghost use Rattle.std.specs.Prelude.{◌≡◌, ◌<◌, ℕ, List, [], length, IfErr, IfOk};
 ghost use Rattle.modem_serve.specs.Serving.{Setting};
 ghost use Rattle.modem_sim.specs.declared.state.ModemState.{ModemState};
 ghost use Rattle.modem_serve.specs.Leaving.{IsOfModem};
-ghost use Rattle.modem_serve.specs.Standing.{IsEntered, Stands, StepsBy, StepsOn, setting_by, turns_due};
+ghost use Rattle.modem_serve.specs.Standing.{HandlesText, IsEntered, Stands, StepsBy, StepsOn, setting_by, weight};
 ghost use Rattle.modem_serve.specs.declared.server.Mode.TheVariants.{Lines, Mux};
 
 use crate::fault::ServeFault;
+use crate::first_frame::{Found, first_frame};
 use crate::held_line::HeldLine;
-use crate::mux::{begun, feed, piece_of};
+use crate::mux::{begun, feed};
 use crate::plain::PlainMode;
 use crate::steps::copied;
 use modem_sim::{Modem, Script, Sim, Steps};
 use mux_frame::N1;
 use std::alloc::{AllocError, Global};
+use std::marker::Model;
+
+/// A flag: a frame begins and ends with it (27.010, 5.2.6.1).
+const FLAG: u8 = 0xF9;
+
+/// In the multiplexer.
+#[derive(Drop)]
+pub(crate) struct Muxed {
+    sim: Sim<HeldLine>,
+    n1: N1,
+    /// The octets that can become a frame.
+    kept: Vec<u8>,
+}
+
+impl Model for Muxed {
+    ghost use Rattle.std.specs.Prelude.{[]};
+    ghost use Rattle.mux_frame.specs.Reading.{Reads};
+    ghost use Rattle.modem_serve.specs.MuxStates.{MuxState};
+
+    ghost Value = { MuxState };
+
+    ghost view = { λ m. record { sim = m.sim; n1 = m.n1.octets; kept = m.kept.items } };
+
+    ghost invariant = { λ m. Reads m.n1.octets m.kept.items [] m.kept.items };
+}
 
 /// How it stands.
 #[derive(Drop)]
@@ -21,7 +47,7 @@ pub(crate) enum Mode {
     /// At plain command lines.
     Lines(PlainMode),
     /// In the multiplexer.
-    Mux(Sim<HeldLine>),
+    Mux(Muxed),
 }
 
 /// What answers octets.
@@ -54,67 +80,102 @@ fn enter(setup: &Setup, modem: Modem, n1: N1) -> Result<Mode, AllocError>
         echo: false,
         steps: copied(setup.alloc, &setup.steps)?,
     };
-    Ok(Mode::Mux(begun(setup.alloc, modem, script, n1)?))
+    Ok(Mode::Mux(Muxed {
+        sim: begun(setup.alloc, modem, script, n1)?,
+        n1,
+        kept: Vec::new(setup.alloc),
+    }))
 }
 
-/// Takes octets at plain lines, to the end of a line that enters the multiplexer at most; says how many.
+/// Takes octets at plain lines, to the end of a line that enters the multiplexer at most, and gives those behind it.
 fn take_lines(
     setup: &Setup,
     plain: PlainMode,
     octets: &[u8],
     out: &mut Vec<u8>,
-) -> Result<(Mode, usize), AllocError>
-    ensures bound { IfOk result (λ r. r.1 ≤ length octets.now) }
-    ensures some { IfOk result (λ r. 0 < length octets.now → turns_due r.0 < turns_due (Lines plain) + r.1) }
-    ensures steps { IfOk result (λ r. (m : ModemState) → StepsOn (setting_by setup.now m) (Lines plain) r.0 (take r.1 octets.now) out.old.items out.new.items) }
+) -> Result<(Mode, Vec<u8>), AllocError>
+    ensures fewer { IfOk result (λ r. 0 < length octets.now → weight r.0 (length r.1.items) < weight (Lines plain) (length octets.now)) }
+    ensures steps { IfOk result (λ r. (m : ModemState) → StepsOn (setting_by setup.now m) (Lines plain) r.0 octets.now r.1.items out.old.items out.new.items) }
 {
     let mut lines = plain;
     let count = lines.feed(octets)?;
     out.extend_from_slice(lines.said())?;
     lines.clear_said();
+    let behind = Vec::from_slice(setup.alloc, &octets[count..])?;
     match lines.entered() {
-        Some(n1) => Ok((enter(setup, lines.finish(), n1)?, count)),
-        None => Ok((Mode::Lines(lines), count)),
+        Some(n1) => Ok((enter(setup, lines.finish(), n1)?, behind)),
+        None => Ok((Mode::Lines(lines), behind)),
     }
 }
 
-/// Takes a piece in the multiplexer; says how many octets it has.
-fn take_piece(
+/// Handles a frame, and says how it stands behind that: the frame's closing flag can be the next one's first (27.010, 5.2.6.1), or
+/// plain lines begin.
+fn handle(
     setup: &Setup,
     sim: Sim<HeldLine>,
-    octets: &[u8],
+    n1: N1,
+    frame: &[u8],
     out: &mut Vec<u8>,
-) -> Result<(Mode, usize), ServeFault>
-    ensures bound { IfOk result (λ r. r.1 ≤ length octets.now) }
-    ensures some { IfOk result (λ r. 0 < length octets.now → turns_due r.0 < r.1) }
+) -> Result<Mode, ServeFault>
     ensures fault { IfErr result IsOfModem }
-    ensures steps { IfOk result (λ r. (m : ModemState) → StepsOn (setting_by setup.now m) (Mux sim) r.0 (take r.1 octets.now) out.old.items out.new.items) }
+    ensures handles { IfOk result (λ mode. HandlesText setup.now sim n1.octets frame.now mode out.old.items out.new.items) }
 {
     let mut mux = sim;
-    let piece = piece_of(octets);
-    if !feed(&mut mux, piece, out)? {
-        return Ok((Mode::Mux(mux), piece.len()));
+    if feed(&mut mux, frame, out)? {
+        let (_line, modem) = mux.finish();
+        return Ok(Mode::Lines(PlainMode::new(setup.alloc, setup.n1, modem)));
     }
-    let (_line, modem) = mux.finish();
-    let lines = PlainMode::new(setup.alloc, setup.n1, modem);
-    Ok((Mode::Lines(lines), piece.len()))
+    Ok(Mode::Mux(Muxed {
+        sim: mux,
+        n1,
+        kept: Vec::from_slice(setup.alloc, &[FLAG])?,
+    }))
 }
 
-/// Takes octets from the front; says how many.
+/// Takes octets in the multiplexer, to the end of the first frame at most, and gives those behind it.
+fn take_frame(
+    setup: &Setup,
+    mux: Muxed,
+    octets: &[u8],
+    out: &mut Vec<u8>,
+) -> Result<(Mode, Vec<u8>), ServeFault>
+    ensures fewer { IfOk result (λ r. 0 < length octets.now → weight r.0 (length r.1.items) < weight (Mux mux) (length octets.now)) }
+    ensures fault { IfErr result IsOfModem }
+    ensures steps { IfOk result (λ r. (m : ModemState) → StepsOn (setting_by setup.now m) (Mux mux) r.0 octets.now r.1.items out.old.items out.new.items) }
+{
+    let Muxed {
+        sim,
+        n1,
+        kept: mut text,
+    } = mux;
+    let seen = text.len();
+    text.extend_from_slice(octets)?;
+    match first_frame(setup.alloc, n1.octets, text.as_slice(), seen)? {
+        Found::None(rest) => {
+            let kept = Vec::from_slice(setup.alloc, rest)?;
+            Ok((Mode::Mux(Muxed { sim, n1, kept }), Vec::new(setup.alloc)))
+        }
+        Found::Frame(frame, behind) => {
+            let behind = Vec::from_slice(setup.alloc, behind)?;
+            Ok((handle(setup, sim, n1, frame, out)?, behind))
+        }
+    }
+}
+
+/// Takes octets from the front, and gives those that are to be taken next: those behind, or behind a frame that was whole only now.
 fn step(
     setup: &Setup,
     mode: Mode,
     octets: &[u8],
     out: &mut Vec<u8>,
-) -> Result<(Mode, usize), ServeFault>
-    ensures bound { IfOk result (λ r. r.1 ≤ length octets.now) }
-    ensures some { IfOk result (λ r. 0 < length octets.now → turns_due r.0 < turns_due mode + r.1) }
+) -> Result<(Mode, Vec<u8>), ServeFault>
+    ensures fewer { IfOk result (λ r. 0 < length octets.now → weight r.0 (length r.1.items) < weight mode (length octets.now)) }
     ensures fault { IfErr result IsOfModem }
-    ensures steps { IfOk result (λ r. (m : ModemState) → StepsOn (setting_by setup.now m) mode r.0 (take r.1 octets.now) out.old.items out.new.items) }
+    ensures steps { IfOk result (λ r. (m : ModemState) → StepsOn (setting_by setup.now m) mode r.0 octets.now r.1.items out.old.items out.new.items) }
 {
     match mode {
         Mode::Lines(plain) => Ok(take_lines(setup, plain, octets, out)?),
-        Mode::Mux(sim) => take_piece(setup, sim, octets, out),
+        Mode::Mux(mux) => take_frame(setup, mux, octets, out),
     }
 }
 
@@ -125,15 +186,15 @@ fn take_each(
     octets: &[u8],
     out: &mut Vec<u8>,
 ) -> Result<Mode, ServeFault>
-    ensures steps { IfOk result (λ new. (m : ModemState) → StepsOn (setting_by setup.now m) mode new octets.now out.old.items out.new.items) }
+    ensures steps { IfOk result (λ new. (m : ModemState) → StepsOn (setting_by setup.now m) mode new octets.now [] out.old.items out.new.items) }
     ensures fault { IfErr result IsOfModem }
 {
     let mut now = mode;
-    let mut rest = octets;
+    let mut rest = Vec::from_slice(setup.alloc, octets)?;
     while !rest.is_empty() {
-        let (next, count) = step(setup, now, rest, out)?;
+        let (next, behind) = step(setup, now, rest.as_slice(), out)?;
         now = next;
-        rest = &rest[count..];
+        rest = behind;
     }
     Ok(now)
 }

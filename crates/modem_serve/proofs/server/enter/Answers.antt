@@ -1,11 +1,9 @@
-use Rattle.std.proofs.Common.{List, [], refl, subst}
-use Rattle.modem_sim.specs.declared.script.Step.{Step}
-use Rattle.modem_serve.specs.InMux.{mux_end}
-use Rattle.modem_serve.specs.Muxes.{FitsMux}
-use Rattle.modem_serve.specs.Standing.{enters}
+use Rattle.std.proofs.Common.{refl}
+use Rattle.modem_serve.proofs.Stepping.{entered_mux, none_kept}
 use Rattle.modem_serve.proofs.server.enter.Goals as goal
 
 pub returns : goal.returns
-returns c =
-    enters c.in_ok-begun.field-0
-    (subst (λ (steps : List Step). FitsMux (mux_end c.args.n1.octets c.args.modem steps) [] [] c.in_ok-begun.field-0 []) c.in_ok-copied.ensures (c.in_ok-begun.ensures refl))
+returns c = entered_mux c.args.setup.now c.args.modem c.args.n1.octets c.in_ok-begun.field-0 _ c.new.result.items c.in_ok-copied.ensures c.new.ensures.items (c.in_ok-begun.ensures refl)
+
+pub invariant_of-result : goal.invariant_of-result
+invariant_of-result c = none_kept c.args.n1.octets c.new.result.items c.new.ensures.items
