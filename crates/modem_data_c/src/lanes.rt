@@ -4,7 +4,7 @@ ghost use Rattle.mux_station.specs.Opening.{is_open};
 ghost use Rattle.mux_station.specs.declared.role.Role.TheVariants.{Initiator};
 ghost use Rattle.modem_data.specs.Switching.{Idle as idle, Data as in_data, is_idle};
 ghost use Rattle.modem_data.specs.DataLanes.{most_to_go};
-ghost use Rattle.modem_data.specs.Passing.{Began, Gave, Read, Lost, IsOver, carries, data_came, data_read, given, left, unread, wire};
+ghost use Rattle.modem_data.specs.Passing.{Began, EndedLane, Gave, Read, Lost, IsOver, carries, data_came, data_read, given, left, unread, wire};
 ghost use Rattle.modem_data.specs.PipeSets.{IsNotData, OfEachPast};
 ghost use Rattle.modem_data.specs.Hops.{Hops, Passed};
 ghost use Rattle.modem_data_c.specs.DataCalls.{Becomes, Keeps, relay_of};
@@ -57,6 +57,41 @@ pub extern "C" fn cimbaloty_data_begin(
         return NO_RELAY;
     };
     let answer = begin(&mut relay, dlci, by_connect);
+    *d = CimbalotyData::of(relay);
+    answer
+}
+
+/// The lane of a connection is over.
+fn end(relay: &mut Relay, dlci: u8) -> u8
+    ensures ok { result ≡ OK → Hops relay.old relay.new (Passed (EndedLane dlci)) }
+    ensures bad { (result ≡ BAD_DLCI) ↔ (61 < dlci) }
+    ensures not_data { result ≡ NOT_DATA → IsNotData relay.old.pipes dlci }
+    ensures refused { result ≢ OK → relay.new ≡ relay.old }
+    ensures others { result ≢ OK → result ≢ BAD_DLCI → result ≡ NOT_DATA }
+{
+    let Some(dlci) = Dlci::new(dlci) else {
+        return BAD_DLCI;
+    };
+    if relay.lines(dlci).is_err() {
+        return NOT_DATA;
+    }
+    OK
+}
+
+/// The lane of a connection is over, from the next frame on: lines come and go again.
+#[unsafe(no_mangle)]
+pub extern "C" fn cimbaloty_data_lines(alloc: Global, d: &mut CimbalotyData, dlci: u8) -> u8
+    ensures ok { result ≡ OK → Becomes d.old d.new (λ r s. Hops r s (Passed (EndedLane dlci))) }
+    ensures bad { relay_of d.old ≢ None → ((result ≡ BAD_DLCI) ↔ (61 < dlci)) }
+    ensures not_data { result ≡ NOT_DATA → Keeps d.old (λ r. IsNotData r.pipes dlci) }
+    ensures no_relay { (result ≡ NO_RELAY) ↔ (relay_of d.old ≡ None) }
+    ensures refused { result ≢ OK → relay_of d.new ≡ relay_of d.old }
+    ensures others { result ≢ OK → result ≢ BAD_DLCI → result ≢ NO_RELAY → result ≡ NOT_DATA }
+{
+    let Some(mut relay) = d.take(alloc) else {
+        return NO_RELAY;
+    };
+    let answer = end(&mut relay, dlci);
     *d = CimbalotyData::of(relay);
     answer
 }

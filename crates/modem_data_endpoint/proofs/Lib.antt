@@ -1,2 +1,3 @@
 mod Spelled
 mod Besides
+mod Joins

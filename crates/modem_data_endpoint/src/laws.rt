@@ -1,5 +1,6 @@
 //! The law of a relay and an endpoint behind it.
 ghost use Rattle.modem_data_endpoint.specs.Beside.{DataLaw};
+ghost use Rattle.modem_data_endpoint.specs.Joined.{HandsAreSteps, TakesAreSteps};
 
 use modem_driver::laws::endpoints;
 use mux_frame::laws::deframed;
@@ -13,3 +14,10 @@ pub fn beside()
     deframed();
     endpoints();
 }
+
+/// `hand_over` and `take_over` are steps of the two, which the law speaks of.
+#[tactic(auto, using(crate::proofs::Joins::hands_are_steps, crate::proofs::Joins::takes_are_steps))]
+pub fn joined()
+    ensures hands { HandsAreSteps }
+    ensures takes { TakesAreSteps }
+{}
