@@ -41,10 +41,10 @@ abbrev pub names : ℕ → List ℕ → Bool
 names octet (x ∷ []) = (x == octet) || (x == response_of octet)
 names octet _ = false
 
--- a message responds to a command: it is the response with the same value, where the command is supported, or an NSC that names it
+-- a message responds to a command: it is its response, with the same value where the table has the command, or an NSC that names it
 abbrev pub responds : Message → Message → Bool
 responds command m =
-    (is_supported command.octet && ((m.octet == response_of command.octet) && bytes_eq m.value command.value))
+    ((m.octet == response_of command.octet) && (not (is_supported command.octet) || bytes_eq m.value command.value))
     || ((m.octet == response_of nsc) && names command.octet m.value)
 
 abbrev pub both_respond : Option Message → Option Message → Bool

@@ -87,12 +87,19 @@ pub record AreJudged : Type 0 where
   pub other_echo : EndsWith unasked (opened_0 ++ out Uih 0 probe ∷ []) (back Uih 0 (0x21 ∷ 3 ∷ 66 ∷ []))
   pub refused : EndsWith sound (opened_0 ++ out Uih 0 probe ∷ []) (back Uih 0 (0x11 ∷ 3 ∷ 0x23 ∷ []))
   pub never_asked : EndsWith unasked opened_0 (back Uih 0 probe_back)
+  -- PN, which the table doesn't have, and its response with another value; both ends close at once
+  pub negotiated : EndsWith sound (opened_0 ++ out Uih 0 (0x83 ∷ 3 ∷ 1 ∷ []) ∷ []) (back Uih 0 (0x81 ∷ 3 ∷ 2 ∷ []))
+  pub both_close : EndsWith sound (opened_1 ++ (out Disc 1 [] ∷ back Disc 1 [] ∷ out Dm 1 [] ∷ [])) (back Dm 1 [])
   -- data before the UA, and after a DM; the modem's before it answers DISC, after it, and after CLD
   pub not_open : EndsWith unopened (opened_0 ++ out Sabm 1 [] ∷ []) (out Uih 1 text)
   pub refused_opening : EndsWith unopened (opened_0 ++ (out Sabm 1 [] ∷ back Dm 1 [] ∷ [])) (out Uih 1 text)
   pub closing : EndsWith sound (opened_1 ++ out Disc 1 [] ∷ []) (back Uih 1 text)
   pub closed : EndsWith unopened (opened_1 ++ (out Disc 1 [] ∷ back Ua 1 [] ∷ [])) (back Uih 1 text)
   pub down : EndsWith unopened (opened_1 ++ (out Uih 0 (0xc3 ∷ 1 ∷ []) ∷ back Uih 0 (0xc1 ∷ 1 ∷ []) ∷ [])) (back Uih 1 text)
+  -- the driver's before it answers the modem's CLD, and after it
+  pub closing_down : EndsWith sound (opened_1 ++ back Uih 0 (0xc3 ∷ 1 ∷ []) ∷ []) (out Uih 1 text)
+  pub closed_down :
+      EndsWith unopened (opened_1 ++ (back Uih 0 (0xc3 ∷ 1 ∷ []) ∷ out Uih 0 (0xc1 ∷ 1 ∷ []) ∷ [])) (out Uih 1 text)
   -- data before the stop is answered, after it, and after it is freed; the stop of all; a response stops nothing
   pub under_way : EndsWith sound (opened_1 ++ back Uih 0 stop ∷ []) (out Uih 1 text)
   pub stopped : EndsWith unstopped (opened_1 ++ (back Uih 0 stop ∷ out Uih 0 stop_back ∷ [])) (out Uih 1 text)

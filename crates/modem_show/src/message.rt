@@ -182,9 +182,8 @@ impl Message<'_> {
             && responds (message_read command.now) (message_read self.now)) }
     {
         command.asks()
-            && ((command.is_supported()
-                && self.octet == command.octet - 2
-                && self.value == command.value)
+            && ((self.octet == command.octet - 2
+                && (!command.is_supported() || self.value == command.value))
                 || (self.octet == NSC_RESPONSE && self.names(command.octet)))
     }
 

@@ -1,2 +1,3 @@
 pub mod Pcap
 pub mod Passing
+pub mod Reading
