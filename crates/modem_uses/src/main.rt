@@ -6,7 +6,7 @@ mod crew;
 mod desk;
 mod dialect;
 mod driving;
-mod endpoint;
+mod first;
 mod frames;
 mod own_codes;
 mod own_line;
@@ -21,7 +21,8 @@ mod typed;
 use crate::calling::Came;
 use crate::typed::print_signal;
 use at_text::{DialectError, TextError};
-use modem_driver::{RequestError, RequestRefused};
+use modem_driver::{RequestError, RequestRefused, SessionError};
+use modem_sim::SimError;
 use std::alloc::{AllocError, AllocFailed, AllocGlobal, Global};
 use std::io::Print;
 use std::process::ExitCode;
@@ -58,6 +59,18 @@ impl From<RequestError> for Stop {
 
 impl From<RequestRefused> for Stop {
     fn from(_refused: RequestRefused) -> Stop {
+        Stop::NoMemory
+    }
+}
+
+impl From<SessionError> for Stop {
+    fn from(_why: SessionError) -> Stop {
+        Stop::NoMemory
+    }
+}
+
+impl From<SimError> for Stop {
+    fn from(_why: SimError) -> Stop {
         Stop::NoMemory
     }
 }

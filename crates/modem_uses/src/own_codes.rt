@@ -1,7 +1,7 @@
 //! A modem whose codes go beyond the standard's, and what it is asked.
 use crate::Stop;
 use crate::dialect::{dialect, drive};
-use crate::endpoint::ask;
+use crate::first::ask;
 use crate::own_modem::{modem_in_memory, says};
 use at_text::CommandLine;
 use modem_driver::{Endpoint, Outcome};

@@ -1,13 +1,11 @@
 //! Asks a typed command, and reads its reply (27.007, 8.5).
 use crate::Stop;
-use crate::endpoint::ask;
+use crate::first::signal;
 use crate::own_modem::modem_in_memory;
 use at_cmds::{Command, Reply};
 use at_text::CommandLine;
-use modem_driver::{Answer, Ask, Endpoint, Outcome};
-use modem_sim::Sim;
+use modem_driver::{Answer, Ask};
 use mux_frame::Dlci;
-use serial_line::CutLine;
 use std::alloc::Global;
 use std::io::Print;
 
@@ -39,19 +37,10 @@ pub fn print_signal<R: Print>(rt: &R, alloc: Global, answer: &Answer) -> Result<
     Ok(())
 }
 
-/// Asks by a driver that listens to nothing.
-fn ask_signal(alloc: Global, modem: &mut Sim<CutLine>) -> Result<Outcome, Stop> {
-    let command = signal_command(alloc)?;
-    match Endpoint::new(alloc, 31, &[], 1) {
-        Ok(mut driver) => ask(&mut driver, modem, Dlci::new(1).unwrap(), command),
-        Err(_) => Err(Stop::NoMemory),
-    }
-}
-
 /// A driver, and a modem at the other end.
 pub fn run<R: Print>(rt: &R, alloc: Global) -> Result<(), Stop> {
     let outcome = match modem_in_memory(alloc, Vec::new(alloc)) {
-        Ok(mut modem) => ask_signal(alloc, &mut modem)?,
+        Ok(mut modem) => signal(alloc, &mut modem)?,
         Err(stop) => return Err(stop),
     };
     print_signal(rt, alloc, &outcome.answer)
