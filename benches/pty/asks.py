@@ -13,7 +13,7 @@ def context(number):
     place, turn = number % 16, number // 16
     if place < 15:
         return f'AT+CGDCONT={place + 1},"IP","net{turn}.{place}"', []
-    return "AT+CGDCONT?", [f'+CGDCONT: {cid + 1},"IP","net{turn}.{cid}"' for cid in range(15)]
+    return "AT+CGDCONT?", [f'+CGDCONT: {cid + 1},"IP","net{turn}.{cid}","",0,0' for cid in range(15)]
 
 
 def registration(number):

@@ -81,7 +81,7 @@ def talk(client, commands):
         client.hear(2, answer(b"OK"))
     cids = sorted({place % 15 + 1: place for place in range(commands)}.items())
     client.say(2, b"AT+CGDCONT?\r")
-    client.hear(2, answer(*(b"+CGDCONT: %d,\"IP\",\"net%d\"" % it for it in cids), b"OK"))
+    client.hear(2, answer(*(b"+CGDCONT: %d,\"IP\",\"net%d\",\"\",0,0" % it for it in cids), b"OK"))
 
 
 def main():

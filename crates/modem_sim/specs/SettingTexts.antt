@@ -9,6 +9,8 @@ use Rattle.at_cmds.specs.Forms.{in_quotes}
 use Rattle.modem_sim.specs.declared.contexts.PdpContext.{PdpContext}
 use Rattle.modem_sim.specs.declared.words.Charset.{Charset}
 use Rattle.modem_sim.specs.declared.words.Charset.TheVariants.{Gsm, Ira}
+use Rattle.modem_sim.specs.declared.words.Form.{Form}
+use Rattle.modem_sim.specs.declared.words.Form.TheVariants.{Unnamed, Operators, Strength, Errors, Attachment, Multiplexer}
 use Rattle.modem_sim.specs.Contexts.{is_active}
 
 -- the operator by its name (0), its short name (1) or its number (2) (27.007, 7.3)
@@ -65,3 +67,22 @@ context_forms =
     codes "+CGDCONT: (1-15),\"IP\",,,(0),(0)"
     ∷ codes "+CGDCONT: (1-15),\"IPV6\",,,(0),(0)"
     ∷ codes "+CGDCONT: (1-15),\"IPV4V6\",,,(0),(0)" ∷ []
+
+-- the network that there is, the one where the modem is registered or one that it can be; its names, and the ways to choose and to name
+-- one (27.007, 7.3)
+abbrev pub network_text : Bool → List ℕ
+network_text true = codes "+COPS: (2,\"Network 00101\",\"N00101\",\"00101\",7),,(0-3),(0-2)"
+network_text false = codes "+COPS: (1,\"Network 00101\",\"N00101\",\"00101\",7),,(0-3),(0-2)"
+
+-- what the multiplexer takes: the basic option with UIH frames, the speeds, N1, T1, N2, T2 and T3 (27.007, 5.7)
+abbrev pub mux_ranges : List ℕ
+mux_ranges = codes "+CMUX: (0),(0),(1-8),(31-32767),(1-255),(0-100),(2-255),(1-255)"
+
+-- the values that a command takes, where they are named (27.007, 4.1)
+abbrev pub form_texts : Bool → Form → List (List ℕ)
+form_texts registered Unnamed = []
+form_texts registered Operators = network_text registered ∷ []
+form_texts registered Strength = codes "+CSQ: (0-31,99),(0-7,99)" ∷ []
+form_texts registered Errors = codes "+CMEE: (0-2)" ∷ []
+form_texts registered Attachment = codes "+CGATT: (0,1)" ∷ []
+form_texts registered Multiplexer = mux_ranges ∷ []

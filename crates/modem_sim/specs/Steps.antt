@@ -1,7 +1,7 @@
 -- What a modem answers to a command line, and its state afterwards, by three tables: what a command is refused with,
 -- the state after it, what it tells. The law that an answer is read back shares them (V.250, 5.2 and 5.7; 27.007, 7.2,
 -- 7.3, 8.3, 8.5, 9.1, 9.2, 10.1.1, 10.1.9).
-use Rattle.std.specs.Prelude.{ℕ, ◌-◌, ◌==◌, ◌||◌, nat_lt, Bool, true, false, List, [], ◌∷◌, ◌++◌, map, filter, fold, Option, Some, None, is_some, unwrap_or, if◌then◌else◌, codes}
+use Rattle.std.specs.Prelude.{ℕ, ◌-◌, ◌==◌, ◌||◌, nat_le, nat_lt, Bool, true, false, List, [], ◌∷◌, ◌++◌, length, map, filter, fold, Option, Some, None, is_some, unwrap_or, if◌then◌else◌, codes}
 use Rattle.std.specs.Fmt.{decimal}
 use Rattle.std.specs.Str.{bytes_eq}
 use Rattle.at_text.specs.declared.answer.AnswerLine.{AnswerLine}
@@ -22,11 +22,12 @@ use Rattle.modem_sim.specs.declared.state.Words.{Words}
 use Rattle.modem_sim.specs.declared.words.Charset.TheVariants.{Ira}
 use Rattle.modem_sim.specs.declared.words.Domain.{Domain}
 use Rattle.modem_sim.specs.declared.words.Domain.TheVariants.{Packet, Evolved}
+use Rattle.modem_sim.specs.declared.words.Form.TheVariants.{Operators}
 use Rattle.modem_sim.specs.declared.words.Word.{Word}
-use Rattle.modem_sim.specs.declared.words.Word.TheVariants.{Reset, Echo, Identity, Manufacturer, Product, Revision, Serial, Subscriber, Capabilities, Functionality, FunctionalityQuery, FunctionalityForms, RegForms, Report, ReportQuery, ReportForms, OperFormat, ContextForms, Activate, ActivityQuery, ActivityForms, Addresses, SetCharset, CharsetQuery, CharsetForms, LockForms, LockQuery, Unlock}
+use Rattle.modem_sim.specs.declared.words.Word.TheVariants.{Reset, Echo, Identity, Manufacturer, Product, Revision, Serial, Subscriber, Capabilities, Functionality, FunctionalityQuery, FunctionalityForms, RegForms, Report, ReportQuery, ReportForms, OperFormat, ContextForms, Activate, ActivityQuery, ActivityForms, Addresses, SetCharset, CharsetQuery, CharsetForms, LockForms, LockQuery, Unlock, Forms, ErrorsQuery, MultiplexerQuery}
 use Rattle.modem_sim.specs.CommandLines.{commands_in}
 use Rattle.modem_sim.specs.Contexts.{active_after, is_defined, names, with_context}
-use Rattle.modem_sim.specs.SettingTexts.{activity_text, address_text, charset_text, context_forms, lock_text, named_oper_text}
+use Rattle.modem_sim.specs.SettingTexts.{activity_text, address_text, charset_text, context_forms, form_texts, lock_text, named_oper_text}
 use Rattle.modem_sim.specs.Reading.{is_attention, command_of}
 use Rattle.modem_sim.specs.Words.{word_of}
 
@@ -172,6 +173,10 @@ context_text c =
     codes "+CGDCONT: " ++ decimal c.cid ++ codes "," ++ in_quotes (pdp_text c.pdp) ++ codes ","
     ++ in_quotes c.apn
 
+-- a context of a modem with words: with an address that the network gives, and without compression
+abbrev pub whole_context_text : PdpContext → List ℕ
+whole_context_text c = context_text c ++ codes ",\"\",0,0"
+
 -- whether the modem is attached (27.007, 10.1.9)
 abbrev pub attached_text : Bool → List ℕ
 attached_text true = codes "+CGATT: 1"
@@ -229,9 +234,11 @@ standard_step s line =
 
 -- ## The second table (V.250, 6.1, 6.2; 27.007, 5, 7.2, 7.3, 7.4, 8.2, 8.3, 10.1.1, 10.1.10, 10.1.14, 10.1.20, 10.1.22)
 
--- what a command of the first table is told before OK: with words the operator in the form that was asked for
+-- what a command of the first table is told before OK: with words the operator in the form that was asked for, and contexts with the
+-- parameters that stand behind the access point
 abbrev pub told_as : Option Words → ModemState → Command → List (List ℕ)
 told_as (Some w) s OperQuery = named_oper_text w.oper_format s.oper ∷ []
+told_as (Some w) s ContextQuery = map whole_context_text s.contexts
 told_as words s c = told_texts s c
 
 -- the status of a registration, with the cell where reports have it (27.007, 7.2)
@@ -279,6 +286,7 @@ unlock_error NeedPuk tries right = puk_error tries right
 -- activate a context the modem attaches
 abbrev pub word_refusal : Words → ModemState → Word → Option ℕ
 word_refusal w s Subscriber = lock_error s.lock
+word_refusal w s (Forms Operators) = lock_error s.lock
 word_refusal w s (Activate true which) =
     attach_error (context_error (lock_error s.lock) (is_defined which s.contexts)) (is_registered s.lock s.oper)
 word_refusal w s (Activate false which) = context_error (lock_error s.lock) (is_defined which s.contexts)
@@ -307,6 +315,9 @@ setting_told w s CharsetForms = codes "+CSCS: (\"GSM\",\"IRA\")" ∷ []
 setting_told w s CharsetQuery = charset_text w.charset ∷ []
 setting_told w s LockForms = codes "+CLCK: (\"SC\")" ∷ []
 setting_told w s LockQuery = lock_text w.has_pin ∷ []
+setting_told w s (Forms form) = form_texts (is_registered s.lock s.oper) form
+setting_told w s ErrorsQuery = (codes "+CMEE: " ++ decimal s.errors) ∷ []
+setting_told w s MultiplexerQuery = codes "+CMUX: 0,0" ∷ []
 setting_told w s _ = []
 
 -- what a command of the second table is told before OK
@@ -330,12 +341,10 @@ word_told w s x = setting_told w s x
 abbrev pub settled : ModemState → ModemState
 settled s = if s.attached then s else record s { active = [] }
 
--- functions are switched: 1 all, where the modem looks for a network if it has none; 0 and 4 without radio, where it leaves its
--- network (27.007, 8.2); what is set already changes nothing
+-- functions are switched: 1 all, where the modem looks for a network; 0 and 4 without radio, where it leaves its network (27.007, 8.2)
 abbrev pub switched : ℕ → Words → ModemState → ModemState
 switched n w s =
-    if w.functionality == n then s
-    else if n == 1 then record s { oper = Automatic; words = Some (record w { functionality = n }) }
+    if n == 1 then record s { oper = Automatic; words = Some (record w { functionality = n }) }
     else record s { oper = Deregister; attached = false; active = []; words = Some (record w { functionality = n }) }
 
 -- contexts become active, for which the modem attaches, or inactive (27.007, 10.1.10)
@@ -367,6 +376,18 @@ pub record Ran : Type 0 where
 -- no command of the line was done yet
 abbrev pub nothing_ran : ModemState → Ran
 nothing_ran s = record { state = s; told = []; error = None }
+
+-- what choosing an operator is refused with: the SIM's error before the SIM is ready, else 30 no network service where the radio is off
+abbrev pub radio_error : ℕ → Option ℕ → Option ℕ
+radio_error functionality (Some number) = Some number
+radio_error functionality None = if functionality == 1 then None else Some 30
+
+-- the number of the error that a command of the first table is refused with, where it is: with words an operator is chosen only with
+-- all functions on (27.007, 8.2)
+abbrev pub refusal_as : Option Words → ModemState → Command → Option ℕ
+refusal_as (Some w) s (OperChoose Automatic) = radio_error w.functionality (lock_error s.lock)
+refusal_as (Some w) s (OperChoose (Manual oper)) = radio_error w.functionality (lock_error s.lock)
+refusal_as words s c = refusal_of s c
 
 -- what a command of the first table comes to, refused or carried out
 abbrev pub ran_command : Option ℕ → Ran → Command → Ran
@@ -405,7 +426,7 @@ ran_other words r word = ran_unknown r
 
 -- a command by its text: of the first table, of the second, or of neither
 abbrev pub ran_text : Option Command → Ran → List ℕ → Ran
-ran_text (Some c) r text = ran_command (refusal_of r.state c) r c
+ran_text (Some c) r text = ran_command (refusal_as r.state.words r.state c) r c
 ran_text None r text = ran_other r.state.words r (word_of text)
 
 -- after an error the rest of a line isn't done (V.250, 5.7.2)
@@ -468,9 +489,19 @@ worded_by s (Some commands) = record {
   answer = worded_answer s (fold ran_next (nothing_ran s) commands);
 }
 
+-- a line of so many octets is too long, of which no more are kept
+abbrev pub is_too_long : List ℕ → Bool
+is_too_long line = nat_le 512 (length line)
+
+-- of a line that is too long nothing is done
+abbrev pub refused_by : ModemState → Option (List (List ℕ)) → Step
+refused_by s None = record { state = s; answer = [] }
+refused_by s (Some commands) = record { state = s; answer = line_of (codes "ERROR") ∷ [] }
+
 -- what a line does to a modem with words
 abbrev pub worded_step : ModemState → List ℕ → Step
-worded_step s line = worded_by s (line_commands line)
+worded_step s line =
+    if is_too_long line then refused_by s (line_commands line) else worded_by s (line_commands line)
 
 -- ## Both
 

@@ -36,7 +36,7 @@ ClientBegins =
     ∷ []
     ∷ (codes "ERROR" ∷ [])
     ∷ (codes "+CSQ: 18,99" ∷ codes "ERROR" ∷ [])
-    ∷ (codes "ERROR" ∷ [])
+    ∷ (codes "+CMEE: 1" ∷ ok)
     ∷ []
 
 -- a change of registration is announced behind the answer, where reports are on
@@ -49,6 +49,36 @@ ChangeAnnounced =
     ∷ (codes "+CREG: 2,0" ∷ codes "+CGREG: 1,0" ∷ codes "+CEREG: 0,0" ∷ ok)
     ∷ (codes "OK" ∷ codes "+CREG: 1,\"00A1\",\"01B2C3D4\",7" ∷ codes "+CGREG: 1" ∷ [])
     ∷ ok
+    ∷ []
+
+-- a value of +CFUN that is set already is obeyed too; with the radio off no operator is chosen
+abbrev pub RadioOff : Type 0
+RadioOff =
+    answers_to (started_with_words unlocked false)
+    (codes "AT+CMEE=1;+COPS=2" ∷ codes "AT+CFUN=1;+CREG?" ∷ codes "AT+CFUN=4" ∷ codes "AT+COPS=0" ∷ codes "AT+COPS=1,2,\"26201\"" ∷ codes "AT+COPS=2;+CREG?"
+    ∷ codes "AT+CFUN=4;+CREG?" ∷ codes "AT+CFUN=1;+CREG?" ∷ [])
+    ≡ ok
+    ∷ (codes "+CREG: 0,1" ∷ ok)
+    ∷ ok
+    ∷ (codes "+CME ERROR: 30" ∷ [])
+    ∷ (codes "+CME ERROR: 30" ∷ [])
+    ∷ (codes "+CREG: 0,0" ∷ ok)
+    ∷ (codes "+CREG: 0,0" ∷ ok)
+    ∷ (codes "+CREG: 0,1" ∷ ok)
+    ∷ []
+
+-- what values commands take, and contexts with what stands behind the access point
+abbrev pub ValuesAsked : Type 0
+ValuesAsked =
+    answers_to (started_with_words unlocked false)
+    (codes "AT+CSQ=?;+CMEE=?;+CGATT=?" ∷ codes "AT+COPS=?" ∷ codes "AT+COPS=2;+COPS=?" ∷ codes "AT+CPIN=?;+CGMI=?;+GCAP=?" ∷ codes "AT+CMUX=?;+CMUX?;+CMEE?"
+    ∷ codes "AT+CGDCONT=1,\"IP\",\"a\";+CGDCONT?" ∷ [])
+    ≡ (codes "+CSQ: (0-31,99),(0-7,99)" ∷ codes "+CMEE: (0-2)" ∷ codes "+CGATT: (0,1)" ∷ ok)
+    ∷ (codes "+COPS: (2,\"Network 00101\",\"N00101\",\"00101\",7),,(0-3),(0-2)" ∷ ok)
+    ∷ (codes "+COPS: (1,\"Network 00101\",\"N00101\",\"00101\",7),,(0-3),(0-2)" ∷ ok)
+    ∷ ok
+    ∷ (codes "+CMUX: (0),(0),(1-8),(31-32767),(1-255),(0-100),(2-255),(1-255)" ∷ codes "+CMUX: 0,0" ∷ codes "+CMEE: 0" ∷ ok)
+    ∷ (codes "+CGDCONT: 1,\"IP\",\"a\",\"\",0,0" ∷ ok)
     ∷ []
 
 -- so is one that a PIN makes, and the number of the subscriber is in the SIM

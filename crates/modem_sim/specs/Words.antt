@@ -5,8 +5,9 @@ use Rattle.at_text.specs.Octets.{is_digit}
 use Rattle.at_cmds.specs.Params.{◌>>=◌}
 use Rattle.at_cmds.specs.Forms.{is_cid, is_pin, is_run, numeral_in}
 use Rattle.modem_sim.specs.declared.words.Word.{Word}
-use Rattle.modem_sim.specs.declared.words.Word.TheVariants.{Reset, Echo, Usual, Identity, Manufacturer, Product, Revision, Serial, Subscriber, Capabilities, Functionality, FunctionalityQuery, FunctionalityForms, RegForms, Report, ReportQuery, ReportForms, OperFormat, ContextForms, Activate, ActivityQuery, ActivityForms, Addresses, SetCharset, CharsetQuery, CharsetForms, LockForms, LockQuery, Unlock}
+use Rattle.modem_sim.specs.declared.words.Word.TheVariants.{Reset, Echo, Usual, Identity, Manufacturer, Product, Revision, Serial, Subscriber, Capabilities, Functionality, FunctionalityQuery, FunctionalityForms, RegForms, Report, ReportQuery, ReportForms, OperFormat, ContextForms, Activate, ActivityQuery, ActivityForms, Addresses, SetCharset, CharsetQuery, CharsetForms, LockForms, LockQuery, Unlock, Forms, ErrorsQuery, MultiplexerQuery}
 use Rattle.modem_sim.specs.declared.words.Charset.TheVariants.{Gsm, Ira}
+use Rattle.modem_sim.specs.declared.words.Form.TheVariants.{Unnamed, Operators, Strength, Errors, Attachment, Multiplexer}
 use Rattle.modem_sim.specs.declared.words.Domain.TheVariants.{Packet, Evolved}
 use Rattle.modem_sim.specs.Reading.{lowered}
 
@@ -118,6 +119,23 @@ setting_word t =
     else if bytes_eq t (codes "at+clck=\"sc\",2") then Some LockQuery
     else None
 
+-- commands that ask what values another takes (27.007, 4.1): none is named, or those of operators (7.3), of the signal (8.5), of
+-- errors (9.1), of the attachment (10.1.9) and of the multiplexer (5.7); and how errors are told, and the multiplexer's mode
+abbrev pub form_word : List ℕ → Option Word
+form_word t =
+    if bytes_eq t (codes "at+cgmi=?") || bytes_eq t (codes "at+cgmm=?") then Some (Forms Unnamed)
+    else if bytes_eq t (codes "at+cgmr=?") || bytes_eq t (codes "at+cgsn=?") then Some (Forms Unnamed)
+    else if bytes_eq t (codes "at+cimi=?") || bytes_eq t (codes "at+gcap=?") then Some (Forms Unnamed)
+    else if bytes_eq t (codes "at+cpin=?") then Some (Forms Unnamed)
+    else if bytes_eq t (codes "at+cops=?") then Some (Forms Operators)
+    else if bytes_eq t (codes "at+csq=?") then Some (Forms Strength)
+    else if bytes_eq t (codes "at+cmee=?") then Some (Forms Errors)
+    else if bytes_eq t (codes "at+cgatt=?") then Some (Forms Attachment)
+    else if bytes_eq t (codes "at+cmux=?") then Some (Forms Multiplexer)
+    else if bytes_eq t (codes "at+cmee?") then Some ErrorsQuery
+    else if bytes_eq t (codes "at+cmux?") then Some MultiplexerQuery
+    else None
+
 -- the PUK of the SIM
 abbrev pub own_puk : List ℕ
 own_puk = codes "12345678"
@@ -138,7 +156,7 @@ unlock_word t = do
 abbrev pub word_in : List ℕ → Option Word
 word_in t =
     or_else (basic_word t) (or_else (identity_word t) (or_else (phone_word t) (or_else (report_word t)
-    (or_else (context_word t) (or_else (setting_word t) (unlock_word t))))))
+    (or_else (context_word t) (or_else (setting_word t) (or_else (form_word t) (unlock_word t)))))))
 
 -- the command of the second table that a text is, its letters in either case
 unfoldable pub word_of : List ℕ → Option Word

@@ -3,13 +3,37 @@ ghost use Rattle.std.specs.Prelude.{◌≡◌, ◌++◌, codes, filter, map, IfO
 ghost use Rattle.std.specs.Fmt.{decimal};
 ghost use Rattle.modem_sim.specs.Contexts.{names};
 ghost use Rattle.modem_sim.specs.SettingTexts.{activity_text, address_text, addresses, ipv4_text, ipv6_text};
-ghost use Rattle.modem_sim.specs.Steps.{line_of};
+ghost use Rattle.modem_sim.specs.Steps.{line_of, whole_context_text};
 
-use crate::answers::{push_line, push_quoted};
+use crate::answers::{context_line, push_line, push_quoted};
 use crate::contexts::{ActiveContexts, PdpContext};
 use at_cmds::Pdp;
 use at_text::AnswerLine;
 use std::alloc::{AllocError, Global};
+
+/// A context with the parameters that stand behind its access point (27.007, 10.1.1).
+fn whole_context_line(alloc: Global, context: &PdpContext) -> Result<Vec<u8>, AllocError>
+    ensures { IfOk result (λ text. text.items ≡ whole_context_text context.now) }
+{
+    let mut text = context_line(alloc, context)?;
+    text.extend_from_slice(b",\"\",0,0")?;
+    Ok(text)
+}
+
+/// Writes all contexts behind other lines.
+pub(crate) fn push_whole_contexts(
+    alloc: Global,
+    contexts: &[PdpContext],
+    answer: &mut Vec<AnswerLine>,
+) -> Result<(), AllocError>
+    ensures { OnOk result
+        (answer.new.items ≡ answer.old.items ++ map line_of (map whole_context_text contexts.now)) }
+{
+    for context in contexts {
+        push_line(answer, whole_context_line(alloc, context)?)?;
+    }
+    Ok(())
+}
 
 /// Whether a context is active (27.007, 10.1.10).
 fn activity_line(

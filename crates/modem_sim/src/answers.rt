@@ -168,7 +168,7 @@ fn push_contexts(
     Ok(())
 }
 
-fn context_line(alloc: Global, context: &PdpContext) -> Result<Vec<u8>, AllocError>
+pub(crate) fn context_line(alloc: Global, context: &PdpContext) -> Result<Vec<u8>, AllocError>
     ensures { IfOk result (λ text. text.items ≡ context_text context.now) }
 {
     let cid = context.cid;

@@ -21,6 +21,7 @@ mod sim;
 mod sim_core;
 mod sim_machine;
 mod state;
+mod values;
 mod wording;
 mod words;
 

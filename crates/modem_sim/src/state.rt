@@ -2,7 +2,7 @@
 ghost use Rattle.std.specs.Prelude.{◌≡◌, true, IfOk, OnOk, OnErr};
 
 use crate::contexts::{ActiveContexts, PdpContext, PdpContexts};
-use crate::words::{Charset, Domain, Word};
+use crate::words::{Charset, Domain, Form, Word};
 use at_cmds::{Command, OperChoice, Pin};
 use std::alloc::AllocError;
 
@@ -251,8 +251,34 @@ impl ModemState {
 }
 
 impl ModemState {
-    ghost use Rattle.modem_sim.specs.Steps.{activated, after_word_refusal, context_error, lock_error, settled, switched, word_after, word_refusal};
+    ghost use Rattle.modem_sim.specs.Steps.{activated, after_word_refusal, context_error, lock_error, radio_error, refusal_as, settled, switched, word_after, word_refusal};
     ghost use Rattle.modem_sim.specs.Contexts.{is_defined};
+
+    /// The error that choosing an operator is refused with, where it is.
+    fn choose_error(&self, words: Words) -> Option<u32>
+        ensures { result ≡ radio_error words.functionality (lock_error self.now.lock) }
+    {
+        if let Some(number) = self.lock.error() {
+            return Some(number);
+        }
+        if words.functionality == 1 {
+            return None;
+        }
+        Some(NO_NETWORK_SERVICE)
+    }
+
+    /// The error that a command of the first table is refused with, where it is: with words an operator is chosen only with all
+    /// functions on.
+    pub(crate) fn refusal_as(&self, command: &Command) -> Option<u32>
+        ensures { result ≡ refusal_as self.now.words self.now command.now }
+    {
+        match (self.words, command) {
+            (Some(words), Command::OperChoose(OperChoice::Automatic | OperChoice::Manual(_))) => {
+                self.choose_error(words)
+            }
+            _ => self.refusal_of(command),
+        }
+    }
 
     /// The error that a command for contexts is refused with, where it is.
     fn context_error(&self, which: Option<u8>) -> Option<u32>
@@ -282,7 +308,9 @@ impl ModemState {
         ensures { result ≡ word_refusal words self.now word }
     {
         match word {
-            Word::Subscriber | Word::ActivityQuery => self.lock.error(),
+            Word::Subscriber | Word::ActivityQuery | Word::Forms(Form::Operators) => {
+                self.lock.error()
+            }
             Word::Activate(true, which) => self.activate_error(words, which),
             Word::Activate(false, which) | Word::Addresses(which) => self.context_error(which),
             Word::Unlock(is_right) => self.lock.puk_error(words.puk_tries, is_right),
@@ -368,9 +396,6 @@ impl ModemState {
     fn switch(&mut self, words: Words, functionality: u8)
         ensures { self.new ≡ switched functionality words self.old }
     {
-        if words.functionality == functionality {
-            return;
-        }
         self.words = Some(Words {
             functionality,
             ..words

@@ -4,13 +4,14 @@ ghost use Rattle.std.specs.Fmt.{decimal};
 ghost use Rattle.at_cmds.specs.Forms.{in_quotes};
 ghost use Rattle.modem_sim.specs.Reading.{command_of};
 ghost use Rattle.modem_sim.specs.SettingTexts.{context_forms, lock_text, named_oper_text, oper_name};
-ghost use Rattle.modem_sim.specs.Steps.{all_reports, announced, domain_name, line_commands, line_of, nothing_ran, ran_command, ran_next, ran_other, ran_word, refusal_of, registration_text, report_texts, setting_told, status_text, told_as, word_refusal, word_told, worded_step};
+ghost use Rattle.modem_sim.specs.Steps.{all_reports, announced, domain_name, line_commands, line_of, nothing_ran, ran_command, ran_next, ran_other, ran_word, refusal_as, registration_text, report_texts, setting_told, status_text, told_as, word_refusal, word_told, worded_step};
 
-use crate::activity::{push_activity, push_contexts_named};
+use crate::activity::{push_activity, push_contexts_named, push_whole_contexts};
 use crate::answers::{error_text, push_line, push_quoted, push_told};
 use crate::command_lines::commands_in;
 use crate::error::SimError;
 use crate::state::{ModemState, Words};
+use crate::values::{errors_line, push_forms};
 use crate::words::{Charset, Domain, Word, word_of};
 use at_cmds::{Command, OperChoice};
 use at_text::{AnswerLine, Text};
@@ -160,7 +161,11 @@ fn registration_line(
 }
 
 /// A fixed line behind others.
-fn push_text(alloc: Global, text: &str, answer: &mut Vec<AnswerLine>) -> Result<(), AllocError>
+pub(crate) fn push_text(
+    alloc: Global,
+    text: &str,
+    answer: &mut Vec<AnswerLine>,
+) -> Result<(), AllocError>
     ensures { OnOk result (answer.new.items ≡ answer.old.items ++ line_of text.now ∷ []) }
 {
     push_line(answer, Vec::from_slice(alloc, text.as_bytes())?)
@@ -228,6 +233,9 @@ fn push_setting_told(
         Word::CharsetQuery => push_text(alloc, words.charset.line(), answer),
         Word::LockForms => push_text(alloc, "+CLCK: (\"SC\")", answer),
         Word::LockQuery => push_text(alloc, lock_line(words.has_pin), answer),
+        Word::Forms(form) => push_forms(alloc, state.is_registered(), form, answer),
+        Word::ErrorsQuery => push_line(answer, errors_line(alloc, state.errors)?),
+        Word::MultiplexerQuery => push_text(alloc, "+CMUX: 0,0", answer),
         _ => Ok(()),
     }
 }
@@ -286,6 +294,9 @@ fn push_told_as(
             answer,
             named_oper(alloc, words.oper_format, &state.oper)?,
         ),
+        (Some(_words), Command::ContextQuery) => {
+            push_whole_contexts(alloc, state.contexts.as_slice(), answer)
+        }
         _ => push_told(alloc, state, command, answer),
     }
 }
@@ -295,9 +306,9 @@ impl Run {
     fn obey(&mut self, alloc: Global, command: Command) -> Result<(), AllocError>
         requires { self.old.error ≡ None }
         ensures { OnOk result
-            (self.new ≡ ran_command (refusal_of self.old.state command) self.old command) }
+            (self.new ≡ ran_command (refusal_as self.old.state.words self.old.state command) self.old command) }
     {
-        if let Some(number) = self.state.refusal_of(&command) {
+        if let Some(number) = self.state.refusal_as(&command) {
             let error = error_text(alloc, self.state.errors, number)?;
             self.error = Some(Text::from(error));
             self.state.refuse(&command);
@@ -443,6 +454,9 @@ fn push_announced(
     }
 }
 
+/// So many octets are kept of a line; one that is as long is taken for longer.
+const TOO_LONG: usize = 512;
+
 /// What a line does to a modem with words: its state afterwards, and the answer.
 pub(crate) fn worded(
     alloc: Global,
@@ -457,6 +471,11 @@ pub(crate) fn worded(
     let Some(commands) = line_commands(alloc, line)? else {
         return Ok((state, Vec::new(alloc)));
     };
+    if line.len() >= TOO_LONG {
+        let mut answer = Vec::new(alloc);
+        push_text(alloc, "ERROR", &mut answer)?;
+        return Ok((state, answer));
+    }
     let run = run_all(alloc, state, &commands)?;
     let (state, mut answer) = run.finish(alloc)?;
     push_announced(alloc, before, &state, &mut answer)?;

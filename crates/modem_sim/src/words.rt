@@ -2,7 +2,7 @@
 ghost use Rattle.std.specs.Prelude.{◌≡◌, IfOk};
 ghost use Rattle.std.specs.Str.{bytes_eq};
 ghost use Rattle.at_cmds.specs.Forms.{numeral_in};
-ghost use Rattle.modem_sim.specs.Words.{basic_word, cid_behind, cid_in, context_word, identity_word, numbered_word, phone_word, report_word, setting_word, unlock_word, word_of};
+ghost use Rattle.modem_sim.specs.Words.{basic_word, cid_behind, cid_in, context_word, form_word, identity_word, numbered_word, phone_word, report_word, setting_word, unlock_word, word_of};
 
 use at_text::octets::all_digits;
 use std::alloc::{AllocError, Global};
@@ -24,6 +24,23 @@ pub(crate) enum Domain {
 pub(crate) enum Charset {
     Gsm,
     Ira,
+}
+
+/// Of which command the values are asked (27.007, 4.1).
+#[derive(Clone, Copy)]
+pub(crate) enum Form {
+    /// One that names none.
+    Unnamed,
+    /// `AT+COPS` (27.007, 7.3).
+    Operators,
+    /// `AT+CSQ` (27.007, 8.5).
+    Strength,
+    /// `AT+CMEE` (27.007, 9.1).
+    Errors,
+    /// `AT+CGATT` (27.007, 10.1.9).
+    Attachment,
+    /// `AT+CMUX` (27.007, 5.7).
+    Multiplexer,
 }
 
 /// A command of the second table.
@@ -87,6 +104,12 @@ pub(crate) enum Word {
     LockQuery,
     /// `AT+CPIN=` with a PUK and a new PIN: whether the PUK is that of the SIM (27.007, 8.3). No state looks at the new PIN.
     Unlock(bool),
+    /// `=?` behind a command of which the values aren't told otherwise.
+    Forms(Form),
+    /// `AT+CMEE?` (27.007, 9.1).
+    ErrorsQuery,
+    /// `AT+CMUX?` (27.007, 5.7).
+    MultiplexerQuery,
 }
 
 /// Whether a text is this one.
@@ -318,6 +341,46 @@ fn setting_word(text: &[u8]) -> Option<Word>
     None
 }
 
+/// A command that asks what values another takes, how errors are told, or for the multiplexer's mode.
+fn form_word(text: &[u8]) -> Option<Word>
+    ensures { result ≡ form_word text.now }
+{
+    if is(text, b"at+cgmi=?") || is(text, b"at+cgmm=?") {
+        return Some(Word::Forms(Form::Unnamed));
+    }
+    if is(text, b"at+cgmr=?") || is(text, b"at+cgsn=?") {
+        return Some(Word::Forms(Form::Unnamed));
+    }
+    if is(text, b"at+cimi=?") || is(text, b"at+gcap=?") {
+        return Some(Word::Forms(Form::Unnamed));
+    }
+    if is(text, b"at+cpin=?") {
+        return Some(Word::Forms(Form::Unnamed));
+    }
+    if is(text, b"at+cops=?") {
+        return Some(Word::Forms(Form::Operators));
+    }
+    if is(text, b"at+csq=?") {
+        return Some(Word::Forms(Form::Strength));
+    }
+    if is(text, b"at+cmee=?") {
+        return Some(Word::Forms(Form::Errors));
+    }
+    if is(text, b"at+cgatt=?") {
+        return Some(Word::Forms(Form::Attachment));
+    }
+    if is(text, b"at+cmux=?") {
+        return Some(Word::Forms(Form::Multiplexer));
+    }
+    if is(text, b"at+cmee?") {
+        return Some(Word::ErrorsQuery);
+    }
+    if is(text, b"at+cmux?") {
+        return Some(Word::MultiplexerQuery);
+    }
+    None
+}
+
 /// A PUK of eight digits and a new PIN of 4 to 8, each between quotes.
 fn unlock_word(text: &[u8]) -> Option<Word>
     ensures { result ≡ unlock_word text.now }
@@ -357,6 +420,9 @@ pub(crate) fn word_of(alloc: Global, text: &[u8]) -> Result<Option<Word>, AllocE
         return Ok(Some(word));
     }
     if let Some(word) = setting_word(text) {
+        return Ok(Some(word));
+    }
+    if let Some(word) = form_word(text) {
         return Ok(Some(word));
     }
     Ok(unlock_word(text))

@@ -1,5 +1,5 @@
 -- A modem with words does with the commands of the first table what one without them does.
-use Rattle.std.specs.Prelude.{◌≡◌, ℕ, Bool, true, false, List, [], ◌∷◌, ◌++◌, map, Option, Some, None, is_some, if◌then◌else◌, refl, codes}
+use Rattle.std.specs.Prelude.{◌≡◌, ◌≢◌, ℕ, ◌==◌, Bool, true, false, List, [], ◌∷◌, ◌++◌, map, Option, Some, None, is_some, if◌then◌else◌, refl, codes}
 use Rattle.std.specs.Fmt.{digits}
 use Rattle.std.proofs.Common.{ap, sym, ◌∙◌, append_assoc}
 use Rattle.at_text.specs.declared.answer.AnswerLine.{AnswerLine}
@@ -10,7 +10,7 @@ use Rattle.at_cmds.specs.declared.command.OperChoice.TheVariants.{Automatic, Der
 use Rattle.modem_sim.specs.declared.state.ModemState.{ModemState}
 use Rattle.modem_sim.specs.declared.state.Words.{Words}
 use Rattle.modem_sim.specs.Reading.{is_attention, command_of}
-use Rattle.modem_sim.specs.Steps.{after_command, after_refusal, announced, divided_by, line_commands, line_of, nothing_ran, obeyed, obeyed_unless, oper_text, ran_command, ran_text, refusal_of, settled, standard_step, step, Step, told_as, told_texts, worded_answer, worded_by, worded_step}
+use Rattle.modem_sim.specs.Steps.{after_command, after_refusal, announced, divided_by, is_too_long, line_commands, line_of, nothing_ran, obeyed, obeyed_unless, oper_text, ran_command, ran_text, lock_error, radio_error, refusal_as, refusal_of, refused_by, settled, standard_step, step, Step, told_as, told_texts, worded_answer, worded_by, worded_step}
 use Rattle.modem_sim.specs.SettingTexts.{named_oper_text}
 use Rattle.modem_sim.specs.WordLaws.{AnswersAsStandard, IsAsStandard, bare}
 use Rattle.modem_sim.proofs.modem_steps.ReadCommands.{command_reads}
@@ -80,20 +80,42 @@ by_number Automatic = refl
 by_number (Manual oper) = refl
 by_number Deregister = refl
 
-same_told : (w : Words) (s : ModemState) (c : Command) → w.oper_format ≡ 2 → told_as (Some w) s c ≡ told_texts (bare s) c
-same_told w s OperQuery is = ap (λ n. named_oper_text n s.oper ∷ []) is ∙ ap (λ t. t ∷ []) (by_number s.oper)
-same_told w s PinQuery is = refl
-same_told w s (PinEnter pin) is = refl
-same_told w s (RegReport n) is = refl
-same_told w s RegQuery is = refl
-same_told w s Signal is = refl
-same_told w s (OperChoose choice) is = refl
-same_told w s (ContextSet cid pdp apn) is = refl
-same_told w s ContextQuery is = refl
-same_told w s (AttachSet on) is = refl
-same_told w s AttachQuery is = refl
-same_told w s (ErrorMode n) is = refl
-same_told w s Multiplex is = refl
+-- with all functions on a command is refused as without words
+on_refusal : (n : ℕ) (error : Option ℕ) → n ≡ 1 → radio_error n error ≡ error
+on_refusal n (Some number) is = refl
+on_refusal n None is = ap (λ (k : ℕ). if k == 1 then None else Some 30) is
+
+refused_as : (w : Words) (s : ModemState) (c : Command) → w.functionality ≡ 1 → refusal_as (Some w) s c ≡ refusal_of s c
+refused_as w s (OperChoose Automatic) on = on_refusal w.functionality (lock_error s.lock) on
+refused_as w s (OperChoose (Manual oper)) on = on_refusal w.functionality (lock_error s.lock) on
+refused_as w s (OperChoose Deregister) on = refl
+refused_as w s PinQuery on = refl
+refused_as w s (PinEnter pin) on = refl
+refused_as w s (RegReport n) on = refl
+refused_as w s RegQuery on = refl
+refused_as w s Signal on = refl
+refused_as w s OperQuery on = refl
+refused_as w s (ContextSet cid pdp apn) on = refl
+refused_as w s ContextQuery on = refl
+refused_as w s (AttachSet on_it) on = refl
+refused_as w s AttachQuery on = refl
+refused_as w s (ErrorMode n) on = refl
+refused_as w s Multiplex on = refl
+
+same_told : (w : Words) (s : ModemState) (c : Command) → w.oper_format ≡ 2 → c ≢ ContextQuery → told_as (Some w) s c ≡ told_texts (bare s) c
+same_told w s OperQuery is other = ap (λ n. named_oper_text n s.oper ∷ []) is ∙ ap (λ t. t ∷ []) (by_number s.oper)
+same_told w s PinQuery is other = refl
+same_told w s (PinEnter pin) is other = refl
+same_told w s (RegReport n) is other = refl
+same_told w s RegQuery is other = refl
+same_told w s Signal is other = refl
+same_told w s (OperChoose choice) is other = refl
+same_told w s (ContextSet cid pdp apn) is other = refl
+same_told w s ContextQuery is other = absurd (other refl)
+same_told w s (AttachSet on) is other = refl
+same_told w s AttachQuery is other = refl
+same_told w s (ErrorMode n) is other = refl
+same_told w s Multiplex is other = refl
 
 -- what one command comes to, and what it comes to without words
 record IsSame (s : ModemState) (worded plain : Step) : Type 0 where
@@ -103,24 +125,25 @@ record IsSame (s : ModemState) (worded plain : Step) : Type 0 where
 abbrev worded_of : Option ℕ → ModemState → Command → Step
 worded_of o s c = record { state = (ran_command o (nothing_ran s) c).state; answer = worded_answer s (ran_command o (nothing_ran s) c) }
 
-same_at : (o : Option ℕ) (w : Words) (s : ModemState) (c : Command) → s.words ≡ Some w → w.oper_format ≡ 2 → IsSame s (worded_of o s c) (obeyed_unless o (bare s) c)
-same_at None w s c some is =
-    let told : told_as s.words s c ≡ told_texts (bare s) c = ap (λ x. told_as x s c) some ∙ same_told w s c is in
+same_at : (o : Option ℕ) (w : Words) (s : ModemState) (c : Command) → s.words ≡ Some w → w.oper_format ≡ 2 → c ≢ ContextQuery → IsSame s (worded_of o s c) (obeyed_unless o (bare s) c)
+same_at None w s c some is other =
+    let told : told_as s.words s c ≡ told_texts (bare s) c = ap (λ x. told_as x s c) some ∙ same_told w s c is other in
     let later : List AnswerLine = map line_of (announced s (settled (after_command s c))) in
     record {
       answer = ap (λ t. map line_of t ++ line_of (codes "OK") ∷ later) told
           ∙ sym (append_assoc (map line_of (told_texts (bare s) c)) (line_of (codes "OK") ∷ []) later);
       state = bare_settled (after_command s c) ∙ same_after s c;
     }
-same_at (Some number) w s c some is = record { answer = refl; state = same_refused s c }
+same_at (Some number) w s c some is other = record { answer = refl; state = same_refused s c }
 
 -- a line that is a command
-pub one_command : (s : ModemState) (w : Words) (line : List ℕ) (c : Command) → s.words ≡ Some w → command_of line ≡ Some c → step s line ≡ worded_of (refusal_of s c) s c
+pub one_command : (s : ModemState) (w : Words) (line : List ℕ) (c : Command) → s.words ≡ Some w → is_too_long line ≡ false → command_of line ≡ Some c → step s line ≡ worded_of (refusal_as s.words s c) s c
 unfolding line_commands
-one_command s w line c some read =
+one_command s w line c some short read =
     let by : Option Command → Step = λ o. record { state = (ran_text o (nothing_ran s) line).state; answer = worded_answer s (ran_text o (nothing_ran s) line) } in
-    let divided : worded_step s line ≡ worded_by s (Some (line ∷ [])) = ap (λ o. worded_by s (divided_by o line)) read in
-    let done : worded_by s (Some (line ∷ [])) ≡ worded_of (refusal_of s c) s c = ap by read in
+    let kept : worded_step s line ≡ worded_by s (line_commands line) = ap (λ (b : Bool). if b then refused_by s (line_commands line) else worded_by s (line_commands line)) short in
+    let divided : worded_step s line ≡ worded_by s (Some (line ∷ [])) = kept ∙ ap (λ o. worded_by s (divided_by o line)) read in
+    let done : worded_by s (Some (line ∷ [])) ≡ worded_of (refusal_as s.words s c) s c = ap by read in
     step_worded s line w some ∙ divided ∙ done
 
 bare_command : (s : ModemState) (line : List ℕ) (c : Command) → command_of line ≡ Some c → step (bare s) line ≡ obeyed_unless (refusal_of s c) (bare s) c
@@ -130,12 +153,13 @@ bare_command s line c read =
     let done : standard_step (bare s) line ≡ obeyed (bare s) c = rw (behind, read) refl in
     step_standard (bare s) line refl ∙ done ∙ ap (λ o. obeyed_unless o (bare s) c) (same_refusal s c)
 
-by_command : (s : ModemState) (w : Words) (line : List ℕ) (o : Option Command) → command_of line ≡ o → is_some o ≡ true → s.words ≡ Some w → w.oper_format ≡ 2 → IsAsStandard s line
-by_command s w line None read is some two = cc
-by_command s w line (Some c) read is some two =
-    let with = one_command s w line c some read in
+by_command : (s : ModemState) (w : Words) (line : List ℕ) (o : Option Command) → command_of line ≡ o → is_some o ≡ true → s.words ≡ Some w → w.oper_format ≡ 2 → w.functionality ≡ 1 → is_too_long line ≡ false → o ≢ Some ContextQuery → IsAsStandard s line
+by_command s w line None read is some two on short other = cc
+by_command s w line (Some c) read is some two on short other =
+    let refusal : refusal_as s.words s c ≡ refusal_of s c = ap (λ (x : Option Words). refusal_as x s c) some ∙ refused_as w s c on in
+    let with : step s line ≡ worded_of (refusal_of s c) s c = one_command s w line c some short read ∙ ap (λ o. worded_of o s c) refusal in
     let without = bare_command s line c read in
-    let same = same_at (refusal_of s c) w s c some two in
+    let same = same_at (refusal_of s c) w s c some two (λ is_query. other (ap Some is_query)) in
     record {
       answer = ap (λ (t : Step). t.answer) with ∙ same.answer
           ∙ ap (λ (t : Step). t.answer ++ map line_of (announced s (worded_of (refusal_of s c) s c).state)) (sym without)
@@ -144,4 +168,4 @@ by_command s w line (Some c) read is some two =
     }
 
 pub answers_as_standard : AnswersAsStandard
-answers_as_standard s w line some two is = by_command s w line (command_of line) refl is some two
+answers_as_standard s w line some two on short other is = by_command s w line (command_of line) refl is some two on short other

@@ -7,7 +7,7 @@ use Rattle.at_cmds.specs.Values.{command_in}
 use Rattle.modem_sim.specs.CommandLines.{commands_in}
 use Rattle.modem_sim.specs.Reading.{command_of}
 use Rattle.modem_sim.specs.Steps.{line_commands}
-use Rattle.modem_sim.specs.WordRows.{BareLines, ChangeAnnounced, ClientAsks, ClientBegins, ContextsActivated, ContextsRefused, DividedLine, EchoOff, OperatorNamed, PinAnnounced, PinLocks, PukEntered, QuotedLine, TenWrongPuks}
+use Rattle.modem_sim.specs.WordRows.{BareLines, ChangeAnnounced, ClientAsks, ClientBegins, ContextsActivated, ContextsRefused, DividedLine, EchoOff, OperatorNamed, PinAnnounced, PinLocks, PukEntered, QuotedLine, RadioOff, TenWrongPuks, ValuesAsked}
 use Rattle.modem_sim.specs.Words.{word_of}
 
 pub divided_line : DividedLine
@@ -29,6 +29,14 @@ client_begins = refl
 pub change_announced : ChangeAnnounced
 unfolding command_of command_in numeral_in unquoted parameters digits commands_in line_commands word_of
 change_announced = refl
+
+pub radio_off : RadioOff
+unfolding command_of command_in numeral_in unquoted parameters digits commands_in line_commands word_of
+radio_off = refl
+
+pub values_asked : ValuesAsked
+unfolding command_of command_in numeral_in unquoted parameters digits commands_in line_commands word_of
+values_asked = refl
 
 pub pin_announced : PinAnnounced
 unfolding command_of command_in numeral_in unquoted parameters digits commands_in line_commands word_of
