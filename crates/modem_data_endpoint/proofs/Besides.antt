@@ -1,5 +1,5 @@
 -- The frames that the endpoint got are the first of those due to the driver.
-use Rattle.std.specs.Prelude.{◌≡◌, ℕ, ◌≤◌, false, List, [], ◌∷◌, ◌++◌, length, flat_map, None, refl}
+use Rattle.std.specs.Prelude.{◌≡◌, ℕ, false, List, [], ◌∷◌, ◌++◌, flat_map, None, refl}
 use Rattle.std.proofs.Common.{ap, sym, ◌∙◌, subst}
 use Rattle.std.proofs.lemmas.List.{append_assoc, append-nil, append_cancel_left}
 use Rattle.mux_frame.specs.Frames.{Frame}
@@ -10,7 +10,7 @@ use Rattle.mux_frame.specs.Deframing.{Deframes, Deframing, IsDeframed}
 use Rattle.mux_frame.proofs.readings.ComputedReadings.{octets_both, total_reading}
 use Rattle.mux_frame.proofs.readings.LaterTexts.{reads_spelled}
 use Rattle.mux_frame.proofs.readings.TextReadings.{one_reading}
-use Rattle.modem_data.specs.Hops.{Hop, Fed, Handed, Took, Wrote, Passed, RelayFits, Relay, for_driver, fed, came, handed_over, taken, went, Hops, BeginsRelay}
+use Rattle.modem_data.specs.Hops.{Hop, Fed, Handed, Took, Wrote, Passed, RelayFits, for_driver, fed, came, handed_over, taken, went, Hops, BeginsRelay}
 use Rattle.modem_driver.specs.EndpointLaws.{World, Calls, TellsAll, none_called, called_more}
 use Rattle.modem_driver.specs.SessionStates.{beginning_by}
 use Rattle.modem_history.specs.Sessions.{Beginning, gots, given_on}

@@ -15,7 +15,7 @@ use Rattle.modem_data.specs.PipeSets.{OfEachPast}
 use Rattle.modem_data.specs.Hops.{Relay, Hop, Handed, Took, Hops}
 use Rattle.modem_data_endpoint.specs.declared.between.CommandRefused.{CommandRefused}
 use Rattle.modem_data_endpoint.specs.declared.between.CommandRefused.TheVariants as refused
-use Rattle.modem_data_endpoint.specs.Beside.{Both, Step}
+use Rattle.modem_data_endpoint.specs.Beside.{Step}
 
 -- these octets went from the relay to the endpoint, all that waited where nothing blocks it
 pub record HandsOver (r s : Relay) (e f : EndpointState) (blocked : Option Blocked) : Type 0 where

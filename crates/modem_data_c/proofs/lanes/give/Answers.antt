@@ -1,14 +1,14 @@
 -- A refusal says its number.
-use Rattle.std.specs.Prelude.{◌≡◌, ◌≢◌, ◌<◌, ℕ, false, Err, refl}
+use Rattle.std.specs.Prelude.{◌≡◌, ◌<◌, ℕ, false, Err, refl}
 use Rattle.std.proofs.Common.{ap, sym, ◌∙◌, subst, arith}
 use Rattle.mux_station.specs.Opening.{is_open}
 use Rattle.mux_station.specs.declared.role.Role.TheVariants.{Initiator}
 use Rattle.modem_data.specs.declared.error.DataError.{DataError}
-use Rattle.modem_data.specs.declared.error.DataError.TheVariants.{NotData, UnderWay, Unread, NotOpen, Lines}
-use Rattle.modem_data.specs.Switching.{Idle, Data, is_idle}
-use Rattle.modem_data.specs.Passing.{carries, data_came, data_read, wire}
+use Rattle.modem_data.specs.declared.error.DataError.TheVariants.{NotData, NotOpen, Lines}
+use Rattle.modem_data.specs.Switching.{Data}
+use Rattle.modem_data.specs.Passing.{carries, wire}
 use Rattle.modem_data.specs.PipeSets.{IsNotData, OfEachPast}
-use Rattle.modem_data_c.proofs.Numbered.{IsOneOf, one_of, not_ok, not_bad, the_last, is_not_data, is_under_way, is_unread, is_not_open, is_lines}
+use Rattle.modem_data_c.proofs.Numbered.{IsOneOf, one_of, not_ok, not_bad, the_last, is_not_data, is_not_open, is_lines}
 use Rattle.modem_data_c.proofs.lanes.give.Goals as goal
 
 pub returns-in-Err : goal.returns-in-Err

@@ -1,5 +1,5 @@
 -- It is so of the pipe, or there is none.
-use Rattle.std.specs.Prelude.{◌≡◌, ◌<◌, ℕ, false, length}
+use Rattle.std.specs.Prelude.{◌≡◌, ◌<◌, false, length}
 use Rattle.std.proofs.Common.{rules, get_or, subst}
 use Rattle.modem_data.specs.Switching.{is_behind_lines}
 use Rattle.modem_data.specs.Passing.{carries}
