@@ -6,7 +6,7 @@ use Rattle.std.proofs.lemmas.List.{length-drop, length-take}
 use Rattle.modem_history.specs.Sessions.{LineView}
 use Rattle.modem_driver.specs.EndpointSteps.{with_sent}
 use Rattle.modem_driver.specs.EntrySteps.{EntryView, IsAsked}
-use Rattle.modem_c.specs.Entries.{EntriesBegin, EntriesGive, EntryState, Gives, begun}
+use Rattle.modem_c.specs.Entries.{EntriesBegin, EntriesGive, EntryState}
 
 pub begins : EntriesBegin
 unfolding EntriesBegin

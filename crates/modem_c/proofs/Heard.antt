@@ -1,6 +1,6 @@
 -- Octets come behind a text, one after the other.
-use Rattle.std.specs.Prelude.{◌≡◌, ◌↔◌, ℕ, suc, ◌+◌, ◌<◌, Bool, true, false, List, [], ◌∷◌, ◌++◌, length, take, get_or, refl, Option, Some, None, is_some}
-use Rattle.std.proofs.Common.{ap, sym, ◌∙◌, subst, arith, add-one, inr, true≢false}
+use Rattle.std.specs.Prelude.{◌≡◌, ◌↔◌, ℕ, ◌+◌, ◌<◌, Bool, true, false, List, [], ◌∷◌, ◌++◌, length, take, get_or, refl, Option, Some, None, is_some}
+use Rattle.std.proofs.Common.{ap, sym, ◌∙◌, subst, arith, add-one, true≢false}
 use Rattle.std.proofs.lemmas.List.{append_assoc}
 use Rattle.std.proofs.Math.Seq.{take-suc}
 use Rattle.at_text.specs.Reading.{HasRead}
@@ -11,7 +11,7 @@ use Rattle.modem_driver.specs.EndpointSteps.{with_received}
 use Rattle.modem_driver.specs.Entries.{SeesCode}
 use Rattle.modem_driver.specs.declared.entry.EntryStep.{EntryStep}
 use Rattle.modem_driver.specs.declared.entry.EntryStep.TheVariants.{Moved}
-use Rattle.modem_driver.specs.EntrySteps.{EntryView, IsAnswered, IsAsked, StepsTo, EntryStepsOn, step_by}
+use Rattle.modem_driver.specs.EntrySteps.{EntryView, IsAnswered, StepsTo, EntryStepsOn, step_by}
 use Rattle.modem_c.specs.Entries.{Ends, EntryState, Hears, HearsBy, HearsIn, IsTurnedDown}
 use Rattle.modem_driver.proofs.EntrySteps.{came_as, none_came}
 

@@ -1,5 +1,5 @@
 -- What calls from C do to an entry.
-use Rattle.std.specs.Prelude.{◌≡◌, ℕ, Bool, List, Option, None, Some, if◌then◌else◌}
+use Rattle.std.specs.Prelude.{ℕ, Option, None, Some, if◌then◌else◌}
 use Rattle.modem_c.specs.Entries.{EntryState}
 use Rattle.modem_c.specs.declared.entries.kept.CimbalotyEntry.{CimbalotyEntry}
 
