@@ -129,6 +129,8 @@ impl Talks {
         frame: FrameView<'_>,
         out: &mut Vec<Told>,
     ) -> Result<(), AllocError>
+        ensures rules { OnOk result (self.new.rules ≡ self.old.rules) }
+        ensures data_channels { OnOk result (self.new.data_channels ≡ self.old.data_channels) }
         ensures past { OnOk result ((line : List Caught) → TalksFit self.old line
             → TalksFit self.new (caught stamp direction (frame_of frame.entry) ∷ line)) }
         ensures told { OnOk result ((line : List Caught) → TalksFit self.old line
