@@ -39,6 +39,16 @@ relays_so = record {
   not_full = refl;
   still_full = refl;
   free = refl;
+  ended = refl;
+  lines_again = refl;
+  first_turn = refl;
+  behind_2 = refl;
+  behind_5 = refl;
+  before_itself = refl;
+  not_itself = refl;
+  round_first = refl;
+  past_the_last = refl;
+  not_past_it = refl;
 }
 
 disc_spelled : All (HasSpelling 31) (disc 2 ∷ [])

@@ -7,7 +7,8 @@ use Rattle.mux_frame.specs.Spelling.{spelled}
 use Rattle.mux_station.specs.Written.{written}
 use Rattle.modem_data.specs.Switching.{Data, Idle}
 use Rattle.modem_data.specs.Watching.{may_leave}
-use Rattle.modem_data.specs.Passing.{Came, Went, Flowed, Left, Lost, Began, wire, carries, data_came, holds, driver_holds, flow_by, flow_frame}
+use Rattle.modem_data.specs.Passing.{Came, Went, Flowed, Left, Lost, Began, EndedLane, wire, carries, data_came, holds, driver_holds, flow_by, flow_frame}
+use Rattle.modem_data.specs.PipeSets.{comes_before, turn_of}
 use Rattle.modem_data.specs.Hops.{DriverFirst, Hop, Passed, Took, for_driver, for_line, passes}
 
 abbrev pub sabm : ℕ → Frame
@@ -80,6 +81,18 @@ pub record RelaysSo : Type 0 where
   pub not_full : flow_by false false 8191 ≡ None
   pub still_full : flow_by true false 4096 ≡ None
   pub free : flow_by true false 4095 ≡ Some true
+  -- a lane that is ended is over, and what comes then is the driver's again
+  pub ended : carries 2 (passes (Passed (EndedLane 2) ∷ between armed)) ≡ Idle
+  pub lines_again : for_driver (Passed (Came (says 2 (7 ∷ []))) ∷ Passed (EndedLane 2) ∷ between armed) ≡ for_driver (between armed) ++ (says 2 (7 ∷ []) ∷ [])
+  -- of 2, 3 and 5 it is the turn of 2 at first, and of the one behind that whose data left last, round
+  pub first_turn : turn_of (2 ∷ 3 ∷ 5 ∷ []) (passes armed) ≡ 0
+  pub behind_2 : turn_of (2 ∷ 3 ∷ 5 ∷ []) (Left (told 2 (1 ∷ [])) ∷ Left (told 5 (1 ∷ [])) ∷ passes armed) ≡ 1
+  pub behind_5 : turn_of (2 ∷ 3 ∷ 5 ∷ []) (Left (told 5 (1 ∷ [])) ∷ Left (told 2 (1 ∷ [])) ∷ passes armed) ≡ 3
+  pub before_itself : comes_before 1 1 0 ≡ true
+  pub not_itself : comes_before 1 0 1 ≡ false
+  pub round_first : comes_before 1 2 0 ≡ true
+  pub past_the_last : comes_before 3 0 1 ≡ true
+  pub not_past_it : comes_before 3 1 0 ≡ false
 
 -- a DISC of the driver's that was taken and hasn't gone: no data may leave
 abbrev pub DiscWaits : Type 0
