@@ -147,4 +147,11 @@ impl Talks {
     {
         self.talks[usize::from(dlci.number())].is_under_way()
     }
+
+    /// The codes by which lines are read.
+    pub fn dialect(&self) -> &Dialect
+        ensures { result.now ≡ self.now.rules }
+    {
+        &self.dialect
+    }
 }
