@@ -1,12 +1,12 @@
 -- Where the first frame of a text stands.
-use Rattle.std.specs.Prelude.{◌≡◌, ◌≢◌, ℕ, zero, suc, ◌+◌, ◌-◌, ◌<◌, ◌≤◌, ◌==◌, nat_le, ◌⊎◌, Bool, true, false, List, [], ◌∷◌, ◌++◌, None, Some, take, drop, length, refl, if◌then◌else◌}
-use Rattle.std.proofs.Common.{inl, inr, arith, ap, sym, ◌∙◌, append_assoc, append-nil, length-append, subst}
+use Rattle.std.specs.Prelude.{◌≡◌, ◌≢◌, ℕ, zero, suc, ◌+◌, ◌-◌, ◌<◌, ◌≤◌, ◌==◌, nat_le, ◌⊎◌, Bool, true, false, List, [], ◌∷◌, ◌++◌, Some, take, drop, length, refl, if◌then◌else◌}
+use Rattle.std.proofs.Common.{inl, inr, arith, ap, sym, ◌∙◌, append_assoc, length-append, subst}
 use Rattle.std.proofs.lemmas.Bool.{eqb-true, eqb-false}
 use Rattle.std.proofs.lemmas.Bool.Decides.{nat_tests}
 use Rattle.std.proofs.lemmas.List.{length-take-le, nil_from_length, take-append-drop, take_all}
 use Rattle.mux_frame.specs.Frames.{Frame}
 use Rattle.mux_frame.specs.Laws.{AreOctets}
-use Rattle.mux_frame.specs.Reading.{after_flag, IsFill, HasFrame, IsCutShort, Reads, no_flag, fill, frame, cut_short, other}
+use Rattle.mux_frame.specs.Reading.{after_flag, IsFill, IsCutShort, Reads, no_flag, fill, frame, cut_short, other}
 use Rattle.mux_frame.specs.CheckOctet.{check_octet_of}
 use Rattle.mux_frame.specs.Spelling.{flag, Indicates, Spells, header, long, short}
 use Rattle.mux_frame.specs.Judging.{Header, Verdict, unfinished, refused, fits, verdict_on, frame_at, IsRefused, IsWhole, Means}
@@ -14,7 +14,7 @@ use Rattle.mux_frame.proofs.Spellings.{head_same, tail_same}
 use Rattle.mux_frame.proofs.candidates.Verdicts.{verdict_means}
 use Rattle.mux_frame.proofs.readings.TextReadings.{fill_cut, frame_cut, one_reading, some_same}
 use Rattle.mux_frame.proofs.readings.LaterTexts.{cut_none, same_after}
-use Rattle.mux_frame.proofs.readings.ComputedReadings.{after_shorter, octets_left, refused_cut, refused_frame, refused_reads, total_reading}
+use Rattle.mux_frame.proofs.readings.ComputedReadings.{after_shorter, refused_cut, refused_frame, refused_reads, total_reading}
 use Rattle.modem_serve.specs.FirstFrame as first_frame
 use Rattle.modem_serve.specs.FirstFrame.{ReadsFirst}
 use Rattle.modem_serve.specs.declared.first_frame.Front.{Front}
@@ -143,6 +143,7 @@ ends_last n1 front t c h joins reads w = by_case (undecided n1 front reads)
     by_front : (begun : IsBegun n1 front) → (w.later ≡ []) ⊎ Within begun.text w.octets flag → w.later ≡ []
     by_front begun (inl none) = none
     by_front begun (inr within) = absurd (frame_cut n1 begun.text (record { frame = frame_at h t; octets = w.octets; later = within.later; text = within.is; spells = w.spells }) begun.cut)
+
     by_case : (front ≡ []) ⊎ IsBegun n1 front → w.later ≡ []
     by_case (inl none) =
         let nothing : [] ≡ t = tail_same c flag [] t (sym (ap (λ (l : List ℕ). l ++ c ∷ []) none) ∙ joins) in
@@ -277,6 +278,7 @@ short_behind n1 y front t c f gs rest true is joins before reads = absurd (by_ca
         omega (arith, size, one)
     by_text begun (z ∷ text) same e =
         fill_cut n1 begun.text (record { later = text; text = same ∙ ap (λ x. x ∷ text) (head_same z y (text ++ c ∷ []) t e ∙ eqb-true y flag is) }) begun.cut
+
     by_case : (front ≡ []) ⊎ IsBegun n1 front → ⊥
     by_case (inl none) =
         let size : 1 ≡ length (flag ∷ y ∷ t) = ap length (sym (ap (λ (l : List ℕ). l ++ c ∷ []) none) ∙ joins) in omega (arith, size)
@@ -289,6 +291,7 @@ refused_long n1 front t c f gs rest octets r joins before reads = by_text t refl
     behind =
         let all = total_reading n1 t octets in
         subst (λ (l : List Frame). Reads n1 t l all.rest) (sym (one_reading n1 (flag ∷ t) (f ∷ gs) all.frames rest all.rest reads (refused_reads n1 (flag ∷ t) t all.frames all.rest refl r all.reads)).0) all.reads
+
     by_text : (u : List ℕ) → t ≡ u → length f.info + 7 < length (flag ∷ t)
     by_text [] is =
         let size = first_size n1 t f gs (f ∷ gs) (total_reading n1 t octets).rest refl behind in

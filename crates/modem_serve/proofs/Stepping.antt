@@ -1,6 +1,5 @@
 -- What a modem for a client does with octets: at plain lines, and in the multiplexer.
-use Rattle.std.specs.Prelude.{◌≡◌, ℕ, ◌+◌, ◌*◌, ◌<◌, ◌≤◌, min, Bool, true, false, List, [], ◌∷◌, ◌++◌, Option, Some, None, take, drop, length, refl}
-use Rattle.std.specs.List.{flat_map}
+use Rattle.std.specs.Prelude.{◌≡◌, ℕ, ◌+◌, ◌<◌, ◌≤◌, min, Bool, true, false, List, [], ◌∷◌, ◌++◌, Option, Some, None, take, drop, length, refl}
 use Rattle.std.proofs.Common.{arith, ap, sym, ◌∙◌, append_assoc, append-nil, length-append, length-drop, subst}
 use Rattle.std.proofs.lemmas.List.{take-append-drop, take-append-le, take_all}
 use Rattle.mux_frame.specs.Frames.{Frame}
@@ -23,14 +22,14 @@ use Rattle.modem_serve.specs.declared.server.Setup.{Setup}
 use Rattle.modem_serve.specs.FirstFrame.{ReadsFirst, first}
 use Rattle.modem_serve.specs.FrontFrames.{IsFrameText, PassesOver}
 use Rattle.modem_serve.specs.HeldLine.{HeldState}
-use Rattle.modem_serve.specs.InMux.{Closes, ClosesDown, Handles, closes_0, closes_down, is_closed_by, mux_end, octets_sent}
+use Rattle.modem_serve.specs.InMux.{Closes, ClosesDown, Handles, closes_0, closes_down, mux_end, octets_sent}
 use Rattle.modem_serve.specs.MuxStates.{MuxState}
 use Rattle.modem_serve.specs.Muxes as muxes
 use Rattle.modem_serve.specs.Muxes.{FedTo, FitsMux, IsDown, IsEndedBy, IsFed, IsOverFed, Rests}
 use Rattle.modem_serve.specs.Plain.{Plain, plain_after, plain_begun}
 use Rattle.modem_serve.specs.Serving as stage
 use Rattle.modem_serve.specs.Serving.{AnswersFrom, EntersAfter, Setting, plain_by_now}
-use Rattle.modem_serve.specs.Standing.{AtLines, AtMux, HandlesText, IsEntered, StandsBefore, Stands, StepsBy, StepsOn, at_lines, enters, held, in_mux, once_entered, setting_by, unsaid, weight, with_said}
+use Rattle.modem_serve.specs.Standing.{AtLines, AtMux, HandlesText, IsEntered, StandsBefore, Stands, StepsBy, StepsOn, at_lines, enters, held, in_mux, once_entered, unsaid, weight, with_said}
 use Rattle.modem_serve.proofs.Served.{after_none, both_served}
 
 -- ## At plain lines

@@ -4,6 +4,7 @@ use Rattle.std.specs.Str.{bytes_eq}
 use Rattle.at_text.specs.Octets.{is_comma, is_digit}
 use Rattle.modem_sim.specs.CommandLines.{commands_in}
 use Rattle.modem_sim.specs.Reading.{lowered}
+use Rattle.modem_sim.specs.Steps.{is_too_long}
 use Rattle.modem_serve.specs.declared.requests.MuxRequest.{MuxRequest}
 use Rattle.modem_serve.specs.declared.requests.MuxRequest.TheVariants as code
 
@@ -99,5 +100,6 @@ abbrev pub asked_by : ℕ → Option (List (List ℕ)) → Option Asked
 asked_by n1 (Some (command ∷ [])) = request_in n1 command
 asked_by n1 _ = None
 
+-- a line that is too long asks nothing
 abbrev pub mux_request : ℕ → List ℕ → Option Asked
-mux_request n1 line = asked_by n1 (commands_in line)
+mux_request n1 line = if is_too_long line then None else asked_by n1 (commands_in line)

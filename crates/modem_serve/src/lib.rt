@@ -6,6 +6,7 @@ mod fault;
 mod first_frame;
 mod held_line;
 mod history;
+pub mod laws;
 mod mux;
 mod plain;
 mod requests;

@@ -1,4 +1,4 @@
-use Rattle.std.proofs.Common.{refl, List, ℕ, drop, ◌≡◌, ap, sym, ◌∙◌, subst, rules, arith}
+use Rattle.std.proofs.Common.{refl, List, ℕ, drop, ◌≡◌, subst, rules}
 use Rattle.mux_frame.specs.Reading.{no_flag}
 use Rattle.modem_serve.specs.FrontFrames.{PassesOver}
 use Rattle.modem_serve.proofs.FirstFrames.{passes_more}

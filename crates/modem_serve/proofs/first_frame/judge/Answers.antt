@@ -1,5 +1,5 @@
 use Rattle.modem_serve.proofs.FirstFrames.{begins, is_other, is_text}
-use Rattle.std.proofs.Common.{sym, ap, ◌∙◌, ◌≡◌, ◌≢◌, length, map, rules, arith, true, false}
+use Rattle.std.proofs.Common.{◌≡◌, ◌≢◌, length, map, rules, arith, true, false}
 use Rattle.mux_frame.specs.Frames.{kept_frame}
 use Rattle.modem_serve.specs.FrontFrames.{can_fill}
 use Rattle.modem_serve.proofs.first_frame.judge.Goals as goal

@@ -1,4 +1,4 @@
-use Rattle.std.proofs.Common.{ap, sym, ◌∙◌}
+use Rattle.std.proofs.Common.{ap, ◌∙◌}
 use Rattle.modem_serve.specs.Plain.{plain_begun}
 use Rattle.modem_serve.proofs.Stepping.{at_lines_by, flag_kept, in_mux_by}
 use Rattle.modem_serve.proofs.server.handle.Goals as goal

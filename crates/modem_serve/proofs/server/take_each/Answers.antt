@@ -1,4 +1,4 @@
-use Rattle.std.proofs.Common.{List, ℕ, sym, subst, rules, ◌≡◌}
+use Rattle.std.proofs.Common.{List, ℕ, sym, subst}
 use Rattle.modem_serve.specs.Standing.{StepsOn, setting_by}
 use Rattle.modem_serve.proofs.Stepping.{takes_more, takes_none}
 use Rattle.modem_serve.proofs.server.take_each.Goals as goal
